@@ -1,0 +1,181 @@
+//! Entries of the trace.
+use crate::{Call, HandleId, Kind, RefId, ScopeId, Status, TextNo, Ticket, TsfnId, WorkId};
+
+/// Who made an entry.
+#[derive(Clone, Copy)]
+pub enum Actor {
+    Env,
+    Thread(u32),
+    Worker(u32),
+}
+
+/// An obligation: a ticket's finalizer or hook, the completion of a work, an accepted item, a function's finalizer.
+///
+/// Works are numbered from 1 in the order of their queueing, and a function's items from 1.
+#[derive(Clone, Copy)]
+pub enum Duty {
+    Ticket(Ticket),
+    Work(u64),
+    Item(TsfnId, u64),
+    Function(TsfnId),
+}
+
+/// Why a frame began.
+#[derive(Clone, Copy)]
+pub enum Cause {
+    Init,
+    Call,
+    Finalize,
+    Complete,
+    Item,
+    Torn,
+    Hook,
+}
+
+/// An event that is no call.
+#[derive(Clone, Copy)]
+pub enum HostStep {
+    Opened,
+    Begin,
+    End,
+    Go,
+    LoopEnd,
+    CloseTsfn,
+    FinishTsfn,
+    Drain,
+    Finals,
+    Gone,
+    Start,
+    Finish,
+    ActorEnd,
+}
+
+/// What happened: a call or an event of the host.
+#[derive(Clone, Copy)]
+pub enum What {
+    Call(Call),
+    Host(HostStep),
+}
+
+/// Why the loop ended.
+#[derive(Clone, Copy)]
+pub enum LoopEnd {
+    Exit,
+    Idle,
+    Quiet,
+}
+
+/// Why a frame or a thread was cut: a call stopped for want of memory or of room, or the frame made all its asks.
+#[derive(Clone, Copy)]
+pub enum Why {
+    Memory,
+    Full,
+    Asks,
+}
+
+/// The result of an entry.
+#[derive(Clone, Copy)]
+pub enum Out {
+    Nothing,
+    Handle(HandleId),
+    NoHandle,
+    Scope(ScopeId),
+    Ref(RefId),
+    Work(WorkId),
+    Function(TsfnId),
+    Signed(i64),
+    Unsigned(u64),
+    Flag(bool),
+    Text(TextNo),
+    Kind(Kind),
+    Duty(Duty),
+    /// The cause, the addon, the entry, and the duty where there is one.
+    Begin(Cause, u32, u32, Option<Duty>),
+    Ended(LoopEnd),
+    Uncaught,
+    Cut(Why),
+}
+
+/// What an entry answers, and the duties that it withdrew and made.
+#[derive(Clone, Copy)]
+pub struct Reply {
+    pub status: Status,
+    pub out: Out,
+    pub dropped: Option<Duty>,
+    pub made: Option<Duty>,
+}
+
+/// Where the items of a thread-safe function are delivered, and whether a torn item's frame makes asks.
+#[derive(Clone, Copy)]
+pub struct Target {
+    pub addon: u32,
+    pub entry: u32,
+    pub torn_runs: bool,
+}
+
+/// What the environment hands to the hub with a shared call: the calling addon, the target of a new function,
+/// and the environment's own refusal.
+#[derive(Clone, Copy)]
+pub struct Given {
+    pub addon: u32,
+    pub target: Option<Target>,
+    pub refused: Option<Status>,
+}
+
+/// A call that the hub answers, with what the environment hands to it.
+#[derive(Clone, Copy)]
+pub struct SharedCall {
+    pub call: Call,
+    pub depth: u32,
+    pub step: u32,
+    pub addon: u32,
+    pub target: Option<Target>,
+    pub refused: Option<Status>,
+}
+
+/// One event of the trace.
+///
+/// For a call of a frame `depth` is the number of frames that stand and `step` the number of the ask in its frame,
+/// from 0. For every other event of the environment both are 0.
+#[derive(Clone, Copy)]
+pub struct Entry {
+    pub actor: Actor,
+    pub depth: u32,
+    pub step: u32,
+    pub what: What,
+    pub reply: Reply,
+    pub given: Option<Given>,
+}
+
+/// An entry of the journal, and the length of the history at which it stands in the weave.
+#[derive(Clone, Copy)]
+pub struct Local {
+    pub at: u64,
+    pub entry: Entry,
+}
+
+/// How far the environment has come.
+#[derive(Clone, Copy)]
+pub enum Phase {
+    Init,
+    Live,
+    Hooks,
+    Drain,
+    Finals,
+    Gone,
+}
+
+/// How many entries the journal and the history may have, reserved places included.
+#[derive(Clone, Copy)]
+pub struct Limits {
+    pub journal: u32,
+    pub history: u32,
+}
+
+/// A call that stopped, or a part that found no memory: want of memory and nothing else.
+#[derive(Clone, Copy)]
+pub struct NoMemory;
+
+/// A fault of the outside: its count of faults rose.
+#[derive(Clone, Copy)]
+pub struct Failed;

@@ -1,0 +1,33 @@
+//! The numbers that name things. 0 is never issued.
+
+/// A handle, the manual's `napi_value`. Handles count from 1 over the whole run.
+#[derive(Clone, Copy)]
+pub struct HandleId(pub u64);
+
+/// A handle scope, the manual's `napi_handle_scope`: any number that was never issued before.
+#[derive(Clone, Copy)]
+pub struct ScopeId(pub u64);
+
+/// A reference, the manual's `napi_ref`: any number that was never issued before.
+#[derive(Clone, Copy)]
+pub struct RefId(pub u64);
+
+/// An asynchronous work, the manual's `napi_async_work`: any number that was never issued before.
+#[derive(Clone, Copy)]
+pub struct WorkId(pub u64);
+
+/// A thread-safe function, the manual's `napi_threadsafe_function`. They count from 1.
+#[derive(Clone, Copy)]
+pub struct TsfnId(pub u64);
+
+/// A finalizer or a hook that was registered. Tickets count from 1.
+#[derive(Clone, Copy)]
+pub struct Ticket(pub u64);
+
+/// A value as the store names it: any number that was never issued before.
+#[derive(Clone, Copy)]
+pub struct ValueId(pub u64);
+
+/// A text of the script's text table, counted from 0.
+#[derive(Clone, Copy)]
+pub struct TextNo(pub u32);

@@ -1,0 +1,23 @@
+//! What every crate of the environment speaks of: numbers, calls, entries, lists, texts, and the ends of the outside.
+//! Its `specs/` hold the definitions of the machine that the contracts of all crates cite, a file for each subject;
+//! `laws` states what they mean. Lists and texts are seen as lists. Every other crate stands on this one.
+#![tactic(auto)]
+
+mod call;
+mod entry;
+mod ids;
+mod lists;
+mod status;
+mod text;
+
+pub use call::{Ask, Call, Op};
+pub use entry::{
+    Actor, Cause, Duty, Entry, Failed, Given, HostStep, Limits, Local, LoopEnd, NoMemory, Out,
+    Phase, Reply, SharedCall, Target, What, Why,
+};
+pub use ids::{HandleId, RefId, ScopeId, TextNo, Ticket, TsfnId, ValueId, WorkId};
+pub use lists::{
+    Actors, AddonPlan, EntryList, Listed, LocalList, OpList, OpLists, Plans, Record,
+};
+pub use status::{Kind, Status};
+pub use text::{Text, Texts};
