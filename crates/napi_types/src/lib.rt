@@ -3,6 +3,7 @@
 //! `laws` states what they mean. Lists and texts are seen as lists. Every other crate stands on this one.
 #![tactic(auto)]
 
+mod body;
 mod call;
 mod entry;
 mod ids;
@@ -10,6 +11,7 @@ mod lists;
 mod status;
 mod text;
 
+pub use body::Body;
 pub use call::{Ask, Call, Op};
 pub use entry::{
     Actor, Cause, Duty, Entry, Failed, Given, HostStep, Limits, Local, LoopEnd, NoMemory, Out,

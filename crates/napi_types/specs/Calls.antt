@@ -1,0 +1,22 @@
+-- What a call of the environment answers and leaves.
+use Rattle.std.specs.Prelude.{ℕ, Option, Some, None}
+use Rattle.napi_types.specs.declared.call.Call.{Call}
+use Rattle.napi_types.specs.declared.status.Status.{Status}
+use Rattle.napi_types.specs.declared.entry.Out.TheVariants as out
+use Rattle.napi_types.specs.Lists.{or, or_else}
+use Rattle.napi_types.specs.Environment.{Environment, Answer, answered, refused}
+use Rattle.napi_types.specs.Refusals.{refusal}
+use Rattle.napi_types.specs.ValueCalls.{on_values}
+use Rattle.napi_types.specs.ScopeCalls.{on_scopes}
+
+-- what an accepted call answers and leaves, where n is the number that it newly gives
+abbrev pub accepted : Environment → Call → ℕ → Answer
+accepted e c n = or (answered out.Nothing e) (or_else (on_values e c) (on_scopes e c n))
+
+abbrev pub answer_by : Environment → Call → ℕ → Option Status → Answer
+answer_by e c n (Some s) = refused s e
+answer_by e c n None = accepted e c n
+
+-- a call that is refused answers the first refusal that applies, every other one its result
+abbrev pub answer : Environment → Call → ℕ → Answer
+answer e c n = answer_by e c n (refusal e c)

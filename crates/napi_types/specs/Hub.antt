@@ -1,0 +1,35 @@
+-- The hub: how far the run has come. Its works and thread-safe functions come with their parts, and so do other actors.
+use Rattle.std.specs.Prelude.{ℕ, Option, Some, None}
+use Rattle.napi_types.specs.declared.entry.HostStep.{HostStep}
+use Rattle.napi_types.specs.declared.entry.HostStep.TheVariants as host
+
+-- which of the hub's four great events happened: none yet, `go`, `loop_end`, `drain`, `finals`
+pub data Stage : Type 0 where
+  Before : Stage
+  Going : Stage
+  Looped : Stage
+  Drained : Stage
+  Final : Stage
+
+pub record Hub : Type 0 where
+  pub stage : Stage
+
+-- a hub as it opens
+abbrev pub new_hub : Hub
+new_hub = record { stage = Before }
+
+-- `go`, `loop_end`, `drain` and `finals` happen once each and in this order
+abbrev pub stage_after : Stage → HostStep → Option Stage
+stage_after Before host.Go = Some Going
+stage_after Going host.LoopEnd = Some Looped
+stage_after Looped host.Drain = Some Drained
+stage_after Drained host.Finals = Some Final
+stage_after _ _ = None
+
+abbrev pub staged : Hub → Option Stage → Option Hub
+staged h None = None
+staged h (Some s) = Some (record h { stage = s })
+
+-- the hub after one of its events; none where the event may not happen
+abbrev pub hub_next : Hub → HostStep → Option Hub
+hub_next h event = staged h (stage_after h.stage event)

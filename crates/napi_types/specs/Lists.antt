@@ -1,0 +1,54 @@
+-- Words on lists and options that the other definitions are told by. A finite map is a list of records, each found by its number.
+use Rattle.std.specs.Prelude.{ℕ, ◌==◌, Bool, true, false, cond, ◌&&◌, List, [], ◌∷◌, ◌++◌, Option, Some, None, is_some}
+use Rattle.napi_types.specs.declared.status.Status.{Status}
+
+-- the record with the number
+abbrev pub found : {A : Type 0} → (A → ℕ) → ℕ → List A → Option A
+found number n [] = None
+found number n (x ∷ xs) = cond (number x == n) (Some x) (found number n xs)
+
+abbrev pub has : {A : Type 0} → (A → ℕ) → ℕ → List A → Bool
+has number n xs = is_some (found number n xs)
+
+abbrev pub has_number : ℕ → List ℕ → Bool
+has_number n xs = has (λ m. m) n xs
+
+-- the first option that has a value
+abbrev pub or_else : {A : Type 0} → Option A → Option A → Option A
+or_else (Some x) other = Some x
+or_else None other = other
+
+-- the value, or a default
+abbrev pub or : {A : Type 0} → A → Option A → A
+or d None = d
+or d (Some x) = x
+
+abbrev pub one : {A : Type 0} → A → List A
+one x = x ∷ []
+
+abbrev pub head : {A : Type 0} → List A → Option A
+head [] = None
+head (x ∷ xs) = Some x
+
+abbrev pub tail : {A : Type 0} → List A → List A
+tail [] = []
+tail (x ∷ xs) = xs
+
+-- the list with its first element changed
+abbrev pub first_changed : {A : Type 0} → (A → A) → List A → List A
+first_changed f [] = []
+first_changed f (x ∷ xs) = f x ∷ xs
+
+abbrev pub all_of : {A : Type 0} → (A → Bool) → List A → Bool
+all_of test [] = true
+all_of test (x ∷ xs) = test x && all_of test xs
+
+-- a status where a test holds
+abbrev pub when : Bool → Status → Option Status
+when true s = Some s
+when false s = None
+
+-- a status where a test fails
+abbrev pub unless : Bool → Status → Option Status
+unless true s = None
+unless false s = Some s

@@ -1,0 +1,17 @@
+-- The environment and the hub together.
+use Rattle.std.specs.Prelude.{ℕ}
+use Rattle.napi_types.specs.declared.entry.Limits.{Limits}
+use Rattle.napi_types.specs.Environment.{Environment, new_environment}
+use Rattle.napi_types.specs.Hub.{Hub, new_hub}
+
+-- both states, how many entries the journal and the history have, and their limits
+pub record Machine : Type 0 where
+  pub env : Environment
+  pub hub : Hub
+  pub locals : ℕ
+  pub shareds : ℕ
+  pub limits : Limits
+
+-- the opening state of a script with so many addons and texts
+abbrev pub opening : ℕ → ℕ → Limits → Machine
+opening addons texts limits = record { env = new_environment addons texts; hub = new_hub; locals = 0; shareds = 0; limits = limits }

@@ -1,0 +1,60 @@
+-- The room in the journal and in the history: places that entries take, places that are reserved, and what a call needs.
+use Rattle.std.specs.Prelude.{ℕ, ◌+◌, ◌-◌, ◌*◌, Bool, true, false, not, ◌||◌, nat_lt, min, length}
+use Rattle.napi_types.specs.declared.call.Call.{Call}
+use Rattle.napi_types.specs.declared.entry.Phase.{Phase}
+use Rattle.napi_types.specs.declared.entry.Phase.TheVariants as phase
+use Rattle.napi_types.specs.Guards.{is_growing}
+use Rattle.napi_types.specs.Environment.{Environment}
+use Rattle.napi_types.specs.Hub.{Hub, Stage, Before, Going, Looped, Drained, Final}
+use Rattle.napi_types.specs.Machine.{Machine}
+
+-- a list's room: its limit, and the places that its entries and its reserved places take
+pub record Room : Type 0 where
+  pub limit : ℕ
+  pub taken : ℕ
+
+abbrev pub one_if : Bool → ℕ
+one_if true = 1
+one_if false = 0
+
+abbrev pub gone_place : Phase → ℕ
+gone_place phase.Gone = 0
+gone_place _ = 1
+
+-- the places that the journal still owes: the opening, `gone`, two for each init frame to come, and the end of each frame that stands
+abbrev pub reserved_journal : Environment → ℕ
+reserved_journal e = one_if (not e.opened) + gone_place e.phase + 2 * (e.addons - e.inits) + length e.frames
+
+abbrev pub stage_places : Stage → ℕ
+stage_places Before = 4
+stage_places Going = 3
+stage_places Looped = 2
+stage_places Drained = 1
+stage_places Final = 0
+
+-- the places that the history still owes: those of the four great events that have not happened
+abbrev pub reserved_history : Hub → ℕ
+reserved_history h = stage_places h.stage
+
+abbrev pub journal_room : Environment → ℕ → ℕ → Room
+journal_room e locals limit = record { limit = limit; taken = locals + reserved_journal e }
+
+-- the room of the list in which the call's entry would stand
+abbrev pub room_of : Machine → Call → Room
+room_of m c = journal_room m.env m.locals m.limits.journal
+
+-- the places that a call needs, counted as if it were accepted
+abbrev pub need : Call → ℕ
+need _ = 1
+
+-- how many places have their memory from the start, in a list whose limit is not smaller
+abbrev pub first_places : ℕ
+first_places = 65536
+
+-- entries, reserved places and the call's need pass the limit
+abbrev pub is_full : Room → Call → Bool
+is_full r c = nat_lt r.limit (r.taken + need c)
+
+-- the call grows, or entries, reserved places and its need pass the first places
+abbrev pub may_want_memory : Room → Call → Bool
+may_want_memory r c = is_growing c || nat_lt (min first_places r.limit) (r.taken + need c)

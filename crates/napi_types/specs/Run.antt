@@ -1,0 +1,46 @@
+-- Runs of the machine.
+use Rattle.std.specs.Prelude.{◌≡◌, ℕ, Bool, true, false, ◌&&◌, List, [], ◌∷◌, IsTrue}
+use Rattle.napi_types.specs.declared.entry.Entry.{Entry}
+use Rattle.napi_types.specs.declared.call.Ask.{Ask}
+use Rattle.napi_types.specs.Machine.{Machine}
+use Rattle.napi_types.specs.Step.{Step, step}
+
+-- the machine after an entry
+abbrev pub after : Machine → Ask → Entry → Machine
+after m a x = (step m a x).after
+
+-- the entry may come next, at this ask
+abbrev pub IsNext : Machine → Ask → Entry → Type 0
+IsNext m a x = (x ≡ (step m a x).entry) × IsTrue (step m a x).may
+
+-- the machine after the entries
+abbrev pub final : Machine → List Ask → List Entry → Machine
+final m (a ∷ bs) (x ∷ xs) = final (after m a x) bs xs
+final m _ _ = m
+
+-- each entry may come where it stands, at an ask of its own
+abbrev pub IsRunBy : Machine → List Ask → List Entry → Type 0
+IsRunBy m (a ∷ bs) (x ∷ xs) = IsNext m a x × IsRunBy (after m a x) bs xs
+IsRunBy m [] [] = Unit {0}
+IsRunBy m _ _ = ⊥
+
+-- THE SAME AS A COMPUTATION: the steps of whole lists
+abbrev pub steps : Machine → List Ask → List Entry → List Step
+steps m (a ∷ bs) (x ∷ xs) = step m a x ∷ steps (after m a x) bs xs
+steps m _ _ = []
+
+abbrev pub all_may : List Step → Bool
+all_may [] = true
+all_may (s ∷ ss) = s.may && all_may ss
+
+abbrev pub entries_of : List Step → List Entry
+entries_of [] = []
+entries_of (s ∷ ss) = s.entry ∷ entries_of ss
+
+abbrev pub is_paired : List Ask → List Entry → Bool
+is_paired (a ∷ bs) (x ∷ xs) = is_paired bs xs
+is_paired [] [] = true
+is_paired _ _ = false
+
+abbrev pub ComputesBy : Machine → List Ask → List Entry → Type 0
+ComputesBy m bs xs = (xs ≡ entries_of (steps m bs xs)) × IsTrue (is_paired bs xs && all_may (steps m bs xs))

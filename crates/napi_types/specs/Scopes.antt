@@ -1,0 +1,75 @@
+-- Handle scopes: the frames that stand, each with its scopes, and the handles that the scopes hold.
+use Rattle.std.specs.Prelude.{ℕ, ◌==◌, Bool, not, List, [], ◌∷◌, ◌++◌, Option, Some, None, option_map}
+use Rattle.napi_types.specs.declared.entry.Cause.{Cause}
+use Rattle.napi_types.specs.declared.status.Status.{Status}
+use Rattle.napi_types.specs.declared.status.Status.TheVariants as status
+use Rattle.napi_types.specs.Lists.{found, has, or_else, first_changed, when, tail}
+
+-- a handle, and the creation number of its value
+pub record Held : Type 0 where
+  pub handle : ℕ
+  pub value : ℕ
+
+-- a scope that a call opened
+pub record Scope : Type 0 where
+  pub number : ℕ
+  pub held : List Held
+
+-- a frame: why it began, which entry of which addon it runs, how many asks it made, what its own scope holds,
+-- and the scopes that calls opened in it, the innermost first
+pub record Frame : Type 0 where
+  pub cause : Cause
+  pub addon : ℕ
+  pub entry : ℕ
+  pub asks : ℕ
+  pub own : List Held
+  pub scopes : List Scope
+
+-- a frame as it begins
+abbrev pub frame_of : Cause → ℕ → ℕ → Frame
+frame_of c addon entry = record { cause = c; addon = addon; entry = entry; asks = 0; own = []; scopes = [] }
+
+abbrev pub value_in : List Held → ℕ → Option ℕ
+value_in hs h = option_map (λ p. p.value) (found (λ p. p.handle) h hs)
+
+abbrev pub value_in_scopes : List Scope → ℕ → Option ℕ
+value_in_scopes [] h = None
+value_in_scopes (s ∷ ss) h = or_else (value_in s.held h) (value_in_scopes ss h)
+
+-- the value of a handle in an open scope of any frame; none where no open scope holds it
+abbrev pub gives : List Frame → ℕ → Option ℕ
+gives [] h = None
+gives (f ∷ fs) h = or_else (value_in_scopes f.scopes h) (or_else (value_in f.own h) (gives fs h))
+
+-- the innermost of the scopes, or else the frame's own, holds one handle more
+abbrev pub held_by_scopes : Held → List Held → List Scope → List Held × List Scope
+held_by_scopes p own [] = (own ++ p ∷ [], [])
+held_by_scopes p own (s ∷ ss) = (own, record s { held = s.held ++ p ∷ [] } ∷ ss)
+
+abbrev pub hold_in : Held → Frame → Frame
+hold_in p f = record f { own = (held_by_scopes p f.own f.scopes).0; scopes = (held_by_scopes p f.own f.scopes).1 }
+
+-- the innermost scope of the innermost frame holds one handle more
+abbrev pub hold : Held → List Frame → List Frame
+hold p fs = first_changed (hold_in p) fs
+
+-- the innermost frame has one scope more
+abbrev pub open_in : ℕ → List Frame → List Frame
+open_in n fs = first_changed (λ f. record f { scopes = record { number = n; held = [] } ∷ f.scopes }) fs
+
+-- the innermost frame's innermost scope is gone, with the handles in it
+abbrev pub close_in : List Frame → List Frame
+close_in fs = first_changed (λ f. record f { scopes = tail f.scopes }) fs
+
+-- the scopes that calls opened in the innermost frame
+abbrev pub scopes_of : List Frame → List Scope
+scopes_of [] = []
+scopes_of (f ∷ fs) = f.scopes
+
+abbrev pub has_scope : ℕ → List Scope → Bool
+has_scope n ss = has (λ s. s.number) n ss
+
+-- why the scope of that number cannot be closed: no scope is open, or else the number is none of theirs, or else it is not the innermost
+abbrev pub closing : ℕ → List Scope → Option Status
+closing n [] = Some status.HandleScopeMismatch
+closing n (s ∷ ss) = or_else (when (not (has_scope n (s ∷ ss))) status.InvalidArg) (when (not (s.number == n)) status.HandleScopeMismatch)
