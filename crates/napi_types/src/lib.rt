@@ -5,6 +5,7 @@
 
 mod call;
 mod entry;
+mod fill;
 mod ids;
 mod lists;
 mod status;
