@@ -7,7 +7,9 @@ pub mod Lists
 pub mod Loop
 pub mod Machine
 pub mod Numbers
+pub mod Plan
 pub mod Refusals
+pub mod Registers
 pub mod Room
 pub mod Run
 pub mod ScopeCalls
@@ -17,3 +19,4 @@ pub mod Teardown
 pub mod Texts
 pub mod ValueCalls
 pub mod Values
+pub mod Whole

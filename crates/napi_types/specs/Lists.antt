@@ -1,14 +1,15 @@
 -- Words on lists and options that the other definitions are told by. A finite map is a list of records, each found by its number.
-use Rattle.std.specs.Prelude.{ℕ, ◌==◌, Bool, true, false, cond, ◌&&◌, List, [], ◌∷◌, ◌++◌, Option, Some, None, is_some}
+use Rattle.std.specs.Prelude.{ℕ, ◌==◌, Bool, true, false, ◌&&◌, List, [], ◌∷◌, ◌++◌, Option, Some, None, find}
+use Rattle.std.specs.List.{list_any}
 use Rattle.napi_types.specs.declared.status.Status.{Status}
 
 -- the record with the number
 abbrev pub found : {A : Type 0} → (A → ℕ) → ℕ → List A → Option A
-found number n [] = None
-found number n (x ∷ xs) = cond (number x == n) (Some x) (found number n xs)
+found number n xs = find (λ x. number x == n) xs
 
+-- a record has the number
 abbrev pub has : {A : Type 0} → (A → ℕ) → ℕ → List A → Bool
-has number n xs = is_some (found number n xs)
+has number n xs = list_any (λ x. number x == n) xs
 
 abbrev pub has_number : ℕ → List ℕ → Bool
 has_number n xs = has (λ m. m) n xs

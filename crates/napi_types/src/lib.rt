@@ -6,6 +6,7 @@
 mod body;
 mod call;
 mod entry;
+mod fill;
 mod ids;
 mod lists;
 mod status;

@@ -1,0 +1,78 @@
+-- Laws of runs: they grow at their end, and they compute.
+use Rattle.std.proofs.Common.{◌≡◌, ℕ, Bool, true, false, ◌&&◌, ◌==◌, List, [], ◌∷◌, ◌++◌, IsTrue, refl, ap, subst, slice_get, option_map, arith}
+use Rattle.napi_types.specs.declared.entry.Entry.{Entry}
+use Rattle.napi_types.specs.declared.call.Ask.{Ask}
+use Rattle.napi_types.specs.Lists.{or, head, tail}
+use Rattle.napi_types.specs.Machine.{Machine}
+use Rattle.napi_types.specs.Step.{Step, step}
+use Rattle.napi_types.specs.Run.{after, IsNext, IsRunBy, final, ComputesBy, steps, all_may, entries_of, is_paired}
+use Rattle.napi_types.specs.Plan.{Plan, Registers, asked, asked_along, registers_along, registers_after}
+
+pub and-left : (a b : Bool) → IsTrue (a && b) → IsTrue a
+and-left true b h = refl
+and-left false b h = h
+
+pub and-right : (a b : Bool) → IsTrue (a && b) → IsTrue b
+and-right true b h = h
+and-right false b h = cc
+
+pub and-both : (a b : Bool) → IsTrue a → IsTrue b → IsTrue (a && b)
+and-both true b h k = k
+and-both false b h k = h
+
+-- a run has one entry more at its end
+pub run-more : (m : Machine) (bs : List Ask) (xs : List Entry) (a : Ask) (x : Entry)
+    → IsRunBy m bs xs → IsNext (final m bs xs) a x → IsRunBy m (bs ++ a ∷ []) (xs ++ x ∷ [])
+run-more m [] [] a x r n = (n, tt)
+run-more m (b ∷ bs) (y ∷ ys) a x r n = (r.0, run-more (after m b y) bs ys a x r.1 n)
+run-more m [] (y ∷ ys) a x r n = absurd r
+run-more m (b ∷ bs) [] a x r n = absurd r
+
+pub final-more : (m : Machine) (bs : List Ask) (xs : List Entry) (a : Ask) (x : Entry)
+    → IsRunBy m bs xs → final m (bs ++ a ∷ []) (xs ++ x ∷ []) ≡ after (final m bs xs) a x
+final-more m [] [] a x r = refl
+final-more m (b ∷ bs) (y ∷ ys) a x r = final-more (after m b y) bs ys a x r.1
+final-more m [] (y ∷ ys) a x r = absurd r
+final-more m (b ∷ bs) [] a x r = absurd r
+
+-- and so have its asks and its registers
+pub asked-more : (ps : List Plan) (rss : Registers) (m : Machine) (bs : List Ask) (xs : List Entry) (a : Ask) (x : Entry)
+    → IsRunBy m bs xs
+    → asked_along ps rss m (bs ++ a ∷ []) (xs ++ x ∷ []) ≡ asked_along ps rss m bs xs ++ asked ps (registers_along ps rss m bs xs) (final m bs xs) a ∷ []
+asked-more ps rss m [] [] a x r = refl
+asked-more ps rss m (b ∷ bs) (y ∷ ys) a x r = ap (λ l. asked ps rss m b ∷ l) (asked-more ps (registers_after ps rss m y) (after m b y) bs ys a x r.1)
+asked-more ps rss m [] (y ∷ ys) a x r = absurd r
+asked-more ps rss m (b ∷ bs) [] a x r = absurd r
+
+pub registers-more : (ps : List Plan) (rss : Registers) (m : Machine) (bs : List Ask) (xs : List Entry) (a : Ask) (x : Entry)
+    → IsRunBy m bs xs
+    → registers_along ps rss m (bs ++ a ∷ []) (xs ++ x ∷ []) ≡ registers_after ps (registers_along ps rss m bs xs) (final m bs xs) x
+registers-more ps rss m [] [] a x r = refl
+registers-more ps rss m (b ∷ bs) (y ∷ ys) a x r = registers-more ps (registers_after ps rss m y) (after m b y) bs ys a x r.1
+registers-more ps rss m [] (y ∷ ys) a x r = absurd r
+registers-more ps rss m (b ∷ bs) [] a x r = absurd r
+
+-- two facts on whole lists make a run
+pub run-of : (m : Machine) (bs : List Ask) (xs : List Entry) → ComputesBy m bs xs → IsRunBy m bs xs
+run-of m (a ∷ bs) (x ∷ xs) c =
+    let s : Step = step m a x in
+    let paired : IsTrue (is_paired bs xs) = and-left (is_paired bs xs) (s.may && all_may (steps s.after bs xs)) c.1 in
+    let may : IsTrue (s.may && all_may (steps s.after bs xs)) = and-right (is_paired bs xs) (s.may && all_may (steps s.after bs xs)) c.1 in (
+      (ap (λ l. or x (head l)) c.0, and-left s.may (all_may (steps s.after bs xs)) may),
+      run-of s.after bs xs (
+        ap tail c.0,
+        and-both (is_paired bs xs) (all_may (steps s.after bs xs)) paired (and-right s.may (all_may (steps s.after bs xs)) may),
+      ),
+    )
+run-of m [] [] c = tt
+run-of m [] (x ∷ xs) c = cc
+run-of m (a ∷ bs) [] c = cc
+
+-- the entries of a run are those that its asks compute
+pub entries-of : (m : Machine) (bs : List Ask) (xs : List Entry) → IsRunBy m bs xs → xs ≡ entries_of (steps m bs xs)
+entries-of m [] [] r = refl
+entries-of m (a ∷ bs) (x ∷ xs) r =
+    let P : Entry → Type 0 = λ y. x ∷ xs ≡ y ∷ entries_of (steps (after m a x) bs xs) in
+    subst P r.0.0 (ap (λ l. x ∷ l) (entries-of (after m a x) bs xs r.1))
+entries-of m [] (x ∷ xs) r = absurd r
+entries-of m (a ∷ bs) [] r = absurd r

@@ -1,0 +1,89 @@
+//! The addon that follows its script: it tells its plan, and asks what the plan says.
+//! Contracts see it by `plan` and `regs` of the trait `Addon`. The program hands such addons to the top calls.
+#![tactic(auto)]
+
+ghost use Rattle.std.specs.Prelude.{◌≡◌, [], Some, set};
+ghost use Rattle.napi_types.specs.Registers.{operation, blank_registers};
+
+use addon_trait::Addon;
+use napi_types::{AddonPlan, Ask, Listed, Op, Reply, Status};
+use std::alloc::Global;
+
+/// An addon that keeps the plan of a script and 32 registers.
+#[derive(Drop)]
+pub struct ScriptAddon {
+    plan: AddonPlan,
+    registers: [u64; 32],
+}
+
+impl ScriptAddon {
+    /// An addon with no entries, whose registers are 0. It takes no memory.
+    pub fn blank(alloc: Global) -> ScriptAddon
+        ensures plan { ⟦<ScriptAddon as Addon>⟧.plan result ≡ Some [] }
+        ensures regs { ⟦<ScriptAddon as Addon>⟧.regs result ≡ blank_registers }
+    {
+        ScriptAddon {
+            plan: AddonPlan {
+                entries: Listed::of(Vec::new(alloc)),
+            },
+            registers: [0; 32],
+        }
+    }
+
+    /// The plan's operation of an entry at a step, `None` exactly where the plan has no such entry or step.
+    fn operation(&self, entry: u32, step: u32) -> Option<Op>
+        ensures { result ≡ operation self.now.plan.entries entry step }
+    {
+        let operations = self.plan.entries.items().get(entry as usize)?;
+        operations.items().get(step as usize).copied()
+    }
+}
+
+/// Keeps a number in a register. Where there is no such register it changes nothing.
+#[tactic(auto, using(std::proofs::lemmas::List::set_past))]
+fn keep(registers: &mut [u64; 32], register: u8, number: u64)
+    ensures { registers.new ≡ set registers.old register number }
+{
+    let place = register as usize;
+    if place < registers.len() {
+        registers[place] = number;
+    }
+}
+
+impl Addon for ScriptAddon {
+    ghost plan = { λ addon. Some addon.plan.entries };
+
+    ghost regs = { λ addon. addon.registers };
+
+    fn load(&mut self, given: AddonPlan) {
+        self.plan = given;
+        self.registers = [0; 32];
+    }
+
+    fn enter(&mut self, _entry: u32, gifts: &[u64; 8]) {
+        self.registers[24..].copy_from_slice(gifts);
+    }
+
+    fn ask(&mut self, entry: u32, step: u32) -> Ask {
+        match self.operation(entry, step) {
+            Some(operation) => operation.fill(&self.registers),
+            None => Ask::Leave(None),
+        }
+    }
+
+    fn note(&mut self, entry: u32, step: u32, reply: &Reply) {
+        let Status::Ok = reply.status else {
+            return;
+        };
+        let Some(operation) = self.operation(entry, step) else {
+            return;
+        };
+        let Some(register) = operation.kept_in() else {
+            return;
+        };
+        let Some(number) = reply.out.register_value() else {
+            return;
+        };
+        keep(&mut self.registers, register, number);
+    }
+}
