@@ -1,2 +1,3 @@
-pub mod Runs
+pub mod Answers
 pub mod Asks
+pub mod Runs

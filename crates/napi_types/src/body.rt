@@ -1,5 +1,8 @@
 //! What a value is.
-use crate::TextNo;
+ghost use Rattle.std.specs.Prelude.{◌≡◌};
+ghost use Rattle.napi_types.specs.Values.{kind_of};
+
+use crate::{Kind, TextNo};
 
 /// What a value is, its properties and elements aside. An array and an error are objects.
 #[derive(Clone, Copy)]
@@ -24,4 +27,24 @@ pub enum Body {
         payload: u64,
     },
     External(u64),
+}
+
+impl Body {
+    /// The kind that `typeof` tells.
+    pub fn kind(self) -> Kind
+        ensures { result ≡ kind_of self }
+    {
+        match self {
+            Body::Undefined => Kind::Undefined,
+            Body::Null => Kind::Null,
+            Body::Boolean(_) => Kind::Boolean,
+            Body::Number(_) => Kind::Number,
+            Body::Bigint(_) => Kind::Bigint,
+            Body::Str(_) => Kind::String,
+            Body::Symbol(_) => Kind::Symbol,
+            Body::Object { .. } => Kind::Object,
+            Body::Function { .. } => Kind::Function,
+            Body::External(_) => Kind::External,
+        }
+    }
 }

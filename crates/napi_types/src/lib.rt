@@ -19,8 +19,6 @@ pub use entry::{
     Phase, Reply, SharedCall, Target, What, Why,
 };
 pub use ids::{HandleId, RefId, ScopeId, TextNo, Ticket, TsfnId, ValueId, WorkId};
-pub use lists::{
-    Actors, AddonPlan, EntryList, Listed, LocalList, OpList, OpLists, Plans, Record,
-};
+pub use lists::{Actors, AddonPlan, EntryList, Listed, LocalList, OpList, OpLists, Plans, Record};
 pub use status::{Kind, Status};
 pub use text::{Text, Texts};

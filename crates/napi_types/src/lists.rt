@@ -1,10 +1,9 @@
 //! Lists that contracts see as lists, and what a run leaves.
 ghost use Rattle.std.specs.Prelude.{◌≡◌, []};
 
+use crate::{Actor, Entry, Local, Op};
 use std::alloc::Global;
 use std::marker::Model;
-
-use crate::{Actor, Entry, Local, Op};
 
 /// A list over a `Vec`, which it takes and gives back without memory.
 #[derive(Drop)]

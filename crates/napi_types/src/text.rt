@@ -2,10 +2,9 @@
 ghost use Rattle.std.specs.Prelude.{◌≡◌, IfOk, slice_get, option_map};
 ghost use Rattle.napi_types.specs.Texts.{IsTextTable};
 
+use crate::{NoMemory, TextNo};
 use std::alloc::Global;
 use std::marker::Model;
-
-use crate::{NoMemory, TextNo};
 
 /// A text, seen as its bytes.
 #[derive(Drop)]

@@ -1,0 +1,22 @@
+-- A call's entry, and the environment after it, from their parts.
+use Rattle.std.proofs.Common.{◌≡◌, ◌∙◌, ℕ, length, refl, ap, None}
+use Rattle.napi_types.specs.declared.call.Call.{Call}
+use Rattle.napi_types.specs.declared.entry.Reply.{Reply}
+use Rattle.napi_types.specs.declared.entry.Actor.TheVariants as actor
+use Rattle.napi_types.specs.declared.entry.What.TheVariants as what
+use Rattle.napi_types.specs.declared.entry.Entry.{Entry}
+use Rattle.napi_types.specs.Environment.{Environment}
+use Rattle.napi_types.specs.Calls.{answer}
+use Rattle.napi_types.specs.Changes.{asks_of, noted, called}
+
+abbrev pub told_entry : ℕ → ℕ → Call → Reply → Entry
+told_entry depth step c r = record { actor = actor.Env; depth = depth; step = step; what = what.Call c; reply = r; given = None }
+
+pub entry-called : (e : Environment) (c : Call) (n depth step : ℕ) (r : Reply)
+    → depth ≡ length e.frames → step ≡ asks_of e.frames → r ≡ (answer e c n).reply → told_entry depth step c r ≡ (called e c n).entry
+entry-called e c n depth step r d s q =
+    ap (λ x. told_entry x step c r) d ∙ ap (λ x. told_entry (length e.frames) x c r) s ∙ ap (λ x. told_entry (length e.frames) (asks_of e.frames) c x) q
+
+pub after-called : (e mid new : Environment) (c : Call) (n : ℕ) (r : Reply)
+    → r ≡ (answer e c n).reply → mid ≡ (answer e c n).after → new ≡ noted r.status mid → new ≡ (called e c n).after
+after-called e mid new c n r q m h = h ∙ ap (λ x. noted x.status mid) q ∙ ap (λ x. noted (answer e c n).reply.status x) m

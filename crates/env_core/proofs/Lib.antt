@@ -1,0 +1,4 @@
+pub mod Called
+pub mod Cores
+pub mod Scopes
+pub mod Values

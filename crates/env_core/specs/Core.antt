@@ -1,0 +1,52 @@
+-- The environment and its journal.
+use Rattle.std.specs.Prelude.{◌≡◌, ℕ, ◌+◌, ◌≤◌, List, [], ◌∷◌, ◌++◌, length, Option, Some, None}
+use Rattle.napi_types.specs.declared.entry.Local.{Local}
+use Rattle.napi_types.specs.declared.entry.Phase.{Phase}
+use Rattle.napi_types.specs.declared.entry.Phase.TheVariants as phase
+use Rattle.napi_types.specs.Environment.{Environment, new_environment}
+use Rattle.napi_types.specs.Room.{Room, journal_room, reserved_journal}
+use Rattle.napi_types.specs.Changes.{Change, opened, gone, in_phase}
+use Rattle.env_core.specs.Journal.{Pages}
+
+-- the environment, its journal, the journal's limit, and the length of the history as it was noted last
+pub record Core : Type 0 where
+  pub env : Environment
+  pub journal : List Local
+  pub limit : ℕ
+  pub position : ℕ
+
+-- a change of the environment leaves its entry in the journal
+abbrev pub wrote : Change → Core → Core
+wrote c core = record core { env = c.after; journal = core.journal ++ record { at = core.position; entry = c.entry } ∷ [] }
+
+-- a core as it opens
+abbrev pub opened_core : ℕ → ℕ → ℕ → Core
+opened_core addons texts limit =
+    wrote (opened (new_environment addons texts)) (record { env = new_environment addons texts; journal = []; limit = limit; position = 0 })
+
+-- the phases in their order
+abbrev pub next_phase : Phase → Option Phase
+next_phase phase.Init = Some phase.Live
+next_phase phase.Live = Some phase.Hooks
+next_phase phase.Hooks = Some phase.Drain
+next_phase phase.Drain = Some phase.Finals
+next_phase phase.Finals = Some phase.Gone
+next_phase phase.Gone = None
+
+-- a phase starts at an event of the hub, after which the history has that length; the last one starts at an entry of its own
+abbrev pub advanced : Phase → ℕ → Core → Core
+advanced phase.Gone position core = wrote (gone core.env) core
+advanced p position core = record core { env = in_phase p core.env; position = position }
+
+-- the room in the journal
+abbrev pub room_in : Core → Room
+room_in core = journal_room core.env (length core.journal) core.limit
+
+-- the promised places are the reserved ones, and each number that was given out has an entry
+pub record IsCore (e : Environment) (pages : Pages) : Type 0 where
+  pub reserved : pages.promised ≡ reserved_journal e
+  pub within : length pages.entries + pages.promised ≤ pages.limit
+  pub small : pages.limit ≤ 4194304
+  pub handles : e.handles ≤ length pages.entries
+  pub scopes : length e.scope_numbers ≤ length pages.entries
+  pub values : e.made ≤ length pages.entries + 5

@@ -1,0 +1,29 @@
+-- What a step of a frame comes to.
+use Rattle.std.specs.Prelude.{◌≡◌, ℕ, IsTrue}
+use Rattle.napi_types.specs.declared.call.Call.{Call}
+use Rattle.napi_types.specs.declared.entry.Reply.{Reply}
+use Rattle.napi_types.specs.declared.status.Status.{Status}
+use Rattle.napi_types.specs.Changes.{called, number_of, is_fresh}
+use Rattle.env_core.specs.declared.env.Stepped.{Stepped}
+use Rattle.env_core.specs.declared.env.Stepped.TheVariants as stepped
+use Rattle.env_core.specs.Core.{Core, wrote}
+
+abbrev pub IfReply : Stepped → (Reply → Type 0) → Type 0
+IfReply (stepped.Reply r) P = P r
+IfReply _ P = Unit {0}
+
+abbrev pub IfStop : Stepped → (Status → Type 0) → Type 0
+IfStop (stepped.Stop s) P = P s
+IfStop _ P = Unit {0}
+
+-- the step is a reply or a stop: no call of a function and no shared call exists yet
+abbrev pub IsLocal : Stepped → Type 0
+IsLocal (stepped.Enter t gifts) = ⊥
+IsLocal (stepped.Shared c) = ⊥
+IsLocal _ = Unit {0}
+
+-- the reply is the machine's answer to the call, with a fresh number where it gives one, and the core wrote the call's entry
+pub record Replies (old : Core) (c : Call) (r : Reply) (new : Core) : Type 0 where
+  pub fresh : IsTrue (is_fresh old.env r.out)
+  pub answer : r ≡ (called old.env c (number_of r.out)).entry.reply
+  pub after : new ≡ wrote (called old.env c (number_of r.out)) old

@@ -1,0 +1,134 @@
+//! The journal: the entries of the environment's local events, and the places that are promised to further ones.
+ghost use Rattle.std.specs.Prelude.{◌≡◌, ℕ, ◌+◌, ◌-◌, ◌<◌, ◌≤◌, [], ◌∷◌, ◌++◌, length, min, IfOk, OnOk, OnErr, IfErr, ◌↔◌, ◌⊎◌};
+ghost use Rattle.napi_types.specs.Room.{first_places};
+ghost use Rattle.env_core.specs.Journal.{passes};
+
+use napi_types::{Entry, Listed, Local, LocalList, NoMemory, Status};
+use std::alloc::Global;
+use std::marker::Model;
+
+/// How many places have their memory from the start.
+const FIRST_PLACES: usize = 65536;
+
+/// Entries, and a number of promised places whose memory is there, so that filling one cannot fail.
+#[derive(Drop)]
+pub struct Journal {
+    entries: Vec<Local>,
+    promised: u32,
+    limit: u32,
+    position: u64,
+}
+
+impl Model for Journal {
+    ghost use Rattle.std.specs.Prelude.{◌≡◌, ◌+◌, ◌≤◌, length, vec_capacity, min};
+    ghost use Rattle.env_core.specs.Journal.{Pages, IsKept};
+
+    ghost Value = { Pages };
+
+    ghost view = { λ journal. record {
+      entries = journal.entries.items;
+      promised = journal.promised;
+      limit = journal.limit;
+      position = journal.position;
+    } };
+
+    ghost invariant = { λ journal. IsKept (length journal.entries.items) journal.promised journal.limit (vec_capacity journal.entries) };
+}
+
+impl Journal {
+    /// An empty journal with places promised; the memory of its first places is taken.
+    pub fn new(alloc: Global, limit: u32, promised: u32) -> Result<Journal, NoMemory>
+        requires room { promised ≤ limit }
+        requires most { limit ≤ 4194304 }
+        ensures { IfOk result (λ journal. journal ≡ record { entries = []; promised = promised; limit = limit; position = 0 }) }
+    {
+        let first = FIRST_PLACES.min(limit as usize).max(promised as usize);
+        match Vec::with_capacity(alloc, first) {
+            Ok(entries) => Ok(Journal {
+                entries,
+                promised,
+                limit,
+                position: 0,
+            }),
+            Err(_) => Err(NoMemory),
+        }
+    }
+
+    /// Promises one place more: `TraceFull` exactly where that passes the limit, `NoMemory` only where it passes the first places.
+    pub fn promise(&mut self) -> Result<(), Status>
+        ensures ok { OnOk result (self.new ≡ record self.old { promised = self.old.promised + 1 }) }
+        ensures err { OnErr result (self.new ≡ self.old) }
+        ensures full { (result ≡ Err Status.TraceFull) ↔ passes self.old self.old.limit }
+        ensures room { OnOk result (length self.old.entries + self.old.promised < self.old.limit) }
+        ensures cause { IfErr result (λ status. (status ≡ Status.TraceFull) ⊎ (status ≡ Status.NoMemory)) }
+        ensures memory { result ≡ Err Status.NoMemory → passes self.old (min first_places self.old.limit) }
+    {
+        if self.room() == 0 {
+            return Err(Status::TraceFull);
+        }
+        match self.entries.reserve(self.promised as usize + 1) {
+            Ok(()) => {
+                self.promised += 1;
+                Ok(())
+            }
+            Err(_) => Err(Status::NoMemory),
+        }
+    }
+
+    /// Gives a promised place back.
+    pub fn give_back(&mut self)
+        requires { 0 < self.old.promised }
+        ensures { self.new ≡ record self.old { promised = self.old.promised - 1 } }
+    {
+        self.promised -= 1;
+    }
+
+    /// Fills a promised place. The entry stands at the position noted last.
+    pub fn push(&mut self, entry: Entry)
+        requires { 0 < self.old.promised }
+        ensures { self.new ≡ record self.old {
+          entries = self.old.entries ++ record { at = self.old.position; entry = entry } ∷ [];
+          promised = self.old.promised - 1;
+        } }
+    {
+        self.entries.push_reserved(Local {
+            at: self.position,
+            entry,
+        });
+        self.promised -= 1;
+    }
+
+    /// Notes the length of the history.
+    pub fn note(&mut self, position: u64)
+        ensures { self.new ≡ record self.old { position = position } }
+    {
+        self.position = position;
+    }
+
+    /// The entries in their order.
+    pub fn entries(&self) -> &[Local]
+        ensures { result.now ≡ self.now.entries }
+    {
+        &self.entries
+    }
+
+    /// Hands out the entries.
+    pub fn into_entries(self) -> LocalList
+        ensures { result ≡ self.entries }
+    {
+        let Journal {
+            entries,
+            promised: _,
+            limit: _,
+            position: _,
+        } = self;
+        Listed::of(entries)
+    }
+
+    /// How many places are neither filled nor promised.
+    pub fn room(&self) -> u32
+        ensures { result + length self.now.entries + self.now.promised ≡ self.now.limit }
+    {
+        self.limit - self.entries.len() as u32 - self.promised
+    }
+}

@@ -1,0 +1,12 @@
+//! The environment of an addon: its values, scopes and frames, and the journal that its local events fill.
+//! Contracts see an `EnvCore` as the machine's environment beside its journal (`specs/Core.antt`).
+//! Each call makes the change that the machine's definitions give, or changes nothing. The crate that runs
+//! frames stands above it.
+#![tactic(auto)]
+
+mod env;
+mod frame;
+mod journal;
+mod state;
+
+pub use env::{EnvCore, Stepped};
