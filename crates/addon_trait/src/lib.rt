@@ -35,7 +35,7 @@ pub trait Addon: Drop {
 
     /// What the frame of this entry does at this step, counted from 0: a call, or to leave.
     ///
-    /// Where the plan has no such entry or no such step, it is to leave without a handle.
+    /// Where the plan is told, and has no such entry or no such step, it is to leave without a handle.
     fn ask(&mut self, entry: u32, step: u32) -> Ask
         ensures plan { plan self.new ≡ plan self.old }
         ensures regs { regs self.new ≡ regs self.old }
@@ -43,8 +43,10 @@ pub trait Addon: Drop {
 
     /// Tells the addon the reply to the call that the frame of this entry made at this step.
     ///
-    /// The result of an accepted call goes to the register that the plan's operation names for it. No other register changes.
+    /// Where the plan is told, the result of an accepted call goes to the register that its operation names for it,
+    /// and no other register changes.
     fn note(&mut self, entry: u32, step: u32, reply: &Reply)
         ensures plan { plan self.new ≡ plan self.old }
-        ensures kept { IfSome (plan self.old) (λ p. regs self.new ≡ kept p (regs self.old) entry step reply.now) };
+        ensures kept { IfSome (plan self.old)
+            (λ p. regs self.new ≡ kept p (regs self.old) entry step reply.now) };
 }
