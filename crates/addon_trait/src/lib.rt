@@ -2,7 +2,7 @@
 //! and its `regs`, 32 numbers. Every crate that runs frames stands on this one.
 #![tactic(auto)]
 
-ghost use Rattle.std.specs.Prelude.{◌≡◌, ℕ, List, Option, IfSome, option_map};
+ghost use Rattle.std.specs.Prelude.{◌≡◌, ℕ, List, Option, None, IfSome, option_map};
 ghost use Rattle.napi_types.specs.declared.call.Op.{Op};
 ghost use Rattle.napi_types.specs.Registers.{plan_ask, kept, blank_registers, gifted};
 
@@ -49,4 +49,47 @@ pub trait Addon: Drop {
         ensures plan { plan self.new ≡ plan self.old }
         ensures kept { IfSome (plan self.old)
             (λ p. regs self.new ≡ kept p (regs self.old) entry step reply.now) };
+}
+
+#[cfg(test)]
+mod tests {
+    use super::*;
+    use napi_types::Call;
+    use std::test::Fail;
+
+    /// An addon that heeds no plan: it makes objects without end, and only keeps its gifts.
+    #[derive(Drop)]
+    struct Endless {
+        registers: [u64; 32],
+    }
+
+    impl Addon for Endless {
+        ghost plan = { λ _. None };
+
+        ghost regs = { λ addon. addon.registers };
+
+        fn load(&mut self, _given: AddonPlan) {
+            self.registers = [0; 32];
+        }
+
+        fn enter(&mut self, _entry: u32, gifts: &[u64; 8]) {
+            self.registers[24..].copy_from_slice(gifts);
+        }
+
+        fn ask(&mut self, _entry: u32, _step: u32) -> Ask {
+            Ask::Do(Call::CreateObject)
+        }
+
+        fn note(&mut self, _entry: u32, _step: u32, _reply: &Reply) {}
+    }
+
+    #[test]
+    fn an_addon_may_heed_no_plan(rt: HostRuntime) -> Result<(), Fail> {
+        let alloc = rt.alloc();
+        let endless = Endless { registers: [7; 32] };
+        let mut addon: Box<dyn Addon> = Box::new(alloc, endless)?;
+        addon.enter(0, &[1, 2, 3, 4, 5, 6, 7, 8]);
+        assert!(rt; matches!(addon.ask(0, 65_535), Ask::Do(Call::CreateObject)));
+        Ok(())
+    }
 }
