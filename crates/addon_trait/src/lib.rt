@@ -2,7 +2,7 @@
 //! and its `regs`, 32 numbers. Every crate that runs frames stands on this one.
 #![tactic(auto)]
 
-ghost use Rattle.std.specs.Prelude.{◌≡◌, ℕ, List, Option, IfSome, option_map};
+ghost use Rattle.std.specs.Prelude.{◌≡◌, ℕ, List, Option, None, IfSome, option_map};
 ghost use Rattle.napi_types.specs.declared.call.Op.{Op};
 ghost use Rattle.napi_types.specs.Registers.{plan_ask, kept, blank_registers, gifted};
 
@@ -35,7 +35,7 @@ pub trait Addon: Drop {
 
     /// What the frame of this entry does at this step, counted from 0: a call, or to leave.
     ///
-    /// Where the plan has no such entry or no such step, it is to leave without a handle.
+    /// Where the plan is told, and has no such entry or no such step, it is to leave without a handle.
     fn ask(&mut self, entry: u32, step: u32) -> Ask
         ensures plan { plan self.new ≡ plan self.old }
         ensures regs { regs self.new ≡ regs self.old }
@@ -43,8 +43,53 @@ pub trait Addon: Drop {
 
     /// Tells the addon the reply to the call that the frame of this entry made at this step.
     ///
-    /// The result of an accepted call goes to the register that the plan's operation names for it. No other register changes.
+    /// Where the plan is told, the result of an accepted call goes to the register that its operation names for it,
+    /// and no other register changes.
     fn note(&mut self, entry: u32, step: u32, reply: &Reply)
         ensures plan { plan self.new ≡ plan self.old }
-        ensures kept { IfSome (plan self.old) (λ p. regs self.new ≡ kept p (regs self.old) entry step reply.now) };
+        ensures kept { IfSome (plan self.old)
+            (λ p. regs self.new ≡ kept p (regs self.old) entry step reply.now) };
+}
+
+#[cfg(test)]
+mod tests {
+    use super::*;
+    use napi_types::Call;
+    use std::test::Fail;
+
+    /// An addon that heeds no plan: it makes objects without end, and only keeps its gifts.
+    #[derive(Drop)]
+    struct Endless {
+        registers: [u64; 32],
+    }
+
+    impl Addon for Endless {
+        ghost plan = { λ _. None };
+
+        ghost regs = { λ addon. addon.registers };
+
+        fn load(&mut self, _given: AddonPlan) {
+            self.registers = [0; 32];
+        }
+
+        fn enter(&mut self, _entry: u32, gifts: &[u64; 8]) {
+            self.registers[24..].copy_from_slice(gifts);
+        }
+
+        fn ask(&mut self, _entry: u32, _step: u32) -> Ask {
+            Ask::Do(Call::CreateObject)
+        }
+
+        fn note(&mut self, _entry: u32, _step: u32, _reply: &Reply) {}
+    }
+
+    #[test]
+    fn an_addon_may_heed_no_plan(rt: HostRuntime) -> Result<(), Fail> {
+        let alloc = rt.alloc();
+        let endless = Endless { registers: [7; 32] };
+        let mut addon: Box<dyn Addon> = Box::new(alloc, endless)?;
+        addon.enter(0, &[1, 2, 3, 4, 5, 6, 7, 8]);
+        assert!(rt; matches!(addon.ask(0, 65_535), Ask::Do(Call::CreateObject)));
+        Ok(())
+    }
 }

@@ -87,3 +87,68 @@ impl Addon for ScriptAddon {
         keep(&mut self.registers, register, number);
     }
 }
+
+#[cfg(test)]
+mod tests {
+    use super::*;
+    use napi_types::{Call, HandleId, Kind, OpLists, Out, ScopeId};
+    use std::test::Fail;
+
+    /// One entry: open a scope, make an object, ask its kind, close the scope.
+    fn first_run(alloc: Global) -> Result<AddonPlan, Fail> {
+        let operations = vec![in alloc;
+            Op::OpenHandleScope(0),
+            Op::CreateObject(1),
+            Op::Typeof(1, 2),
+            Op::CloseHandleScope(0),
+        ]?;
+        let entries: OpLists = Listed::of(vec![in alloc; Listed::of(operations)]?);
+        Ok(AddonPlan { entries })
+    }
+
+    fn answered(status: Status, out: Out) -> Reply {
+        Reply {
+            status,
+            out,
+            dropped: None,
+            made: None,
+        }
+    }
+
+    #[test]
+    fn asks_what_its_plan_says(rt: HostRuntime) -> Result<(), Fail> {
+        let alloc = rt.alloc();
+        let mut addon: Box<dyn Addon> = Box::new(alloc, ScriptAddon::blank(alloc))?;
+        addon.load(first_run(alloc)?);
+        assert!(rt; matches!(addon.ask(0, 0), Ask::Do(Call::OpenHandleScope)));
+        addon.note(0, 0, &answered(Status::Ok, Out::Scope(ScopeId(40))));
+        assert!(rt; matches!(addon.ask(0, 1), Ask::Do(Call::CreateObject)));
+        addon.note(0, 1, &answered(Status::Ok, Out::Handle(HandleId(1))));
+        assert!(rt; matches!(addon.ask(0, 2), Ask::Do(Call::Typeof(HandleId(1)))));
+        addon.note(0, 2, &answered(Status::Ok, Out::Kind(Kind::Object)));
+        assert!(rt;
+            matches!(
+                addon.ask(0, 3),
+                Ask::Do(Call::CloseHandleScope(ScopeId(40)))
+            )
+        );
+        addon.note(0, 3, &answered(Status::Ok, Out::Nothing));
+        assert!(rt; matches!(addon.ask(0, 4), Ask::Leave(None)));
+        assert!(rt; matches!(addon.ask(1, 0), Ask::Leave(None)));
+        Ok(())
+    }
+
+    #[test]
+    fn a_refused_call_keeps_nothing(rt: HostRuntime) -> Result<(), Fail> {
+        let alloc = rt.alloc();
+        let mut addon: Box<dyn Addon> = Box::new(alloc, ScriptAddon::blank(alloc))?;
+        addon.load(first_run(alloc)?);
+        addon.note(
+            0,
+            1,
+            &answered(Status::PendingException, Out::Handle(HandleId(9))),
+        );
+        assert!(rt; matches!(addon.ask(0, 2), Ask::Do(Call::Typeof(HandleId(0)))));
+        Ok(())
+    }
+}

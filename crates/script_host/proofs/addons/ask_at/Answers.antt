@@ -1,0 +1,15 @@
+use Rattle.std.proofs.Common.{◌≡◌, None, [], IfSome}
+use Rattle.napi_types.specs.Registers.{plan_ask}
+use Rattle.script_host.proofs.Members.{map-set_alike, fact_here}
+use Rattle.script_host.proofs.addons.ask_at.Goals as goal
+
+pub returns-clause-plans : goal.returns-clause-plans
+returns-clause-plans g c = map-set_alike _ _ _ _ _ c.index_mut.ensures.value c.ask.ensures.plan
+
+pub returns-clause-regs : goal.returns-clause-regs
+returns-clause-regs g c = map-set_alike _ _ _ _ _ c.index_mut.ensures.value c.ask.ensures.regs
+
+pub returns-clause-asked : goal.returns-clause-asked
+returns-clause-asked g c =
+    fact_here (λ plan regs. IfSome plan (λ p. c.ask.result ≡ plan_ask p regs c.args.entry c.args.step))
+    _ _ _ _ _ None [] c.index_mut.ensures.value c.requires c.ask.ensures.asked

@@ -1,0 +1,95 @@
+//! Calls of one addon of a list. Contracts see the list as the list of its addons' plans and the list of their registers.
+ghost use Rattle.std.specs.Prelude.{◌≡◌, ◌<◌, IfSome, length, map, set, option_map};
+ghost use Rattle.napi_types.specs.Registers.{plan_ask, kept, blank_registers, gifted};
+ghost use Rattle.script_host.specs.Addons.{plan_at, registers_at, loaded_at, OthersStay};
+
+use addon_trait::Addon;
+use napi_types::{AddonPlan, Ask, Reply};
+
+/// Gives an addon its plan, and clears its registers.
+fn load(addon: &mut Box<dyn Addon>, given: AddonPlan)
+    ensures plan { plan addon.new ≡ option_map (λ _. given.entries) (plan addon.old) }
+    ensures regs { regs addon.new ≡ blank_registers }
+{
+    addon.load(given);
+}
+
+/// Tells an addon that a frame begins.
+fn enter(addon: &mut Box<dyn Addon>, entry: u32, gifts: &[u64; 8])
+    ensures plan { plan addon.new ≡ plan addon.old }
+    ensures regs { regs addon.new ≡ gifted gifts.now (regs addon.old) }
+{
+    addon.enter(entry, gifts);
+}
+
+/// What an addon's frame does next.
+fn ask(addon: &mut Box<dyn Addon>, entry: u32, step: u32) -> Ask
+    ensures plan { plan addon.new ≡ plan addon.old }
+    ensures regs { regs addon.new ≡ regs addon.old }
+    ensures asked { IfSome (plan addon.old) (λ p. result ≡ plan_ask p (regs addon.old) entry step) }
+{
+    addon.ask(entry, step)
+}
+
+/// Tells an addon the reply to its call.
+fn note(addon: &mut Box<dyn Addon>, entry: u32, step: u32, reply: &Reply)
+    ensures plan { plan addon.new ≡ plan addon.old }
+    ensures kept { IfSome (plan addon.old)
+        (λ p. regs addon.new ≡ kept p (regs addon.old) entry step reply.now) }
+{
+    addon.note(entry, step, reply);
+}
+
+/// Gives the addon of this number its plan, and clears its registers. The other addons stay as they are.
+pub fn load_at(addons: &mut Vec<Box<dyn Addon>>, which: usize, given: AddonPlan)
+    requires { which < length addons.old.items }
+    ensures count { length addons.new.items ≡ length addons.old.items }
+    ensures plans { let plans = map (λ b. plan b) addons.old.items in
+        map (λ b. plan b) addons.new.items ≡ loaded_at plans which given.entries }
+    ensures regs { let registers = map (λ b. regs b) addons.old.items in
+        map (λ b. regs b) addons.new.items ≡ set registers which blank_registers }
+{
+    load(&mut addons[which], given);
+}
+
+/// Tells the addon of this number that a frame of this entry begins, with the numbers that go to registers 24 to 31.
+/// The other addons stay as they are.
+pub fn enter_at(addons: &mut Vec<Box<dyn Addon>>, which: usize, entry: u32, gifts: &[u64; 8])
+    requires { which < length addons.old.items }
+    ensures count { length addons.new.items ≡ length addons.old.items }
+    ensures plans { map (λ b. plan b) addons.new.items ≡ map (λ b. plan b) addons.old.items }
+    ensures regs { let registers = map (λ b. regs b) addons.old.items in
+        map (λ b. regs b) addons.new.items
+        ≡ set registers which (gifted gifts.now (registers_at registers which)) }
+{
+    enter(&mut addons[which], entry, gifts);
+}
+
+/// What the frame of this entry, of the addon of this number, does at this step. Every addon keeps its registers.
+pub fn ask_at(addons: &mut Vec<Box<dyn Addon>>, which: usize, entry: u32, step: u32) -> Ask
+    requires { which < length addons.old.items }
+    ensures count { length addons.new.items ≡ length addons.old.items }
+    ensures plans { map (λ b. plan b) addons.new.items ≡ map (λ b. plan b) addons.old.items }
+    ensures regs { map (λ b. regs b) addons.new.items ≡ map (λ b. regs b) addons.old.items }
+    ensures asked { let registers = registers_at (map (λ b. regs b) addons.old.items) which in
+        IfSome (plan_at (map (λ b. plan b) addons.old.items) which)
+        (λ p. result ≡ plan_ask p registers entry step) }
+{
+    ask(&mut addons[which], entry, step)
+}
+
+/// Tells the addon of this number the reply to the call that its frame of this entry made at this step.
+/// The other addons stay as they are.
+pub fn note_at(addons: &mut Vec<Box<dyn Addon>>, which: usize, entry: u32, step: u32, reply: &Reply)
+    requires { which < length addons.old.items }
+    ensures count { length addons.new.items ≡ length addons.old.items }
+    ensures plans { map (λ b. plan b) addons.new.items ≡ map (λ b. plan b) addons.old.items }
+    ensures others { let before = map (λ b. regs b) addons.old.items in
+        OthersStay before (map (λ b. regs b) addons.new.items) which }
+    ensures kept { let before = registers_at (map (λ b. regs b) addons.old.items) which in
+        let after = registers_at (map (λ b. regs b) addons.new.items) which in
+        IfSome (plan_at (map (λ b. plan b) addons.old.items) which)
+        (λ p. after ≡ kept p before entry step reply.now) }
+{
+    note(&mut addons[which], entry, step, reply);
+}
