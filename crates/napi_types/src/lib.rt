@@ -4,6 +4,7 @@
 #![tactic(auto)]
 
 mod call;
+mod edge;
 mod entry;
 mod ids;
 mod lists;
@@ -11,6 +12,7 @@ mod status;
 mod text;
 
 pub use call::{Ask, Call, Op};
+pub use edge::{Gate, MemSink, MemSource, OpenGate, SafeSink, SafeSource, Sink, Source};
 pub use entry::{
     Actor, Cause, Duty, Entry, Failed, Given, HostStep, Limits, Local, LoopEnd, NoMemory, Out,
     Phase, Reply, SharedCall, Target, What, Why,
