@@ -8,6 +8,7 @@ mod edge;
 mod entry;
 mod ids;
 mod lists;
+mod names;
 mod status;
 mod text;
 
