@@ -8,6 +8,8 @@ use Rattle.napi_types.specs.declared.entry.Cause.{Cause}
 use Rattle.napi_types.specs.declared.entry.Cause.TheVariants as cause
 use Rattle.napi_types.specs.declared.entry.LoopEnd.{LoopEnd}
 use Rattle.napi_types.specs.declared.entry.LoopEnd.TheVariants as loop_end
+use Rattle.napi_types.specs.declared.entry.What.{What}
+use Rattle.napi_types.specs.declared.entry.What.TheVariants as what
 use Rattle.napi_types.specs.declared.entry.Why.{Why}
 use Rattle.napi_types.specs.declared.entry.Why.TheVariants as why
 use Rattle.napi_types.specs.declared.status.Kind.{Kind}
@@ -35,6 +37,11 @@ host_name host.Gone = codes "gone"
 host_name host.Start = codes "start"
 host_name host.Finish = codes "finish"
 host_name host.ActorEnd = codes "actor_end"
+
+-- the name of a call or of an event that is no call
+abbrev pub what_name : What → List ℕ
+what_name (what.Call c) = call_name c
+what_name (what.Host h) = host_name h
 
 -- a value kind's word, in lower case
 abbrev pub kind_name : Kind → List ℕ

@@ -1,9 +1,9 @@
 -- The text of a trace: a line for each entry.
-use Rattle.std.specs.Prelude.{ℕ, ◌+◌, ◌==◌, ◌||◌, Bool, true, false, if◌then◌else◌, nat_lt, List, [], ◌∷◌, ◌++◌, codes, decimal, slice_get, unwrap_or}
+use Rattle.std.specs.Prelude.{ℕ, ◌/◌, ◌%◌, ◌==◌, ◌||◌, Bool, true, false, if◌then◌else◌, nat_lt, List, [], ◌∷◌, ◌++◌, codes, decimal, slice_get, unwrap_or}
 use Rattle.std.specs.List.{flat_map, enumerate_from}
 use Rattle.std.specs.Option.{option_map_or}
 use Rattle.std.specs.Fmt.{signed_decimal}
-use Rattle.std.specs.Char.Escape.{hex_digit_at}
+use Rattle.std.specs.Char.{digit_char}
 use Rattle.std.specs.declared.option.Option.{Option}
 use Rattle.napi_types.specs.declared.entry.Actor.{Actor}
 use Rattle.napi_types.specs.declared.entry.Actor.TheVariants as actor
@@ -12,9 +12,7 @@ use Rattle.napi_types.specs.declared.entry.Duty.TheVariants as duty
 use Rattle.napi_types.specs.declared.entry.Entry.{Entry}
 use Rattle.napi_types.specs.declared.entry.Out.{Out}
 use Rattle.napi_types.specs.declared.entry.Out.TheVariants as out
-use Rattle.napi_types.specs.declared.entry.What.{What}
-use Rattle.napi_types.specs.declared.entry.What.TheVariants as what
-use Rattle.napi_types.specs.Names.{call_name, host_name, kind_name, cause_name, loop_end_name, why_name}
+use Rattle.napi_types.specs.Names.{what_name, kind_name, cause_name, loop_end_name, why_name}
 use Rattle.napi_types.specs.Numbers.{status_number}
 
 -- `env`, or a thread or a worker with its number
@@ -22,11 +20,6 @@ abbrev pub actor_text : Actor → List ℕ
 actor_text actor.Env = codes "env"
 actor_text (actor.Thread n) = codes "t" ++ decimal n
 actor_text (actor.Worker n) = codes "w" ++ decimal n
-
--- the name of a call or of an event that is no call
-abbrev pub what_text : What → List ℕ
-what_text (what.Call call) = call_name call
-what_text (what.Host step) = host_name step
 
 -- `#4` is ticket 4, `j4` the work queued fourth, `f2.7` item 7 of function 2, `f2` the finalizer of function 2
 abbrev pub duty_text : Duty → List ℕ
@@ -47,7 +40,7 @@ flag_text false = codes "false"
 abbrev pub escaped : ℕ → List ℕ
 escaped byte =
     if byte == 34 || byte == 92 then 92 ∷ byte ∷ []
-    else (if nat_lt byte 32 then codes "\\u00" ++ hex_digit_at 16 byte ∷ hex_digit_at 1 byte ∷ [] else byte ∷ [])
+    else (if nat_lt byte 32 then codes "\\u00" ++ digit_char (byte / 16) ∷ digit_char (byte % 16) ∷ [] else byte ∷ [])
 
 -- a text in quotation marks
 abbrev pub quoted : List ℕ → List ℕ
@@ -81,7 +74,7 @@ out_text texts (out.Cut why) = codes "cut:" ++ why_name why
 -- number, actor, name, status and result, then the duty withdrawn and the duty made
 abbrev pub line : List (List ℕ) → ℕ → Entry → List ℕ
 line texts number entry =
-    decimal number ++ codes " " ++ actor_text entry.actor ++ codes " " ++ what_text entry.what ++ codes " " ++
+    decimal number ++ codes " " ++ actor_text entry.actor ++ codes " " ++ what_name entry.what ++ codes " " ++
     decimal (status_number entry.reply.status) ++ codes " " ++ out_text texts entry.reply.out ++
     marked (codes " -") entry.reply.dropped ++ marked (codes " +") entry.reply.made ++ codes "\n"
 

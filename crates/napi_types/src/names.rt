@@ -1,8 +1,8 @@
 //! The words of a trace for calls, steps of the host, kinds of values, causes and ends.
 ghost use Rattle.std.specs.Prelude.{◌≡◌};
-ghost use Rattle.napi_types.specs.Names.{call_name, host_name, kind_name, cause_name, loop_end_name, why_name};
+ghost use Rattle.napi_types.specs.Names.{call_name, host_name, what_name, kind_name, cause_name, loop_end_name, why_name};
 
-use crate::{Call, Cause, HostStep, Kind, LoopEnd, Why};
+use crate::{Call, Cause, HostStep, Kind, LoopEnd, What, Why};
 
 impl Call {
     /// The name that the Node-API manual gives the call, without `napi_`.
@@ -37,6 +37,18 @@ impl HostStep {
             HostStep::Start => "start",
             HostStep::Finish => "finish",
             HostStep::ActorEnd => "actor_end",
+        }
+    }
+}
+
+impl What {
+    /// The name in a trace of what happened.
+    pub fn name(self) -> &'static str
+        ensures { result.now ≡ what_name self }
+    {
+        match self {
+            What::Call(call) => call.name(),
+            What::Host(step) => step.name(),
         }
     }
 }

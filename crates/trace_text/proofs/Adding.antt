@@ -1,6 +1,8 @@
 -- Pieces of a text one after another.
-use Rattle.std.proofs.Common.{◌≡◌, ℕ, ◌+◌, ◌-◌, ◌≤◌, Bool, true, false, List, [], ◌∷◌, ◌++◌, length, take, drop, append_assoc, refl, subst, sym, ◌∙◌, ap, arith, Some, None}
-use Rattle.std.proofs.lemmas.List.{append-nil, take-append-drop, take_rest}
+use Rattle.std.proofs.Common.{◌≡◌, ℕ, ◌+◌, ◌-◌, ◌<◌, ◌≤◌, Bool, true, false, List, [], ◌∷◌, ◌++◌, length, get_or, take, drop, append_assoc, refl, subst, sym, ◌∙◌, ap, arith, Some, None}
+use Rattle.std.proofs.lemmas.List.{append-nil, take-append-drop, take_rest, take_more}
+use Rattle.std.proofs.lemmas.List.Concat.{flat_map-append}
+use Rattle.std.specs.List.{flat_map}
 use Rattle.std.proofs.Math.Seq.{take-add}
 use Rattle.std.specs.declared.option.Option.{Option}
 use Rattle.std.specs.Io.KnownBytes.{append_known}
@@ -45,4 +47,24 @@ adds_then {a = a} {b = b} {c = c} {xs = xs} {ys = ys} one two = record {
     subst P (append_assoc before xs ys) (two.goes_on had (before ++ xs) (one.goes_on had before h));
   later = (let p = one.later in let q = two.later in omega arith);
   marked = marked_then {b = b.failed} one.later two.later one.marked two.marked
+}
+
+-- the pieces of a list up to a place, and then that of the element there
+pub adds_more : {X : Type 0} {a b c : Stand} (f : X → List ℕ) (xs : List X) (i : ℕ) (d : X) → i < length xs →
+  Adds a (flat_map f (take i xs)) b → Adds b (f (get_or xs i d)) c → Adds a (flat_map f (take (i + 1) xs)) c
+adds_more {X = X} {a = a} {b = b} {c = c} f xs i d within before piece =
+  let P : List ℕ → Type 0 = λ bytes. Adds a bytes c in
+  let last : flat_map f (get_or xs i d ∷ []) ≡ f (get_or xs i d) = append-nil (f (get_or xs i d)) in
+  let grown : flat_map f (take (i + 1) xs) ≡ flat_map f (take i xs) ++ f (get_or xs i d) =
+    ap (flat_map f) (take_more xs i d within) ∙ flat_map-append f (take i xs) (get_or xs i d ∷ []) ∙
+    ap (λ bytes. flat_map f (take i xs) ++ bytes) last in
+  subst P (sym grown) (adds_then before piece)
+
+-- no piece
+pub adds_none : (a : Stand) → Adds a [] a
+adds_none a = record {
+  goes_on = λ had before h. let P : List ℕ → Type 0 = λ bytes. Took had bytes a.taken a.failed in
+    subst P (sym (append-nil before)) h;
+  later = omega arith;
+  marked = λ failed fine. cc
 }

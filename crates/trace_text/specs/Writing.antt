@@ -22,6 +22,9 @@ pub record Stand : Type 0 where
   pub faults : ℕ
   pub failed : Bool
 
+abbrev pub stand : Option (List ℕ) → ℕ → Bool → Stand
+stand taken faults failed = record { taken = taken; faults = faults; failed = failed }
+
 -- bytes were added to the text, in full or, where the writing failed, up to some place. A writing that failed adds
 -- nothing more, and it failed only where the count of faults rose.
 pub record Adds (old : Stand) (bytes : List ℕ) (new : Stand) : Type 0 where

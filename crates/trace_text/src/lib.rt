@@ -2,6 +2,7 @@
 //! Contracts see what the sink took: the whole text, or at a fault a front of it. The program's runs stand above.
 #![tactic(auto)]
 
+mod line;
 mod put;
 
 pub use put::put_all;

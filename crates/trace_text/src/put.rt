@@ -2,7 +2,7 @@
 ghost use Rattle.std.specs.Prelude.{◌≡◌, ◌≤◌, OnOk, OnErr};
 ghost use Rattle.std.specs.Io.KnownBytes.{append_known};
 ghost use Rattle.napi_types.specs.Edge.{HasRisen};
-ghost use Rattle.trace_text.specs.Writing.{Adds, TookFront};
+ghost use Rattle.trace_text.specs.Writing.{Adds, TookFront, stand};
 
 use napi_types::{Failed, Sink};
 
@@ -22,8 +22,8 @@ pub fn put_all<K: Sink>(sink: &mut K, bytes: &[u8]) -> Result<(), Failed>
 
 /// Adds a piece to a text, unless the writing failed before, and marks where it fails.
 pub fn add<K: Sink>(sink: &mut K, failed: &mut bool, bytes: &[u8])
-    ensures { Adds (record { taken = K.taken sink.old; faults = K.faults sink.old; failed = failed.old }) bytes.now
-        (record { taken = K.taken sink.new; faults = K.faults sink.new; failed = failed.new }) }
+    ensures { Adds (stand (K.taken sink.old) (K.faults sink.old) failed.old) bytes.now
+        (stand (K.taken sink.new) (K.faults sink.new) failed.new) }
 {
     if !*failed {
         *failed = put_all(sink, bytes).is_err();
