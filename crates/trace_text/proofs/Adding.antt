@@ -7,7 +7,7 @@ use Rattle.std.proofs.Math.Seq.{take-add}
 use Rattle.std.specs.declared.option.Option.{Option}
 use Rattle.std.specs.Io.KnownBytes.{append_known}
 use Rattle.napi_types.specs.Edge.{HasRisen}
-use Rattle.trace_text.specs.Writing.{Adds, Took, TookFront, Stand}
+use Rattle.trace_text.specs.Writing.{Adds, Took, TookFront, Stand, stand}
 
 -- what a sink took in two steps
 pub append_known-append : (had : Option (List ℕ)) (xs ys : List ℕ) →
@@ -68,3 +68,21 @@ adds_none a = record {
   later = omega arith;
   marked = λ failed fine. cc
 }
+
+append_known-nil : (had : Option (List ℕ)) → had ≡ append_known had []
+append_known-nil None = refl
+append_known-nil (Some had) = ap Some (sym (append-nil had))
+
+-- a text that was written to its end
+pub adds_whole : (had taken : Option (List ℕ)) (before after : ℕ) (failed : Bool) (whole : List ℕ) → failed ≡ false →
+  Adds (stand had before false) whole (stand taken after failed) → taken ≡ append_known had whole
+adds_whole had taken before after failed whole fine adds =
+  let P : Bool → Type 0 = λ f. Took had whole taken f in
+  subst P fine (adds.goes_on had [] (append_known-nil had))
+
+-- a text that was not
+pub adds_front : (had taken : Option (List ℕ)) (before after : ℕ) (failed : Bool) (whole : List ℕ) → failed ≡ true →
+  Adds (stand had before false) whole (stand taken after failed) → TookFront had whole taken
+adds_front had taken before after failed whole ill adds =
+  let P : Bool → Type 0 = λ f. Took had whole taken f in
+  subst P ill (adds.goes_on had [] (append_known-nil had))

@@ -32,3 +32,7 @@ pub record Adds (old : Stand) (bytes : List ℕ) (new : Stand) : Type 0 where
     Took had (before ++ bytes) new.taken new.failed
   pub later : old.faults ≤ new.faults
   pub marked : new.failed ≡ true → old.failed ≡ false → HasRisen old.faults new.faults
+
+-- whoever adds the rest from here has added the whole since the start
+pub record Owes (start : Stand) (whole : List ℕ) (now : Stand) (rest : List ℕ) : Type 0 where
+  pub finishes : (end : Stand) → Adds now rest end → Adds start whole end

@@ -4,5 +4,7 @@
 
 mod line;
 mod put;
+mod write;
 
 pub use put::put_all;
+pub use write::write_trace;
