@@ -29,7 +29,7 @@ stand taken faults failed = record { taken = taken; faults = faults; failed = fa
 -- nothing more, and it failed only where the count of faults rose.
 pub record Adds (old : Stand) (bytes : List ℕ) (new : Stand) : Type 0 where
   pub goes_on : (had : Option (List ℕ)) (before : List ℕ) → Took had before old.taken old.failed →
-    Took had (before ++ bytes) new.taken new.failed
+      Took had (before ++ bytes) new.taken new.failed
   pub later : old.faults ≤ new.faults
   pub marked : new.failed ≡ true → old.failed ≡ false → HasRisen old.faults new.faults
 

@@ -6,10 +6,9 @@ ghost use Rattle.napi_types.specs.Names.{cause_name};
 ghost use Rattle.napi_types.specs.Text.{actor_text, duty_text, marked, flag_text, escaped, quoted, text_at, out_text, line};
 ghost use Rattle.trace_text.specs.Writing.{Adds, stand};
 
+use crate::put::add;
 use itoa::{Buffer, Integer};
 use napi_types::{Actor, Cause, Duty, Entry, Out, Sink, TextNo, Texts};
-
-use crate::put::add;
 
 fn add_number<K: Sink, I: Integer>(sink: &mut K, failed: &mut bool, n: I)
     ensures { Adds (stand (K.taken sink.old) (K.faults sink.old) failed.old) (I.text n)
@@ -129,7 +128,14 @@ fn add_text<K: Sink>(sink: &mut K, failed: &mut bool, texts: &Texts, no: TextNo)
     }
 }
 
-fn add_begin<K: Sink>(sink: &mut K, failed: &mut bool, cause: Cause, addon: u32, entry: u32, duty: Option<Duty>)
+fn add_begin<K: Sink>(
+    sink: &mut K,
+    failed: &mut bool,
+    cause: Cause,
+    addon: u32,
+    entry: u32,
+    duty: Option<Duty>,
+)
     ensures { Adds (stand (K.taken sink.old) (K.faults sink.old) failed.old) (cause_name cause ++ codes ":" ++ decimal addon ++ codes "." ++ decimal entry ++ marked (codes ":") duty)
         (stand (K.taken sink.new) (K.faults sink.new) failed.new) }
 {

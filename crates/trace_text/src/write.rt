@@ -6,9 +6,8 @@ ghost use Rattle.napi_types.specs.Text.{lines_from, text};
 ghost use Rattle.napi_types.specs.Weave.{local_at, weave};
 ghost use Rattle.trace_text.specs.Writing.{Adds, TookFront, stand};
 
-use napi_types::{Entry, Failed, Local, Sink, Texts};
-
 use crate::line::add_line;
+use napi_types::{Entry, Failed, Local, Sink, Texts};
 
 /// Writes the text of a trace, a line for each entry of the weave of a journal and a history, each of at most
 /// 4,194,304 entries. It takes no memory.

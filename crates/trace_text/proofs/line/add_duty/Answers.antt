@@ -9,7 +9,7 @@ returns-in-Work g c = rw c.in-Work.is (adds_then c.add-in-Work.ensures c.add_num
 
 pub returns-in-Item : goal.returns-in-Item
 returns-in-Item g c = rw c.in-Item.is (adds_then (adds_then (adds_then
-  c.add-in-Item.ensures c.add_number-in-Item.ensures) c.add-in-Item-2.ensures) c.add_number-in-Item-2.ensures)
+    c.add-in-Item.ensures c.add_number-in-Item.ensures) c.add-in-Item-2.ensures) c.add_number-in-Item-2.ensures)
 
 pub returns-in-Function : goal.returns-in-Function
 returns-in-Function g c = rw c.in-Function.is (adds_then c.add-in-Function.ensures c.add_number-in-Function.ensures)

@@ -7,5 +7,5 @@ loop-local-preserved g c = record {
   few = omega arith;
   count = locals_count _ _ _ _ _ _ _ c.loop-local-test.true c.loop-local.invariant.count c.add_local-number.ensures.next;
   added = locals_more _ _ _ _ _ _ _ c.loop-local-test.true c.loop-local.invariant.count c.loop-local.invariant.added
-    c.add_local-number.ensures.added
+      c.add_local-number.ensures.added;
 }

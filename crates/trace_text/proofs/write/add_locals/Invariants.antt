@@ -9,7 +9,7 @@ invariant-loop-local g l = record {
   few : l.number ≤ l.first + l.local-index;
   count : l.number ≡ l.first + length (local_at l.at (take l.local-index l.journal));
   added : Adds
-    (stand (g.K.Sink.taken l.fn.sink) (g.K.Sink.faults l.fn.sink) l.fn.failed)
-    (lines_from l.texts l.first (local_at l.at (take l.local-index l.journal)))
-    (stand (g.K.Sink.taken l.sink) (g.K.Sink.faults l.sink) l.failed)
+      (stand (g.K.Sink.taken l.fn.sink) (g.K.Sink.faults l.fn.sink) l.fn.failed)
+      (lines_from l.texts l.first (local_at l.at (take l.local-index l.journal)))
+      (stand (g.K.Sink.taken l.sink) (g.K.Sink.faults l.sink) l.failed);
 }

@@ -6,10 +6,10 @@ pub loop-at-preserved : goal.loop-at-preserved
 loop-at-preserved g c = record {
   few = omega arith;
   owes = owes_place _ _ _ _ _ _ _ _ c.loop-at-test.true c.add_place-number.ensures.next c.loop-at.invariant.owes
-    c.add_place-number.ensures.added
+      c.add_place-number.ensures.added;
 }
 
 pub returns : goal.returns
 returns g c =
-  let ends : c.loop-at.at ≡ length c.args.history.now = omega arith in
-  owes_end _ _ _ _ _ _ ends c.loop-at.invariant.owes c.add_locals.ensures.added
+    let ends : c.loop-at.at ≡ length c.args.history.now = omega arith in
+    owes_end _ _ _ _ _ _ ends c.loop-at.invariant.owes c.add_locals.ensures.added
