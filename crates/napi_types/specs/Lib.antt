@@ -1,11 +1,13 @@
 pub mod Calls
 pub mod Changes
+pub mod Edge
 pub mod Environment
 pub mod Guards
 pub mod Hub
 pub mod Lists
 pub mod Loop
 pub mod Machine
+pub mod Names
 pub mod Numbers
 pub mod Plan
 pub mod Refusals
@@ -16,7 +18,9 @@ pub mod ScopeCalls
 pub mod Scopes
 pub mod Step
 pub mod Teardown
+pub mod Text
 pub mod Texts
 pub mod ValueCalls
 pub mod Values
+pub mod Weave
 pub mod Whole

@@ -5,15 +5,18 @@
 
 mod body;
 mod call;
+mod edge;
 mod entry;
 mod fill;
 mod ids;
 mod lists;
+mod names;
 mod status;
 mod text;
 
 pub use body::Body;
 pub use call::{Ask, Call, Op};
+pub use edge::{Gate, MemSink, MemSource, OpenGate, SafeSink, SafeSource, Sink, Source};
 pub use entry::{
     Actor, Cause, Duty, Entry, Failed, Given, HostStep, Limits, Local, LoopEnd, NoMemory, Out,
     Phase, Reply, SharedCall, Target, What, Why,
