@@ -7,6 +7,7 @@ mod call;
 mod entry;
 mod ids;
 mod lists;
+mod script;
 mod status;
 mod text;
 
@@ -19,5 +20,6 @@ pub use ids::{HandleId, RefId, ScopeId, TextNo, Ticket, TsfnId, ValueId, WorkId}
 pub use lists::{
     Actors, AddonPlan, EntryList, Listed, LocalList, OpList, OpLists, Plans, Record,
 };
+pub use script::Script;
 pub use status::{Kind, Status};
 pub use text::{Text, Texts};
