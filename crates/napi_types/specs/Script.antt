@@ -1,7 +1,7 @@
 -- The script that a JSON value is. Built so far is the first form: version 9, no workers, no threads, no schedule, and one addon with one entry.
-use Rattle.std.specs.Prelude.{◌≡◌, ℕ, ◌==◌, ◌&&◌, nat_lt, nat_le, if◌then◌else◌, Bool, true, false, List, [], ◌∷◌, Option, Some, None, option_map, option_and_then, unwrap_or, is_some, codes, bytes_eq, IsUtf8}
-use Rattle.serde_json.specs.Data.{Data, string, array, object, Items, no_items, item}
-use Rattle.serde_json.specs.Find.{get, as_number, as_str, as_u64}
+use Rattle.std.specs.Prelude.{◌≡◌, ℕ, ◌==◌, ◌&&◌, nat_lt, nat_le, if◌then◌else◌, Bool, false, List, [], ◌∷◌, Option, Some, None, option_map, option_and_then, unwrap_or, is_some, codes, bytes_eq, IsUtf8}
+use Rattle.serde_json.specs.Data.{Data, string, array, Items, no_items, item}
+use Rattle.serde_json.specs.Find.{get, as_number, as_str, as_u64, as_array, as_object}
 use Rattle.serde_json.specs.Events.{items_len, members_len}
 use Rattle.serde_json.specs.Read.{read}
 use Rattle.napi_types.specs.Texts.{fixed_texts}
@@ -59,47 +59,62 @@ each f (item d ds) = option_and_then (λ a. option_map (λ rest. a ∷ rest) (ea
 abbrev pub most_operations : ℕ
 most_operations = 4096
 
--- the operations of an entry
-abbrev pub entry : Data → Option (List Op)
-entry (array ds) = if nat_le (items_len ds) most_operations then each operation ds else None
-entry _ = None
+-- the operations that the items of an entry are, where there are not too many
+abbrev pub operations : Items → Option (List Op)
+operations ds = if nat_le (items_len ds) most_operations then each operation ds else None
 
--- the one item of an array that has one
+-- the operations of an entry, which is an array
+abbrev pub entry : Data → Option (List Op)
+entry d = option_and_then operations (as_array d)
+
+-- the item of an array that has exactly one
+abbrev pub single : Items → Option Data
+single (item d no_items) = Some d
+single _ = None
+
+-- the only item of a value that is an array
 abbrev pub only_item : Data → Option Data
-only_item (array (item d no_items)) = Some d
-only_item _ = None
+only_item d = option_and_then single (as_array d)
 
 -- an object with exactly so many members
 abbrev pub has_members : ℕ → Data → Bool
-has_members n (object ms) = members_len ms == n
-has_members n _ = false
+has_members n d = unwrap_or (option_map (λ ms. members_len ms == n) (as_object d)) false
+
+-- an array without items
+abbrev pub is_empty_array : Data → Bool
+is_empty_array d = unwrap_or (option_map (λ ds. items_len ds == 0) (as_array d)) false
 
 -- a member is this whole number
 abbrev pub has_number : List ℕ → ℕ → Data → Bool
 has_number name n d = unwrap_or (option_map (λ m. m == n) (option_and_then whole_number (get name d))) false
 
--- an empty array
-abbrev pub is_empty_array : Data → Bool
-is_empty_array (array no_items) = true
-is_empty_array _ = false
+-- a member is a text
+abbrev pub has_text : List ℕ → Data → Bool
+has_text name d = is_some (option_and_then as_str (get name d))
+
+-- the item of the array of exactly one that a member is
+abbrev pub only_item_of : List ℕ → Data → Option Data
+only_item_of name d = option_and_then only_item (get name d)
+
+-- the plan of an addon with this one entry
+abbrev pub plan_of : List Op → AddonPlan
+plan_of operations = record { entries = operations ∷ [] }
 
 -- the plan of an addon: an object with exactly a name, which is a text, and entries, of which there is one
 abbrev pub addon : Data → Option AddonPlan
-addon d =
-    if has_members 2 d && is_some (option_and_then as_str (get (codes "name") d))
-    then option_map (λ operations. record { entries = operations ∷ [] }) (option_and_then entry (option_and_then only_item (get (codes "entries") d)))
-    else None
+addon d = if has_members 2 d && has_text (codes "name") d then option_map plan_of (option_and_then entry (only_item_of (codes "entries") d)) else None
 
--- the script of the first form that has this one addon
+-- an object with exactly the members `version`, `workers`, `threads` and `addons`, where the first three are 9, 0 and an empty array
+abbrev pub is_root : Data → Bool
+is_root d = has_members 4 d && has_number (codes "version") 9 d && has_number (codes "workers") 0 d && unwrap_or (option_map is_empty_array (get (codes "threads") d)) false
+
+-- the script of the first form with this one addon
 abbrev pub script_of : AddonPlan → Script
 script_of plan = record { version = 9; workers = 0; addons = plan ∷ []; threads = []; schedule = None; texts = fixed_texts }
 
--- the script that a value is: an object with exactly the members `version`, `workers`, `addons` and `threads`
+-- the script that a value is
 abbrev pub script : Data → Option Script
-script d =
-    if has_members 4 d && has_number (codes "version") 9 d && has_number (codes "workers") 0 d && unwrap_or (option_map is_empty_array (get (codes "threads") d)) false
-    then option_map script_of (option_and_then addon (option_and_then only_item (get (codes "addons") d)))
-    else None
+script d = if is_root d then option_map script_of (option_and_then addon (only_item_of (codes "addons") d)) else None
 
 -- the bytes are a JSON text of a value that is this script
 abbrev pub IsScript : List ℕ → Script → Type 0
