@@ -4,14 +4,17 @@
 #![tactic(auto)]
 
 mod call;
+mod edge;
 mod entry;
 mod ids;
 mod lists;
 mod script;
+mod names;
 mod status;
 mod text;
 
 pub use call::{Ask, Call, Op};
+pub use edge::{Gate, MemSink, MemSource, OpenGate, SafeSink, SafeSource, Sink, Source};
 pub use entry::{
     Actor, Cause, Duty, Entry, Failed, Given, HostStep, Limits, Local, LoopEnd, NoMemory, Out,
     Phase, Reply, SharedCall, Target, What, Why,

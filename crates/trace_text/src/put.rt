@@ -1,0 +1,31 @@
+//! Writes pieces of bytes through short writes, and remembers the first fault.
+ghost use Rattle.std.specs.Prelude.{◌≡◌, ◌≤◌, OnOk, OnErr};
+ghost use Rattle.std.specs.Io.KnownBytes.{append_known};
+ghost use Rattle.napi_types.specs.Edge.{HasRisen};
+ghost use Rattle.trace_text.specs.Writing.{Adds, TookFront};
+
+use napi_types::{Failed, Sink};
+
+/// Writes all the bytes, in as many writes as the sink takes. A fault of the sink ends it, after a front of the bytes.
+pub fn put_all<K: Sink>(sink: &mut K, bytes: &[u8]) -> Result<(), Failed>
+    ensures ok { OnOk result (K.taken sink.new ≡ append_known (K.taken sink.old) bytes.now) }
+    ensures err { OnErr result (TookFront (K.taken sink.old) bytes.now (K.taken sink.new)) }
+    ensures failed { OnErr result (HasRisen (K.faults sink.old) (K.faults sink.new)) }
+    ensures faults { K.faults sink.old ≤ K.faults sink.new }
+{
+    let mut at = 0;
+    while at < bytes.len() {
+        at += sink.write(&bytes[at..])?;
+    }
+    Ok(())
+}
+
+/// Adds a piece to a text, unless the writing failed before, and marks where it fails.
+pub fn add<K: Sink>(sink: &mut K, failed: &mut bool, bytes: &[u8])
+    ensures { Adds (record { taken = K.taken sink.old; faults = K.faults sink.old; failed = failed.old }) bytes.now
+        (record { taken = K.taken sink.new; faults = K.faults sink.new; failed = failed.new }) }
+{
+    if !*failed {
+        *failed = put_all(sink, bytes).is_err();
+    }
+}
