@@ -16,6 +16,7 @@ pub mod Room
 pub mod Run
 pub mod ScopeCalls
 pub mod Scopes
+pub mod Script
 pub mod Step
 pub mod Teardown
 pub mod Text
