@@ -10,8 +10,8 @@ mod entry;
 mod fill;
 mod ids;
 mod lists;
-mod script;
 mod names;
+mod script;
 mod status;
 mod text;
 
@@ -23,13 +23,7 @@ pub use entry::{
     Phase, Reply, SharedCall, Target, What, Why,
 };
 pub use ids::{HandleId, RefId, ScopeId, TextNo, Ticket, TsfnId, ValueId, WorkId};
-<<<<<<< HEAD
 pub use lists::{Actors, AddonPlan, EntryList, Listed, LocalList, OpList, OpLists, Plans, Record};
-=======
-pub use lists::{
-    Actors, AddonPlan, EntryList, Listed, LocalList, OpList, OpLists, Plans, Record,
-};
 pub use script::Script;
->>>>>>> e9ad2ceefc69a350c0f8e8761be887fc825384e5
 pub use status::{Kind, Status};
 pub use text::{Text, Texts};
