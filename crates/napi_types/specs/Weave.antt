@@ -1,5 +1,5 @@
 -- The weave of a journal and a history: a legal order of all entries, and no order in time.
-use Rattle.std.specs.Prelude.{ℕ, ◌+◌, ◌==◌, List, [], ◌∷◌, ◌++◌, map, filter}
+use Rattle.std.specs.Prelude.{ℕ, ◌+◌, ◌==◌, ◌≤◌, List, [], ◌∷◌, ◌++◌, map, filter}
 use Rattle.napi_types.specs.declared.entry.Entry.{Entry}
 use Rattle.napi_types.specs.declared.entry.Local.{Local}
 
@@ -15,3 +15,8 @@ weave_from p journal (shared ∷ later) = local_at p journal ++ shared ∷ weave
 -- all entries of a run
 abbrev pub weave : List Local → List Entry → List Entry
 weave journal history = weave_from 0 journal history
+
+-- every entry of the journal stands at most at this length of the history
+abbrev pub StandsWithin : ℕ → List Local → Type 0
+StandsWithin n [] = Unit {0}
+StandsWithin n (local ∷ journal) = (local.at ≤ n) × StandsWithin n journal
