@@ -1,5 +1,5 @@
 //! Reading a source to its end.
-ghost use Rattle.std.specs.Prelude.{◌≡◌, ◌≤◌, IfOk, OnOk, OnErr, vec_len};
+ghost use Rattle.std.specs.Prelude.{◌≡◌, ◌<◌, ◌≤◌, IfOk, IfSome, OnOk, OnErr, length, vec_len};
 ghost use Rattle.std.specs.Io.KnownBytes.{prepend_known, IsAtEnd};
 ghost use Rattle.napi_types.specs.Edge.{HasRisen};
 ghost use Rattle.script_host.specs.Reading.{longest_source, GaveFront, GaveTooMany};
@@ -28,11 +28,17 @@ pub(crate) enum ReadError {
 ///
 /// Reading stops at the first fault and at the first byte too many.
 pub(crate) fn read_all<S: Source>(alloc: Global, source: &mut S) -> Result<Vec<u8>, ReadError>
-    ensures whole { IfOk result (λ bytes. S.left source.old ≡ prepend_known bytes.items (S.left source.new)) }
+    ensures whole { IfOk result
+        (λ bytes. S.left source.old ≡ prepend_known bytes.items (S.left source.new)) }
     ensures end { OnOk result (IsAtEnd (S.left source.new)) }
+    ensures all { IfOk result (λ bytes. IfSome (S.left source.old) (λ given. bytes.items ≡ given)) }
     ensures within { IfOk result (λ bytes. vec_len bytes ≤ longest_source) }
-    ensures long { result ≡ Err ReadError.Long → GaveTooMany (S.left source.old) (S.left source.new) }
-    ensures fault { result ≡ Err ReadError.Fault → HasRisen (S.faults source.old) (S.faults source.new) }
+    ensures long { result ≡ Err ReadError.Long
+        → GaveTooMany (S.left source.old) (S.left source.new) }
+    ensures too_long { result ≡ Err ReadError.Long
+        → IfSome (S.left source.old) (λ given. longest_source < length given) }
+    ensures fault { result ≡ Err ReadError.Fault
+        → HasRisen (S.faults source.old) (S.faults source.new) }
     ensures front { OnErr result (GaveFront (S.left source.old) (S.left source.new)) }
     ensures faults { S.faults source.old ≤ S.faults source.new }
 {
