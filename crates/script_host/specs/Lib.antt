@@ -1,0 +1,3 @@
+pub mod Addons
+pub mod Reading
+pub mod Recording

@@ -1,0 +1,49 @@
+-- A run as it is recorded: the environment's core, the history, and the registers of the addon that runs.
+use Rattle.std.specs.Prelude.{◌≡◌, ℕ, List, [], ◌∷◌, length, Option, Some, None}
+use Rattle.napi_types.specs.declared.call.Ask.{Ask}
+use Rattle.napi_types.specs.declared.entry.Entry.{Entry}
+use Rattle.napi_types.specs.declared.entry.Phase.{Phase}
+use Rattle.napi_types.specs.declared.entry.Phase.TheVariants as phase
+use Rattle.napi_types.specs.declared.entry.Limits.{Limits}
+use Rattle.napi_types.specs.Hub.{Stage, Before, Going, Looped, Drained, Final}
+use Rattle.napi_types.specs.Machine.{Machine}
+use Rattle.napi_types.specs.Plan.{Plan, plan_of}
+use Rattle.napi_types.specs.Weave.{weave, StandsWithin}
+use Rattle.napi_types.specs.Whole.{Setting, RunsBy, final_of, final_registers}
+use Rattle.env_core.specs.Core.{Core}
+
+-- which of the hub's events happened, as the phase shows it
+abbrev pub stage_of : Phase → Stage
+stage_of phase.Init = Before
+stage_of phase.Live = Going
+stage_of phase.Hooks = Looped
+stage_of phase.Drain = Drained
+stage_of phase.Finals = Final
+stage_of phase.Gone = Final
+
+-- the machine that a core and a history are
+abbrev pub machine_of : Limits → Core → List Entry → Machine
+machine_of limits core history = record {
+  env = core.env;
+  hub = record { stage = stage_of core.env.phase };
+  locals = length core.journal;
+  shareds = length history;
+  limits = limits;
+}
+
+-- the registers of an addon are those of the run, where it tells its plan
+abbrev pub AgreesWhereTold : Plan → List ℕ → List ℕ → Type 0
+AgreesWhereTold None mine own = Unit {0}
+AgreesWhereTold (Some plan) mine own = mine ≡ own
+
+-- the weave of the journal and the history is a run of a script with one addon, it came to this machine, and the addon's registers are the run's
+pub record IsRecorded (s : Setting) (core : Core) (history : List Entry) (mine : List ℕ) : Type 0 where
+  pub asks : List Ask
+  pub own : List ℕ
+  pub run : RunsBy s asks (weave core.journal history)
+  pub final : final_of s asks (weave core.journal history) ≡ machine_of s.limits core history
+  pub registers : final_registers s asks (weave core.journal history) ≡ own ∷ []
+  pub agrees : AgreesWhereTold (plan_of s.plans 0) mine own
+  pub limit : core.limit ≡ s.limits.journal
+  pub position : core.position ≡ length history
+  pub within : StandsWithin (length history) core.journal

@@ -1,0 +1,9 @@
+//! The top calls: what the program does with its words, its input and its addons.
+//! `host` reads a script, runs it with the addons that it is handed, and writes the trace. Contracts see bytes, the
+//! machine's runs and the two lists that a run leaves. The program stands above it.
+#![tactic(auto)]
+
+mod addons;
+mod history;
+mod reading;
+mod recording;
