@@ -1,18 +1,28 @@
 -- A recorded run goes on.
-use Rattle.std.proofs.Common.{◌≡◌, ◌≤◌, ℕ, ◌+◌, Bool, true, false, IsTrue, List, [], ◌∷◌, ◌++◌, length, refl, ap, subst, sym, ◌∙◌, arith, length-append, Option, Some, None}
+use Rattle.std.proofs.Common.{◌≡◌, ◌≤◌, ℕ, ◌+◌, Bool, true, false, IsTrue, List, [], ◌∷◌, ◌++◌, length, refl, ap, subst, sym, ◌∙◌, arith, nat_lt, length-append, Option, Some, None}
 use Rattle.napi_types.specs.declared.call.Ask.{Ask}
 use Rattle.napi_types.specs.declared.entry.Entry.{Entry}
 use Rattle.napi_types.specs.declared.entry.Local.{Local}
+use Rattle.napi_types.specs.declared.entry.HostStep.{HostStep}
+use Rattle.napi_types.specs.declared.entry.HostStep.TheVariants as host
+use Rattle.napi_types.specs.declared.entry.Out.{Out}
+use Rattle.napi_types.specs.declared.entry.Out.TheVariants as out
+use Rattle.napi_types.specs.declared.entry.LoopEnd.TheVariants as loop_end
+use Rattle.napi_types.specs.declared.entry.Phase.{Phase}
+use Rattle.napi_types.specs.declared.entry.Phase.TheVariants as phase
+use Rattle.napi_types.specs.declared.call.Ask.TheVariants as ask
 use Rattle.napi_types.specs.Machine.{Machine}
 use Rattle.napi_types.specs.Step.{Step, step, locally}
 use Rattle.napi_types.specs.Run.{after, IsNext, IsRunBy, final}
-use Rattle.napi_types.specs.Changes.{Change}
-use Rattle.napi_types.specs.Plan.{plan_of, asked, registers_after, Registers}
-use Rattle.napi_types.specs.Weave.{weave}
+use Rattle.napi_types.specs.Changes.{Change, host_entry, in_phase, gone, init_begun}
+use Rattle.napi_types.specs.declared.entry.Limits.{Limits}
+use Rattle.napi_types.specs.Registers.{blank_registers}
+use Rattle.napi_types.specs.Plan.{Plan, plan_of, asked, registers_after, Registers}
+use Rattle.napi_types.specs.Weave.{weave, StandsWithin}
 use Rattle.napi_types.specs.Whole.{Setting, opening_of, RunsBy, final_of, final_registers, asks_of_plans}
 use Rattle.napi_types.proofs.Runs.{run-more, final-more, asked-more, registers-more}
 use Rattle.napi_types.proofs.Weaves.{weave-local, weave-shared, within-append, within-more}
-use Rattle.env_core.specs.Core.{Core, wrote}
+use Rattle.env_core.specs.Core.{Core, wrote, opened_core}
 use Rattle.script_host.specs.Recording.{machine_of, stage_of, AgreesWhereTold, IsRecorded}
 
 -- what one more entry makes of a run by its asks
@@ -45,3 +55,133 @@ grow s bs xs m rss a x st r f g next entry may here =
           ∙ ap (λ qs. registers_after s.plans qs (final_of s bs xs) x) g
           ∙ ap (λ n. registers_after s.plans rss n x) f;
     }
+
+-- a local event goes into the journal
+pub local-grown : (s : Setting) (core : Core) (history : List Entry) (mine : List ℕ) (r : IsRecorded s core history mine)
+    (a : Ask) (c : Change) (own : List ℕ) (after_mine : List ℕ)
+    → step (machine_of s.limits core history) a c.entry ≡ locally (machine_of s.limits core history) c true
+    → a ≡ asked s.plans (r.own ∷ []) (machine_of s.limits core history) a
+    → registers_after s.plans (r.own ∷ []) (machine_of s.limits core history) c.entry ≡ own ∷ []
+    → AgreesWhereTold (plan_of s.plans 0) after_mine own
+    → stage_of c.after.phase ≡ stage_of core.env.phase
+    → IsRecorded s (wrote c core) history after_mine
+local-grown s core history mine r a c own after_mine next here kept agrees staged =
+    let m : Machine = machine_of s.limits core history in
+    let xs : List Entry = weave core.journal history in
+    let g : Grown s (r.asks ++ a ∷ []) (xs ++ c.entry ∷ []) (locally m c true).after (registers_after s.plans (r.own ∷ []) m c.entry) =
+    grow s r.asks xs m (r.own ∷ []) a c.entry (locally m c true) r.run r.final r.registers next refl refl here in
+    let woven : weave (core.journal ++ record { at = core.position; entry = c.entry } ∷ []) history ≡ xs ++ c.entry ∷ [] =
+    ap (λ n. weave (core.journal ++ record { at = n; entry = c.entry } ∷ []) history) r.position ∙ weave-local core.journal history c.entry in
+    let longer : length core.journal + 1 ≡ length (core.journal ++ record { at = core.position; entry = c.entry } ∷ []) =
+    sym (length-append core.journal (record { at = core.position; entry = c.entry } ∷ [])) in
+    let R : List Entry → Type 0 = λ ys. RunsBy s (r.asks ++ a ∷ []) ys in
+    record {
+      asks = r.asks ++ a ∷ [];
+      own = own;
+      run = subst R (sym woven) g.run;
+      final =
+          ap (λ ys. final_of s (r.asks ++ a ∷ []) ys) woven ∙ g.final
+          ∙ ap (λ n. record m { env = c.after; locals = n }) longer
+          ∙ ap (λ t. record m { env = c.after; hub = record { stage = t }; locals = length (core.journal ++ record { at = core.position; entry = c.entry } ∷ []) }) (sym staged);
+      registers = ap (λ ys. final_registers s (r.asks ++ a ∷ []) ys) woven ∙ g.registers_are ∙ kept;
+      agrees = agrees;
+      limit = r.limit;
+      position = r.position;
+      within = within-append (length history) core.journal (record { at = core.position; entry = c.entry }) (omega (arith, r.position)) r.within;
+    }
+
+-- what an event of the hub leaves
+abbrev pub hub_left : Machine → Phase → Machine
+hub_left m p = record m { env = in_phase p m.env; hub = record { stage = stage_of p }; shareds = m.shareds + 1 }
+
+-- an event of the hub goes into the history, and its phase starts
+pub shared-grown : (s : Setting) (core : Core) (history : List Entry) (mine : List ℕ) (r : IsRecorded s core history mine)
+    (event : HostStep) (o : Out) (p : Phase)
+    → core.env.frames ≡ []
+    → step (machine_of s.limits core history) (ask.Leave None) (host_entry event o)
+        ≡ record { entry = host_entry event o; after = hub_left (machine_of s.limits core history) p; may = true }
+    → IsRecorded s (record core { env = in_phase p core.env; position = length history + 1 }) (history ++ host_entry event o ∷ []) mine
+shared-grown s core history mine r event o p alone next =
+    let m : Machine = machine_of s.limits core history in
+    let xs : List Entry = weave core.journal history in
+    let x : Entry = host_entry event o in
+    let nothing : ask.Leave None ≡ asked s.plans (r.own ∷ []) m (ask.Leave None) = rw alone refl in
+    let st : Step = record { entry = x; after = hub_left m p; may = true } in
+    let g : Grown s (r.asks ++ ask.Leave None ∷ []) (xs ++ x ∷ []) (hub_left m p) (r.own ∷ []) =
+    grow s r.asks xs m (r.own ∷ []) (ask.Leave None) x st r.run r.final r.registers next refl refl nothing in
+    let woven : weave core.journal (history ++ x ∷ []) ≡ xs ++ x ∷ [] = weave-shared core.journal history x r.within in
+    let longer : length (history ++ x ∷ []) ≡ length history + 1 = length-append history (x ∷ []) in
+    let R : List Entry → Type 0 = λ ys. RunsBy s (r.asks ++ ask.Leave None ∷ []) ys in
+    let W : ℕ → Type 0 = λ n. StandsWithin n core.journal in
+    record {
+      asks = r.asks ++ ask.Leave None ∷ [];
+      own = r.own;
+      run = subst R (sym woven) g.run;
+      final =
+          ap (λ ys. final_of s (r.asks ++ ask.Leave None ∷ []) ys) woven ∙ g.final
+          ∙ ap (λ n. record m { env = in_phase p core.env; hub = record { stage = stage_of p }; shareds = n }) (sym longer);
+      registers = ap (λ ys. final_registers s (r.asks ++ ask.Leave None ∷ []) ys) woven ∙ g.registers_are;
+      agrees = r.agrees;
+      limit = r.limit;
+      position = sym longer;
+      within = subst W (sym longer) (within-more (length history) core.journal r.within);
+    }
+
+-- THE EVENTS WITH NO FRAME, one after another
+-- every init frame has begun, so the run goes live
+pub go-grown : (s : Setting) (core : Core) (history : List Entry) (mine : List ℕ) → IsRecorded s core history mine
+    → core.env.frames ≡ [] → core.env.phase ≡ phase.Init → core.env.opened ≡ true → nat_lt core.env.inits core.env.addons ≡ false
+    → IsRecorded s (record core { env = in_phase phase.Live core.env; position = length history + 1 }) (history ++ host_entry host.Go out.Nothing ∷ []) mine
+go-grown s core history mine r alone here opened all = shared-grown s core history mine r host.Go out.Nothing phase.Live alone (rw (alone, here, opened, all) refl)
+
+pub loop_end-grown : (s : Setting) (core : Core) (history : List Entry) (mine : List ℕ) → IsRecorded s core history mine
+    → core.env.frames ≡ [] → core.env.phase ≡ phase.Live
+    → IsRecorded s (record core { env = in_phase phase.Hooks core.env; position = length history + 1 }) (history ++ host_entry host.LoopEnd (out.Ended loop_end.Idle) ∷ []) mine
+loop_end-grown s core history mine r alone here = shared-grown s core history mine r host.LoopEnd (out.Ended loop_end.Idle) phase.Hooks alone (rw (alone, here) refl)
+
+pub drain-grown : (s : Setting) (core : Core) (history : List Entry) (mine : List ℕ) → IsRecorded s core history mine
+    → core.env.frames ≡ [] → core.env.phase ≡ phase.Hooks
+    → IsRecorded s (record core { env = in_phase phase.Drain core.env; position = length history + 1 }) (history ++ host_entry host.Drain (out.Unsigned 0) ∷ []) mine
+drain-grown s core history mine r alone here = shared-grown s core history mine r host.Drain (out.Unsigned 0) phase.Drain alone (rw (alone, here) refl)
+
+pub finals-grown : (s : Setting) (core : Core) (history : List Entry) (mine : List ℕ) → IsRecorded s core history mine
+    → core.env.frames ≡ [] → core.env.phase ≡ phase.Drain
+    → IsRecorded s (record core { env = in_phase phase.Finals core.env; position = length history + 1 }) (history ++ host_entry host.Finals out.Nothing ∷ []) mine
+finals-grown s core history mine r alone here = shared-grown s core history mine r host.Finals out.Nothing phase.Finals alone (rw (alone, here) refl)
+
+pub gone-grown : (s : Setting) (core : Core) (history : List Entry) (mine : List ℕ) → IsRecorded s core history mine
+    → core.env.frames ≡ [] → core.env.phase ≡ phase.Finals
+    → IsRecorded s (wrote (gone core.env) core) history mine
+gone-grown s core history mine r alone here =
+    local-grown s core history mine r (ask.Leave None) (gone core.env) r.own mine (rw (alone, here) refl) (rw alone refl) refl r.agrees (rw here refl)
+
+-- THE INIT FRAME
+agrees-same : (p : Plan) (x : List ℕ) → AgreesWhereTold p x x
+agrees-same None x = tt
+agrees-same (Some p) x = refl
+
+-- the setting of a script with one addon
+abbrev pub setting_of : Plan → ℕ → Limits → Setting
+setting_of p texts limits = record { plans = p ∷ []; texts = texts; limits = limits }
+
+-- a core that opened is a recorded run
+pub opened-recorded : (p : Plan) (texts : ℕ) (limits : Limits) → IsRecorded (setting_of p texts limits) (opened_core 1 texts limits.journal) [] blank_registers
+opened-recorded p texts limits = record {
+  asks = ask.Leave None ∷ [];
+  own = blank_registers;
+  run = record { steps = ((refl, refl), tt); asked = refl };
+  final = refl;
+  registers = refl;
+  agrees = agrees-same p blank_registers;
+  limit = refl;
+  position = refl;
+  within = (omega arith, tt);
+}
+
+-- the first addon's init frame begins
+pub init-grown : (s : Setting) (core : Core) (history : List Entry) (mine : List ℕ) → IsRecorded s core history mine
+    → core.env.frames ≡ [] → core.env.phase ≡ phase.Init → core.env.opened ≡ true → core.env.inits ≡ 0 → core.env.addons ≡ 1
+    → IsRecorded s (wrote (init_begun 0 core.env) core) history mine
+init-grown s core history mine r alone here opened none one =
+    local-grown s core history mine r (ask.Leave None) (init_begun 0 core.env) r.own mine (rw (alone, here, opened, none, one) refl) (rw alone refl) refl r.agrees refl
+

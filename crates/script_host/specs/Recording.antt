@@ -5,6 +5,11 @@ use Rattle.napi_types.specs.declared.entry.Entry.{Entry}
 use Rattle.napi_types.specs.declared.entry.Phase.{Phase}
 use Rattle.napi_types.specs.declared.entry.Phase.TheVariants as phase
 use Rattle.napi_types.specs.declared.entry.Limits.{Limits}
+use Rattle.napi_types.specs.declared.entry.Why.{Why}
+use Rattle.napi_types.specs.declared.entry.Why.TheVariants as why
+use Rattle.napi_types.specs.declared.status.Status.{Status}
+use Rattle.napi_types.specs.declared.status.Status.TheVariants as status
+use Rattle.napi_types.specs.Scopes.{Frame}
 use Rattle.napi_types.specs.Hub.{Stage, Before, Going, Looped, Drained, Final}
 use Rattle.napi_types.specs.Machine.{Machine}
 use Rattle.napi_types.specs.Plan.{Plan, plan_of}
@@ -47,3 +52,28 @@ pub record IsRecorded (s : Setting) (core : Core) (history : List Entry) (mine :
   pub limit : core.limit ≡ s.limits.journal
   pub position : core.position ≡ length history
   pub within : StandsWithin (length history) core.journal
+
+-- one frame stands, of entry 0 of the first addon, and made so many asks
+pub record StandsAt (core : Core) (asks : ℕ) : Type 0 where
+  pub frame : Frame
+  pub alone : core.env.frames ≡ frame ∷ []
+  pub addon : frame.addon ≡ 0
+  pub entry : frame.entry ≡ 0
+  pub asked : frame.asks ≡ asks
+
+-- the opening, the phase and the init frames that began are as before
+pub record IsSamePlace (old new : Core) : Type 0 where
+  pub addons : new.env.addons ≡ old.env.addons
+  pub opened : new.env.opened ≡ old.env.opened
+  pub inits : new.env.inits ≡ old.env.inits
+  pub phase : new.env.phase ≡ old.env.phase
+
+-- why a frame is cut whose call stopped with this status
+abbrev pub why_stopped : Status → Why
+why_stopped status.TraceFull = why.Full
+why_stopped _ = why.Memory
+
+-- whatever script it is a run of, the recorded run goes on from one core and these registers to another
+abbrev pub Continues : Plan → Core → List ℕ → Core → List ℕ → Type 0
+Continues plan old mine new now =
+    (s : Setting) (history : List Entry) → plan_of s.plans 0 ≡ plan → IsRecorded s old history mine → IsRecorded s new history now
