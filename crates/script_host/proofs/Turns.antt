@@ -1,5 +1,6 @@
 -- A turn of the frame that stands: a call with its reply, the frame's end, or a cut.
 use Rattle.std.proofs.Common.{◌≡◌, ◌≤◌, ◌<◌, ℕ, ◌+◌, ◌==◌, ◌&&◌, not, nat_lt, Bool, true, false, IsTrue, List, [], ◌∷◌, ◌++◌, length, set, refl, ap, subst, sym, ◌∙◌, arith, Option, Some, None, IfSome}
+use Rattle.std.proofs.lemmas.List.{set-set}
 use Rattle.napi_types.specs.declared.call.Ask.{Ask}
 use Rattle.napi_types.specs.declared.call.Ask.TheVariants as ask
 use Rattle.napi_types.specs.declared.call.Call.{Call}
@@ -28,7 +29,8 @@ use Rattle.napi_types.specs.Plan.{Plan, plan_of, frame_ask, frames_ask, kept_by,
 use Rattle.napi_types.specs.Whole.{Setting}
 use Rattle.env_core.specs.Core.{Core, wrote, room_in}
 use Rattle.env_core.specs.Steps.{Replies, StopsBy}
-use Rattle.script_host.specs.Recording.{machine_of, stage_of, AgreesWhereTold, IsRecorded, StandsAt, IsSamePlace, why_stopped}
+use Rattle.script_host.specs.Addons.{registers_at, OthersStay}
+use Rattle.script_host.specs.Recording.{Continues, machine_of, stage_of, AgreesWhereTold, IsRecorded, StandsAt, IsSamePlace, why_stopped}
 use Rattle.napi_types.proofs.Answers.{called-keeps}
 use Rattle.script_host.proofs.Recordings.{local-grown}
 
@@ -257,3 +259,29 @@ called-turn s history core new mine mid now p q n c r e st below asked reply pla
     let K : Plan → Type 0 = λ x. IfSome x (λ t. now ≡ kept t mid 0 n r) in
     let L : List ℕ → Type 0 = λ x. IfSome p (λ t. now ≡ kept t x 0 n r) in
     called-grown s core history mine p n c r new now e st below asked reply (subst L same (subst K plans keeps)) rec
+
+-- a frame that made all its asks is cut, whatever it would ask
+all_made : (fs : List Frame) (f : Frame) (n : ℕ) → fs ≡ f ∷ [] → f.asks ≡ n → n ≡ most_asks → (asks_of fs == most_asks) ≡ true
+all_made fs f n alone asks e = ap (λ gs. asks_of gs == most_asks) alone ∙ ap (λ k. k == most_asks) (asks ∙ e)
+
+pub spent-turn : (s : Setting) (history : List Entry) (core new : Core) (mine : List ℕ) (n : ℕ)
+    → StandsAt core n → n ≡ most_asks
+    → new ≡ wrote (frame_ended (Some why.Asks) core.env) core
+    → IsRecorded s core history mine → IsRecorded s new history mine
+spent-turn s history core new mine n st all made rec =
+    let P : Core → Type 0 = λ x. IsRecorded s x history mine in
+    subst P (sym made) (by (plan_of s.plans 0) refl)
+  where
+    by : (p : Plan) → plan_of s.plans 0 ≡ p → IsRecorded s (wrote (frame_ended (Some why.Asks) core.env) core) history mine
+    by None e = cut-grown s core history mine None n (ask.Leave None) why.Asks e st (all_made core.env.frames st.frame n st.alone st.asked all) tt rec
+    by (Some p) e = cut-grown s core history mine (Some p) n (plan_ask p mine 0 n) why.Asks e st (all_made core.env.frames st.frame n st.alone st.asked all) refl rec
+
+-- TURNS IN A ROW
+pub others-then : (a b c : List (List ℕ)) (i : ℕ) → OthersStay a b i → OthersStay b c i → OthersStay a c i
+others-then a b c i ab bc = bc ∙ ap (λ l. set l i (registers_at c i)) ab ∙ set-set a i (registers_at b i) (registers_at c i)
+
+pub same-then : (a b c : Core) → IsSamePlace a b → IsSamePlace b c → IsSamePlace a c
+same-then a b c ab bc = record { addons = bc.addons ∙ ab.addons; opened = bc.opened ∙ ab.opened; inits = bc.inits ∙ ab.inits; phase = bc.phase ∙ ab.phase }
+
+pub continues-then : (p q : Plan) (a b c : Core) (x y z : List ℕ) → Continues p a x b y → q ≡ p → Continues q b y c z → Continues p a x c z
+continues-then p q a b c x y z ab e bc = λ s history told r. bc s history (told ∙ sym e) (ab s history told r)

@@ -11,6 +11,9 @@ use napi_types::{Ask, Status, Why};
 
 use crate::addons::{ask_at, note_at};
 
+/// How many asks a frame may make.
+const MOST_ASKS: u32 = 65536;
+
 /// What a turn of a frame comes to.
 enum Turn {
     /// The frame goes on.
@@ -62,4 +65,27 @@ fn take_turn(core: &mut EnvCore, addons: &mut Vec<Box<dyn Addon>>, step: u32) ->
             Stepped::Enter(..) | Stepped::Shared(_) => unreachable!(),
         },
     }
+}
+
+/// Runs the frame that stands to its end: it leaves, a call stops, or it has made all its asks.
+fn run_frame(core: &mut EnvCore, addons: &mut Vec<Box<dyn Addon>>)
+    requires addons { 0 < length addons.old.items }
+    requires stands { StandsAt core.old 0 }
+    ensures count { length addons.new.items ≡ length addons.old.items }
+    ensures plans { map (λ b. plan b) addons.new.items ≡ map (λ b. plan b) addons.old.items }
+    ensures others { let before = map (λ b. regs b) addons.old.items in
+        OthersStay before (map (λ b. regs b) addons.new.items) 0 }
+    ensures recorded { let mine = registers_at (map (λ b. regs b) addons.old.items) 0 in
+        let now = registers_at (map (λ b. regs b) addons.new.items) 0 in
+        Continues (plan_at (map (λ b. plan b) addons.old.items) 0) core.old mine core.new now }
+    ensures same { IsSamePlace core.old core.new }
+    ensures ended { core.new.env.frames ≡ [] }
+{
+    for step in 0..MOST_ASKS {
+        match take_turn(core, addons, step) {
+            Turn::Goes => {}
+            Turn::Ended => return,
+        }
+    }
+    let _ = core.leave(None, Some(Why::Asks));
 }
