@@ -1,14 +1,14 @@
 //! The ends of the outside over a reader and a writer, as over standard input and output.
 //! They tell nothing of the bytes: what the system gives and takes, no contract can say.
 ghost use Rattle.std.specs.Prelude.{◌≡◌, ◌+◌, ◌<◌, ◌≤◌, None, min, length, is_ok, IfOk, OnErr, if◌then◌else◌};
+ghost use Rattle.std.specs.Io.KnownBytes.{ReadConsumes, WriteAppends};
 ghost use Rattle.napi_types.specs.Edge.{HasRisen, last_count};
 
 use napi_types::{Failed, Sink, Source};
-use std::io;
-use std::io::{ErrorKind, Read, Write};
+use std::io::{Read, Write};
 use std::marker::Model;
 
-/// A source over a reader. It counts the reads that failed, and contracts see that count.
+/// A source over a reader, as over standard input. It counts the reads that failed.
 #[derive(Drop)]
 pub struct StdSource<I> {
     input: I,
@@ -16,17 +16,17 @@ pub struct StdSource<I> {
 }
 
 impl<I> Model for StdSource<I> {
-    ghost use Rattle.std.specs.Prelude.{ℕ};
+    ghost use Rattle.script_host.specs.Standard.{Counted};
 
-    ghost Value = { ℕ };
+    ghost Value = { Counted I };
 
-    ghost view = { λ source. source.faults };
+    ghost view = { λ source. record { end = source.input; faults = source.faults } };
 }
 
 impl<I: Read> StdSource<I> {
     /// A source that gives what this reader gives.
     pub fn new(input: I) -> StdSource<I>
-        ensures { result ≡ 0 }
+        ensures { result ≡ record { end = input; faults = 0 } }
     {
         StdSource { input, faults: 0 }
     }
@@ -35,14 +35,15 @@ impl<I: Read> StdSource<I> {
 impl<I: Read> Source for StdSource<I> {
     ghost left = { λ _. None };
 
-    ghost faults = { λ source. source };
+    ghost faults = { λ source. source.faults };
 
     /// It fails where the reader fails. A read that fails raises the count, and no other does.
     fn read(&mut self, into: &mut [u8]) -> Result<usize, Failed>
         ensures within { IfOk result (λ n. n ≤ length into.new) }
-        ensures counted { self.new ≡ (if is_ok result then self.old else min (self.old + 1) last_count) }
-        ensures failed { OnErr result (HasRisen self.old self.new) }
-        ensures faults { self.old ≤ self.new }
+        ensures bytes { ReadConsumes (I.remaining self.old.end) (I.remaining self.new.end) result into.new }
+        ensures counted { self.new.faults ≡ (if is_ok result then self.old.faults else min (self.old.faults + 1) last_count) }
+        ensures failed { OnErr result (HasRisen self.old.faults self.new.faults) }
+        ensures faults { self.old.faults ≤ self.new.faults }
     {
         match self.input.read(into) {
             Ok(count) => Ok(count),
@@ -54,7 +55,7 @@ impl<I: Read> Source for StdSource<I> {
     }
 }
 
-/// A sink over a writer. It counts the writes that failed, and contracts see that count.
+/// A sink over a writer that keeps nothing back, as over standard output. It counts the writes that failed.
 #[derive(Drop)]
 pub struct StdSink<O> {
     output: O,
@@ -62,52 +63,40 @@ pub struct StdSink<O> {
 }
 
 impl<O> Model for StdSink<O> {
-    ghost use Rattle.std.specs.Prelude.{ℕ};
+    ghost use Rattle.script_host.specs.Standard.{Counted};
 
-    ghost Value = { ℕ };
+    ghost Value = { Counted O };
 
-    ghost view = { λ sink. sink.faults };
+    ghost view = { λ sink. record { end = sink.output; faults = sink.faults } };
 }
 
 impl<O: Write> StdSink<O> {
     /// A sink that gives what it takes to this writer.
     pub fn new(output: O) -> StdSink<O>
-        ensures { result ≡ 0 }
+        ensures { result ≡ record { end = output; faults = 0 } }
     {
         StdSink { output, faults: 0 }
     }
 }
 
-/// Writes bytes from the front of `from` and flushes the writer. To take none where there is one is an error.
-fn write_through<O: Write>(output: &mut O, from: &[u8]) -> io::Result<usize>
-    ensures within { IfOk result (λ n. n ≤ length from.now) }
-    ensures some { IfOk result (λ n. 0 < length from.now → 0 < n) }
-{
-    let count = output.write(from)?;
-    if count == 0 && !from.is_empty() {
-        return Err(io::Error::from(ErrorKind::WriteZero));
-    }
-    output.flush()?;
-    Ok(count)
-}
-
 impl<O: Write> Sink for StdSink<O> {
     ghost taken = { λ _. None };
 
-    ghost faults = { λ sink. sink };
+    ghost faults = { λ sink. sink.faults };
 
-    /// It fails where the writer fails, cannot be flushed, or takes none of the bytes. A write that fails raises the
+    /// It fails where the writer fails, and where the writer takes none of the bytes. A write that fails raises the
     /// count, and no other does.
     fn write(&mut self, from: &[u8]) -> Result<usize, Failed>
         ensures within { IfOk result (λ n. n ≤ length from.now) }
         ensures some { IfOk result (λ n. 0 < length from.now → 0 < n) }
-        ensures counted { self.new ≡ (if is_ok result then self.old else min (self.old + 1) last_count) }
-        ensures failed { OnErr result (HasRisen self.old self.new) }
-        ensures faults { self.old ≤ self.new }
+        ensures bytes { WriteAppends (O.contents self.old.end) (O.contents self.new.end) result from.now }
+        ensures counted { self.new.faults ≡ (if is_ok result then self.old.faults else min (self.old.faults + 1) last_count) }
+        ensures failed { OnErr result (HasRisen self.old.faults self.new.faults) }
+        ensures faults { self.old.faults ≤ self.new.faults }
     {
-        match write_through(&mut self.output, from) {
-            Ok(count) => Ok(count),
-            Err(_) => {
+        match self.output.write(from) {
+            Ok(count) if count > 0 || from.is_empty() => Ok(count),
+            _ => {
                 self.faults = self.faults.saturating_add(1);
                 Err(Failed)
             }
@@ -118,7 +107,8 @@ impl<O: Write> Sink for StdSink<O> {
 #[cfg(test)]
 mod tests {
     use super::*;
-    use std::test::Fail;
+    use std::io;
+    use std::io::ErrorKind;
 
     /// An end that fails at each call.
     #[derive(Drop)]
@@ -168,7 +158,7 @@ mod tests {
     }
 
     #[test]
-    fn a_failed_write_is_counted(rt: HostRuntime) -> Result<(), Fail> {
+    fn a_failed_write_is_counted(rt: HostRuntime) {
         let mut whole = StdSink::new(Vec::new(rt.alloc()));
         assert!(rt; matches!(whole.write(b"abc"), Ok(3)));
         assert_eq!(rt; whole.output.as_slice(), b"abc".as_slice());
@@ -177,7 +167,6 @@ mod tests {
         assert!(rt; broken.write(b"abc").is_err());
         assert!(rt; broken.write(b"").is_err());
         assert_eq!(rt; broken.faults, 2);
-        Ok(())
     }
 
     #[test]
