@@ -1,5 +1,5 @@
 -- A recorded run goes on.
-use Rattle.std.proofs.Common.{◌≡◌, ◌≤◌, ℕ, ◌+◌, Bool, true, false, IsTrue, List, [], ◌∷◌, ◌++◌, length, refl, ap, subst, sym, ◌∙◌, arith, nat_lt, length-append, Option, Some, None}
+use Rattle.std.proofs.Common.{◌≡◌, ◌≤◌, ℕ, ◌+◌, Bool, true, false, IsTrue, not, List, [], ◌∷◌, ◌++◌, length, refl, ap, subst, sym, ◌∙◌, arith, nat_lt, length-append, Option, Some, None}
 use Rattle.napi_types.specs.declared.call.Ask.{Ask}
 use Rattle.napi_types.specs.declared.entry.Entry.{Entry}
 use Rattle.napi_types.specs.declared.entry.Local.{Local}
@@ -17,13 +17,13 @@ use Rattle.napi_types.specs.Run.{after, IsNext, IsRunBy, final}
 use Rattle.napi_types.specs.Changes.{Change, host_entry, in_phase, gone, init_begun}
 use Rattle.napi_types.specs.declared.entry.Limits.{Limits}
 use Rattle.napi_types.specs.Registers.{blank_registers}
-use Rattle.napi_types.specs.Plan.{Plan, plan_of, asked, registers_after, Registers}
-use Rattle.napi_types.specs.Weave.{weave, StandsWithin}
-use Rattle.napi_types.specs.Whole.{Setting, opening_of, RunsBy, final_of, final_registers, asks_of_plans}
+use Rattle.napi_types.specs.Plan.{Plan, plan_of, registers_of, asked, registers_after, Registers}
+use Rattle.napi_types.specs.Weave.{weave, StandsWithin, is_shared, is_hub_event, IsParted}
+use Rattle.napi_types.specs.Whole.{Setting, opening_of, RunsBy, EndsBy, final_of, final_registers, asks_of_plans}
 use Rattle.napi_types.proofs.Runs.{run-more, final-more, asked-more, registers-more}
-use Rattle.napi_types.proofs.Weaves.{weave-local, weave-shared, within-append, within-more}
+use Rattle.napi_types.proofs.Weaves.{weave-local, weave-shared, within-append, within-more, parted-local, parted-shared}
 use Rattle.env_core.specs.Core.{Core, wrote, opened_core}
-use Rattle.script_host.specs.Recording.{machine_of, stage_of, AgreesWhereTold, IsRecorded}
+use Rattle.script_host.specs.Recording.{machine_of, stage_of, AgreesWhereTold, IsRecorded, IsEnded}
 
 -- what one more entry makes of a run by its asks
 pub record Grown (s : Setting) (asks : List Ask) (xs : List Entry) (after : Machine) (registers : Registers) : Type 0 where
@@ -64,8 +64,9 @@ pub local-grown : (s : Setting) (core : Core) (history : List Entry) (mine : Lis
     → registers_after s.plans (r.own ∷ []) (machine_of s.limits core history) c.entry ≡ own ∷ []
     → AgreesWhereTold (plan_of s.plans 0) after_mine own
     → stage_of c.after.phase ≡ stage_of core.env.phase
+    → not (is_shared c.entry.what) ≡ true
     → IsRecorded s (wrote c core) history after_mine
-local-grown s core history mine r a c own after_mine next here kept agrees staged =
+local-grown s core history mine r a c own after_mine next here kept agrees staged local_one =
     let m : Machine = machine_of s.limits core history in
     let xs : List Entry = weave core.journal history in
     let g : Grown s (r.asks ++ a ∷ []) (xs ++ c.entry ∷ []) (locally m c true).after (registers_after s.plans (r.own ∷ []) m c.entry) =
@@ -88,6 +89,7 @@ local-grown s core history mine r a c own after_mine next here kept agrees stage
       limit = r.limit;
       position = r.position;
       within = within-append (length history) core.journal (record { at = core.position; entry = c.entry }) (omega (arith, r.position)) r.within;
+      parted = parted-local core.journal history (record { at = core.position; entry = c.entry }) r.parted local_one;
     }
 
 -- what an event of the hub leaves
@@ -100,8 +102,9 @@ pub shared-grown : (s : Setting) (core : Core) (history : List Entry) (mine : Li
     → core.env.frames ≡ []
     → step (machine_of s.limits core history) (ask.Leave None) (host_entry event o)
         ≡ record { entry = host_entry event o; after = hub_left (machine_of s.limits core history) p; may = true }
+    → is_hub_event event ≡ true
     → IsRecorded s (record core { env = in_phase p core.env; position = length history + 1 }) (history ++ host_entry event o ∷ []) mine
-shared-grown s core history mine r event o p alone next =
+shared-grown s core history mine r event o p alone next shared_one =
     let m : Machine = machine_of s.limits core history in
     let xs : List Entry = weave core.journal history in
     let x : Entry = host_entry event o in
@@ -125,6 +128,7 @@ shared-grown s core history mine r event o p alone next =
       limit = r.limit;
       position = sym longer;
       within = subst W (sym longer) (within-more (length history) core.journal r.within);
+      parted = parted-shared core.journal history x r.parted shared_one;
     }
 
 -- THE EVENTS WITH NO FRAME, one after another
@@ -132,28 +136,28 @@ shared-grown s core history mine r event o p alone next =
 pub go-grown : (s : Setting) (core : Core) (history : List Entry) (mine : List ℕ) → IsRecorded s core history mine
     → core.env.frames ≡ [] → core.env.phase ≡ phase.Init → core.env.opened ≡ true → nat_lt core.env.inits core.env.addons ≡ false
     → IsRecorded s (record core { env = in_phase phase.Live core.env; position = length history + 1 }) (history ++ host_entry host.Go out.Nothing ∷ []) mine
-go-grown s core history mine r alone here opened all = shared-grown s core history mine r host.Go out.Nothing phase.Live alone (rw (alone, here, opened, all) refl)
+go-grown s core history mine r alone here opened all = shared-grown s core history mine r host.Go out.Nothing phase.Live alone (rw (alone, here, opened, all) refl) refl
 
 pub loop_end-grown : (s : Setting) (core : Core) (history : List Entry) (mine : List ℕ) → IsRecorded s core history mine
     → core.env.frames ≡ [] → core.env.phase ≡ phase.Live
     → IsRecorded s (record core { env = in_phase phase.Hooks core.env; position = length history + 1 }) (history ++ host_entry host.LoopEnd (out.Ended loop_end.Idle) ∷ []) mine
-loop_end-grown s core history mine r alone here = shared-grown s core history mine r host.LoopEnd (out.Ended loop_end.Idle) phase.Hooks alone (rw (alone, here) refl)
+loop_end-grown s core history mine r alone here = shared-grown s core history mine r host.LoopEnd (out.Ended loop_end.Idle) phase.Hooks alone (rw (alone, here) refl) refl
 
 pub drain-grown : (s : Setting) (core : Core) (history : List Entry) (mine : List ℕ) → IsRecorded s core history mine
     → core.env.frames ≡ [] → core.env.phase ≡ phase.Hooks
     → IsRecorded s (record core { env = in_phase phase.Drain core.env; position = length history + 1 }) (history ++ host_entry host.Drain (out.Unsigned 0) ∷ []) mine
-drain-grown s core history mine r alone here = shared-grown s core history mine r host.Drain (out.Unsigned 0) phase.Drain alone (rw (alone, here) refl)
+drain-grown s core history mine r alone here = shared-grown s core history mine r host.Drain (out.Unsigned 0) phase.Drain alone (rw (alone, here) refl) refl
 
 pub finals-grown : (s : Setting) (core : Core) (history : List Entry) (mine : List ℕ) → IsRecorded s core history mine
     → core.env.frames ≡ [] → core.env.phase ≡ phase.Drain
     → IsRecorded s (record core { env = in_phase phase.Finals core.env; position = length history + 1 }) (history ++ host_entry host.Finals out.Nothing ∷ []) mine
-finals-grown s core history mine r alone here = shared-grown s core history mine r host.Finals out.Nothing phase.Finals alone (rw (alone, here) refl)
+finals-grown s core history mine r alone here = shared-grown s core history mine r host.Finals out.Nothing phase.Finals alone (rw (alone, here) refl) refl
 
 pub gone-grown : (s : Setting) (core : Core) (history : List Entry) (mine : List ℕ) → IsRecorded s core history mine
     → core.env.frames ≡ [] → core.env.phase ≡ phase.Finals
     → IsRecorded s (wrote (gone core.env) core) history mine
 gone-grown s core history mine r alone here =
-    local-grown s core history mine r (ask.Leave None) (gone core.env) r.own mine (rw (alone, here) refl) (rw alone refl) refl r.agrees (rw here refl)
+    local-grown s core history mine r (ask.Leave None) (gone core.env) r.own mine (rw (alone, here) refl) (rw alone refl) refl r.agrees (rw here refl) refl
 
 -- THE INIT FRAME
 agrees-same : (p : Plan) (x : List ℕ) → AgreesWhereTold p x x
@@ -176,6 +180,7 @@ opened-recorded p texts limits = record {
   limit = refl;
   position = refl;
   within = (omega arith, tt);
+  parted = record { local_ones = refl; shared_ones = refl };
 }
 
 -- the first addon's init frame begins
@@ -183,5 +188,41 @@ pub init-grown : (s : Setting) (core : Core) (history : List Entry) (mine : List
     → core.env.frames ≡ [] → core.env.phase ≡ phase.Init → core.env.opened ≡ true → core.env.inits ≡ 0 → core.env.addons ≡ 1
     → IsRecorded s (wrote (init_begun 0 core.env) core) history mine
 init-grown s core history mine r alone here opened none one =
-    local-grown s core history mine r (ask.Leave None) (init_begun 0 core.env) r.own mine (rw (alone, here, opened, none, one) refl) (rw alone refl) refl r.agrees refl
+    local-grown s core history mine r (ask.Leave None) (init_begun 0 core.env) r.own mine (rw (alone, here, opened, none, one) refl) (rw alone refl) refl r.agrees refl refl
 
+
+-- THE END
+-- a recorded run whose environment is gone came to its end
+gone-ended : (s : Setting) (core : Core) (history : List Entry) (mine : List ℕ) → IsRecorded s core history mine → core.env.phase ≡ phase.Gone
+    → IsEnded s core.journal history mine
+gone-ended s core history mine r here = record {
+  asks = r.asks;
+  ended = record { run = r.run; gone = ap (λ (m : Machine). m.env.phase) r.final ∙ here };
+  parted = r.parted;
+  agrees = subst (λ (own : List ℕ). AgreesWhereTold (plan_of s.plans 0) mine own) (sym (ap (λ rss. registers_of rss 0) r.registers)) r.agrees;
+}
+
+-- the hub's four events and `gone`, from the end of the init frames on
+pub ended-of : (s : Setting) (mine : List ℕ) (c₀ c₁ c₂ c₃ c₄ c₅ : Core) (h₀ h₁ h₂ h₃ h₄ : List Entry)
+    → c₀.env.frames ≡ [] → c₀.env.phase ≡ phase.Init → c₀.env.opened ≡ true → nat_lt c₀.env.inits c₀.env.addons ≡ false
+    → h₁ ≡ h₀ ++ host_entry host.Go out.Nothing ∷ [] → c₁ ≡ record c₀ { env = in_phase phase.Live c₀.env; position = length h₀ + 1 }
+    → h₂ ≡ h₁ ++ host_entry host.LoopEnd (out.Ended loop_end.Idle) ∷ [] → c₂ ≡ record c₁ { env = in_phase phase.Hooks c₁.env; position = length h₁ + 1 }
+    → h₃ ≡ h₂ ++ host_entry host.Drain (out.Unsigned 0) ∷ [] → c₃ ≡ record c₂ { env = in_phase phase.Drain c₂.env; position = length h₂ + 1 }
+    → h₄ ≡ h₃ ++ host_entry host.Finals out.Nothing ∷ [] → c₄ ≡ record c₃ { env = in_phase phase.Finals c₃.env; position = length h₃ + 1 }
+    → c₅ ≡ wrote (gone c₄.env) c₄
+    → IsRecorded s c₀ h₀ mine → IsEnded s c₅.journal h₄ mine
+ended-of s mine c₀ c₁ c₂ c₃ c₄ c₅ h₀ h₁ h₂ h₃ h₄ alone here opened all p₁ q₁ p₂ q₂ p₃ q₃ p₄ q₄ q₅ r₀ =
+    let R : Core → List Entry → Type 0 = λ c h. IsRecorded s c h mine in
+    let r₁ : R c₁ h₁ = moved R c₁ h₁ p₁ q₁ (go-grown s c₀ h₀ mine r₀ alone here opened all) in
+    let a₁ : c₁.env.frames ≡ [] = ap (λ (c : Core). c.env.frames) q₁ ∙ alone in
+    let r₂ : R c₂ h₂ = moved R c₂ h₂ p₂ q₂ (loop_end-grown s c₁ h₁ mine r₁ a₁ (ap (λ (c : Core). c.env.phase) q₁)) in
+    let a₂ : c₂.env.frames ≡ [] = ap (λ (c : Core). c.env.frames) q₂ ∙ a₁ in
+    let r₃ : R c₃ h₃ = moved R c₃ h₃ p₃ q₃ (drain-grown s c₂ h₂ mine r₂ a₂ (ap (λ (c : Core). c.env.phase) q₂)) in
+    let a₃ : c₃.env.frames ≡ [] = ap (λ (c : Core). c.env.frames) q₃ ∙ a₂ in
+    let r₄ : R c₄ h₄ = moved R c₄ h₄ p₄ q₄ (finals-grown s c₃ h₃ mine r₃ a₃ (ap (λ (c : Core). c.env.phase) q₃)) in
+    let a₄ : c₄.env.frames ≡ [] = ap (λ (c : Core). c.env.frames) q₄ ∙ a₃ in
+    let r₅ : R c₅ h₄ = moved R c₅ h₄ refl q₅ (gone-grown s c₄ h₄ mine r₄ a₄ (ap (λ (c : Core). c.env.phase) q₄)) in
+    gone-ended s c₅ h₄ mine r₅ (ap (λ (c : Core). c.env.phase) q₅)
+  where
+    moved : (R : Core → List Entry → Type 0) (c : Core) (h : List Entry) {d : Core} {k : List Entry} → h ≡ k → c ≡ d → R d k → R c h
+    moved R c h {d} {k} e f r = let P : List Entry → Type 0 = λ x. R c x in let Q : Core → Type 0 = λ x. R x k in subst P (sym e) (subst Q (sym f) r)

@@ -127,7 +127,7 @@ called-grown s core history mine p n c r new now e st below asked reply keeps re
     (asked-here s.plans core.env.frames st.frame p mine rec.own (ask.Do c) n st.alone st.addon st.entry st.asked e rec.agrees asked)
     (kept-here s.plans core.env.frames st.frame rec.own change.entry.reply st.alone st.addon)
     (agrees-after p (plan_of s.plans 0) st.frame mine rec.own now change.entry.reply n e rec.agrees st.entry st.asked kept_now)
-    (ap stage_of (called-keeps core.env c k).phase) in
+    (ap stage_of (called-keeps core.env c k).phase) refl in
     let P : Core → Type 0 = λ x. IsRecorded s x history now in subst P (sym reply.after) grown
 
 -- a frame that leaves
@@ -139,7 +139,7 @@ left-grown s core history mine p n v e st below asked rec =
     local-grown s core history mine rec (ask.Leave v) (frame_ended None core.env) rec.own mine
     (leave-next (machine_of s.limits core history) v st.frame st.alone (below-most core.env.frames st.frame n st.alone st.asked below))
     (asked-here s.plans core.env.frames st.frame p mine rec.own (ask.Leave v) n st.alone st.addon st.entry st.asked e rec.agrees asked)
-    refl rec.agrees refl
+    refl rec.agrees refl refl
 
 -- a frame that is cut, at an ask that its plan gives
 pub cut-grown : (s : Setting) (core : Core) (history : List Entry) (mine : List ℕ) (p : Plan) (n : ℕ) (a : Ask) (w : Why)
@@ -151,7 +151,7 @@ cut-grown s core history mine p n a w e st may asked rec =
     local-grown s core history mine rec a (frame_ended (Some w) core.env) rec.own mine
     (cut-next (machine_of s.limits core history) a w st.frame st.alone may)
     (asked-here s.plans core.env.frames st.frame p mine rec.own a n st.alone st.addon st.entry st.asked e rec.agrees asked)
-    refl rec.agrees refl
+    refl rec.agrees refl refl
 
 two_may : (a b : Bool) → a ≡ true → b ≡ true → (a && b) ≡ true
 two_may a b p q = rw (p, q) refl

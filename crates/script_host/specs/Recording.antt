@@ -2,6 +2,7 @@
 use Rattle.std.specs.Prelude.{◌≡◌, ℕ, List, [], ◌∷◌, length, Option, Some, None}
 use Rattle.napi_types.specs.declared.call.Ask.{Ask}
 use Rattle.napi_types.specs.declared.entry.Entry.{Entry}
+use Rattle.napi_types.specs.declared.entry.Local.{Local}
 use Rattle.napi_types.specs.declared.entry.Phase.{Phase}
 use Rattle.napi_types.specs.declared.entry.Phase.TheVariants as phase
 use Rattle.napi_types.specs.declared.entry.Limits.{Limits}
@@ -12,9 +13,9 @@ use Rattle.napi_types.specs.declared.status.Status.TheVariants as status
 use Rattle.napi_types.specs.Scopes.{Frame}
 use Rattle.napi_types.specs.Hub.{Stage, Before, Going, Looped, Drained, Final}
 use Rattle.napi_types.specs.Machine.{Machine}
-use Rattle.napi_types.specs.Plan.{Plan, plan_of}
-use Rattle.napi_types.specs.Weave.{weave, StandsWithin}
-use Rattle.napi_types.specs.Whole.{Setting, RunsBy, final_of, final_registers}
+use Rattle.napi_types.specs.Plan.{Plan, plan_of, registers_of}
+use Rattle.napi_types.specs.Weave.{weave, StandsWithin, IsParted}
+use Rattle.napi_types.specs.Whole.{Setting, RunsBy, EndsBy, final_of, final_registers}
 use Rattle.env_core.specs.Core.{Core}
 
 -- which of the hub's events happened, as the phase shows it
@@ -52,6 +53,15 @@ pub record IsRecorded (s : Setting) (core : Core) (history : List Entry) (mine :
   pub limit : core.limit ≡ s.limits.journal
   pub position : core.position ≡ length history
   pub within : StandsWithin (length history) core.journal
+  pub parted : IsParted core.journal history
+
+-- a run that came to its end, as it is left: the weave of the two lists is a run of the script to `gone`, each list has its own entries,
+-- and the addon's registers are the run's
+pub record IsEnded (s : Setting) (journal : List Local) (history : List Entry) (mine : List ℕ) : Type 0 where
+  pub asks : List Ask
+  pub ended : EndsBy s asks (weave journal history)
+  pub parted : IsParted journal history
+  pub agrees : AgreesWhereTold (plan_of s.plans 0) mine (registers_of (final_registers s asks (weave journal history)) 0)
 
 -- one frame stands, of entry 0 of the first addon, and made so many asks
 pub record StandsAt (core : Core) (asks : ℕ) : Type 0 where
