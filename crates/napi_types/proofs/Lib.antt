@@ -1,4 +1,5 @@
 pub mod Answers
 pub mod Asks
+pub mod Misses
 pub mod Runs
 pub mod Weaves

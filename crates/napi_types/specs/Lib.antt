@@ -1,7 +1,9 @@
 pub mod Calls
 pub mod Changes
+pub mod ClosedScope
 pub mod Edge
 pub mod Environment
+pub mod FirstRun
 pub mod Guards
 pub mod Hub
 pub mod Lists
@@ -15,12 +17,14 @@ pub mod Registers
 pub mod Room
 pub mod Run
 pub mod ScopeCalls
+pub mod ScopeOrder
 pub mod Scopes
 pub mod Script
 pub mod Step
 pub mod Teardown
 pub mod Text
 pub mod Texts
+pub mod Traces
 pub mod ValueCalls
 pub mod Values
 pub mod Weave

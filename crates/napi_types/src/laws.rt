@@ -1,0 +1,54 @@
+//! What the machine's definitions come to, as laws: each function does nothing, and its contract states a law.
+ghost use Rattle.napi_types.specs.FirstRun as first_run;
+ghost use Rattle.napi_types.specs.ScopeOrder as scope_order;
+ghost use Rattle.napi_types.specs.ClosedScope as closed_scope;
+
+/// The first run: the entries are a run of its script and come to its end.
+pub fn first_run_ends()
+    ensures { first_run.Ends }
+{}
+
+/// The text of the first run, line by line.
+pub fn first_run_prints()
+    ensures { first_run.Prints }
+{}
+
+/// What the addon of the first run keeps in its registers.
+pub fn first_run_registers()
+    ensures { first_run.Keeps }
+{}
+
+/// Entries that differ from the first run in one place are no run of its script.
+pub fn first_run_is_strict()
+    ensures { first_run.IsStrict }
+{}
+
+/// The order of scopes: the entries are a run of its script and come to its end.
+pub fn scope_order_ends()
+    ensures { scope_order.Ends }
+{}
+
+/// The text of the order of scopes, line by line.
+pub fn scope_order_prints()
+    ensures { scope_order.Prints }
+{}
+
+/// A refused close has no other status.
+pub fn scope_order_is_strict()
+    ensures { scope_order.IsStrict }
+{}
+
+/// A handle used after its scope closed: the entries are a run of its script and come to its end.
+pub fn closed_scope_ends()
+    ensures { closed_scope.Ends }
+{}
+
+/// The text of that run, line by line.
+pub fn closed_scope_prints()
+    ensures { closed_scope.Prints }
+{}
+
+/// The call with that handle has no other status, and tells no kind.
+pub fn closed_scope_is_strict()
+    ensures { closed_scope.IsStrict }
+{}
