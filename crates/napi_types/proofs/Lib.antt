@@ -1,5 +1,6 @@
 pub mod Answers
 pub mod Asks
+pub mod Cutting
 pub mod Misses
 pub mod Runs
 pub mod Weaves

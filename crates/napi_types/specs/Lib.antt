@@ -1,11 +1,13 @@
 pub mod Calls
 pub mod Changes
 pub mod ClosedScope
+pub mod Cuts
 pub mod Edge
 pub mod Environment
 pub mod FirstRun
 pub mod Guards
 pub mod Hub
+pub mod Laws
 pub mod Lists
 pub mod Loop
 pub mod Machine

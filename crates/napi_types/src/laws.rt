@@ -2,6 +2,8 @@
 ghost use Rattle.napi_types.specs.FirstRun as first_run;
 ghost use Rattle.napi_types.specs.ScopeOrder as scope_order;
 ghost use Rattle.napi_types.specs.ClosedScope as closed_scope;
+ghost use Rattle.napi_types.specs.Cuts.{CutsForRoom, CutAtLastAsk, NotBeforeLastAsk};
+ghost use Rattle.napi_types.specs.Laws.{RefusesUnknownHandles};
 
 /// The first run: the entries are a run of its script and come to its end.
 pub fn first_run_ends()
@@ -51,4 +53,20 @@ pub fn closed_scope_prints()
 /// The call with that handle has no other status, and tells no kind.
 pub fn closed_scope_is_strict()
     ensures { closed_scope.IsStrict }
+{}
+
+/// A handle that no open scope holds is an invalid argument, and the call that names it changes nothing.
+pub fn refuses_unknown_handles()
+    ensures { RefusesUnknownHandles }
+{}
+
+/// A frame is cut at a call that has no place in the journal, and for want of memory at a call that grows.
+pub fn cuts_for_room()
+    ensures { CutsForRoom }
+{}
+
+/// A frame is cut at its 65,536th ask and not before.
+pub fn cuts_at_last_ask()
+    ensures last { CutAtLastAsk }
+    ensures early { NotBeforeLastAsk }
 {}
