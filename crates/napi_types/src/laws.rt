@@ -3,7 +3,7 @@ ghost use Rattle.napi_types.specs.FirstRun as first_run;
 ghost use Rattle.napi_types.specs.ScopeOrder as scope_order;
 ghost use Rattle.napi_types.specs.ClosedScope as closed_scope;
 ghost use Rattle.napi_types.specs.Cuts.{CutsForRoom, CutAtLastAsk, NotBeforeLastAsk};
-ghost use Rattle.napi_types.specs.Laws.{RefusesUnknownHandles};
+ghost use Rattle.napi_types.specs.Laws.{RefusesUnknownHandles, FrontsAreRuns, RoomSuffices};
 
 /// The first run: the entries are a run of its script and come to its end.
 pub fn first_run_ends()
@@ -65,8 +65,19 @@ pub fn cuts_for_room()
     ensures { CutsForRoom }
 {}
 
-/// A frame is cut at its 65,536th ask and not before.
+/// A frame that has made 65,536 asks is cut for that, and none is before.
 pub fn cuts_at_last_ask()
     ensures last { CutAtLastAsk }
     ensures early { NotBeforeLastAsk }
+{}
+
+/// What came of a run up to any moment is a run.
+pub fn fronts_are_runs()
+    ensures { FrontsAreRuns }
+{}
+
+/// Where the limits have room for the events that every run has, entries and reserved places stay within them at the end
+/// of every run, and so at every moment; once the environment is gone no place is left reserved.
+pub fn room_suffices()
+    ensures { RoomSuffices }
 {}
