@@ -1,3 +1,5 @@
 pub mod Addons
 pub mod Reading
 pub mod Recording
+pub mod Standard
+pub mod Words

@@ -1,6 +1,7 @@
 -- A run as it is recorded: the environment's core, the history, and the registers of the addon that runs.
-use Rattle.std.specs.Prelude.{◌≡◌, ℕ, List, [], ◌∷◌, length, Option, Some, None}
+use Rattle.std.specs.Prelude.{◌≡◌, ℕ, List, [], ◌∷◌, length, Option, Some, None, option_map}
 use Rattle.napi_types.specs.declared.call.Ask.{Ask}
+use Rattle.napi_types.specs.declared.call.Op.{Op}
 use Rattle.napi_types.specs.declared.entry.Entry.{Entry}
 use Rattle.napi_types.specs.declared.entry.Local.{Local}
 use Rattle.napi_types.specs.declared.entry.Phase.{Phase}
@@ -87,3 +88,11 @@ why_stopped _ = why.Memory
 abbrev pub Continues : Plan → Core → List ℕ → Core → List ℕ → Type 0
 Continues plan old mine new now =
     (s : Setting) (history : List Entry) → plan_of s.plans 0 ≡ plan → IsRecorded s old history mine → IsRecorded s new history now
+
+-- what an addon tells of its plan once it was given these entries: one that told none tells none now
+abbrev pub loaded_plan : Plan → List (List Op) → Plan
+loaded_plan told entries = option_map (λ _. entries) told
+
+-- the setting of a script with one addon, under the limits of every run
+abbrev pub alone_setting : Plan → ℕ → Setting
+alone_setting told texts = record { plans = told ∷ []; texts = texts; limits = record { journal = 4194304; history = 4194304 } }

@@ -7,3 +7,6 @@ mod addons;
 mod history;
 mod reading;
 mod recording;
+mod standard;
+mod words;
+pub use standard::{StdSink, StdSource};
