@@ -1,4 +1,5 @@
 pub mod Addons
+pub mod Host
 pub mod Reading
 pub mod Recording
 pub mod Standard

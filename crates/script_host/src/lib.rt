@@ -5,6 +5,7 @@
 
 mod addons;
 mod history;
+mod host;
 mod reading;
 mod recording;
 mod standard;
