@@ -1,4 +1,5 @@
 pub mod Alone
+pub mod Hosts
 pub mod Members
 pub mod Recordings
 pub mod Turns

@@ -46,6 +46,11 @@ pub record Ran (script : Script) (handed : List Plan) (registers : List (List �
   pub loaded : plans_after ≡ told_plans script.addons handed ++ drop (length script.addons) handed
   pub others : drop (length script.addons) registers_after ≡ drop (length script.addons) registers
 
+-- a script of the first form has one addon and the fixed texts alone
+pub record HasOneAddon (script : Script) : Type 0 where
+  pub one : length script.addons ≡ 1
+  pub texts : length script.texts ≡ 3
+
 -- the text of the run
 abbrev pub trace_of : Script → Record → List ℕ
 trace_of script left = text script.texts (weave left.journal left.history)

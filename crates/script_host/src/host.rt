@@ -1,8 +1,8 @@
 //! The top call.
-ghost use Rattle.std.specs.Prelude.{◌≡◌, ◌≢◌, ◌≤◌, ◌<◌, ℕ, ◌↔◌, List, [], ◌∷◌, length, map, true, false, Some, None, IfOk, OnOk, OnErr, IfErr, Contains, IsOk};
+ghost use Rattle.std.specs.Prelude.{◌≡◌, ◌≢◌, ◌≤◌, ◌<◌, ℕ, ◌↔◌, List, [], ◌∷◌, length, map, true, false, Some, None, IfOk, OnOk, OnErr, IfErr, Contains, IsOk, ◌⊎◌};
 ghost use Rattle.std.specs.Io.KnownBytes.{append_known};
 ghost use Rattle.napi_types.specs.Edge.{HasRisen, TookFront};
-ghost use Rattle.script_host.specs.Host.{Ran, GaveScript, GaveTooMuch, Causes, WroteLine, trace_of};
+ghost use Rattle.script_host.specs.Host.{Ran, HasOneAddon, GaveScript, GaveTooMuch, Causes, WroteLine, trace_of};
 ghost use Rattle.script_host.specs.Words.{is_run_words, line_text, line_status};
 
 use std::alloc::Global;
@@ -10,13 +10,21 @@ use std::sync::Wait;
 use std::thread::Threads;
 
 use addon_trait::Addon;
-use napi_types::{AddonPlan, Gate, Listed, Plans, Record, Script, Sink, Source, Text};
+use napi_types::{AddonPlan, Failed, Gate, Plans, Record, Script, Sink, Source, Text};
 use script_read::{Refusal, read_script};
 use trace_text::{put_all, write_trace};
 
 use crate::reading::{ReadError, read_all};
 use crate::recording::run;
 use crate::words::{Line, is_run};
+
+/// How much of a trace was written.
+enum Written {
+    /// All of it.
+    Whole,
+    /// A front of it: the sink failed.
+    Cut,
+}
 
 /// Writes a line in place of a trace, and answers its status.
 fn refuse<K: Sink>(sink: &mut K, line: Line) -> u8
@@ -50,5 +58,60 @@ fn script_of<S: Source>(alloc: Global, words: &[Text], source: &mut S) -> Result
         Err(Refusal::NotJson) => Err(Line::NotJson),
         Err(Refusal::Stage) => Err(Line::Stage),
         Err(Refusal::NoMemory) => Err(Line::NoMemory),
+    }
+}
+
+/// The plan of the only addon.
+fn only_plan(plans: Plans) -> AddonPlan
+    requires { length plans ≡ 1 }
+    ensures { plans ≡ result ∷ [] }
+{
+    let mut plans = plans.into_items();
+    match plans.pop() {
+        Some(plan) => plan,
+        None => unreachable!(),
+    }
+}
+
+/// Runs a script with the addons that are handed in, writes its trace and leaves its two lists.
+fn perform<K: Sink>(
+    alloc: Global,
+    script: Script,
+    sink: &mut K,
+    addons: &mut Vec<Box<dyn Addon>>,
+    left: &mut Record,
+) -> Result<Written, Line>
+    requires { HasOneAddon script }
+    ensures ran { let plans = map (λ b. plan b) addons.old.items in
+        let registers = map (λ b. regs b) addons.old.items in
+        OnOk result (Ran script plans registers left.new (map (λ b. plan b) addons.new.items) (map (λ b. regs b) addons.new.items)) }
+    ensures whole { result ≡ Ok Written.Whole → K.taken sink.new ≡ append_known (K.taken sink.old) (trace_of script left.new) }
+    ensures cut { result ≡ Ok Written.Cut → TookFront (K.taken sink.old) (trace_of script left.new) (K.taken sink.new) }
+    ensures fault { result ≡ Ok Written.Cut → HasRisen (K.faults sink.old) (K.faults sink.new) }
+    ensures err { IfErr result (λ line. (line ≡ Line.NoMemory) ⊎ ((line ≡ Line.TooManyAddons) × (length addons.old.items < length script.addons))) }
+    ensures sink { OnErr result (K.taken sink.new ≡ K.taken sink.old) }
+    ensures left { OnErr result (left.new ≡ left.old) }
+    ensures faults { K.faults sink.old ≤ K.faults sink.new }
+{
+    if addons.len() < script.addons.items().len() {
+        return Err(Line::TooManyAddons);
+    }
+    let Script {
+        version: _,
+        workers: _,
+        addons: plans,
+        threads: _,
+        schedule: _,
+        texts,
+    } = script;
+    let given = only_plan(plans);
+    let Ok(record) = run(alloc, given, texts.items().len() as u32, addons) else {
+        return Err(Line::NoMemory);
+    };
+    let written = write_trace(sink, &texts, record.journal.items(), record.history.items());
+    *left = record;
+    match written {
+        Ok(()) => Ok(Written::Whole),
+        Err(Failed) => Ok(Written::Cut),
     }
 }
