@@ -1,9 +1,9 @@
 //! The environment with its journal.
 ghost use Rattle.std.specs.Prelude.{◌≡◌, ◌≢◌, ℕ, ◌+◌, ◌-◌, ◌*◌, ◌<◌, ◌≤◌, [], length, Some, IfOk, IsTrue, ◌↔◌};
-ghost use Rattle.napi_types.specs.Room.{journal_room, is_full, may_want_memory};
+ghost use Rattle.napi_types.specs.Room.{is_full};
 ghost use Rattle.napi_types.specs.Changes.{asks_of, most_asks, called, frame_ended, init_begun};
 ghost use Rattle.env_core.specs.Core.{opened_core, wrote, advanced, next_phase, room_in};
-ghost use Rattle.env_core.specs.Steps.{IfReply, IfStop, Replies, IsLocal};
+ghost use Rattle.env_core.specs.Steps.{IfReply, IfStop, Replies, StopsBy, IsLocal};
 
 use crate::journal::Journal;
 use crate::state::State;
@@ -79,10 +79,12 @@ impl EnvCore {
         // A reply is the machine's answer; its entry stands in the journal, and the environment is the one after it.
         ensures reply { IfReply result (λ reply. Replies self.old call.now reply self.new) }
 
-        // A call that stops changes nothing.
+        // A call that stops changes nothing, and says why it stopped.
         ensures stop { IfStop result (λ status. self.new ≡ self.old) }
-        ensures full { (result ≡ Stepped.Stop Status.TraceFull) ↔ IsTrue (is_full (room_in self.old) call.now) }
-        ensures memory { result ≡ Stepped.Stop Status.NoMemory → IsTrue (may_want_memory (room_in self.old) call.now) }
+        ensures cause { IfStop result (λ status. StopsBy (room_in self.old) call.now status) }
+
+        // A call that finds no room stops as `TraceFull`.
+        ensures full { IsTrue (is_full (room_in self.old) call.now) → result ≡ Stepped.Stop Status.TraceFull }
         ensures local { IsLocal result }
     {
         if let Err(status) = self.journal.promise() {

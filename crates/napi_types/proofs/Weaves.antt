@@ -1,10 +1,11 @@
 -- The weave grows at its end.
-use Rattle.std.proofs.Common.{◌≡◌, ◌≤◌, ◌<◌, ℕ, ◌+◌, suc, ◌==◌, Bool, true, false, cond, List, [], ◌∷◌, ◌++◌, length, map, filter, refl, ap, ◌∙◌, sym, arith, append_assoc}
+use Rattle.std.proofs.Common.{◌≡◌, ◌≤◌, ◌<◌, ℕ, ◌+◌, suc, ◌==◌, Bool, true, false, cond, List, [], ◌∷◌, ◌++◌, length, map, filter, refl, ap, ◌∙◌, sym, arith, append_assoc, ◌&&◌, not, IsTrue}
 use Rattle.std.proofs.lemmas.List.{append-nil, map-append}
 use Rattle.std.proofs.lemmas.List.Elements.{filter-append}
+use Rattle.std.proofs.lemmas.List.Folds.{list_all-append}
 use Rattle.napi_types.specs.declared.entry.Entry.{Entry}
 use Rattle.napi_types.specs.declared.entry.Local.{Local}
-use Rattle.napi_types.specs.Weave.{local_at, weave_from, weave, StandsWithin}
+use Rattle.napi_types.specs.Weave.{local_at, weave_from, weave, StandsWithin, is_shared, IsParted}
 
 -- a journal stays within a longer history
 within : (n m : ℕ) (ls : List Local) → m ≤ n → StandsWithin m ls → StandsWithin n ls
@@ -56,3 +57,22 @@ within-more n ls w = within (n + 1) n ls (omega arith) w
 pub within-append : (n : ℕ) (ls : List Local) (l : Local) → l.at ≤ n → StandsWithin n ls → StandsWithin n (ls ++ l ∷ [])
 within-append n [] l h w = (h, tt)
 within-append n (k ∷ ls) l h w = (w.0, within-append n ls l h w.1)
+
+-- the two lists keep their own entries
+pub parted-local : (ls : List Local) (ks : List Entry) (l : Local) → IsParted ls ks → not (is_shared l.entry.what) ≡ true → IsParted (ls ++ l ∷ []) ks
+parted-local ls ks l p h = record {
+  local_ones = rw (list_all-append (λ (x : Local). not (is_shared x.entry.what)) ls (l ∷ [])) (both _ _ p.local_ones (both _ _ h refl));
+  shared_ones = p.shared_ones;
+}
+  where
+    both : (a b : Bool) → a ≡ true → b ≡ true → (a && b) ≡ true
+    both a b p q = rw (p, q) refl
+
+pub parted-shared : (ls : List Local) (ks : List Entry) (x : Entry) → IsParted ls ks → is_shared x.what ≡ true → IsParted ls (ks ++ x ∷ [])
+parted-shared ls ks x p h = record {
+  local_ones = p.local_ones;
+  shared_ones = rw (list_all-append (λ (y : Entry). is_shared y.what) ks (x ∷ [])) (both _ _ p.shared_ones (both _ _ h refl));
+}
+  where
+    both : (a b : Bool) → a ≡ true → b ≡ true → (a && b) ≡ true
+    both a b p q = rw (p, q) refl

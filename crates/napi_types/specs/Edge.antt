@@ -1,6 +1,8 @@
 -- The ends of the outside: what a source gives, what a sink takes, and when either may fail.
-use Rattle.std.specs.Prelude.{ℕ, ◌+◌, ◌-◌, ◌^◌, ◌==◌, ◌≤◌, min, Bool, if◌then◌else◌, List, [], take}
+use Rattle.std.specs.Prelude.{◌≡◌, ℕ, ◌+◌, ◌-◌, ◌^◌, ◌==◌, ◌≤◌, min, Bool, if◌then◌else◌, List, [], ◌++◌, take}
 use Rattle.std.specs.List.{list_any}
+use Rattle.std.specs.Io.KnownBytes.{append_known}
+use Rattle.std.specs.declared.option.Option.{Option}
 use Rattle.std.specs.declared.result.Result.{Result}
 use Rattle.std.specs.declared.result.Result.TheVariants.{Ok, Err}
 
@@ -16,6 +18,13 @@ HasRisen before now = min (before + 1) last_count ≤ now
 abbrev pub moved : {E : Type 0} → Result ℕ E → List ℕ → List ℕ
 moved (Ok n) piece = take n piece
 moved (Err e) piece = []
+
+-- a sink took a front of these bytes after what it had
+pub record TookFront (had : Option (List ℕ)) (bytes : List ℕ) (has : Option (List ℕ)) : Type 0 where
+  pub front : List ℕ
+  pub rest : List ℕ
+  pub whole_is : front ++ rest ≡ bytes
+  pub took : has ≡ append_known had front
 
 -- which calls of an end in memory are to fail (counted from 0), how many were made, how many failed
 pub record CallPlan : Type 0 where

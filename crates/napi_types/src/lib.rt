@@ -9,6 +9,7 @@ mod edge;
 mod entry;
 mod fill;
 mod ids;
+pub mod laws;
 mod lists;
 mod names;
 mod script;

@@ -6,8 +6,8 @@ use Rattle.std.specs.List.{flat_map}
 use Rattle.std.proofs.Math.Seq.{take-add}
 use Rattle.std.specs.declared.option.Option.{Option}
 use Rattle.std.specs.Io.KnownBytes.{append_known}
-use Rattle.napi_types.specs.Edge.{HasRisen}
-use Rattle.trace_text.specs.Writing.{Adds, Took, TookFront, Stand, stand}
+use Rattle.napi_types.specs.Edge.{HasRisen, TookFront}
+use Rattle.trace_text.specs.Writing.{Adds, Took, Stand, stand}
 
 -- what a sink took in two steps
 pub append_known-append : (had : Option (List ℕ)) (xs ys : List ℕ) →

@@ -2,14 +2,7 @@
 use Rattle.std.specs.Prelude.{◌≡◌, ℕ, ◌≤◌, Bool, true, false, List, ◌++◌}
 use Rattle.std.specs.declared.option.Option.{Option}
 use Rattle.std.specs.Io.KnownBytes.{append_known}
-use Rattle.napi_types.specs.Edge.{HasRisen}
-
--- a sink took a front of these bytes after what it had
-pub record TookFront (had : Option (List ℕ)) (bytes : List ℕ) (has : Option (List ℕ)) : Type 0 where
-  pub front : List ℕ
-  pub rest : List ℕ
-  pub whole_is : front ++ rest ≡ bytes
-  pub took : has ≡ append_known had front
+use Rattle.napi_types.specs.Edge.{HasRisen, TookFront}
 
 -- a sink took all these bytes after what it had or, where the writing failed, a front of them
 abbrev pub Took : Option (List ℕ) → List ℕ → Option (List ℕ) → Bool → Type 0
@@ -22,6 +15,7 @@ pub record Stand : Type 0 where
   pub faults : ℕ
   pub failed : Bool
 
+-- such a stand, from its parts
 abbrev pub stand : Option (List ℕ) → ℕ → Bool → Stand
 stand taken faults failed = record { taken = taken; faults = faults; failed = failed }
 

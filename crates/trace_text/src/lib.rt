@@ -5,6 +5,8 @@
 mod laws;
 mod line;
 mod put;
+#[cfg(test)]
+mod tests;
 mod write;
 
 pub use laws::examples;

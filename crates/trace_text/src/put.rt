@@ -1,8 +1,8 @@
 //! Writes pieces of bytes through short writes, and remembers the first fault.
 ghost use Rattle.std.specs.Prelude.{◌≡◌, ◌≤◌, OnOk, OnErr};
 ghost use Rattle.std.specs.Io.KnownBytes.{append_known};
-ghost use Rattle.napi_types.specs.Edge.{HasRisen};
-ghost use Rattle.trace_text.specs.Writing.{Adds, TookFront, stand};
+ghost use Rattle.napi_types.specs.Edge.{HasRisen, TookFront};
+ghost use Rattle.trace_text.specs.Writing.{Adds, stand};
 
 use napi_types::{Failed, Sink};
 

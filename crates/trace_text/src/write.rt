@@ -1,10 +1,10 @@
 //! The text of a whole trace.
 ghost use Rattle.std.specs.Prelude.{◌≡◌, ℕ, ◌+◌, ◌^◌, ◌<◌, ◌≤◌, [], ◌∷◌, ◌++◌, length, OnOk, OnErr};
 ghost use Rattle.std.specs.Io.KnownBytes.{append_known};
-ghost use Rattle.napi_types.specs.Edge.{HasRisen};
+ghost use Rattle.napi_types.specs.Edge.{HasRisen, TookFront};
 ghost use Rattle.napi_types.specs.Text.{lines_from, text};
 ghost use Rattle.napi_types.specs.Weave.{local_at, weave};
-ghost use Rattle.trace_text.specs.Writing.{Adds, TookFront, stand};
+ghost use Rattle.trace_text.specs.Writing.{Adds, stand};
 
 use crate::line::add_line;
 use napi_types::{Entry, Failed, Local, Sink, Texts};

@@ -1,0 +1,303 @@
+-- The room suffices over all runs.
+use Rattle.std.proofs.Common.{◌≡◌, ◌≤◌, ℕ, ◌+◌, ◌-◌, ◌*◌, suc, Bool, true, false, not, ◌&&◌, cond, nat_lt, List, [], ◌∷◌, length, IsTrue, refl, ap, sym, ◌∙◌, subst, Option, Some, None, arith}
+use Rattle.napi_types.specs.declared.call.Ask.{Ask}
+use Rattle.napi_types.specs.declared.call.Ask.TheVariants as ask
+use Rattle.napi_types.specs.declared.call.Call.{Call}
+use Rattle.napi_types.specs.declared.entry.Actor.{Actor}
+use Rattle.napi_types.specs.declared.entry.Actor.TheVariants as actor
+use Rattle.napi_types.specs.declared.entry.Entry.{Entry}
+use Rattle.napi_types.specs.declared.entry.HostStep.{HostStep}
+use Rattle.napi_types.specs.declared.entry.HostStep.TheVariants as host
+use Rattle.napi_types.specs.declared.entry.Limits.{Limits}
+use Rattle.napi_types.specs.declared.entry.Out.{Out}
+use Rattle.napi_types.specs.declared.entry.Phase.{Phase}
+use Rattle.napi_types.specs.declared.entry.Phase.TheVariants as phase
+use Rattle.napi_types.specs.declared.entry.Why.{Why}
+use Rattle.napi_types.specs.Changes.{opened, called, frame_ended, may_ask, is_fresh, number_of}
+use Rattle.napi_types.specs.Environment.{Environment}
+use Rattle.napi_types.specs.Hub.{Hub, Stage, Before, Going, Looped, Drained, Final, stage_after, staged, hub_next}
+use Rattle.napi_types.specs.Laws.{RoomSuffices}
+use Rattle.napi_types.specs.Loop.{Event, Opens, Inits, Goes, EndsLoop, Drains, FinalsCome, IsGone}
+use Rattle.napi_types.specs.Machine.{Machine}
+use Rattle.napi_types.specs.Room.{one_if, gone_place, stage_places, reserved_journal, reserved_history, room_of, is_full}
+use Rattle.napi_types.specs.Run.{IsRunBy, after, final}
+use Rattle.napi_types.specs.Scopes.{Frame}
+use Rattle.napi_types.specs.Step.{locally, hub_moved, by_hub, event_step, chosen, call_step, asked_step, cut_of, frame_step, env_step, step_of}
+use Rattle.napi_types.specs.Teardown.{choice_in, choice}
+use Rattle.napi_types.specs.Whole.{Setting, final_of, opening_of}
+use Rattle.napi_types.proofs.Answers.{KeepsButAsk, called-keeps}
+use Rattle.napi_types.proofs.Runs.{and-right}
+
+-- how far the hub is in each phase
+abbrev pub stage_in : Phase → Stage
+stage_in phase.Init = Before
+stage_in phase.Live = Going
+stage_in phase.Hooks = Looped
+stage_in phase.Drain = Drained
+stage_in phase.Finals = Final
+stage_in phase.Gone = Final
+
+abbrev pub is_init : Phase → Bool
+is_init phase.Init = true
+is_init _ = false
+
+-- what holds at every moment of a run within these limits
+record Roomy (l : Limits) (m : Machine) : Type 0 where
+  pub limits : m.limits ≡ l
+  pub journal : m.locals + reserved_journal m.env ≤ l.journal
+  pub history : m.shareds + reserved_history m.hub ≤ l.history
+  pub stage : m.hub.stage ≡ stage_in m.env.phase
+  -- once the init frames are over the opening stands, and each addon had its frame
+  pub opened : is_init m.env.phase ≡ false → m.env.opened ≡ true
+  pub inits : is_init m.env.phase ≡ false → nat_lt m.env.inits m.env.addons ≡ false
+  -- in the end no frame stands
+  pub bare : m.env.phase ≡ phase.Gone → length m.env.frames ≡ 0
+
+-- A CALL
+call-fits : (j r d x : ℕ) → nat_lt x (j + r + 1) ≡ false → d ≡ r → j + 1 + d ≤ x
+call-fits j r d x h e = grind arith
+
+not-full : (b : Bool) → IsTrue (not b) → b ≡ false
+not-full true h = cc
+not-full false h = refl
+
+same-places : (d e : Environment) → KeepsButAsk e d → reserved_journal d ≡ reserved_journal e
+same-places d e k = rw (k.opened, k.phase, k.addons, k.inits, k.depth) refl
+
+call-room : (l : Limits) (m : Machine) (c : Call) (o : Out) → Roomy l m → IsTrue (call_step m c o).may → Roomy l (call_step m c o).after
+call-room l m c o r h =
+    let n : ℕ = number_of o in
+    let k : KeepsButAsk m.env (called m.env c n).after = called-keeps m.env c n in
+    let free : is_full (room_of m c) c ≡ false = not-full _ (and-right (may_ask m.env && is_fresh m.env o) (not (is_full (room_of m c) c)) h) in
+    let d : Environment = (called m.env c n).after in
+    let P : Limits → Type 0 = λ q. m.locals + 1 + reserved_journal d ≤ q.journal in
+    record {
+      limits = r.limits;
+      journal = subst P r.limits (call-fits m.locals (reserved_journal m.env) (reserved_journal d) m.limits.journal free (same-places d m.env k));
+      history = r.history;
+      stage = r.stage ∙ ap stage_in (sym k.phase);
+      opened = λ p. k.opened ∙ r.opened (ap is_init (sym k.phase) ∙ p);
+      inits = λ p. rw (k.inits, k.addons) (r.inits (ap is_init (sym k.phase) ∙ p));
+      bare = λ p. k.depth ∙ r.bare (sym k.phase ∙ p);
+    }
+
+-- THE END OF A FRAME
+end-fits : (j b n x : ℕ) → j + (b + suc n) ≤ x → j + 1 + (b + n) ≤ x
+end-fits j b n x h = omega (arith, h)
+
+end-room : (l : Limits) (m : Machine) (w : Option Why) (b : Bool) (f : Frame) (fs : List Frame) → m.env.frames ≡ f ∷ fs
+    → Roomy l m → Roomy l (locally m (frame_ended w m.env) b).after
+end-room l m w b f fs e r =
+    let j : m.locals + (one_if (not m.env.opened) + gone_place m.env.phase + 2 * (m.env.addons - m.env.inits) + length (f ∷ fs)) ≤ l.journal = rw e at r.journal in
+    record {
+      limits = r.limits;
+      journal = rw e (end-fits m.locals (one_if (not m.env.opened) + gone_place m.env.phase + 2 * (m.env.addons - m.env.inits)) (length fs) l.journal j);
+      history = r.history;
+      stage = r.stage;
+      opened = r.opened;
+      inits = r.inits;
+      bare = λ p. let z : length (f ∷ fs) ≡ 0 = rw e at (r.bare p) in absurd (omega (arith, z));
+    }
+
+-- AN EVENT OF THE HUB
+hub-fits : (k j s x : ℕ) → j + k ≤ x → suc s ≡ k → j + 1 + s ≤ x
+hub-fits k j s x h e = omega (arith, h, e)
+
+moved-room : (l : Limits) (m : Machine) (event : HostStep) (p : Phase) (o : Out) (s : Stage)
+    → stage_after m.hub.stage event ≡ Some s → suc (stage_places s) ≡ stage_places m.hub.stage → s ≡ stage_in p
+    → gone_place p ≡ gone_place m.env.phase → (p ≡ phase.Gone → ⊥)
+    → m.env.opened ≡ true → nat_lt m.env.inits m.env.addons ≡ false → Roomy l m → Roomy l (by_hub m event p o).after
+moved-room l m event p o s e places stands g never opened inits r =
+    let P : Option Stage → Type 0 = λ n. Roomy l (hub_moved m event p o (staged m.hub n)).after in
+    subst P (sym e) (record {
+      limits = r.limits;
+      journal = rw g r.journal;
+      history = hub-fits (stage_places m.hub.stage) m.shareds (stage_places s) l.history r.history places;
+      stage = stands;
+      opened = λ q. opened;
+      inits = λ q. inits;
+      bare = λ q. absurd (never q);
+    })
+
+-- EVENTS WITH NO FRAME
+opened-fits : (j a x : ℕ) → j + (1 + 1 + a + 0) ≤ x → j + 1 + (0 + 1 + a + 0) ≤ x
+opened-fits j a x h = omega (arith, h)
+
+init-fits : (j k g a i x : ℕ) → nat_lt i a ≡ true → j + (k + g + 2 * (a - i) + 0) ≤ x → j + 1 + (k + g + 2 * (a - (i + 1)) + 1) ≤ x
+init-fits j k g a i x n h = grind arith
+
+gone-fits : (j k a x : ℕ) → j + (k + 1 + a + 0) ≤ x → j + 1 + (k + 0 + a + 0) ≤ x
+gone-fits j k a x h = omega (arith, h)
+
+-- before `go`
+init-room : (l : Limits) (m : Machine) (b c : Bool) → m.env.opened ≡ b → nat_lt m.env.inits m.env.addons ≡ c → m.env.phase ≡ phase.Init → m.env.frames ≡ []
+    → Roomy l m → Roomy l (event_step m (cond b (cond c (Inits m.env.inits) Goes) Opens)).after
+init-room l m false c o i p f r =
+    let j : m.locals + (1 + 1 + 2 * (m.env.addons - m.env.inits) + 0) ≤ l.journal = rw (o, p, f) at r.journal in
+    record {
+      limits = r.limits;
+      journal = rw (p, f) (opened-fits m.locals (2 * (m.env.addons - m.env.inits)) l.journal j);
+      history = r.history;
+      stage = r.stage;
+      opened = λ q. refl;
+      inits = r.inits;
+      bare = r.bare;
+    }
+init-room l m true true o i p f r =
+    let j : m.locals + (one_if (not m.env.opened) + gone_place m.env.phase + 2 * (m.env.addons - m.env.inits) + 0) ≤ l.journal = rw f at r.journal in
+    record {
+      limits = r.limits;
+      journal = rw f (init-fits m.locals (one_if (not m.env.opened)) (gone_place m.env.phase) m.env.addons m.env.inits l.journal i j);
+      history = r.history;
+      stage = r.stage;
+      opened = r.opened;
+      inits = λ q. let z : true ≡ false = rw p at q in cc;
+      bare = λ q. let z : phase.Init ≡ phase.Gone = rw p at q in cc;
+    }
+init-room l m true false o i p f r =
+    let s : m.hub.stage ≡ Before = r.stage ∙ ap stage_in p in
+    moved-room l m host.Go phase.Live _ Going (rw s refl) (rw s refl) refl (rw p refl) (λ e. cc) o i r
+
+later-opened : (l : Limits) (m : Machine) (p : Phase) → m.env.phase ≡ p → is_init p ≡ false → Roomy l m → m.env.opened ≡ true
+later-opened l m p e n r = r.opened (ap is_init e ∙ n)
+
+later-inits : (l : Limits) (m : Machine) (p : Phase) → m.env.phase ≡ p → is_init p ≡ false → Roomy l m → nat_lt m.env.inits m.env.addons ≡ false
+later-inits l m p e n r = r.inits (ap is_init e ∙ n)
+
+event-room : (l : Limits) (m : Machine) (p : Phase) → m.env.phase ≡ p → m.env.frames ≡ [] → Roomy l m → Roomy l (chosen m (choice_in m.env p)).after
+event-room l m phase.Init e f r = init-room l m m.env.opened (nat_lt m.env.inits m.env.addons) refl refl e f r
+event-room l m phase.Live e f r =
+    let s : m.hub.stage ≡ Going = r.stage ∙ ap stage_in e in
+    moved-room l m host.LoopEnd phase.Hooks _ Looped (rw s refl) (rw s refl) refl (rw e refl) (λ q. cc) (later-opened l m phase.Live e refl r) (later-inits l m phase.Live e refl r) r
+event-room l m phase.Hooks e f r =
+    let s : m.hub.stage ≡ Looped = r.stage ∙ ap stage_in e in
+    moved-room l m host.Drain phase.Drain _ Drained (rw s refl) (rw s refl) refl (rw e refl) (λ q. cc) (later-opened l m phase.Hooks e refl r) (later-inits l m phase.Hooks e refl r) r
+event-room l m phase.Drain e f r =
+    let s : m.hub.stage ≡ Drained = r.stage ∙ ap stage_in e in
+    moved-room l m host.Finals phase.Finals _ Final (rw s refl) (rw s refl) refl (rw e refl) (λ q. cc) (later-opened l m phase.Drain e refl r) (later-inits l m phase.Drain e refl r) r
+event-room l m phase.Finals e f r =
+    let j : m.locals + (one_if (not m.env.opened) + 1 + 2 * (m.env.addons - m.env.inits) + 0) ≤ l.journal = rw (e, f) at r.journal in
+    record {
+      limits = r.limits;
+      journal = rw f (gone-fits m.locals (one_if (not m.env.opened)) (2 * (m.env.addons - m.env.inits)) l.journal j);
+      history = r.history;
+      stage = r.stage ∙ ap stage_in e;
+      opened = λ q. later-opened l m phase.Finals e refl r;
+      inits = λ q. later-inits l m phase.Finals e refl r;
+      bare = λ q. ap length f;
+    }
+event-room l m phase.Gone e f r = r
+
+-- EACH STEP
+asked-room : (l : Limits) (m : Machine) (a : Ask) (o : Out) (f : Frame) (fs : List Frame) → m.env.frames ≡ f ∷ fs
+    → Roomy l m → IsTrue (asked_step m a o).may → Roomy l (asked_step m a o).after
+asked-room l m (ask.Do c) o f fs e r h = call-room l m c o r h
+asked-room l m (ask.Leave v) o f fs e r h = end-room l m None (may_ask m.env) f fs e r
+
+frame-room : (l : Limits) (m : Machine) (a : Ask) (o : Out) (w : Option Why) (f : Frame) (fs : List Frame) → m.env.frames ≡ f ∷ fs
+    → Roomy l m → IsTrue (frame_step m a o w).may → Roomy l (frame_step m a o w).after
+frame-room l m a o (Some w) f fs e r h = end-room l m (Some w) (frame_step m a o (Some w)).may f fs e r
+frame-room l m a o None f fs e r h = asked-room l m a o f fs e r h
+
+env-room : (l : Limits) (m : Machine) (a : Ask) (o : Out) (fs : List Frame) → m.env.frames ≡ fs
+    → Roomy l m → IsTrue (env_step m a o fs).may → Roomy l (env_step m a o fs).after
+env-room l m a o [] e r h = event-room l m m.env.phase refl e r
+env-room l m a o (f ∷ fs) e r h = frame-room l m a o (cut_of o) f fs e r h
+
+step-room : (l : Limits) (m : Machine) (a : Ask) (x : Entry) (who : Actor) → Roomy l m → IsTrue (step_of m a x who).may → Roomy l (step_of m a x who).after
+step-room l m a x actor.Env r h = env-room l m a x.reply.out m.env.frames refl r h
+step-room l m a x (actor.Thread n) r h = r
+step-room l m a x (actor.Worker n) r h = r
+
+run-room : (l : Limits) (m : Machine) (bs : List Ask) (xs : List Entry) → Roomy l m → IsRunBy m bs xs → Roomy l (final m bs xs)
+run-room l m (a ∷ bs) (x ∷ xs) r n = run-room l (after m a x) bs xs (step-room l m a x x.actor r n.0.1) n.1
+run-room l m [] [] r n = r
+run-room l m [] (x ∷ xs) r n = r
+run-room l m (a ∷ bs) [] r n = r
+
+-- THE ENTRIES ARE COUNTED
+-- how many entries both lists have
+abbrev pub entries : Machine → ℕ
+entries m = m.locals + m.shareds
+
+one-local : (j k : ℕ) → j + 1 + k ≡ suc (j + k)
+one-local j k = omega arith
+
+one-shared : (j k : ℕ) → j + (k + 1) ≡ suc (j + k)
+one-shared j k = omega arith
+
+moved-counted : (m : Machine) (event : HostStep) (p : Phase) (o : Out) (h : Option Hub)
+    → IsTrue (hub_moved m event p o h).may → entries (hub_moved m event p o h).after ≡ suc (entries m)
+moved-counted m event p o None t = cc
+moved-counted m event p o (Some h) t = one-shared m.locals m.shareds
+
+event-counted : (m : Machine) (v : Event) → IsTrue (event_step m v).may → entries (event_step m v).after ≡ suc (entries m)
+event-counted m Opens t = one-local m.locals m.shareds
+event-counted m (Inits n) t = one-local m.locals m.shareds
+event-counted m Goes t = moved-counted m host.Go phase.Live _ (hub_next m.hub host.Go) t
+event-counted m (EndsLoop w) t = moved-counted m host.LoopEnd phase.Hooks _ (hub_next m.hub host.LoopEnd) t
+event-counted m Drains t = moved-counted m host.Drain phase.Drain _ (hub_next m.hub host.Drain) t
+event-counted m FinalsCome t = moved-counted m host.Finals phase.Finals _ (hub_next m.hub host.Finals) t
+event-counted m IsGone t = one-local m.locals m.shareds
+
+chosen-counted : (m : Machine) (v : Option Event) → IsTrue (chosen m v).may → entries (chosen m v).after ≡ suc (entries m)
+chosen-counted m None t = cc
+chosen-counted m (Some v) t = event-counted m v t
+
+asked-counted : (m : Machine) (a : Ask) (o : Out) → entries (asked_step m a o).after ≡ suc (entries m)
+asked-counted m (ask.Do c) o = one-local m.locals m.shareds
+asked-counted m (ask.Leave v) o = one-local m.locals m.shareds
+
+frame-counted : (m : Machine) (a : Ask) (o : Out) (w : Option Why) → entries (frame_step m a o w).after ≡ suc (entries m)
+frame-counted m a o (Some w) = one-local m.locals m.shareds
+frame-counted m a o None = asked-counted m a o
+
+env-counted : (m : Machine) (a : Ask) (o : Out) (fs : List Frame) → IsTrue (env_step m a o fs).may → entries (env_step m a o fs).after ≡ suc (entries m)
+env-counted m a o [] t = chosen-counted m (choice m.env) t
+env-counted m a o (f ∷ fs) t = frame-counted m a o (cut_of o)
+
+step-counted : (m : Machine) (a : Ask) (x : Entry) (who : Actor) → IsTrue (step_of m a x who).may → entries (step_of m a x who).after ≡ suc (entries m)
+step-counted m a x actor.Env t = env-counted m a x.reply.out m.env.frames t
+step-counted m a x (actor.Thread n) t = cc
+step-counted m a x (actor.Worker n) t = cc
+
+one-more : (now before n after : ℕ) → now ≡ suc before → after ≡ now + n → after ≡ before + suc n
+one-more now before n after e h = omega (arith, e, h)
+
+run-counted : (m : Machine) (bs : List Ask) (xs : List Entry) → IsRunBy m bs xs → entries (final m bs xs) ≡ entries m + length xs
+run-counted m (a ∷ bs) (x ∷ xs) n =
+    one-more (entries (after m a x)) (entries m) (length xs) (entries (final (after m a x) bs xs))
+    (step-counted m a x x.actor n.0.1) (run-counted (after m a x) bs xs n.1)
+run-counted m [] [] n = omega arith
+run-counted m [] (x ∷ xs) n = absurd n
+run-counted m (a ∷ bs) [] n = absurd n
+
+-- THE LAW
+opens : (s : Setting) → 2 + 2 * length s.plans ≤ s.limits.journal → 4 ≤ s.limits.history → Roomy s.limits (opening_of s)
+opens s j k = record {
+  limits = refl;
+  journal = omega (arith, j);
+  history = k;
+  stage = refl;
+  opened = λ p. cc;
+  inits = λ p. cc;
+  bare = λ p. cc;
+}
+
+none-owed : (a i n : ℕ) → nat_lt i a ≡ false → n ≡ 0 → 0 + 0 + 2 * (a - i) + n ≡ 0
+none-owed a i n h e = grind arith
+
+none-reserved : (l : Limits) (m : Machine) → Roomy l m → m.env.phase ≡ phase.Gone → (reserved_journal m.env ≡ 0) × (reserved_history m.hub ≡ 0)
+none-reserved l m r g =
+    let o : m.env.opened ≡ true = r.opened (ap is_init g) in
+    let s : m.hub.stage ≡ Final = r.stage ∙ ap stage_in g in
+    (rw (o, g) (none-owed m.env.addons m.env.inits (length m.env.frames) (r.inits (ap is_init g)) (r.bare g)), rw s refl)
+
+from-none : (n k : ℕ) → n ≡ 0 + k → n ≡ k
+from-none n k h = omega (arith, h)
+
+pub room-suffices : RoomSuffices
+room-suffices s bs xs j k r =
+    let m : Machine = final_of s bs xs in
+    let h : Roomy s.limits m = run-room s.limits (opening_of s) bs xs (opens s j k) r.steps in
+    record { counted = from-none (entries m) (length xs) (run-counted (opening_of s) bs xs r.steps); journal = h.journal; history = h.history; none_left = none-reserved s.limits m h }

@@ -1,0 +1,5 @@
+use Rattle.napi_types.proofs.Rooms.{room-suffices}
+use Rattle.napi_types.proofs.laws.room_suffices.Goals as goal
+
+pub returns : goal.returns
+returns c = room-suffices

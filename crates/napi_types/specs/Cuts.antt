@@ -1,0 +1,69 @@
+-- Where a frame is cut.
+use Rattle.std.specs.Prelude.{◌≡◌, ◌<◌, List, [], ◌∷◌, ◌++◌, None}
+use Rattle.napi_types.specs.declared.call.Ask.{Ask}
+use Rattle.napi_types.specs.declared.call.Ask.TheVariants as ask
+use Rattle.napi_types.specs.declared.call.Call.{Call}
+use Rattle.napi_types.specs.declared.call.Call.TheVariants as call
+use Rattle.napi_types.specs.declared.entry.Entry.{Entry}
+use Rattle.napi_types.specs.declared.entry.HostStep.TheVariants as host
+use Rattle.napi_types.specs.declared.entry.Out.TheVariants as out
+use Rattle.napi_types.specs.declared.entry.Why.{Why}
+use Rattle.napi_types.specs.declared.entry.Why.TheVariants as why
+use Rattle.napi_types.specs.declared.ids.HandleId.{HandleId}
+use Rattle.napi_types.specs.declared.status.Status.TheVariants as status
+use Rattle.napi_types.specs.Changes.{host_entry}
+use Rattle.napi_types.specs.Machine.{Machine}
+use Rattle.napi_types.specs.Run.{IsNext}
+use Rattle.napi_types.specs.Scopes.{Frame}
+use Rattle.napi_types.specs.Traces.{call_at, opening_entries}
+use Rattle.napi_types.specs.Whole.{Setting, RunsBy, final_of}
+
+-- a frame's end by a cut
+abbrev pub cut_by : Why → Entry
+cut_by w = host_entry host.End (out.Cut w)
+
+-- at this ask the entry may come next, and no other
+abbrev pub IsOnlyNext : Machine → Ask → Entry → Type 0
+IsOnlyNext m a x = IsNext m a x × ((y : Entry) → IsNext m a y → y ≡ x)
+
+-- A TIGHT JOURNAL
+-- a script of one addon that tells no plan, with room for five entries in the journal: four are needed without any call
+abbrev pub tight : Setting
+tight = record { plans = None ∷ []; texts = 3; limits = record { journal = 5; history = 4 } }
+
+-- what is asked until the addon's frame has begun: nothing
+abbrev pub opening_asks : List Ask
+opening_asks = ask.Leave None ∷ ask.Leave None ∷ []
+
+abbrev pub create : Ask
+create = ask.Do call.CreateObject
+
+abbrev pub object_made : Entry
+object_made = call_at 0 call.CreateObject status.Ok (out.Handle (record { 0 = 1 }))
+
+-- as the frame has begun, and as it has made its first call
+abbrev pub begun : Machine
+begun = final_of tight opening_asks opening_entries
+
+abbrev pub first_called : Machine
+first_called = final_of tight (opening_asks ++ create ∷ []) (opening_entries ++ object_made ∷ [])
+
+pub record CutsForRoom : Type 0 where
+  -- the first call has its place
+  pub first : RunsBy tight (opening_asks ++ create ∷ []) (opening_entries ++ object_made ∷ [])
+  -- so its frame is not cut there as full
+  pub room : (c : Call) → IsNext begun (ask.Do c) (cut_by why.Full) → ⊥
+  -- for want of memory it may be cut at a call that grows, and at no other
+  pub grows : IsNext begun create (cut_by why.Memory)
+  pub stays : (h : HandleId) → IsNext begun (ask.Do (call.Typeof h)) (cut_by why.Memory) → ⊥
+  -- at the second call, whichever it is, the frame is cut as full, and nothing else may come
+  pub full : (c : Call) → IsOnlyNext first_called (ask.Do c) (cut_by why.Full)
+
+-- THE LAST ASK
+-- a frame that has made 65,536 asks is cut for that whatever it would ask, and nothing else may come
+abbrev pub CutAtLastAsk : Type 0
+CutAtLastAsk = (m : Machine) (f : Frame) (fs : List Frame) (a : Ask) → m.env.frames ≡ f ∷ fs → f.asks ≡ 65536 → IsOnlyNext m a (cut_by why.Asks)
+
+-- before that no frame is
+abbrev pub NotBeforeLastAsk : Type 0
+NotBeforeLastAsk = (m : Machine) (f : Frame) (fs : List Frame) (a : Ask) → m.env.frames ≡ f ∷ fs → f.asks < 65536 → IsNext m a (cut_by why.Asks) → ⊥

@@ -1,0 +1,42 @@
+-- Laws over all environments and all runs.
+use Rattle.std.specs.Prelude.{◌≡◌, ℕ, ◌+◌, ◌*◌, ◌≤◌, List, length, take, Some, None}
+use Rattle.napi_types.specs.declared.call.Ask.{Ask}
+use Rattle.napi_types.specs.declared.call.Call.TheVariants.{Typeof}
+use Rattle.napi_types.specs.declared.entry.Entry.{Entry}
+use Rattle.napi_types.specs.declared.entry.Out.TheVariants as out
+use Rattle.napi_types.specs.declared.entry.Phase.TheVariants as phase
+use Rattle.napi_types.specs.declared.ids.HandleId.{HandleId}
+use Rattle.napi_types.specs.declared.status.Status.TheVariants as status
+use Rattle.napi_types.specs.Calls.{answer}
+use Rattle.napi_types.specs.Environment.{Environment, plain}
+use Rattle.napi_types.specs.Machine.{Machine}
+use Rattle.napi_types.specs.Refusals.{refusal}
+use Rattle.napi_types.specs.Room.{reserved_journal, reserved_history}
+use Rattle.napi_types.specs.Scopes.{gives}
+use Rattle.napi_types.specs.Whole.{Setting, RunsBy, final_of}
+
+-- `typeof` refuses the handle as an invalid argument, tells nothing, and leaves the environment as it was
+pub record RefusesHandle (e : Environment) (h : HandleId) : Type 0 where
+  pub refusal : refusal e (Typeof h) ≡ Some status.InvalidArg
+  pub reply : (n : ℕ) → (answer e (Typeof h) n).reply ≡ plain status.InvalidArg out.Nothing
+  pub after : (n : ℕ) → (answer e (Typeof h) n).after ≡ e
+
+-- a handle that no open scope holds is refused
+abbrev pub RefusesUnknownHandles : Type 0
+RefusesUnknownHandles = (e : Environment) (h : HandleId) → gives e.frames h.0 ≡ None → RefusesHandle e h
+
+-- what came of a run up to any moment is a run
+abbrev pub FrontsAreRuns : Type 0
+FrontsAreRuns = (s : Setting) (bs : List Ask) (xs : List Entry) (n : ℕ) → RunsBy s bs xs → RunsBy s (take n bs) (take n xs)
+
+-- the machine counts the entries of the run; entries and reserved places of each list are within its limit, and at the end of the run no place is left reserved
+pub record HasRoom (s : Setting) (xs : List Entry) (m : Machine) : Type 0 where
+  pub counted : m.locals + m.shareds ≡ length xs
+  pub journal : m.locals + reserved_journal m.env ≤ s.limits.journal
+  pub history : m.shareds + reserved_history m.hub ≤ s.limits.history
+  pub none_left : m.env.phase ≡ phase.Gone → (reserved_journal m.env ≡ 0) × (reserved_history m.hub ≡ 0)
+
+-- where the limits have room for the events that every run has, the room suffices at the end of every run, and so at every moment
+abbrev pub RoomSuffices : Type 0
+RoomSuffices = (s : Setting) (bs : List Ask) (xs : List Entry)
+    → 2 + 2 * length s.plans ≤ s.limits.journal → 4 ≤ s.limits.history → RunsBy s bs xs → HasRoom s xs (final_of s bs xs)

@@ -1,0 +1,56 @@
+-- Words that small runs are written by.
+use Rattle.std.specs.Prelude.{ℕ, ◌+◌, List, [], ◌∷◌, ◌++◌, take, drop, Some, None}
+use Rattle.napi_types.specs.declared.call.Call.{Call}
+use Rattle.napi_types.specs.declared.call.Op.{Op}
+use Rattle.napi_types.specs.declared.status.Status.{Status}
+use Rattle.napi_types.specs.declared.entry.Actor.TheVariants as actor
+use Rattle.napi_types.specs.declared.entry.Cause.TheVariants as cause
+use Rattle.napi_types.specs.declared.entry.Entry.{Entry}
+use Rattle.napi_types.specs.declared.entry.HostStep.TheVariants as host
+use Rattle.napi_types.specs.declared.entry.LoopEnd.{LoopEnd}
+use Rattle.napi_types.specs.declared.entry.LoopEnd.TheVariants as loop_end
+use Rattle.napi_types.specs.declared.entry.Out.{Out}
+use Rattle.napi_types.specs.declared.entry.Out.TheVariants as out
+use Rattle.napi_types.specs.declared.entry.What.TheVariants as what
+use Rattle.napi_types.specs.Environment.{plain}
+use Rattle.napi_types.specs.Changes.{host_entry}
+use Rattle.napi_types.specs.Whole.{Setting}
+
+-- a script of one addon with one entry, with the three texts that every script has, and room for 4,194,304 entries in each list
+abbrev pub script_of : List Op → Setting
+script_of operations = record {
+  plans = Some (operations ∷ []) ∷ [];
+  texts = 3;
+  limits = record { journal = 4194304; history = 4194304 };
+}
+
+-- a call in the only frame: the number of the ask, the call, its status and its result
+abbrev pub call_at : ℕ → Call → Status → Out → Entry
+call_at n c s o = record { actor = actor.Env; depth = 1; step = n; what = what.Call c; reply = plain s o; given = None }
+
+-- the events around the calls of one init frame: what comes before them, ..
+abbrev pub opening_entries : List Entry
+opening_entries = host_entry host.Opened (out.Unsigned 9) ∷ host_entry host.Begin (out.Begin cause.Init 0 0 None) ∷ []
+
+-- .. the end of the frame, ..
+abbrev pub frame_end : Entry
+frame_end = host_entry host.End out.Nothing
+
+-- .. the history's four, ..
+abbrev pub loop_ended : LoopEnd → Entry
+loop_ended reason = host_entry host.LoopEnd (out.Ended reason)
+
+abbrev pub great_events : List Entry
+great_events = host_entry host.Go out.Nothing ∷ loop_ended loop_end.Idle ∷ host_entry host.Drain (out.Unsigned 0) ∷ host_entry host.Finals out.Nothing ∷ []
+
+-- .. and the end of the run
+abbrev pub gone_entry : Entry
+gone_entry = host_entry host.Gone out.Nothing
+
+-- a whole run of one init frame without shared calls: its calls among these events
+abbrev pub run_of_calls : List Entry → List Entry
+run_of_calls calls = opening_entries ++ calls ++ frame_end ∷ great_events ++ gone_entry ∷ []
+
+-- the entries without the one at this place, counted from 0
+abbrev pub left_out : ℕ → List Entry → List Entry
+left_out n xs = take n xs ++ drop (n + 1) xs

@@ -1,0 +1,83 @@
+//! What the machine's definitions come to, as laws: each function does nothing, and its contract states a law.
+ghost use Rattle.napi_types.specs.FirstRun as first_run;
+ghost use Rattle.napi_types.specs.ScopeOrder as scope_order;
+ghost use Rattle.napi_types.specs.ClosedScope as closed_scope;
+ghost use Rattle.napi_types.specs.Cuts.{CutsForRoom, CutAtLastAsk, NotBeforeLastAsk};
+ghost use Rattle.napi_types.specs.Laws.{RefusesUnknownHandles, FrontsAreRuns, RoomSuffices};
+
+/// The first run: the entries are a run of its script and come to its end.
+pub fn first_run_ends()
+    ensures { first_run.Ends }
+{}
+
+/// The text of the first run, line by line.
+pub fn first_run_prints()
+    ensures { first_run.Prints }
+{}
+
+/// What the addon of the first run keeps in its registers.
+pub fn first_run_registers()
+    ensures { first_run.Keeps }
+{}
+
+/// Entries that differ from the first run in one place are no run of its script.
+pub fn first_run_is_strict()
+    ensures { first_run.IsStrict }
+{}
+
+/// The order of scopes: the entries are a run of its script and come to its end.
+pub fn scope_order_ends()
+    ensures { scope_order.Ends }
+{}
+
+/// The text of the order of scopes, line by line.
+pub fn scope_order_prints()
+    ensures { scope_order.Prints }
+{}
+
+/// A refused close has no other status.
+pub fn scope_order_is_strict()
+    ensures { scope_order.IsStrict }
+{}
+
+/// A handle used after its scope closed: the entries are a run of its script and come to its end.
+pub fn closed_scope_ends()
+    ensures { closed_scope.Ends }
+{}
+
+/// The text of that run, line by line.
+pub fn closed_scope_prints()
+    ensures { closed_scope.Prints }
+{}
+
+/// The call with that handle has no other status, and tells no kind.
+pub fn closed_scope_is_strict()
+    ensures { closed_scope.IsStrict }
+{}
+
+/// A handle that no open scope holds is an invalid argument, and the call that names it changes nothing.
+pub fn refuses_unknown_handles()
+    ensures { RefusesUnknownHandles }
+{}
+
+/// A frame is cut at a call that has no place in the journal, and for want of memory at a call that grows.
+pub fn cuts_for_room()
+    ensures { CutsForRoom }
+{}
+
+/// A frame that has made 65,536 asks is cut for that, and none is before.
+pub fn cuts_at_last_ask()
+    ensures last { CutAtLastAsk }
+    ensures early { NotBeforeLastAsk }
+{}
+
+/// What came of a run up to any moment is a run.
+pub fn fronts_are_runs()
+    ensures { FrontsAreRuns }
+{}
+
+/// Where the limits have room for the events that every run has, entries and reserved places stay within them at the end
+/// of every run, and so at every moment; once the environment is gone no place is left reserved.
+pub fn room_suffices()
+    ensures { RoomSuffices }
+{}

@@ -1,0 +1,4 @@
+pub mod Alone
+pub mod Members
+pub mod Recordings
+pub mod Turns

@@ -1,0 +1,230 @@
+-- A recorded run goes on.
+use Rattle.std.proofs.Common.{◌≡◌, ◌≤◌, ℕ, ◌+◌, Bool, true, false, IsTrue, not, List, [], ◌∷◌, ◌++◌, length, refl, ap, subst, sym, ◌∙◌, arith, nat_lt, length-append, Option, Some, None}
+use Rattle.napi_types.specs.declared.call.Ask.{Ask}
+use Rattle.napi_types.specs.declared.entry.Entry.{Entry}
+use Rattle.napi_types.specs.declared.entry.Local.{Local}
+use Rattle.napi_types.specs.declared.entry.HostStep.{HostStep}
+use Rattle.napi_types.specs.declared.entry.HostStep.TheVariants as host
+use Rattle.napi_types.specs.declared.entry.Out.{Out}
+use Rattle.napi_types.specs.declared.entry.Out.TheVariants as out
+use Rattle.napi_types.specs.declared.entry.LoopEnd.TheVariants as loop_end
+use Rattle.napi_types.specs.declared.entry.Phase.{Phase}
+use Rattle.napi_types.specs.declared.entry.Phase.TheVariants as phase
+use Rattle.napi_types.specs.declared.call.Ask.TheVariants as ask
+use Rattle.napi_types.specs.Machine.{Machine}
+use Rattle.napi_types.specs.Step.{Step, step, locally}
+use Rattle.napi_types.specs.Run.{after, IsNext, IsRunBy, final}
+use Rattle.napi_types.specs.Changes.{Change, host_entry, in_phase, gone, init_begun}
+use Rattle.napi_types.specs.declared.entry.Limits.{Limits}
+use Rattle.napi_types.specs.Registers.{blank_registers}
+use Rattle.napi_types.specs.Plan.{Plan, plan_of, registers_of, asked, registers_after, Registers}
+use Rattle.napi_types.specs.Weave.{weave, StandsWithin, is_shared, is_hub_event, IsParted}
+use Rattle.napi_types.specs.Whole.{Setting, opening_of, RunsBy, EndsBy, final_of, final_registers, asks_of_plans}
+use Rattle.napi_types.proofs.Runs.{run-more, final-more, asked-more, registers-more}
+use Rattle.napi_types.proofs.Weaves.{weave-local, weave-shared, within-append, within-more, parted-local, parted-shared}
+use Rattle.env_core.specs.Core.{Core, wrote, opened_core}
+use Rattle.script_host.specs.Recording.{machine_of, stage_of, AgreesWhereTold, IsRecorded, IsEnded}
+
+-- what one more entry makes of a run by its asks
+pub record Grown (s : Setting) (asks : List Ask) (xs : List Entry) (after : Machine) (registers : Registers) : Type 0 where
+  pub run : RunsBy s asks xs
+  pub final : final_of s asks xs ≡ after
+  pub registers_are : final_registers s asks xs ≡ registers
+
+pub grow : (s : Setting) (bs : List Ask) (xs : List Entry) (m : Machine) (rss : Registers) (a : Ask) (x : Entry) (st : Step)
+    → RunsBy s bs xs → final_of s bs xs ≡ m → final_registers s bs xs ≡ rss
+    → step m a x ≡ st → x ≡ st.entry → IsTrue st.may → a ≡ asked s.plans rss m a
+    → Grown s (bs ++ a ∷ []) (xs ++ x ∷ []) st.after (registers_after s.plans rss m x)
+grow s bs xs m rss a x st r f g next entry may here =
+    let P : Machine → Type 0 = λ n. IsNext n a x in
+    let Q : Step → Type 0 = λ t. (x ≡ t.entry) × IsTrue t.may in
+    let is_next : IsNext (final_of s bs xs) a x = subst P (sym f) (subst Q (sym next) (entry, may)) in
+    record {
+      run = record {
+        steps = run-more (opening_of s) bs xs a x r.steps is_next;
+        asked =
+            ap (λ l. l ++ a ∷ []) r.asked
+            ∙ ap (λ b. asks_of_plans s bs xs ++ b ∷ []) here
+            ∙ ap (λ qs. asks_of_plans s bs xs ++ asked s.plans qs m a ∷ []) (sym g)
+            ∙ ap (λ n. asks_of_plans s bs xs ++ asked s.plans (final_registers s bs xs) n a ∷ []) (sym f)
+            ∙ sym (asked-more s.plans _ (opening_of s) bs xs a x r.steps);
+      };
+      final = final-more (opening_of s) bs xs a x r.steps ∙ ap (λ n. after n a x) f ∙ ap (λ t. t.after) next;
+      registers_are =
+          registers-more s.plans _ (opening_of s) bs xs a x r.steps
+          ∙ ap (λ qs. registers_after s.plans qs (final_of s bs xs) x) g
+          ∙ ap (λ n. registers_after s.plans rss n x) f;
+    }
+
+-- a local event goes into the journal
+pub local-grown : (s : Setting) (core : Core) (history : List Entry) (mine : List ℕ) (r : IsRecorded s core history mine)
+    (a : Ask) (c : Change) (own : List ℕ) (after_mine : List ℕ)
+    → step (machine_of s.limits core history) a c.entry ≡ locally (machine_of s.limits core history) c true
+    → a ≡ asked s.plans (r.own ∷ []) (machine_of s.limits core history) a
+    → registers_after s.plans (r.own ∷ []) (machine_of s.limits core history) c.entry ≡ own ∷ []
+    → AgreesWhereTold (plan_of s.plans 0) after_mine own
+    → stage_of c.after.phase ≡ stage_of core.env.phase
+    → not (is_shared c.entry.what) ≡ true
+    → IsRecorded s (wrote c core) history after_mine
+local-grown s core history mine r a c own after_mine next here kept agrees staged local_one =
+    let m : Machine = machine_of s.limits core history in
+    let xs : List Entry = weave core.journal history in
+    let g : Grown s (r.asks ++ a ∷ []) (xs ++ c.entry ∷ []) (locally m c true).after (registers_after s.plans (r.own ∷ []) m c.entry) =
+    grow s r.asks xs m (r.own ∷ []) a c.entry (locally m c true) r.run r.final r.registers next refl refl here in
+    let woven : weave (core.journal ++ record { at = core.position; entry = c.entry } ∷ []) history ≡ xs ++ c.entry ∷ [] =
+    ap (λ n. weave (core.journal ++ record { at = n; entry = c.entry } ∷ []) history) r.position ∙ weave-local core.journal history c.entry in
+    let longer : length core.journal + 1 ≡ length (core.journal ++ record { at = core.position; entry = c.entry } ∷ []) =
+    sym (length-append core.journal (record { at = core.position; entry = c.entry } ∷ [])) in
+    let R : List Entry → Type 0 = λ ys. RunsBy s (r.asks ++ a ∷ []) ys in
+    record {
+      asks = r.asks ++ a ∷ [];
+      own = own;
+      run = subst R (sym woven) g.run;
+      final =
+          ap (λ ys. final_of s (r.asks ++ a ∷ []) ys) woven ∙ g.final
+          ∙ ap (λ n. record m { env = c.after; locals = n }) longer
+          ∙ ap (λ t. record m { env = c.after; hub = record { stage = t }; locals = length (core.journal ++ record { at = core.position; entry = c.entry } ∷ []) }) (sym staged);
+      registers = ap (λ ys. final_registers s (r.asks ++ a ∷ []) ys) woven ∙ g.registers_are ∙ kept;
+      agrees = agrees;
+      limit = r.limit;
+      position = r.position;
+      within = within-append (length history) core.journal (record { at = core.position; entry = c.entry }) (omega (arith, r.position)) r.within;
+      parted = parted-local core.journal history (record { at = core.position; entry = c.entry }) r.parted local_one;
+    }
+
+-- what an event of the hub leaves
+abbrev pub hub_left : Machine → Phase → Machine
+hub_left m p = record m { env = in_phase p m.env; hub = record { stage = stage_of p }; shareds = m.shareds + 1 }
+
+-- an event of the hub goes into the history, and its phase starts
+pub shared-grown : (s : Setting) (core : Core) (history : List Entry) (mine : List ℕ) (r : IsRecorded s core history mine)
+    (event : HostStep) (o : Out) (p : Phase)
+    → core.env.frames ≡ []
+    → step (machine_of s.limits core history) (ask.Leave None) (host_entry event o)
+        ≡ record { entry = host_entry event o; after = hub_left (machine_of s.limits core history) p; may = true }
+    → is_hub_event event ≡ true
+    → IsRecorded s (record core { env = in_phase p core.env; position = length history + 1 }) (history ++ host_entry event o ∷ []) mine
+shared-grown s core history mine r event o p alone next shared_one =
+    let m : Machine = machine_of s.limits core history in
+    let xs : List Entry = weave core.journal history in
+    let x : Entry = host_entry event o in
+    let nothing : ask.Leave None ≡ asked s.plans (r.own ∷ []) m (ask.Leave None) = rw alone refl in
+    let st : Step = record { entry = x; after = hub_left m p; may = true } in
+    let g : Grown s (r.asks ++ ask.Leave None ∷ []) (xs ++ x ∷ []) (hub_left m p) (r.own ∷ []) =
+    grow s r.asks xs m (r.own ∷ []) (ask.Leave None) x st r.run r.final r.registers next refl refl nothing in
+    let woven : weave core.journal (history ++ x ∷ []) ≡ xs ++ x ∷ [] = weave-shared core.journal history x r.within in
+    let longer : length (history ++ x ∷ []) ≡ length history + 1 = length-append history (x ∷ []) in
+    let R : List Entry → Type 0 = λ ys. RunsBy s (r.asks ++ ask.Leave None ∷ []) ys in
+    let W : ℕ → Type 0 = λ n. StandsWithin n core.journal in
+    record {
+      asks = r.asks ++ ask.Leave None ∷ [];
+      own = r.own;
+      run = subst R (sym woven) g.run;
+      final =
+          ap (λ ys. final_of s (r.asks ++ ask.Leave None ∷ []) ys) woven ∙ g.final
+          ∙ ap (λ n. record m { env = in_phase p core.env; hub = record { stage = stage_of p }; shareds = n }) (sym longer);
+      registers = ap (λ ys. final_registers s (r.asks ++ ask.Leave None ∷ []) ys) woven ∙ g.registers_are;
+      agrees = r.agrees;
+      limit = r.limit;
+      position = sym longer;
+      within = subst W (sym longer) (within-more (length history) core.journal r.within);
+      parted = parted-shared core.journal history x r.parted shared_one;
+    }
+
+-- THE EVENTS WITH NO FRAME, one after another
+-- every init frame has begun, so the run goes live
+pub go-grown : (s : Setting) (core : Core) (history : List Entry) (mine : List ℕ) → IsRecorded s core history mine
+    → core.env.frames ≡ [] → core.env.phase ≡ phase.Init → core.env.opened ≡ true → nat_lt core.env.inits core.env.addons ≡ false
+    → IsRecorded s (record core { env = in_phase phase.Live core.env; position = length history + 1 }) (history ++ host_entry host.Go out.Nothing ∷ []) mine
+go-grown s core history mine r alone here opened all = shared-grown s core history mine r host.Go out.Nothing phase.Live alone (rw (alone, here, opened, all) refl) refl
+
+pub loop_end-grown : (s : Setting) (core : Core) (history : List Entry) (mine : List ℕ) → IsRecorded s core history mine
+    → core.env.frames ≡ [] → core.env.phase ≡ phase.Live
+    → IsRecorded s (record core { env = in_phase phase.Hooks core.env; position = length history + 1 }) (history ++ host_entry host.LoopEnd (out.Ended loop_end.Idle) ∷ []) mine
+loop_end-grown s core history mine r alone here = shared-grown s core history mine r host.LoopEnd (out.Ended loop_end.Idle) phase.Hooks alone (rw (alone, here) refl) refl
+
+pub drain-grown : (s : Setting) (core : Core) (history : List Entry) (mine : List ℕ) → IsRecorded s core history mine
+    → core.env.frames ≡ [] → core.env.phase ≡ phase.Hooks
+    → IsRecorded s (record core { env = in_phase phase.Drain core.env; position = length history + 1 }) (history ++ host_entry host.Drain (out.Unsigned 0) ∷ []) mine
+drain-grown s core history mine r alone here = shared-grown s core history mine r host.Drain (out.Unsigned 0) phase.Drain alone (rw (alone, here) refl) refl
+
+pub finals-grown : (s : Setting) (core : Core) (history : List Entry) (mine : List ℕ) → IsRecorded s core history mine
+    → core.env.frames ≡ [] → core.env.phase ≡ phase.Drain
+    → IsRecorded s (record core { env = in_phase phase.Finals core.env; position = length history + 1 }) (history ++ host_entry host.Finals out.Nothing ∷ []) mine
+finals-grown s core history mine r alone here = shared-grown s core history mine r host.Finals out.Nothing phase.Finals alone (rw (alone, here) refl) refl
+
+pub gone-grown : (s : Setting) (core : Core) (history : List Entry) (mine : List ℕ) → IsRecorded s core history mine
+    → core.env.frames ≡ [] → core.env.phase ≡ phase.Finals
+    → IsRecorded s (wrote (gone core.env) core) history mine
+gone-grown s core history mine r alone here =
+    local-grown s core history mine r (ask.Leave None) (gone core.env) r.own mine (rw (alone, here) refl) (rw alone refl) refl r.agrees (rw here refl) refl
+
+-- THE INIT FRAME
+agrees-same : (p : Plan) (x : List ℕ) → AgreesWhereTold p x x
+agrees-same None x = tt
+agrees-same (Some p) x = refl
+
+-- the setting of a script with one addon
+abbrev pub setting_of : Plan → ℕ → Limits → Setting
+setting_of p texts limits = record { plans = p ∷ []; texts = texts; limits = limits }
+
+-- a core that opened is a recorded run
+pub opened-recorded : (p : Plan) (texts : ℕ) (limits : Limits) → IsRecorded (setting_of p texts limits) (opened_core 1 texts limits.journal) [] blank_registers
+opened-recorded p texts limits = record {
+  asks = ask.Leave None ∷ [];
+  own = blank_registers;
+  run = record { steps = ((refl, refl), tt); asked = refl };
+  final = refl;
+  registers = refl;
+  agrees = agrees-same p blank_registers;
+  limit = refl;
+  position = refl;
+  within = (omega arith, tt);
+  parted = record { local_ones = refl; shared_ones = refl };
+}
+
+-- the first addon's init frame begins
+pub init-grown : (s : Setting) (core : Core) (history : List Entry) (mine : List ℕ) → IsRecorded s core history mine
+    → core.env.frames ≡ [] → core.env.phase ≡ phase.Init → core.env.opened ≡ true → core.env.inits ≡ 0 → core.env.addons ≡ 1
+    → IsRecorded s (wrote (init_begun 0 core.env) core) history mine
+init-grown s core history mine r alone here opened none one =
+    local-grown s core history mine r (ask.Leave None) (init_begun 0 core.env) r.own mine (rw (alone, here, opened, none, one) refl) (rw alone refl) refl r.agrees refl refl
+
+
+-- THE END
+-- a recorded run whose environment is gone came to its end
+gone-ended : (s : Setting) (core : Core) (history : List Entry) (mine : List ℕ) → IsRecorded s core history mine → core.env.phase ≡ phase.Gone
+    → IsEnded s core.journal history mine
+gone-ended s core history mine r here = record {
+  asks = r.asks;
+  ended = record { run = r.run; gone = ap (λ (m : Machine). m.env.phase) r.final ∙ here };
+  locals = ap (λ (m : Machine). m.locals) r.final;
+  shareds = ap (λ (m : Machine). m.shareds) r.final;
+  parted = r.parted;
+  agrees = subst (λ (own : List ℕ). AgreesWhereTold (plan_of s.plans 0) mine own) (sym (ap (λ rss. registers_of rss 0) r.registers)) r.agrees;
+}
+
+-- the hub's four events and `gone`, from the end of the init frames on
+pub ended-of : (s : Setting) (mine : List ℕ) (c₀ c₁ c₂ c₃ c₄ c₅ : Core) (h₀ h₁ h₂ h₃ h₄ : List Entry)
+    → c₀.env.frames ≡ [] → c₀.env.phase ≡ phase.Init → c₀.env.opened ≡ true → nat_lt c₀.env.inits c₀.env.addons ≡ false
+    → h₁ ≡ h₀ ++ host_entry host.Go out.Nothing ∷ [] → c₁ ≡ record c₀ { env = in_phase phase.Live c₀.env; position = length h₀ + 1 }
+    → h₂ ≡ h₁ ++ host_entry host.LoopEnd (out.Ended loop_end.Idle) ∷ [] → c₂ ≡ record c₁ { env = in_phase phase.Hooks c₁.env; position = length h₁ + 1 }
+    → h₃ ≡ h₂ ++ host_entry host.Drain (out.Unsigned 0) ∷ [] → c₃ ≡ record c₂ { env = in_phase phase.Drain c₂.env; position = length h₂ + 1 }
+    → h₄ ≡ h₃ ++ host_entry host.Finals out.Nothing ∷ [] → c₄ ≡ record c₃ { env = in_phase phase.Finals c₃.env; position = length h₃ + 1 }
+    → c₅ ≡ wrote (gone c₄.env) c₄
+    → IsRecorded s c₀ h₀ mine → IsEnded s c₅.journal h₄ mine
+ended-of s mine c₀ c₁ c₂ c₃ c₄ c₅ h₀ h₁ h₂ h₃ h₄ alone here opened all p₁ q₁ p₂ q₂ p₃ q₃ p₄ q₄ q₅ r₀ =
+    let R : Core → List Entry → Type 0 = λ c h. IsRecorded s c h mine in
+    let r₁ : R c₁ h₁ = moved R c₁ h₁ p₁ q₁ (go-grown s c₀ h₀ mine r₀ alone here opened all) in
+    let a₁ : c₁.env.frames ≡ [] = ap (λ (c : Core). c.env.frames) q₁ ∙ alone in
+    let r₂ : R c₂ h₂ = moved R c₂ h₂ p₂ q₂ (loop_end-grown s c₁ h₁ mine r₁ a₁ (ap (λ (c : Core). c.env.phase) q₁)) in
+    let a₂ : c₂.env.frames ≡ [] = ap (λ (c : Core). c.env.frames) q₂ ∙ a₁ in
+    let r₃ : R c₃ h₃ = moved R c₃ h₃ p₃ q₃ (drain-grown s c₂ h₂ mine r₂ a₂ (ap (λ (c : Core). c.env.phase) q₂)) in
+    let a₃ : c₃.env.frames ≡ [] = ap (λ (c : Core). c.env.frames) q₃ ∙ a₂ in
+    let r₄ : R c₄ h₄ = moved R c₄ h₄ p₄ q₄ (finals-grown s c₃ h₃ mine r₃ a₃ (ap (λ (c : Core). c.env.phase) q₃)) in
+    let a₄ : c₄.env.frames ≡ [] = ap (λ (c : Core). c.env.frames) q₄ ∙ a₃ in
+    let r₅ : R c₅ h₄ = moved R c₅ h₄ refl q₅ (gone-grown s c₄ h₄ mine r₄ a₄ (ap (λ (c : Core). c.env.phase) q₄)) in
+    gone-ended s c₅ h₄ mine r₅ (ap (λ (c : Core). c.env.phase) q₅)
+  where
+    moved : (R : Core → List Entry → Type 0) (c : Core) (h : List Entry) {d : Core} {k : List Entry} → h ≡ k → c ≡ d → R d k → R c h
+    moved R c h {d} {k} e f r = let P : List Entry → Type 0 = λ x. R c x in let Q : Core → Type 0 = λ x. R x k in subst P (sym e) (subst Q (sym f) r)

@@ -1,0 +1,21 @@
+use Rattle.std.proofs.Common.{◌≡◌, ℕ, List, Option, length, map}
+use Rattle.napi_types.specs.declared.call.Op.{Op}
+use Rattle.script_host.specs.Addons.{plan_at, registers_at, OthersStay}
+use Rattle.script_host.specs.Recording.{StandsAt, IsSamePlace, Continues}
+use Rattle.script_host.proofs.recording.run_frame.Given as goal
+
+-- the frame stands and made as many asks as there were turns, and the run is recorded so far
+abbrev pub invariant-loop-step : goal.invariant-loop-step
+invariant-loop-step g l =
+    let first_plans : List (Option (List (List Op))) = map (λ b. (goal.Addon-dyn g (b.vtable, b.value)).plan b.value) l.fn.addons.items in
+    let first_regs : List (List ℕ) = map (λ b. (goal.Addon-dyn g (b.vtable, b.value)).regs b.value) l.fn.addons.items in
+    let plans : List (Option (List (List Op))) = map (λ b. (goal.Addon-dyn g (b.vtable, b.value)).plan b.value) l.addons.items in
+    let regs : List (List ℕ) = map (λ b. (goal.Addon-dyn g (b.vtable, b.value)).regs b.value) l.addons.items in
+    record {
+      count : length l.addons.items ≡ length l.fn.addons.items;
+      plans : plans ≡ first_plans;
+      others : OthersStay first_regs regs 0;
+      recorded : Continues (plan_at first_plans 0) l.fn.core (registers_at first_regs 0) l.core (registers_at regs 0);
+      stands : StandsAt l.core l.step;
+      same : IsSamePlace l.fn.core l.core;
+    }

@@ -1,0 +1,6 @@
+pub mod Addons
+pub mod Host
+pub mod Reading
+pub mod Recording
+pub mod Standard
+pub mod Words

@@ -1,0 +1,13 @@
+//! The top calls: what the program does with its words, its input and its addons.
+//! `host` reads a script, runs it with the addons that it is handed, and writes the trace. Contracts see bytes, the
+//! machine's runs and the two lists that a run leaves. The program stands above it.
+#![tactic(auto)]
+
+mod addons;
+mod history;
+mod host;
+mod reading;
+mod recording;
+mod standard;
+mod words;
+pub use standard::{StdSink, StdSource};
