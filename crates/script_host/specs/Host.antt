@@ -15,6 +15,10 @@ use Rattle.napi_types.specs.Whole.{Setting, EndsBy, final_registers}
 use Rattle.script_host.specs.Reading.{longest_source, GaveTooMany}
 use Rattle.script_host.specs.Recording.{AgreesWhereTold}
 use Rattle.script_host.specs.Words.{is_run_words}
+use Rattle.std.specs.declared.result.Result.{Result}
+use Rattle.std.specs.declared.result.Result.TheVariants.{Ok}
+use Rattle.script_host.specs.declared.host.Written.{Written}
+use Rattle.script_host.specs.declared.host.Written.TheVariants as written
 use Rattle.script_host.specs.declared.words.Line.{Line}
 use Rattle.script_host.specs.declared.words.Line.TheVariants as line
 
@@ -104,3 +108,13 @@ Causes line.TooLong words before after faults risen handed = (is_run_words words
 -- the sink took the whole line, or its faults rose and it took a front of it
 abbrev pub WroteLine : Option (List ℕ) → ℕ → List ℕ → Option (List ℕ) → ℕ → Type 0
 WroteLine had faults line has risen = (has ≡ append_known had line) ⊎ (HasRisen faults risen × TookFront had line has)
+
+-- the sink took the whole trace; or, where the trace was cut off, its faults rose and it took a front of the trace
+abbrev pub WroteTrace : Bool → Option (List ℕ) → ℕ → List ℕ → Option (List ℕ) → ℕ → Type 0
+WroteTrace true had faults trace has risen = has ≡ append_known had trace
+WroteTrace false had faults trace has risen = HasRisen faults risen × TookFront had trace has
+
+-- whether a trace was written whole
+abbrev pub is_whole : {E : Type 0} → Result Written E → Bool
+is_whole (Ok written.Whole) = true
+is_whole _ = false

@@ -2,7 +2,7 @@
 ghost use Rattle.std.specs.Prelude.{◌≡◌, ◌≢◌, ◌≤◌, ◌<◌, ℕ, ◌↔◌, List, [], ◌∷◌, length, map, true, false, Some, None, IfOk, OnOk, OnErr, IfErr, Contains, IsOk, ◌⊎◌};
 ghost use Rattle.std.specs.Io.KnownBytes.{append_known};
 ghost use Rattle.napi_types.specs.Edge.{HasRisen, TookFront};
-ghost use Rattle.script_host.specs.Host.{Ran, HasOneAddon, GaveScript, GaveTooMuch, Causes, WroteLine, trace_of};
+ghost use Rattle.script_host.specs.Host.{Ran, HasOneAddon, GaveScript, GaveTooMuch, Causes, WroteLine, WroteTrace, is_whole, trace_of};
 ghost use Rattle.script_host.specs.Words.{is_run_words, line_text, line_status};
 
 use std::alloc::Global;
@@ -114,4 +114,30 @@ fn perform<K: Sink>(
         Ok(()) => Ok(Written::Whole),
         Err(Failed) => Ok(Written::Cut),
     }
+}
+
+/// Reads, runs and writes; or answers the line that stands in place of a trace.
+fn attempt<S: Source, K: Sink>(
+    alloc: Global,
+    words: &[Text],
+    source: &mut S,
+    sink: &mut K,
+    addons: &mut Vec<Box<dyn Addon>>,
+    left: &mut Record,
+) -> Result<Written, Line>
+    ensures words { OnOk result (is_run_words words.now ≡ true) }
+    ensures ran { let plans = map (λ b. plan b) addons.old.items in
+        let registers = map (λ b. regs b) addons.old.items in
+        OnOk result ((script : Script) × GaveScript (S.left source.old) (S.left source.new) script
+            × Ran script plans registers left.new (map (λ b. plan b) addons.new.items) (map (λ b. regs b) addons.new.items)
+            × WroteTrace (is_whole result) (K.taken sink.old) (K.faults sink.old) (trace_of script left.new) (K.taken sink.new) (K.faults sink.new)) }
+    ensures err { IfErr result (λ line.
+        Causes line words.now (S.left source.old) (S.left source.new) (S.faults source.old) (S.faults source.new) (length addons.old.items)) }
+    ensures sink { OnErr result (K.taken sink.new ≡ K.taken sink.old) }
+    ensures left { OnErr result (left.new ≡ left.old) }
+    ensures reading { S.faults source.old ≤ S.faults source.new }
+    ensures writing { K.faults sink.old ≤ K.faults sink.new }
+{
+    let script = script_of(alloc, words, source)?;
+    perform(alloc, script, sink, addons, left)
 }
