@@ -5,9 +5,10 @@
 
 mod addons;
 mod history;
-mod host;
+mod top_call;
 mod reading;
 mod recording;
 mod standard;
 mod words;
+pub use top_call::host;
 pub use standard::{StdSink, StdSource};
