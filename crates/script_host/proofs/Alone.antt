@@ -11,7 +11,7 @@ use Rattle.napi_types.specs.Registers.{blank_registers}
 use Rattle.napi_types.specs.Plan.{Plan, plan_of}
 use Rattle.napi_types.specs.Whole.{Setting}
 use Rattle.env_core.specs.Core.{Core, wrote, opened_core}
-use Rattle.script_host.specs.Addons.{plan_at, registers_at, loaded_at, OthersStay}
+use Rattle.addon_trait.specs.Addons.{plan_at, registers_at, loaded_at, OthersStay}
 use Rattle.script_host.specs.Recording.{IsRecorded, IsEnded, StandsAt, Continues, loaded_plan, alone_setting}
 use Rattle.script_host.proofs.Recordings.{opened-recorded, init-grown}
 

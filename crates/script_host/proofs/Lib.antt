@@ -1,4 +1,3 @@
 pub mod Alone
-pub mod Members
 pub mod Recordings
 pub mod Turns

@@ -101,7 +101,7 @@ pub shared-grown : (s : Setting) (core : Core) (history : List Entry) (mine : Li
     (event : HostStep) (o : Out) (p : Phase)
     → core.env.frames ≡ []
     → step (machine_of s.limits core history) (ask.Leave None) (host_entry event o)
-        ≡ record { entry = host_entry event o; after = hub_left (machine_of s.limits core history) p; may = true }
+    ≡ record { entry = host_entry event o; after = hub_left (machine_of s.limits core history) p; may = true }
     → is_hub_event event ≡ true
     → IsRecorded s (record core { env = in_phase p core.env; position = length history + 1 }) (history ++ host_entry event o ∷ []) mine
 shared-grown s core history mine r event o p alone next shared_one =
@@ -189,7 +189,6 @@ pub init-grown : (s : Setting) (core : Core) (history : List Entry) (mine : List
     → IsRecorded s (wrote (init_begun 0 core.env) core) history mine
 init-grown s core history mine r alone here opened none one =
     local-grown s core history mine r (ask.Leave None) (init_begun 0 core.env) r.own mine (rw (alone, here, opened, none, one) refl) (rw alone refl) refl r.agrees refl refl
-
 
 -- THE END
 -- a recorded run whose environment is gone came to its end

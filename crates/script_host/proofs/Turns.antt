@@ -29,7 +29,7 @@ use Rattle.napi_types.specs.Plan.{Plan, plan_of, frame_ask, frames_ask, kept_by,
 use Rattle.napi_types.specs.Whole.{Setting}
 use Rattle.env_core.specs.Core.{Core, wrote, room_in}
 use Rattle.env_core.specs.Steps.{Replies, StopsBy}
-use Rattle.script_host.specs.Addons.{registers_at, OthersStay}
+use Rattle.addon_trait.specs.Addons.{registers_at, OthersStay}
 use Rattle.script_host.specs.Recording.{Continues, machine_of, stage_of, AgreesWhereTold, IsRecorded, StandsAt, IsSamePlace, why_stopped}
 use Rattle.napi_types.proofs.Answers.{called-keeps}
 use Rattle.script_host.proofs.Recordings.{local-grown}
@@ -186,18 +186,24 @@ frame-accepted : (e : Environment) (c : Call) (n : ℕ) (f : Frame) → e.frames
 frame-accepted e CreateObject n f alone = record {
   frame = hold_in (record { handle = e.handles + 1; value = e.made + 1 }) f;
   alone = ap (hold (record { handle = e.handles + 1; value = e.made + 1 })) alone;
-  addon = refl; entry = refl; asks = refl;
+  addon = refl;
+  entry = refl;
+  asks = refl;
 }
 frame-accepted e (Typeof h) n f alone = record { frame = f; alone = alone; addon = refl; entry = refl; asks = refl }
 frame-accepted e OpenHandleScope n f alone = record {
   frame = record f { scopes = record { number = n; held = [] } ∷ f.scopes };
   alone = ap (open_in n) alone;
-  addon = refl; entry = refl; asks = refl;
+  addon = refl;
+  entry = refl;
+  asks = refl;
 }
 frame-accepted e (CloseHandleScope x) n f alone = record {
   frame = record f { scopes = tail f.scopes };
   alone = ap close_in alone;
-  addon = refl; entry = refl; asks = refl;
+  addon = refl;
+  entry = refl;
+  asks = refl;
 }
 
 frame-by : (e : Environment) (c : Call) (n : ℕ) (f : Frame) (x : Option Status) → e.frames ≡ f ∷ [] → OneFrame f (answer_by e c n x).after.frames

@@ -3,10 +3,10 @@
 //! machine's runs and the two lists that a run leaves. The program stands above it.
 #![tactic(auto)]
 
-mod addons;
 mod history;
 mod reading;
 mod recording;
 mod standard;
 mod words;
+
 pub use standard::{StdSink, StdSource};

@@ -4,20 +4,17 @@ ghost use Rattle.napi_types.specs.Changes.{most_asks, host_entry, in_phase};
 ghost use Rattle.napi_types.specs.Whole.{Setting};
 ghost use Rattle.env_core.specs.Core.{next_phase};
 ghost use Rattle.napi_types.specs.Plan.{plan_of};
-ghost use Rattle.script_host.specs.Addons.{plan_at, registers_at, loaded_at, OthersStay};
+ghost use Rattle.addon_trait.specs.Addons.{plan_at, registers_at, loaded_at, OthersStay};
 ghost use Rattle.script_host.specs.Recording.{IsRecorded, IsEnded, StandsAt, IsSamePlace, why_stopped, Continues, loaded_plan, alone_setting};
 
-use std::alloc::Global;
-
-use addon_trait::Addon;
+use crate::history::History;
+use addon_trait::{Addon, ask_at, load_at, note_at};
 use env_core::{EnvCore, Stepped};
 use napi_types::{
     Actor, AddonPlan, Ask, Entry, HostStep, Limits, LoopEnd, NoMemory, Out, Phase, Record, Reply,
     Status, What, Why,
 };
-
-use crate::addons::{ask_at, load_at, note_at};
-use crate::history::History;
+use std::alloc::Global;
 
 /// The version of Node-API.
 const VERSION: u32 = 9;
@@ -141,10 +138,34 @@ fn finish(mut core: EnvCore, mut history: History) -> Record
     requires empty { history ≡ [] }
     ensures { (s : Setting) (mine : List ℕ) → IsRecorded s core history mine → IsEnded s result.journal result.history mine }
 {
-    move_on(&mut core, &mut history, HostStep::Go, Out::Nothing, Phase::Live);
-    move_on(&mut core, &mut history, HostStep::LoopEnd, Out::Ended(LoopEnd::Idle), Phase::Hooks);
-    move_on(&mut core, &mut history, HostStep::Drain, Out::Unsigned(0), Phase::Drain);
-    move_on(&mut core, &mut history, HostStep::Finals, Out::Nothing, Phase::Finals);
+    move_on(
+        &mut core,
+        &mut history,
+        HostStep::Go,
+        Out::Nothing,
+        Phase::Live,
+    );
+    move_on(
+        &mut core,
+        &mut history,
+        HostStep::LoopEnd,
+        Out::Ended(LoopEnd::Idle),
+        Phase::Hooks,
+    );
+    move_on(
+        &mut core,
+        &mut history,
+        HostStep::Drain,
+        Out::Unsigned(0),
+        Phase::Drain,
+    );
+    move_on(
+        &mut core,
+        &mut history,
+        HostStep::Finals,
+        Out::Nothing,
+        Phase::Finals,
+    );
     core.advance(Phase::Gone, history.len());
     Record {
         journal: core.into_journal(),

@@ -1,5 +1,5 @@
 use Rattle.std.proofs.Common.{ap, refl, ◌∙◌, arith}
-use Rattle.script_host.specs.Addons.{plan_at}
+use Rattle.addon_trait.specs.Addons.{plan_at}
 use Rattle.script_host.proofs.Turns.{others-then, same-then, continues-then, spent-turn}
 use Rattle.script_host.proofs.recording.run_frame.Goals as goal
 

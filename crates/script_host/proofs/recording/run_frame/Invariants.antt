@@ -1,6 +1,6 @@
 use Rattle.std.proofs.Common.{◌≡◌, ℕ, List, Option, length, map}
 use Rattle.napi_types.specs.declared.call.Op.{Op}
-use Rattle.script_host.specs.Addons.{plan_at, registers_at, OthersStay}
+use Rattle.addon_trait.specs.Addons.{plan_at, registers_at, OthersStay}
 use Rattle.script_host.specs.Recording.{StandsAt, IsSamePlace, Continues}
 use Rattle.script_host.proofs.recording.run_frame.Given as goal
 

@@ -1,5 +1,5 @@
 use Rattle.std.proofs.Common.{ap}
-use Rattle.script_host.specs.Addons.{plan_at, registers_at}
+use Rattle.addon_trait.specs.Addons.{plan_at, registers_at}
 use Rattle.script_host.proofs.Turns.{called-turn, left-turn, stopped-turn, stands-after, same-after}
 use Rattle.script_host.proofs.recording.take_turn.Goals as goal
 

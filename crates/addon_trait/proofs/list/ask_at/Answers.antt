@@ -1,7 +1,7 @@
 use Rattle.std.proofs.Common.{◌≡◌, None, [], IfSome}
 use Rattle.napi_types.specs.Registers.{plan_ask}
-use Rattle.script_host.proofs.Members.{map-set_alike, fact_here}
-use Rattle.script_host.proofs.addons.ask_at.Goals as goal
+use Rattle.addon_trait.proofs.Members.{map-set_alike, fact_here}
+use Rattle.addon_trait.proofs.list.ask_at.Goals as goal
 
 pub returns-clause-plans : goal.returns-clause-plans
 returns-clause-plans g c = map-set_alike _ _ _ _ _ c.index_mut.ensures.value c.ask.ensures.plan

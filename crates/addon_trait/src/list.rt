@@ -1,9 +1,10 @@
 //! Calls of one addon of a list. Contracts see the list as the list of its addons' plans and the list of their registers.
+//! An addon is named by its place in the list, from 0.
 ghost use Rattle.std.specs.Prelude.{◌≡◌, ◌<◌, IfSome, length, map, set, option_map};
 ghost use Rattle.napi_types.specs.Registers.{plan_ask, kept, blank_registers, gifted};
-ghost use Rattle.script_host.specs.Addons.{plan_at, registers_at, loaded_at, OthersStay};
+ghost use Rattle.addon_trait.specs.Addons.{plan_at, registers_at, loaded_at, OthersStay};
 
-use addon_trait::Addon;
+use crate::Addon;
 use napi_types::{AddonPlan, Ask, Reply};
 
 /// Gives an addon its plan, and clears its registers.

@@ -1,6 +1,6 @@
 use Rattle.std.proofs.Common.{None, option_map}
-use Rattle.script_host.proofs.Members.{map-set_as, map-set_by}
-use Rattle.script_host.proofs.addons.load_at.Goals as goal
+use Rattle.addon_trait.proofs.Members.{map-set_as, map-set_by}
+use Rattle.addon_trait.proofs.list.load_at.Goals as goal
 
 pub returns-clause-plans : goal.returns-clause-plans
 returns-clause-plans g c =
