@@ -1,9 +1,10 @@
 //! The environment with its journal.
 ghost use Rattle.std.specs.Prelude.{◌≡◌, ◌≢◌, ℕ, ◌+◌, ◌-◌, ◌*◌, ◌<◌, ◌≤◌, [], length, Some, IfOk, IsTrue, ◌↔◌};
-ghost use Rattle.napi_types.specs.Room.{is_full};
+ghost use Rattle.napi_types.specs.Room.{is_full, most_entries};
 ghost use Rattle.napi_types.specs.Changes.{asks_of, most_asks, called, frame_ended, init_begun};
-ghost use Rattle.env_core.specs.Core.{opened_core, wrote, advanced, next_phase, room_in};
+ghost use Rattle.env_core.specs.Core.{opened_core, wrote, advanced, room_in};
 ghost use Rattle.env_core.specs.Steps.{IfReply, IfStop, Replies, StopsBy, IsLocal};
+ghost use Rattle.napi_types.specs.Phases.{next_phase};
 
 use crate::journal::Journal;
 use crate::state::State;
@@ -61,7 +62,7 @@ impl EnvCore {
     ) -> Result<EnvCore, NoMemory>
         requires version { version ≡ 9 }
         requires room { 2 + 2 * addons ≤ limits.journal }
-        requires most { limits.journal ≤ 4194304 }
+        requires most { limits.journal ≤ most_entries }
         ensures { IfOk result (λ core. core ≡ opened_core addons texts limits.journal) }
     {
         let mut journal = Journal::new(alloc, limits.journal, 2 + 2 * addons)?;

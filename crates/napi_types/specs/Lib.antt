@@ -13,6 +13,7 @@ pub mod Loop
 pub mod Machine
 pub mod Names
 pub mod Numbers
+pub mod Phases
 pub mod Plan
 pub mod Refusals
 pub mod Registers

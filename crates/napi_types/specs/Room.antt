@@ -47,6 +47,10 @@ room_of m c = journal_room m.env m.locals m.limits.journal
 abbrev pub need : Call → ℕ
 need _ = 1
 
+-- how many entries a list may have at most
+abbrev pub most_entries : ℕ
+most_entries = 4194304
+
 -- how many places have their memory from the start, in a list whose limit is not smaller
 abbrev pub first_places : ℕ
 first_places = 65536

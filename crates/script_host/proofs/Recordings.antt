@@ -23,7 +23,8 @@ use Rattle.napi_types.specs.Whole.{Setting, opening_of, RunsBy, EndsBy, final_of
 use Rattle.napi_types.proofs.Runs.{run-more, final-more, asked-more, registers-more}
 use Rattle.napi_types.proofs.Weaves.{weave-local, weave-shared, within-append, within-more, parted-local, parted-shared}
 use Rattle.env_core.specs.Core.{Core, wrote, opened_core}
-use Rattle.script_host.specs.Recording.{machine_of, stage_of, AgreesWhereTold, IsRecorded, IsEnded}
+use Rattle.script_host.specs.Recording.{machine_of, AgreesWhereTold, IsRecorded, IsEnded}
+use Rattle.napi_types.specs.Phases.{stage_of}
 
 -- what one more entry makes of a run by its asks
 pub record Grown (s : Setting) (asks : List Ask) (xs : List Entry) (after : Machine) (registers : Registers) : Type 0 where

@@ -29,10 +29,11 @@ use Rattle.napi_types.specs.Plan.{Plan, plan_of, frame_ask, frames_ask, kept_by,
 use Rattle.napi_types.specs.Whole.{Setting}
 use Rattle.env_core.specs.Core.{Core, wrote, room_in}
 use Rattle.env_core.specs.Steps.{Replies, StopsBy}
-use Rattle.addon_trait.specs.Addons.{registers_at, OthersStay}
-use Rattle.script_host.specs.Recording.{Continues, machine_of, stage_of, AgreesWhereTold, IsRecorded, StandsAt, IsSamePlace, why_stopped}
+use Rattle.addon_trait.specs.Addons.{OthersStay}
+use Rattle.script_host.specs.Recording.{Continues, machine_of, AgreesWhereTold, IsRecorded, StandsAt, IsSamePlace, why_stopped}
 use Rattle.napi_types.proofs.Answers.{called-keeps}
 use Rattle.script_host.proofs.Recordings.{local-grown}
+use Rattle.napi_types.specs.Phases.{stage_of}
 
 -- what a call answers is no cut
 reply-uncut : (e : Environment) (c : Call) (n : ℕ) (x : Option Status) → cut_of (answer_by e c n x).reply.out ≡ None
@@ -284,7 +285,7 @@ spent-turn s history core new mine n st all made rec =
 
 -- TURNS IN A ROW
 pub others-then : (a b c : List (List ℕ)) (i : ℕ) → OthersStay a b i → OthersStay b c i → OthersStay a c i
-others-then a b c i ab bc = bc ∙ ap (λ l. set l i (registers_at c i)) ab ∙ set-set a i (registers_at b i) (registers_at c i)
+others-then a b c i ab bc = bc ∙ ap (λ l. set l i (registers_of c i)) ab ∙ set-set a i (registers_of b i) (registers_of c i)
 
 pub same-then : (a b c : Core) → IsSamePlace a b → IsSamePlace b c → IsSamePlace a c
 same-then a b c ab bc = record { addons = bc.addons ∙ ab.addons; opened = bc.opened ∙ ab.opened; inits = bc.inits ∙ ab.inits; phase = bc.phase ∙ ab.phase }
