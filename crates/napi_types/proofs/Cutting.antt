@@ -1,8 +1,9 @@
 -- Where a frame stands: what may come next.
-use Rattle.std.proofs.Common.{◌≡◌, ◌<◌, ℕ, ◌==◌, ◌&&◌, false, List, ◌∷◌, IsTrue, refl, ap, sym, ◌∙◌, subst, Option, Some, None, arith}
+use Rattle.std.proofs.Common.{◌≡◌, ◌<◌, ℕ, ◌==◌, ◌&&◌, false, List, ◌∷◌, IsTrue, refl, ap, sym, ◌∙◌, subst, Option, Some, None, arith, ◌≤◌, ◌+◌, Bool, true, not, nat_lt}
 use Rattle.napi_types.specs.declared.call.Ask.{Ask}
 use Rattle.napi_types.specs.declared.call.Ask.TheVariants as ask
 use Rattle.napi_types.specs.declared.call.Call.{Call}
+use Rattle.napi_types.specs.declared.call.Call.TheVariants as call
 use Rattle.napi_types.specs.declared.entry.Actor.{Actor}
 use Rattle.napi_types.specs.declared.entry.Actor.TheVariants as actor
 use Rattle.napi_types.specs.declared.entry.Entry.{Entry}
@@ -13,7 +14,7 @@ use Rattle.napi_types.specs.Changes.{asks_of, is_fresh, may_ask}
 use Rattle.napi_types.specs.Cuts.{cut_by, first_called}
 use Rattle.napi_types.specs.Environment.{Environment}
 use Rattle.napi_types.specs.Machine.{Machine}
-use Rattle.napi_types.specs.Room.{room_of, may_want_memory}
+use Rattle.napi_types.specs.Room.{room_of, may_want_memory, need, is_full}
 use Rattle.napi_types.specs.Run.{IsNext}
 use Rattle.napi_types.specs.Scopes.{Frame}
 use Rattle.napi_types.specs.Step.{Step, env_step, step_of, frame_step, cut_of}
@@ -51,13 +52,31 @@ spent-only m (ask.Leave v) s o (Some why.Full) h = cc
 spent-only m (ask.Leave v) s o (Some why.Memory) h = cc
 spent-only m (ask.Leave v) s o None h = absurd (spent-asks m.env s h)
 
+-- each call needs a place for its entry
+pub needs-place : (c : Call) → 1 ≤ need c
+needs-place call.CreateObject = omega arith
+needs-place (call.Typeof h) = omega arith
+needs-place call.OpenHandleScope = omega arith
+needs-place (call.CloseHandleScope s) = omega arith
+
+-- where the journal's places are taken, every call is full
+pub full-there : (c : Call) → is_full (room_of first_called c) c ≡ true
+full-there c = past (need c) (needs-place c)
+  where
+    past : (n : ℕ) → 1 ≤ n → nat_lt 5 (5 + n) ≡ true
+    past n h = grind arith
+
 -- where a call is full its frame is cut so
 pub full-only : (c : Call) (o : Out) (w : Option Why)
     → IsTrue (frame_step first_called (ask.Do c) o w).may → (frame_step first_called (ask.Do c) o w).entry ≡ cut_by why.Full
 full-only c o (Some why.Full) h = refl
 full-only c o (Some why.Asks) h = cc
-full-only c o (Some why.Memory) h = let k : IsTrue false = and-right (may_want_memory (room_of first_called c) c) false h in cc
-full-only c o None h = let k : IsTrue false = and-right (is_fresh first_called.env o) false h in cc
+full-only c o (Some why.Memory) h =
+    let P : Bool → Type 0 = λ b. IsTrue (may_want_memory (room_of first_called c) c && not b) in
+    let k : IsTrue false = and-right (may_want_memory (room_of first_called c) c) false (subst P (full-there c) h) in cc
+full-only c o None h =
+    let P : Bool → Type 0 = λ b. IsTrue (is_fresh first_called.env o && not b) in
+    let k : IsTrue false = and-right (is_fresh first_called.env o) false (subst P (full-there c) h) in cc
 
 -- the cut after the last ask may come there, and not before
 asks-step : (m : Machine) (a : Ask) (f : Frame) (fs : List Frame) → m.env.frames ≡ f ∷ fs

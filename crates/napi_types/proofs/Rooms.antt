@@ -19,7 +19,7 @@ use Rattle.napi_types.specs.Hub.{Hub, Stage, Before, Going, Looped, Drained, Fin
 use Rattle.napi_types.specs.Laws.{RoomSuffices}
 use Rattle.napi_types.specs.Loop.{Event, Opens, Inits, Goes, EndsLoop, Drains, FinalsCome, IsGone}
 use Rattle.napi_types.specs.Machine.{Machine}
-use Rattle.napi_types.specs.Room.{one_if, gone_place, stage_places, reserved_journal, reserved_history, room_of, is_full}
+use Rattle.napi_types.specs.Room.{one_if, gone_place, stage_places, reserved_journal, reserved_history, room_of, is_full, need}
 use Rattle.napi_types.specs.Run.{IsRunBy, after, final}
 use Rattle.napi_types.specs.Scopes.{Frame}
 use Rattle.napi_types.specs.Step.{locally, hub_moved, by_hub, event_step, chosen, call_step, asked_step, cut_of, frame_step, env_step, step_of}
@@ -28,6 +28,7 @@ use Rattle.napi_types.specs.Whole.{Setting, final_of, opening_of}
 use Rattle.napi_types.proofs.Answers.{KeepsButAsk, called-keeps}
 use Rattle.napi_types.proofs.Runs.{and-right}
 use Rattle.napi_types.specs.Phases.{stage_of}
+use Rattle.napi_types.proofs.Cutting.{needs-place}
 
 abbrev pub is_init : Phase → Bool
 is_init phase.Init = true
@@ -46,8 +47,8 @@ record Roomy (l : Limits) (m : Machine) : Type 0 where
   pub bare : m.env.phase ≡ phase.Gone → length m.env.frames ≡ 0
 
 -- A CALL
-call-fits : (j r d x : ℕ) → nat_lt x (j + r + 1) ≡ false → d ≡ r → j + 1 + d ≤ x
-call-fits j r d x h e = grind arith
+call-fits : (j r d n x : ℕ) → nat_lt x (j + r + n) ≡ false → 1 ≤ n → d ≡ r → j + 1 + d ≤ x
+call-fits j r d n x h one e = grind arith
 
 not-full : (b : Bool) → IsTrue (not b) → b ≡ false
 not-full true h = cc
@@ -65,7 +66,7 @@ call-room l m c o r h =
     let P : Limits → Type 0 = λ q. m.locals + 1 + reserved_journal d ≤ q.journal in
     record {
       limits = r.limits;
-      journal = subst P r.limits (call-fits m.locals (reserved_journal m.env) (reserved_journal d) m.limits.journal free (same-places d m.env k));
+      journal = subst P r.limits (call-fits m.locals (reserved_journal m.env) (reserved_journal d) (need c) m.limits.journal free (needs-place c) (same-places d m.env k));
       history = r.history;
       stage = r.stage ∙ ap stage_of (sym k.phase);
       opened = λ p. k.opened ∙ r.opened (ap is_init (sym k.phase) ∙ p);

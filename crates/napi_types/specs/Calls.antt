@@ -1,5 +1,5 @@
 -- What a call of the environment answers and leaves.
-use Rattle.std.specs.Prelude.{ℕ, Option, Some, None}
+use Rattle.std.specs.Prelude.{ℕ, Option, Some, None, List, [], ◌∷◌}
 use Rattle.napi_types.specs.declared.call.Call.{Call}
 use Rattle.napi_types.specs.declared.status.Status.{Status}
 use Rattle.napi_types.specs.declared.entry.Out.TheVariants as out
@@ -8,6 +8,10 @@ use Rattle.napi_types.specs.Environment.{Environment, Answer, answered, refused}
 use Rattle.napi_types.specs.Refusals.{refusal}
 use Rattle.napi_types.specs.ValueCalls.{on_values}
 use Rattle.napi_types.specs.ScopeCalls.{on_scopes}
+
+-- what each group of calls says of a call
+abbrev pub by_groups : Environment → Call → ℕ → List (Option Answer)
+by_groups e c n = on_values e c ∷ on_scopes e c n ∷ []
 
 -- what an accepted call answers and leaves, where n is the number that it newly gives
 abbrev pub accepted : Environment → Call → ℕ → Answer

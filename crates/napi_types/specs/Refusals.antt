@@ -10,8 +10,10 @@ use Rattle.napi_types.specs.Environment.{Environment}
 
 -- the handles that a call names
 abbrev pub handles_of : Call → List ℕ
+handles_of CreateObject = []
 handles_of (Typeof h) = one h.0
-handles_of _ = []
+handles_of OpenHandleScope = []
+handles_of (CloseHandleScope s) = []
 
 -- each handle that the call names lies in an open scope
 abbrev pub is_known : Environment → Call → Bool
@@ -23,8 +25,10 @@ unknown_refusal e c = unless (is_known e c) status.InvalidArg
 
 -- the refusals of the call's own row
 abbrev pub row_refusal : Environment → Call → Option Status
+row_refusal e CreateObject = None
+row_refusal e (Typeof h) = None
+row_refusal e OpenHandleScope = None
 row_refusal e (CloseHandleScope s) = closing s.0 (scopes_of e.frames)
-row_refusal e _ = None
 
 -- the first of the points that applies
 abbrev pub refusal : Environment → Call → Option Status

@@ -7,6 +7,7 @@ use Rattle.napi_types.specs.Guards.{is_growing}
 use Rattle.napi_types.specs.Environment.{Environment}
 use Rattle.napi_types.specs.Hub.{Hub, Stage, Before, Going, Looped, Drained, Final}
 use Rattle.napi_types.specs.Machine.{Machine}
+use Rattle.napi_types.specs.declared.call.Call.TheVariants.{CreateObject, Typeof, OpenHandleScope, CloseHandleScope}
 
 -- a list's room: its limit, and the places that its entries and its reserved places take
 pub record Room : Type 0 where
@@ -45,7 +46,10 @@ room_of m c = journal_room m.env m.locals m.limits.journal
 
 -- the places that a call needs, counted as if it were accepted
 abbrev pub need : Call → ℕ
-need _ = 1
+need CreateObject = 1
+need (Typeof h) = 1
+need OpenHandleScope = 1
+need (CloseHandleScope s) = 1
 
 -- how many entries a list may have at most
 abbrev pub most_entries : ℕ
