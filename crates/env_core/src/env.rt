@@ -1,7 +1,7 @@
 //! The environment with its journal.
 ghost use Rattle.std.specs.Prelude.{◌≡◌, ◌≢◌, ℕ, ◌+◌, ◌-◌, ◌*◌, ◌<◌, ◌≤◌, [], length, Some, IfOk, IsTrue, ◌↔◌};
 ghost use Rattle.napi_types.specs.Room.{is_full, most_entries};
-ghost use Rattle.napi_types.specs.Changes.{asks_of, most_asks, called, frame_ended, init_begun};
+ghost use Rattle.napi_types.specs.Changes.{asks_made, most_asks, called, frame_ended, init_begun};
 ghost use Rattle.env_core.specs.Core.{opened_core, wrote, advanced, room_in};
 ghost use Rattle.env_core.specs.Steps.{IfReply, IfStop, Replies, StopsBy, IsLocal};
 ghost use Rattle.napi_types.specs.Phases.{next_phase};
@@ -74,7 +74,7 @@ impl EnvCore {
     /// Makes a call of the innermost frame. `step` is the number of the ask in its frame, from 0.
     pub fn step(&mut self, step: u32, call: &Call) -> Stepped
         requires standing { self.old.env.frames ≢ [] }
-        requires ask { step ≡ asks_of self.old.env.frames }
+        requires ask { step ≡ asks_made self.old.env.frames }
         requires within { step < most_asks }
 
         // A reply is the machine's answer; its entry stands in the journal, and the environment is the one after it.
@@ -119,7 +119,7 @@ impl EnvCore {
     /// A frame is cut as `Asks` only after its 65,536th ask.
     pub fn leave(&mut self, value: Option<HandleId>, cut: Option<Why>) -> Reply
         requires standing { self.old.env.frames ≢ [] }
-        requires asks { cut ≡ Some Why.Asks → asks_of self.old.env.frames ≡ most_asks }
+        requires asks { cut ≡ Some Why.Asks → asks_made self.old.env.frames ≡ most_asks }
         ensures reply { result ≡ (frame_ended cut self.old.env).entry.reply }
         ensures ended { self.new ≡ wrote (frame_ended cut self.old.env) self.old }
     {

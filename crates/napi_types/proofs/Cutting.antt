@@ -10,7 +10,7 @@ use Rattle.napi_types.specs.declared.entry.Entry.{Entry}
 use Rattle.napi_types.specs.declared.entry.Out.{Out}
 use Rattle.napi_types.specs.declared.entry.Why.{Why}
 use Rattle.napi_types.specs.declared.entry.Why.TheVariants as why
-use Rattle.napi_types.specs.Changes.{asks_of, is_fresh, may_ask}
+use Rattle.napi_types.specs.Changes.{asks_made, is_fresh, may_ask}
 use Rattle.napi_types.specs.Cuts.{cut_by, first_called}
 use Rattle.napi_types.specs.Environment.{Environment}
 use Rattle.napi_types.specs.Machine.{Machine}
@@ -37,10 +37,10 @@ only-in-frame m a f fs y e k x n =
     n.0 ∙ ap (λ t. t.entry) s ∙ k x.reply.out (cut_of x.reply.out) (subst P s n.1)
 
 -- a frame that made its last ask may not ask
-spent-asks : (e : Environment) → asks_of e.frames ≡ 65536 → IsTrue (may_ask e) → ⊥
+spent-asks : (e : Environment) → asks_made e.frames ≡ 65536 → IsTrue (may_ask e) → ⊥
 spent-asks e s h = let k : IsTrue false = rw s at h in cc
 
-pub spent-only : (m : Machine) (a : Ask) → asks_of m.env.frames ≡ 65536 → (o : Out) (w : Option Why)
+pub spent-only : (m : Machine) (a : Ask) → asks_made m.env.frames ≡ 65536 → (o : Out) (w : Option Why)
     → IsTrue (frame_step m a o w).may → (frame_step m a o w).entry ≡ cut_by why.Asks
 spent-only m a s o (Some why.Asks) h = refl
 spent-only m (ask.Do c) s o (Some why.Full) h = absurd (spent-asks m.env s (and-left (may_ask m.env) _ h))
@@ -83,7 +83,7 @@ asks-step : (m : Machine) (a : Ask) (f : Frame) (fs : List Frame) → m.env.fram
     → step_of m a (cut_by why.Asks) actor.Env ≡ frame_step m a (cut_by why.Asks).reply.out (Some why.Asks)
 asks-step m a f fs e = ap (λ l. env_step m a (cut_by why.Asks).reply.out l) e
 
-pub asks-next : (m : Machine) (f : Frame) (fs : List Frame) (a : Ask) → m.env.frames ≡ f ∷ fs → asks_of m.env.frames ≡ 65536 → IsNext m a (cut_by why.Asks)
+pub asks-next : (m : Machine) (f : Frame) (fs : List Frame) (a : Ask) → m.env.frames ≡ f ∷ fs → asks_made m.env.frames ≡ 65536 → IsNext m a (cut_by why.Asks)
 asks-next m f fs a e s =
     let P : Step → Type 0 = λ t. (cut_by why.Asks ≡ t.entry) × IsTrue t.may in
     subst P (sym (asks-step m a f fs e)) (refl, rw s refl)
@@ -94,5 +94,5 @@ not-last n h k = grind arith
 pub early-none : (m : Machine) (f : Frame) (fs : List Frame) (a : Ask) → m.env.frames ≡ f ∷ fs → f.asks < 65536 → IsNext m a (cut_by why.Asks) → ⊥
 early-none m f fs a e h n =
     let P : Step → Type 0 = λ t. IsTrue t.may in
-    let k : IsTrue (asks_of m.env.frames == 65536) = subst P (asks-step m a f fs e) n.1 in
+    let k : IsTrue (asks_made m.env.frames == 65536) = subst P (asks-step m a f fs e) n.1 in
     not-last f.asks h (rw e at k)

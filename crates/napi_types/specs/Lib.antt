@@ -5,7 +5,6 @@ pub mod Cuts
 pub mod Edge
 pub mod Environment
 pub mod FirstRun
-pub mod Guards
 pub mod Hub
 pub mod Laws
 pub mod Lists

@@ -76,7 +76,7 @@ asked_along ps rss m (a ∷ bs) (x ∷ xs) = asked ps rss m a ∷ asked_along ps
 asked_along ps rss m _ _ = []
 
 -- the asks themselves, where every plan is told
-abbrev pub asks_along : List Plan → Registers → Machine → List Entry → List Ask
-asks_along ps rss m [] = []
-asks_along ps rss m (x ∷ xs) =
-    asked ps rss m (ask.Leave None) ∷ asks_along ps (registers_after ps rss m x) (after m (asked ps rss m (ask.Leave None)) x) xs
+abbrev pub told_asks_along : List Plan → Registers → Machine → List Entry → List Ask
+told_asks_along ps rss m [] = []
+told_asks_along ps rss m (x ∷ xs) =
+    asked ps rss m (ask.Leave None) ∷ told_asks_along ps (registers_after ps rss m x) (after m (asked ps rss m (ask.Leave None)) x) xs

@@ -3,7 +3,6 @@ use Rattle.std.specs.Prelude.{ℕ, ◌+◌, ◌-◌, ◌*◌, Bool, true, false,
 use Rattle.napi_types.specs.declared.call.Call.{Call}
 use Rattle.napi_types.specs.declared.entry.Phase.{Phase}
 use Rattle.napi_types.specs.declared.entry.Phase.TheVariants as phase
-use Rattle.napi_types.specs.Guards.{is_growing}
 use Rattle.napi_types.specs.Environment.{Environment}
 use Rattle.napi_types.specs.Hub.{Hub, Stage, Before, Going, Looped, Drained, Final}
 use Rattle.napi_types.specs.Machine.{Machine}
@@ -62,6 +61,13 @@ first_places = 65536
 -- entries, reserved places and the call's need pass the limit
 abbrev pub is_full : Room → Call → Bool
 is_full r c = nat_lt r.limit (r.taken + need c)
+
+-- a call that takes memory beside that of its places in the list of its entry: one whose result is a newly issued number
+abbrev pub is_growing : Call → Bool
+is_growing CreateObject = true
+is_growing OpenHandleScope = true
+is_growing (Typeof h) = false
+is_growing (CloseHandleScope s) = false
 
 -- the call grows, or entries, reserved places and its need pass the first places
 abbrev pub may_want_memory : Room → Call → Bool

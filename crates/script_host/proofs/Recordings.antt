@@ -19,7 +19,7 @@ use Rattle.napi_types.specs.declared.entry.Limits.{Limits}
 use Rattle.napi_types.specs.Registers.{blank_registers}
 use Rattle.napi_types.specs.Plan.{Plan, plan_of, registers_of, asked, registers_after, Registers}
 use Rattle.napi_types.specs.Weave.{weave, StandsWithin, is_shared, is_hub_event, IsParted}
-use Rattle.napi_types.specs.Whole.{Setting, opening_of, RunsBy, EndsBy, final_of, final_registers, asks_of_plans}
+use Rattle.napi_types.specs.Whole.{Setting, opening_of, RunsBy, EndsBy, final_of, final_registers, planned_asks}
 use Rattle.napi_types.proofs.Runs.{run-more, final-more, asked-more, registers-more}
 use Rattle.napi_types.proofs.Weaves.{weave-local, weave-shared, within-append, within-more, parted-local, parted-shared}
 use Rattle.env_core.specs.Core.{Core, wrote, opened_core}
@@ -45,9 +45,9 @@ grow s bs xs m rss a x st r f g next entry may here =
         steps = run-more (opening_of s) bs xs a x r.steps is_next;
         asked =
             ap (λ l. l ++ a ∷ []) r.asked
-            ∙ ap (λ b. asks_of_plans s bs xs ++ b ∷ []) here
-            ∙ ap (λ qs. asks_of_plans s bs xs ++ asked s.plans qs m a ∷ []) (sym g)
-            ∙ ap (λ n. asks_of_plans s bs xs ++ asked s.plans (final_registers s bs xs) n a ∷ []) (sym f)
+            ∙ ap (λ b. planned_asks s bs xs ++ b ∷ []) here
+            ∙ ap (λ qs. planned_asks s bs xs ++ asked s.plans qs m a ∷ []) (sym g)
+            ∙ ap (λ n. planned_asks s bs xs ++ asked s.plans (final_registers s bs xs) n a ∷ []) (sym f)
             ∙ sym (asked-more s.plans _ (opening_of s) bs xs a x r.steps);
       };
       final = final-more (opening_of s) bs xs a x r.steps ∙ ap (λ n. after n a x) f ∙ ap (λ t. t.after) next;
