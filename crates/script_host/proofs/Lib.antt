@@ -1,3 +1,5 @@
 pub mod Alone
+pub mod Hosts
 pub mod Recordings
+pub mod Scripts
 pub mod Turns

@@ -198,6 +198,8 @@ gone-ended : (s : Setting) (core : Core) (history : List Entry) (mine : List ℕ
 gone-ended s core history mine r here = record {
   asks = r.asks;
   ended = record { run = r.run; gone = ap (λ (m : Machine). m.env.phase) r.final ∙ here };
+  locals = ap (λ (m : Machine). m.locals) r.final;
+  shareds = ap (λ (m : Machine). m.shareds) r.final;
   parted = r.parted;
   agrees = subst (λ (own : List ℕ). AgreesWhereTold (plan_of s.plans 0) mine own) (sym (ap (λ rss. registers_of rss 0) r.registers)) r.agrees;
 }

@@ -1,3 +1,4 @@
+pub mod Host
 pub mod Reading
 pub mod Recording
 pub mod Standard

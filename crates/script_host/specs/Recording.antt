@@ -51,6 +51,8 @@ pub record IsRecorded (s : Setting) (core : Core) (history : List Entry) (mine :
 pub record IsEnded (s : Setting) (journal : List Local) (history : List Entry) (mine : List ℕ) : Type 0 where
   pub asks : List Ask
   pub ended : EndsBy s asks (weave journal history)
+  pub locals : (final_of s asks (weave journal history)).locals ≡ length journal
+  pub shareds : (final_of s asks (weave journal history)).shareds ≡ length history
   pub parted : IsParted journal history
   pub agrees : AgreesWhereTold (plan_of s.plans 0) mine (registers_of (final_registers s asks (weave journal history)) 0)
 

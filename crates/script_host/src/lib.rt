@@ -4,6 +4,7 @@
 #![tactic(auto)]
 
 mod history;
+mod host;
 mod reading;
 mod recording;
 mod standard;

@@ -1,0 +1,120 @@
+-- What the top call does: the run that it leaves, the text that it writes, and the refusals that stand in place of a trace.
+use Rattle.std.specs.Prelude.{◌≡◌, ◌≤◌, ◌<◌, ℕ, ◌+◌, Bool, true, false, List, [], ◌∷◌, ◌++◌, length, drop, Option, Some, None, option_map, IfSome, ◌⊎◌}
+use Rattle.std.specs.Io.KnownBytes.{prepend_known, append_known, IsAtEnd}
+use Rattle.napi_types.specs.declared.call.Ask.{Ask}
+use Rattle.napi_types.specs.declared.entry.Limits.{Limits}
+use Rattle.napi_types.specs.declared.lists.AddonPlan.{AddonPlan}
+use Rattle.napi_types.specs.declared.lists.Record.{Record}
+use Rattle.napi_types.specs.declared.script.Script.{Script}
+use Rattle.napi_types.specs.Edge.{HasRisen, TookFront}
+use Rattle.napi_types.specs.Plan.{Plan, plan_of, registers_of}
+use Rattle.napi_types.specs.Script.{IsNoJson, IsScript, IsNoScript}
+use Rattle.napi_types.specs.Text.{text}
+use Rattle.napi_types.specs.Weave.{weave, IsParted}
+use Rattle.napi_types.specs.Whole.{Setting, EndsBy, final_registers}
+use Rattle.script_host.specs.Reading.{longest_source, GaveTooMany}
+use Rattle.script_host.specs.Recording.{AgreesWhereTold}
+use Rattle.script_host.specs.Words.{is_run_words}
+use Rattle.std.specs.declared.result.Result.{Result}
+use Rattle.std.specs.declared.result.Result.TheVariants.{Ok}
+use Rattle.script_host.specs.declared.host.Written.{Written}
+use Rattle.script_host.specs.declared.host.Written.TheVariants as written
+use Rattle.script_host.specs.declared.words.Line.{Line}
+use Rattle.script_host.specs.declared.words.Line.TheVariants as line
+
+-- THE RUN
+-- what the script's addons tell of their plans: the entries that the script gives them, or nothing where they told nothing before
+abbrev pub told_plans : List AddonPlan → List Plan → List Plan
+told_plans (given ∷ rest) (told ∷ others) = option_map (λ _. given.entries) told ∷ told_plans rest others
+told_plans _ _ = []
+
+-- a run of the script, with these addons handed in
+abbrev pub setting_of : Script → List Plan → Setting
+setting_of script handed = record {
+  plans = told_plans script.addons handed;
+  texts = length script.texts;
+  limits = record { journal = 4194304; history = 4194304 };
+}
+
+-- the two lists are the journal and the history of a run of the script that ends in `gone`, and the registers of each addon that tells its plan are the run's
+pub record IsRunOf (script : Script) (handed : List Plan) (left : Record) (registers : List (List ℕ)) : Type 0 where
+  pub asks : List Ask
+  pub ended : EndsBy (setting_of script handed) asks (weave left.journal left.history)
+  pub parted : IsParted left.journal left.history
+  pub agrees : (addon : ℕ) → addon < length script.addons → AgreesWhereTold (plan_of (setting_of script handed).plans addon)
+      (registers_of registers addon) (registers_of (final_registers (setting_of script handed) asks (weave left.journal left.history)) addon)
+
+-- the script's addons were loaded and run, and the others handed in are as they were
+pub record Ran (script : Script) (handed : List Plan) (registers : List (List ℕ)) (left : Record) (plans_after : List Plan) (registers_after : List (List ℕ)) : Type 0 where
+  pub run : IsRunOf script handed left registers_after
+  pub loaded : plans_after ≡ told_plans script.addons handed ++ drop (length script.addons) handed
+  pub others : drop (length script.addons) registers_after ≡ drop (length script.addons) registers
+
+-- a script of the first form has one addon and the fixed texts alone
+pub record HasOneAddon (script : Script) : Type 0 where
+  pub one : length script.addons ≡ 1
+  pub texts : length script.texts ≡ 3
+
+-- the text of the run
+abbrev pub trace_of : Script → Record → List ℕ
+trace_of script left = text script.texts (weave left.journal left.history)
+
+-- THE INPUT
+-- the source gave these bytes and no more, up to its end
+pub record Gave (before after : Option (List ℕ)) (bytes : List ℕ) : Type 0 where
+  pub whole : before ≡ prepend_known bytes after
+  pub ended : IsAtEnd after
+  pub all : IfSome before (λ given. bytes ≡ given)
+  pub within : length bytes ≤ longest_source
+
+-- the script that the source gave
+pub record GaveScript (before after : Option (List ℕ)) (script : Script) : Type 0 where
+  pub bytes : List ℕ
+  pub gave : Gave before after bytes
+  pub is_script : IsScript bytes script
+
+pub record GaveNoJson (before after : Option (List ℕ)) : Type 0 where
+  pub bytes : List ℕ
+  pub gave : Gave before after bytes
+  pub is_no_json : IsNoJson bytes
+
+pub record GaveNoScript (before after : Option (List ℕ)) : Type 0 where
+  pub bytes : List ℕ
+  pub gave : Gave before after bytes
+  pub is_no_script : IsNoScript bytes
+
+-- the source gave a script with more addons than were handed in
+pub record GaveTooManyAddons (before after : Option (List ℕ)) (handed : ℕ) : Type 0 where
+  pub script : Script
+  pub gave : GaveScript before after script
+  pub more : handed < length script.addons
+
+-- the source gave more bytes than a source may
+pub record GaveTooMuch (before after : Option (List ℕ)) : Type 0 where
+  pub more : GaveTooMany before after
+  pub told : IfSome before (λ given. longest_source < length given)
+
+-- THE REFUSALS
+-- why a line stands in place of a trace
+abbrev pub Causes : Line → List (List ℕ) → Option (List ℕ) → Option (List ℕ) → ℕ → ℕ → ℕ → Type 0
+Causes line.Usage words before after faults risen handed = is_run_words words ≡ false
+Causes line.NotJson words before after faults risen handed = (is_run_words words ≡ true) × GaveNoJson before after
+Causes line.Stage words before after faults risen handed = (is_run_words words ≡ true) × GaveNoScript before after
+Causes line.TooManyAddons words before after faults risen handed = (is_run_words words ≡ true) × GaveTooManyAddons before after handed
+Causes line.NoMemory words before after faults risen handed = is_run_words words ≡ true
+Causes line.ReadFault words before after faults risen handed = (is_run_words words ≡ true) × HasRisen faults risen
+Causes line.TooLong words before after faults risen handed = (is_run_words words ≡ true) × GaveTooMuch before after
+
+-- the sink took the whole line, or its faults rose and it took a front of it
+abbrev pub WroteLine : Option (List ℕ) → ℕ → List ℕ → Option (List ℕ) → ℕ → Type 0
+WroteLine had faults line has risen = (has ≡ append_known had line) ⊎ (HasRisen faults risen × TookFront had line has)
+
+-- the sink took the whole trace; or, where the trace was cut off, its faults rose and it took a front of the trace
+abbrev pub WroteTrace : Bool → Option (List ℕ) → ℕ → List ℕ → Option (List ℕ) → ℕ → Type 0
+WroteTrace true had faults trace has risen = has ≡ append_known had trace
+WroteTrace false had faults trace has risen = HasRisen faults risen × TookFront had trace has
+
+-- whether a trace was written whole
+abbrev pub is_whole : {E : Type 0} → Result Written E → Bool
+is_whole (Ok written.Whole) = true
+is_whole _ = false

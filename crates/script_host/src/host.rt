@@ -1,0 +1,143 @@
+//! The top call.
+ghost use Rattle.std.specs.Prelude.{◌≡◌, ◌≢◌, ◌≤◌, ◌<◌, ℕ, ◌↔◌, List, [], ◌∷◌, length, map, true, false, Some, None, IfOk, OnOk, OnErr, IfErr, Contains, IsOk, ◌⊎◌};
+ghost use Rattle.std.specs.Io.KnownBytes.{append_known};
+ghost use Rattle.napi_types.specs.Edge.{HasRisen, TookFront};
+ghost use Rattle.script_host.specs.Host.{Ran, HasOneAddon, GaveScript, GaveTooMuch, Causes, WroteLine, WroteTrace, is_whole, trace_of};
+ghost use Rattle.script_host.specs.Words.{is_run_words, line_text, line_status};
+
+use std::alloc::Global;
+use std::sync::Wait;
+use std::thread::Threads;
+
+use addon_trait::Addon;
+use napi_types::{AddonPlan, Failed, Gate, Plans, Record, Script, Sink, Source, Text};
+use script_read::{Refusal, read_script};
+use trace_text::{put_all, write_trace};
+
+use crate::reading::{ReadError, read_all};
+use crate::recording::run;
+use crate::words::{Line, is_run};
+
+/// How much of a trace was written.
+enum Written {
+    /// All of it.
+    Whole,
+    /// A front of it: the sink failed.
+    Cut,
+}
+
+/// Writes a line in place of a trace, and answers its status.
+fn refuse<K: Sink>(sink: &mut K, line: Line) -> u8
+    ensures status { result ≡ line_status line }
+    ensures line { WroteLine (K.taken sink.old) (K.faults sink.old) (line_text line) (K.taken sink.new) (K.faults sink.new) }
+    ensures faults { K.faults sink.old ≤ K.faults sink.new }
+{
+    let _ = put_all(sink, line.text().as_bytes());
+    line.status()
+}
+
+/// The script that the source gives, where the words are the command line.
+fn script_of<S: Source>(alloc: Global, words: &[Text], source: &mut S) -> Result<Script, Line>
+    ensures words { OnOk result (is_run_words words.now ≡ true) }
+    ensures ok { IfOk result (λ script. GaveScript (S.left source.old) (S.left source.new) script) }
+    ensures err { IfErr result (λ line. (handed : ℕ) →
+        Causes line words.now (S.left source.old) (S.left source.new) (S.faults source.old) (S.faults source.new) handed) }
+    ensures faults { S.faults source.old ≤ S.faults source.new }
+{
+    if !is_run(words) {
+        return Err(Line::Usage);
+    }
+    let bytes = match read_all(alloc, source) {
+        Ok(bytes) => bytes,
+        Err(ReadError::NoMemory) => return Err(Line::NoMemory),
+        Err(ReadError::Fault) => return Err(Line::ReadFault),
+        Err(ReadError::Long) => return Err(Line::TooLong),
+    };
+    match read_script(alloc, &bytes) {
+        Ok(script) => Ok(script),
+        Err(Refusal::NotJson) => Err(Line::NotJson),
+        Err(Refusal::Stage) => Err(Line::Stage),
+        Err(Refusal::NoMemory) => Err(Line::NoMemory),
+    }
+}
+
+/// The plan of the only addon.
+fn only_plan(plans: Plans) -> AddonPlan
+    requires { length plans ≡ 1 }
+    ensures { plans ≡ result ∷ [] }
+{
+    let mut plans = plans.into_items();
+    match plans.pop() {
+        Some(plan) => plan,
+        None => unreachable!(),
+    }
+}
+
+/// Runs a script with the addons that are handed in, writes its trace and leaves its two lists.
+fn perform<K: Sink>(
+    alloc: Global,
+    script: Script,
+    sink: &mut K,
+    addons: &mut Vec<Box<dyn Addon>>,
+    left: &mut Record,
+) -> Result<Written, Line>
+    requires { HasOneAddon script }
+    ensures ran { let plans = map (λ b. plan b) addons.old.items in
+        let registers = map (λ b. regs b) addons.old.items in
+        OnOk result (Ran script plans registers left.new (map (λ b. plan b) addons.new.items) (map (λ b. regs b) addons.new.items)) }
+    ensures whole { result ≡ Ok Written.Whole → K.taken sink.new ≡ append_known (K.taken sink.old) (trace_of script left.new) }
+    ensures cut { result ≡ Ok Written.Cut → TookFront (K.taken sink.old) (trace_of script left.new) (K.taken sink.new) }
+    ensures fault { result ≡ Ok Written.Cut → HasRisen (K.faults sink.old) (K.faults sink.new) }
+    ensures err { IfErr result (λ line. (line ≡ Line.NoMemory) ⊎ ((line ≡ Line.TooManyAddons) × (length addons.old.items < length script.addons))) }
+    ensures sink { OnErr result (K.taken sink.new ≡ K.taken sink.old) }
+    ensures left { OnErr result (left.new ≡ left.old) }
+    ensures faults { K.faults sink.old ≤ K.faults sink.new }
+{
+    if addons.len() < script.addons.items().len() {
+        return Err(Line::TooManyAddons);
+    }
+    let Script {
+        version: _,
+        workers: _,
+        addons: plans,
+        threads: _,
+        schedule: _,
+        texts,
+    } = script;
+    let given = only_plan(plans);
+    let Ok(record) = run(alloc, given, texts.items().len() as u32, addons) else {
+        return Err(Line::NoMemory);
+    };
+    let written = write_trace(sink, &texts, record.journal.items(), record.history.items());
+    *left = record;
+    match written {
+        Ok(()) => Ok(Written::Whole),
+        Err(Failed) => Ok(Written::Cut),
+    }
+}
+
+/// Reads, runs and writes; or answers the line that stands in place of a trace.
+fn attempt<S: Source, K: Sink>(
+    alloc: Global,
+    words: &[Text],
+    source: &mut S,
+    sink: &mut K,
+    addons: &mut Vec<Box<dyn Addon>>,
+    left: &mut Record,
+) -> Result<Written, Line>
+    ensures words { OnOk result (is_run_words words.now ≡ true) }
+    ensures ran { let plans = map (λ b. plan b) addons.old.items in
+        let registers = map (λ b. regs b) addons.old.items in
+        OnOk result ((script : Script) × GaveScript (S.left source.old) (S.left source.new) script
+            × Ran script plans registers left.new (map (λ b. plan b) addons.new.items) (map (λ b. regs b) addons.new.items)
+            × WroteTrace (is_whole result) (K.taken sink.old) (K.faults sink.old) (trace_of script left.new) (K.taken sink.new) (K.faults sink.new)) }
+    ensures err { IfErr result (λ line.
+        Causes line words.now (S.left source.old) (S.left source.new) (S.faults source.old) (S.faults source.new) (length addons.old.items)) }
+    ensures sink { OnErr result (K.taken sink.new ≡ K.taken sink.old) }
+    ensures left { OnErr result (left.new ≡ left.old) }
+    ensures reading { S.faults source.old ≤ S.faults source.new }
+    ensures writing { K.faults sink.old ≤ K.faults sink.new }
+{
+    let script = script_of(alloc, words, source)?;
+    perform(alloc, script, sink, addons, left)
+}
