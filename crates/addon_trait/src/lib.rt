@@ -1,11 +1,15 @@
-//! The interface that an addon gives to the environment. Contracts see of an addon its `plan`, which may be untold,
-//! and its `regs`, 32 numbers. Every crate that runs frames stands on this one.
+//! The interface that an addon gives to the environment, and calls of one addon of a list of addons.
+//! Contracts see of an addon its `plan`, which may be untold, and its `regs`, 32 numbers; of a list they see the list
+//! of its plans and the list of its registers. Every crate that runs frames stands on this one.
 #![tactic(auto)]
+
+mod list;
 
 ghost use Rattle.std.specs.Prelude.{◌≡◌, ℕ, List, Option, None, IfSome, option_map};
 ghost use Rattle.napi_types.specs.declared.call.Op.{Op};
 ghost use Rattle.napi_types.specs.Registers.{plan_ask, kept, blank_registers, gifted};
 
+pub use list::{ask_at, enter_at, load_at, note_at};
 use napi_types::{AddonPlan, Ask, Reply};
 
 /// A native addon, as the environment runs it.

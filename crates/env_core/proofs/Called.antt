@@ -7,15 +7,15 @@ use Rattle.napi_types.specs.declared.entry.What.TheVariants as what
 use Rattle.napi_types.specs.declared.entry.Entry.{Entry}
 use Rattle.napi_types.specs.Environment.{Environment}
 use Rattle.napi_types.specs.Calls.{answer}
-use Rattle.napi_types.specs.Changes.{asks_of, noted, called}
+use Rattle.napi_types.specs.Changes.{asks_made, noted, called}
 
 abbrev pub told_entry : ℕ → ℕ → Call → Reply → Entry
 told_entry depth step c r = record { actor = actor.Env; depth = depth; step = step; what = what.Call c; reply = r; given = None }
 
 pub entry-called : (e : Environment) (c : Call) (n depth step : ℕ) (r : Reply)
-    → depth ≡ length e.frames → step ≡ asks_of e.frames → r ≡ (answer e c n).reply → told_entry depth step c r ≡ (called e c n).entry
+    → depth ≡ length e.frames → step ≡ asks_made e.frames → r ≡ (answer e c n).reply → told_entry depth step c r ≡ (called e c n).entry
 entry-called e c n depth step r d s q =
-    ap (λ x. told_entry x step c r) d ∙ ap (λ x. told_entry (length e.frames) x c r) s ∙ ap (λ x. told_entry (length e.frames) (asks_of e.frames) c x) q
+    ap (λ x. told_entry x step c r) d ∙ ap (λ x. told_entry (length e.frames) x c r) s ∙ ap (λ x. told_entry (length e.frames) (asks_made e.frames) c x) q
 
 pub after-called : (e mid new : Environment) (c : Call) (n : ℕ) (r : Reply)
     → r ≡ (answer e c n).reply → mid ≡ (answer e c n).after → new ≡ noted r.status mid → new ≡ (called e c n).after

@@ -1,10 +1,10 @@
 -- The environment and its journal.
-use Rattle.std.specs.Prelude.{◌≡◌, ℕ, ◌+◌, ◌≤◌, List, [], ◌∷◌, ◌++◌, length, Option, Some, None}
+use Rattle.std.specs.Prelude.{◌≡◌, ℕ, ◌+◌, ◌≤◌, List, [], ◌∷◌, ◌++◌, length}
 use Rattle.napi_types.specs.declared.entry.Local.{Local}
 use Rattle.napi_types.specs.declared.entry.Phase.{Phase}
 use Rattle.napi_types.specs.declared.entry.Phase.TheVariants as phase
 use Rattle.napi_types.specs.Environment.{Environment, new_environment}
-use Rattle.napi_types.specs.Room.{Room, journal_room, reserved_journal}
+use Rattle.napi_types.specs.Room.{Room, journal_room, reserved_journal, most_entries}
 use Rattle.napi_types.specs.Changes.{Change, opened, gone, in_phase}
 use Rattle.env_core.specs.Journal.{Pages}
 
@@ -24,15 +24,6 @@ abbrev pub opened_core : ℕ → ℕ → ℕ → Core
 opened_core addons texts limit =
     wrote (opened (new_environment addons texts)) (record { env = new_environment addons texts; journal = []; limit = limit; position = 0 })
 
--- the phases in their order
-abbrev pub next_phase : Phase → Option Phase
-next_phase phase.Init = Some phase.Live
-next_phase phase.Live = Some phase.Hooks
-next_phase phase.Hooks = Some phase.Drain
-next_phase phase.Drain = Some phase.Finals
-next_phase phase.Finals = Some phase.Gone
-next_phase phase.Gone = None
-
 -- a phase starts at an event of the hub, after which the history has that length; the last one starts at an entry of its own
 abbrev pub advanced : Phase → ℕ → Core → Core
 advanced phase.Gone position core = wrote (gone core.env) core
@@ -46,7 +37,7 @@ room_in core = journal_room core.env (length core.journal) core.limit
 pub record IsCore (e : Environment) (pages : Pages) : Type 0 where
   pub reserved : pages.promised ≡ reserved_journal e
   pub within : length pages.entries + pages.promised ≤ pages.limit
-  pub small : pages.limit ≤ 4194304
+  pub small : pages.limit ≤ most_entries
   pub handles : e.handles ≤ length pages.entries
   pub scopes : length e.scope_numbers ≤ length pages.entries
   pub values : e.made ≤ length pages.entries + 5

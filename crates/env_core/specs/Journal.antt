@@ -1,7 +1,7 @@
 -- The journal as a list of entries beside its promised places.
 use Rattle.std.specs.Prelude.{ℕ, ◌+◌, ◌<◌, ◌≤◌, List, length, min}
 use Rattle.napi_types.specs.declared.entry.Local.{Local}
-use Rattle.napi_types.specs.Room.{first_places}
+use Rattle.napi_types.specs.Room.{first_places, most_entries}
 
 -- the entries, how many places are promised, the limit, and the length of the history as it was noted last
 pub record Pages : Type 0 where
@@ -17,6 +17,6 @@ passes p bound = bound < length p.entries + p.promised + 1
 -- entries and promised places stay within the limit and have their memory, and so have the first places
 pub record IsKept (entries promised limit capacity : ℕ) : Type 0 where
   pub within : entries + promised ≤ limit
-  pub small : limit ≤ 4194304
+  pub small : limit ≤ most_entries
   pub memory : entries + promised ≤ capacity
   pub first : min first_places limit ≤ capacity

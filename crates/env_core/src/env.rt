@@ -1,9 +1,10 @@
 //! The environment with its journal.
 ghost use Rattle.std.specs.Prelude.{◌≡◌, ◌≢◌, ℕ, ◌+◌, ◌-◌, ◌*◌, ◌<◌, ◌≤◌, [], length, Some, IfOk, IsTrue, ◌↔◌};
-ghost use Rattle.napi_types.specs.Room.{is_full};
-ghost use Rattle.napi_types.specs.Changes.{asks_of, most_asks, called, frame_ended, init_begun};
-ghost use Rattle.env_core.specs.Core.{opened_core, wrote, advanced, next_phase, room_in};
+ghost use Rattle.napi_types.specs.Room.{is_full, most_entries};
+ghost use Rattle.napi_types.specs.Changes.{asks_made, most_asks, called, frame_ended, init_begun};
+ghost use Rattle.env_core.specs.Core.{opened_core, wrote, advanced, room_in};
 ghost use Rattle.env_core.specs.Steps.{IfReply, IfStop, Replies, StopsBy, IsLocal};
+ghost use Rattle.napi_types.specs.Phases.{next_phase};
 
 use crate::journal::Journal;
 use crate::state::State;
@@ -61,7 +62,7 @@ impl EnvCore {
     ) -> Result<EnvCore, NoMemory>
         requires version { version ≡ 9 }
         requires room { 2 + 2 * addons ≤ limits.journal }
-        requires most { limits.journal ≤ 4194304 }
+        requires most { limits.journal ≤ most_entries }
         ensures { IfOk result (λ core. core ≡ opened_core addons texts limits.journal) }
     {
         let mut journal = Journal::new(alloc, limits.journal, 2 + 2 * addons)?;
@@ -73,7 +74,7 @@ impl EnvCore {
     /// Makes a call of the innermost frame. `step` is the number of the ask in its frame, from 0.
     pub fn step(&mut self, step: u32, call: &Call) -> Stepped
         requires standing { self.old.env.frames ≢ [] }
-        requires ask { step ≡ asks_of self.old.env.frames }
+        requires ask { step ≡ asks_made self.old.env.frames }
         requires within { step < most_asks }
 
         // A reply is the machine's answer; its entry stands in the journal, and the environment is the one after it.
@@ -118,7 +119,7 @@ impl EnvCore {
     /// A frame is cut as `Asks` only after its 65,536th ask.
     pub fn leave(&mut self, value: Option<HandleId>, cut: Option<Why>) -> Reply
         requires standing { self.old.env.frames ≢ [] }
-        requires asks { cut ≡ Some Why.Asks → asks_of self.old.env.frames ≡ most_asks }
+        requires asks { cut ≡ Some Why.Asks → asks_made self.old.env.frames ≡ most_asks }
         ensures reply { result ≡ (frame_ended cut self.old.env).entry.reply }
         ensures ended { self.new ≡ wrote (frame_ended cut self.old.env) self.old }
     {

@@ -1,6 +1,6 @@
 //! The journal: the entries of the environment's local events, and the places that are promised to further ones.
 ghost use Rattle.std.specs.Prelude.{◌≡◌, ℕ, ◌+◌, ◌-◌, ◌<◌, ◌≤◌, [], ◌∷◌, ◌++◌, length, min, IfOk, OnOk, OnErr, IfErr, ◌↔◌, ◌⊎◌};
-ghost use Rattle.napi_types.specs.Room.{first_places};
+ghost use Rattle.napi_types.specs.Room.{first_places, most_entries};
 ghost use Rattle.env_core.specs.Journal.{passes};
 
 use napi_types::{Entry, Listed, Local, LocalList, NoMemory, Status};
@@ -39,7 +39,7 @@ impl Journal {
     /// An empty journal with places promised; the memory of its first places is taken.
     pub fn new(alloc: Global, limit: u32, promised: u32) -> Result<Journal, NoMemory>
         requires room { promised ≤ limit }
-        requires most { limit ≤ 4194304 }
+        requires most { limit ≤ most_entries }
         ensures { IfOk result (λ journal. journal ≡ record { entries = []; promised = promised; limit = limit; position = 0 }) }
     {
         let first = FIRST_PLACES.min(limit as usize).max(promised as usize);

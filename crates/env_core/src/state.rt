@@ -2,12 +2,12 @@
 ghost use Rattle.std.specs.Prelude.{◌≡◌, ◌≢◌, ℕ, ◌+◌, ◌<◌, ◌≤◌, ◌^◌, [], ◌∷◌, length, vec_len, vec_capacity, slice_get, ◌++◌, true, false, OnOk, Some, None, IfOk, OnErr, IsTrue};
 ghost use Rattle.napi_types.specs.Environment.{new_environment, new_value, answered, handle_body, plain as plain_reply};
 ghost use Rattle.napi_types.specs.Scopes.{gives, hold, open_in, close_in};
-ghost use Rattle.napi_types.specs.Lists.{or};
-ghost use Rattle.napi_types.specs.Guards.{is_growing};
+ghost use Rattle.std.specs.Option.{unwrap_or};
+ghost use Rattle.napi_types.specs.Room.{is_growing};
 ghost use Rattle.napi_types.specs.Refusals.{refusal};
 ghost use Rattle.napi_types.specs.Values.{kind_of, body_of, fresh_value};
 ghost use Rattle.napi_types.specs.Calls.{accepted};
-ghost use Rattle.napi_types.specs.Changes.{opened, init_begun, asks_of, most_asks, called, frame_ended, gone, in_phase, noted, is_fresh, host_entry as entry_of};
+ghost use Rattle.napi_types.specs.Changes.{opened, init_begun, asks_made, most_asks, called, frame_ended, gone, in_phase, noted, is_fresh, host_entry as entry_of};
 ghost use Rattle.env_core.specs.Scopes.{held_of};
 ghost use Rattle.env_core.specs.State.{Calls, Answers, with_scope, numbered, standing};
 
@@ -18,6 +18,9 @@ use napi_types::{
 };
 use std::alloc::Global;
 use std::marker::Model;
+
+/// The creation number of undefined.
+const UNDEFINED: u64 = 1;
 
 /// The environment's state.
 #[derive(Drop)]
@@ -120,7 +123,7 @@ impl State {
     /// A call of the frame that stands.
     pub fn call(&mut self, step: u32, call: &Call) -> Result<Entry, NoMemory>
         requires standing { self.old.frames ≢ [] }
-        requires ask { step ≡ asks_of self.old.frames }
+        requires ask { step ≡ asks_made self.old.frames }
         requires within { step < most_asks }
         requires handles { self.old.handles < 2 ^ 62 }
         requires scopes { length self.old.scope_numbers < 2 ^ 62 }
@@ -235,7 +238,7 @@ impl State {
     fn kind_of(&self, handle: HandleId) -> Kind
         ensures { result ≡ kind_of (handle_body self.now handle.0) }
     {
-        let value = self.look(handle).unwrap_or(1);
+        let value = self.look(handle).unwrap_or(UNDEFINED);
         body_at(&self.bodies, value).kind()
     }
 
@@ -264,7 +267,7 @@ impl State {
 
     /// Notes a call's status and counts its ask.
     fn note(&mut self, status: Status)
-        requires { asks_of self.old.frames < most_asks }
+        requires { asks_made self.old.frames < most_asks }
         ensures { self.new ≡ noted status self.old }
     {
         self.last = status;
@@ -360,7 +363,7 @@ fn body_at(bodies: &[Body], number: u64) -> Body
 }
 
 fn body_in(bodies: &[Body], place: usize) -> Body
-    ensures { result ≡ or Body.Undefined (slice_get bodies.now place) }
+    ensures { result ≡ unwrap_or (slice_get bodies.now place) Body.Undefined }
 {
     match bodies.get(place) {
         Some(body) => *body,

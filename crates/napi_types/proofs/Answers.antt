@@ -5,25 +5,29 @@ use Rattle.napi_types.specs.declared.call.Call.TheVariants.{CreateObject, Typeof
 use Rattle.napi_types.specs.declared.entry.Phase.{Phase}
 use Rattle.napi_types.specs.declared.status.Status.{Status}
 use Rattle.napi_types.specs.Lists.{first_changed}
-use Rattle.napi_types.specs.Scopes.{Frame, Held, hold, open_in, close_in}
+use Rattle.napi_types.specs.Scopes.{Frame, Held, hold, open_in, close_in, Scope, hold_at}
 use Rattle.napi_types.specs.Environment.{Environment}
 use Rattle.napi_types.specs.Refusals.{refusal}
 use Rattle.napi_types.specs.Calls.{accepted, answer_by, answer}
-use Rattle.napi_types.specs.Changes.{asks_of, noted, called}
+use Rattle.napi_types.specs.Changes.{asks_made, noted, called}
 
 length-changed : (f : Frame → Frame) (fs : List Frame) → length (first_changed f fs) ≡ length fs
 length-changed f [] = refl
 length-changed f (g ∷ gs) = refl
 
-asks-hold : (p : Held) (fs : List Frame) → asks_of (hold p fs) ≡ asks_of fs
-asks-hold p [] = refl
-asks-hold p (f ∷ fs) = refl
+asks-held : (p : Held) (f : Frame) (ss : List Scope) → (hold_at p f ss).asks ≡ f.asks
+asks-held p f [] = refl
+asks-held p f (s ∷ ss) = refl
 
-asks-open : (n : ℕ) (fs : List Frame) → asks_of (open_in n fs) ≡ asks_of fs
+asks-hold : (p : Held) (fs : List Frame) → asks_made (hold p fs) ≡ asks_made fs
+asks-hold p [] = refl
+asks-hold p (f ∷ fs) = asks-held p f f.scopes
+
+asks-open : (n : ℕ) (fs : List Frame) → asks_made (open_in n fs) ≡ asks_made fs
 asks-open n [] = refl
 asks-open n (f ∷ fs) = refl
 
-asks-close : (fs : List Frame) → asks_of (close_in fs) ≡ asks_of fs
+asks-close : (fs : List Frame) → asks_made (close_in fs) ≡ asks_made fs
 asks-close [] = refl
 asks-close (f ∷ fs) = refl
 
@@ -35,7 +39,7 @@ pub record Keeps (old new : Environment) : Type 0 where
   pub inits : new.inits ≡ old.inits
   pub phase : new.phase ≡ old.phase
   pub depth : length new.frames ≡ length old.frames
-  pub asks : asks_of new.frames ≡ asks_of old.frames
+  pub asks : asks_made new.frames ≡ asks_made old.frames
   pub handles : new.handles ≤ old.handles + 1
   pub scopes : length new.scope_numbers ≤ length old.scope_numbers + 1
   pub made : new.made ≤ old.made + 1

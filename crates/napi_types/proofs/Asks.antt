@@ -3,37 +3,39 @@ use Rattle.std.proofs.Common.{◌≡◌, ℕ, zero, suc, Bool, true, false, ◌&
 use Rattle.napi_types.specs.declared.entry.Entry.{Entry}
 use Rattle.napi_types.specs.declared.call.Ask.{Ask}
 use Rattle.napi_types.specs.declared.call.Ask.TheVariants as ask
-use Rattle.napi_types.specs.Lists.{or, head, tail, all_of}
+use Rattle.napi_types.specs.Lists.{head, tail}
 use Rattle.napi_types.specs.Scopes.{Frame}
 use Rattle.napi_types.specs.Machine.{Machine}
 use Rattle.napi_types.specs.Run.{after, IsRunBy, steps, entries_of}
-use Rattle.napi_types.specs.Plan.{Plan, plan_of, Registers, registers_of, frame_ask, frames_ask, asked, asked_along, asks_along, registers_after, loaded_registers}
+use Rattle.napi_types.specs.Plan.{Plan, plan_of, Registers, registers_of, frame_ask, frames_ask, asked, asked_along, told_asks_along, registers_after, loaded_registers}
 use Rattle.napi_types.specs.Whole.{Setting, opening_of, IsRun, all_told, told_asks}
 use Rattle.napi_types.proofs.Runs.{and-left, and-right, entries-of}
+use Rattle.std.specs.Option.{unwrap_or}
+use Rattle.std.specs.List.{list_all}
 
-all-of-at : (ps : List Plan) (a : ℕ) → IsTrue (all_of is_some ps) → is_some (plan_of ps a) ≡ true
+all-of-at : (ps : List Plan) (a : ℕ) → IsTrue (list_all is_some ps) → is_some (plan_of ps a) ≡ true
 all-of-at [] a h = refl
-all-of-at (p ∷ ps) zero h = and-left (is_some p) (all_of is_some ps) h
-all-of-at (p ∷ ps) (suc a) h = all-of-at ps a (and-right (is_some p) (all_of is_some ps) h)
+all-of-at (p ∷ ps) zero h = and-left (is_some p) (list_all is_some ps) h
+all-of-at (p ∷ ps) (suc a) h = all-of-at ps a (and-right (is_some p) (list_all is_some ps) h)
 
 told-ask : (p : Plan) (rs : List ℕ) (f : Frame) (a b : Ask) → is_some p ≡ true → frame_ask p rs f a ≡ frame_ask p rs f b
 told-ask (Some p) rs f a b h = refl
 told-ask None rs f a b h = cc
 
-told-frames : (ps : List Plan) (rss : Registers) (fs : List Frame) (a b : Ask) → IsTrue (all_of is_some ps)
+told-frames : (ps : List Plan) (rss : Registers) (fs : List Frame) (a b : Ask) → IsTrue (list_all is_some ps)
     → frames_ask ps rss fs a ≡ frames_ask ps rss fs b
 told-frames ps rss [] a b h = refl
 told-frames ps rss (f ∷ fs) a b h = told-ask (plan_of ps f.addon) (registers_of rss f.addon) f a b (all-of-at ps f.addon h)
 
 -- the asks of a run by told plans are those that the entries give
-pub asks-unique : (ps : List Plan) (rss : Registers) (m : Machine) (bs : List Ask) (xs : List Entry) → IsTrue (all_of is_some ps)
-    → IsRunBy m bs xs → bs ≡ asked_along ps rss m bs xs → bs ≡ asks_along ps rss m xs
+pub asks-unique : (ps : List Plan) (rss : Registers) (m : Machine) (bs : List Ask) (xs : List Entry) → IsTrue (list_all is_some ps)
+    → IsRunBy m bs xs → bs ≡ asked_along ps rss m bs xs → bs ≡ told_asks_along ps rss m xs
 asks-unique ps rss m [] [] h r e = refl
 asks-unique ps rss m (b ∷ bs) (x ∷ xs) h r e =
-    let here : b ≡ asked ps rss m (ask.Leave None) = ap (λ l. or b (head l)) e ∙ told-frames ps rss m.env.frames b (ask.Leave None) h in
-    let later : bs ≡ asks_along ps (registers_after ps rss m x) (after m b x) xs =
+    let here : b ≡ asked ps rss m (ask.Leave None) = ap (λ l. unwrap_or (head l) b) e ∙ told-frames ps rss m.env.frames b (ask.Leave None) h in
+    let later : bs ≡ told_asks_along ps (registers_after ps rss m x) (after m b x) xs =
     asks-unique ps (registers_after ps rss m x) (after m b x) bs xs h r.1 (ap tail e) in
-    let P : Ask → Type 0 = λ a. b ∷ bs ≡ a ∷ asks_along ps (registers_after ps rss m x) (after m a x) xs in
+    let P : Ask → Type 0 = λ a. b ∷ bs ≡ a ∷ told_asks_along ps (registers_after ps rss m x) (after m a x) xs in
     subst P here (ap (λ l. b ∷ l) later)
 asks-unique ps rss m [] (x ∷ xs) h r e = absurd r
 asks-unique ps rss m (b ∷ bs) [] h r e = absurd r

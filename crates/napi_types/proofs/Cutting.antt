@@ -1,19 +1,20 @@
 -- Where a frame stands: what may come next.
-use Rattle.std.proofs.Common.{◌≡◌, ◌<◌, ℕ, ◌==◌, ◌&&◌, false, List, ◌∷◌, IsTrue, refl, ap, sym, ◌∙◌, subst, Option, Some, None, arith}
+use Rattle.std.proofs.Common.{◌≡◌, ◌<◌, ℕ, ◌==◌, ◌&&◌, false, List, ◌∷◌, IsTrue, refl, ap, sym, ◌∙◌, subst, Option, Some, None, arith, ◌≤◌, ◌+◌, Bool, true, not, nat_lt}
 use Rattle.napi_types.specs.declared.call.Ask.{Ask}
 use Rattle.napi_types.specs.declared.call.Ask.TheVariants as ask
 use Rattle.napi_types.specs.declared.call.Call.{Call}
+use Rattle.napi_types.specs.declared.call.Call.TheVariants as call
 use Rattle.napi_types.specs.declared.entry.Actor.{Actor}
 use Rattle.napi_types.specs.declared.entry.Actor.TheVariants as actor
 use Rattle.napi_types.specs.declared.entry.Entry.{Entry}
 use Rattle.napi_types.specs.declared.entry.Out.{Out}
 use Rattle.napi_types.specs.declared.entry.Why.{Why}
 use Rattle.napi_types.specs.declared.entry.Why.TheVariants as why
-use Rattle.napi_types.specs.Changes.{asks_of, is_fresh, may_ask}
+use Rattle.napi_types.specs.Changes.{asks_made, is_fresh, may_ask}
 use Rattle.napi_types.specs.Cuts.{cut_by, first_called}
 use Rattle.napi_types.specs.Environment.{Environment}
 use Rattle.napi_types.specs.Machine.{Machine}
-use Rattle.napi_types.specs.Room.{room_of, may_want_memory}
+use Rattle.napi_types.specs.Room.{room_of, may_want_memory, need, is_full}
 use Rattle.napi_types.specs.Run.{IsNext}
 use Rattle.napi_types.specs.Scopes.{Frame}
 use Rattle.napi_types.specs.Step.{Step, env_step, step_of, frame_step, cut_of}
@@ -36,10 +37,10 @@ only-in-frame m a f fs y e k x n =
     n.0 ∙ ap (λ t. t.entry) s ∙ k x.reply.out (cut_of x.reply.out) (subst P s n.1)
 
 -- a frame that made its last ask may not ask
-spent-asks : (e : Environment) → asks_of e.frames ≡ 65536 → IsTrue (may_ask e) → ⊥
+spent-asks : (e : Environment) → asks_made e.frames ≡ 65536 → IsTrue (may_ask e) → ⊥
 spent-asks e s h = let k : IsTrue false = rw s at h in cc
 
-pub spent-only : (m : Machine) (a : Ask) → asks_of m.env.frames ≡ 65536 → (o : Out) (w : Option Why)
+pub spent-only : (m : Machine) (a : Ask) → asks_made m.env.frames ≡ 65536 → (o : Out) (w : Option Why)
     → IsTrue (frame_step m a o w).may → (frame_step m a o w).entry ≡ cut_by why.Asks
 spent-only m a s o (Some why.Asks) h = refl
 spent-only m (ask.Do c) s o (Some why.Full) h = absurd (spent-asks m.env s (and-left (may_ask m.env) _ h))
@@ -51,20 +52,38 @@ spent-only m (ask.Leave v) s o (Some why.Full) h = cc
 spent-only m (ask.Leave v) s o (Some why.Memory) h = cc
 spent-only m (ask.Leave v) s o None h = absurd (spent-asks m.env s h)
 
+-- each call needs a place for its entry
+pub needs-place : (c : Call) → 1 ≤ need c
+needs-place call.CreateObject = omega arith
+needs-place (call.Typeof h) = omega arith
+needs-place call.OpenHandleScope = omega arith
+needs-place (call.CloseHandleScope s) = omega arith
+
+-- where the journal's places are taken, every call is full
+pub full-there : (c : Call) → is_full (room_of first_called c) c ≡ true
+full-there c = past (need c) (needs-place c)
+  where
+    past : (n : ℕ) → 1 ≤ n → nat_lt 5 (5 + n) ≡ true
+    past n h = grind arith
+
 -- where a call is full its frame is cut so
 pub full-only : (c : Call) (o : Out) (w : Option Why)
     → IsTrue (frame_step first_called (ask.Do c) o w).may → (frame_step first_called (ask.Do c) o w).entry ≡ cut_by why.Full
 full-only c o (Some why.Full) h = refl
 full-only c o (Some why.Asks) h = cc
-full-only c o (Some why.Memory) h = let k : IsTrue false = and-right (may_want_memory (room_of first_called c) c) false h in cc
-full-only c o None h = let k : IsTrue false = and-right (is_fresh first_called.env o) false h in cc
+full-only c o (Some why.Memory) h =
+    let P : Bool → Type 0 = λ b. IsTrue (may_want_memory (room_of first_called c) c && not b) in
+    let k : IsTrue false = and-right (may_want_memory (room_of first_called c) c) false (subst P (full-there c) h) in cc
+full-only c o None h =
+    let P : Bool → Type 0 = λ b. IsTrue (is_fresh first_called.env o && not b) in
+    let k : IsTrue false = and-right (is_fresh first_called.env o) false (subst P (full-there c) h) in cc
 
 -- the cut after the last ask may come there, and not before
 asks-step : (m : Machine) (a : Ask) (f : Frame) (fs : List Frame) → m.env.frames ≡ f ∷ fs
     → step_of m a (cut_by why.Asks) actor.Env ≡ frame_step m a (cut_by why.Asks).reply.out (Some why.Asks)
 asks-step m a f fs e = ap (λ l. env_step m a (cut_by why.Asks).reply.out l) e
 
-pub asks-next : (m : Machine) (f : Frame) (fs : List Frame) (a : Ask) → m.env.frames ≡ f ∷ fs → asks_of m.env.frames ≡ 65536 → IsNext m a (cut_by why.Asks)
+pub asks-next : (m : Machine) (f : Frame) (fs : List Frame) (a : Ask) → m.env.frames ≡ f ∷ fs → asks_made m.env.frames ≡ 65536 → IsNext m a (cut_by why.Asks)
 asks-next m f fs a e s =
     let P : Step → Type 0 = λ t. (cut_by why.Asks ≡ t.entry) × IsTrue t.may in
     subst P (sym (asks-step m a f fs e)) (refl, rw s refl)
@@ -75,5 +94,5 @@ not-last n h k = grind arith
 pub early-none : (m : Machine) (f : Frame) (fs : List Frame) (a : Ask) → m.env.frames ≡ f ∷ fs → f.asks < 65536 → IsNext m a (cut_by why.Asks) → ⊥
 early-none m f fs a e h n =
     let P : Step → Type 0 = λ t. IsTrue t.may in
-    let k : IsTrue (asks_of m.env.frames == 65536) = subst P (asks-step m a f fs e) n.1 in
+    let k : IsTrue (asks_made m.env.frames == 65536) = subst P (asks-step m a f fs e) n.1 in
     not-last f.asks h (rw e at k)

@@ -1,5 +1,5 @@
 -- What it takes to show that entries are no run.
-use Rattle.std.proofs.Common.{◌≡◌, ℕ, false, List, [], IsTrue, subst, slice_get}
+use Rattle.std.proofs.Common.{◌≡◌, ℕ, false, List, [], IsTrue, subst, slice_index_or}
 use Rattle.napi_types.specs.declared.call.Ask.{Ask}
 use Rattle.napi_types.specs.declared.entry.Actor.{Actor}
 use Rattle.napi_types.specs.declared.entry.Actor.TheVariants as actor
@@ -11,7 +11,6 @@ use Rattle.napi_types.specs.declared.entry.Out.TheVariants as out
 use Rattle.napi_types.specs.declared.entry.Phase.TheVariants as phase
 use Rattle.napi_types.specs.declared.status.Kind.{Kind}
 use Rattle.napi_types.specs.Changes.{host_entry}
-use Rattle.napi_types.specs.Lists.{or}
 use Rattle.napi_types.specs.Machine.{Machine}
 use Rattle.napi_types.specs.Run.{IsNext, IsRunBy}
 use Rattle.napi_types.specs.Step.{step_of}
@@ -21,7 +20,7 @@ use Rattle.napi_types.proofs.Asks.{asks-unique}
 
 -- the entry at a place
 abbrev pub entry_at : ℕ → List Entry → Entry
-entry_at n xs = or (host_entry host.Gone out.Nothing) (slice_get xs n)
+entry_at n xs = slice_index_or xs n (host_entry host.Gone out.Nothing)
 
 -- what a result tells, or else what is given
 abbrev pub told_kind : Kind → Out → Kind

@@ -19,7 +19,7 @@ use Rattle.napi_types.specs.Hub.{Hub, Stage, Before, Going, Looped, Drained, Fin
 use Rattle.napi_types.specs.Laws.{RoomSuffices}
 use Rattle.napi_types.specs.Loop.{Event, Opens, Inits, Goes, EndsLoop, Drains, FinalsCome, IsGone}
 use Rattle.napi_types.specs.Machine.{Machine}
-use Rattle.napi_types.specs.Room.{one_if, gone_place, stage_places, reserved_journal, reserved_history, room_of, is_full}
+use Rattle.napi_types.specs.Room.{one_if, gone_place, stage_places, reserved_journal, reserved_history, room_of, is_full, need}
 use Rattle.napi_types.specs.Run.{IsRunBy, after, final}
 use Rattle.napi_types.specs.Scopes.{Frame}
 use Rattle.napi_types.specs.Step.{locally, hub_moved, by_hub, event_step, chosen, call_step, asked_step, cut_of, frame_step, env_step, step_of}
@@ -27,15 +27,8 @@ use Rattle.napi_types.specs.Teardown.{choice_in, choice}
 use Rattle.napi_types.specs.Whole.{Setting, final_of, opening_of}
 use Rattle.napi_types.proofs.Answers.{KeepsButAsk, called-keeps}
 use Rattle.napi_types.proofs.Runs.{and-right}
-
--- how far the hub is in each phase
-abbrev pub stage_in : Phase → Stage
-stage_in phase.Init = Before
-stage_in phase.Live = Going
-stage_in phase.Hooks = Looped
-stage_in phase.Drain = Drained
-stage_in phase.Finals = Final
-stage_in phase.Gone = Final
+use Rattle.napi_types.specs.Phases.{stage_of}
+use Rattle.napi_types.proofs.Cutting.{needs-place}
 
 abbrev pub is_init : Phase → Bool
 is_init phase.Init = true
@@ -46,7 +39,7 @@ record Roomy (l : Limits) (m : Machine) : Type 0 where
   pub limits : m.limits ≡ l
   pub journal : m.locals + reserved_journal m.env ≤ l.journal
   pub history : m.shareds + reserved_history m.hub ≤ l.history
-  pub stage : m.hub.stage ≡ stage_in m.env.phase
+  pub stage : m.hub.stage ≡ stage_of m.env.phase
   -- once the init frames are over the opening stands, and each addon had its frame
   pub opened : is_init m.env.phase ≡ false → m.env.opened ≡ true
   pub inits : is_init m.env.phase ≡ false → nat_lt m.env.inits m.env.addons ≡ false
@@ -54,8 +47,8 @@ record Roomy (l : Limits) (m : Machine) : Type 0 where
   pub bare : m.env.phase ≡ phase.Gone → length m.env.frames ≡ 0
 
 -- A CALL
-call-fits : (j r d x : ℕ) → nat_lt x (j + r + 1) ≡ false → d ≡ r → j + 1 + d ≤ x
-call-fits j r d x h e = grind arith
+call-fits : (j r d n x : ℕ) → nat_lt x (j + r + n) ≡ false → 1 ≤ n → d ≡ r → j + 1 + d ≤ x
+call-fits j r d n x h one e = grind arith
 
 not-full : (b : Bool) → IsTrue (not b) → b ≡ false
 not-full true h = cc
@@ -73,9 +66,9 @@ call-room l m c o r h =
     let P : Limits → Type 0 = λ q. m.locals + 1 + reserved_journal d ≤ q.journal in
     record {
       limits = r.limits;
-      journal = subst P r.limits (call-fits m.locals (reserved_journal m.env) (reserved_journal d) m.limits.journal free (same-places d m.env k));
+      journal = subst P r.limits (call-fits m.locals (reserved_journal m.env) (reserved_journal d) (need c) m.limits.journal free (needs-place c) (same-places d m.env k));
       history = r.history;
-      stage = r.stage ∙ ap stage_in (sym k.phase);
+      stage = r.stage ∙ ap stage_of (sym k.phase);
       opened = λ p. k.opened ∙ r.opened (ap is_init (sym k.phase) ∙ p);
       inits = λ p. rw (k.inits, k.addons) (r.inits (ap is_init (sym k.phase) ∙ p));
       bare = λ p. k.depth ∙ r.bare (sym k.phase ∙ p);
@@ -104,7 +97,7 @@ hub-fits : (k j s x : ℕ) → j + k ≤ x → suc s ≡ k → j + 1 + s ≤ x
 hub-fits k j s x h e = omega (arith, h, e)
 
 moved-room : (l : Limits) (m : Machine) (event : HostStep) (p : Phase) (o : Out) (s : Stage)
-    → stage_after m.hub.stage event ≡ Some s → suc (stage_places s) ≡ stage_places m.hub.stage → s ≡ stage_in p
+    → stage_after m.hub.stage event ≡ Some s → suc (stage_places s) ≡ stage_places m.hub.stage → s ≡ stage_of p
     → gone_place p ≡ gone_place m.env.phase → (p ≡ phase.Gone → ⊥)
     → m.env.opened ≡ true → nat_lt m.env.inits m.env.addons ≡ false → Roomy l m → Roomy l (by_hub m event p o).after
 moved-room l m event p o s e places stands g never opened inits r =
@@ -155,7 +148,7 @@ init-room l m true true o i p f r =
       bare = λ q. let z : phase.Init ≡ phase.Gone = rw p at q in cc;
     }
 init-room l m true false o i p f r =
-    let s : m.hub.stage ≡ Before = r.stage ∙ ap stage_in p in
+    let s : m.hub.stage ≡ Before = r.stage ∙ ap stage_of p in
     moved-room l m host.Go phase.Live _ Going (rw s refl) (rw s refl) refl (rw p refl) (λ e. cc) o i r
 
 later-opened : (l : Limits) (m : Machine) (p : Phase) → m.env.phase ≡ p → is_init p ≡ false → Roomy l m → m.env.opened ≡ true
@@ -167,13 +160,13 @@ later-inits l m p e n r = r.inits (ap is_init e ∙ n)
 event-room : (l : Limits) (m : Machine) (p : Phase) → m.env.phase ≡ p → m.env.frames ≡ [] → Roomy l m → Roomy l (chosen m (choice_in m.env p)).after
 event-room l m phase.Init e f r = init-room l m m.env.opened (nat_lt m.env.inits m.env.addons) refl refl e f r
 event-room l m phase.Live e f r =
-    let s : m.hub.stage ≡ Going = r.stage ∙ ap stage_in e in
+    let s : m.hub.stage ≡ Going = r.stage ∙ ap stage_of e in
     moved-room l m host.LoopEnd phase.Hooks _ Looped (rw s refl) (rw s refl) refl (rw e refl) (λ q. cc) (later-opened l m phase.Live e refl r) (later-inits l m phase.Live e refl r) r
 event-room l m phase.Hooks e f r =
-    let s : m.hub.stage ≡ Looped = r.stage ∙ ap stage_in e in
+    let s : m.hub.stage ≡ Looped = r.stage ∙ ap stage_of e in
     moved-room l m host.Drain phase.Drain _ Drained (rw s refl) (rw s refl) refl (rw e refl) (λ q. cc) (later-opened l m phase.Hooks e refl r) (later-inits l m phase.Hooks e refl r) r
 event-room l m phase.Drain e f r =
-    let s : m.hub.stage ≡ Drained = r.stage ∙ ap stage_in e in
+    let s : m.hub.stage ≡ Drained = r.stage ∙ ap stage_of e in
     moved-room l m host.Finals phase.Finals _ Final (rw s refl) (rw s refl) refl (rw e refl) (λ q. cc) (later-opened l m phase.Drain e refl r) (later-inits l m phase.Drain e refl r) r
 event-room l m phase.Finals e f r =
     let j : m.locals + (one_if (not m.env.opened) + 1 + 2 * (m.env.addons - m.env.inits) + 0) ≤ l.journal = rw (e, f) at r.journal in
@@ -181,7 +174,7 @@ event-room l m phase.Finals e f r =
       limits = r.limits;
       journal = rw f (gone-fits m.locals (one_if (not m.env.opened)) (2 * (m.env.addons - m.env.inits)) l.journal j);
       history = r.history;
-      stage = r.stage ∙ ap stage_in e;
+      stage = r.stage ∙ ap stage_of e;
       opened = λ q. later-opened l m phase.Finals e refl r;
       inits = λ q. later-inits l m phase.Finals e refl r;
       bare = λ q. ap length f;
@@ -290,7 +283,7 @@ none-owed a i n h e = grind arith
 none-reserved : (l : Limits) (m : Machine) → Roomy l m → m.env.phase ≡ phase.Gone → (reserved_journal m.env ≡ 0) × (reserved_history m.hub ≡ 0)
 none-reserved l m r g =
     let o : m.env.opened ≡ true = r.opened (ap is_init g) in
-    let s : m.hub.stage ≡ Final = r.stage ∙ ap stage_in g in
+    let s : m.hub.stage ≡ Final = r.stage ∙ ap stage_of g in
     (rw (o, g) (none-owed m.env.addons m.env.inits (length m.env.frames) (r.inits (ap is_init g)) (r.bare g)), rw s refl)
 
 from-none : (n k : ℕ) → n ≡ 0 + k → n ≡ k

@@ -2,11 +2,12 @@
 use Rattle.std.proofs.Common.{◌≡◌, ℕ, Bool, true, false, ◌&&◌, ◌==◌, List, [], ◌∷◌, ◌++◌, IsTrue, refl, ap, subst, slice_get, option_map, arith}
 use Rattle.napi_types.specs.declared.entry.Entry.{Entry}
 use Rattle.napi_types.specs.declared.call.Ask.{Ask}
-use Rattle.napi_types.specs.Lists.{or, head, tail}
+use Rattle.napi_types.specs.Lists.{head, tail}
 use Rattle.napi_types.specs.Machine.{Machine}
 use Rattle.napi_types.specs.Step.{Step, step}
 use Rattle.napi_types.specs.Run.{after, IsNext, IsRunBy, final, ComputesBy, steps, all_may, entries_of, is_paired}
 use Rattle.napi_types.specs.Plan.{Plan, Registers, asked, asked_along, registers_along, registers_after}
+use Rattle.std.specs.Option.{unwrap_or}
 
 pub and-left : (a b : Bool) → IsTrue (a && b) → IsTrue a
 and-left true b h = refl
@@ -58,7 +59,7 @@ run-of m (a ∷ bs) (x ∷ xs) c =
     let s : Step = step m a x in
     let paired : IsTrue (is_paired bs xs) = and-left (is_paired bs xs) (s.may && all_may (steps s.after bs xs)) c.1 in
     let may : IsTrue (s.may && all_may (steps s.after bs xs)) = and-right (is_paired bs xs) (s.may && all_may (steps s.after bs xs)) c.1 in (
-      (ap (λ l. or x (head l)) c.0, and-left s.may (all_may (steps s.after bs xs)) may),
+      (ap (λ l. unwrap_or (head l) x) c.0, and-left s.may (all_may (steps s.after bs xs)) may),
       run-of s.after bs xs (
         ap tail c.0,
         and-both (is_paired bs xs) (all_may (steps s.after bs xs)) paired (and-right s.may (all_may (steps s.after bs xs)) may),

@@ -41,9 +41,9 @@ init_begun n e = record {
 }
 
 -- how many asks the innermost frame made
-abbrev pub asks_of : List Frame → ℕ
-asks_of [] = 0
-asks_of (f ∷ fs) = f.asks
+abbrev pub asks_made : List Frame → ℕ
+asks_made [] = 0
+asks_made (f ∷ fs) = f.asks
 
 -- the call's status is the last one, and its frame made one ask more
 abbrev pub noted : Status → Environment → Environment
@@ -51,7 +51,7 @@ noted s e = record e { last = s; frames = first_changed (λ f. record f { asks =
 
 -- a call's entry tells how many frames stand and the number of the ask in its frame
 abbrev pub call_entry : Environment → Call → Reply → Entry
-call_entry e c r = record { actor = actor.Env; depth = length e.frames; step = asks_of e.frames; what = what.Call c; reply = r; given = None }
+call_entry e c r = record { actor = actor.Env; depth = length e.frames; step = asks_made e.frames; what = what.Call c; reply = r; given = None }
 
 -- the number that a result newly gives, which the environment may choose; 0 where it chooses none
 abbrev pub number_of : Out → ℕ
@@ -68,7 +68,7 @@ abbrev pub most_asks : ℕ
 most_asks = 65536
 
 abbrev pub may_ask : Environment → Bool
-may_ask e = nat_lt (asks_of e.frames) most_asks
+may_ask e = nat_lt (asks_made e.frames) most_asks
 
 -- a call, with the number that its result newly gives
 abbrev pub called : Environment → Call → ℕ → Change

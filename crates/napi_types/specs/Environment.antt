@@ -8,9 +8,9 @@ use Rattle.napi_types.specs.declared.entry.Reply.{Reply}
 use Rattle.napi_types.specs.declared.entry.Phase.{Phase}
 use Rattle.napi_types.specs.declared.entry.Phase.TheVariants as phase
 use Rattle.napi_types.specs.declared.body.Body.{Body}
-use Rattle.napi_types.specs.Lists.{or}
-use Rattle.napi_types.specs.Values.{Value, body_of, fresh_value, starting_values}
+use Rattle.napi_types.specs.Values.{Value, body_of, fresh_value, starting_values, undefined_value}
 use Rattle.napi_types.specs.Scopes.{Held, Frame, gives, hold}
+use Rattle.std.specs.Option.{unwrap_or}
 
 pub record Environment : Type 0 where
   -- how many addons and how many texts the script has
@@ -62,9 +62,9 @@ answered o e = record { reply = plain status.Ok o; after = e }
 abbrev pub refused : Status → Environment → Answer
 refused s e = record { reply = plain s out.Nothing; after = e }
 
--- the creation number of a handle's value; a handle that no open scope holds reads as undefined
+-- the creation number of a handle's value. A call that names a handle which no open scope holds is refused before its value is read, so the number given here in its place is never read
 abbrev pub handle_value : Environment → ℕ → ℕ
-handle_value e h = or 1 (gives e.frames h)
+handle_value e h = unwrap_or (gives e.frames h) undefined_value
 
 abbrev pub handle_body : Environment → ℕ → Body
 handle_body e h = body_of e.values (handle_value e h)

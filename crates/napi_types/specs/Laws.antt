@@ -1,13 +1,14 @@
 -- Laws over all environments and all runs.
-use Rattle.std.specs.Prelude.{◌≡◌, ℕ, ◌+◌, ◌*◌, ◌≤◌, List, length, take, Some, None}
+use Rattle.std.specs.Prelude.{◌≡◌, ℕ, ◌+◌, ◌*◌, ◌≤◌, List, length, take, Some, None, filter, is_some}
 use Rattle.napi_types.specs.declared.call.Ask.{Ask}
+use Rattle.napi_types.specs.declared.call.Call.{Call}
 use Rattle.napi_types.specs.declared.call.Call.TheVariants.{Typeof}
 use Rattle.napi_types.specs.declared.entry.Entry.{Entry}
 use Rattle.napi_types.specs.declared.entry.Out.TheVariants as out
 use Rattle.napi_types.specs.declared.entry.Phase.TheVariants as phase
 use Rattle.napi_types.specs.declared.ids.HandleId.{HandleId}
 use Rattle.napi_types.specs.declared.status.Status.TheVariants as status
-use Rattle.napi_types.specs.Calls.{answer}
+use Rattle.napi_types.specs.Calls.{answer, by_groups}
 use Rattle.napi_types.specs.Environment.{Environment, plain}
 use Rattle.napi_types.specs.Machine.{Machine}
 use Rattle.napi_types.specs.Refusals.{refusal}
@@ -24,6 +25,10 @@ pub record RefusesHandle (e : Environment) (h : HandleId) : Type 0 where
 -- a handle that no open scope holds is refused
 abbrev pub RefusesUnknownHandles : Type 0
 RefusesUnknownHandles = (e : Environment) (h : HandleId) → gives e.frames h.0 ≡ None → RefusesHandle e h
+
+-- each call has a row: exactly one group of calls answers it
+abbrev pub EveryCallHasARow : Type 0
+EveryCallHasARow = (e : Environment) (c : Call) (n : ℕ) → length (filter is_some (by_groups e c n)) ≡ 1
 
 -- what came of a run up to any moment is a run
 abbrev pub FrontsAreRuns : Type 0

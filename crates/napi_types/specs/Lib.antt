@@ -5,7 +5,6 @@ pub mod Cuts
 pub mod Edge
 pub mod Environment
 pub mod FirstRun
-pub mod Guards
 pub mod Hub
 pub mod Laws
 pub mod Lists
@@ -13,6 +12,7 @@ pub mod Loop
 pub mod Machine
 pub mod Names
 pub mod Numbers
+pub mod Phases
 pub mod Plan
 pub mod Refusals
 pub mod Registers

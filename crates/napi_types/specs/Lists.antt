@@ -1,5 +1,5 @@
 -- Words on lists and options that the other definitions are told by. A finite map is a list of records, each found by its number.
-use Rattle.std.specs.Prelude.{ℕ, ◌==◌, Bool, true, false, ◌&&◌, List, [], ◌∷◌, ◌++◌, Option, Some, None, find}
+use Rattle.std.specs.Prelude.{ℕ, ◌==◌, Bool, true, false, List, [], ◌∷◌, Option, Some, None, find}
 use Rattle.std.specs.List.{list_any}
 use Rattle.napi_types.specs.declared.status.Status.{Status}
 
@@ -13,16 +13,6 @@ has number n xs = list_any (λ x. number x == n) xs
 
 abbrev pub has_number : ℕ → List ℕ → Bool
 has_number n xs = has (λ m. m) n xs
-
--- the first option that has a value
-abbrev pub or_else : {A : Type 0} → Option A → Option A → Option A
-or_else (Some x) other = Some x
-or_else None other = other
-
--- the value, or a default
-abbrev pub or : {A : Type 0} → A → Option A → A
-or d None = d
-or d (Some x) = x
 
 abbrev pub one : {A : Type 0} → A → List A
 one x = x ∷ []
@@ -39,10 +29,6 @@ tail (x ∷ xs) = xs
 abbrev pub first_changed : {A : Type 0} → (A → A) → List A → List A
 first_changed f [] = []
 first_changed f (x ∷ xs) = f x ∷ xs
-
-abbrev pub all_of : {A : Type 0} → (A → Bool) → List A → Bool
-all_of test [] = true
-all_of test (x ∷ xs) = test x && all_of test xs
 
 -- a status where a test holds
 abbrev pub when : Bool → Status → Option Status

@@ -1,5 +1,5 @@
 -- What the plans of addons ask along a run, and the registers that they leave.
-use Rattle.std.specs.Prelude.{◌≡◌, ℕ, ◌-◌, ◌==◌, cond, List, [], ◌∷◌, map, set, slice_get, Option, Some, None}
+use Rattle.std.specs.Prelude.{◌≡◌, ℕ, ◌-◌, ◌==◌, cond, List, [], ◌∷◌, map, set, Option, Some, None, slice_index_or}
 use Rattle.napi_types.specs.declared.call.Ask.{Ask}
 use Rattle.napi_types.specs.declared.call.Ask.TheVariants as ask
 use Rattle.napi_types.specs.declared.call.Op.{Op}
@@ -7,7 +7,6 @@ use Rattle.napi_types.specs.declared.entry.Entry.{Entry}
 use Rattle.napi_types.specs.declared.entry.Reply.{Reply}
 use Rattle.napi_types.specs.declared.entry.What.{What}
 use Rattle.napi_types.specs.declared.entry.What.TheVariants as what
-use Rattle.napi_types.specs.Lists.{or}
 use Rattle.napi_types.specs.Scopes.{Frame}
 use Rattle.napi_types.specs.Machine.{Machine}
 use Rattle.napi_types.specs.Run.{after}
@@ -19,7 +18,7 @@ Plan = Option (List (List Op))
 
 -- the plan of an addon by its number; an addon that is not there has no entries
 abbrev pub plan_of : List Plan → ℕ → Plan
-plan_of ps a = or (Some []) (slice_get ps a)
+plan_of ps a = slice_index_or ps a (Some [])
 
 -- the 32 registers of each addon
 abbrev pub Registers : Type 0
@@ -29,8 +28,9 @@ Registers = List (List ℕ)
 abbrev pub loaded_registers : List Plan → Registers
 loaded_registers ps = map (λ p. blank_registers) ps
 
+-- the registers of an addon by its number
 abbrev pub registers_of : Registers → ℕ → List ℕ
-registers_of rss a = or [] (slice_get rss a)
+registers_of rss a = slice_index_or rss a []
 
 -- WHAT IS ASKED
 -- what a frame asks: its plan's next operation, filled from its addon's registers; where no plan is told, the ask that is there
@@ -76,7 +76,7 @@ asked_along ps rss m (a ∷ bs) (x ∷ xs) = asked ps rss m a ∷ asked_along ps
 asked_along ps rss m _ _ = []
 
 -- the asks themselves, where every plan is told
-abbrev pub asks_along : List Plan → Registers → Machine → List Entry → List Ask
-asks_along ps rss m [] = []
-asks_along ps rss m (x ∷ xs) =
-    asked ps rss m (ask.Leave None) ∷ asks_along ps (registers_after ps rss m x) (after m (asked ps rss m (ask.Leave None)) x) xs
+abbrev pub told_asks_along : List Plan → Registers → Machine → List Entry → List Ask
+told_asks_along ps rss m [] = []
+told_asks_along ps rss m (x ∷ xs) =
+    asked ps rss m (ask.Leave None) ∷ told_asks_along ps (registers_after ps rss m x) (after m (asked ps rss m (ask.Leave None)) x) xs

@@ -25,11 +25,11 @@ filled (op.OpenHandleScope w) rs = ask.Do call.OpenHandleScope
 filled (op.CloseHandleScope r) rs = ask.Do (call.CloseHandleScope (record { 0 = register_at rs r }))
 
 -- the register that keeps an operation's result
-abbrev pub kept_in : Op → Option ℕ
-kept_in (op.CreateObject w) = Some w
-kept_in (op.Typeof r w) = Some w
-kept_in (op.OpenHandleScope w) = Some w
-kept_in (op.CloseHandleScope r) = None
+abbrev pub result_register : Op → Option ℕ
+result_register (op.CreateObject w) = Some w
+result_register (op.Typeof r w) = Some w
+result_register (op.OpenHandleScope w) = Some w
+result_register (op.CloseHandleScope r) = None
 
 -- a flag as a number
 abbrev pub flag_number : Bool → ℕ
@@ -81,7 +81,7 @@ kept_where_ok rs w o _ = rs
 
 -- the registers after the reply to what the plan asked in a frame of that entry at that step
 abbrev pub kept : List (List Op) → List ℕ → ℕ → ℕ → Reply → List ℕ
-kept plan rs entry step reply = kept_where_ok rs (option_and_then kept_in (operation plan entry step)) reply.out reply.status
+kept plan rs entry step reply = kept_where_ok rs (option_and_then result_register (operation plan entry step)) reply.out reply.status
 
 -- the registers of an addon that was loaded
 abbrev pub blank_registers : List ℕ

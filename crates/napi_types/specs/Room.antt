@@ -3,10 +3,10 @@ use Rattle.std.specs.Prelude.{ℕ, ◌+◌, ◌-◌, ◌*◌, Bool, true, false,
 use Rattle.napi_types.specs.declared.call.Call.{Call}
 use Rattle.napi_types.specs.declared.entry.Phase.{Phase}
 use Rattle.napi_types.specs.declared.entry.Phase.TheVariants as phase
-use Rattle.napi_types.specs.Guards.{is_growing}
 use Rattle.napi_types.specs.Environment.{Environment}
 use Rattle.napi_types.specs.Hub.{Hub, Stage, Before, Going, Looped, Drained, Final}
 use Rattle.napi_types.specs.Machine.{Machine}
+use Rattle.napi_types.specs.declared.call.Call.TheVariants.{CreateObject, Typeof, OpenHandleScope, CloseHandleScope}
 
 -- a list's room: its limit, and the places that its entries and its reserved places take
 pub record Room : Type 0 where
@@ -45,7 +45,14 @@ room_of m c = journal_room m.env m.locals m.limits.journal
 
 -- the places that a call needs, counted as if it were accepted
 abbrev pub need : Call → ℕ
-need _ = 1
+need CreateObject = 1
+need (Typeof h) = 1
+need OpenHandleScope = 1
+need (CloseHandleScope s) = 1
+
+-- how many entries a list may have at most
+abbrev pub most_entries : ℕ
+most_entries = 4194304
 
 -- how many places have their memory from the start, in a list whose limit is not smaller
 abbrev pub first_places : ℕ
@@ -54,6 +61,13 @@ first_places = 65536
 -- entries, reserved places and the call's need pass the limit
 abbrev pub is_full : Room → Call → Bool
 is_full r c = nat_lt r.limit (r.taken + need c)
+
+-- a call that takes memory beside that of its places in the list of its entry: one whose result is a newly issued number
+abbrev pub is_growing : Call → Bool
+is_growing CreateObject = true
+is_growing OpenHandleScope = true
+is_growing (Typeof h) = false
+is_growing (CloseHandleScope s) = false
 
 -- the call grows, or entries, reserved places and its need pass the first places
 abbrev pub may_want_memory : Room → Call → Bool

@@ -3,7 +3,8 @@ use Rattle.std.specs.Prelude.{ℕ, ◌==◌, Bool, not, List, [], ◌∷◌, ◌
 use Rattle.napi_types.specs.declared.entry.Cause.{Cause}
 use Rattle.napi_types.specs.declared.status.Status.{Status}
 use Rattle.napi_types.specs.declared.status.Status.TheVariants as status
-use Rattle.napi_types.specs.Lists.{found, has, or_else, first_changed, when, tail}
+use Rattle.napi_types.specs.Lists.{found, has, first_changed, when, tail, one}
+use Rattle.std.specs.Option.{option_or}
 
 -- a handle, and the creation number of its value
 pub record Held : Type 0 where
@@ -34,20 +35,21 @@ value_in hs h = option_map (λ p. p.value) (found (λ p. p.handle) h hs)
 
 abbrev pub value_in_scopes : List Scope → ℕ → Option ℕ
 value_in_scopes [] h = None
-value_in_scopes (s ∷ ss) h = or_else (value_in s.held h) (value_in_scopes ss h)
+value_in_scopes (s ∷ ss) h = option_or (value_in s.held h) (value_in_scopes ss h)
 
 -- the value of a handle in an open scope of any frame; none where no open scope holds it
 abbrev pub gives : List Frame → ℕ → Option ℕ
 gives [] h = None
-gives (f ∷ fs) h = or_else (value_in_scopes f.scopes h) (or_else (value_in f.own h) (gives fs h))
+gives (f ∷ fs) h = option_or (value_in_scopes f.scopes h) (option_or (value_in f.own h) (gives fs h))
 
--- the innermost of the scopes, or else the frame's own, holds one handle more
-abbrev pub held_by_scopes : Held → List Held → List Scope → List Held × List Scope
-held_by_scopes p own [] = (own ++ p ∷ [], [])
-held_by_scopes p own (s ∷ ss) = (own, record s { held = s.held ++ p ∷ [] } ∷ ss)
+-- a frame that holds one handle more, in the innermost of its scopes, or else in its own
+abbrev pub hold_at : Held → Frame → List Scope → Frame
+hold_at p f [] = record f { own = f.own ++ one p }
+hold_at p f (s ∷ ss) = record f { scopes = record s { held = s.held ++ one p } ∷ ss }
 
+-- the innermost scope of a frame holds one handle more
 abbrev pub hold_in : Held → Frame → Frame
-hold_in p f = record f { own = (held_by_scopes p f.own f.scopes).0; scopes = (held_by_scopes p f.own f.scopes).1 }
+hold_in p f = hold_at p f f.scopes
 
 -- the innermost scope of the innermost frame holds one handle more
 abbrev pub hold : Held → List Frame → List Frame
@@ -72,4 +74,4 @@ has_scope n ss = has (λ s. s.number) n ss
 -- why the scope of that number cannot be closed: no scope is open, or else the number is none of theirs, or else it is not the innermost
 abbrev pub closing : ℕ → List Scope → Option Status
 closing n [] = Some status.HandleScopeMismatch
-closing n (s ∷ ss) = or_else (when (not (has_scope n (s ∷ ss))) status.InvalidArg) (when (not (s.number == n)) status.HandleScopeMismatch)
+closing n (s ∷ ss) = option_or (when (not (has_scope n (s ∷ ss))) status.InvalidArg) (when (not (s.number == n)) status.HandleScopeMismatch)

@@ -46,9 +46,9 @@ operation_named name args =
     else None)))
 
 -- the operation that a value is: an array of its name and its arguments
-abbrev pub operation : Data → Option Op
-operation (array (item (string name) args)) = operation_named name args
-operation _ = None
+abbrev pub operation_in : Data → Option Op
+operation_in (array (item (string name) args)) = operation_named name args
+operation_in _ = None
 
 -- what each item is, where each is one
 abbrev pub each : {A : Type 0} → (Data → Option A) → Items → Option (List A)
@@ -61,7 +61,7 @@ most_operations = 4096
 
 -- the operations that the items of an entry are, where there are not too many
 abbrev pub operations : Items → Option (List Op)
-operations ds = if nat_le (items_len ds) most_operations then each operation ds else None
+operations ds = if nat_le (items_len ds) most_operations then each operation_in ds else None
 
 -- the operations of an entry, which is an array
 abbrev pub entry : Data → Option (List Op)
@@ -85,8 +85,8 @@ abbrev pub is_empty_array : Data → Bool
 is_empty_array d = unwrap_or (option_map (λ ds. items_len ds == 0) (as_array d)) false
 
 -- a member is this whole number
-abbrev pub has_number : List ℕ → ℕ → Data → Bool
-has_number name n d = unwrap_or (option_map (λ m. m == n) (option_and_then whole_number (get name d))) false
+abbrev pub member_is : List ℕ → ℕ → Data → Bool
+member_is name n d = unwrap_or (option_map (λ m. m == n) (option_and_then whole_number (get name d))) false
 
 -- a member is a text
 abbrev pub has_text : List ℕ → Data → Bool
@@ -97,16 +97,16 @@ abbrev pub only_item_of : List ℕ → Data → Option Data
 only_item_of name d = option_and_then only_item (get name d)
 
 -- the plan of an addon with this one entry
-abbrev pub plan_of : List Op → AddonPlan
-plan_of operations = record { entries = operations ∷ [] }
+abbrev pub plan_with : List Op → AddonPlan
+plan_with operations = record { entries = operations ∷ [] }
 
 -- the plan of an addon: an object with exactly a name, which is a text, and entries, of which there is one
 abbrev pub addon : Data → Option AddonPlan
-addon d = if has_members 2 d && has_text (codes "name") d then option_map plan_of (option_and_then entry (only_item_of (codes "entries") d)) else None
+addon d = if has_members 2 d && has_text (codes "name") d then option_map plan_with (option_and_then entry (only_item_of (codes "entries") d)) else None
 
 -- an object with exactly the members `version`, `workers`, `threads` and `addons`, where the first three are 9, 0 and an empty array
 abbrev pub is_root : Data → Bool
-is_root d = has_members 4 d && has_number (codes "version") 9 d && has_number (codes "workers") 0 d && unwrap_or (option_map is_empty_array (get (codes "threads") d)) false
+is_root d = has_members 4 d && member_is (codes "version") 9 d && member_is (codes "workers") 0 d && unwrap_or (option_map is_empty_array (get (codes "threads") d)) false
 
 -- the script of the first form with this one addon
 abbrev pub script_of : AddonPlan → Script

@@ -19,7 +19,7 @@ use Rattle.napi_types.specs.Environment.{Environment}
 use Rattle.napi_types.specs.Hub.{Hub, hub_next}
 use Rattle.napi_types.specs.Machine.{Machine}
 use Rattle.napi_types.specs.Room.{Room, room_of, is_full, may_want_memory}
-use Rattle.napi_types.specs.Changes.{Change, host_entry, opened, init_begun, asks_of, number_of, is_fresh, most_asks, may_ask, called, frame_ended, gone, in_phase}
+use Rattle.napi_types.specs.Changes.{Change, host_entry, opened, init_begun, asks_made, number_of, is_fresh, most_asks, may_ask, called, frame_ended, gone, in_phase}
 use Rattle.napi_types.specs.Loop.{Event, Opens, Inits, Goes, EndsLoop, Drains, FinalsCome, IsGone}
 use Rattle.napi_types.specs.Teardown.{choice}
 
@@ -67,7 +67,7 @@ chosen m (Some event) = event_step m event
 -- STEPS OF A FRAME
 -- whether a frame may be cut so, where this is its ask: after its last ask, or at a call that stopped
 abbrev pub may_cut : Machine → Ask → Why → Bool
-may_cut m a why.Asks = asks_of m.env.frames == most_asks
+may_cut m a why.Asks = asks_made m.env.frames == most_asks
 may_cut m (ask.Do c) why.Full = may_ask m.env && is_full (room_of m c) c
 may_cut m (ask.Do c) why.Memory = may_ask m.env && may_want_memory (room_of m c) c && not (is_full (room_of m c) c)
 may_cut m (ask.Leave v) _ = false

@@ -15,13 +15,14 @@ use Rattle.napi_types.specs.declared.entry.What.TheVariants as what
 use Rattle.napi_types.specs.Environment.{plain}
 use Rattle.napi_types.specs.Changes.{host_entry}
 use Rattle.napi_types.specs.Whole.{Setting}
+use Rattle.napi_types.specs.Room.{most_entries}
 
--- a script of one addon with one entry, with the three texts that every script has, and room for 4,194,304 entries in each list
+-- a script of one addon with one entry, with the three texts that every script has, and room for the most entries in each list
 abbrev pub script_of : List Op → Setting
 script_of operations = record {
   plans = Some (operations ∷ []) ∷ [];
   texts = 3;
-  limits = record { journal = 4194304; history = 4194304 };
+  limits = record { journal = most_entries; history = most_entries };
 }
 
 -- a call in the only frame: the number of the ask, the call, its status and its result

@@ -4,10 +4,10 @@ use Rattle.napi_types.specs.declared.entry.Entry.{Entry}
 use Rattle.napi_types.specs.declared.entry.Limits.{Limits}
 use Rattle.napi_types.specs.declared.entry.Phase.TheVariants as phase
 use Rattle.napi_types.specs.declared.call.Ask.{Ask}
-use Rattle.napi_types.specs.Lists.{all_of}
 use Rattle.napi_types.specs.Machine.{Machine, opening}
 use Rattle.napi_types.specs.Run.{IsRunBy, final}
-use Rattle.napi_types.specs.Plan.{Plan, Registers, loaded_registers, asked_along, asks_along, registers_along}
+use Rattle.napi_types.specs.Plan.{Plan, Registers, loaded_registers, asked_along, told_asks_along, registers_along}
+use Rattle.std.specs.List.{list_all}
 
 -- what a run is a run of: what each addon of the script tells of its plan, how many texts there are, and the limits
 pub record Setting : Type 0 where
@@ -19,7 +19,7 @@ abbrev pub opening_of : Setting → Machine
 opening_of s = opening (length s.plans) s.texts s.limits
 
 abbrev pub all_told : Setting → Bool
-all_told s = all_of is_some s.plans
+all_told s = list_all is_some s.plans
 
 -- the machine after a run by these asks
 abbrev pub final_of : Setting → List Ask → List Entry → Machine
@@ -30,17 +30,17 @@ abbrev pub final_registers : Setting → List Ask → List Entry → Registers
 final_registers s bs xs = registers_along s.plans (loaded_registers s.plans) (opening_of s) bs xs
 
 -- the asks that the plans give along it
-abbrev pub asks_of_plans : Setting → List Ask → List Entry → List Ask
-asks_of_plans s bs xs = asked_along s.plans (loaded_registers s.plans) (opening_of s) bs xs
+abbrev pub planned_asks : Setting → List Ask → List Entry → List Ask
+planned_asks s bs xs = asked_along s.plans (loaded_registers s.plans) (opening_of s) bs xs
 
 -- the asks that it has where every plan is told
 abbrev pub told_asks : Setting → List Entry → List Ask
-told_asks s xs = asks_along s.plans (loaded_registers s.plans) (opening_of s) xs
+told_asks s xs = told_asks_along s.plans (loaded_registers s.plans) (opening_of s) xs
 
 -- the entries are a run at these asks, and the asks are those of the plans
 pub record RunsBy (s : Setting) (bs : List Ask) (xs : List Entry) : Type 0 where
   pub steps : IsRunBy (opening_of s) bs xs
-  pub asked : bs ≡ asks_of_plans s bs xs
+  pub asked : bs ≡ planned_asks s bs xs
 
 -- a run of the script, by some asks
 abbrev pub IsRun : Setting → List Entry → Type 0

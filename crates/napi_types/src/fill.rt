@@ -1,6 +1,6 @@
 //! How an operation of a script is filled from registers, and what a register keeps of its result.
 ghost use Rattle.std.specs.Prelude.{◌≡◌};
-ghost use Rattle.napi_types.specs.Registers.{register_at, filled, kept_in, register_value};
+ghost use Rattle.napi_types.specs.Registers.{register_at, filled, result_register, register_value};
 
 use crate::{Ask, Call, HandleId, Op, Out, ScopeId};
 
@@ -26,8 +26,8 @@ impl Op {
     }
 
     /// The register that keeps the result, `None` exactly for an operation that keeps none.
-    pub fn kept_in(&self) -> Option<u8>
-        ensures { result ≡ kept_in self.now }
+    pub fn result_register(&self) -> Option<u8>
+        ensures { result ≡ result_register self.now }
     {
         match *self {
             Op::CreateObject(result) | Op::Typeof(_, result) | Op::OpenHandleScope(result) => {

@@ -3,7 +3,7 @@ ghost use Rattle.napi_types.specs.FirstRun as first_run;
 ghost use Rattle.napi_types.specs.ScopeOrder as scope_order;
 ghost use Rattle.napi_types.specs.ClosedScope as closed_scope;
 ghost use Rattle.napi_types.specs.Cuts.{CutsForRoom, CutAtLastAsk, NotBeforeLastAsk};
-ghost use Rattle.napi_types.specs.Laws.{RefusesUnknownHandles, FrontsAreRuns, RoomSuffices};
+ghost use Rattle.napi_types.specs.Laws.{RefusesUnknownHandles, FrontsAreRuns, RoomSuffices, EveryCallHasARow};
 
 /// The first run: the entries are a run of its script and come to its end.
 pub fn first_run_ends()
@@ -58,6 +58,11 @@ pub fn closed_scope_is_strict()
 /// A handle that no open scope holds is an invalid argument, and the call that names it changes nothing.
 pub fn refuses_unknown_handles()
     ensures { RefusesUnknownHandles }
+{}
+
+/// Each call is answered by exactly one group of calls.
+pub fn every_call_has_a_row()
+    ensures { EveryCallHasARow }
 {}
 
 /// A frame is cut at a call that has no place in the journal, and for want of memory at a call that grows.

@@ -78,7 +78,7 @@ impl Addon for ScriptAddon {
         let Some(operation) = self.operation(entry, step) else {
             return;
         };
-        let Some(register) = operation.kept_in() else {
+        let Some(register) = operation.result_register() else {
             return;
         };
         let Some(number) = reply.out.register_value() else {

@@ -8,26 +8,27 @@ use Rattle.napi_types.specs.declared.entry.Local.{Local}
 use Rattle.napi_types.specs.Scopes.{frame_of}
 use Rattle.napi_types.specs.Changes.{init_begun}
 use Rattle.napi_types.specs.Registers.{blank_registers}
-use Rattle.napi_types.specs.Plan.{Plan, plan_of}
+use Rattle.napi_types.specs.Plan.{Plan, plan_of, registers_of}
 use Rattle.napi_types.specs.Whole.{Setting}
 use Rattle.env_core.specs.Core.{Core, wrote, opened_core}
-use Rattle.script_host.specs.Addons.{plan_at, registers_at, loaded_at, OthersStay}
+use Rattle.addon_trait.specs.Addons.{loaded_at, OthersStay}
 use Rattle.script_host.specs.Recording.{IsRecorded, IsEnded, StandsAt, Continues, loaded_plan, alone_setting}
 use Rattle.script_host.proofs.Recordings.{opened-recorded, init-grown}
+use Rattle.napi_types.specs.Room.{most_entries}
 
 -- the member that was set is there
 set-here : {A : Type 0} (l : List A) (x d : A) → 0 < length l → get_or (set l 0 x) 0 d ≡ x
 set-here l x d h = get_or-set_same l 0 x d h
 
-pub registers-loaded : (before loaded : List (List ℕ)) → 0 < length before → loaded ≡ set before 0 blank_registers → registers_at loaded 0 ≡ blank_registers
-registers-loaded before loaded h e = ap (λ l. registers_at l 0) e ∙ set-here before blank_registers [] h
+pub registers-loaded : (before loaded : List (List ℕ)) → 0 < length before → loaded ≡ set before 0 blank_registers → registers_of loaded 0 ≡ blank_registers
+registers-loaded before loaded h e = ap (λ l. registers_of l 0) e ∙ set-here before blank_registers [] h
 
 pub others-loaded : (before loaded : List (List ℕ)) → 0 < length before → loaded ≡ set before 0 blank_registers → OthersStay before loaded 0
 others-loaded before loaded h e = e ∙ ap (set before 0) (sym (registers-loaded before loaded h e))
 
 pub plan-loaded : (before loaded : List Plan) (entries : List (List Op)) → 0 < length before → loaded ≡ loaded_at before 0 entries
-    → plan_at loaded 0 ≡ loaded_plan (plan_at before 0) entries
-plan-loaded before loaded entries h e = ap (λ l. plan_at l 0) e ∙ set-here before (loaded_plan (plan_at before 0) entries) _ h
+    → plan_of loaded 0 ≡ loaded_plan (plan_of before 0) entries
+plan-loaded before loaded entries h e = ap (λ l. plan_of l 0) e ∙ set-here before (loaded_plan (plan_of before 0) entries) _ h
 
 pub begun-stands : (core begun : Core) (texts limit : ℕ) → core ≡ opened_core 1 texts limit → begun ≡ wrote (init_begun 0 core.env) core → StandsAt begun 0
 begun-stands core begun texts limit e f = record {
@@ -40,7 +41,7 @@ begun-stands core begun texts limit e f = record {
 
 -- the opening, the init frame, and what comes after it
 pub whole-ended : (told p : Plan) (texts : ℕ) (core begun framed : Core) (journal : List Local) (history left : List Entry) (mine now : List ℕ)
-    → core ≡ opened_core 1 texts 4194304 → begun ≡ wrote (init_begun 0 core.env) core → history ≡ []
+    → core ≡ opened_core 1 texts most_entries → begun ≡ wrote (init_begun 0 core.env) core → history ≡ []
     → mine ≡ blank_registers → p ≡ told
     → Continues p begun mine framed now
     → ((s : Setting) (own : List ℕ) → IsRecorded s framed history own → IsEnded s journal left own)

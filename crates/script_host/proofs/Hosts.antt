@@ -11,7 +11,7 @@ use Rattle.napi_types.specs.Plan.{Plan, plan_of, registers_of}
 use Rattle.napi_types.specs.Weave.{weave}
 use Rattle.napi_types.specs.Whole.{Setting, final_of, final_registers}
 use Rattle.napi_types.proofs.Rooms.{room-suffices}
-use Rattle.script_host.specs.Addons.{plan_at, registers_at, loaded_at, OthersStay}
+use Rattle.addon_trait.specs.Addons.{loaded_at, OthersStay}
 use Rattle.script_host.specs.Recording.{AgreesWhereTold, IsEnded, loaded_plan, alone_setting}
 use Rattle.script_host.specs.declared.words.Line.{Line}
 use Rattle.script_host.specs.declared.words.Line.TheVariants as line
@@ -34,7 +34,7 @@ history-within told texts journal history mine e =
     omega (arith, room.history, e.shareds)
 
 -- the first member is read alike
-first-registers : (rss : List (List ℕ)) → registers_of rss 0 ≡ registers_at rss 0
+first-registers : (rss : List (List ℕ)) → registers_of rss 0 ≡ registers_of rss 0
 first-registers [] = refl
 first-registers (rs ∷ rss) = refl
 
@@ -45,14 +45,14 @@ others-dropped (rs ∷ rss) after h = ap (drop 1) h
 -- a run with one addon, as the top call tells it
 pub ran-of : (script : Script) (given : AddonPlan) (texts : ℕ) (handed after : List Plan) (registers registers_after : List (List ℕ)) (left : Record)
     → script.addons ≡ given ∷ [] → length script.texts ≡ texts → 0 < length handed
-    → IsEnded (alone_setting (loaded_plan (plan_at handed 0) given.entries) texts) left.journal left.history (registers_at registers_after 0)
+    → IsEnded (alone_setting (loaded_plan (plan_of handed 0) given.entries) texts) left.journal left.history (registers_of registers_after 0)
     → after ≡ loaded_at handed 0 given.entries → OthersStay registers registers_after 0
     → Ran script handed registers left after registers_after
 ran-of script given texts [] after registers registers_after left one same more ended loaded others = absurd (omega arith)
 ran-of script given texts (told ∷ rest) after registers registers_after left one same more ended loaded others =
     let setting : setting_of script (told ∷ rest) ≡ alone_setting (loaded_plan told given.entries) texts = rw (one, same) refl in
-    let E : Setting → Type 0 = λ s. IsEnded s left.journal left.history (registers_at registers_after 0) in
-    let e : IsEnded (setting_of script (told ∷ rest)) left.journal left.history (registers_at registers_after 0) = subst E (sym setting) ended in
+    let E : Setting → Type 0 = λ s. IsEnded s left.journal left.history (registers_of registers_after 0) in
+    let e : IsEnded (setting_of script (told ∷ rest)) left.journal left.history (registers_of registers_after 0) = subst E (sym setting) ended in
     let count : length script.addons ≡ 1 = ap length one in
     let A : List ℕ → Type 0 = λ mine. AgreesWhereTold (plan_of (setting_of script (told ∷ rest)).plans 0) mine
         (registers_of (final_registers (setting_of script (told ∷ rest)) e.asks (weave left.journal left.history)) 0) in

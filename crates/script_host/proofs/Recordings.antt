@@ -19,11 +19,12 @@ use Rattle.napi_types.specs.declared.entry.Limits.{Limits}
 use Rattle.napi_types.specs.Registers.{blank_registers}
 use Rattle.napi_types.specs.Plan.{Plan, plan_of, registers_of, asked, registers_after, Registers}
 use Rattle.napi_types.specs.Weave.{weave, StandsWithin, is_shared, is_hub_event, IsParted}
-use Rattle.napi_types.specs.Whole.{Setting, opening_of, RunsBy, EndsBy, final_of, final_registers, asks_of_plans}
+use Rattle.napi_types.specs.Whole.{Setting, opening_of, RunsBy, EndsBy, final_of, final_registers, planned_asks}
 use Rattle.napi_types.proofs.Runs.{run-more, final-more, asked-more, registers-more}
 use Rattle.napi_types.proofs.Weaves.{weave-local, weave-shared, within-append, within-more, parted-local, parted-shared}
 use Rattle.env_core.specs.Core.{Core, wrote, opened_core}
-use Rattle.script_host.specs.Recording.{machine_of, stage_of, AgreesWhereTold, IsRecorded, IsEnded}
+use Rattle.script_host.specs.Recording.{machine_of, AgreesWhereTold, IsRecorded, IsEnded}
+use Rattle.napi_types.specs.Phases.{stage_of}
 
 -- what one more entry makes of a run by its asks
 pub record Grown (s : Setting) (asks : List Ask) (xs : List Entry) (after : Machine) (registers : Registers) : Type 0 where
@@ -44,9 +45,9 @@ grow s bs xs m rss a x st r f g next entry may here =
         steps = run-more (opening_of s) bs xs a x r.steps is_next;
         asked =
             ap (λ l. l ++ a ∷ []) r.asked
-            ∙ ap (λ b. asks_of_plans s bs xs ++ b ∷ []) here
-            ∙ ap (λ qs. asks_of_plans s bs xs ++ asked s.plans qs m a ∷ []) (sym g)
-            ∙ ap (λ n. asks_of_plans s bs xs ++ asked s.plans (final_registers s bs xs) n a ∷ []) (sym f)
+            ∙ ap (λ b. planned_asks s bs xs ++ b ∷ []) here
+            ∙ ap (λ qs. planned_asks s bs xs ++ asked s.plans qs m a ∷ []) (sym g)
+            ∙ ap (λ n. planned_asks s bs xs ++ asked s.plans (final_registers s bs xs) n a ∷ []) (sym f)
             ∙ sym (asked-more s.plans _ (opening_of s) bs xs a x r.steps);
       };
       final = final-more (opening_of s) bs xs a x r.steps ∙ ap (λ n. after n a x) f ∙ ap (λ t. t.after) next;
@@ -101,7 +102,7 @@ pub shared-grown : (s : Setting) (core : Core) (history : List Entry) (mine : Li
     (event : HostStep) (o : Out) (p : Phase)
     → core.env.frames ≡ []
     → step (machine_of s.limits core history) (ask.Leave None) (host_entry event o)
-        ≡ record { entry = host_entry event o; after = hub_left (machine_of s.limits core history) p; may = true }
+    ≡ record { entry = host_entry event o; after = hub_left (machine_of s.limits core history) p; may = true }
     → is_hub_event event ≡ true
     → IsRecorded s (record core { env = in_phase p core.env; position = length history + 1 }) (history ++ host_entry event o ∷ []) mine
 shared-grown s core history mine r event o p alone next shared_one =
@@ -189,7 +190,6 @@ pub init-grown : (s : Setting) (core : Core) (history : List Entry) (mine : List
     → IsRecorded s (wrote (init_begun 0 core.env) core) history mine
 init-grown s core history mine r alone here opened none one =
     local-grown s core history mine r (ask.Leave None) (init_begun 0 core.env) r.own mine (rw (alone, here, opened, none, one) refl) (rw alone refl) refl r.agrees refl refl
-
 
 -- THE END
 -- a recorded run whose environment is gone came to its end

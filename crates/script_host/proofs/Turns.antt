@@ -15,13 +15,13 @@ use Rattle.napi_types.specs.declared.entry.Why.TheVariants as why
 use Rattle.napi_types.specs.declared.status.Status.{Status}
 use Rattle.napi_types.specs.declared.status.Status.TheVariants as status
 use Rattle.napi_types.specs.declared.ids.HandleId.{HandleId}
-use Rattle.napi_types.specs.Scopes.{Frame, hold_in, hold, open_in, close_in}
+use Rattle.napi_types.specs.Scopes.{Frame, hold, open_in, close_in, Held, Scope, hold_at}
 use Rattle.napi_types.specs.Lists.{first_changed, tail}
 use Rattle.napi_types.specs.Environment.{Environment}
 use Rattle.napi_types.specs.Refusals.{refusal}
 use Rattle.napi_types.specs.Calls.{answer, answer_by, accepted}
 use Rattle.napi_types.specs.Room.{Room, journal_room, room_of, is_full, may_want_memory}
-use Rattle.napi_types.specs.Changes.{Change, asks_of, number_of, is_fresh, most_asks, may_ask, called, frame_ended}
+use Rattle.napi_types.specs.Changes.{Change, asks_made, number_of, is_fresh, most_asks, may_ask, called, frame_ended}
 use Rattle.napi_types.specs.Machine.{Machine}
 use Rattle.napi_types.specs.Step.{Step, locally, env_step, frame_step, cut_of, may_cut, call_step}
 use Rattle.napi_types.specs.Registers.{plan_ask, kept}
@@ -29,10 +29,11 @@ use Rattle.napi_types.specs.Plan.{Plan, plan_of, frame_ask, frames_ask, kept_by,
 use Rattle.napi_types.specs.Whole.{Setting}
 use Rattle.env_core.specs.Core.{Core, wrote, room_in}
 use Rattle.env_core.specs.Steps.{Replies, StopsBy}
-use Rattle.script_host.specs.Addons.{registers_at, OthersStay}
-use Rattle.script_host.specs.Recording.{Continues, machine_of, stage_of, AgreesWhereTold, IsRecorded, StandsAt, IsSamePlace, why_stopped}
+use Rattle.addon_trait.specs.Addons.{OthersStay}
+use Rattle.script_host.specs.Recording.{Continues, machine_of, AgreesWhereTold, IsRecorded, StandsAt, IsSamePlace, why_stopped}
 use Rattle.napi_types.proofs.Answers.{called-keeps}
 use Rattle.script_host.proofs.Recordings.{local-grown}
+use Rattle.napi_types.specs.Phases.{stage_of}
 
 -- what a call answers is no cut
 reply-uncut : (e : Environment) (c : Call) (n : ℕ) (x : Option Status) → cut_of (answer_by e c n x).reply.out ≡ None
@@ -92,8 +93,8 @@ agrees-after None (Some q) f mine own now r n e agrees entry asks told = cc
 agrees-after (Some p) (Some q) f mine own now r n e agrees entry asks told = told ∙ cc
 
 -- THE THREE TURNS
-below-most : (fs : List Frame) (f : Frame) (n : ℕ) → fs ≡ f ∷ [] → f.asks ≡ n → n < most_asks → nat_lt (asks_of fs) most_asks ≡ true
-below-most fs f n alone asks h = ap (λ gs. nat_lt (asks_of gs) most_asks) alone ∙ ap (λ k. nat_lt k most_asks) asks ∙ lt-true n most_asks h
+below-most : (fs : List Frame) (f : Frame) (n : ℕ) → fs ≡ f ∷ [] → f.asks ≡ n → n < most_asks → nat_lt (asks_made fs) most_asks ≡ true
+below-most fs f n alone asks h = ap (λ gs. nat_lt (asks_made gs) most_asks) alone ∙ ap (λ k. nat_lt k most_asks) asks ∙ lt-true n most_asks h
   where
     lt-true : (a b : ℕ) → a < b → nat_lt a b ≡ true
     lt-true a b k = grind arith
@@ -182,22 +183,27 @@ record OneFrame (f : Frame) (fs : List Frame) : Type 0 where
   entry : frame.entry ≡ f.entry
   asks : frame.asks ≡ f.asks
 
+frame-held : (p : Held) (f : Frame) (ss : List Scope) (fs : List Frame) → fs ≡ hold_at p f ss ∷ [] → OneFrame f fs
+frame-held p f [] fs e = record { frame = hold_at p f []; alone = e; addon = refl; entry = refl; asks = refl }
+frame-held p f (s ∷ ss) fs e = record { frame = hold_at p f (s ∷ ss); alone = e; addon = refl; entry = refl; asks = refl }
+
 frame-accepted : (e : Environment) (c : Call) (n : ℕ) (f : Frame) → e.frames ≡ f ∷ [] → OneFrame f (accepted e c n).after.frames
-frame-accepted e CreateObject n f alone = record {
-  frame = hold_in (record { handle = e.handles + 1; value = e.made + 1 }) f;
-  alone = ap (hold (record { handle = e.handles + 1; value = e.made + 1 })) alone;
-  addon = refl; entry = refl; asks = refl;
-}
+frame-accepted e CreateObject n f alone =
+    let p : Held = record { handle = e.handles + 1; value = e.made + 1 } in frame-held p f f.scopes _ (ap (hold p) alone)
 frame-accepted e (Typeof h) n f alone = record { frame = f; alone = alone; addon = refl; entry = refl; asks = refl }
 frame-accepted e OpenHandleScope n f alone = record {
   frame = record f { scopes = record { number = n; held = [] } ∷ f.scopes };
   alone = ap (open_in n) alone;
-  addon = refl; entry = refl; asks = refl;
+  addon = refl;
+  entry = refl;
+  asks = refl;
 }
 frame-accepted e (CloseHandleScope x) n f alone = record {
   frame = record f { scopes = tail f.scopes };
   alone = ap close_in alone;
-  addon = refl; entry = refl; asks = refl;
+  addon = refl;
+  entry = refl;
+  asks = refl;
 }
 
 frame-by : (e : Environment) (c : Call) (n : ℕ) (f : Frame) (x : Option Status) → e.frames ≡ f ∷ [] → OneFrame f (answer_by e c n x).after.frames
@@ -261,8 +267,8 @@ called-turn s history core new mine mid now p q n c r e st below asked reply pla
     called-grown s core history mine p n c r new now e st below asked reply (subst L same (subst K plans keeps)) rec
 
 -- a frame that made all its asks is cut, whatever it would ask
-all_made : (fs : List Frame) (f : Frame) (n : ℕ) → fs ≡ f ∷ [] → f.asks ≡ n → n ≡ most_asks → (asks_of fs == most_asks) ≡ true
-all_made fs f n alone asks e = ap (λ gs. asks_of gs == most_asks) alone ∙ ap (λ k. k == most_asks) (asks ∙ e)
+all_made : (fs : List Frame) (f : Frame) (n : ℕ) → fs ≡ f ∷ [] → f.asks ≡ n → n ≡ most_asks → (asks_made fs == most_asks) ≡ true
+all_made fs f n alone asks e = ap (λ gs. asks_made gs == most_asks) alone ∙ ap (λ k. k == most_asks) (asks ∙ e)
 
 pub spent-turn : (s : Setting) (history : List Entry) (core new : Core) (mine : List ℕ) (n : ℕ)
     → StandsAt core n → n ≡ most_asks
@@ -278,7 +284,7 @@ spent-turn s history core new mine n st all made rec =
 
 -- TURNS IN A ROW
 pub others-then : (a b c : List (List ℕ)) (i : ℕ) → OthersStay a b i → OthersStay b c i → OthersStay a c i
-others-then a b c i ab bc = bc ∙ ap (λ l. set l i (registers_at c i)) ab ∙ set-set a i (registers_at b i) (registers_at c i)
+others-then a b c i ab bc = bc ∙ ap (λ l. set l i (registers_of c i)) ab ∙ set-set a i (registers_of b i) (registers_of c i)
 
 pub same-then : (a b c : Core) → IsSamePlace a b → IsSamePlace b c → IsSamePlace a c
 same-then a b c ab bc = record { addons = bc.addons ∙ ab.addons; opened = bc.opened ∙ ab.opened; inits = bc.inits ∙ ab.inits; phase = bc.phase ∙ ab.phase }

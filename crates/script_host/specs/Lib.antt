@@ -1,4 +1,3 @@
-pub mod Addons
 pub mod Host
 pub mod Reading
 pub mod Recording

@@ -4,29 +4,19 @@ use Rattle.napi_types.specs.declared.call.Ask.{Ask}
 use Rattle.napi_types.specs.declared.call.Op.{Op}
 use Rattle.napi_types.specs.declared.entry.Entry.{Entry}
 use Rattle.napi_types.specs.declared.entry.Local.{Local}
-use Rattle.napi_types.specs.declared.entry.Phase.{Phase}
-use Rattle.napi_types.specs.declared.entry.Phase.TheVariants as phase
 use Rattle.napi_types.specs.declared.entry.Limits.{Limits}
 use Rattle.napi_types.specs.declared.entry.Why.{Why}
 use Rattle.napi_types.specs.declared.entry.Why.TheVariants as why
 use Rattle.napi_types.specs.declared.status.Status.{Status}
 use Rattle.napi_types.specs.declared.status.Status.TheVariants as status
 use Rattle.napi_types.specs.Scopes.{Frame}
-use Rattle.napi_types.specs.Hub.{Stage, Before, Going, Looped, Drained, Final}
+use Rattle.napi_types.specs.Phases.{stage_of}
 use Rattle.napi_types.specs.Machine.{Machine}
 use Rattle.napi_types.specs.Plan.{Plan, plan_of, registers_of}
 use Rattle.napi_types.specs.Weave.{weave, StandsWithin, IsParted}
 use Rattle.napi_types.specs.Whole.{Setting, RunsBy, EndsBy, final_of, final_registers}
 use Rattle.env_core.specs.Core.{Core}
-
--- which of the hub's events happened, as the phase shows it
-abbrev pub stage_of : Phase → Stage
-stage_of phase.Init = Before
-stage_of phase.Live = Going
-stage_of phase.Hooks = Looped
-stage_of phase.Drain = Drained
-stage_of phase.Finals = Final
-stage_of phase.Gone = Final
+use Rattle.napi_types.specs.Room.{most_entries}
 
 -- the machine that a core and a history are
 abbrev pub machine_of : Limits → Core → List Entry → Machine
@@ -97,4 +87,4 @@ loaded_plan told entries = option_map (λ _. entries) told
 
 -- the setting of a script with one addon, under the limits of every run
 abbrev pub alone_setting : Plan → ℕ → Setting
-alone_setting told texts = record { plans = told ∷ []; texts = texts; limits = record { journal = 4194304; history = 4194304 } }
+alone_setting told texts = record { plans = told ∷ []; texts = texts; limits = record { journal = most_entries; history = most_entries } }

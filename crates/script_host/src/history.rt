@@ -1,10 +1,9 @@
 //! The history of a run without other actors: the hub's four events.
 ghost use Rattle.std.specs.Prelude.{◌≡◌, ◌+◌, ◌<◌, [], ◌∷◌, ◌++◌, length, IfOk};
 
+use napi_types::{Entry, EntryList, Listed, NoMemory};
 use std::alloc::Global;
 use std::marker::Model;
-
-use napi_types::{Entry, EntryList, Listed, NoMemory};
 
 /// How many events the hub has, where no other actor is there.
 pub(crate) const HUB_EVENTS: usize = 4;

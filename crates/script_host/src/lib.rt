@@ -3,12 +3,12 @@
 //! machine's runs and the two lists that a run leaves. The program stands above it.
 #![tactic(auto)]
 
-mod addons;
 mod history;
-mod top_call;
 mod reading;
 mod recording;
 mod standard;
+mod top_call;
 mod words;
-pub use top_call::host;
+
 pub use standard::{StdSink, StdSource};
+pub use top_call::host;

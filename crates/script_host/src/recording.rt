@@ -2,22 +2,19 @@
 ghost use Rattle.std.specs.Prelude.{◌≡◌, ◌≢◌, ℕ, ◌+◌, ◌<◌, ◌≤◌, List, [], ◌∷◌, ◌++◌, length, map, true, false, Some, None, IfOk, OnOk, OnErr, nat_lt};
 ghost use Rattle.napi_types.specs.Changes.{most_asks, host_entry, in_phase};
 ghost use Rattle.napi_types.specs.Whole.{Setting};
-ghost use Rattle.env_core.specs.Core.{next_phase};
-ghost use Rattle.napi_types.specs.Plan.{plan_of};
-ghost use Rattle.script_host.specs.Addons.{plan_at, registers_at, loaded_at, OthersStay};
+ghost use Rattle.napi_types.specs.Phases.{next_phase};
+ghost use Rattle.napi_types.specs.Plan.{plan_of, registers_of};
+ghost use Rattle.addon_trait.specs.Addons.{loaded_at, OthersStay};
 ghost use Rattle.script_host.specs.Recording.{IsRecorded, IsEnded, StandsAt, IsSamePlace, why_stopped, Continues, loaded_plan, alone_setting};
 
-use std::alloc::Global;
-
-use addon_trait::Addon;
+use crate::history::History;
+use addon_trait::{Addon, ask_at, load_at, note_at};
 use env_core::{EnvCore, Stepped};
 use napi_types::{
     Actor, AddonPlan, Ask, Entry, HostStep, Limits, LoopEnd, NoMemory, Out, Phase, Record, Reply,
     Status, What, Why,
 };
-
-use crate::addons::{ask_at, load_at, note_at};
-use crate::history::History;
+use std::alloc::Global;
 
 /// The version of Node-API.
 const VERSION: u32 = 9;
@@ -58,9 +55,9 @@ fn take_turn(core: &mut EnvCore, addons: &mut Vec<Box<dyn Addon>>, step: u32) ->
     ensures plans { map (λ b. plan b) addons.new.items ≡ map (λ b. plan b) addons.old.items }
     ensures others { let before = map (λ b. regs b) addons.old.items in
         OthersStay before (map (λ b. regs b) addons.new.items) 0 }
-    ensures recorded { let mine = registers_at (map (λ b. regs b) addons.old.items) 0 in
-        let now = registers_at (map (λ b. regs b) addons.new.items) 0 in
-        Continues (plan_at (map (λ b. plan b) addons.old.items) 0) core.old mine core.new now }
+    ensures recorded { let mine = registers_of (map (λ b. regs b) addons.old.items) 0 in
+        let now = registers_of (map (λ b. regs b) addons.new.items) 0 in
+        Continues (plan_of (map (λ b. plan b) addons.old.items) 0) core.old mine core.new now }
     ensures same { IsSamePlace core.old core.new }
     ensures goes { result ≡ Turn.Goes → StandsAt core.new (step + 1) }
     ensures ended { result ≡ Turn.Ended → core.new.env.frames ≡ [] }
@@ -92,9 +89,9 @@ fn run_frame(core: &mut EnvCore, addons: &mut Vec<Box<dyn Addon>>)
     ensures plans { map (λ b. plan b) addons.new.items ≡ map (λ b. plan b) addons.old.items }
     ensures others { let before = map (λ b. regs b) addons.old.items in
         OthersStay before (map (λ b. regs b) addons.new.items) 0 }
-    ensures recorded { let mine = registers_at (map (λ b. regs b) addons.old.items) 0 in
-        let now = registers_at (map (λ b. regs b) addons.new.items) 0 in
-        Continues (plan_at (map (λ b. plan b) addons.old.items) 0) core.old mine core.new now }
+    ensures recorded { let mine = registers_of (map (λ b. regs b) addons.old.items) 0 in
+        let now = registers_of (map (λ b. regs b) addons.new.items) 0 in
+        Continues (plan_of (map (λ b. plan b) addons.old.items) 0) core.old mine core.new now }
     ensures same { IsSamePlace core.old core.new }
     ensures ended { core.new.env.frames ≡ [] }
 {
@@ -141,10 +138,34 @@ fn finish(mut core: EnvCore, mut history: History) -> Record
     requires empty { history ≡ [] }
     ensures { (s : Setting) (mine : List ℕ) → IsRecorded s core history mine → IsEnded s result.journal result.history mine }
 {
-    move_on(&mut core, &mut history, HostStep::Go, Out::Nothing, Phase::Live);
-    move_on(&mut core, &mut history, HostStep::LoopEnd, Out::Ended(LoopEnd::Idle), Phase::Hooks);
-    move_on(&mut core, &mut history, HostStep::Drain, Out::Unsigned(0), Phase::Drain);
-    move_on(&mut core, &mut history, HostStep::Finals, Out::Nothing, Phase::Finals);
+    move_on(
+        &mut core,
+        &mut history,
+        HostStep::Go,
+        Out::Nothing,
+        Phase::Live,
+    );
+    move_on(
+        &mut core,
+        &mut history,
+        HostStep::LoopEnd,
+        Out::Ended(LoopEnd::Idle),
+        Phase::Hooks,
+    );
+    move_on(
+        &mut core,
+        &mut history,
+        HostStep::Drain,
+        Out::Unsigned(0),
+        Phase::Drain,
+    );
+    move_on(
+        &mut core,
+        &mut history,
+        HostStep::Finals,
+        Out::Nothing,
+        Phase::Finals,
+    );
     core.advance(Phase::Gone, history.len());
     Record {
         journal: core.into_journal(),
@@ -162,8 +183,8 @@ pub(crate) fn run(
     addons: &mut Vec<Box<dyn Addon>>,
 ) -> Result<Record, NoMemory>
     requires { 0 < length addons.old.items }
-    ensures ended { let told = loaded_plan (plan_at (map (λ b. plan b) addons.old.items) 0) given.entries in
-        let now = registers_at (map (λ b. regs b) addons.new.items) 0 in
+    ensures ended { let told = loaded_plan (plan_of (map (λ b. plan b) addons.old.items) 0) given.entries in
+        let now = registers_of (map (λ b. regs b) addons.new.items) 0 in
         IfOk result (λ left. IsEnded (alone_setting told texts) left.journal left.history now) }
     ensures plans { OnOk result (map (λ b. plan b) addons.new.items ≡ loaded_at (map (λ b. plan b) addons.old.items) 0 given.entries) }
     ensures others { OnOk result (OthersStay (map (λ b. regs b) addons.old.items) (map (λ b. regs b) addons.new.items) 0) }

@@ -4,7 +4,7 @@ use Rattle.serde_json.specs.View.{items_view}
 use Rattle.serde_json.specs.declared.value.Value.{Value}
 use Rattle.serde_json.proofs.Views.{items_len-items_view}
 use Rattle.std.proofs.lemmas.Bool.Decides.{nat_tests}
-use Rattle.napi_types.specs.Script.{one_register, two_registers, single, operation, operations, each, most_operations}
+use Rattle.napi_types.specs.Script.{one_register, two_registers, single, operation_in, operations, each, most_operations}
 
 pub one_register-long : (vs : List Value) → 2 ≤ length vs → one_register (items_view vs) ≡ None
 one_register-long [] long = absurd (omega arith)
@@ -31,7 +31,7 @@ pub single-none : (vs : List Value) → length vs < 1 → single (items_view vs)
 single-none [] few = refl
 single-none (v ∷ vs) few = absurd (omega arith)
 
-pub operations-few : (vs : List Value) → length vs ≤ most_operations → operations (items_view vs) ≡ each operation (items_view vs)
+pub operations-few : (vs : List Value) → length vs ≤ most_operations → operations (items_view vs) ≡ each operation_in (items_view vs)
 operations-few vs few = rw (items_len-items_view vs) (grind (arith, nat_tests))
 
 pub operations-many : (vs : List Value) → most_operations < length vs → operations (items_view vs) ≡ None

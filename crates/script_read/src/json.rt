@@ -1,6 +1,6 @@
 //! The JSON value of bytes, and what stands in one.
 ghost use Rattle.std.specs.Prelude.{◌≡◌, ℕ, ◌==◌, IfOk, option_map, option_copied};
-ghost use Rattle.napi_types.specs.Script.{IsJson, IsNoJson, whole_number, single, only_item, has_members, has_number, is_empty_array};
+ghost use Rattle.napi_types.specs.Script.{IsJson, IsNoJson, whole_number, single, only_item, has_members, member_is, is_empty_array};
 ghost use Rattle.serde_json.specs.Find.{as_array};
 ghost use Rattle.serde_json.specs.View.{view, items_view};
 
@@ -73,7 +73,7 @@ pub(crate) fn is_empty_array(value: &Value) -> bool
 
 /// Whether an object has a member of this name that is this whole number.
 pub(crate) fn has_number(value: &Value, name: &str, number: u64) -> bool
-    ensures { result ≡ has_number name.now number (view value.now) }
+    ensures { result ≡ member_is name.now number (view value.now) }
 {
     match value.get(name).and_then(Value::as_u64) {
         Some(found) => found == number,

@@ -1,6 +1,6 @@
 //! An operation of a script.
 ghost use Rattle.std.specs.Prelude.{◌≡◌};
-ghost use Rattle.napi_types.specs.Script.{register, one_register, two_registers, operation_named, operation};
+ghost use Rattle.napi_types.specs.Script.{register, one_register, two_registers, operation_named, operation_in};
 ghost use Rattle.serde_json.specs.View.{view, items_view};
 
 use napi_types::Op;
@@ -56,7 +56,7 @@ fn operation_named(name: &str, args: &[Value]) -> Option<Op>
 
 /// The operation that a value is.
 pub(crate) fn operation(value: &Value) -> Option<Op>
-    ensures { result ≡ operation (view value.now) }
+    ensures { result ≡ operation_in (view value.now) }
 {
     match value {
         Value::Array(items) => match items.as_slice() {

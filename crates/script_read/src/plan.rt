@@ -1,6 +1,6 @@
 //! The plan of an addon: its entries and their operations.
 ghost use Rattle.std.specs.Prelude.{◌≡◌, ◌∷◌, [], IfOk, option_map};
-ghost use Rattle.napi_types.specs.Script.{each, operation as operation_of, operations, entry, has_text, only_item_of, plan_of, addon};
+ghost use Rattle.napi_types.specs.Script.{each, operation_in, operations, entry, has_text, only_item_of, plan_with, addon};
 ghost use Rattle.serde_json.specs.View.{view, items_view};
 
 use crate::json::{has_members, items, only_item};
@@ -14,7 +14,7 @@ const MOST_OPERATIONS: usize = 4096;
 
 /// The operations that items are, where each is one.
 fn each_operation(alloc: Global, items: &[Value]) -> Result<Option<OpList>, NoMemory>
-    ensures { IfOk result (λ list. list ≡ each operation_of (items_view items.now)) }
+    ensures { IfOk result (λ list. list ≡ each operation_in (items_view items.now)) }
 {
     let mut list = match Vec::with_capacity(alloc, items.len()) {
         Ok(list) => list,
@@ -91,7 +91,7 @@ pub(crate) fn addon(alloc: Global, value: &Value) -> Result<Option<AddonPlan>, N
 }
 
 fn plan_of(alloc: Global, item: &Value) -> Result<Option<AddonPlan>, NoMemory>
-    ensures { IfOk result (λ plan. plan ≡ option_map plan_of (entry (view item.now))) }
+    ensures { IfOk result (λ plan. plan ≡ option_map plan_with (entry (view item.now))) }
 {
     match entry(alloc, item)? {
         Some(operations) => Ok(Some(AddonPlan {

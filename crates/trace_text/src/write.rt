@@ -5,6 +5,7 @@ ghost use Rattle.napi_types.specs.Edge.{HasRisen, TookFront};
 ghost use Rattle.napi_types.specs.Text.{lines_from, text};
 ghost use Rattle.napi_types.specs.Weave.{local_at, weave};
 ghost use Rattle.trace_text.specs.Writing.{Adds, stand};
+ghost use Rattle.napi_types.specs.Room.{most_entries};
 
 use crate::line::add_line;
 use napi_types::{Entry, Failed, Local, Sink, Texts};
@@ -19,8 +20,8 @@ pub fn write_trace<K: Sink>(
     journal: &[Local],
     history: &[Entry],
 ) -> Result<(), Failed>
-    requires journal { length journal.now ≤ 4194304 }
-    requires history { length history.now ≤ 4194304 }
+    requires journal { length journal.now ≤ most_entries }
+    requires history { length history.now ≤ most_entries }
     ensures ok { OnOk result (K.taken sink.new ≡
         append_known (K.taken sink.old) (text texts.now (weave journal.now history.now))) }
     ensures err { OnErr result
@@ -40,8 +41,8 @@ fn add_trace<K: Sink>(
     journal: &[Local],
     history: &[Entry],
 )
-    requires journal { length journal.now ≤ 4194304 }
-    requires history { length history.now ≤ 4194304 }
+    requires journal { length journal.now ≤ most_entries }
+    requires history { length history.now ≤ most_entries }
     ensures { Adds (stand (K.taken sink.old) (K.faults sink.old) failed.old)
         (text texts.now (weave journal.now history.now))
         (stand (K.taken sink.new) (K.faults sink.new) failed.new) }

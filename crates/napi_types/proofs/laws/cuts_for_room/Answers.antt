@@ -9,17 +9,20 @@ use Rattle.napi_types.specs.Run.{IsNext}
 use Rattle.napi_types.specs.Traces.{opening_entries}
 use Rattle.napi_types.specs.Whole.{opening_of}
 use Rattle.napi_types.proofs.Runs.{run-of}
-use Rattle.napi_types.proofs.Cutting.{only-in-frame, full-only}
+use Rattle.napi_types.proofs.Cutting.{only-in-frame, full-only, full-there}
 use Rattle.napi_types.proofs.laws.cuts_for_room.Goals as goal
 
 room : (c : Call) → IsNext begun (ask.Do c) (cut_by why.Full) → ⊥
-room c n = cc
+room call.CreateObject n = cc
+room (call.Typeof h) n = cc
+room call.OpenHandleScope n = cc
+room (call.CloseHandleScope s) n = cc
 
 stays : (h : HandleId) → IsNext begun (ask.Do (call.Typeof h)) (cut_by why.Memory) → ⊥
 stays h n = cc
 
 full : (c : Call) → IsOnlyNext first_called (ask.Do c) (cut_by why.Full)
-full c = ((refl, refl), only-in-frame first_called (ask.Do c) _ _ (cut_by why.Full) refl (full-only c))
+full c = ((refl, full-there c), only-in-frame first_called (ask.Do c) _ _ (cut_by why.Full) refl (full-only c))
 
 pub returns : goal.returns
 returns c = record {

@@ -1,7 +1,7 @@
 use Rattle.std.proofs.Common.{ap, refl, ◌∙◌, arith}
-use Rattle.script_host.specs.Addons.{plan_at}
 use Rattle.script_host.proofs.Turns.{others-then, same-then, continues-then, spent-turn}
 use Rattle.script_host.proofs.recording.run_frame.Goals as goal
+use Rattle.napi_types.specs.Plan.{plan_of}
 
 pub returns-in-Ended-clause-others : goal.returns-in-Ended-clause-others
 returns-in-Ended-clause-others g c = others-then _ _ _ 0 c.loop-step.invariant.others c.take_turn.ensures.others
@@ -14,7 +14,7 @@ loop-step-preserved g c =
       count = now.count ∙ before.count;
       plans = now.plans ∙ before.plans;
       others = others-then _ _ _ 0 before.others now.others;
-      recorded = continues-then _ _ _ _ _ _ _ _ before.recorded (ap (λ l. plan_at l 0) before.plans) now.recorded;
+      recorded = continues-then _ _ _ _ _ _ _ _ before.recorded (ap (λ l. plan_of l 0) before.plans) now.recorded;
       stands = now.goes refl;
       same = same-then _ _ _ before.same now.same;
     }

@@ -1,8 +1,9 @@
 use Rattle.std.proofs.Common.{◌≡◌, ℕ, List, Option, length, map}
 use Rattle.napi_types.specs.declared.call.Op.{Op}
-use Rattle.script_host.specs.Addons.{plan_at, registers_at, OthersStay}
+use Rattle.addon_trait.specs.Addons.{OthersStay}
 use Rattle.script_host.specs.Recording.{StandsAt, IsSamePlace, Continues}
 use Rattle.script_host.proofs.recording.run_frame.Given as goal
+use Rattle.napi_types.specs.Plan.{plan_of, registers_of}
 
 -- the frame stands and made as many asks as there were turns, and the run is recorded so far
 abbrev pub invariant-loop-step : goal.invariant-loop-step
@@ -15,7 +16,7 @@ invariant-loop-step g l =
       count : length l.addons.items ≡ length l.fn.addons.items;
       plans : plans ≡ first_plans;
       others : OthersStay first_regs regs 0;
-      recorded : Continues (plan_at first_plans 0) l.fn.core (registers_at first_regs 0) l.core (registers_at regs 0);
+      recorded : Continues (plan_of first_plans 0) l.fn.core (registers_of first_regs 0) l.core (registers_of regs 0);
       stands : StandsAt l.core l.step;
       same : IsSamePlace l.fn.core l.core;
     }

@@ -1,7 +1,7 @@
-use Rattle.std.proofs.Common.{◌≡◌, None, [], IfSome}
+use Rattle.std.proofs.Common.{◌≡◌, [], IfSome, Some}
 use Rattle.napi_types.specs.Registers.{kept}
-use Rattle.script_host.proofs.Members.{map-set_alike, map-set_others, fact_after}
-use Rattle.script_host.proofs.addons.note_at.Goals as goal
+use Rattle.addon_trait.proofs.Members.{map-set_alike, map-set_others, fact_after}
+use Rattle.addon_trait.proofs.list.note_at.Goals as goal
 
 pub returns-clause-plans : goal.returns-clause-plans
 returns-clause-plans g c = map-set_alike _ _ _ _ _ c.index_mut.ensures.value c.note.ensures.plan
@@ -12,4 +12,4 @@ returns-clause-others g c = map-set_others _ _ _ _ [] c.requires
 pub returns-clause-kept : goal.returns-clause-kept
 returns-clause-kept g c =
     fact_after (λ plan before after. IfSome plan (λ p. after ≡ kept p before c.args.entry c.args.step c.args.reply.now))
-    _ _ _ _ _ _ None [] c.index_mut.ensures.value c.requires c.note.ensures.kept
+    _ _ _ _ _ _ (Some []) [] c.index_mut.ensures.value c.requires c.note.ensures.kept

@@ -1,7 +1,7 @@
 use Rattle.std.proofs.Common.{[]}
 use Rattle.napi_types.specs.Registers.{gifted}
-use Rattle.script_host.proofs.Members.{map-set_alike, map-set_by}
-use Rattle.script_host.proofs.addons.enter_at.Goals as goal
+use Rattle.addon_trait.proofs.Members.{map-set_alike, map-set_by}
+use Rattle.addon_trait.proofs.list.enter_at.Goals as goal
 
 pub returns-clause-plans : goal.returns-clause-plans
 returns-clause-plans g c = map-set_alike _ _ _ _ _ c.index_mut.ensures.value c.enter.ensures.plan

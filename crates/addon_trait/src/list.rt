@@ -1,9 +1,11 @@
 //! Calls of one addon of a list. Contracts see the list as the list of its addons' plans and the list of their registers.
+//! An addon is named by its place in the list, from 0.
 ghost use Rattle.std.specs.Prelude.{◌≡◌, ◌<◌, IfSome, length, map, set, option_map};
 ghost use Rattle.napi_types.specs.Registers.{plan_ask, kept, blank_registers, gifted};
-ghost use Rattle.script_host.specs.Addons.{plan_at, registers_at, loaded_at, OthersStay};
+ghost use Rattle.addon_trait.specs.Addons.{loaded_at, OthersStay};
+ghost use Rattle.napi_types.specs.Plan.{plan_of, registers_of};
 
-use addon_trait::Addon;
+use crate::Addon;
 use napi_types::{AddonPlan, Ask, Reply};
 
 /// Gives an addon its plan, and clears its registers.
@@ -60,7 +62,7 @@ pub fn enter_at(addons: &mut Vec<Box<dyn Addon>>, which: usize, entry: u32, gift
     ensures plans { map (λ b. plan b) addons.new.items ≡ map (λ b. plan b) addons.old.items }
     ensures regs { let registers = map (λ b. regs b) addons.old.items in
         map (λ b. regs b) addons.new.items
-        ≡ set registers which (gifted gifts.now (registers_at registers which)) }
+        ≡ set registers which (gifted gifts.now (registers_of registers which)) }
 {
     enter(&mut addons[which], entry, gifts);
 }
@@ -71,8 +73,8 @@ pub fn ask_at(addons: &mut Vec<Box<dyn Addon>>, which: usize, entry: u32, step: 
     ensures count { length addons.new.items ≡ length addons.old.items }
     ensures plans { map (λ b. plan b) addons.new.items ≡ map (λ b. plan b) addons.old.items }
     ensures regs { map (λ b. regs b) addons.new.items ≡ map (λ b. regs b) addons.old.items }
-    ensures asked { let registers = registers_at (map (λ b. regs b) addons.old.items) which in
-        IfSome (plan_at (map (λ b. plan b) addons.old.items) which)
+    ensures asked { let registers = registers_of (map (λ b. regs b) addons.old.items) which in
+        IfSome (plan_of (map (λ b. plan b) addons.old.items) which)
         (λ p. result ≡ plan_ask p registers entry step) }
 {
     ask(&mut addons[which], entry, step)
@@ -86,9 +88,9 @@ pub fn note_at(addons: &mut Vec<Box<dyn Addon>>, which: usize, entry: u32, step:
     ensures plans { map (λ b. plan b) addons.new.items ≡ map (λ b. plan b) addons.old.items }
     ensures others { let before = map (λ b. regs b) addons.old.items in
         OthersStay before (map (λ b. regs b) addons.new.items) which }
-    ensures kept { let before = registers_at (map (λ b. regs b) addons.old.items) which in
-        let after = registers_at (map (λ b. regs b) addons.new.items) which in
-        IfSome (plan_at (map (λ b. plan b) addons.old.items) which)
+    ensures kept { let before = registers_of (map (λ b. regs b) addons.old.items) which in
+        let after = registers_of (map (λ b. regs b) addons.new.items) which in
+        IfSome (plan_of (map (λ b. plan b) addons.old.items) which)
         (λ p. after ≡ kept p before entry step reply.now) }
 {
     note(&mut addons[which], entry, step, reply);

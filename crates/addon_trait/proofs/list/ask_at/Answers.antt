@@ -1,7 +1,7 @@
-use Rattle.std.proofs.Common.{◌≡◌, None, [], IfSome}
+use Rattle.std.proofs.Common.{◌≡◌, [], IfSome, Some}
 use Rattle.napi_types.specs.Registers.{plan_ask}
-use Rattle.script_host.proofs.Members.{map-set_alike, fact_here}
-use Rattle.script_host.proofs.addons.ask_at.Goals as goal
+use Rattle.addon_trait.proofs.Members.{map-set_alike, fact_here}
+use Rattle.addon_trait.proofs.list.ask_at.Goals as goal
 
 pub returns-clause-plans : goal.returns-clause-plans
 returns-clause-plans g c = map-set_alike _ _ _ _ _ c.index_mut.ensures.value c.ask.ensures.plan
@@ -12,4 +12,4 @@ returns-clause-regs g c = map-set_alike _ _ _ _ _ c.index_mut.ensures.value c.as
 pub returns-clause-asked : goal.returns-clause-asked
 returns-clause-asked g c =
     fact_here (λ plan regs. IfSome plan (λ p. c.ask.result ≡ plan_ask p regs c.args.entry c.args.step))
-    _ _ _ _ _ None [] c.index_mut.ensures.value c.requires c.ask.ensures.asked
+    _ _ _ _ _ (Some []) [] c.index_mut.ensures.value c.requires c.ask.ensures.asked

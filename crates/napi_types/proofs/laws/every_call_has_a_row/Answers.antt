@@ -1,0 +1,13 @@
+use Rattle.std.proofs.Common.{refl}
+use Rattle.napi_types.specs.declared.call.Call.TheVariants as call
+use Rattle.napi_types.specs.Laws.{EveryCallHasARow}
+use Rattle.napi_types.proofs.laws.every_call_has_a_row.Goals as goal
+
+by-call : EveryCallHasARow
+by-call e call.CreateObject n = refl
+by-call e (call.Typeof h) n = refl
+by-call e call.OpenHandleScope n = refl
+by-call e (call.CloseHandleScope s) n = refl
+
+pub returns : goal.returns
+returns c = by-call
