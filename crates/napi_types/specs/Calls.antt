@@ -17,6 +17,7 @@ by_groups e c n = on_values e c ∷ on_scopes e c n ∷ []
 abbrev pub accepted : Environment → Call → ℕ → Answer
 accepted e c n = unwrap_or (option_or (on_values e c) (on_scopes e c n)) (answered out.Nothing e)
 
+-- what a call answers and leaves, given the refusal that applies, if one does
 abbrev pub answer_by : Environment → Call → ℕ → Option Status → Answer
 answer_by e c n (Some s) = refused s e
 answer_by e c n None = accepted e c n

@@ -67,6 +67,7 @@ is_fresh e _ = true
 abbrev pub most_asks : ℕ
 most_asks = 65536
 
+-- whether the innermost frame may make a further ask
 abbrev pub may_ask : Environment → Bool
 may_ask e = nat_lt (asks_made e.frames) most_asks
 
@@ -74,6 +75,7 @@ may_ask e = nat_lt (asks_made e.frames) most_asks
 abbrev pub called : Environment → Call → ℕ → Change
 called e c n = record { entry = call_entry e c (answer e c n).reply; after = noted (answer e c n).reply.status (answer e c n).after }
 
+-- what the end of a frame tells: the cut, where it was cut
 abbrev pub end_out : Option Why → Out
 end_out (Some w) = out.Cut w
 end_out None = out.Nothing

@@ -21,6 +21,7 @@ setting = script_of (op.OpenHandleScope 0 ∷ op.CreateObject 1 ∷ op.CloseHand
 abbrev pub typeof_entry : Status → Out → Entry
 typeof_entry s o = call_at 3 (call.Typeof (record { 0 = 1 })) s o
 
+-- the whole run
 abbrev pub trace : List Entry
 trace = run_of_calls (
     call_at 0 call.OpenHandleScope status.Ok (out.Scope (record { 0 = 1 }))

@@ -4,6 +4,7 @@ use Rattle.napi_types.specs.declared.entry.LoopEnd.{LoopEnd}
 use Rattle.napi_types.specs.declared.entry.LoopEnd.TheVariants as loop_end
 use Rattle.napi_types.specs.Environment.{Environment}
 
+-- an event of the environment with no frame: the opening, the init frame of an addon, the four events of the hub, and the end
 pub data Event : Type 0 where
   Opens : Event
   Inits : ℕ → Event

@@ -12,6 +12,7 @@ pub record Value : Type 0 where
   pub number : ℕ
   pub body : Body
 
+-- a value as it is made: its number, and what it is
 abbrev pub fresh_value : ℕ → Body → Value
 fresh_value n b = record { number = n; body = b }
 
@@ -25,6 +26,7 @@ starting_values =
     fresh_value undefined_value body.Undefined ∷ fresh_value 2 body.Null ∷ fresh_value 3 (body.Boolean true) ∷ fresh_value 4 (body.Boolean false)
     ∷ fresh_value 5 (body.Object false false) ∷ []
 
+-- the value of a number
 abbrev pub value_at : List Value → ℕ → Option Value
 value_at vs n = found (λ v. v.number) n vs
 

@@ -15,9 +15,11 @@ pub record Setting : Type 0 where
   pub texts : ℕ
   pub limits : Limits
 
+-- the machine at the start of a run
 abbrev pub opening_of : Setting → Machine
 opening_of s = opening (length s.plans) s.texts s.limits
 
+-- every addon tells its plan
 abbrev pub all_told : Setting → Bool
 all_told s = list_all is_some s.plans
 
