@@ -1,5 +1,5 @@
 -- The scopes of a frame as the machine sees them.
-use Rattle.std.specs.Prelude.{ℕ, List, map, reverse}
+use Rattle.std.specs.Prelude.{List, map, reverse}
 use Rattle.napi_types.specs.Scopes.{Held, Scope}
 use Rattle.env_core.specs.declared.frame.HeldHandle.{HeldHandle}
 use Rattle.env_core.specs.declared.frame.OpenScope.{OpenScope}

@@ -1,5 +1,5 @@
 -- What a step of a frame comes to.
-use Rattle.std.specs.Prelude.{◌≡◌, ℕ, false, IsTrue}
+use Rattle.std.specs.Prelude.{◌≡◌, false, IsTrue}
 use Rattle.napi_types.specs.declared.call.Call.{Call}
 use Rattle.napi_types.specs.declared.entry.Reply.{Reply}
 use Rattle.napi_types.specs.declared.status.Status.{Status}

@@ -1,5 +1,5 @@
 -- What each local event of the environment writes, and the environment that it leaves.
-use Rattle.std.specs.Prelude.{ℕ, ◌+◌, ◌&&◌, Bool, true, false, not, nat_lt, List, [], ◌∷◌, length, Option, Some, None}
+use Rattle.std.specs.Prelude.{ℕ, ◌+◌, Bool, true, not, nat_lt, List, [], ◌∷◌, length, Option, Some, None}
 use Rattle.napi_types.specs.declared.call.Call.{Call}
 use Rattle.napi_types.specs.declared.status.Status.{Status}
 use Rattle.napi_types.specs.declared.status.Status.TheVariants as status
@@ -17,7 +17,7 @@ use Rattle.napi_types.specs.declared.entry.Phase.{Phase}
 use Rattle.napi_types.specs.declared.entry.Phase.TheVariants as phase
 use Rattle.napi_types.specs.Lists.{has_number, first_changed, tail}
 use Rattle.napi_types.specs.Scopes.{Frame, frame_of}
-use Rattle.napi_types.specs.Environment.{Environment, Answer, plain}
+use Rattle.napi_types.specs.Environment.{Environment, plain}
 use Rattle.napi_types.specs.Calls.{answer}
 
 -- an entry of the environment, and the environment after it

@@ -9,7 +9,7 @@ use Rattle.napi_types.specs.declared.entry.Phase.{Phase}
 use Rattle.napi_types.specs.declared.entry.Phase.TheVariants as phase
 use Rattle.napi_types.specs.declared.body.Body.{Body}
 use Rattle.napi_types.specs.Values.{Value, body_of, fresh_value, starting_values, undefined_value}
-use Rattle.napi_types.specs.Scopes.{Held, Frame, gives, hold}
+use Rattle.napi_types.specs.Scopes.{Frame, gives, hold}
 use Rattle.std.specs.Option.{unwrap_or}
 
 -- the state of the environment (`napi_env`)

@@ -1,5 +1,5 @@
 -- The first refusal of a call that applies: a table for each point of their order.
-use Rattle.std.specs.Prelude.{ℕ, Bool, List, [], Option, Some, None, is_some}
+use Rattle.std.specs.Prelude.{ℕ, Bool, List, [], Option, None, is_some}
 use Rattle.napi_types.specs.declared.call.Call.{Call}
 use Rattle.napi_types.specs.declared.call.Call.TheVariants.{CreateObject, Typeof, OpenHandleScope, CloseHandleScope}
 use Rattle.napi_types.specs.declared.status.Status.{Status}

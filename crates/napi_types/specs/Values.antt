@@ -1,5 +1,5 @@
 -- The value graph: a finite map from creation numbers to values.
-use Rattle.std.specs.Prelude.{ℕ, ◌+◌, true, false, List, [], ◌∷◌, ◌++◌, Option, option_map}
+use Rattle.std.specs.Prelude.{ℕ, true, false, List, [], ◌∷◌, Option, option_map}
 use Rattle.napi_types.specs.declared.body.Body.{Body}
 use Rattle.napi_types.specs.declared.body.Body.TheVariants as body
 use Rattle.napi_types.specs.declared.status.Kind.{Kind}

@@ -1,4 +1,4 @@
-use Rattle.std.proofs.Common.{◌∙◌, ◌+◌, ◌-◌, ◌++◌, ◌∷◌, [], ap, subst, sym, arith}
+use Rattle.std.proofs.Common.{◌∙◌, ◌-◌, ◌++◌, ◌∷◌, [], ap, subst, sym, arith}
 use Rattle.napi_types.specs.Environment.{Environment}
 use Rattle.napi_types.specs.Changes.{number_of}
 use Rattle.napi_types.proofs.Answers.{KeepsButAsk, called-keeps}
