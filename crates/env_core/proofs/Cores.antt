@@ -3,9 +3,9 @@ use Rattle.std.proofs.Common.{◌≡◌, ◌≤◌, ◌+◌, ◌-◌, [], ◌∷
 use Rattle.napi_types.specs.declared.entry.Local.{Local}
 use Rattle.napi_types.specs.Environment.{Environment}
 use Rattle.napi_types.specs.Room.{reserved_journal}
-use Rattle.napi_types.proofs.Answers.{KeepsButAsk}
 use Rattle.env_core.specs.Journal.{Pages}
 use Rattle.env_core.specs.Core.{IsCore}
+use Rattle.napi_types.proofs.Answers.{KeepsButAsk}
 
 -- a call reserves no place and gives none back
 pub reserved-kept : (old new : Environment) → KeepsButAsk old new → reserved_journal new ≡ reserved_journal old

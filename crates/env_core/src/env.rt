@@ -2,9 +2,9 @@
 ghost use Rattle.std.specs.Prelude.{◌≡◌, ◌≢◌, ℕ, ◌+◌, ◌-◌, ◌*◌, ◌<◌, ◌≤◌, [], length, Some, IfOk, IsTrue, ◌↔◌};
 ghost use Rattle.napi_types.specs.Room.{is_full, most_entries};
 ghost use Rattle.napi_types.specs.Changes.{asks_made, most_asks, called, frame_ended, init_begun};
+ghost use Rattle.napi_types.specs.Phases.{next_phase};
 ghost use Rattle.env_core.specs.Core.{opened_core, wrote, advanced, room_in};
 ghost use Rattle.env_core.specs.Steps.{IfReply, IfStop, Replies, StopsBy, IsLocal};
-ghost use Rattle.napi_types.specs.Phases.{next_phase};
 
 use crate::journal::Journal;
 use crate::state::State;

@@ -1,5 +1,6 @@
 -- Laws of runs: they grow at their end, and they compute.
 use Rattle.std.proofs.Common.{◌≡◌, Bool, true, false, ◌&&◌, List, [], ◌∷◌, ◌++◌, IsTrue, refl, ap, subst}
+use Rattle.std.specs.Option.{unwrap_or}
 use Rattle.napi_types.specs.declared.entry.Entry.{Entry}
 use Rattle.napi_types.specs.declared.call.Ask.{Ask}
 use Rattle.napi_types.specs.Lists.{head, tail}
@@ -7,7 +8,6 @@ use Rattle.napi_types.specs.Machine.{Machine}
 use Rattle.napi_types.specs.Step.{Step, step}
 use Rattle.napi_types.specs.Run.{after, IsNext, IsRunBy, final, ComputesBy, steps, all_may, entries_of, is_paired}
 use Rattle.napi_types.specs.Plan.{Plan, Registers, asked, asked_along, registers_along, registers_after}
-use Rattle.std.specs.Option.{unwrap_or}
 
 pub and-left : (a b : Bool) → IsTrue (a && b) → IsTrue a
 and-left true b h = refl

@@ -1,5 +1,6 @@
 -- The environment's state, and the words that its calls are told by.
 use Rattle.std.specs.Prelude.{ℕ, ◌+◌, Bool, false, List, [], ◌∷◌, ◌++◌, length, None}
+use Rattle.std.specs.Option.{unwrap_or}
 use Rattle.napi_types.specs.declared.status.Status.{Status}
 use Rattle.napi_types.specs.declared.status.Status.TheVariants as status
 use Rattle.napi_types.specs.declared.entry.Out.{Out}
@@ -10,7 +11,6 @@ use Rattle.napi_types.specs.declared.entry.Phase.TheVariants as phase
 use Rattle.napi_types.specs.declared.body.Body.{Body}
 use Rattle.napi_types.specs.Values.{Value, body_of, fresh_value, starting_values, undefined_value}
 use Rattle.napi_types.specs.Scopes.{Frame, gives, hold}
-use Rattle.std.specs.Option.{unwrap_or}
 
 -- the state of the environment (`napi_env`)
 pub record Environment : Type 0 where

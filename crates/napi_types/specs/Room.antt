@@ -3,10 +3,10 @@ use Rattle.std.specs.Prelude.{ℕ, ◌+◌, ◌-◌, ◌*◌, Bool, true, false,
 use Rattle.napi_types.specs.declared.call.Call.{Call}
 use Rattle.napi_types.specs.declared.entry.Phase.{Phase}
 use Rattle.napi_types.specs.declared.entry.Phase.TheVariants as phase
+use Rattle.napi_types.specs.declared.call.Call.TheVariants.{CreateObject, Typeof, OpenHandleScope, CloseHandleScope}
 use Rattle.napi_types.specs.Environment.{Environment}
 use Rattle.napi_types.specs.Hub.{Hub, Stage, Before, Going, Looped, Drained, Final}
 use Rattle.napi_types.specs.Machine.{Machine}
-use Rattle.napi_types.specs.declared.call.Call.TheVariants.{CreateObject, Typeof, OpenHandleScope, CloseHandleScope}
 
 -- a list's room: its limit, and the places that its entries and its reserved places take
 pub record Room : Type 0 where

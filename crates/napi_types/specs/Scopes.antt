@@ -1,10 +1,10 @@
 -- Handle scopes: the frames that stand, each with its scopes, and the handles that the scopes hold.
 use Rattle.std.specs.Prelude.{ℕ, ◌==◌, Bool, not, List, [], ◌∷◌, ◌++◌, Option, Some, None, option_map}
+use Rattle.std.specs.Option.{option_or}
 use Rattle.napi_types.specs.declared.entry.Cause.{Cause}
 use Rattle.napi_types.specs.declared.status.Status.{Status}
 use Rattle.napi_types.specs.declared.status.Status.TheVariants as status
 use Rattle.napi_types.specs.Lists.{found, has, first_changed, when, tail, one}
-use Rattle.std.specs.Option.{option_or}
 
 -- a handle, and the creation number of its value
 pub record Held : Type 0 where

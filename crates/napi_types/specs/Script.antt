@@ -4,11 +4,11 @@ use Rattle.serde_json.specs.Data.{Data, string, array, Items, no_items, item}
 use Rattle.serde_json.specs.Find.{get, as_number, as_str, as_u64, as_array, as_object}
 use Rattle.serde_json.specs.Events.{items_len, members_len}
 use Rattle.serde_json.specs.Read.{read}
-use Rattle.napi_types.specs.Texts.{fixed_texts}
 use Rattle.napi_types.specs.declared.call.Op.{Op}
 use Rattle.napi_types.specs.declared.call.Op.TheVariants as op
 use Rattle.napi_types.specs.declared.lists.AddonPlan.{AddonPlan}
 use Rattle.napi_types.specs.declared.script.Script.{Script}
+use Rattle.napi_types.specs.Texts.{fixed_texts}
 
 -- the bytes are a JSON text of this value
 abbrev pub IsJson : List ℕ → Data → Type 0

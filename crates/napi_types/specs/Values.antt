@@ -1,11 +1,11 @@
 -- The value graph: a finite map from creation numbers to values.
 use Rattle.std.specs.Prelude.{ℕ, true, false, List, [], ◌∷◌, Option, option_map}
+use Rattle.std.specs.Option.{unwrap_or}
 use Rattle.napi_types.specs.declared.body.Body.{Body}
 use Rattle.napi_types.specs.declared.body.Body.TheVariants as body
 use Rattle.napi_types.specs.declared.status.Kind.{Kind}
 use Rattle.napi_types.specs.declared.status.Kind.TheVariants as kind
 use Rattle.napi_types.specs.Lists.{found}
-use Rattle.std.specs.Option.{unwrap_or}
 
 -- a value: its creation number and what it is
 pub record Value : Type 0 where
