@@ -13,7 +13,10 @@ use Rattle.napi_types.specs.Whole.{Setting, final_of, final_registers}
 use Rattle.napi_types.proofs.Rooms.{room-suffices}
 use Rattle.addon_trait.specs.Addons.{loaded_at, OthersStay}
 use Rattle.script_host.specs.Recording.{AgreesWhereTold, IsEnded, loaded_plan, alone_setting}
-use Rattle.script_host.specs.Host.{Ran, IsRunOf, HasOneAddon, told_plans, setting_of}
+use Rattle.script_host.specs.declared.words.Line.{Line}
+use Rattle.script_host.specs.declared.words.Line.TheVariants as line
+use Rattle.script_host.specs.Words.{line_status}
+use Rattle.script_host.specs.Host.{IsStatus, Ran, IsRunOf, HasOneAddon, told_plans, setting_of}
 
 -- the lists of a run are within their limits
 pub journal-within : (told : Plan) (texts : ℕ) (journal : List Local) (history : List Entry) (mine : List ℕ)
@@ -68,3 +71,13 @@ ran-of script given texts (told ∷ rest) after registers registers_after left o
       loaded = loaded ∙ rw one refl;
       others = rw count (others-dropped registers registers_after others);
     }
+
+-- a line's status is one of the statuses
+pub line-known : (l : Line) → IsStatus (line_status l)
+line-known line.Usage = refl
+line-known line.NotJson = refl
+line-known line.Stage = refl
+line-known line.TooManyAddons = refl
+line-known line.NoMemory = refl
+line-known line.ReadFault = refl
+line-known line.TooLong = refl

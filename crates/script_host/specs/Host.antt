@@ -1,5 +1,6 @@
 -- What the top call does: the run that it leaves, the text that it writes, and the refusals that stand in place of a trace.
-use Rattle.std.specs.Prelude.{◌≡◌, ◌≤◌, ◌<◌, ℕ, ◌+◌, Bool, true, false, List, [], ◌∷◌, ◌++◌, length, drop, Option, Some, None, option_map, IfSome, ◌⊎◌}
+use Rattle.std.specs.Prelude.{◌≡◌, ◌≤◌, ◌<◌, ℕ, ◌+◌, Bool, true, false, List, [], ◌∷◌, ◌++◌, length, drop, Option, Some, None, option_map, IfSome, IsTrue, ◌==◌, ◌⊎◌}
+use Rattle.std.specs.List.{list_any}
 use Rattle.std.specs.Io.KnownBytes.{prepend_known, append_known, IsAtEnd}
 use Rattle.napi_types.specs.declared.call.Ask.{Ask}
 use Rattle.napi_types.specs.declared.entry.Limits.{Limits}
@@ -17,8 +18,8 @@ use Rattle.script_host.specs.Recording.{AgreesWhereTold}
 use Rattle.script_host.specs.Words.{is_run_words}
 use Rattle.std.specs.declared.result.Result.{Result}
 use Rattle.std.specs.declared.result.Result.TheVariants.{Ok}
-use Rattle.script_host.specs.declared.host.Written.{Written}
-use Rattle.script_host.specs.declared.host.Written.TheVariants as written
+use Rattle.script_host.specs.declared.top_call.Written.{Written}
+use Rattle.script_host.specs.declared.top_call.Written.TheVariants as written
 use Rattle.script_host.specs.declared.words.Line.{Line}
 use Rattle.script_host.specs.declared.words.Line.TheVariants as line
 
@@ -118,3 +119,16 @@ WroteTrace false had faults trace has risen = HasRisen faults risen × TookFront
 abbrev pub is_whole : {E : Type 0} → Result Written E → Bool
 is_whole (Ok written.Whole) = true
 is_whole _ = false
+
+-- THE STATUSES
+-- the statuses with which the top call ends
+abbrev pub IsStatus : ℕ → Type 0
+IsStatus status = IsTrue (list_any (λ known. known == status) (0 ∷ 2 ∷ 3 ∷ 4 ∷ 5 ∷ 6 ∷ 7 ∷ []))
+
+-- the statuses after a run
+abbrev pub IsRunStatus : ℕ → Type 0
+IsRunStatus status = (status ≡ 0) ⊎ (status ≡ 5)
+
+-- the source gave no JSON text, or no script, or a script with more addons than were handed in
+abbrev pub GaveRefused : Option (List ℕ) → Option (List ℕ) → ℕ → Type 0
+GaveRefused before after handed = GaveNoJson before after ⊎ (GaveNoScript before after ⊎ GaveTooManyAddons before after handed)

@@ -4,10 +4,11 @@
 #![tactic(auto)]
 
 mod history;
-mod host;
 mod reading;
 mod recording;
 mod standard;
+mod top_call;
 mod words;
 
 pub use standard::{StdSink, StdSource};
+pub use top_call::host;

@@ -1,6 +1,6 @@
 use Rattle.std.proofs.Common.{◌≤◌, ◌∙◌, sym, ap, length, subst, ℕ, arith}
 use Rattle.script_host.proofs.Hosts.{ran-of, journal-within, history-within}
-use Rattle.script_host.proofs.host.perform.Goals as goal
+use Rattle.script_host.proofs.top_call.perform.Goals as goal
 
 pub write_trace-written-requires-clause-journal : goal.write_trace-written-requires-clause-journal
 write_trace-written-requires-clause-journal g c = rw c.items-3.ensures (journal-within _ _ _ _ _ c.in-Ok.ensures.ended)

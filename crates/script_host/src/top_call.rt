@@ -1,8 +1,8 @@
 //! The top call.
-ghost use Rattle.std.specs.Prelude.{◌≡◌, ◌≢◌, ◌≤◌, ◌<◌, ℕ, ◌↔◌, List, [], ◌∷◌, length, map, true, false, Some, None, IfOk, OnOk, OnErr, IfErr, Contains, IsOk, ◌⊎◌};
+ghost use Rattle.std.specs.Prelude.{◌≡◌, ◌≢◌, ◌≤◌, ◌<◌, ℕ, ◌↔◌, ◌==◌, List, [], ◌∷◌, length, map, true, false, Some, None, IfOk, OnOk, OnErr, IfErr, Contains, IsOk, ◌⊎◌};
 ghost use Rattle.std.specs.Io.KnownBytes.{append_known};
 ghost use Rattle.napi_types.specs.Edge.{HasRisen, TookFront};
-ghost use Rattle.script_host.specs.Host.{Ran, HasOneAddon, GaveScript, GaveTooMuch, Causes, WroteLine, WroteTrace, is_whole, trace_of};
+ghost use Rattle.script_host.specs.Host.{Ran, HasOneAddon, GaveScript, GaveTooMuch, Causes, WroteLine, WroteTrace, is_whole, trace_of, IsStatus, IsRunStatus, GaveRefused};
 ghost use Rattle.script_host.specs.Words.{is_run_words, line_text, line_status};
 
 use std::alloc::Global;
@@ -140,4 +140,55 @@ fn attempt<S: Source, K: Sink>(
 {
     let script = script_of(alloc, words, source)?;
     perform(alloc, script, sink, addons, left)
+}
+
+/// Does all that the program does: reads a script from the source, runs it with the addons that it is handed, and
+/// writes its trace to the sink. It answers the exit status.
+///
+/// The one command line is the word `run`. At status 0 the whole trace was written, at 5 the sink failed within it; then
+/// `left` holds the journal and the history of the run, and each addon of the script was loaded with its plan. At every
+/// other status a line stands in place of the trace and `left` is as it was: 2 where the words are no command line, 3
+/// where the bytes are no JSON text, no script of a part that is built, or a script with more addons than were handed in,
+/// 4 where the source failed, 7 where it gave more than 4,194,304 bytes, and 6 for want of memory, which may come in
+/// place of 0, 3, 4, 5 and 7. `gate` and `rt` serve threads, which no script has.
+pub fn host<R: Threads + Wait + Sync, S: Source, K: Sink, G: Gate>(
+    rt: &R,
+    alloc: Global,
+    words: &[Text],
+    source: &mut S,
+    sink: &mut K,
+    gate: &G,
+    addons: &mut Vec<Box<dyn Addon>>,
+    left: &mut Record,
+) -> u8
+    // The status is one of these.
+    ensures known { IsStatus result }
+
+    // At 0 and 5 the source gave a script, the two lists of `left` are a run of it to its end, and the sink took the run's text.
+    ensures ran { let plans = map (λ b. plan b) addons.old.items in
+        let registers = map (λ b. regs b) addons.old.items in
+        IsRunStatus result → (script : Script) × GaveScript (S.left source.old) (S.left source.new) script
+            × Ran script plans registers left.new (map (λ b. plan b) addons.new.items) (map (λ b. regs b) addons.new.items)
+            × WroteTrace (result == 0) (K.taken sink.old) (K.faults sink.old) (trace_of script left.new) (K.taken sink.new) (K.faults sink.new) }
+
+    // At every other status a line has its cause, and stands in place of the trace.
+    ensures refused { (IsRunStatus result → ⊥) → (line : Line) × (result ≡ line_status line)
+        × Causes line words.now (S.left source.old) (S.left source.new) (S.faults source.old) (S.faults source.new) (length addons.old.items)
+        × WroteLine (K.taken sink.old) (K.faults sink.old) (line_text line) (K.taken sink.new) (K.faults sink.new) }
+    ensures left { (IsRunStatus result → ⊥) → left.new ≡ left.old }
+
+    // The same, status by status.
+    ensures usage { (result ≡ 2) ↔ (is_run_words words.now ≡ false) }
+    ensures no_script { result ≡ 3 → GaveRefused (S.left source.old) (S.left source.new) (length addons.old.items) }
+    ensures read_fault { result ≡ 4 → HasRisen (S.faults source.old) (S.faults source.new) }
+    ensures write_fault { result ≡ 5 → HasRisen (K.faults sink.old) (K.faults sink.new) }
+    ensures too_long { result ≡ 7 → GaveTooMuch (S.left source.old) (S.left source.new) }
+    ensures reading { S.faults source.old ≤ S.faults source.new }
+    ensures writing { K.faults sink.old ≤ K.faults sink.new }
+{
+    match attempt(alloc, words, source, sink, addons, left) {
+        Ok(Written::Whole) => 0,
+        Ok(Written::Cut) => 5,
+        Err(line) => refuse(sink, line),
+    }
 }
