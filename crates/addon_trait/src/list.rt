@@ -2,8 +2,8 @@
 //! An addon is named by its place in the list, from 0.
 ghost use Rattle.std.specs.Prelude.{◌≡◌, ◌<◌, IfSome, length, map, set, option_map};
 ghost use Rattle.napi_types.specs.Registers.{plan_ask, kept, blank_registers, gifted};
-ghost use Rattle.addon_trait.specs.Addons.{loaded_at, OthersStay};
 ghost use Rattle.napi_types.specs.Plan.{plan_of, registers_of};
+ghost use Rattle.addon_trait.specs.Addons.{loaded_at, OthersStay};
 
 use crate::Addon;
 use napi_types::{AddonPlan, Ask, Reply};

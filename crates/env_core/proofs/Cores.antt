@@ -1,13 +1,11 @@
 -- A core stays one where a call leaves its entry.
-use Rattle.std.proofs.Common.{◌≡◌, ◌≤◌, ◌<◌, ℕ, ◌+◌, ◌-◌, ◌*◌, List, [], ◌∷◌, ◌++◌, length, ap, subst, sym, ◌∙◌, arith, length-append, refl}
+use Rattle.std.proofs.Common.{◌≡◌, ◌≤◌, ◌+◌, ◌-◌, [], ◌∷◌, ◌++◌, length, subst, sym, arith, length-append, refl}
 use Rattle.napi_types.specs.declared.entry.Local.{Local}
-use Rattle.napi_types.specs.declared.entry.Phase.{Phase}
 use Rattle.napi_types.specs.Environment.{Environment}
-use Rattle.napi_types.specs.Room.{one_if, gone_place, reserved_journal}
-use Rattle.napi_types.proofs.Answers.{KeepsButAsk}
+use Rattle.napi_types.specs.Room.{reserved_journal}
 use Rattle.env_core.specs.Journal.{Pages}
 use Rattle.env_core.specs.Core.{IsCore}
-use Rattle.std.specs.Prelude.{not}
+use Rattle.napi_types.proofs.Answers.{KeepsButAsk}
 
 -- a call reserves no place and gives none back
 pub reserved-kept : (old new : Environment) → KeepsButAsk old new → reserved_journal new ≡ reserved_journal old

@@ -1,11 +1,11 @@
 -- Laws on values that were made one after another.
-use Rattle.std.proofs.Common.{◌≡◌, ◌≢◌, ◌≤◌, ◌<◌, ℕ, zero, suc, ◌+◌, ◌-◌, ◌==◌, Bool, true, false, cond, List, [], ◌∷◌, ◌++◌, length, refl, ap, ◌∙◌, Option, Some, None, find, option_map, slice_get, arith, sym, not, add-one}
+use Rattle.std.proofs.Common.{◌≡◌, ◌<◌, ℕ, zero, suc, ◌+◌, ◌==◌, Bool, true, false, cond, List, [], ◌∷◌, ◌++◌, length, refl, ap, ◌∙◌, Some, option_map, slice_get, arith, not, add-one}
+use Rattle.std.specs.Option.{unwrap_or}
 use Rattle.napi_types.specs.declared.body.Body.{Body}
 use Rattle.napi_types.specs.declared.body.Body.TheVariants as body
 use Rattle.napi_types.specs.Lists.{has_number}
 use Rattle.napi_types.specs.Values.{Value, fresh_value, value_at, body_of}
 use Rattle.env_core.specs.State.{numbered, down_from}
-use Rattle.std.specs.Option.{unwrap_or}
 
 -- one value more has the next number
 pub numbered-append : (n : ℕ) (bs : List Body) (b : Body) → numbered n (bs ++ b ∷ []) ≡ numbered n bs ++ fresh_value (n + length bs) b ∷ []

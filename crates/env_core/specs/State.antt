@@ -6,9 +6,7 @@ use Rattle.napi_types.specs.declared.entry.Entry.{Entry}
 use Rattle.napi_types.specs.declared.entry.Reply.{Reply}
 use Rattle.napi_types.specs.Values.{Value, fresh_value}
 use Rattle.napi_types.specs.Scopes.{Frame, open_in}
-use Rattle.napi_types.specs.Environment.{Environment, Answer, plain}
-use Rattle.napi_types.specs.declared.status.Status.TheVariants as status
-use Rattle.napi_types.specs.declared.entry.Out.TheVariants as out
+use Rattle.napi_types.specs.Environment.{Environment}
 use Rattle.napi_types.specs.Calls.{answer}
 use Rattle.napi_types.specs.Changes.{called, number_of, is_fresh}
 

@@ -1,5 +1,5 @@
 -- What a step of a frame comes to.
-use Rattle.std.specs.Prelude.{◌≡◌, ℕ, false, IsTrue}
+use Rattle.std.specs.Prelude.{◌≡◌, false, IsTrue}
 use Rattle.napi_types.specs.declared.call.Call.{Call}
 use Rattle.napi_types.specs.declared.entry.Reply.{Reply}
 use Rattle.napi_types.specs.declared.status.Status.{Status}
@@ -10,15 +10,17 @@ use Rattle.env_core.specs.declared.env.Stepped.{Stepped}
 use Rattle.env_core.specs.declared.env.Stepped.TheVariants as stepped
 use Rattle.env_core.specs.Core.{Core, wrote, room_in}
 
+-- a fact of the reply, where the step is one
 abbrev pub IfReply : Stepped → (Reply → Type 0) → Type 0
 IfReply (stepped.Reply r) P = P r
 IfReply _ P = Unit {0}
 
+-- a fact of the status, where the step is a stop
 abbrev pub IfStop : Stepped → (Status → Type 0) → Type 0
 IfStop (stepped.Stop s) P = P s
 IfStop _ P = Unit {0}
 
--- the step is a reply or a stop: no call of a function and no shared call exists yet
+-- the step is a reply or a stop: it enters no frame and hands no call to the hub
 abbrev pub IsLocal : Stepped → Type 0
 IsLocal (stepped.Enter t gifts) = ⊥
 IsLocal (stepped.Shared c) = ⊥

@@ -2,9 +2,9 @@
 ghost use Rattle.std.specs.Prelude.{◌≡◌, ◌≢◌, ℕ, ◌+◌, ◌-◌, ◌*◌, ◌<◌, ◌≤◌, [], length, Some, IfOk, IsTrue, ◌↔◌};
 ghost use Rattle.napi_types.specs.Room.{is_full, most_entries};
 ghost use Rattle.napi_types.specs.Changes.{asks_made, most_asks, called, frame_ended, init_begun};
+ghost use Rattle.napi_types.specs.Phases.{next_phase};
 ghost use Rattle.env_core.specs.Core.{opened_core, wrote, advanced, room_in};
 ghost use Rattle.env_core.specs.Steps.{IfReply, IfStop, Replies, StopsBy, IsLocal};
-ghost use Rattle.napi_types.specs.Phases.{next_phase};
 
 use crate::journal::Journal;
 use crate::state::State;
@@ -104,6 +104,8 @@ impl EnvCore {
     }
 
     /// Begins the init frame of the next addon, which runs its entry 0. It takes no memory.
+    ///
+    /// It may be called in any phase: that init frames come before `go` is for the crate that runs frames to keep.
     pub fn begin_init(&mut self, addon: u32)
         requires alone { self.old.env.frames ≡ [] }
         requires next { addon ≡ self.old.env.inits }
@@ -116,7 +118,8 @@ impl EnvCore {
 
     /// Ends the innermost frame, cut or not, and answers the reply of its `end`. It takes no memory.
     ///
-    /// A frame is cut as `Asks` only after its 65,536th ask.
+    /// A frame is cut as `Asks` only after its 65,536th ask. An init frame leaves its value to nobody, so `value`
+    /// changes nothing.
     pub fn leave(&mut self, value: Option<HandleId>, cut: Option<Why>) -> Reply
         requires standing { self.old.env.frames ≢ [] }
         requires asks { cut ≡ Some Why.Asks → asks_made self.old.env.frames ≡ most_asks }
@@ -130,6 +133,8 @@ impl EnvCore {
 
     /// Moves to the next phase. `position` is the length of the history just after the hub's event that starts it.
     /// For `Gone` the entry `gone` is written, and the position is left unused. It takes no memory.
+    ///
+    /// `Live` may come before all addons had their init frame: that it does not is for the crate that runs frames to keep.
     pub fn advance(&mut self, phase: Phase, position: u64)
         requires alone { self.old.env.frames ≡ [] }
         requires next { next_phase self.old.env.phase ≡ Some phase }
@@ -154,7 +159,7 @@ impl EnvCore {
         self.state.phase()
     }
 
-    /// The journal so far.
+    /// The journal.
     pub fn journal(&self) -> &[Local]
         ensures { result.now ≡ self.now.journal }
     {

@@ -8,5 +8,7 @@ mod env;
 mod frame;
 mod journal;
 mod state;
+#[cfg(test)]
+mod tests;
 
 pub use env::{EnvCore, Stepped};

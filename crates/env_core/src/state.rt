@@ -1,8 +1,8 @@
-//! The environment's state without its journal: values, frames, and the numbers given so far.
+//! The environment's state without its journal: values, frames, and the numbers that were given.
 ghost use Rattle.std.specs.Prelude.{◌≡◌, ◌≢◌, ℕ, ◌+◌, ◌<◌, ◌≤◌, ◌^◌, [], ◌∷◌, length, vec_len, vec_capacity, slice_get, ◌++◌, true, false, OnOk, Some, None, IfOk, OnErr, IsTrue};
+ghost use Rattle.std.specs.Option.{unwrap_or};
 ghost use Rattle.napi_types.specs.Environment.{new_environment, new_value, answered, handle_body, plain as plain_reply};
 ghost use Rattle.napi_types.specs.Scopes.{gives, hold, open_in, close_in};
-ghost use Rattle.std.specs.Option.{unwrap_or};
 ghost use Rattle.napi_types.specs.Room.{is_growing};
 ghost use Rattle.napi_types.specs.Refusals.{refusal};
 ghost use Rattle.napi_types.specs.Values.{kind_of, body_of, fresh_value};

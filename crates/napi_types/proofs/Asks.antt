@@ -1,5 +1,7 @@
 -- Where every plan is told, the asks of a run are those of the plans.
-use Rattle.std.proofs.Common.{◌≡◌, ℕ, zero, suc, Bool, true, false, ◌&&◌, List, [], ◌∷◌, IsTrue, refl, ap, subst, ◌∙◌, Option, Some, None, is_some, slice_get}
+use Rattle.std.proofs.Common.{◌≡◌, ℕ, zero, suc, true, List, [], ◌∷◌, IsTrue, refl, ap, subst, ◌∙◌, Some, None, is_some}
+use Rattle.std.specs.Option.{unwrap_or}
+use Rattle.std.specs.List.{list_all}
 use Rattle.napi_types.specs.declared.entry.Entry.{Entry}
 use Rattle.napi_types.specs.declared.call.Ask.{Ask}
 use Rattle.napi_types.specs.declared.call.Ask.TheVariants as ask
@@ -10,8 +12,6 @@ use Rattle.napi_types.specs.Run.{after, IsRunBy, steps, entries_of}
 use Rattle.napi_types.specs.Plan.{Plan, plan_of, Registers, registers_of, frame_ask, frames_ask, asked, asked_along, told_asks_along, registers_after, loaded_registers}
 use Rattle.napi_types.specs.Whole.{Setting, opening_of, IsRun, all_told, told_asks}
 use Rattle.napi_types.proofs.Runs.{and-left, and-right, entries-of}
-use Rattle.std.specs.Option.{unwrap_or}
-use Rattle.std.specs.List.{list_all}
 
 all-of-at : (ps : List Plan) (a : ℕ) → IsTrue (list_all is_some ps) → is_some (plan_of ps a) ≡ true
 all-of-at [] a h = refl

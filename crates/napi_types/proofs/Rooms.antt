@@ -25,9 +25,9 @@ use Rattle.napi_types.specs.Scopes.{Frame}
 use Rattle.napi_types.specs.Step.{locally, hub_moved, by_hub, event_step, chosen, call_step, asked_step, cut_of, frame_step, env_step, step_of}
 use Rattle.napi_types.specs.Teardown.{choice_in, choice}
 use Rattle.napi_types.specs.Whole.{Setting, final_of, opening_of}
+use Rattle.napi_types.specs.Phases.{stage_of}
 use Rattle.napi_types.proofs.Answers.{KeepsButAsk, called-keeps}
 use Rattle.napi_types.proofs.Runs.{and-right}
-use Rattle.napi_types.specs.Phases.{stage_of}
 use Rattle.napi_types.proofs.Cutting.{needs-place}
 
 abbrev pub is_init : Phase → Bool

@@ -1,5 +1,6 @@
 -- Laws of runs: they grow at their end, and they compute.
-use Rattle.std.proofs.Common.{◌≡◌, ℕ, Bool, true, false, ◌&&◌, ◌==◌, List, [], ◌∷◌, ◌++◌, IsTrue, refl, ap, subst, slice_get, option_map, arith}
+use Rattle.std.proofs.Common.{◌≡◌, Bool, true, false, ◌&&◌, List, [], ◌∷◌, ◌++◌, IsTrue, refl, ap, subst}
+use Rattle.std.specs.Option.{unwrap_or}
 use Rattle.napi_types.specs.declared.entry.Entry.{Entry}
 use Rattle.napi_types.specs.declared.call.Ask.{Ask}
 use Rattle.napi_types.specs.Lists.{head, tail}
@@ -7,7 +8,6 @@ use Rattle.napi_types.specs.Machine.{Machine}
 use Rattle.napi_types.specs.Step.{Step, step}
 use Rattle.napi_types.specs.Run.{after, IsNext, IsRunBy, final, ComputesBy, steps, all_may, entries_of, is_paired}
 use Rattle.napi_types.specs.Plan.{Plan, Registers, asked, asked_along, registers_along, registers_after}
-use Rattle.std.specs.Option.{unwrap_or}
 
 pub and-left : (a b : Bool) → IsTrue (a && b) → IsTrue a
 and-left true b h = refl
@@ -77,3 +77,17 @@ entries-of m (a ∷ bs) (x ∷ xs) r =
     subst P r.0.0 (ap (λ l. x ∷ l) (entries-of (after m a x) bs xs r.1))
 entries-of m [] (x ∷ xs) r = absurd r
 entries-of m (a ∷ bs) [] r = absurd r
+
+-- a run is what computes to be one
+pub computes-of : (m : Machine) (bs : List Ask) (xs : List Entry) → IsRunBy m bs xs → ComputesBy m bs xs
+computes-of m bs xs r = (entries-of m bs xs r, may-of m bs xs r)
+  where
+    may-of : (m : Machine) (bs : List Ask) (xs : List Entry) → IsRunBy m bs xs → IsTrue (is_paired bs xs && all_may (steps m bs xs))
+    may-of m [] [] r = refl
+    may-of m (a ∷ bs) (x ∷ xs) r =
+        let later : List Step = steps (after m a x) bs xs in
+        let rest : IsTrue (is_paired bs xs && all_may later) = may-of (after m a x) bs xs r.1 in
+        and-both (is_paired bs xs) ((step m a x).may && all_may later) (and-left (is_paired bs xs) (all_may later) rest)
+        (and-both (step m a x).may (all_may later) r.0.1 (and-right (is_paired bs xs) (all_may later) rest))
+    may-of m [] (x ∷ xs) r = absurd r
+    may-of m (a ∷ bs) [] r = absurd r

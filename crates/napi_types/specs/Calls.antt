@@ -1,5 +1,6 @@
 -- What a call of the environment answers and leaves.
 use Rattle.std.specs.Prelude.{ℕ, Option, Some, None, List, [], ◌∷◌}
+use Rattle.std.specs.Option.{unwrap_or, option_or}
 use Rattle.napi_types.specs.declared.call.Call.{Call}
 use Rattle.napi_types.specs.declared.status.Status.{Status}
 use Rattle.napi_types.specs.declared.entry.Out.TheVariants as out
@@ -7,7 +8,6 @@ use Rattle.napi_types.specs.Environment.{Environment, Answer, answered, refused}
 use Rattle.napi_types.specs.Refusals.{refusal}
 use Rattle.napi_types.specs.ValueCalls.{on_values}
 use Rattle.napi_types.specs.ScopeCalls.{on_scopes}
-use Rattle.std.specs.Option.{unwrap_or, option_or}
 
 -- what each group of calls says of a call
 abbrev pub by_groups : Environment → Call → ℕ → List (Option Answer)
@@ -17,6 +17,7 @@ by_groups e c n = on_values e c ∷ on_scopes e c n ∷ []
 abbrev pub accepted : Environment → Call → ℕ → Answer
 accepted e c n = unwrap_or (option_or (on_values e c) (on_scopes e c n)) (answered out.Nothing e)
 
+-- what a call answers and leaves, given the refusal that applies, if one does
 abbrev pub answer_by : Environment → Call → ℕ → Option Status → Answer
 answer_by e c n (Some s) = refused s e
 answer_by e c n None = accepted e c n

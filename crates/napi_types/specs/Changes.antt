@@ -1,5 +1,5 @@
 -- What each local event of the environment writes, and the environment that it leaves.
-use Rattle.std.specs.Prelude.{ℕ, ◌+◌, ◌&&◌, Bool, true, false, not, nat_lt, List, [], ◌∷◌, length, Option, Some, None}
+use Rattle.std.specs.Prelude.{ℕ, ◌+◌, Bool, true, not, nat_lt, List, [], ◌∷◌, length, Option, Some, None}
 use Rattle.napi_types.specs.declared.call.Call.{Call}
 use Rattle.napi_types.specs.declared.status.Status.{Status}
 use Rattle.napi_types.specs.declared.status.Status.TheVariants as status
@@ -17,7 +17,7 @@ use Rattle.napi_types.specs.declared.entry.Phase.{Phase}
 use Rattle.napi_types.specs.declared.entry.Phase.TheVariants as phase
 use Rattle.napi_types.specs.Lists.{has_number, first_changed, tail}
 use Rattle.napi_types.specs.Scopes.{Frame, frame_of}
-use Rattle.napi_types.specs.Environment.{Environment, Answer, plain}
+use Rattle.napi_types.specs.Environment.{Environment, plain}
 use Rattle.napi_types.specs.Calls.{answer}
 
 -- an entry of the environment, and the environment after it
@@ -67,6 +67,7 @@ is_fresh e _ = true
 abbrev pub most_asks : ℕ
 most_asks = 65536
 
+-- whether the innermost frame may make a further ask
 abbrev pub may_ask : Environment → Bool
 may_ask e = nat_lt (asks_made e.frames) most_asks
 
@@ -74,6 +75,7 @@ may_ask e = nat_lt (asks_made e.frames) most_asks
 abbrev pub called : Environment → Call → ℕ → Change
 called e c n = record { entry = call_entry e c (answer e c n).reply; after = noted (answer e c n).reply.status (answer e c n).after }
 
+-- what the end of a frame tells: the cut, where it was cut
 abbrev pub end_out : Option Why → Out
 end_out (Some w) = out.Cut w
 end_out None = out.Nothing

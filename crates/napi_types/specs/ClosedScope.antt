@@ -7,10 +7,10 @@ use Rattle.napi_types.specs.declared.entry.Out.TheVariants as out
 use Rattle.napi_types.specs.declared.status.Kind.{Kind}
 use Rattle.napi_types.specs.declared.status.Status.{Status}
 use Rattle.napi_types.specs.declared.status.Status.TheVariants as status
+use Rattle.napi_types.specs.declared.entry.Out.{Out}
 use Rattle.napi_types.specs.Text.{text}
 use Rattle.napi_types.specs.Texts.{fixed_texts}
 use Rattle.napi_types.specs.Traces.{script_of, call_at, run_of_calls}
-use Rattle.napi_types.specs.declared.entry.Out.{Out}
 use Rattle.napi_types.specs.Whole.{Setting, IsRun, EndsBy, told_asks}
 
 -- the script makes an object in a scope, closes the scope, and asks for the kind of the object
@@ -21,6 +21,7 @@ setting = script_of (op.OpenHandleScope 0 ∷ op.CreateObject 1 ∷ op.CloseHand
 abbrev pub typeof_entry : Status → Out → Entry
 typeof_entry s o = call_at 3 (call.Typeof (record { 0 = 1 })) s o
 
+-- the whole run
 abbrev pub trace : List Entry
 trace = run_of_calls (
     call_at 0 call.OpenHandleScope status.Ok (out.Scope (record { 0 = 1 }))

@@ -35,19 +35,23 @@ tight = record { plans = None ∷ []; texts = 3; limits = record { journal = 5; 
 abbrev pub opening_asks : List Ask
 opening_asks = ask.Leave None ∷ ask.Leave None ∷ []
 
+-- the frame asks to make an object
 abbrev pub create : Ask
 create = ask.Do call.CreateObject
 
+-- the entry of its first call, an object and its handle
 abbrev pub object_made : Entry
 object_made = call_at 0 call.CreateObject status.Ok (out.Handle (record { 0 = 1 }))
 
--- as the frame has begun, and as it has made its first call
+-- the machine as the frame has begun
 abbrev pub begun : Machine
 begun = final_of tight opening_asks opening_entries
 
+-- the machine after the first call of the frame
 abbrev pub first_called : Machine
 first_called = final_of tight (opening_asks ++ create ∷ []) (opening_entries ++ object_made ∷ [])
 
+-- where the frame is cut, and where it is not
 pub record CutsForRoom : Type 0 where
   -- the first call has its place
   pub first : RunsBy tight (opening_asks ++ create ∷ []) (opening_entries ++ object_made ∷ [])

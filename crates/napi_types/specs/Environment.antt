@@ -1,5 +1,6 @@
 -- The environment's state, and the words that its calls are told by.
 use Rattle.std.specs.Prelude.{ℕ, ◌+◌, Bool, false, List, [], ◌∷◌, ◌++◌, length, None}
+use Rattle.std.specs.Option.{unwrap_or}
 use Rattle.napi_types.specs.declared.status.Status.{Status}
 use Rattle.napi_types.specs.declared.status.Status.TheVariants as status
 use Rattle.napi_types.specs.declared.entry.Out.{Out}
@@ -9,9 +10,9 @@ use Rattle.napi_types.specs.declared.entry.Phase.{Phase}
 use Rattle.napi_types.specs.declared.entry.Phase.TheVariants as phase
 use Rattle.napi_types.specs.declared.body.Body.{Body}
 use Rattle.napi_types.specs.Values.{Value, body_of, fresh_value, starting_values, undefined_value}
-use Rattle.napi_types.specs.Scopes.{Held, Frame, gives, hold}
-use Rattle.std.specs.Option.{unwrap_or}
+use Rattle.napi_types.specs.Scopes.{Frame, gives, hold}
 
+-- the state of the environment (`napi_env`)
 pub record Environment : Type 0 where
   -- how many addons and how many texts the script has
   pub addons : ℕ
@@ -31,6 +32,7 @@ pub record Environment : Type 0 where
   -- the status of the last call
   pub last : Status
 
+-- the environment of a script with so many addons and texts, before its opening
 abbrev pub new_environment : ℕ → ℕ → Environment
 new_environment addons texts = record {
   addons = addons;
@@ -51,6 +53,7 @@ pub record Answer : Type 0 where
   pub reply : Reply
   pub after : Environment
 
+-- a reply that neither withdraws nor makes a duty
 abbrev pub plain : Status → Out → Reply
 plain s o = record { status = s; out = o; dropped = None; made = None }
 
@@ -66,6 +69,7 @@ refused s e = record { reply = plain s out.Nothing; after = e }
 abbrev pub handle_value : Environment → ℕ → ℕ
 handle_value e h = unwrap_or (gives e.frames h) undefined_value
 
+-- what the value of a handle is
 abbrev pub handle_body : Environment → ℕ → Body
 handle_body e h = body_of e.values (handle_value e h)
 
@@ -73,6 +77,7 @@ handle_body e h = body_of e.values (handle_value e h)
 abbrev pub with_handle : ℕ → Environment → Environment
 with_handle v e = record e { handles = e.handles + 1; frames = hold (record { handle = e.handles + 1; value = v }) e.frames }
 
+-- the answer is a new handle of a value
 abbrev pub handle_of : ℕ → Environment → Answer
 handle_of v e = answered (out.Handle (record { 0 = e.handles + 1 })) (with_handle v e)
 

@@ -43,6 +43,7 @@ local_entry n x = record { at = n; entry = x }
 abbrev pub journal : List Local
 journal = map (λ x. local_entry 0 x) (opening_entries ++ calls ++ frame_end ∷ []) ++ local_entry 4 gone_entry ∷ []
 
+-- the history: the four events of the hub
 abbrev pub history : List Entry
 history = great_events
 

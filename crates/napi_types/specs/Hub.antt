@@ -1,9 +1,9 @@
--- The hub: how far the run has come. Its works and thread-safe functions come with their parts, and so do other actors.
-use Rattle.std.specs.Prelude.{ℕ, Option, Some, None}
+-- The hub: how far the run has come, told by the four great events. It has no works and no thread-safe functions.
+use Rattle.std.specs.Prelude.{Option, Some, None}
 use Rattle.napi_types.specs.declared.entry.HostStep.{HostStep}
 use Rattle.napi_types.specs.declared.entry.HostStep.TheVariants as host
 
--- which of the hub's four great events happened: none yet, `go`, `loop_end`, `drain`, `finals`
+-- which of the hub's four great events was the last: none, `go`, `loop_end`, `drain`, `finals`
 pub data Stage : Type 0 where
   Before : Stage
   Going : Stage
@@ -11,6 +11,7 @@ pub data Stage : Type 0 where
   Drained : Stage
   Final : Stage
 
+-- the state of the hub
 pub record Hub : Type 0 where
   pub stage : Stage
 
@@ -26,6 +27,7 @@ stage_after Looped host.Drain = Some Drained
 stage_after Drained host.Finals = Some Final
 stage_after _ _ = None
 
+-- the hub at its next stage, where there is one
 abbrev pub staged : Hub → Option Stage → Option Hub
 staged h None = None
 staged h (Some s) = Some (record h { stage = s })

@@ -1,5 +1,5 @@
 -- Laws over all environments and all runs.
-use Rattle.std.specs.Prelude.{◌≡◌, ℕ, ◌+◌, ◌*◌, ◌≤◌, List, length, take, Some, None, filter, is_some}
+use Rattle.std.specs.Prelude.{◌≡◌, ℕ, ◌+◌, ◌*◌, ◌≤◌, List, length, take, Some, None, filter, is_some, ◌↔◌}
 use Rattle.napi_types.specs.declared.call.Ask.{Ask}
 use Rattle.napi_types.specs.declared.call.Call.{Call}
 use Rattle.napi_types.specs.declared.call.Call.TheVariants.{Typeof}
@@ -15,6 +15,7 @@ use Rattle.napi_types.specs.Refusals.{refusal}
 use Rattle.napi_types.specs.Room.{reserved_journal, reserved_history}
 use Rattle.napi_types.specs.Scopes.{gives}
 use Rattle.napi_types.specs.Whole.{Setting, RunsBy, final_of}
+use Rattle.napi_types.specs.Run.{IsRunBy, ComputesBy}
 
 -- `typeof` refuses the handle as an invalid argument, tells nothing, and leaves the environment as it was
 pub record RefusesHandle (e : Environment) (h : HandleId) : Type 0 where
@@ -29,6 +30,10 @@ RefusesUnknownHandles = (e : Environment) (h : HandleId) → gives e.frames h.0 
 -- each call has a row: exactly one group of calls answers it
 abbrev pub EveryCallHasARow : Type 0
 EveryCallHasARow = (e : Environment) (c : Call) (n : ℕ) → length (filter is_some (by_groups e c n)) ≡ 1
+
+-- a run, and what computes to be one, are the same
+abbrev pub RunsAreComputed : Type 0
+RunsAreComputed = (m : Machine) (bs : List Ask) (xs : List Entry) → (IsRunBy m bs xs ↔ ComputesBy m bs xs)
 
 -- what came of a run up to any moment is a run
 abbrev pub FrontsAreRuns : Type 0

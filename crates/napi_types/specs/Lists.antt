@@ -11,16 +11,20 @@ found number n xs = find (λ x. number x == n) xs
 abbrev pub has : {A : Type 0} → (A → ℕ) → ℕ → List A → Bool
 has number n xs = list_any (λ x. number x == n) xs
 
+-- the number is in the list
 abbrev pub has_number : ℕ → List ℕ → Bool
 has_number n xs = has (λ m. m) n xs
 
+-- the list of one element
 abbrev pub one : {A : Type 0} → A → List A
 one x = x ∷ []
 
+-- the first element, none of an empty list
 abbrev pub head : {A : Type 0} → List A → Option A
 head [] = None
 head (x ∷ xs) = Some x
 
+-- the list without its first element
 abbrev pub tail : {A : Type 0} → List A → List A
 tail [] = []
 tail (x ∷ xs) = xs

@@ -1,9 +1,10 @@
 -- The environment's next event where no frame stands, up to the end of the loop.
-use Rattle.std.specs.Prelude.{ℕ, cond, nat_lt, Option, Some, None}
+use Rattle.std.specs.Prelude.{ℕ, cond, nat_lt}
 use Rattle.napi_types.specs.declared.entry.LoopEnd.{LoopEnd}
 use Rattle.napi_types.specs.declared.entry.LoopEnd.TheVariants as loop_end
 use Rattle.napi_types.specs.Environment.{Environment}
 
+-- an event of the environment with no frame: the opening, the init frame of an addon, the four events of the hub, and the end
 pub data Event : Type 0 where
   Opens : Event
   Inits : ℕ → Event

@@ -15,7 +15,7 @@ use Rattle.napi_types.specs.declared.entry.Why.TheVariants as why
 use Rattle.napi_types.specs.declared.status.Kind.{Kind}
 use Rattle.napi_types.specs.declared.status.Kind.TheVariants as kind
 
--- the name that the manual gives the call
+-- the name that the manual gives the call, without its `napi_`
 abbrev pub call_name : Call → List ℕ
 call_name call.CreateObject = codes "create_object"
 call_name (call.Typeof h) = codes "typeof"

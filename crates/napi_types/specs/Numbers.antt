@@ -5,6 +5,7 @@ use Rattle.napi_types.specs.declared.status.Status.TheVariants as status
 use Rattle.napi_types.specs.declared.status.Kind.{Kind}
 use Rattle.napi_types.specs.declared.status.Kind.TheVariants as kind
 
+-- a status's number: the manual's `napi_status`
 abbrev pub status_number : Status → ℕ
 status_number status.Ok = 0
 status_number status.InvalidArg = 1
@@ -33,6 +34,7 @@ status_number status.CannotRunJs = 23
 status_number status.NoMemory = 1000
 status_number status.TraceFull = 1001
 
+-- a value kind's number: the manual's `napi_valuetype`
 abbrev pub kind_number : Kind → ℕ
 kind_number kind.Undefined = 0
 kind_number kind.Null = 1

@@ -1,5 +1,5 @@
 -- What the plans of addons ask along a run, and the registers that they leave.
-use Rattle.std.specs.Prelude.{◌≡◌, ℕ, ◌-◌, ◌==◌, cond, List, [], ◌∷◌, map, set, Option, Some, None, slice_index_or}
+use Rattle.std.specs.Prelude.{ℕ, List, [], ◌∷◌, map, set, Option, Some, None, slice_index_or}
 use Rattle.napi_types.specs.declared.call.Ask.{Ask}
 use Rattle.napi_types.specs.declared.call.Ask.TheVariants as ask
 use Rattle.napi_types.specs.declared.call.Op.{Op}
@@ -38,15 +38,17 @@ abbrev pub frame_ask : Plan → List ℕ → Frame → Ask → Ask
 frame_ask None rs f a = a
 frame_ask (Some p) rs f a = plan_ask p rs f.entry f.asks
 
--- the ask of the innermost frame; where no frame stands nothing is asked
+-- the ask of the innermost frame; an event with no frame has `Leave None` in the place of its ask
 abbrev pub frames_ask : List Plan → Registers → List Frame → Ask → Ask
 frames_ask ps rss [] a = ask.Leave None
 frames_ask ps rss (f ∷ fs) a = frame_ask (plan_of ps f.addon) (registers_of rss f.addon) f a
 
+-- what is asked of the machine: the ask of its innermost frame
 abbrev pub asked : List Plan → Registers → Machine → Ask → Ask
 asked ps rss m a = frames_ask ps rss m.env.frames a
 
 -- WHAT THE REGISTERS KEEP
+-- the registers of a frame's addon after a reply; where no plan is told they stay as they are, and nothing is said of them
 abbrev pub kept_by : Plan → List ℕ → Frame → Reply → List ℕ
 kept_by None rs f r = rs
 kept_by (Some p) rs f r = kept p rs f.entry f.asks r

@@ -1,5 +1,7 @@
 -- The first refusal of a call that applies: a table for each point of their order.
-use Rattle.std.specs.Prelude.{ℕ, Bool, List, [], Option, Some, None, is_some}
+use Rattle.std.specs.Prelude.{ℕ, Bool, List, [], Option, None, is_some}
+use Rattle.std.specs.Option.{option_or}
+use Rattle.std.specs.List.{list_all}
 use Rattle.napi_types.specs.declared.call.Call.{Call}
 use Rattle.napi_types.specs.declared.call.Call.TheVariants.{CreateObject, Typeof, OpenHandleScope, CloseHandleScope}
 use Rattle.napi_types.specs.declared.status.Status.{Status}
@@ -7,8 +9,6 @@ use Rattle.napi_types.specs.declared.status.Status.TheVariants as status
 use Rattle.napi_types.specs.Lists.{one, unless}
 use Rattle.napi_types.specs.Scopes.{gives, scopes_of, closing}
 use Rattle.napi_types.specs.Environment.{Environment}
-use Rattle.std.specs.Option.{option_or}
-use Rattle.std.specs.List.{list_all}
 
 -- the handles that a call names
 abbrev pub handles_of : Call → List ℕ

@@ -3,20 +3,22 @@ use Rattle.std.specs.Prelude.{ℕ, ◌+◌, ◌-◌, ◌*◌, Bool, true, false,
 use Rattle.napi_types.specs.declared.call.Call.{Call}
 use Rattle.napi_types.specs.declared.entry.Phase.{Phase}
 use Rattle.napi_types.specs.declared.entry.Phase.TheVariants as phase
+use Rattle.napi_types.specs.declared.call.Call.TheVariants.{CreateObject, Typeof, OpenHandleScope, CloseHandleScope}
 use Rattle.napi_types.specs.Environment.{Environment}
 use Rattle.napi_types.specs.Hub.{Hub, Stage, Before, Going, Looped, Drained, Final}
 use Rattle.napi_types.specs.Machine.{Machine}
-use Rattle.napi_types.specs.declared.call.Call.TheVariants.{CreateObject, Typeof, OpenHandleScope, CloseHandleScope}
 
 -- a list's room: its limit, and the places that its entries and its reserved places take
 pub record Room : Type 0 where
   pub limit : ℕ
   pub taken : ℕ
 
+-- one place where a test holds
 abbrev pub one_if : Bool → ℕ
 one_if true = 1
 one_if false = 0
 
+-- the place of `gone`, where it does not stand in the journal
 abbrev pub gone_place : Phase → ℕ
 gone_place phase.Gone = 0
 gone_place _ = 1
@@ -25,6 +27,7 @@ gone_place _ = 1
 abbrev pub reserved_journal : Environment → ℕ
 reserved_journal e = one_if (not e.opened) + gone_place e.phase + 2 * (e.addons - e.inits) + length e.frames
 
+-- how many of the four great events have still to happen
 abbrev pub stage_places : Stage → ℕ
 stage_places Before = 4
 stage_places Going = 3
@@ -32,10 +35,11 @@ stage_places Looped = 2
 stage_places Drained = 1
 stage_places Final = 0
 
--- the places that the history still owes: those of the four great events that have not happened
+-- the places that the history still owes: those of the great events to come
 abbrev pub reserved_history : Hub → ℕ
 reserved_history h = stage_places h.stage
 
+-- the room in a journal with so many entries and this limit
 abbrev pub journal_room : Environment → ℕ → ℕ → Room
 journal_room e locals limit = record { limit = limit; taken = locals + reserved_journal e }
 

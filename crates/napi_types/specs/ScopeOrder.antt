@@ -25,6 +25,7 @@ too_early s = call_at 2 (call.CloseHandleScope (record { 0 = 1 })) s out.Nothing
 abbrev pub too_late : Status → Entry
 too_late s = call_at 5 (call.CloseHandleScope (record { 0 = 1 })) s out.Nothing
 
+-- the whole run
 abbrev pub trace : List Entry
 trace = run_of_calls (
     call_at 0 call.OpenHandleScope status.Ok (out.Scope (record { 0 = 1 }))

@@ -1,10 +1,10 @@
 -- Handle scopes: the frames that stand, each with its scopes, and the handles that the scopes hold.
 use Rattle.std.specs.Prelude.{ℕ, ◌==◌, Bool, not, List, [], ◌∷◌, ◌++◌, Option, Some, None, option_map}
+use Rattle.std.specs.Option.{option_or}
 use Rattle.napi_types.specs.declared.entry.Cause.{Cause}
 use Rattle.napi_types.specs.declared.status.Status.{Status}
 use Rattle.napi_types.specs.declared.status.Status.TheVariants as status
 use Rattle.napi_types.specs.Lists.{found, has, first_changed, when, tail, one}
-use Rattle.std.specs.Option.{option_or}
 
 -- a handle, and the creation number of its value
 pub record Held : Type 0 where
@@ -30,9 +30,11 @@ pub record Frame : Type 0 where
 abbrev pub frame_of : Cause → ℕ → ℕ → Frame
 frame_of c addon entry = record { cause = c; addon = addon; entry = entry; asks = 0; own = []; scopes = [] }
 
+-- the value of a handle that is held here
 abbrev pub value_in : List Held → ℕ → Option ℕ
 value_in hs h = option_map (λ p. p.value) (found (λ p. p.handle) h hs)
 
+-- the value of a handle in the first of the scopes that holds it
 abbrev pub value_in_scopes : List Scope → ℕ → Option ℕ
 value_in_scopes [] h = None
 value_in_scopes (s ∷ ss) h = option_or (value_in s.held h) (value_in_scopes ss h)
@@ -68,6 +70,7 @@ abbrev pub scopes_of : List Frame → List Scope
 scopes_of [] = []
 scopes_of (f ∷ fs) = f.scopes
 
+-- one of the scopes has the number
 abbrev pub has_scope : ℕ → List Scope → Bool
 has_scope n ss = has (λ s. s.number) n ss
 

@@ -1,14 +1,14 @@
--- The script that a JSON value is. Built so far is the first form: version 9, no workers, no threads, no schedule, and one addon with one entry.
+-- The script of the first form that a JSON value is. The first form of a script: version 9, no workers, no threads, no schedule, and one addon with one entry.
 use Rattle.std.specs.Prelude.{◌≡◌, ℕ, ◌==◌, ◌&&◌, nat_lt, nat_le, if◌then◌else◌, Bool, false, List, [], ◌∷◌, Option, Some, None, option_map, option_and_then, unwrap_or, is_some, codes, bytes_eq, IsUtf8}
 use Rattle.serde_json.specs.Data.{Data, string, array, Items, no_items, item}
 use Rattle.serde_json.specs.Find.{get, as_number, as_str, as_u64, as_array, as_object}
 use Rattle.serde_json.specs.Events.{items_len, members_len}
 use Rattle.serde_json.specs.Read.{read}
-use Rattle.napi_types.specs.Texts.{fixed_texts}
 use Rattle.napi_types.specs.declared.call.Op.{Op}
 use Rattle.napi_types.specs.declared.call.Op.TheVariants as op
 use Rattle.napi_types.specs.declared.lists.AddonPlan.{AddonPlan}
 use Rattle.napi_types.specs.declared.script.Script.{Script}
+use Rattle.napi_types.specs.Texts.{fixed_texts}
 
 -- the bytes are a JSON text of this value
 abbrev pub IsJson : List ℕ → Data → Type 0
@@ -112,14 +112,14 @@ is_root d = has_members 4 d && member_is (codes "version") 9 d && member_is (cod
 abbrev pub script_of : AddonPlan → Script
 script_of plan = record { version = 9; workers = 0; addons = plan ∷ []; threads = []; schedule = None; texts = fixed_texts }
 
--- the script that a value is
+-- the script of the first form that a value is
 abbrev pub script : Data → Option Script
 script d = if is_root d then option_map script_of (option_and_then addon (only_item_of (codes "addons") d)) else None
 
--- the bytes are a JSON text of a value that is this script
+-- the bytes are a JSON text of a value that is this script, which is of the first form
 abbrev pub IsScript : List ℕ → Script → Type 0
 IsScript bytes s = (d : Data) × IsJson bytes d × (script d ≡ Some s)
 
--- the bytes are a JSON text of a value that is no script
+-- the bytes are a JSON text of a value that is no script of the first form; it may be one of another form
 abbrev pub IsNoScript : List ℕ → Type 0
 IsNoScript bytes = (d : Data) × IsJson bytes d × (script d ≡ None)

@@ -1,5 +1,5 @@
 -- The entry that must stand next, what it leaves, and whether it may stand there.
-use Rattle.std.specs.Prelude.{ℕ, ◌+◌, ◌==◌, Bool, true, false, not, ◌&&◌, nat_lt, List, [], ◌∷◌, Option, Some, None}
+use Rattle.std.specs.Prelude.{◌+◌, ◌==◌, Bool, true, false, not, ◌&&◌, List, [], ◌∷◌, Option, Some, None}
 use Rattle.napi_types.specs.declared.call.Call.{Call}
 use Rattle.napi_types.specs.declared.call.Ask.{Ask}
 use Rattle.napi_types.specs.declared.call.Ask.TheVariants as ask
@@ -15,10 +15,9 @@ use Rattle.napi_types.specs.declared.entry.Why.TheVariants as why
 use Rattle.napi_types.specs.declared.entry.Phase.{Phase}
 use Rattle.napi_types.specs.declared.entry.Phase.TheVariants as phase
 use Rattle.napi_types.specs.Scopes.{Frame}
-use Rattle.napi_types.specs.Environment.{Environment}
 use Rattle.napi_types.specs.Hub.{Hub, hub_next}
 use Rattle.napi_types.specs.Machine.{Machine}
-use Rattle.napi_types.specs.Room.{Room, room_of, is_full, may_want_memory}
+use Rattle.napi_types.specs.Room.{room_of, is_full, may_want_memory}
 use Rattle.napi_types.specs.Changes.{Change, host_entry, opened, init_begun, asks_made, number_of, is_fresh, most_asks, may_ask, called, frame_ended, gone, in_phase}
 use Rattle.napi_types.specs.Loop.{Event, Opens, Inits, Goes, EndsLoop, Drains, FinalsCome, IsGone}
 use Rattle.napi_types.specs.Teardown.{choice}
@@ -46,10 +45,12 @@ hub_moved m event p o (Some h) = record {
   may = true;
 }
 
+-- an event of the hub, after which the environment is in the phase
 abbrev pub by_hub : Machine → HostStep → Phase → Out → Step
 by_hub m event p o = hub_moved m event p o (hub_next m.hub event)
 
 -- EVENTS WITH NO FRAME
+-- the step of each event with no frame
 abbrev pub event_step : Machine → Event → Step
 event_step m Opens = locally m (opened m.env) true
 event_step m (Inits n) = locally m (init_begun n m.env) true
@@ -60,6 +61,7 @@ event_step m Drains = by_hub m host.Drain phase.Drain (out.Unsigned 0)
 event_step m FinalsCome = by_hub m host.Finals phase.Finals out.Nothing
 event_step m IsGone = locally m (gone m.env) true
 
+-- the step of the event that was chosen; where none was, nothing may come
 abbrev pub chosen : Machine → Option Event → Step
 chosen m None = no_step m
 chosen m (Some event) = event_step m event
@@ -76,23 +78,27 @@ may_cut m (ask.Leave v) _ = false
 abbrev pub call_step : Machine → Call → Out → Step
 call_step m c o = locally m (called m.env c (number_of o)) (may_ask m.env && is_fresh m.env o && not (is_full (room_of m c) c))
 
+-- the step of what a frame asks: its call, or its end
 abbrev pub asked_step : Machine → Ask → Out → Step
 asked_step m (ask.Do c) o = call_step m c o
 asked_step m (ask.Leave v) o = locally m (frame_ended None m.env) (may_ask m.env)
 
+-- the cut that a result tells, if it tells one
 abbrev pub cut_of : Out → Option Why
 cut_of (out.Cut w) = Some w
 cut_of _ = None
 
+-- the step of a frame: its end where it is cut, or else what it asks
 abbrev pub frame_step : Machine → Ask → Out → Option Why → Step
 frame_step m a o (Some w) = locally m (frame_ended (Some w) m.env) (may_cut m a w)
 frame_step m a o None = asked_step m a o
 
+-- the step of the environment: that of its innermost frame, or of its next event where no frame stands
 abbrev pub env_step : Machine → Ask → Out → List Frame → Step
 env_step m a o [] = chosen m (choice m.env)
 env_step m a o (f ∷ fs) = frame_step m a o (cut_of o)
 
--- no other actor exists yet
+-- threads and workers make no entry
 abbrev pub step_of : Machine → Ask → Entry → Actor → Step
 step_of m a x actor.Env = env_step m a x.reply.out m.env.frames
 step_of m a x (actor.Thread t) = no_step m

@@ -14,5 +14,6 @@ choice_in e phase.Drain = Some FinalsCome
 choice_in e phase.Finals = Some IsGone
 choice_in e phase.Gone = None
 
+-- the environment's next event where no frame stands
 abbrev pub choice : Environment → Option Event
 choice e = choice_in e e.phase

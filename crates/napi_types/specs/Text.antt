@@ -32,6 +32,7 @@ duty_text (duty.Function function) = codes "f" ++ decimal function.0
 abbrev pub marked : List ℕ → Option Duty → List ℕ
 marked sign duty = option_map_or (λ d. sign ++ duty_text d) duty []
 
+-- a flag in words
 abbrev pub flag_text : Bool → List ℕ
 flag_text true = codes "true"
 flag_text false = codes "false"

@@ -1,5 +1,5 @@
 -- The table of a script's texts.
-use Rattle.std.specs.Prelude.{◌≡◌, ℕ, ◌<◌, ◌≤◌, List, [], ◌∷◌, ◌++◌, length, codes, take, slice_get, Some}
+use Rattle.std.specs.Prelude.{◌≡◌, ℕ, List, [], ◌∷◌, codes, take, slice_get, Some}
 
 -- the three texts that every table begins with
 abbrev pub fixed_texts : List (List ℕ)

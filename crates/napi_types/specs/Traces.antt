@@ -37,10 +37,11 @@ opening_entries = host_entry host.Opened (out.Unsigned 9) ∷ host_entry host.Be
 abbrev pub frame_end : Entry
 frame_end = host_entry host.End out.Nothing
 
--- .. the history's four, ..
+-- the end of the loop, with its reason
 abbrev pub loop_ended : LoopEnd → Entry
 loop_ended reason = host_entry host.LoopEnd (out.Ended reason)
 
+-- .. the history's four, ..
 abbrev pub great_events : List Entry
 great_events = host_entry host.Go out.Nothing ∷ loop_ended loop_end.Idle ∷ host_entry host.Drain (out.Unsigned 0) ∷ host_entry host.Finals out.Nothing ∷ []
 

@@ -1,5 +1,5 @@
 -- What the calls on values answer and leave where nothing refuses them.
-use Rattle.std.specs.Prelude.{ℕ, false, Option, Some, None}
+use Rattle.std.specs.Prelude.{false, Option, Some, None}
 use Rattle.napi_types.specs.declared.call.Call.{Call}
 use Rattle.napi_types.specs.declared.call.Call.TheVariants.{CreateObject, Typeof}
 use Rattle.napi_types.specs.declared.entry.Out.TheVariants as out

@@ -1,17 +1,18 @@
 -- The value graph: a finite map from creation numbers to values.
-use Rattle.std.specs.Prelude.{ℕ, ◌+◌, true, false, List, [], ◌∷◌, ◌++◌, Option, option_map}
+use Rattle.std.specs.Prelude.{ℕ, true, false, List, [], ◌∷◌, Option, option_map}
+use Rattle.std.specs.Option.{unwrap_or}
 use Rattle.napi_types.specs.declared.body.Body.{Body}
 use Rattle.napi_types.specs.declared.body.Body.TheVariants as body
 use Rattle.napi_types.specs.declared.status.Kind.{Kind}
 use Rattle.napi_types.specs.declared.status.Kind.TheVariants as kind
 use Rattle.napi_types.specs.Lists.{found}
-use Rattle.std.specs.Option.{unwrap_or}
 
 -- a value: its creation number and what it is
 pub record Value : Type 0 where
   pub number : ℕ
   pub body : Body
 
+-- a value as it is made: its number, and what it is
 abbrev pub fresh_value : ℕ → Body → Value
 fresh_value n b = record { number = n; body = b }
 
@@ -25,6 +26,7 @@ starting_values =
     fresh_value undefined_value body.Undefined ∷ fresh_value 2 body.Null ∷ fresh_value 3 (body.Boolean true) ∷ fresh_value 4 (body.Boolean false)
     ∷ fresh_value 5 (body.Object false false) ∷ []
 
+-- the value of a number
 abbrev pub value_at : List Value → ℕ → Option Value
 value_at vs n = found (λ v. v.number) n vs
 

@@ -1,5 +1,6 @@
 -- Runs of a script.
 use Rattle.std.specs.Prelude.{◌≡◌, ℕ, Bool, List, length, is_some}
+use Rattle.std.specs.List.{list_all}
 use Rattle.napi_types.specs.declared.entry.Entry.{Entry}
 use Rattle.napi_types.specs.declared.entry.Limits.{Limits}
 use Rattle.napi_types.specs.declared.entry.Phase.TheVariants as phase
@@ -7,7 +8,6 @@ use Rattle.napi_types.specs.declared.call.Ask.{Ask}
 use Rattle.napi_types.specs.Machine.{Machine, opening}
 use Rattle.napi_types.specs.Run.{IsRunBy, final}
 use Rattle.napi_types.specs.Plan.{Plan, Registers, loaded_registers, asked_along, told_asks_along, registers_along}
-use Rattle.std.specs.List.{list_all}
 
 -- what a run is a run of: what each addon of the script tells of its plan, how many texts there are, and the limits
 pub record Setting : Type 0 where
@@ -15,9 +15,11 @@ pub record Setting : Type 0 where
   pub texts : ℕ
   pub limits : Limits
 
+-- the machine at the start of a run
 abbrev pub opening_of : Setting → Machine
 opening_of s = opening (length s.plans) s.texts s.limits
 
+-- every addon tells its plan
 abbrev pub all_told : Setting → Bool
 all_told s = list_all is_some s.plans
 

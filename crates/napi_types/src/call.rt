@@ -15,7 +15,7 @@ pub enum Call {
 }
 
 /// One operation of a script: a call whose arguments stand in registers, numbered from 0 to 31.
-/// The last register is the one that keeps the result.
+/// Where the call has a result, the last register keeps it.
 #[derive(Clone, Copy)]
 pub enum Op {
     CreateObject(u8),

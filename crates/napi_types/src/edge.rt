@@ -12,7 +12,7 @@ use std::sync::Wait;
 
 /// Where the program's input comes from.
 ///
-/// `left` are the bytes not yet read, which an implementation may leave untold. `faults` is a count that never falls.
+/// `left` are the bytes that are left to read, which an implementation may leave untold. `faults` is a count that never falls.
 pub trait Source {
     ghost left: { Self → Option (List ℕ) };
 
@@ -32,7 +32,7 @@ pub trait Source {
 
 /// Where the program's output goes.
 ///
-/// `taken` are the bytes taken so far, which an implementation may leave untold. `faults` is a count that never falls.
+/// `taken` are the bytes that it took, which an implementation may leave untold. `faults` is a count that never falls.
 pub trait Sink {
     ghost taken: { Self → Option (List ℕ) };
 
@@ -238,7 +238,7 @@ impl MemSink {
         }
     }
 
-    /// The bytes taken so far.
+    /// The bytes that it took.
     pub fn bytes(&self) -> &[u8]
         ensures { result.now ≡ self.now.taken }
     {

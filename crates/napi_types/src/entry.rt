@@ -172,7 +172,7 @@ pub struct Limits {
     pub history: u32,
 }
 
-/// A call that stopped, or a part that found no memory: want of memory and nothing else.
+/// A part found no memory. It means that and nothing else.
 #[derive(Clone, Copy)]
 pub struct NoMemory;
 

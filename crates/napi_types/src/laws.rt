@@ -3,7 +3,7 @@ ghost use Rattle.napi_types.specs.FirstRun as first_run;
 ghost use Rattle.napi_types.specs.ScopeOrder as scope_order;
 ghost use Rattle.napi_types.specs.ClosedScope as closed_scope;
 ghost use Rattle.napi_types.specs.Cuts.{CutsForRoom, CutAtLastAsk, NotBeforeLastAsk};
-ghost use Rattle.napi_types.specs.Laws.{RefusesUnknownHandles, FrontsAreRuns, RoomSuffices, EveryCallHasARow};
+ghost use Rattle.napi_types.specs.Laws.{RefusesUnknownHandles, FrontsAreRuns, RoomSuffices, EveryCallHasARow, RunsAreComputed};
 
 /// The first run: the entries are a run of its script and come to its end.
 pub fn first_run_ends()
@@ -74,6 +74,11 @@ pub fn cuts_for_room()
 pub fn cuts_at_last_ask()
     ensures last { CutAtLastAsk }
     ensures early { NotBeforeLastAsk }
+{}
+
+/// A run, and what computes to be one, are the same.
+pub fn runs_are_computed()
+    ensures { RunsAreComputed }
 {}
 
 /// What came of a run up to any moment is a run.

@@ -12,9 +12,9 @@ use Rattle.napi_types.specs.Plan.{Plan, plan_of, registers_of}
 use Rattle.napi_types.specs.Whole.{Setting}
 use Rattle.env_core.specs.Core.{Core, wrote, opened_core}
 use Rattle.addon_trait.specs.Addons.{loaded_at, OthersStay}
+use Rattle.napi_types.specs.Room.{most_entries}
 use Rattle.script_host.specs.Recording.{IsRecorded, IsEnded, StandsAt, Continues, loaded_plan, alone_setting}
 use Rattle.script_host.proofs.Recordings.{opened-recorded, init-grown}
-use Rattle.napi_types.specs.Room.{most_entries}
 
 -- the member that was set is there
 set-here : {A : Type 0} (l : List A) (x d : A) → 0 < length l → get_or (set l 0 x) 0 d ≡ x

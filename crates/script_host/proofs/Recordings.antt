@@ -11,20 +11,20 @@ use Rattle.napi_types.specs.declared.entry.LoopEnd.TheVariants as loop_end
 use Rattle.napi_types.specs.declared.entry.Phase.{Phase}
 use Rattle.napi_types.specs.declared.entry.Phase.TheVariants as phase
 use Rattle.napi_types.specs.declared.call.Ask.TheVariants as ask
+use Rattle.napi_types.specs.declared.entry.Limits.{Limits}
 use Rattle.napi_types.specs.Machine.{Machine}
 use Rattle.napi_types.specs.Step.{Step, step, locally}
 use Rattle.napi_types.specs.Run.{after, IsNext, IsRunBy, final}
 use Rattle.napi_types.specs.Changes.{Change, host_entry, in_phase, gone, init_begun}
-use Rattle.napi_types.specs.declared.entry.Limits.{Limits}
 use Rattle.napi_types.specs.Registers.{blank_registers}
 use Rattle.napi_types.specs.Plan.{Plan, plan_of, registers_of, asked, registers_after, Registers}
 use Rattle.napi_types.specs.Weave.{weave, StandsWithin, is_shared, is_hub_event, IsParted}
 use Rattle.napi_types.specs.Whole.{Setting, opening_of, RunsBy, EndsBy, final_of, final_registers, planned_asks}
+use Rattle.env_core.specs.Core.{Core, wrote, opened_core}
+use Rattle.napi_types.specs.Phases.{stage_of}
+use Rattle.script_host.specs.Recording.{machine_of, AgreesWhereTold, IsRecorded, IsEnded}
 use Rattle.napi_types.proofs.Runs.{run-more, final-more, asked-more, registers-more}
 use Rattle.napi_types.proofs.Weaves.{weave-local, weave-shared, within-append, within-more, parted-local, parted-shared}
-use Rattle.env_core.specs.Core.{Core, wrote, opened_core}
-use Rattle.script_host.specs.Recording.{machine_of, AgreesWhereTold, IsRecorded, IsEnded}
-use Rattle.napi_types.specs.Phases.{stage_of}
 
 -- what one more entry makes of a run by its asks
 pub record Grown (s : Setting) (asks : List Ask) (xs : List Entry) (after : Machine) (registers : Registers) : Type 0 where

@@ -30,10 +30,10 @@ use Rattle.napi_types.specs.Whole.{Setting}
 use Rattle.env_core.specs.Core.{Core, wrote, room_in}
 use Rattle.env_core.specs.Steps.{Replies, StopsBy}
 use Rattle.addon_trait.specs.Addons.{OthersStay}
+use Rattle.napi_types.specs.Phases.{stage_of}
 use Rattle.script_host.specs.Recording.{Continues, machine_of, AgreesWhereTold, IsRecorded, StandsAt, IsSamePlace, why_stopped}
 use Rattle.napi_types.proofs.Answers.{called-keeps}
 use Rattle.script_host.proofs.Recordings.{local-grown}
-use Rattle.napi_types.specs.Phases.{stage_of}
 
 -- what a call answers is no cut
 reply-uncut : (e : Environment) (c : Call) (n : ℕ) (x : Option Status) → cut_of (answer_by e c n x).reply.out ≡ None

@@ -15,7 +15,7 @@ usage_line = codes "usage: napi_host run\n"
 abbrev pub not_json_line : List ℕ
 not_json_line = codes "refused json\n"
 
--- the bytes are a JSON text, and no script of a part that is built
+-- the bytes are a JSON text, and no script of the first form
 abbrev pub stage_line : List ℕ
 stage_line = codes "refused stage\n"
 

@@ -18,7 +18,7 @@ pub(crate) enum Line {
     Usage,
     /// The bytes are no JSON text.
     NotJson,
-    /// They are a JSON text, and no script of a part that is built.
+    /// They are a JSON text, and no script of the first form.
     Stage,
     /// The script names more addons than were handed in.
     TooManyAddons,

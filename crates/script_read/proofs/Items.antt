@@ -1,10 +1,10 @@
 -- What the definitions of a script say of a list of values of which the length is known.
 use Rattle.std.proofs.Common.{◌≡◌, ◌<◌, ◌≤◌, List, [], ◌∷◌, length, refl, arith, None}
+use Rattle.std.proofs.lemmas.Bool.Decides.{nat_tests}
 use Rattle.serde_json.specs.View.{items_view}
 use Rattle.serde_json.specs.declared.value.Value.{Value}
-use Rattle.serde_json.proofs.Views.{items_len-items_view}
-use Rattle.std.proofs.lemmas.Bool.Decides.{nat_tests}
 use Rattle.napi_types.specs.Script.{one_register, two_registers, single, operation_in, operations, each, most_operations}
+use Rattle.serde_json.proofs.Views.{items_len-items_view}
 
 pub one_register-long : (vs : List Value) → 2 ≤ length vs → one_register (items_view vs) ≡ None
 one_register-long [] long = absurd (omega arith)

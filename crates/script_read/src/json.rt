@@ -1,8 +1,8 @@
 //! The JSON value of bytes, and what stands in one.
 ghost use Rattle.std.specs.Prelude.{◌≡◌, ℕ, ◌==◌, IfOk, option_map, option_copied};
-ghost use Rattle.napi_types.specs.Script.{IsJson, IsNoJson, whole_number, single, only_item, has_members, member_is, is_empty_array};
 ghost use Rattle.serde_json.specs.Find.{as_array};
 ghost use Rattle.serde_json.specs.View.{view, items_view};
+ghost use Rattle.napi_types.specs.Script.{IsJson, IsNoJson, whole_number, single, only_item, has_members, member_is, is_empty_array};
 
 use crate::Refusal;
 use serde_json::Value;

@@ -23,16 +23,17 @@ use std::alloc::Global;
 pub enum Refusal {
     /// The bytes are no JSON text.
     NotJson,
-    /// They are a JSON text, and no script of a part that is built.
+    /// They are a JSON text of a value that is no script of the first form: version 9, no workers, no threads, no
+    /// schedule, and one addon with one entry.
     Stage,
     /// There was no memory to read them.
     NoMemory,
 }
 
-/// Reads the script that a JSON text is.
+/// Reads the script of the first form that a JSON text is.
 ///
 /// It answers `Refusal::NotJson` only where the bytes are no JSON text, and `Refusal::Stage` only where they are one
-/// of a value that is no script of a part that is built. Want of memory may come in place of any answer.
+/// of a value that is no script of the first form. Want of memory may come in place of any answer.
 pub fn read_script(alloc: Global, bytes: &[u8]) -> Result<Script, Refusal>
     ensures ok { IfOk result (λ read. IsScript bytes.now read) }
     ensures not_json { result ≡ Err Refusal.NotJson → IsNoJson bytes.now }

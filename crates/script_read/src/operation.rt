@@ -1,7 +1,7 @@
 //! An operation of a script.
 ghost use Rattle.std.specs.Prelude.{◌≡◌};
-ghost use Rattle.napi_types.specs.Script.{register, one_register, two_registers, operation_named, operation_in};
 ghost use Rattle.serde_json.specs.View.{view, items_view};
+ghost use Rattle.napi_types.specs.Script.{register, one_register, two_registers, operation_named, operation_in};
 
 use napi_types::Op;
 use serde_json::Value;

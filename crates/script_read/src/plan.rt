@@ -1,7 +1,7 @@
 //! The plan of an addon: its entries and their operations.
 ghost use Rattle.std.specs.Prelude.{◌≡◌, ◌∷◌, [], IfOk, option_map};
-ghost use Rattle.napi_types.specs.Script.{each, operation_in, operations, entry, has_text, only_item_of, plan_with, addon};
 ghost use Rattle.serde_json.specs.View.{view, items_view};
+ghost use Rattle.napi_types.specs.Script.{each, operation_in, operations, entry, has_text, only_item_of, plan_with, addon};
 
 use crate::json::{has_members, items, only_item};
 use crate::operation::operation;

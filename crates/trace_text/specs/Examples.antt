@@ -24,7 +24,7 @@ plain result = record {
   given = None;
 }
 
--- worker 3 begins the completion of work 7, which was cancelled; ticket 4 is withdrawn and item 7 of function 2 made
+-- an entry of no run, for its text alone: a worker, the begin of a completion, a status, a duty withdrawn and a duty made
 abbrev pub busy : Entry
 busy = record {
   actor = actor.Worker 3;
@@ -40,6 +40,7 @@ busy = record {
   given = None;
 }
 
+-- three traces and what they are written as
 pub record Examples : Type 0 where
   -- the journal's entry stands behind the history's, since it was made at length 1
   pub order : text [] (weave

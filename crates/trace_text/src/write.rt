@@ -4,8 +4,8 @@ ghost use Rattle.std.specs.Io.KnownBytes.{append_known};
 ghost use Rattle.napi_types.specs.Edge.{HasRisen, TookFront};
 ghost use Rattle.napi_types.specs.Text.{lines_from, text};
 ghost use Rattle.napi_types.specs.Weave.{local_at, weave};
-ghost use Rattle.trace_text.specs.Writing.{Adds, stand};
 ghost use Rattle.napi_types.specs.Room.{most_entries};
+ghost use Rattle.trace_text.specs.Writing.{Adds, stand};
 
 use crate::line::add_line;
 use napi_types::{Entry, Failed, Local, Sink, Texts};

@@ -1,9 +1,9 @@
 use Rattle.std.proofs.Common.{◌<◌, length, map, subst, sym, refl, ◌∙◌, arith}
 use Rattle.std.proofs.lemmas.List.{length-map}
+use Rattle.napi_types.specs.Room.{most_entries}
 use Rattle.script_host.proofs.Alone.{registers-loaded, others-loaded, plan-loaded, begun-stands, whole-ended}
 use Rattle.script_host.proofs.Turns.{others-then}
 use Rattle.script_host.proofs.recording.run.Goals as goal
-use Rattle.napi_types.specs.Room.{most_entries}
 
 pub run_frame-requires-clause-stands : goal.run_frame-requires-clause-stands
 run_frame-requires-clause-stands g c = begun-stands c.in_ok-core.core c.begin_init.new.self c.args.texts most_entries c.in_ok-core.ensures c.begin_init.ensures

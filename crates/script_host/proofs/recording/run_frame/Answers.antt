@@ -1,7 +1,7 @@
 use Rattle.std.proofs.Common.{ap, refl, ◌∙◌, arith}
+use Rattle.napi_types.specs.Plan.{plan_of}
 use Rattle.script_host.proofs.Turns.{others-then, same-then, continues-then, spent-turn}
 use Rattle.script_host.proofs.recording.run_frame.Goals as goal
-use Rattle.napi_types.specs.Plan.{plan_of}
 
 pub returns-in-Ended-clause-others : goal.returns-in-Ended-clause-others
 returns-in-Ended-clause-others g c = others-then _ _ _ 0 c.loop-step.invariant.others c.take_turn.ensures.others

@@ -1,11 +1,11 @@
 use Rattle.std.proofs.Common.{◌≡◌, ℕ, List, Option, length, map}
 use Rattle.napi_types.specs.declared.call.Op.{Op}
 use Rattle.addon_trait.specs.Addons.{OthersStay}
+use Rattle.napi_types.specs.Plan.{plan_of, registers_of}
 use Rattle.script_host.specs.Recording.{StandsAt, IsSamePlace, Continues}
 use Rattle.script_host.proofs.recording.run_frame.Given as goal
-use Rattle.napi_types.specs.Plan.{plan_of, registers_of}
 
--- the frame stands and made as many asks as there were turns, and the run is recorded so far
+-- the frame stands and made as many asks as there were turns, and the run is recorded up to here
 abbrev pub invariant-loop-step : goal.invariant-loop-step
 invariant-loop-step g l =
     let first_plans : List (Option (List (List Op))) = map (λ b. (goal.Addon-dyn g (b.vtable, b.value)).plan b.value) l.fn.addons.items in

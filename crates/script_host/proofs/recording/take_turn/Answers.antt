@@ -1,7 +1,7 @@
 use Rattle.std.proofs.Common.{ap}
+use Rattle.napi_types.specs.Plan.{plan_of, registers_of}
 use Rattle.script_host.proofs.Turns.{called-turn, left-turn, stopped-turn, stands-after, same-after}
 use Rattle.script_host.proofs.recording.take_turn.Goals as goal
-use Rattle.napi_types.specs.Plan.{plan_of, registers_of}
 
 pub returns-in-Leave-clause-recorded : goal.returns-in-Leave-clause-recorded
 returns-in-Leave-clause-recorded g c = λ s history told r.

@@ -1,7 +1,7 @@
 use Rattle.std.proofs.Common.{◌≡◌, ◌++◌, drop}
 use Rattle.std.specs.Prelude.{option_map}
-use Rattle.napi_types.specs.Script.{each, operation_in}
 use Rattle.serde_json.specs.View.{items_view}
+use Rattle.napi_types.specs.Script.{each, operation_in}
 use Rattle.script_read.proofs.plan.each_operation.Given as goal
 
 abbrev pub invariant-loop-item : goal.invariant-loop-item

@@ -1,8 +1,8 @@
-use Rattle.std.proofs.Common.{◌∙◌, ◌+◌, ◌-◌, ◌++◌, ◌∷◌, [], ap, subst, sym, arith}
+use Rattle.std.proofs.Common.{◌∙◌, ◌-◌, ◌++◌, ◌∷◌, [], ap, subst, sym, arith}
 use Rattle.napi_types.specs.Environment.{Environment}
 use Rattle.napi_types.specs.Changes.{number_of}
-use Rattle.napi_types.proofs.Answers.{KeepsButAsk, called-keeps}
 use Rattle.env_core.specs.Journal.{Pages}
+use Rattle.napi_types.proofs.Answers.{KeepsButAsk, called-keeps}
 use Rattle.env_core.proofs.Cores.{core-called}
 use Rattle.env_core.proofs.env.EnvCore.step.Goals as goal
 

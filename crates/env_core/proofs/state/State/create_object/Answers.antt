@@ -1,4 +1,4 @@
-use Rattle.std.proofs.Common.{◌≡◌, ◌∙◌, ap, sym, refl}
+use Rattle.std.proofs.Common.{refl}
 use Rattle.env_core.proofs.state.State.create_object.Goals as goal
 
 pub returns-clause-ok : goal.returns-clause-ok
