@@ -1,6 +1,6 @@
 -- A run of a script with one addon, from its opening on.
-use Rattle.std.proofs.Common.{◌≡◌, ◌<◌, ℕ, List, [], ◌∷◌, length, map, set, get_or, refl, ap, subst, sym, ◌∙◌, arith, true, false, option_map}
-use Rattle.std.proofs.lemmas.List.{get_or-set_same, length-map}
+use Rattle.std.proofs.Common.{◌≡◌, ◌<◌, ℕ, List, [], length, set, get_or, refl, ap, subst, sym, ◌∙◌}
+use Rattle.std.proofs.lemmas.List.{get_or-set_same}
 use Rattle.napi_types.specs.declared.call.Op.{Op}
 use Rattle.napi_types.specs.declared.entry.Cause.TheVariants as cause
 use Rattle.napi_types.specs.declared.entry.Entry.{Entry}

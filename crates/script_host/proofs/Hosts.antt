@@ -1,6 +1,5 @@
 -- What the top call knows of a run that was made.
-use Rattle.std.proofs.Common.{◌≡◌, ◌≢◌, ◌≤◌, ◌<◌, ℕ, zero, suc, ◌+◌, ◌*◌, List, [], ◌∷◌, ◌++◌, length, drop, set, refl, ap, subst, sym, ◌∙◌, arith, lit≤, Option, Some, None, true, false}
-use Rattle.napi_types.specs.declared.call.Op.{Op}
+use Rattle.std.proofs.Common.{◌≡◌, ◌≤◌, ◌<◌, ℕ, List, [], ◌∷◌, length, drop, refl, ap, subst, sym, ◌∙◌, arith, lit≤}
 use Rattle.napi_types.specs.declared.entry.Entry.{Entry}
 use Rattle.napi_types.specs.declared.entry.Local.{Local}
 use Rattle.napi_types.specs.declared.lists.AddonPlan.{AddonPlan}
@@ -16,7 +15,7 @@ use Rattle.script_host.specs.Recording.{AgreesWhereTold, IsEnded, loaded_plan, a
 use Rattle.script_host.specs.declared.words.Line.{Line}
 use Rattle.script_host.specs.declared.words.Line.TheVariants as line
 use Rattle.script_host.specs.Words.{line_status}
-use Rattle.script_host.specs.Host.{IsStatus, Ran, IsRunOf, HasOneAddon, told_plans, setting_of}
+use Rattle.script_host.specs.Host.{IsStatus, Ran, setting_of}
 
 -- the lists of a run are within their limits
 pub journal-within : (told : Plan) (texts : ℕ) (journal : List Local) (history : List Entry) (mine : List ℕ)
@@ -55,7 +54,7 @@ ran-of script given texts (told ∷ rest) after registers registers_after left o
     let e : IsEnded (setting_of script (told ∷ rest)) left.journal left.history (registers_of registers_after 0) = subst E (sym setting) ended in
     let count : length script.addons ≡ 1 = ap length one in
     let A : List ℕ → Type 0 = λ mine. AgreesWhereTold (plan_of (setting_of script (told ∷ rest)).plans 0) mine
-        (registers_of (final_registers (setting_of script (told ∷ rest)) e.asks (weave left.journal left.history)) 0) in
+    (registers_of (final_registers (setting_of script (told ∷ rest)) e.asks (weave left.journal left.history)) 0) in
     let first : A (registers_of registers_after 0) = subst A (sym (first-registers registers_after)) e.agrees in
     record {
       run = record {
@@ -64,7 +63,7 @@ ran-of script given texts (told ∷ rest) after registers registers_after left o
         parted = e.parted;
         agrees = λ addon below.
             let B : ℕ → Type 0 = λ k. AgreesWhereTold (plan_of (setting_of script (told ∷ rest)).plans k) (registers_of registers_after k)
-                (registers_of (final_registers (setting_of script (told ∷ rest)) e.asks (weave left.journal left.history)) k) in
+            (registers_of (final_registers (setting_of script (told ∷ rest)) e.asks (weave left.journal left.history)) k) in
             let zeroth : 0 ≡ addon = omega (arith, count) in
             subst B zeroth first;
       };

@@ -1,8 +1,7 @@
 -- A recorded run goes on.
-use Rattle.std.proofs.Common.{◌≡◌, ◌≤◌, ℕ, ◌+◌, Bool, true, false, IsTrue, not, List, [], ◌∷◌, ◌++◌, length, refl, ap, subst, sym, ◌∙◌, arith, nat_lt, length-append, Option, Some, None}
+use Rattle.std.proofs.Common.{◌≡◌, ℕ, ◌+◌, true, false, IsTrue, not, List, [], ◌∷◌, ◌++◌, length, refl, ap, subst, sym, ◌∙◌, arith, nat_lt, length-append, Some, None}
 use Rattle.napi_types.specs.declared.call.Ask.{Ask}
 use Rattle.napi_types.specs.declared.entry.Entry.{Entry}
-use Rattle.napi_types.specs.declared.entry.Local.{Local}
 use Rattle.napi_types.specs.declared.entry.HostStep.{HostStep}
 use Rattle.napi_types.specs.declared.entry.HostStep.TheVariants as host
 use Rattle.napi_types.specs.declared.entry.Out.{Out}
@@ -14,12 +13,12 @@ use Rattle.napi_types.specs.declared.call.Ask.TheVariants as ask
 use Rattle.napi_types.specs.declared.entry.Limits.{Limits}
 use Rattle.napi_types.specs.Machine.{Machine}
 use Rattle.napi_types.specs.Step.{Step, step, locally}
-use Rattle.napi_types.specs.Run.{after, IsNext, IsRunBy, final}
+use Rattle.napi_types.specs.Run.{after, IsNext}
 use Rattle.napi_types.specs.Changes.{Change, host_entry, in_phase, gone, init_begun}
 use Rattle.napi_types.specs.Registers.{blank_registers}
 use Rattle.napi_types.specs.Plan.{Plan, plan_of, registers_of, asked, registers_after, Registers}
-use Rattle.napi_types.specs.Weave.{weave, StandsWithin, is_shared, is_hub_event, IsParted}
-use Rattle.napi_types.specs.Whole.{Setting, opening_of, RunsBy, EndsBy, final_of, final_registers, planned_asks}
+use Rattle.napi_types.specs.Weave.{weave, StandsWithin, is_shared, is_hub_event}
+use Rattle.napi_types.specs.Whole.{Setting, opening_of, RunsBy, final_of, final_registers, planned_asks}
 use Rattle.env_core.specs.Core.{Core, wrote, opened_core}
 use Rattle.napi_types.specs.Phases.{stage_of}
 use Rattle.script_host.specs.Recording.{machine_of, AgreesWhereTold, IsRecorded, IsEnded}

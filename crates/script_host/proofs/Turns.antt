@@ -1,11 +1,10 @@
 -- A turn of the frame that stands: a call with its reply, the frame's end, or a cut.
-use Rattle.std.proofs.Common.{◌≡◌, ◌≤◌, ◌<◌, ℕ, ◌+◌, ◌==◌, ◌&&◌, not, nat_lt, Bool, true, false, IsTrue, List, [], ◌∷◌, ◌++◌, length, set, refl, ap, subst, sym, ◌∙◌, arith, Option, Some, None, IfSome}
+use Rattle.std.proofs.Common.{◌≡◌, ◌<◌, ℕ, ◌+◌, ◌==◌, ◌&&◌, not, nat_lt, Bool, true, false, List, [], ◌∷◌, length, set, refl, ap, subst, sym, ◌∙◌, arith, Option, Some, None, IfSome}
 use Rattle.std.proofs.lemmas.List.{set-set}
 use Rattle.napi_types.specs.declared.call.Ask.{Ask}
 use Rattle.napi_types.specs.declared.call.Ask.TheVariants as ask
 use Rattle.napi_types.specs.declared.call.Call.{Call}
 use Rattle.napi_types.specs.declared.call.Call.TheVariants.{CreateObject, Typeof, OpenHandleScope, CloseHandleScope}
-use Rattle.napi_types.specs.declared.call.Op.{Op}
 use Rattle.napi_types.specs.declared.entry.Entry.{Entry}
 use Rattle.napi_types.specs.declared.entry.Reply.{Reply}
 use Rattle.napi_types.specs.declared.entry.Out.{Out}
@@ -23,9 +22,9 @@ use Rattle.napi_types.specs.Calls.{answer, answer_by, accepted}
 use Rattle.napi_types.specs.Room.{Room, journal_room, room_of, is_full, may_want_memory}
 use Rattle.napi_types.specs.Changes.{Change, asks_made, number_of, is_fresh, most_asks, may_ask, called, frame_ended}
 use Rattle.napi_types.specs.Machine.{Machine}
-use Rattle.napi_types.specs.Step.{Step, locally, env_step, frame_step, cut_of, may_cut, call_step}
+use Rattle.napi_types.specs.Step.{locally, env_step, frame_step, cut_of, may_cut}
 use Rattle.napi_types.specs.Registers.{plan_ask, kept}
-use Rattle.napi_types.specs.Plan.{Plan, plan_of, frame_ask, frames_ask, kept_by, kept_in_frames, registers_of, Registers}
+use Rattle.napi_types.specs.Plan.{Plan, plan_of, frame_ask, frames_ask, kept_by, kept_in_frames, registers_of}
 use Rattle.napi_types.specs.Whole.{Setting}
 use Rattle.env_core.specs.Core.{Core, wrote, room_in}
 use Rattle.env_core.specs.Steps.{Replies, StopsBy}

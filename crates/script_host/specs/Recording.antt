@@ -1,5 +1,5 @@
 -- A run as it is recorded: the environment's core, the history, and the registers of the addon that runs.
-use Rattle.std.specs.Prelude.{◌≡◌, ℕ, List, [], ◌∷◌, length, Option, Some, None, option_map}
+use Rattle.std.specs.Prelude.{◌≡◌, ℕ, List, [], ◌∷◌, length, Some, None, option_map}
 use Rattle.napi_types.specs.declared.call.Ask.{Ask}
 use Rattle.napi_types.specs.declared.call.Op.{Op}
 use Rattle.napi_types.specs.declared.entry.Entry.{Entry}

@@ -5,18 +5,16 @@ ghost use Rattle.napi_types.specs.Edge.{HasRisen, TookFront};
 ghost use Rattle.script_host.specs.Host.{Ran, HasOneAddon, GaveScript, GaveTooMuch, Causes, WroteLine, WroteTrace, is_whole, trace_of, IsStatus, IsRunStatus, GaveRefused};
 ghost use Rattle.script_host.specs.Words.{is_run_words, line_text, line_status};
 
-use std::alloc::Global;
-use std::sync::Wait;
-use std::thread::Threads;
-
-use addon_trait::Addon;
-use napi_types::{AddonPlan, Failed, Gate, Plans, Record, Script, Sink, Source, Text};
-use script_read::{Refusal, read_script};
-use trace_text::{put_all, write_trace};
-
 use crate::reading::{ReadError, read_all};
 use crate::recording::run;
 use crate::words::{Line, is_run};
+use addon_trait::Addon;
+use napi_types::{AddonPlan, Failed, Gate, Plans, Record, Script, Sink, Source, Text};
+use script_read::{Refusal, read_script};
+use std::alloc::Global;
+use std::sync::Wait;
+use std::thread::Threads;
+use trace_text::{put_all, write_trace};
 
 /// How much of a trace was written.
 enum Written {
@@ -129,8 +127,8 @@ fn attempt<S: Source, K: Sink>(
     ensures ran { let plans = map (λ b. plan b) addons.old.items in
         let registers = map (λ b. regs b) addons.old.items in
         OnOk result ((script : Script) × GaveScript (S.left source.old) (S.left source.new) script
-            × Ran script plans registers left.new (map (λ b. plan b) addons.new.items) (map (λ b. regs b) addons.new.items)
-            × WroteTrace (is_whole result) (K.taken sink.old) (K.faults sink.old) (trace_of script left.new) (K.taken sink.new) (K.faults sink.new)) }
+        × Ran script plans registers left.new (map (λ b. plan b) addons.new.items) (map (λ b. regs b) addons.new.items)
+        × WroteTrace (is_whole result) (K.taken sink.old) (K.faults sink.old) (trace_of script left.new) (K.taken sink.new) (K.faults sink.new)) }
     ensures err { IfErr result (λ line.
         Causes line words.now (S.left source.old) (S.left source.new) (S.faults source.old) (S.faults source.new) (length addons.old.items)) }
     ensures sink { OnErr result (K.taken sink.new ≡ K.taken sink.old) }
@@ -168,8 +166,8 @@ pub fn host<R: Threads + Wait + Sync, S: Source, K: Sink, G: Gate>(
     ensures ran { let plans = map (λ b. plan b) addons.old.items in
         let registers = map (λ b. regs b) addons.old.items in
         IsRunStatus result → (script : Script) × GaveScript (S.left source.old) (S.left source.new) script
-            × Ran script plans registers left.new (map (λ b. plan b) addons.new.items) (map (λ b. regs b) addons.new.items)
-            × WroteTrace (result == 0) (K.taken sink.old) (K.faults sink.old) (trace_of script left.new) (K.taken sink.new) (K.faults sink.new) }
+        × Ran script plans registers left.new (map (λ b. plan b) addons.new.items) (map (λ b. regs b) addons.new.items)
+        × WroteTrace (result == 0) (K.taken sink.old) (K.faults sink.old) (trace_of script left.new) (K.taken sink.new) (K.faults sink.new) }
 
     // At every other status a line has its cause, and stands in place of the trace.
     ensures refused { (IsRunStatus result → ⊥) → (line : Line) × (result ≡ line_status line)

@@ -1,4 +1,4 @@
-use Rattle.std.proofs.Common.{◌≡◌, List, ap, subst, sym, ◌∙◌}
+use Rattle.std.proofs.Common.{List, subst, sym}
 use Rattle.napi_types.specs.declared.entry.Entry.{Entry}
 use Rattle.napi_types.specs.declared.entry.Local.{Local}
 use Rattle.script_host.specs.Recording.{IsEnded}

@@ -1,4 +1,3 @@
-use Rattle.std.proofs.Common.{◌<◌, length, map, subst, sym, refl, ◌∙◌, arith}
 use Rattle.std.proofs.lemmas.List.{length-map}
 use Rattle.napi_types.specs.Room.{most_entries}
 use Rattle.script_host.proofs.Alone.{registers-loaded, others-loaded, plan-loaded, begun-stands, whole-ended}

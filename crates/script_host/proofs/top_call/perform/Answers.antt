@@ -1,5 +1,4 @@
-use Rattle.std.proofs.Common.{◌≤◌, ◌∙◌, sym, ap, length, subst, ℕ, arith}
-use Rattle.script_host.proofs.Hosts.{ran-of, journal-within, history-within}
+use Rattle.script_host.proofs.Hosts.{journal-within, history-within}
 use Rattle.script_host.proofs.top_call.perform.Goals as goal
 
 pub write_trace-written-requires-clause-journal : goal.write_trace-written-requires-clause-journal
