@@ -57,6 +57,7 @@ ran-of script given texts (told ∷ rest) after registers registers_after left o
     (registers_of (final_registers (setting_of script (told ∷ rest)) e.asks (weave left.journal left.history)) 0) in
     let first : A (registers_of registers_after 0) = subst A (sym (first-registers registers_after)) e.agrees in
     record {
+      enough = omega (arith, count);
       run = record {
         asks = e.asks;
         ended = e.ended;

@@ -46,6 +46,7 @@ pub record IsRunOf (script : Script) (handed : List Plan) (left : Record) (regis
 
 -- the script's addons were loaded and run, and the others handed in are as they were
 pub record Ran (script : Script) (handed : List Plan) (registers : List (List ℕ)) (left : Record) (plans_after : List Plan) (registers_after : List (List ℕ)) : Type 0 where
+  pub enough : length script.addons ≤ length handed
   pub run : IsRunOf script handed left registers_after
   pub loaded : plans_after ≡ told_plans script.addons handed ++ drop (length script.addons) handed
   pub others : drop (length script.addons) registers_after ≡ drop (length script.addons) registers

@@ -89,6 +89,7 @@ fn perform<K: Sink>(
     ensures err { IfErr result (λ line. (line ≡ Line.NoMemory) ⊎ ((line ≡ Line.TooManyAddons) × (length addons.old.items < length script.addons))) }
     ensures sink { OnErr result (K.taken sink.new ≡ K.taken sink.old) }
     ensures left { OnErr result (left.new ≡ left.old) }
+    ensures addons { OnErr result (addons.new.items ≡ addons.old.items) }
     ensures faults { K.faults sink.old ≤ K.faults sink.new }
 {
     if addons.len() < script.addons.items().len() {
@@ -133,6 +134,7 @@ fn attempt<S: Source, K: Sink>(
         Causes line words.now (S.left source.old) (S.left source.new) (S.faults source.old) (S.faults source.new) (length addons.old.items)) }
     ensures sink { OnErr result (K.taken sink.new ≡ K.taken sink.old) }
     ensures left { OnErr result (left.new ≡ left.old) }
+    ensures addons { OnErr result (addons.new.items ≡ addons.old.items) }
     ensures reading { S.faults source.old ≤ S.faults source.new }
     ensures writing { K.faults sink.old ≤ K.faults sink.new }
 {
@@ -174,6 +176,7 @@ pub fn host<R: Threads + Wait + Sync, S: Source, K: Sink, G: Gate>(
         × Causes line words.now (S.left source.old) (S.left source.new) (S.faults source.old) (S.faults source.new) (length addons.old.items)
         × WroteLine (K.taken sink.old) (K.faults sink.old) (line_text line) (K.taken sink.new) (K.faults sink.new) }
     ensures left { (IsRunStatus result → ⊥) → left.new ≡ left.old }
+    ensures addons { (IsRunStatus result → ⊥) → addons.new.items ≡ addons.old.items }
 
     // The same, status by status.
     ensures usage { (result ≡ 2) ↔ (is_run_words words.now ≡ false) }
