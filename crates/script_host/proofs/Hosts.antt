@@ -7,6 +7,7 @@ use Rattle.napi_types.specs.declared.lists.Record.{Record}
 use Rattle.napi_types.specs.declared.script.Script.{Script}
 use Rattle.napi_types.specs.Laws.{HasRoom}
 use Rattle.napi_types.specs.Plan.{Plan, plan_of, registers_of}
+use Rattle.napi_types.specs.Room.{most_entries}
 use Rattle.napi_types.specs.Weave.{weave}
 use Rattle.napi_types.specs.Whole.{Setting, final_of, final_registers}
 use Rattle.napi_types.proofs.Rooms.{room-suffices}
@@ -19,14 +20,14 @@ use Rattle.script_host.specs.Host.{IsStatus, Ran, setting_of}
 
 -- the lists of a run are within their limits
 pub journal-within : (told : Plan) (texts : ℕ) (journal : List Local) (history : List Entry) (mine : List ℕ)
-    → IsEnded (alone_setting told texts) journal history mine → length journal ≤ 4194304
+    → IsEnded (alone_setting told texts) journal history mine → length journal ≤ most_entries
 journal-within told texts journal history mine e =
     let room : HasRoom (alone_setting told texts) (weave journal history) (final_of (alone_setting told texts) e.asks (weave journal history)) =
     room-suffices (alone_setting told texts) e.asks (weave journal history) (lit≤ tt) (lit≤ tt) e.ended.run in
     omega (arith, room.journal, e.locals)
 
 pub history-within : (told : Plan) (texts : ℕ) (journal : List Local) (history : List Entry) (mine : List ℕ)
-    → IsEnded (alone_setting told texts) journal history mine → length history ≤ 4194304
+    → IsEnded (alone_setting told texts) journal history mine → length history ≤ most_entries
 history-within told texts journal history mine e =
     let room : HasRoom (alone_setting told texts) (weave journal history) (final_of (alone_setting told texts) e.asks (weave journal history)) =
     room-suffices (alone_setting told texts) e.asks (weave journal history) (lit≤ tt) (lit≤ tt) e.ended.run in

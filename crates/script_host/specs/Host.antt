@@ -8,6 +8,7 @@ use Rattle.napi_types.specs.declared.lists.Record.{Record}
 use Rattle.napi_types.specs.declared.script.Script.{Script}
 use Rattle.napi_types.specs.Edge.{HasRisen, TookFront}
 use Rattle.napi_types.specs.Plan.{Plan, plan_of, registers_of}
+use Rattle.napi_types.specs.Room.{most_entries}
 use Rattle.napi_types.specs.Script.{IsNoJson, IsScript, IsNoScript}
 use Rattle.napi_types.specs.Text.{text}
 use Rattle.napi_types.specs.Weave.{weave, IsParted}
@@ -33,7 +34,7 @@ abbrev pub setting_of : Script → List Plan → Setting
 setting_of script handed = record {
   plans = told_plans script.addons handed;
   texts = length script.texts;
-  limits = record { journal = 4194304; history = 4194304 };
+  limits = record { journal = most_entries; history = most_entries };
 }
 
 -- the two lists are the journal and the history of a run of the script that ends in `gone`, and the registers of each addon that tells its plan are the run's
@@ -74,11 +75,13 @@ pub record GaveScript (before after : Option (List ℕ)) (script : Script) : Typ
   pub gave : Gave before after bytes
   pub is_script : IsScript bytes script
 
+-- the source gave bytes that are no JSON text
 pub record GaveNoJson (before after : Option (List ℕ)) : Type 0 where
   pub bytes : List ℕ
   pub gave : Gave before after bytes
   pub is_no_json : IsNoJson bytes
 
+-- the source gave a JSON text that is no script
 pub record GaveNoScript (before after : Option (List ℕ)) : Type 0 where
   pub bytes : List ℕ
   pub gave : Gave before after bytes

@@ -21,8 +21,8 @@ const VERSION: u32 = 9;
 
 /// How many entries a journal and a history may have.
 const LIMITS: Limits = Limits {
-    journal: 4194304,
-    history: 4194304,
+    journal: 4_194_304,
+    history: 4_194_304,
 };
 
 /// How many asks a frame may make.
