@@ -78,6 +78,20 @@ open_in n f = record f { opened = record { number = n; held = [] } ∷ f.opened 
 abbrev pub close_in : FrameScopes → FrameScopes
 close_in f = record f { opened = tail f.opened }
 
+-- the handles that scopes hold, in the order of their issue
+abbrev pub held_in_scopes : List Scope → List Held
+held_in_scopes [] = []
+held_in_scopes (s ∷ ss) = held_in_scopes ss ++ s.held
+
+-- the handles that a frame's own scope and the scopes opened in it hold
+abbrev pub held_in_frame : FrameScopes → List Held
+held_in_frame f = f.own ++ held_in_scopes f.opened
+
+-- the handles that the open scopes of all frames hold, in the order of their issue
+abbrev pub held_in : List FrameScopes → List Held
+held_in [] = []
+held_in (f ∷ fs) = held_in fs ++ held_in_frame f
+
 -- the scopes that calls opened in the innermost frame
 abbrev pub opened_scopes : List FrameScopes → List Scope
 opened_scopes [] = []
