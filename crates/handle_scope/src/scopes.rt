@@ -93,7 +93,7 @@ impl Scopes {
         }
     }
 
-    /// A frame begins, inside those that stand, with a scope of its own. It takes no memory and constant time.
+    /// A frame begins, inside those that stand, with a scope of its own. It takes no memory, and constant time.
     pub fn enter_frame(&mut self)
         requires { length self.old.frames < most_frames }
         ensures { self.new ≡ frame_entered self.old }
@@ -104,7 +104,8 @@ impl Scopes {
         });
     }
 
-    /// The innermost frame ends, and all its scopes close. It takes no memory, and constant time.
+    /// The innermost frame ends, and all its scopes close, with the handles in them. It takes no memory, and time linear
+    /// in what it closes.
     pub fn leave_frame(&mut self)
         requires { self.old.frames ≢ [] }
         ensures { self.new ≡ frame_left self.old }
@@ -125,6 +126,7 @@ impl Scopes {
         ensures ok { IfOk result (λ scope. self.new ≡ scope_opened scope.0 self.old) }
         ensures err { OnErr result (self.new ≡ self.old) }
     {
+        prove!(matches!(&kind, ScopeKind::Plain));
         let number = self.numbers + 1;
         let mark = ScopeMark {
             number,
@@ -143,14 +145,15 @@ impl Scopes {
     /// `napi_close_handle_scope`.
     ///
     /// Refused with 13 where no call's scope is open in that frame, else with 1 where the number is none of theirs,
-    /// else with 13 where it is not the innermost. It takes no memory, and constant time; a refusal takes time
-    /// logarithmic in the frame's open scopes.
+    /// else with 13 where it is not the innermost. It takes no memory, and time linear in the handles that it closes; a
+    /// refusal takes time logarithmic in the frame's open scopes.
     pub fn close_scope(&mut self, scope: ScopeId, kind: ScopeKind) -> Result<(), Status>
         requires plain { kind ≡ ScopeKind.Plain }
         ensures refusal { result_err result ≡ closing scope.0 (opened_scopes self.old.frames) }
         ensures ok { OnOk result (self.new ≡ scope_closed self.old) }
         ensures err { OnErr result (self.new ≡ self.old) }
     {
+        prove!(matches!(&kind, ScopeKind::Plain));
         if let Some(status) = self.why_not_closing(scope) {
             return Err(status);
         }
