@@ -70,6 +70,9 @@ module _ (fs : List FrameMark) (ss : List ScopeMark) (hs : List HeldHandle) (han
   pub held-stack : held_in (frames_of fs ss hs) ≡ map held_of hs
   held-stack = held-frames (reverse fs) ss (map held_of hs) (parted-held (reverse fs) ss hs k.parted)
 
+  pub length-held : length (held_in (frames_of fs ss hs)) ≡ length hs
+  length-held = ap length held-stack ∙ length-map hs held_of
+
   pub gives-stack : (h : ℕ) → gives (frames_of fs ss hs) h ≡ value_in (map held_of hs) h
   gives-stack h = gives-frames (reverse fs) ss (map held_of hs) h (parted-held (reverse fs) ss hs k.parted) (Rises-held hs k.handles_rise)
 

@@ -250,6 +250,7 @@ fn why_not_among(opened: &[ScopeMark], number: u64) -> Option<Status>
     }
 }
 
+/// Whether one of these scopes has the number.
 fn is_opened(opened: &[ScopeMark], number: u64) -> bool
     requires { Rises (λ scope. scope.number) opened.now }
     ensures { result ≡ list_any (λ scope. scope.number == number) opened.now }

@@ -8,4 +8,4 @@ pub returns : goal.returns
 returns c =
     let facts = c.binary_search_by_key.ensures in
     let by_number = facts.position (λ (s : ScopeMark). s.number) (answers_always _ _ _ (λ f a r g called. search rules)) in
-    c.is_ok.ensures.value ∙ any-search (λ (s : ScopeMark). s.number) c.args.opened.now c.args.number _ c.requires facts.bound by_number
+    c.is_ok.ensures.value ∙ any-search (λ (s : ScopeMark). s.number) c.args.opened.now c.args.number c.binary_search_by_key.result c.requires facts.bound by_number
