@@ -8,7 +8,7 @@ use Rattle.std.proofs.lemmas.Bool.{cases_lt}
 use Rattle.std.proofs.lemmas.List.{take-append-le, drop-append-le, take-take, take-append-drop, drop_all, reverse-append, length-append, length-take-le}
 use Rattle.std.proofs.Math.Seq.{drop-length, take-length}
 use Rattle.napi_types.specs.Lists.{first_changed, when, head}
-use Rattle.napi_types.specs.Scopes.{Held, FrameScopes, hold_in, open_in, close_in, opened_scopes, held_in, held_in_scopes, gives, value_in, value_in_scopes, has_scope, closing}
+use Rattle.napi_types.specs.Scopes.{Held, FrameScopes, hold_in, open_in, close_in, opened_scopes, held_by_frames, held_by_scopes, gives, value_in, value_in_scopes, has_scope, closing}
 use Rattle.handle_scope.specs.declared.scopes.ScopeMark.{ScopeMark}
 use Rattle.handle_scope.specs.declared.scopes.FrameMark.{FrameMark}
 use Rattle.handle_scope.specs.Marks.{with_scope, scopes_above, frames_marked, AreScopesWithin, AreFramesWithin, Rises}
@@ -131,18 +131,18 @@ joined n m hs le within =
     sym (drop-append-le n (take m hs) (drop m hs) (omega (arith, length-take-le m hs within))) ∙ ap (drop n) (take-append-drop m hs)
 
 held-scopes : (start : ℕ) (ss : List ScopeMark) (hs : List Held) → AreScopesWithin start ss (length hs)
-    → (scopes_above start ss hs).own ++ held_in_scopes (scopes_above start ss hs).opened ≡ drop start hs
+    → (scopes_above start ss hs).own ++ held_by_scopes (scopes_above start ss hs).opened ≡ drop start hs
 held-scopes start [] hs w = append-nil (drop start hs)
 held-scopes start (s ∷ ss) hs w =
     let inner : FrameScopes = scopes_above start ss (take s.start hs) in
     let N : ℕ → Type 0 = λ n. AreScopesWithin start ss n in
     let within : AreScopesWithin start ss (length (take s.start hs)) = subst N (sym (length-take-le s.start hs w.0)) w.1 in
-    sym (append_assoc inner.own (held_in_scopes inner.opened) (drop s.start hs))
+    sym (append_assoc inner.own (held_by_scopes inner.opened) (drop s.start hs))
     ∙ ap (λ x. x ++ drop s.start hs) (held-scopes start ss (take s.start hs) within)
     ∙ joined start s.start hs (start-le start ss s.start w.1) w.0
 
 -- the scopes hold what stands in the stack
-pub held-frames : (fs : List FrameMark) (ss : List ScopeMark) (hs : List Held) → AreFramesWithin fs ss (length hs) → held_in (frames_marked fs ss hs) ≡ hs
+pub held-frames : (fs : List FrameMark) (ss : List ScopeMark) (hs : List Held) → AreFramesWithin fs ss (length hs) → held_by_frames (frames_marked fs ss hs) ≡ hs
 held-frames [] ss [] w = refl
 held-frames [] ss (h ∷ hs) w = absurd (omega (arith, w.1))
 held-frames (f ∷ fs) ss hs w =
@@ -150,7 +150,7 @@ held-frames (f ∷ fs) ss hs w =
     let begins : f.start ≤ length hs = start-le f.start ms (length hs) w.1 in
     let N : ℕ → Type 0 = λ n. AreFramesWithin fs (take f.scopes ss) n in
     let outer : AreFramesWithin fs (take f.scopes ss) (length (take f.start hs)) = subst N (sym (length-take-le f.start hs begins)) w.2 in
-    ap (λ x. held_in (frames_marked fs (take f.scopes ss) (take f.start hs)) ++ x) (held-scopes f.start ms hs w.1)
+    ap (λ x. held_by_frames (frames_marked fs (take f.scopes ss) (take f.start hs)) ++ x) (held-scopes f.start ms hs w.1)
     ∙ ap (λ x. x ++ drop f.start hs) (held-frames fs (take f.scopes ss) (take f.start hs) outer)
     ∙ take-append-drop f.start hs
 

@@ -3,7 +3,7 @@ use Rattle.std.proofs.Common.{◌≡◌, ◌≢◌, ◌∙◌, ℕ, suc, ◌+◌
 use Rattle.std.proofs.lemmas.List.{map-append, length-map, length-append, length-take-le, take-map, length-reverse, take_all, length-drop}
 use Rattle.std.proofs.lemmas.Option.{slice_get-map, slice_get-get_or}
 use Rattle.napi_types.specs.Lists.{first_changed, tail, head}
-use Rattle.napi_types.specs.Scopes.{Held, no_handles, hold_in, open_in, close_in, opened_scopes, held_in, gives, value_in, closing}
+use Rattle.napi_types.specs.Scopes.{Held, no_handles, hold_in, open_in, close_in, opened_scopes, held_by_frames, gives, value_in, closing}
 use Rattle.handle_scope.specs.declared.scopes.HeldHandle.{HeldHandle}
 use Rattle.handle_scope.specs.declared.scopes.ScopeMark.{ScopeMark}
 use Rattle.handle_scope.specs.declared.scopes.FrameMark.{FrameMark}
@@ -67,10 +67,10 @@ module _ (fs : List FrameMark) (ss : List ScopeMark) (hs : List HeldHandle) (han
         room = k.room;
       }
 
-  pub held-stack : held_in (frames_of fs ss hs) ≡ map held_of hs
+  pub held-stack : held_by_frames (frames_of fs ss hs) ≡ map held_of hs
   held-stack = held-frames (reverse fs) ss (map held_of hs) (parted-held (reverse fs) ss hs k.parted)
 
-  pub length-held : length (held_in (frames_of fs ss hs)) ≡ length hs
+  pub length-held : length (held_by_frames (frames_of fs ss hs)) ≡ length hs
   length-held = ap length held-stack ∙ length-map hs held_of
 
   pub gives-stack : (h : ℕ) → gives (frames_of fs ss hs) h ≡ value_in (map held_of hs) h

@@ -3,7 +3,7 @@ ghost use Rattle.std.specs.Prelude.{◌≡◌, ◌≢◌, ◌+◌, ◌<◌, ◌=
 ghost use Rattle.std.specs.Result.{result_err};
 ghost use Rattle.std.specs.List.{list_any};
 ghost use Rattle.napi_types.specs.Lists.{head};
-ghost use Rattle.napi_types.specs.Scopes.{gives, value_in, held_in, opened_scopes, closing};
+ghost use Rattle.napi_types.specs.Scopes.{gives, value_in, held_by_frames, opened_scopes, closing};
 ghost use Rattle.handle_scope.specs.HandleScopes.{no_scopes, most_frames, frame_entered, frame_left, scope_opened, scope_closed, handle_issued, is_fresh};
 ghost use Rattle.handle_scope.specs.Marks.{Rises, held_of, scopes_above};
 
@@ -189,7 +189,7 @@ impl Scopes {
 
     /// How many handle places all open scopes have. It takes constant time.
     pub fn held(&self) -> usize
-        ensures { result ≡ length (held_in self.now.frames) }
+        ensures { result ≡ length (held_by_frames self.now.frames) }
     {
         self.held.len()
     }
@@ -197,8 +197,8 @@ impl Scopes {
     /// The value at a handle place of the open scopes, counted in the order of issue; `None` exactly where the place
     /// is not filled. It takes constant time.
     pub fn held_at(&self, at: usize) -> Option<ValueId>
-        requires { at < length (held_in self.now.frames) }
-        ensures { option_map (λ value. value.0) result ≡ slice_get (map (λ held. held.value) (held_in self.now.frames)) at }
+        requires { at < length (held_by_frames self.now.frames) }
+        ensures { option_map (λ value. value.0) result ≡ slice_get (map (λ held. held.value) (held_by_frames self.now.frames)) at }
     {
         Some(self.held[at].value)
     }

@@ -49,9 +49,11 @@ scopes_changed c f = record f { scopes = c f.scopes }
 abbrev pub in_frame : (FrameScopes → FrameScopes) → List Frame → List Frame
 in_frame c fs = first_changed (scopes_changed c) fs
 
+-- the value of a handle among these
 abbrev pub value_in : List Held → ℕ → Option ℕ
 value_in hs h = option_map (λ p. p.value) (found (λ p. p.handle) h hs)
 
+-- the value of a handle in these scopes, the innermost asked first
 abbrev pub value_in_scopes : List Scope → ℕ → Option ℕ
 value_in_scopes [] h = None
 value_in_scopes (s ∷ ss) h = option_or (value_in s.held h) (value_in_scopes ss h)
@@ -79,24 +81,25 @@ abbrev pub close_in : FrameScopes → FrameScopes
 close_in f = record f { opened = tail f.opened }
 
 -- the handles that scopes hold, in the order of their issue
-abbrev pub held_in_scopes : List Scope → List Held
-held_in_scopes [] = []
-held_in_scopes (s ∷ ss) = held_in_scopes ss ++ s.held
+abbrev pub held_by_scopes : List Scope → List Held
+held_by_scopes [] = []
+held_by_scopes (s ∷ ss) = held_by_scopes ss ++ s.held
 
 -- the handles that a frame's own scope and the scopes opened in it hold
-abbrev pub held_in_frame : FrameScopes → List Held
-held_in_frame f = f.own ++ held_in_scopes f.opened
+abbrev pub held_by_frame : FrameScopes → List Held
+held_by_frame f = f.own ++ held_by_scopes f.opened
 
 -- the handles that the open scopes of all frames hold, in the order of their issue
-abbrev pub held_in : List FrameScopes → List Held
-held_in [] = []
-held_in (f ∷ fs) = held_in fs ++ held_in_frame f
+abbrev pub held_by_frames : List FrameScopes → List Held
+held_by_frames [] = []
+held_by_frames (f ∷ fs) = held_by_frames fs ++ held_by_frame f
 
 -- the scopes that calls opened in the innermost frame
 abbrev pub opened_scopes : List FrameScopes → List Scope
 opened_scopes [] = []
 opened_scopes (f ∷ fs) = f.opened
 
+-- one of these scopes has the number
 abbrev pub has_scope : ℕ → List Scope → Bool
 has_scope n ss = has (λ s. s.number) n ss
 
