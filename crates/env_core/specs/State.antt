@@ -5,7 +5,7 @@ use Rattle.napi_types.specs.declared.call.Call.{Call}
 use Rattle.napi_types.specs.declared.entry.Entry.{Entry}
 use Rattle.napi_types.specs.declared.entry.Reply.{Reply}
 use Rattle.napi_types.specs.Values.{Value, fresh_value}
-use Rattle.napi_types.specs.Scopes.{Frame, open_in}
+use Rattle.napi_types.specs.Scopes.{Frame, in_frame, open_in}
 use Rattle.napi_types.specs.Environment.{Environment}
 use Rattle.napi_types.specs.Calls.{answer}
 use Rattle.napi_types.specs.Changes.{called, number_of, is_fresh}
@@ -39,4 +39,4 @@ pub record Answers (old : Environment) (c : Call) (r : Reply) (new : Environment
 
 -- a scope of that number is open inside the innermost one
 abbrev pub with_scope : ℕ → Environment → Environment
-with_scope n e = record e { scope_numbers = n ∷ e.scope_numbers; frames = open_in n e.frames }
+with_scope n e = record e { scope_numbers = n ∷ e.scope_numbers; frames = in_frame (open_in n) e.frames }

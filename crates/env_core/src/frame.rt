@@ -1,9 +1,8 @@
 //! A frame: its scopes, and the handles that they hold.
 ghost use Rattle.std.specs.Prelude.{◌≡◌, ℕ, ◌+◌, ◌==◌, ◌<◌, ◌≤◌, ◌∷◌, ◌++◌, [], map, reverse, length, OnOk, OnErr, Some, None, option_map};
 ghost use Rattle.std.specs.List.{list_any};
-ghost use Rattle.napi_types.specs.Scopes.{frame_of, hold_in, value_in, value_in_scopes, has_scope, closing, gives};
+ghost use Rattle.napi_types.specs.Scopes.{frame_of, scopes_changed, hold_in, open_in, close_in, value_in, value_in_scopes, has_scope, closing, gives};
 ghost use Rattle.napi_types.specs.Changes.{most_asks};
-ghost use Rattle.napi_types.specs.Lists.{tail};
 ghost use Rattle.env_core.specs.Scopes.{held_of, scope_of, scopes_view};
 
 use napi_types::{Cause, NoMemory, Status};
@@ -50,8 +49,7 @@ impl Model for StandingFrame {
       addon = frame.addon;
       entry = frame.entry;
       asks = frame.asks;
-      own = map held_of frame.own.items;
-      scopes = scopes_view frame.scopes.items;
+      scopes = record { own = map held_of frame.own.items; opened = scopes_view frame.scopes.items };
     } };
 }
 
@@ -81,7 +79,7 @@ impl StandingFrame {
 
     /// The value of a handle in one of the frame's scopes, `None` exactly where none of them holds it.
     pub fn look(&self, handle: u64) -> Option<u64>
-        ensures { result ≡ gives (self.now ∷ []) handle }
+        ensures { result ≡ gives (self.now.scopes ∷ []) handle }
     {
         match value_in_open_scopes(&self.scopes, handle) {
             Some(value) => Some(value),
@@ -91,7 +89,7 @@ impl StandingFrame {
 
     /// Holds one handle more in the innermost scope.
     pub fn hold(&mut self, held: HeldHandle) -> Result<(), NoMemory>
-        ensures ok { OnOk result (self.new ≡ hold_in (held_of held) self.old) }
+        ensures ok { OnOk result (self.new ≡ scopes_changed (hold_in (held_of held)) self.old) }
         ensures err { OnErr result (self.new ≡ self.old) }
     {
         match self.scopes.pop() {
@@ -106,7 +104,7 @@ impl StandingFrame {
 
     /// Opens a scope inside the innermost one.
     pub fn open(&mut self, number: u64) -> Result<(), NoMemory>
-        ensures ok { OnOk result (self.new ≡ record self.old { scopes = record { number = number; held = [] } ∷ self.old.scopes }) }
+        ensures ok { OnOk result (self.new ≡ scopes_changed (open_in number) self.old) }
         ensures err { OnErr result (self.new ≡ self.old) }
     {
         let scope = OpenScope {
@@ -121,7 +119,7 @@ impl StandingFrame {
 
     /// Why the scope of that number cannot be closed, `None` where it can.
     pub fn why_not_closing(&self, number: u64) -> Option<Status>
-        ensures { result ≡ closing number self.now.scopes }
+        ensures { result ≡ closing number self.now.scopes.opened }
     {
         match self.scopes.last() {
             None => Some(Status::HandleScopeMismatch),
@@ -139,7 +137,7 @@ impl StandingFrame {
 
     /// Closes the innermost scope, with the handles in it.
     pub fn close(&mut self)
-        ensures { self.new ≡ record self.old { scopes = tail self.old.scopes } }
+        ensures { self.new ≡ scopes_changed close_in self.old }
     {
         let _ = self.scopes.pop();
     }

@@ -2,7 +2,7 @@
 ghost use Rattle.std.specs.Prelude.{◌≡◌, ◌≢◌, ℕ, ◌+◌, ◌<◌, ◌≤◌, ◌^◌, [], ◌∷◌, length, vec_len, vec_capacity, slice_get, ◌++◌, true, false, OnOk, Some, None, IfOk, OnErr, IsTrue};
 ghost use Rattle.std.specs.Option.{unwrap_or};
 ghost use Rattle.napi_types.specs.Environment.{new_environment, new_value, answered, handle_body, plain as plain_reply};
-ghost use Rattle.napi_types.specs.Scopes.{gives, hold, open_in, close_in};
+ghost use Rattle.napi_types.specs.Scopes.{scopes_of, in_frame, gives, hold_in, open_in, close_in};
 ghost use Rattle.napi_types.specs.Room.{is_growing};
 ghost use Rattle.napi_types.specs.Refusals.{refusal};
 ghost use Rattle.napi_types.specs.Values.{kind_of, body_of, fresh_value};
@@ -173,7 +173,7 @@ impl State {
 
     /// The creation number of a handle's value, `None` exactly where no open scope holds the handle.
     fn look(&self, handle: HandleId) -> Option<u64>
-        ensures { result ≡ gives self.now.frames handle.0 }
+        ensures { result ≡ gives (scopes_of self.now.frames) handle.0 }
     {
         match &self.frame {
             Some(frame) => frame.look(handle.0),
@@ -258,7 +258,7 @@ impl State {
 
     /// The innermost scope is gone.
     fn close_handle_scope(&mut self)
-        ensures { self.new ≡ record self.old { frames = close_in self.old.frames } }
+        ensures { self.new ≡ record self.old { frames = in_frame close_in self.old.frames } }
     {
         if let Some(frame) = &mut self.frame {
             frame.close();
@@ -316,7 +316,7 @@ impl State {
 
 fn hold_in_frame(frame: &mut Option<StandingFrame>, held: HeldHandle) -> Result<(), NoMemory>
     requires { standing frame.old ≢ [] }
-    ensures ok { OnOk result (standing frame.new ≡ hold (held_of held) (standing frame.old)) }
+    ensures ok { OnOk result (standing frame.new ≡ in_frame (hold_in (held_of held)) (standing frame.old)) }
     ensures err { OnErr result (frame.new ≡ frame.old) }
 {
     match frame {
@@ -327,7 +327,7 @@ fn hold_in_frame(frame: &mut Option<StandingFrame>, held: HeldHandle) -> Result<
 
 fn open_in_frame(frame: &mut Option<StandingFrame>, number: u64) -> Result<(), NoMemory>
     requires { standing frame.old ≢ [] }
-    ensures ok { OnOk result (standing frame.new ≡ open_in number (standing frame.old)) }
+    ensures ok { OnOk result (standing frame.new ≡ in_frame (open_in number) (standing frame.old)) }
     ensures err { OnErr result (frame.new ≡ frame.old) }
 {
     match frame {

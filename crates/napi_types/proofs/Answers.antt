@@ -4,7 +4,7 @@ use Rattle.napi_types.specs.declared.call.Call.{Call}
 use Rattle.napi_types.specs.declared.call.Call.TheVariants.{CreateObject, Typeof, OpenHandleScope, CloseHandleScope}
 use Rattle.napi_types.specs.declared.status.Status.{Status}
 use Rattle.napi_types.specs.Lists.{first_changed}
-use Rattle.napi_types.specs.Scopes.{Frame, Held, hold, open_in, close_in, Scope, hold_at}
+use Rattle.napi_types.specs.Scopes.{Frame, FrameScopes, in_frame}
 use Rattle.napi_types.specs.Environment.{Environment}
 use Rattle.napi_types.specs.Refusals.{refusal}
 use Rattle.napi_types.specs.Calls.{accepted, answer_by, answer}
@@ -14,21 +14,10 @@ length-changed : (f : Frame → Frame) (fs : List Frame) → length (first_chang
 length-changed f [] = refl
 length-changed f (g ∷ gs) = refl
 
-asks-held : (p : Held) (f : Frame) (ss : List Scope) → (hold_at p f ss).asks ≡ f.asks
-asks-held p f [] = refl
-asks-held p f (s ∷ ss) = refl
-
-asks-hold : (p : Held) (fs : List Frame) → asks_made (hold p fs) ≡ asks_made fs
-asks-hold p [] = refl
-asks-hold p (f ∷ fs) = asks-held p f f.scopes
-
-asks-open : (n : ℕ) (fs : List Frame) → asks_made (open_in n fs) ≡ asks_made fs
-asks-open n [] = refl
-asks-open n (f ∷ fs) = refl
-
-asks-close : (fs : List Frame) → asks_made (close_in fs) ≡ asks_made fs
-asks-close [] = refl
-asks-close (f ∷ fs) = refl
+-- a change of a frame's scopes is no ask
+asks-in_frame : (c : FrameScopes → FrameScopes) (fs : List Frame) → asks_made (in_frame c fs) ≡ asks_made fs
+asks-in_frame c [] = refl
+asks-in_frame c (f ∷ fs) = refl
 
 -- what a call keeps: the addons, the opening, the init frames that began, the phase, how many frames stand and how many asks the innermost made;
 -- it issues one number of each kind at most
@@ -63,7 +52,7 @@ accepted-keeps e CreateObject n = record {
   inits = refl;
   phase = refl;
   depth = length-changed _ e.frames;
-  asks = asks-hold _ e.frames;
+  asks = asks-in_frame _ e.frames;
   handles = omega arith;
   scopes = omega arith;
   made = omega arith;
@@ -75,7 +64,7 @@ accepted-keeps e OpenHandleScope n = record {
   inits = refl;
   phase = refl;
   depth = length-changed _ e.frames;
-  asks = asks-open n e.frames;
+  asks = asks-in_frame _ e.frames;
   handles = omega arith;
   scopes = omega arith;
   made = omega arith;
@@ -86,7 +75,7 @@ accepted-keeps e (CloseHandleScope s) n = record {
   inits = refl;
   phase = refl;
   depth = length-changed _ e.frames;
-  asks = asks-close e.frames;
+  asks = asks-in_frame _ e.frames;
   handles = omega arith;
   scopes = omega arith;
   made = omega arith;

@@ -10,7 +10,7 @@ use Rattle.napi_types.specs.declared.entry.Phase.{Phase}
 use Rattle.napi_types.specs.declared.entry.Phase.TheVariants as phase
 use Rattle.napi_types.specs.declared.body.Body.{Body}
 use Rattle.napi_types.specs.Values.{Value, body_of, fresh_value, starting_values, undefined_value}
-use Rattle.napi_types.specs.Scopes.{Frame, gives, hold}
+use Rattle.napi_types.specs.Scopes.{Frame, scopes_of, in_frame, gives, hold_in}
 
 -- the state of the environment (`napi_env`)
 pub record Environment : Type 0 where
@@ -67,7 +67,7 @@ refused s e = record { reply = plain s out.Nothing; after = e }
 
 -- the creation number of a handle's value. A call that names a handle which no open scope holds is refused before its value is read, so the number given here in its place is never read
 abbrev pub handle_value : Environment → ℕ → ℕ
-handle_value e h = unwrap_or (gives e.frames h) undefined_value
+handle_value e h = unwrap_or (gives (scopes_of e.frames) h) undefined_value
 
 -- what the value of a handle is
 abbrev pub handle_body : Environment → ℕ → Body
@@ -75,7 +75,7 @@ handle_body e h = body_of e.values (handle_value e h)
 
 -- a new handle of a value in the innermost scope
 abbrev pub with_handle : ℕ → Environment → Environment
-with_handle v e = record e { handles = e.handles + 1; frames = hold (record { handle = e.handles + 1; value = v }) e.frames }
+with_handle v e = record e { handles = e.handles + 1; frames = in_frame (hold_in (record { handle = e.handles + 1; value = v })) e.frames }
 
 -- the answer is a new handle of a value
 abbrev pub handle_of : ℕ → Environment → Answer

@@ -13,7 +13,7 @@ use Rattle.napi_types.specs.Environment.{Environment, plain}
 use Rattle.napi_types.specs.Machine.{Machine}
 use Rattle.napi_types.specs.Refusals.{refusal}
 use Rattle.napi_types.specs.Room.{reserved_journal, reserved_history}
-use Rattle.napi_types.specs.Scopes.{gives}
+use Rattle.napi_types.specs.Scopes.{scopes_of, gives}
 use Rattle.napi_types.specs.Whole.{Setting, RunsBy, final_of}
 use Rattle.napi_types.specs.Run.{IsRunBy, ComputesBy}
 
@@ -25,7 +25,7 @@ pub record RefusesHandle (e : Environment) (h : HandleId) : Type 0 where
 
 -- a handle that no open scope holds is refused
 abbrev pub RefusesUnknownHandles : Type 0
-RefusesUnknownHandles = (e : Environment) (h : HandleId) → gives e.frames h.0 ≡ None → RefusesHandle e h
+RefusesUnknownHandles = (e : Environment) (h : HandleId) → gives (scopes_of e.frames) h.0 ≡ None → RefusesHandle e h
 
 -- each call has a row: exactly one group of calls answers it
 abbrev pub EveryCallHasARow : Type 0

@@ -7,7 +7,7 @@ use Rattle.napi_types.specs.declared.call.Call.TheVariants.{CreateObject, Typeof
 use Rattle.napi_types.specs.declared.status.Status.{Status}
 use Rattle.napi_types.specs.declared.status.Status.TheVariants as status
 use Rattle.napi_types.specs.Lists.{one, unless}
-use Rattle.napi_types.specs.Scopes.{gives, scopes_of, closing}
+use Rattle.napi_types.specs.Scopes.{scopes_of, gives, opened_scopes, closing}
 use Rattle.napi_types.specs.Environment.{Environment}
 
 -- the handles that a call names
@@ -19,7 +19,7 @@ handles_of (CloseHandleScope s) = []
 
 -- each handle that the call names lies in an open scope
 abbrev pub is_known : Environment → Call → Bool
-is_known e c = list_all (λ h. is_some (gives e.frames h)) (handles_of c)
+is_known e c = list_all (λ h. is_some (gives (scopes_of e.frames) h)) (handles_of c)
 
 -- a handle that no open scope holds is an invalid argument
 abbrev pub unknown_refusal : Environment → Call → Option Status
@@ -30,7 +30,7 @@ abbrev pub row_refusal : Environment → Call → Option Status
 row_refusal e CreateObject = None
 row_refusal e (Typeof h) = None
 row_refusal e OpenHandleScope = None
-row_refusal e (CloseHandleScope s) = closing s.0 (scopes_of e.frames)
+row_refusal e (CloseHandleScope s) = closing s.0 (opened_scopes (scopes_of e.frames))
 
 -- the first of the points that applies
 abbrev pub refusal : Environment → Call → Option Status

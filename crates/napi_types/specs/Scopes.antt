@@ -1,5 +1,5 @@
 -- Handle scopes: the frames that stand, each with its scopes, and the handles that the scopes hold.
-use Rattle.std.specs.Prelude.{ℕ, ◌==◌, Bool, not, List, [], ◌∷◌, ◌++◌, Option, Some, None, option_map}
+use Rattle.std.specs.Prelude.{ℕ, ◌==◌, Bool, not, List, [], ◌∷◌, ◌++◌, map, Option, Some, None, option_map}
 use Rattle.std.specs.Option.{option_or}
 use Rattle.napi_types.specs.declared.entry.Cause.{Cause}
 use Rattle.napi_types.specs.declared.status.Status.{Status}
@@ -16,59 +16,88 @@ pub record Scope : Type 0 where
   pub number : ℕ
   pub held : List Held
 
--- a frame: why it began, which entry of which addon it runs, how many asks it made, what its own scope holds,
--- and the scopes that calls opened in it, the innermost first
+-- the scopes of a frame: what its own scope holds, and the scopes that calls opened in it, the innermost first
+pub record FrameScopes : Type 0 where
+  pub own : List Held
+  pub opened : List Scope
+
+-- the scopes of a frame as it begins
+abbrev pub no_handles : FrameScopes
+no_handles = record { own = []; opened = [] }
+
+-- a frame: why it began, which entry of which addon it runs, how many asks it made, and its scopes
 pub record Frame : Type 0 where
   pub cause : Cause
   pub addon : ℕ
   pub entry : ℕ
   pub asks : ℕ
-  pub own : List Held
-  pub scopes : List Scope
+  pub scopes : FrameScopes
 
 -- a frame as it begins
 abbrev pub frame_of : Cause → ℕ → ℕ → Frame
-frame_of c addon entry = record { cause = c; addon = addon; entry = entry; asks = 0; own = []; scopes = [] }
+frame_of c addon entry = record { cause = c; addon = addon; entry = entry; asks = 0; scopes = no_handles }
+
+-- the scopes of the frames that stand
+abbrev pub scopes_of : List Frame → List FrameScopes
+scopes_of fs = map (λ f. f.scopes) fs
+
+-- a frame whose scopes changed
+abbrev pub scopes_changed : (FrameScopes → FrameScopes) → Frame → Frame
+scopes_changed c f = record f { scopes = c f.scopes }
+
+-- the frames where the innermost one's scopes changed
+abbrev pub in_frame : (FrameScopes → FrameScopes) → List Frame → List Frame
+in_frame c fs = first_changed (scopes_changed c) fs
 
 -- the value of a handle that is held here
 abbrev pub value_in : List Held → ℕ → Option ℕ
 value_in hs h = option_map (λ p. p.value) (found (λ p. p.handle) h hs)
 
--- the value of a handle in the first of the scopes that holds it
+-- the value of a handle in these scopes, the innermost asked first
 abbrev pub value_in_scopes : List Scope → ℕ → Option ℕ
 value_in_scopes [] h = None
 value_in_scopes (s ∷ ss) h = option_or (value_in s.held h) (value_in_scopes ss h)
 
 -- the value of a handle in an open scope of any frame; none where no open scope holds it
-abbrev pub gives : List Frame → ℕ → Option ℕ
+abbrev pub gives : List FrameScopes → ℕ → Option ℕ
 gives [] h = None
-gives (f ∷ fs) h = option_or (value_in_scopes f.scopes h) (option_or (value_in f.own h) (gives fs h))
+gives (f ∷ fs) h = option_or (value_in_scopes f.opened h) (option_or (value_in f.own h) (gives fs h))
 
--- a frame that holds one handle more, in the innermost of its scopes, or else in its own
-abbrev pub hold_at : Held → Frame → List Scope → Frame
-hold_at p f [] = record f { own = f.own ++ one p }
-hold_at p f (s ∷ ss) = record f { scopes = record s { held = s.held ++ one p } ∷ ss }
+-- what the frame's own scope and the scopes opened in it become with one handle more, in the innermost of them, or else in the frame's own
+abbrev pub hold_at : Held → List Held → List Scope → FrameScopes
+hold_at p own [] = record { own = own ++ one p; opened = [] }
+hold_at p own (s ∷ ss) = record { own = own; opened = record s { held = s.held ++ one p } ∷ ss }
 
 -- the innermost scope of a frame holds one handle more
-abbrev pub hold_in : Held → Frame → Frame
-hold_in p f = hold_at p f f.scopes
+abbrev pub hold_in : Held → FrameScopes → FrameScopes
+hold_in p f = hold_at p f.own f.opened
 
--- the innermost scope of the innermost frame holds one handle more
-abbrev pub hold : Held → List Frame → List Frame
-hold p fs = first_changed (hold_in p) fs
+-- a frame has one scope more, inside its innermost one
+abbrev pub open_in : ℕ → FrameScopes → FrameScopes
+open_in n f = record f { opened = record { number = n; held = [] } ∷ f.opened }
 
--- the innermost frame has one scope more
-abbrev pub open_in : ℕ → List Frame → List Frame
-open_in n fs = first_changed (λ f. record f { scopes = record { number = n; held = [] } ∷ f.scopes }) fs
+-- a frame's innermost scope is gone, with the handles in it
+abbrev pub close_in : FrameScopes → FrameScopes
+close_in f = record f { opened = tail f.opened }
 
--- the innermost frame's innermost scope is gone, with the handles in it
-abbrev pub close_in : List Frame → List Frame
-close_in fs = first_changed (λ f. record f { scopes = tail f.scopes }) fs
+-- the handles that scopes hold, in the order of their issue
+abbrev pub held_by_scopes : List Scope → List Held
+held_by_scopes [] = []
+held_by_scopes (s ∷ ss) = held_by_scopes ss ++ s.held
+
+-- the handles that a frame's own scope and the scopes opened in it hold
+abbrev pub held_by_frame : FrameScopes → List Held
+held_by_frame f = f.own ++ held_by_scopes f.opened
+
+-- the handles that the open scopes of all frames hold, in the order of their issue
+abbrev pub held_by_frames : List FrameScopes → List Held
+held_by_frames [] = []
+held_by_frames (f ∷ fs) = held_by_frames fs ++ held_by_frame f
 
 -- the scopes that calls opened in the innermost frame
-abbrev pub scopes_of : List Frame → List Scope
-scopes_of [] = []
-scopes_of (f ∷ fs) = f.scopes
+abbrev pub opened_scopes : List FrameScopes → List Scope
+opened_scopes [] = []
+opened_scopes (f ∷ fs) = f.opened
 
 -- one of the scopes has the number
 abbrev pub has_scope : ℕ → List Scope → Bool

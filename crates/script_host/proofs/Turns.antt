@@ -14,8 +14,8 @@ use Rattle.napi_types.specs.declared.entry.Why.TheVariants as why
 use Rattle.napi_types.specs.declared.status.Status.{Status}
 use Rattle.napi_types.specs.declared.status.Status.TheVariants as status
 use Rattle.napi_types.specs.declared.ids.HandleId.{HandleId}
-use Rattle.napi_types.specs.Scopes.{Frame, hold, open_in, close_in, Held, Scope, hold_at}
-use Rattle.napi_types.specs.Lists.{first_changed, tail}
+use Rattle.napi_types.specs.Scopes.{Frame, FrameScopes, scopes_changed, in_frame, hold_in, open_in, close_in}
+use Rattle.napi_types.specs.Lists.{first_changed}
 use Rattle.napi_types.specs.Environment.{Environment}
 use Rattle.napi_types.specs.Refusals.{refusal}
 use Rattle.napi_types.specs.Calls.{answer, answer_by, accepted}
@@ -182,28 +182,14 @@ record OneFrame (f : Frame) (fs : List Frame) : Type 0 where
   entry : frame.entry ≡ f.entry
   asks : frame.asks ≡ f.asks
 
-frame-held : (p : Held) (f : Frame) (ss : List Scope) (fs : List Frame) → fs ≡ hold_at p f ss ∷ [] → OneFrame f fs
-frame-held p f [] fs e = record { frame = hold_at p f []; alone = e; addon = refl; entry = refl; asks = refl }
-frame-held p f (s ∷ ss) fs e = record { frame = hold_at p f (s ∷ ss); alone = e; addon = refl; entry = refl; asks = refl }
+frame-scopes : (c : FrameScopes → FrameScopes) (f : Frame) (fs : List Frame) → fs ≡ f ∷ [] → OneFrame f (in_frame c fs)
+frame-scopes c f fs alone = record { frame = scopes_changed c f; alone = ap (in_frame c) alone; addon = refl; entry = refl; asks = refl }
 
 frame-accepted : (e : Environment) (c : Call) (n : ℕ) (f : Frame) → e.frames ≡ f ∷ [] → OneFrame f (accepted e c n).after.frames
-frame-accepted e CreateObject n f alone =
-    let p : Held = record { handle = e.handles + 1; value = e.made + 1 } in frame-held p f f.scopes _ (ap (hold p) alone)
+frame-accepted e CreateObject n f alone = frame-scopes (hold_in (record { handle = e.handles + 1; value = e.made + 1 })) f e.frames alone
 frame-accepted e (Typeof h) n f alone = record { frame = f; alone = alone; addon = refl; entry = refl; asks = refl }
-frame-accepted e OpenHandleScope n f alone = record {
-  frame = record f { scopes = record { number = n; held = [] } ∷ f.scopes };
-  alone = ap (open_in n) alone;
-  addon = refl;
-  entry = refl;
-  asks = refl;
-}
-frame-accepted e (CloseHandleScope x) n f alone = record {
-  frame = record f { scopes = tail f.scopes };
-  alone = ap close_in alone;
-  addon = refl;
-  entry = refl;
-  asks = refl;
-}
+frame-accepted e OpenHandleScope n f alone = frame-scopes (open_in n) f e.frames alone
+frame-accepted e (CloseHandleScope x) n f alone = frame-scopes close_in f e.frames alone
 
 frame-by : (e : Environment) (c : Call) (n : ℕ) (f : Frame) (x : Option Status) → e.frames ≡ f ∷ [] → OneFrame f (answer_by e c n x).after.frames
 frame-by e c n f (Some x) alone = record { frame = f; alone = alone; addon = refl; entry = refl; asks = refl }

@@ -1,0 +1,5 @@
+pub mod Fresh
+pub mod Lookups
+pub mod Marks
+pub mod Numbers
+pub mod Stacks

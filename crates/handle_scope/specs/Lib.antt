@@ -1,0 +1,2 @@
+pub mod HandleScopes
+pub mod Marks

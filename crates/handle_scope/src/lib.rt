@@ -1,0 +1,10 @@
+//! Handle scopes: which handles are good, and which values they stand for.
+//! Contracts see the scopes as a list of frames, each with its own scope and the scopes opened in it
+//! (`specs/HandleScopes.antt`). The environment, which opens, closes and looks up by its calls, stands above.
+#![tactic(auto)]
+
+mod scopes;
+#[cfg(test)]
+mod tests;
+
+pub use scopes::{ScopeKind, Scopes};
