@@ -7,6 +7,8 @@
 mod info;
 mod places;
 mod store;
+#[cfg(test)]
+mod tests;
 
 pub use info::ValueInfo;
 pub use napi_types::Body;
