@@ -5,6 +5,7 @@ pub mod Cuts
 pub mod Edge
 pub mod Environment
 pub mod FirstRun
+pub mod Graph
 pub mod Hub
 pub mod Laws
 pub mod Lists

@@ -1,5 +1,6 @@
 -- The value graph: a finite map from creation numbers to values.
-use Rattle.std.specs.Prelude.{ℕ, true, false, List, [], ◌∷◌, Option, option_map}
+use Rattle.std.specs.Prelude.{ℕ, ◌+◌, ◌-◌, ◌==◌, nat_eq, Bool, true, false, cond, not, List, [], ◌∷◌, ◌++◌, length, map, filter, filter_map, replicate, slice_index_or, slice_set, Option, Some, None, option_map}
+use Rattle.std.specs.List.{IsDistinct}
 use Rattle.std.specs.Option.{unwrap_or}
 use Rattle.napi_types.specs.declared.body.Body.{Body}
 use Rattle.napi_types.specs.declared.body.Body.TheVariants as body
@@ -7,14 +8,21 @@ use Rattle.napi_types.specs.declared.status.Kind.{Kind}
 use Rattle.napi_types.specs.declared.status.Kind.TheVariants as kind
 use Rattle.napi_types.specs.Lists.{found}
 
--- a value: its creation number and what it is
+-- a property: the number of its name's text, and the number of its value
+pub record Property : Type 0 where
+  pub name : ℕ
+  pub value : ℕ
+
+-- a value: its creation number, what it is, its properties in the order in which their names were first set, and its elements, each a value's number or a hole
 pub record Value : Type 0 where
   pub number : ℕ
   pub body : Body
+  pub properties : List Property
+  pub elements : List (Option ℕ)
 
--- a value as it is made: its number, and what it is
+-- a value as it is made: its number and what it is, with no properties and no elements
 abbrev pub fresh_value : ℕ → Body → Value
-fresh_value n b = record { number = n; body = b }
+fresh_value n b = record { number = n; body = b; properties = []; elements = [] }
 
 -- the number of undefined
 abbrev pub undefined_value : ℕ
@@ -46,3 +54,48 @@ kind_of (body.Symbol t) = kind.Symbol
 kind_of (body.Object array error) = kind.Object
 kind_of (body.Function addon entry payload) = kind.Function
 kind_of (body.External payload) = kind.External
+
+-- objects and functions have properties and elements; an array and an error are objects
+abbrev pub is_object_like : Body → Bool
+is_object_like (body.Object array error) = true
+is_object_like (body.Function addon entry payload) = true
+is_object_like _ = false
+
+-- the value of the property with the name, where there is one
+abbrev pub property_at : ℕ → List Property → Option ℕ
+property_at name ps = option_map (λ p. p.value) (found (λ p. p.name) name ps)
+
+-- a name that is there keeps its place and takes the value; a new name goes last
+abbrev pub property_set : ℕ → ℕ → List Property → List Property
+property_set name to [] = record { name = name; value = to } ∷ []
+property_set name to (p ∷ ps) = cond (p.name == name) (record p { value = to } ∷ ps) (p ∷ property_set name to ps)
+
+-- the properties with other names, in their order
+abbrev pub property_removed : ℕ → List Property → List Property
+property_removed name ps = filter (λ p. not (p.name == name)) ps
+
+-- no name stands twice
+abbrev pub HasDistinctNames : List Property → Type 0
+HasDistinctNames ps = IsDistinct nat_eq (map (λ p. p.name) ps)
+
+-- the element of an index; none at a hole and past the end
+abbrev pub element_at : ℕ → List (Option ℕ) → Option ℕ
+element_at at es = slice_index_or es at None
+
+-- the element of an index is set; holes fill what lies between the end and a later index
+abbrev pub element_set : ℕ → ℕ → List (Option ℕ) → List (Option ℕ)
+element_set at to es = slice_set (es ++ replicate (at + 1 - length es) None) at (Some to)
+
+-- the values that a value's properties and elements name, the manual's "reachable from" in one step
+abbrev pub children : Value → List ℕ
+children v = map (λ p. p.value) v.properties ++ filter_map (λ e. e) v.elements
+
+-- the value with a property set, a property removed, an element set
+abbrev pub with_property : ℕ → ℕ → Value → Value
+with_property name to v = record v { properties = property_set name to v.properties }
+
+abbrev pub without_property : ℕ → Value → Value
+without_property name v = record v { properties = property_removed name v.properties }
+
+abbrev pub with_element : ℕ → ℕ → Value → Value
+with_element at to v = record v { elements = element_set at to v.elements }

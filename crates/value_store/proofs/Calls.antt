@@ -1,0 +1,200 @@
+-- What the calls that change a store do to its list, and so to its state.
+use Rattle.std.proofs.Common.{◌≡◌, ◌≢◌, ℕ, suc, ◌+◌, ◌<◌, ◌≤◌, ◌==◌, ◌||◌, Bool, true, false, cond, List, [], ◌∷◌, ◌++◌, length, Option, Some, None, IsSome, IfSome, OnOk, OnErr, option_map, refl, ap, sym, subst, ◌∙◌, arith, length-append}
+use Rattle.std.specs.declared.result.Result.{Result}
+use Rattle.std.specs.declared.result.Result.TheVariants.{Ok, Err}
+use Rattle.std.specs.List.{All}
+use Rattle.std.proofs.lemmas.List.Elements.{All-nil, All-head, All-tail}
+use borrow.Author.Tests.{eqb-true}
+use Rattle.napi_types.specs.declared.body.Body.{Body}
+use Rattle.napi_types.specs.Lists.{has_number}
+use Rattle.napi_types.specs.Values.{Value, HasDistinctNames, fresh_value, children, with_property, without_property, with_element}
+use Rattle.napi_types.specs.Graph.{StoreState, value_of, creation_number}
+use Rattle.value_store.specs.Places.{down_from, state_of, at_number, changed_at, IsNumbered, IsCleared}
+use Rattle.value_store.specs.Changes.{ChangesOnly, Makes, Frees, CanFree}
+use Rattle.value_store.proofs.Children.{children-with_property, children-without_property, children-with_element}
+use Rattle.value_store.proofs.Lookup.{value_of-state_of, at_number-push, same-number, apart-number, apart-below}
+use Rattle.value_store.proofs.Names.{distinct-property_set, distinct-property_removed, distinct-none}
+use Rattle.value_store.proofs.Properties.{same-flip}
+use Rattle.value_store.proofs.Reading.{some-is, starting-long, starting-there}
+use Rattle.value_store.proofs.States.{updated, updated-numbered, same-map, not-given, IsGoodChange, changed-numbered, changed-only}
+
+pub ok-then : {A E : Type 0} {P Q : Type 0} (r : Result A E) → (P → Q) → OnOk r P → OnOk r Q
+ok-then (Ok a) f h = f h
+ok-then (Err e) f h = tt
+
+-- a call that changes one value or answers an error leaves the list in order
+pub changed-or-not : {A E : Type 0} (r : Result A E) (ps qs : List (Option Value)) (k : ℕ) (change : Value → Value) → IsNumbered (at_number ps) → IsGoodChange ps k change
+    → OnOk r (qs ≡ changed_at k change ps) → OnErr r (qs ≡ ps) → IsNumbered (at_number qs)
+changed-or-not (Ok a) ps qs k change all good ok err = subst (λ (l : List (Option Value)). IsNumbered (at_number l)) (sym ok) (changed-numbered ps k change all good)
+changed-or-not (Err e) ps qs k change all good ok err = subst (λ (l : List (Option Value)). IsNumbered (at_number l)) (sym err) all
+
+-- and where it changes the value, it changes nothing else
+pub change-only : (ps qs : List (Option Value)) (s : StoreState) (k : ℕ) (change : Value → Value) → state_of ps ≡ s → IsNumbered (at_number ps) → IsGoodChange ps k change → qs ≡ changed_at k change ps → ChangesOnly s (state_of qs) k change
+change-only ps qs s k change view all good is =
+    subst (λ (t : StoreState). ChangesOnly t (state_of qs) k change) view (subst (λ (l : List (Option Value)). ChangesOnly (state_of ps) (state_of l) k change) (sym is) (changed-only ps k change all good))
+
+pub good-property : (ps : List (Option Value)) (k name to : ℕ) → IsNumbered (at_number ps) → IsSome (at_number ps k) → IsSome (at_number ps to) → IsGoodChange ps k (with_property name to)
+good-property ps k name to all there new =
+    let v : (v : Value) × (at_number ps k ≡ Some v) = some-is (at_number ps k) there in
+    record {
+      from = v.0;
+      is = v.1;
+      number = refl;
+      body = refl;
+      names = distinct-property_set name to v.0.properties (all.names k v.0 v.1);
+      closed = children-with_property (λ m. IsSome (at_number ps m)) name to v.0 new (all.closed k v.0 v.1);
+    }
+
+pub good-element : (ps : List (Option Value)) (k at to : ℕ) → IsNumbered (at_number ps) → IsSome (at_number ps k) → IsSome (at_number ps to) → IsGoodChange ps k (with_element at to)
+good-element ps k at to all there new =
+    let v : (v : Value) × (at_number ps k ≡ Some v) = some-is (at_number ps k) there in
+    record {
+      from = v.0;
+      is = v.1;
+      number = refl;
+      body = refl;
+      names = all.names k v.0 v.1;
+      closed = children-with_element (λ m. IsSome (at_number ps m)) at to v.0 new (all.closed k v.0 v.1);
+    }
+
+good-removal : (ps : List (Option Value)) (k name : ℕ) → IsNumbered (at_number ps) → (v : Value) → at_number ps k ≡ Some v → IsGoodChange ps k (without_property name)
+good-removal ps k name all v is = record {
+  from = v;
+  is = is;
+  number = refl;
+  body = refl;
+  names = distinct-property_removed name v.properties (all.names k v is);
+  closed = children-without_property (λ m. IsSome (at_number ps m)) name v (all.closed k v is);
+}
+
+-- a removal changes the value where there is one
+pub removed-numbered : (ps qs : List (Option Value)) (k name : ℕ) → IsNumbered (at_number ps) → (IsSome (at_number ps k) → qs ≡ changed_at k (without_property name) ps) → (at_number ps k ≡ None → qs ≡ ps) → IsNumbered (at_number qs)
+removed-numbered ps qs k name all there absent = by (at_number ps k) refl
+  where
+    by : (o : Option Value) → at_number ps k ≡ o → IsNumbered (at_number qs)
+    by None is = subst (λ (l : List (Option Value)). IsNumbered (at_number l)) (sym (absent is)) all
+    by (Some v) is = subst (λ (l : List (Option Value)). IsNumbered (at_number l)) (sym (there (rw is refl))) (changed-numbered ps k (without_property name) all (good-removal ps k name all v is))
+
+pub removed-only : (ps qs : List (Option Value)) (s : StoreState) (k name : ℕ) → state_of ps ≡ s → IsNumbered (at_number ps) → (IsSome (at_number ps k) → qs ≡ changed_at k (without_property name) ps) → (at_number ps k ≡ None → qs ≡ ps) → ChangesOnly s (state_of qs) k (without_property name)
+removed-only ps qs s k name view all there absent = by (at_number ps k) refl
+  where
+    none : at_number ps k ≡ None → ChangesOnly (state_of ps) (state_of ps) k (without_property name)
+    none is =
+        let nothing : value_of (state_of ps) k ≡ None = value_of-state_of ps all.numbered k ∙ is in
+        record { named = nothing ∙ sym (ap (option_map (without_property name)) nothing); others = λ n other. refl; nothing_issued = record { issued = refl; made = refl } }
+
+    by : (o : Option Value) → at_number ps k ≡ o → ChangesOnly s (state_of qs) k (without_property name)
+    by None is = subst (λ (t : StoreState). ChangesOnly t (state_of qs) k (without_property name)) view (subst (λ (l : List (Option Value)). ChangesOnly (state_of ps) (state_of l) k (without_property name)) (sym (absent is)) (none is))
+    by (Some v) is = change-only ps qs s k (without_property name) view all (good-removal ps k name all v is) (there (rw is refl))
+
+-- a new value has the next number
+pub made-numbered : (ps : List (Option Value)) (b : Body) → IsNumbered (at_number ps) → IsNumbered (at_number (ps ++ Some (fresh_value (length ps + 1) b) ∷ []))
+made-numbered ps b all =
+    let k : ℕ = length ps + 1 in
+    let w : Value = fresh_value (length ps + 1) b in
+    let long : 5 ≤ length ps = starting-long ps all in
+    same-map (at_number (ps ++ Some w ∷ [])) (updated (at_number ps) k w) (at_number-push ps (Some w))
+    (updated-numbered (at_number ps) k w all refl distinct-none (All-nil (λ m. IsSome (updated (at_number ps) k w m))) (λ which less same. absurd (omega arith)))
+
+pub makes : (ps qs : List (Option Value)) (s : StoreState) (b : Body) → state_of ps ≡ s → IsNumbered (at_number ps) → qs ≡ ps ++ Some (fresh_value (length ps + 1) b) ∷ [] → Makes s (state_of qs) (length ps + 1) b
+makes ps qs s b view all is =
+    subst (λ (t : StoreState). Makes t (state_of qs) (length ps + 1) b) view (subst (λ (l : List (Option Value)). Makes (state_of ps) (state_of l) (length ps + 1) b) (sym is) here)
+  where
+    new : (n : ℕ) → value_of (state_of (ps ++ Some (fresh_value (length ps + 1) b) ∷ [])) n ≡ updated (at_number ps) (length ps + 1) (fresh_value (length ps + 1) b) n
+    new n = value_of-state_of (ps ++ Some (fresh_value (length ps + 1) b) ∷ []) (made-numbered ps b all).numbered n ∙ at_number-push ps (Some (fresh_value (length ps + 1) b)) n
+
+    many : length (ps ++ Some (fresh_value (length ps + 1) b) ∷ []) ≡ suc (length ps)
+    many = length-append ps (Some (fresh_value (length ps + 1) b) ∷ []) ∙ omega arith
+
+    same : updated (at_number ps) (length ps + 1) (fresh_value (length ps + 1) b) (length ps + 1) ≡ Some (fresh_value (length ps + 1) b)
+    same = rw (same-number (length ps + 1) (length ps + 1) refl) refl
+
+    other : (n : ℕ) → n ≢ length ps + 1 → updated (at_number ps) (length ps + 1) (fresh_value (length ps + 1) b) n ≡ at_number ps n
+    other n apart = rw (apart-number n (length ps + 1) apart) refl
+
+    fresh : (m : ℕ) → has_number (m + 1) (0 ∷ down_from m) ≡ false
+    fresh m = rw (apart-below 0 (m + 1) (omega arith)) (not-given m (m + 1) (omega arith))
+
+    next : (m n : ℕ) → ((suc m == n) || has_number n (down_from m)) ≡ ((n == m + 1) || has_number n (down_from m))
+    next m n = let e : m + 1 ≡ suc m = omega arith in rw (e, same-flip n (suc m)) refl
+
+    here : Makes (state_of ps) (state_of (ps ++ Some (fresh_value (length ps + 1) b) ∷ [])) (length ps + 1) b
+    here = record {
+      fresh = fresh (length ps);
+      named = new (length ps + 1) ∙ same;
+      others = λ n apart. new n ∙ other n apart ∙ sym (value_of-state_of ps all.numbered n);
+      issued = λ n. ap (λ m. has_number n (down_from m)) many ∙ next (length ps) n;
+      made = many ∙ omega arith;
+    }
+
+-- what holds of each number in a list holds of one that is found in it
+all-has : (P : ℕ → Type 0) (ids : List ℕ) (n : ℕ) → All P ids → has_number n ids ≡ true → P n
+all-has P [] n h e = let no : ⊥ = cc in absurd no
+all-has P (x ∷ ids) n h e = by (all-has P ids n (All-tail P x ids h)) (x == n) refl e
+  where
+    by : (has_number n ids ≡ true → P n) → (b : Bool) → (x == n) ≡ b → (b || has_number n ids) ≡ true → P n
+    by rest true same e = subst P (eqb-true x n same) (All-head P x ids h)
+    by rest false same e = rest e
+
+abbrev cleared : (ℕ → Option Value) → List ℕ → ℕ → Option Value
+cleared values ids n = cond (has_number n ids) None (values n)
+
+cleared-other : (values : ℕ → Option Value) (ids : List ℕ) (n : ℕ) → has_number n ids ≡ false → cleared values ids n ≡ values n
+cleared-other values ids n h = rw h refl
+
+cleared-gone : (values : ℕ → Option Value) (ids : List ℕ) (n : ℕ) → has_number n ids ≡ true → cleared values ids n ≡ None
+cleared-gone values ids n h = rw h refl
+
+module _ (ps qs : List (Option Value)) (ids : List ℕ) (all : IsNumbered (at_number ps)) (can : CanFree (state_of ps) ids) (gone : IsCleared ps qs ids) where
+  old-map : (n : ℕ) → value_of (state_of ps) n ≡ at_number ps n
+  old-map = value_of-state_of ps all.numbered
+
+  starting-stays : (which : ℕ) → which < 5 → has_number (which + 1) ids ≡ false
+  starting-stays which less = by (has_number (which + 1) ids) refl
+    where
+      above : (o : Option Value) → IsSome o → ((v : Value) → o ≡ Some v → v.number ≡ which + 1) → IfSome (option_map (λ (v : Value). v.number) o) (λ number. 5 < number) → 5 < which + 1
+      above None some numbered h = let no : ⊥ = cc in absurd no
+      above (Some v) some numbered h = let number : v.number ≡ which + 1 = numbered v refl in omega arith
+
+      by : (b : Bool) → has_number (which + 1) ids ≡ b → b ≡ false
+      by false e = refl
+      by true e =
+          let high : IfSome (creation_number (state_of ps) (which + 1)) (λ number. 5 < number) = all-has (λ id. IfSome (creation_number (state_of ps) id) (λ number. 5 < number)) ids (which + 1) can.not_starting e in
+          let moved : IfSome (option_map (λ (v : Value). v.number) (at_number ps (which + 1))) (λ number. 5 < number) = subst (λ (o : Option Value). IfSome (option_map (λ v. v.number) o) (λ number. 5 < number)) (old-map (which + 1)) high in
+          let over : 5 < which + 1 = above (at_number ps (which + 1)) (starting-there ps all which less) (all.numbered (which + 1)) moved in
+          absurd (omega arith)
+
+  stays-live : (m : ℕ) → IsSome (at_number ps m) → has_number m ids ≡ false → IsSome (cleared (at_number ps) ids m)
+  stays-live m some apart = rw apart some
+
+  cleared-map : IsNumbered (cleared (at_number ps) ids)
+  cleared-map = record {
+    numbered = λ n v. by-number n v (has_number n ids);
+    names = λ n v. by-names n v (has_number n ids);
+    closed = λ n v. by-closed n v (has_number n ids) refl;
+    starting = λ which less. ap (option_map (λ (v : Value). v.body)) (cleared-other (at_number ps) ids (which + 1) (starting-stays which less)) ∙ all.starting which less;
+  }
+    where
+      by-number : (n : ℕ) (v : Value) (b : Bool) → cond b None (at_number ps n) ≡ Some v → v.number ≡ n
+      by-number n v true is = let no : ⊥ = cc in absurd no
+      by-number n v false is = all.numbered n v is
+
+      by-names : (n : ℕ) (v : Value) (b : Bool) → cond b None (at_number ps n) ≡ Some v → HasDistinctNames v.properties
+      by-names n v true is = let no : ⊥ = cc in absurd no
+      by-names n v false is = all.names n v is
+
+      by-closed : (n : ℕ) (v : Value) (b : Bool) → has_number n ids ≡ b → cond b None (at_number ps n) ≡ Some v → All (λ m. IsSome (cleared (at_number ps) ids m)) (children v)
+      by-closed n v true e is = let no : ⊥ = cc in absurd no
+      by-closed n v false e is = λ k d less. stays-live _ (all.closed n v is k d less) (can.unnamed n v (old-map n ∙ is) e k d less)
+
+  pub cleared-numbered : IsNumbered (at_number qs)
+  cleared-numbered = same-map (at_number qs) (cleared (at_number ps) ids) gone.values cleared-map
+
+  pub frees : Frees (state_of ps) (state_of qs) ids
+  frees =
+      let new : (n : ℕ) → value_of (state_of qs) n ≡ cleared (at_number ps) ids n = λ n. value_of-state_of qs cleared-numbered.numbered n ∙ gone.values n in
+      record {
+        gone = λ n has. new n ∙ cleared-gone (at_number ps) ids n has;
+        others = λ n apart. new n ∙ cleared-other (at_number ps) ids n apart ∙ sym (old-map n);
+        nothing_issued = record { issued = ap down_from gone.many; made = gone.many };
+      }

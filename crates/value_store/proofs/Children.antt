@@ -1,0 +1,84 @@
+-- What a changed value names.
+use Rattle.std.proofs.Common.{ℕ, zero, suc, ◌+◌, ◌-◌, ◌==◌, Bool, true, false, cond, not, List, [], ◌∷◌, ◌++◌, map, length, replicate, Option, Some, None, IfSome, option_map}
+use Rattle.std.specs.List.{All, filter_map}
+use Rattle.std.proofs.lemmas.List.Elements.{All-nil, All-cons, All-head, All-tail, All-append, All-set, All-replicate}
+use Rattle.napi_types.specs.Lists.{found}
+use Rattle.napi_types.specs.Values.{Value, Property, property_set, property_removed, property_at, element_at, element_set, children, with_property, without_property, with_element}
+
+module _ (P : ℕ → Type 0) where
+  left : (xs ys : List ℕ) → All P (xs ++ ys) → All P xs
+  left [] ys h = All-nil P
+  left (x ∷ xs) ys h = All-cons P x xs (All-head P x (xs ++ ys) h) (left xs ys (All-tail P x (xs ++ ys) h))
+
+  right : (xs ys : List ℕ) → All P (xs ++ ys) → All P ys
+  right [] ys h = h
+  right (x ∷ xs) ys h = right xs ys (All-tail P x (xs ++ ys) h)
+
+  set_names : (name to : ℕ) (ps : List Property) → P to → All P (map (λ p. p.value) ps) → All P (map (λ p. p.value) (property_set name to ps))
+  set_names name to [] new h = All-cons P to [] new (All-nil P)
+  set_names name to (p ∷ ps) new h = by (set_names name to ps new (All-tail P p.value (map (λ q. q.value) ps) h)) (p.name == name)
+    where
+      by : All P (map (λ p. p.value) (property_set name to ps)) → (b : Bool) → All P (map (λ (q : Property). q.value) (cond b (record p { value = to } ∷ ps) (p ∷ property_set name to ps)))
+      by rest true = All-cons P to (map (λ q. q.value) ps) new (All-tail P p.value (map (λ q. q.value) ps) h)
+      by rest false = All-cons P p.value (map (λ q. q.value) (property_set name to ps)) (All-head P p.value (map (λ q. q.value) ps) h) rest
+
+  removed_names : (name : ℕ) (ps : List Property) → All P (map (λ p. p.value) ps) → All P (map (λ p. p.value) (property_removed name ps))
+  removed_names name [] h = h
+  removed_names name (p ∷ ps) h = by (removed_names name ps (All-tail P p.value (map (λ q. q.value) ps) h)) (not (p.name == name))
+    where
+      by : All P (map (λ p. p.value) (property_removed name ps)) → (b : Bool) → All P (map (λ (q : Property). q.value) (cond b (p ∷ property_removed name ps) (property_removed name ps)))
+      by rest true = All-cons P p.value (map (λ q. q.value) (property_removed name ps)) (All-head P p.value (map (λ q. q.value) ps) h) rest
+      by rest false = rest
+
+  to_options : (es : List (Option ℕ)) → All P (filter_map (λ e. e) es) → All (λ e. IfSome e P) es
+  to_options [] h = All-nil (λ e. IfSome e P)
+  to_options (None ∷ es) h = All-cons (λ e. IfSome e P) None es tt (to_options es h)
+  to_options (Some x ∷ es) h = All-cons (λ e. IfSome e P) (Some x) es (All-head P x (filter_map (λ e. e) es) h) (to_options es (All-tail P x (filter_map (λ e. e) es) h))
+
+  from_options : (es : List (Option ℕ)) → All (λ e. IfSome e P) es → All P (filter_map (λ e. e) es)
+  from_options [] h = All-nil P
+  from_options (None ∷ es) h = from_options es (All-tail (λ e. IfSome e P) None es h)
+  from_options (Some x ∷ es) h = All-cons P x (filter_map (λ e. e) es) (All-head (λ e. IfSome e P) (Some x) es h) (from_options es (All-tail (λ e. IfSome e P) (Some x) es h))
+
+  -- a property that is set names its value, and what was named before
+  pub children-with_property : (name to : ℕ) (v : Value) → P to → All P (children v) → All P (children (with_property name to v))
+  children-with_property name to v new h =
+      let ps : List ℕ = map (λ p. p.value) v.properties in
+      let es : List ℕ = filter_map (λ e. e) v.elements in
+      All-append P (map (λ p. p.value) (property_set name to v.properties)) es (set_names name to v.properties new (left ps es h)) (right ps es h)
+
+  pub children-without_property : (name : ℕ) (v : Value) → All P (children v) → All P (children (without_property name v))
+  children-without_property name v h =
+      let ps : List ℕ = map (λ p. p.value) v.properties in
+      let es : List ℕ = filter_map (λ e. e) v.elements in
+      All-append P (map (λ p. p.value) (property_removed name v.properties)) es (removed_names name v.properties (left ps es h)) (right ps es h)
+
+  pub children-with_element : (at to : ℕ) (v : Value) → P to → All P (children v) → All P (children (with_element at to v))
+  children-with_element at to v new h =
+      let ps : List ℕ = map (λ p. p.value) v.properties in
+      let es : List ℕ = filter_map (λ e. e) v.elements in
+      let holes : List (Option ℕ) = replicate (at + 1 - length v.elements) None in
+      All-append P ps (filter_map (λ e. e) (element_set at to v.elements)) (left ps es h)
+      (from_options (element_set at to v.elements)
+      (All-set (λ e. IfSome e P) (v.elements ++ holes) at (Some to) new
+      (All-append (λ e. IfSome e P) v.elements holes (to_options v.elements (right ps es h)) (All-replicate (λ e. IfSome e P) (at + 1 - length v.elements) None tt))))
+
+  -- the value of a property is named
+  pub property-named : (name : ℕ) (v : Value) → All P (children v) → IfSome (property_at name v.properties) P
+  property-named name v h = among v.properties (left (map (λ p. p.value) v.properties) (filter_map (λ e. e) v.elements) h)
+    where
+      among : (ps : List Property) → All P (map (λ p. p.value) ps) → IfSome (property_at name ps) P
+      among [] h = tt
+      among (p ∷ ps) h = by (among ps (All-tail P p.value (map (λ q. q.value) ps) h)) (p.name == name)
+        where
+          by : IfSome (property_at name ps) P → (b : Bool) → IfSome (option_map (λ (q : Property). q.value) (cond b (Some p) (found (λ q. q.name) name ps))) P
+          by rest true = All-head P p.value (map (λ q. q.value) ps) h
+          by rest false = rest
+
+  pub element-named : (at : ℕ) (v : Value) → All P (children v) → IfSome (element_at at v.elements) P
+  element-named at v h = among v.elements at (to_options v.elements (right (map (λ p. p.value) v.properties) (filter_map (λ e. e) v.elements) h))
+    where
+      among : (es : List (Option ℕ)) (at : ℕ) → All (λ e. IfSome e P) es → IfSome (element_at at es) P
+      among [] at h = tt
+      among (e ∷ es) zero h = All-head (λ e. IfSome e P) e es h
+      among (e ∷ es) (suc at) h = among es at (All-tail (λ e. IfSome e P) e es h)

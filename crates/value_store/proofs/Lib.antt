@@ -1,0 +1,11 @@
+pub mod Callers
+pub mod Calls
+pub mod Children
+pub mod Clearing
+pub mod Elements
+pub mod Lookup
+pub mod Names
+pub mod Properties
+pub mod Reading
+pub mod Starting
+pub mod States

@@ -1,0 +1,128 @@
+-- What a state says of the values that its list has.
+use Rattle.std.proofs.Common.{◌≡◌, ℕ, zero, suc, ◌+◌, ◌-◌, ◌<◌, ◌≤◌, List, [], ◌∷◌, map, length, Option, Some, None, IsSome, IfSome, IsSomeAnd, IsTrue, option_map, slice_index_or, refl, ap, sym, subst, ◌∙◌, arith}
+use Rattle.std.specs.List.{All}
+use Rattle.std.specs.Option.{unwrap_or}
+use Rattle.std.proofs.lemmas.List.{length-map}
+use Rattle.napi_types.specs.declared.ids.ValueId.{ValueId}
+use Rattle.napi_types.specs.Values.{Value, children, property_at, element_at, is_object_like, value_at, starting_values}
+use Rattle.napi_types.specs.Graph.{StoreState, Stored, IsSound, IsLive, value_of}
+use Rattle.value_store.specs.Places.{state_of, stored_as, at_number, properties_at, elements_at, IsNumbered}
+use Rattle.value_store.specs.Changes.{properties_in, elements_in, id_at, IsObject, IsStarting, StandsAt}
+use Rattle.value_store.proofs.Lookup.{value_of-state_of, number-within}
+use Rattle.value_store.proofs.States.{sound}
+use Rattle.value_store.proofs.Children.{property-named, element-named}
+
+pub some-is : (o : Option Value) → IsSome o → (v : Value) × (o ≡ Some v)
+some-is None h = let no : ⊥ = cc in absurd no
+some-is (Some v) h = (v, refl)
+
+some-and : (o : Option Value) → IsSomeAnd o (λ v. IsTrue (is_object_like v.body)) → IsSome o
+some-and None h = absurd h
+some-and (Some v) h = refl
+
+at-place : (ps : List (Option Value)) (p : ℕ) → slice_index_or (map (option_map stored_as) ps) p None ≡ option_map stored_as (slice_index_or ps p None)
+at-place [] p = refl
+at-place (x ∷ ps) zero = refl
+at-place (x ∷ ps) (suc p) = at-place ps p
+
+numbered-option : (o : Option Value) (n : ℕ) → IsSome o → ((v : Value) → o ≡ Some v → v.number ≡ n) → option_map (λ (v : Value). v.number) o ≡ Some n
+numbered-option None n some h = let no : ⊥ = cc in absurd no
+numbered-option (Some v) n some h = ap Some (h v refl)
+
+some-body : (o p : Option Value) → IsSome p → option_map (λ (v : Value). v.body) o ≡ option_map (λ v. v.body) p → IsSome o
+some-body None None some h = some
+some-body None (Some v) some h = let no : ⊥ = cc in absurd no
+some-body (Some v) p some h = refl
+
+starts : (which : ℕ) → which < 5 → IsSome (value_at starting_values (which + 1))
+starts zero h = refl
+starts (suc zero) h = refl
+starts (suc (suc zero)) h = refl
+starts (suc (suc (suc zero))) h = refl
+starts (suc (suc (suc (suc zero)))) h = refl
+starts (suc (suc (suc (suc (suc n))))) h = absurd (omega arith)
+
+pub starting-there : (ps : List (Option Value)) → IsNumbered (at_number ps) → (which : ℕ) → which < 5 → IsSome (at_number ps (which + 1))
+starting-there ps all which less = some-body (at_number ps (which + 1)) (value_at starting_values (which + 1)) (starts which less) (all.starting which less)
+
+-- the five starting values are there
+pub starting-long : (ps : List (Option Value)) → IsNumbered (at_number ps) → 5 ≤ length ps
+starting-long ps all = (number-within ps 5 (starting-there ps all 4 (omega arith))).1
+
+module _ (ps : List (Option Value)) (s : StoreState) (view : state_of ps ≡ s) (all : IsNumbered (at_number ps)) where
+  pub value_of-view : (n : ℕ) → value_of s n ≡ at_number ps n
+  value_of-view n = subst (λ (t : StoreState). value_of t n ≡ at_number ps n) view (value_of-state_of ps all.numbered n)
+
+  pub properties_in-view : (n : ℕ) → properties_in s n ≡ properties_at n ps
+  properties_in-view n = ap (λ (o : Option Value). unwrap_or (option_map (λ v. v.properties) o) []) (value_of-view n)
+
+  pub elements_in-view : (n : ℕ) → elements_in s n ≡ elements_at n ps
+  elements_in-view n = ap (λ (o : Option Value). unwrap_or (option_map (λ v. v.elements) o) []) (value_of-view n)
+
+  pub live-there : (n : ℕ) → IsLive s n → IsSome (at_number ps n)
+  live-there n h = subst (λ (o : Option Value). IsSome o) (value_of-view n) h
+
+  pub there-live : (n : ℕ) → IsSome (at_number ps n) → IsLive s n
+  there-live n h = subst (λ (o : Option Value). IsSome o) (sym (value_of-view n)) h
+
+  pub object-there : (n : ℕ) → IsObject s n → IsSome (at_number ps n)
+  object-there n h = live-there n (some-and (value_of s n) h)
+
+  pub sound-view : IsSound s
+  sound-view = subst (λ (t : StoreState). IsSound t) view (sound ps all)
+
+  -- the value of a property is live, and so is an element
+  pub property-live : (n name : ℕ) (r : Option ValueId) → option_map (λ v. v.0) r ≡ property_at name (properties_at n ps) → IfSome r (λ v. IsLive s v.0)
+  property-live n name r h = by (at_number ps n) r (all.closed n) h
+    where
+      by : (o : Option Value) (r : Option ValueId) → ((v : Value) → o ≡ Some v → All (λ m. IsSome (at_number ps m)) (children v)) → option_map (λ v. v.0) r ≡ property_at name (unwrap_or (option_map (λ v. v.properties) o) []) → IfSome r (λ v. IsLive s v.0)
+      by o None closed h = tt
+      by None (Some v) closed h = let no : ⊥ = cc in absurd no
+      by (Some w) (Some v) closed h = there-live v.0 (subst (λ (o : Option ℕ). IfSome o (λ m. IsSome (at_number ps m))) (sym h) (property-named (λ m. IsSome (at_number ps m)) name w (closed w refl)))
+
+  pub element-live : (n at : ℕ) (r : Option ValueId) → option_map (λ v. v.0) r ≡ element_at at (elements_at n ps) → IfSome r (λ v. IsLive s v.0)
+  element-live n at r h = by (at_number ps n) r (all.closed n) h
+    where
+      by : (o : Option Value) (r : Option ValueId) → ((v : Value) → o ≡ Some v → All (λ m. IsSome (at_number ps m)) (children v)) → option_map (λ v. v.0) r ≡ element_at at (unwrap_or (option_map (λ v. v.elements) o) []) → IfSome r (λ v. IsLive s v.0)
+      by o None closed h = tt
+      by None (Some v) closed h = let no : ⊥ = cc in absurd no
+      by (Some w) (Some v) closed h = there-live v.0 (subst (λ (o : Option ℕ). IfSome o (λ m. IsSome (at_number ps m))) (sym h) (element-named (λ m. IsSome (at_number ps m)) at w (closed w refl)))
+
+  pub is-starting : (which : ℕ) → which < 5 → IsStarting s which (which + 1)
+  is-starting which less = record {
+    number = ap (option_map (λ (v : Value). v.number)) (value_of-view (which + 1)) ∙ numbered-option (at_number ps (which + 1)) (which + 1) (starting-there ps all which less) (all.numbered (which + 1));
+    body = ap (option_map (λ (v : Value). v.body)) (value_of-view (which + 1)) ∙ all.starting which less;
+  }
+
+  id_at-view : (place : ℕ) → id_at s place ≡ option_map (λ v. v.number) (slice_index_or ps place None)
+  id_at-view place =
+      subst (λ (t : StoreState). id_at t place ≡ option_map (λ v. v.number) (slice_index_or ps place None)) view
+      (ap (option_map (λ (x : Stored). x.id)) (at-place ps place) ∙ twice (slice_index_or ps place None))
+    where
+      twice : (o : Option Value) → option_map (λ (x : Stored). x.id) (option_map stored_as o) ≡ option_map (λ v. v.number) o
+      twice None = refl
+      twice (Some v) = refl
+
+  -- the value of a place is live
+  pub standing-live : (place : ℕ) (v : Value) → slice_index_or ps place None ≡ Some v → IsLive s v.number
+  standing-live place v is = let number : v.number ≡ suc place = all.numbered (suc place) v is in there-live v.number (rw number (rw is refl))
+
+  -- each live value stands at one place
+  pub stands-at : (n : ℕ) → IsLive s n → StandsAt s n (n - 1)
+  stands-at n h =
+      let there : IsSome (at_number ps n) = live-there n h in
+      let in_list : (0 < n) × (n ≤ length ps) = number-within ps n there in
+      let many : length s.places ≡ length ps = ap (λ (t : StoreState). length t.places) (sym view) ∙ length-map ps (option_map stored_as) in
+      record {
+        within = omega arith;
+        there = id_at-view (n - 1) ∙ at n there (all.numbered n);
+        only = λ other is. one other (slice_index_or ps other None) (all.numbered (suc other)) (sym (id_at-view other) ∙ is);
+      }
+    where
+      at : (n : ℕ) → IsSome (at_number ps n) → ((v : Value) → at_number ps n ≡ Some v → v.number ≡ n) → option_map (λ (v : Value). v.number) (slice_index_or ps (n - 1) None) ≡ Some n
+      at zero some numbered = let no : ⊥ = cc in absurd no
+      at (suc p) some numbered = let place : suc p - 1 ≡ p = omega arith in rw place (numbered-option (slice_index_or ps p None) (suc p) some numbered)
+
+      one : (other : ℕ) (o : Option Value) → ((v : Value) → o ≡ Some v → v.number ≡ suc other) → option_map (λ (v : Value). v.number) o ≡ Some n → other ≡ n - 1
+      one other None numbered is = let no : ⊥ = cc in absurd no
+      one other (Some v) numbered is = let number : v.number ≡ suc other = numbered v refl in let same : v.number ≡ n = cc in omega arith

@@ -1,0 +1,20 @@
+use Rattle.std.proofs.Common.{sym, subst}
+use Rattle.napi_types.specs.Graph.{StoreState}
+use Rattle.value_store.specs.Changes.{CanFree, Frees, numbers_of}
+use Rattle.value_store.specs.Places.{state_of}
+use Rattle.value_store.proofs.Reading.{live-there}
+use Rattle.value_store.proofs.Calls.{cleared-numbered, frees}
+use Rattle.value_store.proofs.store.Store.free.Goals as goal
+
+pub clear-requires : goal.clear-requires
+clear-requires c = λ k d less. live-there c.self.inside.values.items c.args.self.now c.self.view_is c.self.invariant _ (c.requires.live k d less)
+
+pub invariant_of-self : goal.invariant_of-self
+invariant_of-self c =
+    let can : CanFree (state_of c.self.inside.values.items) (numbers_of c.args.list.now) = subst (λ (s : StoreState). CanFree s (numbers_of c.args.list.now)) (sym c.self.view_is) c.requires in
+    cleared-numbered c.self.inside.values.items c.clear.new.values.items (numbers_of c.args.list.now) c.self.invariant can c.clear.ensures
+
+pub returns : goal.returns
+returns c =
+    let can : CanFree (state_of c.self.inside.values.items) (numbers_of c.args.list.now) = subst (λ (s : StoreState). CanFree s (numbers_of c.args.list.now)) (sym c.self.view_is) c.requires in
+    subst (λ (s : StoreState). Frees s (state_of c.clear.new.values.items) (numbers_of c.args.list.now)) c.self.view_is (frees c.self.inside.values.items c.clear.new.values.items (numbers_of c.args.list.now) c.self.invariant can c.clear.ensures)

@@ -1,0 +1,51 @@
+-- How the list of a store's values stands for the store's state.
+use Rattle.std.specs.Prelude.{◌≡◌, ℕ, zero, suc, ◌+◌, ◌-◌, ◌<◌, cond, List, [], ◌∷◌, length, map, Option, Some, None, option_map, IsSome, slice_index_or, slice_set}
+use Rattle.std.specs.List.{All}
+use Rattle.napi_types.specs.Values.{Value, Property, HasDistinctNames, children, value_at, starting_values}
+use Rattle.std.specs.Option.{unwrap_or}
+use Rattle.napi_types.specs.Lists.{has_number}
+use Rattle.napi_types.specs.Graph.{Stored, StoreState}
+
+-- the numbers from n down to 1
+abbrev pub down_from : ℕ → List ℕ
+down_from zero = []
+down_from (suc n) = suc n ∷ down_from n
+
+-- a value is named by its creation number
+abbrev pub stored_as : Value → Stored
+stored_as v = record { id = v.number; value = v }
+
+-- each place has the value that was made there, until it is freed
+abbrev pub state_of : List (Option Value) → StoreState
+state_of ps = record { places = map (option_map stored_as) ps; issued = down_from (length ps); made = length ps }
+
+-- the value of a number: number n stands at place n - 1
+abbrev pub at_number : List (Option Value) → ℕ → Option Value
+at_number ps zero = None
+at_number ps (suc place) = slice_index_or ps place None
+
+-- each value has its number as creation number, no name stands twice in it, what it names is there, and the starting values are there
+pub record IsNumbered (values : ℕ → Option Value) : Type 0 where
+  pub numbered : (n : ℕ) (v : Value) → values n ≡ Some v → v.number ≡ n
+  pub names : (n : ℕ) (v : Value) → values n ≡ Some v → HasDistinctNames v.properties
+  pub closed : (n : ℕ) (v : Value) → values n ≡ Some v → All (λ m. IsSome (values m)) (children v)
+  pub starting : (which : ℕ) → which < 5 → option_map (λ v. v.body) (values (which + 1)) ≡ option_map (λ v. v.body) (value_at starting_values (which + 1))
+
+-- the list with the value of a number changed so
+abbrev pub changed_at : ℕ → (Value → Value) → List (Option Value) → List (Option Value)
+changed_at n change ps = slice_set ps (n - 1) (option_map change (at_number ps n))
+
+-- the properties of the value of a number, none where no value has it; the same of its elements
+abbrev pub properties_at : ℕ → List (Option Value) → List Property
+properties_at n ps = unwrap_or (option_map (λ v. v.properties) (at_number ps n)) []
+
+abbrev pub elements_at : ℕ → List (Option Value) → List (Option ℕ)
+elements_at n ps = unwrap_or (option_map (λ v. v.elements) (at_number ps n)) []
+
+abbrev pub starting_list : List (Option Value)
+starting_list = map Some starting_values
+
+-- the values of these numbers are gone, and the others stand where they stood
+pub record IsCleared (old new : List (Option Value)) (ids : List ℕ) : Type 0 where
+  pub values : (n : ℕ) → at_number new n ≡ cond (has_number n ids) None (at_number old n)
+  pub many : length new ≡ length old

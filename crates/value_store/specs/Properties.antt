@@ -1,0 +1,21 @@
+-- How a value's lists stand for its properties and elements.
+use Rattle.std.specs.Prelude.{ℕ, ◌≤◌, nat_eq, List, length, map, Option, option_map}
+use Rattle.std.specs.List.{IsDistinct}
+use Rattle.std.specs.Map.{keys_of}
+use Rattle.napi_types.specs.declared.ids.ValueId.{ValueId}
+use Rattle.napi_types.specs.Values.{Property}
+
+-- an entry of the map from names to values is a property
+abbrev pub property_of : ℕ × ValueId → Property
+property_of e = record { name = e.0; value = e.1.0 }
+
+abbrev pub properties_of : List (ℕ × ValueId) → List Property
+properties_of es = map property_of es
+
+abbrev pub elements_of : List (Option ValueId) → List (Option ℕ)
+elements_of es = map (λ e. option_map (λ v. v.0) e) es
+
+-- no name stands twice, and no index is above 65,535
+pub record AreLists (es : List (ℕ × ValueId)) (elements : List (Option ValueId)) : Type 0 where
+  pub distinct : IsDistinct nat_eq (keys_of es)
+  pub short : length elements ≤ 65536

@@ -1,0 +1,151 @@
+//! One value: what it is, its properties and its elements.
+ghost use Rattle.std.specs.Prelude.{◌≡◌, ◌-◌, ◌<◌, ◌≤◌, ◌++◌, length, replicate, OnOk, OnErr, option_map, slice_get, is_some, Some, None};
+ghost use Rattle.napi_types.specs.Values.{fresh_value, property_at, element_at, with_property, without_property, with_element};
+
+use indexmap::IndexMap;
+use napi_types::{Body, NoMemory, TextNo, ValueId};
+use std::alloc::Global;
+use std::marker::Model;
+
+/// A value of the store: what it is, its properties in the order in which their names were first set, its elements, and its
+/// creation number. `Store` reads and changes the properties and elements.
+#[derive(Drop)]
+pub struct ValueInfo {
+    number: u64,
+    body: Body,
+    // The map is keyed by the number of the name's text.
+    properties: IndexMap<u32, ValueId>,
+    elements: Vec<Option<ValueId>>,
+}
+
+impl Model for ValueInfo {
+    ghost use Rattle.napi_types.specs.Values.{Value as GraphValue};
+
+    ghost Value = { GraphValue };
+
+    ghost use Rattle.value_store.specs.Properties.{properties_of, elements_of, AreLists};
+
+    ghost view = { λ info. record {
+      number = info.number;
+      body = info.body;
+      properties = properties_of info.properties.entries;
+      elements = elements_of info.elements.items;
+    } };
+
+    ghost invariant = { λ info. AreLists info.properties.entries info.elements.items };
+}
+
+impl ValueInfo {
+    /// A value with no properties and no elements.
+    pub(crate) fn new(alloc: Global, number: u64, body: Body) -> ValueInfo
+        ensures { result ≡ fresh_value number body }
+    {
+        ValueInfo {
+            number,
+            body,
+            properties: IndexMap::new(alloc),
+            elements: Vec::new(alloc),
+        }
+    }
+
+    /// What the value is.
+    pub fn body(&self) -> Body
+        ensures { result ≡ self.now.body }
+    {
+        self.body
+    }
+
+    /// The creation number.
+    pub(crate) fn number(&self) -> u64
+        ensures { result ≡ self.now.number }
+    {
+        self.number
+    }
+
+    /// Sets a property. A name that is there keeps its place, and a new one goes last.
+    pub(crate) fn set_prop(&mut self, name: TextNo, to: ValueId) -> Result<(), NoMemory>
+        ensures set { OnOk result (self.new ≡ with_property name.0 to.0 self.old) }
+        ensures err { OnErr result (self.new ≡ self.old) }
+    {
+        match self.properties.insert(name.0, to) {
+            Ok(_) => Ok(()),
+            Err(_) => Err(NoMemory),
+        }
+    }
+
+    /// The value of a property, `None` exactly where the name is absent.
+    pub(crate) fn get_prop(&self, name: TextNo) -> Option<ValueId>
+        ensures { option_map (λ v. v.0) result ≡ property_at name.0 self.now.properties }
+    {
+        self.properties.get(&name.0).copied()
+    }
+
+    /// Removes a property, and tells whether the name was there. The others keep their order.
+    pub(crate) fn remove_prop(&mut self, name: TextNo) -> bool
+        ensures removed { self.new ≡ without_property name.0 self.old }
+        ensures was { result ≡ is_some (property_at name.0 self.old.properties) }
+    {
+        self.properties.shift_remove(&name.0).is_some()
+    }
+
+    /// How many properties there are.
+    pub(crate) fn name_count(&self) -> usize
+        ensures { result ≡ length self.now.properties }
+    {
+        self.properties.len()
+    }
+
+    /// The name at a place of the order.
+    pub(crate) fn name_at(&self, at: usize) -> TextNo
+        requires { at < length self.now.properties }
+        ensures { option_map (λ p. p.name) (slice_get self.now.properties at) ≡ Some result.0 }
+    {
+        match self.properties.get_index(at) {
+            Some((name, _)) => TextNo(*name),
+            None => unreachable!(),
+        }
+    }
+
+    /// Sets an element, and fills holes up to it.
+    pub(crate) fn set_element(&mut self, at: u32, to: ValueId) -> Result<(), NoMemory>
+        requires { at ≤ 65535 }
+        ensures set { OnOk result (self.new ≡ with_element at to.0 self.old) }
+        ensures err { OnErr result (self.new ≡ self.old) }
+    {
+        let at = at as usize;
+        reach_to(&mut self.elements, at + 1)?;
+        self.elements[at] = Some(to);
+        Ok(())
+    }
+
+    /// The element of an index, `None` exactly at a hole or past the end.
+    pub(crate) fn get_element(&self, at: u32) -> Option<ValueId>
+        ensures { option_map (λ v. v.0) result ≡ element_at at self.now.elements }
+    {
+        match self.elements.get(at as usize) {
+            Some(element) => *element,
+            None => None,
+        }
+    }
+
+    /// How many elements there are, holes counted.
+    pub(crate) fn element_count(&self) -> u32
+        ensures { result ≡ length self.now.elements }
+    {
+        self.elements.len() as u32
+    }
+}
+
+/// Fills a list of elements with holes up to a length.
+fn reach_to(elements: &mut Vec<Option<ValueId>>, count: usize) -> Result<(), NoMemory>
+    ensures filled { OnOk result (elements.new.items ≡ elements.old.items ++ replicate (count - length elements.old.items) None) }
+    ensures err { OnErr result (elements.new.items ≡ elements.old.items) }
+{
+    if count <= elements.len() {
+        return Ok(());
+    }
+    match elements.resize(count, None) {
+        Ok(()) => Ok(()),
+        Err(_) => Err(NoMemory),
+    }
+}

@@ -1,0 +1,15 @@
+//! The values of the environment: a map from numbers to values, each with a body, properties in the order in which their names
+//! were first set, and elements. Contracts see a `Store` as that map, with the numbers that it has issued (`StoreState` in
+//! `napi_types`), and each call by what it changes of the map (`specs/Changes.antt`). A store's state stands for the machine's
+//! value graph. The crates of values, of collection and of the environment stand above it.
+#![tactic(auto)]
+
+mod info;
+mod places;
+mod store;
+#[cfg(test)]
+mod tests;
+
+pub use info::ValueInfo;
+pub use napi_types::Body;
+pub use store::Store;

@@ -1,0 +1,185 @@
+//! The list of a store's values, read and changed by number.
+ghost use Rattle.std.specs.Prelude.{◌≡◌, ℕ, ◌+◌, ◌-◌, ◌<◌, ◌≤◌, ◌++◌, [], ◌∷◌, true, length, slice_get, slice_index_or, is_some, cond, option_map, option_copied, IsSome, OnOk, OnErr, IfOk, Some, None};
+ghost use Rattle.std.specs.List.{All};
+ghost use Rattle.napi_types.specs.Lists.{has_number};
+ghost use Rattle.napi_types.specs.Values.{property_at, element_at, with_property, without_property, with_element};
+ghost use Rattle.value_store.specs.Changes.{numbers_of};
+ghost use Rattle.value_store.specs.Places.{at_number, changed_at, properties_at, elements_at, starting_list, IsCleared};
+
+use crate::ValueInfo;
+use napi_types::{Body, NoMemory, TextNo, ValueId};
+use std::alloc::Global;
+
+/// The starting values.
+pub(crate) fn starting(alloc: Global) -> Result<Vec<Option<ValueInfo>>, NoMemory>
+    ensures { IfOk result (λ values. values.items ≡ starting_list) }
+{
+    let values = [
+        Some(ValueInfo::new(alloc, 1, Body::Undefined)),
+        Some(ValueInfo::new(alloc, 2, Body::Null)),
+        Some(ValueInfo::new(alloc, 3, Body::Boolean(true))),
+        Some(ValueInfo::new(alloc, 4, Body::Boolean(false))),
+        Some(ValueInfo::new(
+            alloc,
+            5,
+            Body::Object {
+                array: false,
+                error: false,
+            },
+        )),
+    ];
+    match Vec::from_array(alloc, values) {
+        Ok(values) => Ok(values),
+        Err(_) => Err(NoMemory),
+    }
+}
+
+/// Adds a value at a new place.
+pub(crate) fn push(values: &mut Vec<Option<ValueInfo>>, value: ValueInfo) -> Result<(), NoMemory>
+    ensures pushed { OnOk result (values.new.items ≡ values.old.items ++ Some value ∷ []) }
+    ensures err { OnErr result (values.new.items ≡ values.old.items) }
+{
+    match values.push(Some(value)) {
+        Ok(()) => Ok(()),
+        Err(_) => Err(NoMemory),
+    }
+}
+
+/// The value of a number.
+pub(crate) fn value_at(values: &[Option<ValueInfo>], number: u64) -> Option<&ValueInfo>
+    ensures { option_copied result ≡ at_number values.now number }
+{
+    match number.checked_sub(1) {
+        Some(place) => value_in(values, place as usize),
+        None => None,
+    }
+}
+
+/// The value at a place.
+pub(crate) fn value_in(values: &[Option<ValueInfo>], place: usize) -> Option<&ValueInfo>
+    ensures { option_copied result ≡ slice_index_or values.now place None }
+{
+    match values.get(place) {
+        Some(value) => value.as_ref(),
+        None => None,
+    }
+}
+
+/// The place of a number.
+pub(crate) fn place_at(number: u64) -> usize
+    requires { 0 < number }
+    ensures { result ≡ number - 1 }
+{
+    (number - 1) as usize
+}
+
+pub(crate) fn set_prop(
+    values: &mut Vec<Option<ValueInfo>>,
+    number: u64,
+    name: TextNo,
+    to: ValueId,
+) -> Result<(), NoMemory>
+    requires { IsSome (at_number values.old.items number) }
+    ensures set { OnOk result (values.new.items ≡ changed_at number (with_property name.0 to.0) values.old.items) }
+    ensures err { OnErr result (values.new.items ≡ values.old.items) }
+{
+    match &mut values[place_at(number)] {
+        Some(value) => value.set_prop(name, to),
+        None => unreachable!(),
+    }
+}
+
+pub(crate) fn get_prop(values: &[Option<ValueInfo>], number: u64, name: TextNo) -> Option<ValueId>
+    ensures { option_map (λ v. v.0) result ≡ property_at name.0 (properties_at number values.now) }
+{
+    match value_at(values, number) {
+        Some(value) => value.get_prop(name),
+        None => None,
+    }
+}
+
+pub(crate) fn remove_prop(values: &mut Vec<Option<ValueInfo>>, number: u64, name: TextNo) -> bool
+    ensures there { IsSome (at_number values.old.items number) → values.new.items ≡ changed_at number (without_property name.0) values.old.items }
+    ensures absent { at_number values.old.items number ≡ None → values.new.items ≡ values.old.items }
+    ensures was_there { result ≡ is_some (property_at name.0 (properties_at number values.old.items)) }
+{
+    if value_at(values, number).is_none() {
+        return false;
+    }
+    remove_prop_there(values, number, name)
+}
+
+fn remove_prop_there(values: &mut Vec<Option<ValueInfo>>, number: u64, name: TextNo) -> bool
+    requires { IsSome (at_number values.old.items number) }
+    ensures removed { values.new.items ≡ changed_at number (without_property name.0) values.old.items }
+    ensures was_there { result ≡ is_some (property_at name.0 (properties_at number values.old.items)) }
+{
+    match &mut values[place_at(number)] {
+        Some(value) => value.remove_prop(name),
+        None => unreachable!(),
+    }
+}
+
+pub(crate) fn name_count(values: &[Option<ValueInfo>], number: u64) -> usize
+    ensures { result ≡ length (properties_at number values.now) }
+{
+    match value_at(values, number) {
+        Some(value) => value.name_count(),
+        None => 0,
+    }
+}
+
+pub(crate) fn name_at(values: &[Option<ValueInfo>], number: u64, at: usize) -> TextNo
+    requires { at < length (properties_at number values.now) }
+    ensures { option_map (λ p. p.name) (slice_get (properties_at number values.now) at) ≡ Some result.0 }
+{
+    match value_at(values, number) {
+        Some(value) => value.name_at(at),
+        None => unreachable!(),
+    }
+}
+
+pub(crate) fn set_element(
+    values: &mut Vec<Option<ValueInfo>>,
+    number: u64,
+    at: u32,
+    to: ValueId,
+) -> Result<(), NoMemory>
+    requires there { IsSome (at_number values.old.items number) }
+    requires index { at ≤ 65535 }
+    ensures set { OnOk result (values.new.items ≡ changed_at number (with_element at to.0) values.old.items) }
+    ensures err { OnErr result (values.new.items ≡ values.old.items) }
+{
+    match &mut values[place_at(number)] {
+        Some(value) => value.set_element(at, to),
+        None => unreachable!(),
+    }
+}
+
+pub(crate) fn get_element(values: &[Option<ValueInfo>], number: u64, at: u32) -> Option<ValueId>
+    ensures { option_map (λ v. v.0) result ≡ element_at at (elements_at number values.now) }
+{
+    match value_at(values, number) {
+        Some(value) => value.get_element(at),
+        None => None,
+    }
+}
+
+pub(crate) fn element_count(values: &[Option<ValueInfo>], number: u64) -> u32
+    ensures { result ≡ length (elements_at number values.now) }
+{
+    match value_at(values, number) {
+        Some(value) => value.element_count(),
+        None => 0,
+    }
+}
+
+/// Empties the places of these numbers.
+pub(crate) fn clear(values: &mut Vec<Option<ValueInfo>>, list: &[ValueId])
+    requires { All (λ n. IsSome (at_number values.old.items n)) (numbers_of list.now) }
+    ensures { IsCleared values.old.items values.new.items (numbers_of list.now) }
+{
+    for id in list {
+        values[place_at(id.0)] = None;
+    }
+}

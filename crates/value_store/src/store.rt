@@ -1,0 +1,182 @@
+//! The store: the values that were made and not freed, each under a number.
+ghost use Rattle.std.specs.Prelude.{◌≡◌, ◌+◌, ◌-◌, ◌<◌, ◌≤◌, ◌^◌, length, slice_get, is_some, option_map, option_copied, IfSome, IfOk, OnOk, OnErr, Some};
+ghost use Rattle.napi_types.specs.Values.{property_at, element_at, with_property, without_property, with_element};
+ghost use Rattle.napi_types.specs.Graph.{value_of, IsLive, IsSound};
+ghost use Rattle.value_store.specs.Changes.{properties_in, elements_in, id_at, numbers_of, IsNew, IsStarting, IsObject, StandsAt, ChangesOnly, Makes, Frees, CanFree};
+
+use crate::{ValueInfo, places};
+use napi_types::{Body, NoMemory, TextNo, ValueId};
+use std::alloc::Global;
+use std::marker::Model;
+
+/// A store of values: a map from numbers to values. A value stays until it is freed, and its number is never issued again.
+#[derive(Drop)]
+pub struct Store {
+    alloc: Global,
+    // The value with the number n stands at n - 1. A place whose value was freed stays empty.
+    values: Vec<Option<ValueInfo>>,
+}
+
+impl Model for Store {
+    ghost use Rattle.napi_types.specs.Graph.{StoreState};
+
+    ghost Value = { StoreState };
+
+    ghost use Rattle.value_store.specs.Places.{state_of, at_number, IsNumbered};
+
+    ghost view = { λ store. state_of store.values.items };
+
+    ghost invariant = { λ store. IsNumbered (at_number store.values.items) };
+}
+
+impl Store {
+    /// A store with the five starting values: undefined, null, true, false and the global object.
+    pub fn new(alloc: Global) -> Result<Store, NoMemory>
+        ensures { IfOk result IsNew }
+    {
+        let values = places::starting(alloc)?;
+        Ok(Store { alloc, values })
+    }
+
+    /// The number of a starting value, in their order from 0: undefined, null, true, false, the global object. Constant time.
+    pub fn starting(&self, which: u32) -> ValueId
+        requires { which < 5 }
+        ensures { IsStarting self.now which result.0 }
+    {
+        // The starting values are never freed, as the store's invariant says.
+        let _ = &self.values;
+        ValueId(u64::from(which) + 1)
+    }
+
+    /// Makes a value with no properties and no elements. Its number was never issued before, and is not 0.
+    ///
+    /// Near constant time: now and then the list of values grows.
+    pub fn make(&mut self, body: Body) -> Result<ValueId, NoMemory>
+        requires { self.old.made + 2 < 2 ^ 48 }
+        ensures made { IfOk result (λ id. Makes self.old self.new id.0 body) }
+        ensures err { OnErr result (self.new ≡ self.old) }
+    {
+        let number = self.values.len() as u64 + 1;
+        let value = ValueInfo::new(self.alloc, number, body);
+        places::push(&mut self.values, value)?;
+        Ok(ValueId(number))
+    }
+
+    /// The value of a number, `None` exactly where no live value has it. Constant time.
+    pub fn get(&self, id: ValueId) -> Option<&ValueInfo>
+        ensures value { option_copied result ≡ value_of self.now id.0 }
+        ensures sound { IsSound self.now }
+    {
+        places::value_at(&self.values, id.0)
+    }
+
+    /// Sets a property: a name that is there keeps its place, and a new one goes last.
+    ///
+    /// Near constant time: now and then the value's map of properties grows.
+    pub fn set_prop(&mut self, id: ValueId, name: TextNo, to: ValueId) -> Result<(), NoMemory>
+        requires object { IsObject self.old id.0 }
+        requires value { IsLive self.old to.0 }
+        ensures set { OnOk result (ChangesOnly self.old self.new id.0 (with_property name.0 to.0)) }
+        ensures err { OnErr result (self.new ≡ self.old) }
+    {
+        places::set_prop(&mut self.values, id.0, name, to)
+    }
+
+    /// The value of a property, `None` exactly where the name is absent. Near constant time.
+    pub fn get_prop(&self, id: ValueId, name: TextNo) -> Option<ValueId>
+        ensures value { option_map (λ v. v.0) result ≡ property_at name.0 (properties_in self.now id.0) }
+        ensures live { IfSome result (λ v. IsLive self.now v.0) }
+    {
+        places::get_prop(&self.values, id.0, name)
+    }
+
+    /// Removes a property, and tells whether its name was there. The others keep their order.
+    ///
+    /// The time grows with the number of the value's properties.
+    pub fn remove_prop(&mut self, id: ValueId, name: TextNo) -> bool
+        ensures removed { ChangesOnly self.old self.new id.0 (without_property name.0) }
+        ensures was_there { result ≡ is_some (property_at name.0 (properties_in self.old id.0)) }
+    {
+        places::remove_prop(&mut self.values, id.0, name)
+    }
+
+    /// How many properties a value has. Constant time.
+    pub fn name_count(&self, id: ValueId) -> usize
+        ensures { result ≡ length (properties_in self.now id.0) }
+    {
+        places::name_count(&self.values, id.0)
+    }
+
+    /// The name of a property, at a place in the order in which the names were first set. Constant time.
+    pub fn name_at(&self, id: ValueId, at: usize) -> TextNo
+        requires { at < length (properties_in self.now id.0) }
+        ensures { option_map (λ p. p.name) (slice_get (properties_in self.now id.0) at) ≡ Some result.0 }
+    {
+        places::name_at(&self.values, id.0, at)
+    }
+
+    /// Sets an element. Holes fill what lies between the end and a later index.
+    ///
+    /// Near constant time, beside the holes that it fills; now and then the list of elements grows.
+    pub fn set_element(&mut self, id: ValueId, at: u32, to: ValueId) -> Result<(), NoMemory>
+        requires named { IsLive self.old id.0 }
+        requires value { IsLive self.old to.0 }
+        requires index { at ≤ 65535 }
+        ensures set { OnOk result (ChangesOnly self.old self.new id.0 (with_element at to.0)) }
+        ensures err { OnErr result (self.new ≡ self.old) }
+    {
+        places::set_element(&mut self.values, id.0, at, to)
+    }
+
+    /// The element of an index, `None` exactly at a hole or past the end. Constant time.
+    pub fn get_element(&self, id: ValueId, at: u32) -> Option<ValueId>
+        ensures value { option_map (λ v. v.0) result ≡ element_at at (elements_in self.now id.0) }
+        ensures live { IfSome result (λ v. IsLive self.now v.0) }
+    {
+        places::get_element(&self.values, id.0, at)
+    }
+
+    /// How many elements a value has, holes counted. Constant time.
+    pub fn element_count(&self, id: ValueId) -> u32
+        ensures { result ≡ length (elements_in self.now id.0) }
+    {
+        places::element_count(&self.values, id.0)
+    }
+
+    /// Frees values. They are distinct and live, none is a starting value, and no other value names one of them.
+    ///
+    /// The time grows with the list and with what the freed values hold. It takes no memory.
+    pub fn free(&mut self, list: &[ValueId])
+        requires { CanFree self.old (numbers_of list.now) }
+        ensures { Frees self.old self.new (numbers_of list.now) }
+    {
+        places::clear(&mut self.values, list)
+    }
+
+    /// How many places there are. Each live value stands at one.
+    pub fn places(&self) -> usize
+        ensures { result ≡ length self.now.places }
+    {
+        self.values.len()
+    }
+
+    /// The value at a place, `None` exactly where no live value stands there. Constant time.
+    pub fn at_place(&self, place: usize) -> Option<ValueId>
+        requires { place < length self.now.places }
+        ensures value { option_map (λ v. v.0) result ≡ id_at self.now place }
+        ensures live { IfSome result (λ v. IsLive self.now v.0) }
+    {
+        let value = places::value_in(&self.values, place)?;
+        Some(ValueId(value.number()))
+    }
+
+    /// The place where a value stands. Constant time.
+    pub fn place_of(&self, id: ValueId) -> usize
+        requires { IsLive self.now id.0 }
+        ensures { StandsAt self.now id.0 result }
+    {
+        // A live value has a place, as the store's invariant says.
+        let _ = &self.values;
+        places::place_at(id.0)
+    }
+}

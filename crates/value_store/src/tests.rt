@@ -1,0 +1,119 @@
+//! Each call where there is memory, which no contract can promise.
+ghost use Rattle.std.specs.Prelude.{◌≡◌, ◌≤◌, IfOk, Ok};
+ghost use Rattle.napi_types.specs.Values.{is_object_like as has_properties};
+
+use super::{Body, Store};
+use napi_types::{NoMemory, TextNo, ValueId};
+use std::process::Abort;
+use std::test::Fail;
+
+const PLAIN: Body = Body::Object {
+    array: false,
+    error: false,
+};
+
+/// What was made where there was memory.
+fn ample<T>(outcome: Result<T, NoMemory>) -> Result<T, Fail>
+    ensures { IfOk result (λ value. outcome ≡ Ok value) }
+{
+    match outcome {
+        Ok(value) => Ok(value),
+        Err(NoMemory) => Err(Fail::new("there is no memory")),
+    }
+}
+
+fn is_object_like(body: Body) -> bool
+    ensures { result ≡ has_properties body }
+{
+    match body {
+        Body::Object { .. } | Body::Function { .. } => true,
+        _ => false,
+    }
+}
+
+/// Sets a property, where the store allows it.
+fn set(
+    rt: &impl Abort,
+    store: &mut Store,
+    object: ValueId,
+    name: u32,
+    to: ValueId,
+) -> Result<(), Fail> {
+    let settable = match store.get(object) {
+        Some(value) => is_object_like(value.body()),
+        None => false,
+    };
+    assert!(rt; settable);
+    assert!(rt; store.get(to).is_some());
+    ample(store.set_prop(object, TextNo(name), to))
+}
+
+fn set_at(
+    rt: &impl Abort,
+    store: &mut Store,
+    object: ValueId,
+    at: u32,
+    to: ValueId,
+) -> Result<(), Fail>
+    requires { at ≤ 65535 }
+{
+    assert!(rt; store.get(object).is_some());
+    assert!(rt; store.get(to).is_some());
+    ample(store.set_element(object, at, to))
+}
+
+#[test]
+fn names_keep_their_order(rt: HostRuntime) -> Result<(), Fail> {
+    let mut store = ample(Store::new(rt.alloc()))?;
+    let object = ample(store.make(PLAIN))?;
+    let undefined = store.starting(0);
+    let global = store.starting(4);
+    for (name, to) in [(7, undefined), (3, undefined), (9, undefined), (7, global)] {
+        set(&rt, &mut store, object, name, to)?;
+    }
+    assert!(rt; store.remove_prop(object, TextNo(3)));
+    assert!(rt; !store.remove_prop(object, TextNo(3)));
+    set(&rt, &mut store, object, 3, global)?;
+    assert_eq!(rt; store.name_count(object), 3);
+    for (at, name) in [7, 9, 3].into_iter().enumerate() {
+        assert_eq!(rt; store.name_at(object, at).0, name);
+    }
+    let set_again = store.get_prop(object, TextNo(7));
+    assert!(rt; matches!(set_again, Some(value) if value.0 == global.0));
+    assert!(rt; store.get_prop(object, TextNo(8)).is_none());
+    Ok(())
+}
+
+#[test]
+fn elements_have_holes(rt: HostRuntime) -> Result<(), Fail> {
+    let mut store = ample(Store::new(rt.alloc()))?;
+    let global = store.starting(4);
+    let null = store.starting(1);
+    set_at(&rt, &mut store, global, 2, null)?;
+    set_at(&rt, &mut store, global, 0, null)?;
+    assert_eq!(rt; store.element_count(global), 3);
+    for (at, is_set) in [(0, true), (1, false), (2, true), (3, false)] {
+        assert_eq!(rt; store.get_element(global, at).is_some(), is_set);
+    }
+    Ok(())
+}
+
+#[test]
+fn a_number_is_never_given_again(rt: HostRuntime) -> Result<(), Fail> {
+    let mut store = ample(Store::new(rt.alloc()))?;
+    assert!(rt; store.get(store.starting(0)).is_some());
+    let freed = ample(store.make(Body::Number(7)))?;
+    store.free(&[freed]);
+    assert!(rt; store.get(freed).is_none());
+    let next = ample(store.make(Body::Number(7)))?;
+    assert!(rt; next.0 != freed.0);
+    let mut standing: usize = 0;
+    for place in 0..store.places() {
+        if let Some(id) = store.at_place(place) {
+            assert_eq!(rt; store.place_of(id), place);
+            standing += 1;
+        }
+    }
+    assert_eq!(rt; standing, 6);
+    Ok(())
+}
