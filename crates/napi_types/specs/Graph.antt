@@ -32,11 +32,15 @@ IsLive s id = IsSome (value_of s id)
 abbrev pub creation_number : StoreState → ℕ → Option ℕ
 creation_number s id = option_map (λ v. v.number) (value_of s id)
 
+-- the same, 0 where no live value has the number; creation numbers count from 1
+abbrev pub number_in : StoreState → ℕ → ℕ
+number_in s id = unwrap_or (creation_number s id) 0
+
 -- a value, named by creation numbers instead of the store's
 abbrev pub renamed : StoreState → Value → Value
 renamed s v = record v {
-  properties = map (λ (p : Property). record p { value = unwrap_or (creation_number s p.value) 0 }) v.properties;
-  elements = map (option_map (λ (m : ℕ). unwrap_or (creation_number s m) 0)) v.elements;
+  properties = map (λ (p : Property). record p { value = number_in s p.value }) v.properties;
+  elements = map (option_map (number_in s)) v.elements;
 }
 
 -- the value graph that a store's state stands for: its live values in the order in which they were made, each under its creation number

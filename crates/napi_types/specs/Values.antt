@@ -99,3 +99,7 @@ without_property name v = record v { properties = property_removed name v.proper
 
 abbrev pub with_element : ℕ → ℕ → Value → Value
 with_element at to v = record v { elements = element_set at to v.elements }
+
+-- the values with the one of a number changed so
+abbrev pub value_changed : ℕ → (Value → Value) → List Value → List Value
+value_changed n change vs = map (λ v. cond (v.number == n) (change v) v) vs

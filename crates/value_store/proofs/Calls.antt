@@ -57,7 +57,7 @@ good-element ps k at to all there new =
       closed = children-with_element (λ m. IsSome (at_number ps m)) at to v.0 new (all.closed k v.0 v.1);
     }
 
-good-removal : (ps : List (Option Value)) (k name : ℕ) → IsNumbered (at_number ps) → (v : Value) → at_number ps k ≡ Some v → IsGoodChange ps k (without_property name)
+pub good-removal : (ps : List (Option Value)) (k name : ℕ) → IsNumbered (at_number ps) → (v : Value) → at_number ps k ≡ Some v → IsGoodChange ps k (without_property name)
 good-removal ps k name all v is = record {
   from = v;
   is = is;

@@ -6,11 +6,11 @@ use Rattle.napi_types.specs.Lists.{found}
 use Rattle.napi_types.specs.Values.{Value, Property, property_set, property_removed, property_at, element_at, element_set, children, with_property, without_property, with_element}
 
 module _ (P : ℕ → Type 0) where
-  left : (xs ys : List ℕ) → All P (xs ++ ys) → All P xs
+  pub left : (xs ys : List ℕ) → All P (xs ++ ys) → All P xs
   left [] ys h = All-nil P
   left (x ∷ xs) ys h = All-cons P x xs (All-head P x (xs ++ ys) h) (left xs ys (All-tail P x (xs ++ ys) h))
 
-  right : (xs ys : List ℕ) → All P (xs ++ ys) → All P ys
+  pub right : (xs ys : List ℕ) → All P (xs ++ ys) → All P ys
   right [] ys h = h
   right (x ∷ xs) ys h = right xs ys (All-tail P x (xs ++ ys) h)
 
@@ -30,7 +30,7 @@ module _ (P : ℕ → Type 0) where
       by rest true = All-cons P p.value (map (λ q. q.value) (property_removed name ps)) (All-head P p.value (map (λ q. q.value) ps) h) rest
       by rest false = rest
 
-  to_options : (es : List (Option ℕ)) → All P (filter_map (λ e. e) es) → All (λ e. IfSome e P) es
+  pub to_options : (es : List (Option ℕ)) → All P (filter_map (λ e. e) es) → All (λ e. IfSome e P) es
   to_options [] h = All-nil (λ e. IfSome e P)
   to_options (None ∷ es) h = All-cons (λ e. IfSome e P) None es tt (to_options es h)
   to_options (Some x ∷ es) h = All-cons (λ e. IfSome e P) (Some x) es (All-head P x (filter_map (λ e. e) es) h) (to_options es (All-tail P x (filter_map (λ e. e) es) h))

@@ -3,6 +3,8 @@ pub mod Calls
 pub mod Children
 pub mod Clearing
 pub mod Elements
+pub mod GraphCalls
+pub mod Graphs
 pub mod Lookup
 pub mod Names
 pub mod Properties

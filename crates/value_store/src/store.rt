@@ -1,7 +1,8 @@
 //! The store: the values that were made and not freed, each under a number.
-ghost use Rattle.std.specs.Prelude.{◌≡◌, ◌+◌, ◌-◌, ◌<◌, ◌≤◌, ◌^◌, length, slice_get, is_some, option_map, option_copied, IfSome, IfOk, OnOk, OnErr, Some};
-ghost use Rattle.napi_types.specs.Values.{property_at, element_at, with_property, without_property, with_element};
-ghost use Rattle.napi_types.specs.Graph.{value_of, IsLive, IsSound};
+ghost use Rattle.std.specs.Prelude.{◌≡◌, ◌+◌, ◌-◌, ◌<◌, ◌≤◌, ◌^◌, ◌++◌, [], ◌∷◌, not, filter, map, length, slice_get, is_some, option_map, option_copied, IfSome, IfOk, OnOk, OnErr, Some};
+ghost use Rattle.napi_types.specs.Lists.{has_number};
+ghost use Rattle.napi_types.specs.Values.{value_at, value_changed, fresh_value, property_at, element_at, with_property, without_property, with_element};
+ghost use Rattle.napi_types.specs.Graph.{value_of, number_in, renamed, graph_of, IsLive, IsSound};
 ghost use Rattle.value_store.specs.Changes.{properties_in, elements_in, id_at, numbers_of, IsNew, IsStarting, IsObject, StandsAt, ChangesOnly, Makes, Frees, CanFree};
 
 use crate::{ValueInfo, places};
@@ -54,6 +55,7 @@ impl Store {
     pub fn make(&mut self, body: Body) -> Result<ValueId, NoMemory>
         requires { self.old.made + 2 < 2 ^ 48 }
         ensures made { IfOk result (λ id. Makes self.old self.new id.0 body) }
+        ensures graph { OnOk result (graph_of self.new ≡ graph_of self.old ++ fresh_value (self.old.made + 1) body ∷ []) }
         ensures err { OnErr result (self.new ≡ self.old) }
     {
         let number = self.values.len() as u64 + 1;
@@ -65,6 +67,7 @@ impl Store {
     /// The value of a number, `None` exactly where no live value has it. Constant time.
     pub fn get(&self, id: ValueId) -> Option<&ValueInfo>
         ensures value { option_copied result ≡ value_of self.now id.0 }
+        ensures graph { value_at (graph_of self.now) (number_in self.now id.0) ≡ option_map (renamed self.now) (value_of self.now id.0) }
         ensures sound { IsSound self.now }
     {
         places::value_at(&self.values, id.0)
@@ -77,6 +80,7 @@ impl Store {
         requires object { IsObject self.old id.0 }
         requires value { IsLive self.old to.0 }
         ensures set { OnOk result (ChangesOnly self.old self.new id.0 (with_property name.0 to.0)) }
+        ensures graph { OnOk result (graph_of self.new ≡ value_changed (number_in self.old id.0) (with_property name.0 (number_in self.old to.0)) (graph_of self.old)) }
         ensures err { OnErr result (self.new ≡ self.old) }
     {
         places::set_prop(&mut self.values, id.0, name, to)
@@ -95,6 +99,7 @@ impl Store {
     /// The time grows with the number of the value's properties.
     pub fn remove_prop(&mut self, id: ValueId, name: TextNo) -> bool
         ensures removed { ChangesOnly self.old self.new id.0 (without_property name.0) }
+        ensures graph { graph_of self.new ≡ value_changed (number_in self.old id.0) (without_property name.0) (graph_of self.old) }
         ensures was_there { result ≡ is_some (property_at name.0 (properties_in self.old id.0)) }
     {
         places::remove_prop(&mut self.values, id.0, name)
@@ -123,6 +128,7 @@ impl Store {
         requires value { IsLive self.old to.0 }
         requires index { at ≤ 65535 }
         ensures set { OnOk result (ChangesOnly self.old self.new id.0 (with_element at to.0)) }
+        ensures graph { OnOk result (graph_of self.new ≡ value_changed (number_in self.old id.0) (with_element at (number_in self.old to.0)) (graph_of self.old)) }
         ensures err { OnErr result (self.new ≡ self.old) }
     {
         places::set_element(&mut self.values, id.0, at, to)
@@ -148,7 +154,8 @@ impl Store {
     /// The time grows with the list and with what the freed values hold. It takes no memory.
     pub fn free(&mut self, list: &[ValueId])
         requires { CanFree self.old (numbers_of list.now) }
-        ensures { Frees self.old self.new (numbers_of list.now) }
+        ensures freed { Frees self.old self.new (numbers_of list.now) }
+        ensures graph { graph_of self.new ≡ filter (λ v. not (has_number v.number (map (number_in self.old) (numbers_of list.now)))) (graph_of self.old) }
     {
         places::clear(&mut self.values, list)
     }

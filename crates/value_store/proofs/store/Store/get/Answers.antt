@@ -1,5 +1,6 @@
 use Rattle.std.proofs.Common.{◌∙◌, sym}
 use Rattle.value_store.proofs.Reading.{value_of-view, sound-view}
+use Rattle.value_store.proofs.GraphCalls.{value-graph}
 use Rattle.value_store.proofs.store.Store.get.Goals as goal
 
 pub returns-clause-value : goal.returns-clause-value
@@ -7,3 +8,6 @@ returns-clause-value c = (rw c.deref.ensures.value at c.value_at.ensures) ∙ sy
 
 pub returns-clause-sound : goal.returns-clause-sound
 returns-clause-sound c = sound-view c.self.inside.values.items c.args.self.now c.self.view_is c.self.invariant
+
+pub returns-clause-graph : goal.returns-clause-graph
+returns-clause-graph c = value-graph c.self.inside.values.items c.self.inside.values.items c.args.self.now c.self.view_is c.self.invariant c.args.id.0

@@ -2,6 +2,7 @@ use Rattle.std.proofs.Common.{◌∙◌, sym, ap, is_some}
 use Rattle.napi_types.specs.Values.{property_at}
 use Rattle.value_store.proofs.Calls.{removed-numbered, removed-only}
 use Rattle.value_store.proofs.Reading.{properties_in-view}
+use Rattle.value_store.proofs.GraphCalls.{removed-graph}
 use Rattle.value_store.proofs.store.Store.remove_prop.Goals as goal
 
 pub invariant_of-self : goal.invariant_of-self
@@ -12,3 +13,6 @@ returns-clause-removed c = removed-only c.self.inside.values.items c.remove_prop
 
 pub returns-clause-was_there : goal.returns-clause-was_there
 returns-clause-was_there c = c.remove_prop.ensures.was_there ∙ ap (λ ps. is_some (property_at c.args.name.0 ps)) (sym (properties_in-view c.self.inside.values.items c.args.self.now c.self.view_is c.self.invariant c.args.id.0))
+
+pub returns-clause-graph : goal.returns-clause-graph
+returns-clause-graph c = removed-graph c.self.inside.values.items c.remove_prop.new.values.items c.args.self.now c.self.view_is c.self.invariant c.args.id.0 c.args.name.0 c.remove_prop.ensures.there c.remove_prop.ensures.absent

@@ -1,0 +1,81 @@
+-- What the calls that change a store do to its value graph.
+use Rattle.std.proofs.Common.{◌≡◌, ℕ, zero, suc, ◌+◌, ◌-◌, List, [], ◌∷◌, ◌++◌, map, filter, not, length, Option, Some, None, IsSome, option_map, refl, ap, sym, subst, ◌∙◌, arith}
+use Rattle.std.specs.List.{All}
+use Rattle.std.specs.Option.{unwrap_or}
+use Rattle.std.proofs.lemmas.List.Elements.{All-head, All-tail, filter_map-append}
+use Rattle.napi_types.specs.declared.body.Body.{Body}
+use Rattle.napi_types.specs.Lists.{has_number}
+use Rattle.napi_types.specs.Values.{Value, value_at, value_changed, fresh_value, with_property, without_property, with_element}
+use Rattle.napi_types.specs.Graph.{StoreState, value_of, number_in, renamed, graph_of}
+use Rattle.value_store.specs.Changes.{CanFree}
+use Rattle.value_store.specs.Places.{state_of, at_number, changed_at, IsNumbered, IsCleared}
+use Rattle.value_store.proofs.Lookup.{value_of-state_of}
+use Rattle.value_store.proofs.States.{IsGoodChange, changed-numbered}
+use Rattle.value_store.proofs.Calls.{good-property, good-element, good-removal, made-numbered, cleared-numbered}
+use Rattle.value_store.proofs.Graphs.{standing, number-is, graph-is, graph-at, renamed-at, standing-changed, standing-cleared, unchanged-none}
+
+set-is : (ps : List (Option Value)) (k : ℕ) (change : Value → Value) (v : Value) → IsNumbered (at_number ps) → at_number ps k ≡ Some v → standing (changed_at k change ps) ≡ value_changed k change (standing ps)
+set-is ps zero change v all is = let no : ⊥ = cc in absurd no
+set-is ps (suc p) change v all is =
+    let place : suc p - 1 ≡ p = omega arith in
+    rw (is, place) (standing-changed ps p change v all is)
+
+-- a change of one value is one of the graph
+pub changed-graph : (ps qs : List (Option Value)) (s : StoreState) (k : ℕ) (change : Value → Value) → state_of ps ≡ s → IsNumbered (at_number ps) → IsGoodChange ps k change → qs ≡ changed_at k change ps → graph_of (state_of qs) ≡ value_changed k change (graph_of s)
+changed-graph ps qs s k change view all good is =
+    ap (λ l. graph_of (state_of l)) is ∙ graph-is (changed_at k change ps) (changed-numbered ps k change all good) ∙ set-is ps k change good.from all good.is
+    ∙ ap (value_changed k change) (sym (graph-is ps all) ∙ ap graph_of view)
+
+module _ (ps qs : List (Option Value)) (s : StoreState) (view : state_of ps ≡ s) (all : IsNumbered (at_number ps)) where
+  number-view : (n : ℕ) → IsSome (at_number ps n) → number_in s n ≡ n
+  number-view n some = subst (λ (t : StoreState). number_in t n ≡ n) view (number-is ps all n some)
+
+  pub property-graph : (k name to : ℕ) → IsSome (at_number ps k) → IsSome (at_number ps to) → qs ≡ changed_at k (with_property name to) ps
+      → graph_of (state_of qs) ≡ value_changed (number_in s k) (with_property name (number_in s to)) (graph_of s)
+  property-graph k name to there new is =
+      rw (number-view k there, number-view to new) (changed-graph ps qs s k (with_property name to) view all (good-property ps k name to all there new) is)
+
+  pub element-graph : (k at to : ℕ) → IsSome (at_number ps k) → IsSome (at_number ps to) → qs ≡ changed_at k (with_element at to) ps
+      → graph_of (state_of qs) ≡ value_changed (number_in s k) (with_element at (number_in s to)) (graph_of s)
+  element-graph k at to there new is =
+      rw (number-view k there, number-view to new) (changed-graph ps qs s k (with_element at to) view all (good-element ps k at to all there new) is)
+
+  none-in : (k : ℕ) → at_number ps k ≡ None → number_in s k ≡ 0
+  none-in k is = subst (λ (t : StoreState). number_in t k ≡ 0) view (ap (λ (o : Option Value). unwrap_or (option_map (λ v. v.number) o) 0) (value_of-state_of ps all.numbered k ∙ is))
+
+  pub removed-graph : (k name : ℕ) → (IsSome (at_number ps k) → qs ≡ changed_at k (without_property name) ps) → (at_number ps k ≡ None → qs ≡ ps) → graph_of (state_of qs) ≡ value_changed (number_in s k) (without_property name) (graph_of s)
+  removed-graph k name there absent = by (at_number ps k) refl
+    where
+      by : (o : Option Value) → at_number ps k ≡ o → graph_of (state_of qs) ≡ value_changed (number_in s k) (without_property name) (graph_of s)
+      by None is = rw (none-in k is) (ap (λ l. graph_of (state_of l)) (absent is) ∙ graph-is ps all ∙ sym (unchanged-none ps (without_property name) all) ∙ ap (value_changed 0 (without_property name)) (sym (graph-is ps all) ∙ ap graph_of view))
+      by (Some v) is = let some : IsSome (at_number ps k) = rw is refl in rw (number-view k some) (changed-graph ps qs s k (without_property name) view all (good-removal ps k name all v is) (there some))
+
+  pub made-graph : (b : Body) → qs ≡ ps ++ Some (fresh_value (length ps + 1) b) ∷ [] → graph_of (state_of qs) ≡ graph_of s ++ fresh_value (s.made + 1) b ∷ []
+  made-graph b is =
+      let w : Value = fresh_value (length ps + 1) b in
+      let many : length ps ≡ s.made = ap (λ (t : StoreState). t.made) view in
+      ap (λ l. graph_of (state_of l)) is ∙ graph-is (ps ++ Some (fresh_value (length ps + 1) b) ∷ []) (made-numbered ps b all)
+      ∙ filter_map-append (λ (place : Option Value). place) ps (Some (fresh_value (length ps + 1) b) ∷ [])
+      ∙ ap (λ g. g ++ fresh_value (length ps + 1) b ∷ []) (sym (graph-is ps all) ∙ ap graph_of view)
+      ∙ ap (λ n. graph_of s ++ fresh_value (n + 1) b ∷ []) many
+
+  numbers-view : (ids : List ℕ) → All (λ n. IsSome (at_number ps n)) ids → map (number_in s) ids ≡ ids
+  numbers-view [] h = refl
+  numbers-view (n ∷ ids) h =
+      ap (λ m. m ∷ map (number_in s) ids) (number-view n (All-head (λ n. IsSome (at_number ps n)) n ids h)) ∙ ap (λ l. n ∷ l) (numbers-view ids (All-tail (λ n. IsSome (at_number ps n)) n ids h))
+
+  pub freed-graph : (ids : List ℕ) → CanFree (state_of ps) ids → All (λ n. IsSome (at_number ps n)) ids → IsCleared ps qs ids → graph_of (state_of qs) ≡ filter (λ v. not (has_number v.number (map (number_in s) ids))) (graph_of s)
+  freed-graph ids can live gone =
+      rw (numbers-view ids live) (graph-is qs (cleared-numbered ps qs ids all can gone) ∙ standing-cleared ps qs ids all gone ∙ ap (filter (λ v. not (has_number v.number ids))) (sym (graph-is ps all) ∙ ap graph_of view))
+
+  -- the graph has at a live value's creation number that value
+  pub value-graph : (n : ℕ) → value_at (graph_of s) (number_in s n) ≡ option_map (renamed s) (value_of s n)
+  value-graph n = subst (λ (t : StoreState). value_at (graph_of t) (number_in t n) ≡ option_map (renamed t) (value_of t n)) view (by (at_number ps n) refl)
+    where
+      by : (o : Option Value) → at_number ps n ≡ o → value_at (graph_of (state_of ps)) (number_in (state_of ps) n) ≡ option_map (renamed (state_of ps)) (value_of (state_of ps) n)
+      by None is =
+          let nothing : value_of (state_of ps) n ≡ None = value_of-state_of ps all.numbered n ∙ is in
+          ap (value_at (graph_of (state_of ps))) (ap (λ (o : Option Value). unwrap_or (option_map (λ v. v.number) o) 0) nothing) ∙ graph-at ps all 0 ∙ sym (ap (option_map (renamed (state_of ps))) nothing)
+      by (Some v) is =
+          let some : IsSome (at_number ps n) = rw is refl in
+          ap (value_at (graph_of (state_of ps))) (number-is ps all n some) ∙ graph-at ps all n ∙ sym (renamed-at ps all (at_number ps n) (all.closed n)) ∙ ap (option_map (renamed (state_of ps))) (sym (value_of-state_of ps all.numbered n))
