@@ -1,11 +1,10 @@
 -- Laws on values that were made one after another.
-use Rattle.std.proofs.Common.{◌≡◌, ◌<◌, ℕ, zero, suc, ◌+◌, ◌==◌, Bool, true, false, cond, List, [], ◌∷◌, ◌++◌, length, refl, ap, ◌∙◌, Some, option_map, slice_get, arith, not, add-one}
+use Rattle.std.proofs.Common.{◌≡◌, ◌<◌, ℕ, zero, suc, ◌+◌, ◌==◌, Bool, true, false, cond, List, [], ◌∷◌, ◌++◌, length, refl, ap, ◌∙◌, Some, option_map, slice_get, arith}
 use Rattle.std.specs.Option.{unwrap_or}
 use Rattle.napi_types.specs.declared.body.Body.{Body}
 use Rattle.napi_types.specs.declared.body.Body.TheVariants as body
-use Rattle.napi_types.specs.Lists.{has_number}
 use Rattle.napi_types.specs.Values.{Value, fresh_value, value_at, body_of}
-use Rattle.env_core.specs.State.{numbered, down_from}
+use Rattle.env_core.specs.State.{numbered}
 
 -- one value more has the next number
 pub numbered-append : (n : ℕ) (bs : List Body) (b : Body) → numbered n (bs ++ b ∷ []) ≡ numbered n bs ++ fresh_value (n + length bs) b ∷ []
@@ -31,25 +30,3 @@ body-numbered n (b ∷ bs) (suc i) k e = body-first n b (numbered (n + 1) bs) k 
 pub body-below : (n : ℕ) (bs : List Body) (k : ℕ) → k < n → body_of (numbered n bs) k ≡ body.Undefined
 body-below n [] k h = refl
 body-below n (b ∷ bs) k h = body-first n b (numbered (n + 1) bs) k false (grind arith) ∙ body-below (n + 1) bs k (omega arith)
-
-pub length-down_from : (n : ℕ) → length (down_from n) ≡ n
-length-down_from zero = refl
-length-down_from (suc n) = ap suc (length-down_from n)
-
--- a number above those that were given is none of them
-pub fresh-down_from : (m n : ℕ) → n < m → has_number m (down_from n) ≡ false
-fresh-down_from m zero h = refl
-fresh-down_from m (suc n) h = rw (different m n h) (fresh-down_from m n (omega arith))
-  where
-    different : (m n : ℕ) → suc n < m → (suc n == m) ≡ false
-    different m n h = grind arith
-
--- the number after those that were given is fresh
-pub fresh_number : (n : ℕ) → not (has_number (n + 1) (0 ∷ down_from n)) ≡ true
-fresh_number n = rw (apart n, fresh-down_from (n + 1) n (omega arith)) refl
-  where
-    apart : (n : ℕ) → (0 == n + 1) ≡ false
-    apart n = grind arith
-
-pub down_from-more : (n : ℕ) → down_from (n + 1) ≡ (n + 1) ∷ down_from n
-down_from-more n = rw add-one refl

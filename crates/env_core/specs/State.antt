@@ -1,5 +1,5 @@
 -- The environment's state as the machine sees it.
-use Rattle.std.specs.Prelude.{◌≡◌, ℕ, zero, suc, ◌+◌, List, [], ◌∷◌, Option, Some, None, IsTrue}
+use Rattle.std.specs.Prelude.{◌≡◌, ℕ, ◌+◌, List, [], ◌∷◌, Option, Some, None, IsTrue}
 use Rattle.napi_types.specs.declared.body.Body.{Body}
 use Rattle.napi_types.specs.declared.call.Call.{Call}
 use Rattle.napi_types.specs.declared.entry.Entry.{Entry}
@@ -14,11 +14,6 @@ use Rattle.napi_types.specs.Changes.{called, number_of, is_fresh}
 abbrev pub numbered : ℕ → List Body → List Value
 numbered n [] = []
 numbered n (b ∷ bs) = fresh_value n b ∷ numbered (n + 1) bs
-
--- the numbers from n down to 1
-abbrev pub down_from : ℕ → List ℕ
-down_from zero = []
-down_from (suc n) = suc n ∷ down_from n
 
 -- the frames, where at most one stands
 abbrev pub standing : Option Frame → List Frame

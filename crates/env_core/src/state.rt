@@ -46,7 +46,8 @@ impl Model for State {
     ghost Value = { Environment };
 
     ghost use Rattle.std.specs.Prelude.{length};
-    ghost use Rattle.env_core.specs.State.{numbered, down_from, standing};
+    ghost use Rattle.napi_types.specs.Lists.{down_from};
+    ghost use Rattle.env_core.specs.State.{numbered, standing};
 
     ghost view = { λ state. record {
       addons = state.addons;

@@ -1,4 +1,3 @@
-pub mod Fresh
 pub mod Lookups
 pub mod Marks
 pub mod Numbers

@@ -1,5 +1,5 @@
 -- The handle scopes as the machine sees them, and what each call makes of them.
-use Rattle.std.specs.Prelude.{ℕ, zero, suc, ◌+◌, Bool, not, List, [], ◌∷◌}
+use Rattle.std.specs.Prelude.{ℕ, ◌+◌, Bool, not, List, [], ◌∷◌}
 use Rattle.napi_types.specs.Lists.{has_number, first_changed, tail}
 use Rattle.napi_types.specs.Scopes.{FrameScopes, no_handles, hold_in, open_in, close_in}
 
@@ -41,8 +41,3 @@ handle_issued v s = record s { frames = first_changed (hold_in (record { handle 
 -- a scope number is above 0 and was never issued
 abbrev pub is_fresh : ℕ → HandleScopes → Bool
 is_fresh n s = not (has_number n (0 ∷ s.scope_numbers))
-
--- the numbers from n down to 1
-abbrev pub down_from : ℕ → List ℕ
-down_from zero = []
-down_from (suc n) = suc n ∷ down_from n

@@ -64,7 +64,7 @@ impl Model for Scopes {
     ghost Value = { HandleScopes };
 
     ghost use Rattle.std.specs.Prelude.{vec_capacity};
-    ghost use Rattle.handle_scope.specs.HandleScopes.{down_from};
+    ghost use Rattle.napi_types.specs.Lists.{down_from};
     ghost use Rattle.handle_scope.specs.Marks.{frames_of, IsStack};
 
     ghost view = { λ s. record {

@@ -2,6 +2,7 @@ pub mod Answers
 pub mod Asks
 pub mod Cutting
 pub mod Fronts
+pub mod Issued
 pub mod Misses
 pub mod Rooms
 pub mod Runs

@@ -1,5 +1,5 @@
 -- Words on lists and options that the other definitions are told by. A finite map is a list of records, each found by its number.
-use Rattle.std.specs.Prelude.{ℕ, ◌==◌, Bool, true, false, List, [], ◌∷◌, Option, Some, None, find}
+use Rattle.std.specs.Prelude.{ℕ, zero, suc, ◌==◌, Bool, true, false, List, [], ◌∷◌, Option, Some, None, find}
 use Rattle.std.specs.List.{list_any}
 use Rattle.napi_types.specs.declared.status.Status.{Status}
 
@@ -14,6 +14,11 @@ has number n xs = list_any (λ x. number x == n) xs
 -- the number is in the list
 abbrev pub has_number : ℕ → List ℕ → Bool
 has_number n xs = has (λ m. m) n xs
+
+-- the numbers from n down to 1
+abbrev pub down_from : ℕ → List ℕ
+down_from zero = []
+down_from (suc n) = suc n ∷ down_from n
 
 -- the list of one element
 abbrev pub one : {A : Type 0} → A → List A

@@ -6,17 +6,18 @@ use Rattle.std.specs.List.{All}
 use Rattle.std.proofs.lemmas.List.Elements.{All-nil, All-head, All-tail}
 use borrow.Author.Tests.{eqb-true}
 use Rattle.napi_types.specs.declared.body.Body.{Body}
-use Rattle.napi_types.specs.Lists.{has_number}
+use Rattle.napi_types.specs.Lists.{has_number, down_from}
 use Rattle.napi_types.specs.Values.{Value, HasDistinctNames, fresh_value, children, with_property, without_property, with_element}
 use Rattle.napi_types.specs.Graph.{StoreState, value_of, creation_number}
-use Rattle.value_store.specs.Places.{down_from, state_of, at_number, changed_at, IsNumbered, IsCleared}
+use Rattle.napi_types.proofs.Issued.{above-down_from}
+use Rattle.value_store.specs.Places.{state_of, at_number, changed_at, IsNumbered, IsCleared}
 use Rattle.value_store.specs.Changes.{ChangesOnly, Makes, Frees, CanFree}
 use Rattle.value_store.proofs.Children.{children-with_property, children-without_property, children-with_element}
 use Rattle.value_store.proofs.Lookup.{value_of-state_of, at_number-push, same-number, apart-number, apart-below}
 use Rattle.value_store.proofs.Names.{distinct-property_set, distinct-property_removed, distinct-none}
 use Rattle.value_store.proofs.Properties.{same-flip}
 use Rattle.value_store.proofs.Reading.{some-is, starting-long, starting-there}
-use Rattle.value_store.proofs.States.{updated, updated-numbered, same-map, not-given, IsGoodChange, changed-numbered, changed-only}
+use Rattle.value_store.proofs.States.{updated, updated-numbered, same-map, IsGoodChange, changed-numbered, changed-only}
 
 pub ok-then : {A E : Type 0} {P Q : Type 0} (r : Result A E) → (P → Q) → OnOk r P → OnOk r Q
 ok-then (Ok a) f h = f h
@@ -113,7 +114,7 @@ makes ps qs s b view all is =
     other n apart = rw (apart-number n (length ps + 1) apart) refl
 
     fresh : (m : ℕ) → has_number (m + 1) (0 ∷ down_from m) ≡ false
-    fresh m = rw (apart-below 0 (m + 1) (omega arith)) (not-given m (m + 1) (omega arith))
+    fresh m = rw (apart-below 0 (m + 1) (omega arith)) (above-down_from (m + 1) m (omega arith))
 
     next : (m n : ℕ) → ((suc m == n) || has_number n (down_from m)) ≡ ((n == m + 1) || has_number n (down_from m))
     next m n = let e : m + 1 ≡ suc m = omega arith in rw (e, same-flip n (suc m)) refl

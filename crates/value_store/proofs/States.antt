@@ -4,10 +4,10 @@ use Rattle.std.specs.List.{All}
 use Rattle.std.proofs.lemmas.List.{length-set}
 use Rattle.std.proofs.lemmas.List.Elements.{All-weaker}
 use borrow.Author.Tests.{eqb-true}
-use Rattle.napi_types.specs.Lists.{has_number}
+use Rattle.napi_types.specs.Lists.{has_number, down_from}
 use Rattle.napi_types.specs.Values.{Value, HasDistinctNames, children, value_at, starting_values}
 use Rattle.napi_types.specs.Graph.{IsSound, IsSoundMap, value_of}
-use Rattle.value_store.specs.Places.{down_from, state_of, at_number, changed_at, IsNumbered}
+use Rattle.value_store.specs.Places.{state_of, at_number, changed_at, IsNumbered}
 use Rattle.value_store.specs.Changes.{ChangesOnly}
 use Rattle.value_store.proofs.Lookup.{value_of-state_of, number-within, at_number-set, other-number, same-number, apart-number, apart-below, apart-above}
 
@@ -58,10 +58,6 @@ given (suc n) k some less = by (given n k some) (suc n == k) refl
     by : (k ≤ n → has_number k (down_from n) ≡ true) → (b : Bool) → (suc n == k) ≡ b → (b || has_number k (down_from n)) ≡ true
     by rest true e = refl
     by rest false e = let apart : suc n ≢ k = other-number (suc n) k e in rest (omega arith)
-
-pub not-given : (n k : ℕ) → n < k → has_number k (down_from n) ≡ false
-not-given zero k less = refl
-not-given (suc n) k less = rw (apart-below (suc n) k less) (not-given n k (omega arith))
 
 zero-not-given : (n : ℕ) → has_number 0 (down_from n) ≡ false
 zero-not-given zero = refl

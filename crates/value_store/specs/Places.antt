@@ -1,15 +1,10 @@
 -- How the list of a store's values stands for the store's state.
-use Rattle.std.specs.Prelude.{◌≡◌, ℕ, zero, suc, ◌+◌, ◌-◌, ◌<◌, cond, List, [], ◌∷◌, length, map, Option, Some, None, option_map, IsSome, slice_index_or, slice_set}
+use Rattle.std.specs.Prelude.{◌≡◌, ℕ, zero, suc, ◌+◌, ◌-◌, ◌<◌, cond, List, [], length, map, Option, Some, None, option_map, IsSome, slice_index_or, slice_set}
 use Rattle.std.specs.List.{All}
 use Rattle.napi_types.specs.Values.{Value, Property, HasDistinctNames, children, value_at, starting_values}
 use Rattle.std.specs.Option.{unwrap_or}
-use Rattle.napi_types.specs.Lists.{has_number}
+use Rattle.napi_types.specs.Lists.{has_number, down_from}
 use Rattle.napi_types.specs.Graph.{Stored, StoreState}
-
--- the numbers from n down to 1
-abbrev pub down_from : ℕ → List ℕ
-down_from zero = []
-down_from (suc n) = suc n ∷ down_from n
 
 -- a value is named by its creation number
 abbrev pub stored_as : Value → Stored

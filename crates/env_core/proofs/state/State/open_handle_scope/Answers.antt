@@ -1,5 +1,5 @@
 use Rattle.std.proofs.Common.{refl, arith}
-use Rattle.env_core.proofs.Values.{length-down_from, fresh_number, down_from-more}
+use Rattle.napi_types.proofs.Issued.{length-down_from, fresh_number, down_from-more}
 use Rattle.env_core.proofs.state.State.open_handle_scope.Goals as goal
 
 pub overflow_add-number : goal.overflow_add-number

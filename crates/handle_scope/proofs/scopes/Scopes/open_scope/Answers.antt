@@ -1,7 +1,7 @@
 use Rattle.std.proofs.Common.{◌≡◌, ◌≢◌, ◌+◌, length, subst, sym, refl, [], arith}
 use Rattle.handle_scope.specs.declared.scopes.ScopeMark.{ScopeMark}
 use Rattle.handle_scope.specs.HandleScopes.{HandleScopes}
-use Rattle.handle_scope.proofs.Fresh.{length-down_from, fresh_number, down_from-more}
+use Rattle.napi_types.proofs.Issued.{length-down_from, fresh_number, down_from-more}
 use Rattle.handle_scope.proofs.Stacks.{frames-opened, stack-opened}
 use Rattle.handle_scope.proofs.scopes.Scopes.open_scope.Goals as goal
 

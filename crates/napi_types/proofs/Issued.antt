@@ -1,14 +1,13 @@
--- Scope numbers that count up from 1.
+-- Numbers that count up from 1, as they are issued.
 use Rattle.std.proofs.Common.{◌≡◌, ◌<◌, ℕ, zero, suc, ◌+◌, ◌==◌, true, false, ◌∷◌, length, refl, ap, arith, not, add-one}
-use Rattle.napi_types.specs.Lists.{has_number}
-use Rattle.handle_scope.specs.HandleScopes.{down_from}
+use Rattle.napi_types.specs.Lists.{has_number, down_from}
 
 pub length-down_from : (n : ℕ) → length (down_from n) ≡ n
 length-down_from zero = refl
 length-down_from (suc n) = ap suc (length-down_from n)
 
 -- a number above those that were issued is none of them
-above-down_from : (m n : ℕ) → n < m → has_number m (down_from n) ≡ false
+pub above-down_from : (m n : ℕ) → n < m → has_number m (down_from n) ≡ false
 above-down_from m zero h = refl
 above-down_from m (suc n) h = rw (different m n h) (above-down_from m n (omega arith))
   where
