@@ -1,5 +1,5 @@
 //! The list of a store's values, read and changed by number.
-ghost use Rattle.std.specs.Prelude.{◌≡◌, ℕ, ◌+◌, ◌-◌, ◌<◌, ◌≤◌, ◌++◌, [], ◌∷◌, true, length, slice_get, slice_index_or, is_some, cond, option_map, option_copied, IsSome, OnOk, OnErr, IfOk, Some, None};
+ghost use Rattle.std.specs.Prelude.{◌≡◌, ℕ, ◌+◌, ◌-◌, ◌<◌, ◌≤◌, ◌++◌, [], ◌∷◌, true, length, slice_get, slice_index_or, slice_set, is_some, cond, option_map, option_copied, IsSome, OnOk, OnErr, IfOk, Some, None};
 ghost use Rattle.std.specs.List.{All};
 ghost use Rattle.napi_types.specs.Lists.{has_number};
 ghost use Rattle.napi_types.specs.Values.{property_at, element_at, with_property, without_property, with_element};
@@ -180,6 +180,15 @@ pub(crate) fn clear(values: &mut Vec<Option<ValueInfo>>, list: &[ValueId])
     ensures { IsCleared values.old.items values.new.items (numbers_of list.now) }
 {
     for id in list {
-        values[place_at(id.0)] = None;
+        empty(values, id.0);
     }
+}
+
+/// Empties the place of a number.
+fn empty(values: &mut Vec<Option<ValueInfo>>, number: u64)
+    requires some { 0 < number }
+    requires within { number ≤ length values.old.items }
+    ensures { values.new.items ≡ slice_set values.old.items (number - 1) None }
+{
+    values[place_at(number)] = None;
 }
