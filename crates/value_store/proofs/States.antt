@@ -9,7 +9,7 @@ use Rattle.napi_types.specs.Values.{Value, HasDistinctNames, children, value_at,
 use Rattle.napi_types.specs.Graph.{IsSound, IsSoundMap, value_of}
 use Rattle.value_store.specs.Places.{state_of, at_number, changed_at, IsNumbered}
 use Rattle.value_store.specs.Changes.{ChangesOnly}
-use Rattle.value_store.proofs.Lookup.{value_of-state_of, number-within, at_number-set, other-number, same-number, apart-number, apart-below, apart-above}
+use Rattle.value_store.proofs.Lookup.{value_of-state_of, number-within, at_number-set, other-number, same-number, apart-number, apart-above}
 
 abbrev pub updated : (ℕ → Option Value) → ℕ → Value → ℕ → Option Value
 updated values k w n = cond (n == k) (Some w) (values n)
