@@ -3,6 +3,7 @@ use Rattle.std.specs.Prelude.{ℕ, ◌+◌, Bool, not, List, [], ◌∷◌}
 use Rattle.napi_types.specs.Lists.{has_number, first_changed, tail}
 use Rattle.napi_types.specs.Scopes.{FrameScopes, no_handles, hold_in, open_in, close_in}
 
+-- all handle scopes of an environment, and the numbers that were issued
 pub record HandleScopes : Type 0 where
   -- the scopes of the frames that stand, the innermost frame first
   pub frames : List FrameScopes

@@ -6,6 +6,7 @@ use Rattle.handle_scope.specs.declared.scopes.HeldHandle.{HeldHandle}
 use Rattle.handle_scope.specs.declared.scopes.ScopeMark.{ScopeMark}
 use Rattle.handle_scope.specs.declared.scopes.FrameMark.{FrameMark}
 
+-- a place of the stack holds a handle, and the number of its value
 abbrev pub held_of : HeldHandle → Held
 held_of h = record { handle = h.handle; value = h.value.0 }
 

@@ -60,5 +60,6 @@ pub record IsSoundMap (values : ℕ → Option Value) (issued : List ℕ) (made 
   -- what a live value names is live
   pub closed : (id : ℕ) (v : Value) → values id ≡ Some v → All (λ m. IsSome (values m)) (children v)
 
+-- the same of a state
 abbrev pub IsSound : StoreState → Type 0
 IsSound s = IsSoundMap (value_of s) s.issued s.made

@@ -90,13 +90,15 @@ element_set at to es = slice_set (es ++ replicate (at + 1 - length es) None) at 
 abbrev pub children : Value → List ℕ
 children v = map (λ p. p.value) v.properties ++ filter_map (λ e. e) v.elements
 
--- the value with a property set, a property removed, an element set
+-- the value with a property set
 abbrev pub with_property : ℕ → ℕ → Value → Value
 with_property name to v = record v { properties = property_set name to v.properties }
 
+-- the value without a property
 abbrev pub without_property : ℕ → Value → Value
 without_property name v = record v { properties = property_removed name v.properties }
 
+-- the value with an element set
 abbrev pub with_element : ℕ → ℕ → Value → Value
 with_element at to v = record v { elements = element_set at to v.elements }
 

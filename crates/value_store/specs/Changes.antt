@@ -8,10 +8,11 @@ use Rattle.napi_types.specs.Values.{Value, Property, fresh_value, starting_value
 use Rattle.napi_types.specs.Graph.{StoreState, value_of, IsLive, creation_number, graph_of}
 use Rattle.std.specs.Option.{unwrap_or}
 
--- the properties of the value that a number names, none where no live value has the number; the same of its elements
+-- the properties of the value that a number names, none where no live value has the number
 abbrev pub properties_in : StoreState → ℕ → List Property
 properties_in s id = unwrap_or (option_map (λ v. v.properties) (value_of s id)) []
 
+-- the elements of the value that a number names, none where no live value has the number
 abbrev pub elements_in : StoreState → ℕ → List (Option ℕ)
 elements_in s id = unwrap_or (option_map (λ v. v.elements) (value_of s id)) []
 
@@ -48,6 +49,7 @@ pub record Frees (old new : StoreState) (ids : List ℕ) : Type 0 where
   pub others : (n : ℕ) → has_number n ids ≡ false → value_of new n ≡ value_of old n
   pub nothing_issued : IssuesNothing old new
 
+-- the numbers in a list
 abbrev pub numbers_of : List ValueId → List ℕ
 numbers_of list = map (λ v. v.0) list
 

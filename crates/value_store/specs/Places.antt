@@ -30,13 +30,15 @@ pub record IsNumbered (values : ℕ → Option Value) : Type 0 where
 abbrev pub changed_at : ℕ → (Value → Value) → List (Option Value) → List (Option Value)
 changed_at n change ps = slice_set ps (n - 1) (option_map change (at_number ps n))
 
--- the properties of the value of a number, none where no value has it; the same of its elements
+-- the properties of the value of a number, none where no value has it
 abbrev pub properties_at : ℕ → List (Option Value) → List Property
 properties_at n ps = unwrap_or (option_map (λ v. v.properties) (at_number ps n)) []
 
+-- the elements of the value of a number, none where no value has it
 abbrev pub elements_at : ℕ → List (Option Value) → List (Option ℕ)
 elements_at n ps = unwrap_or (option_map (λ v. v.elements) (at_number ps n)) []
 
+-- the list of a new store: the starting values, in their order
 abbrev pub starting_list : List (Option Value)
 starting_list = map Some starting_values
 

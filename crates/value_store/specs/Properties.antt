@@ -9,9 +9,11 @@ use Rattle.napi_types.specs.Values.{Property}
 abbrev pub property_of : ℕ × ValueId → Property
 property_of e = record { name = e.0; value = e.1.0 }
 
+-- the properties that the map's entries are, in their order
 abbrev pub properties_of : List (ℕ × ValueId) → List Property
 properties_of es = map property_of es
 
+-- the elements, each by the number of its value
 abbrev pub elements_of : List (Option ValueId) → List (Option ℕ)
 elements_of es = map (λ e. option_map (λ v. v.0) e) es
 
