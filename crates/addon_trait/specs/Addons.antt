@@ -1,6 +1,6 @@
 -- Lists of addons, seen as the list of their plans and the list of their registers, both in the addons' order.
 use Rattle.std.specs.Prelude.{◌≡◌, ℕ, List, set, option_map}
-use Rattle.napi_types.specs.declared.call.Op.{Op}
+use Rattle.napi_types.specs.declared.op.Op.{Op}
 use Rattle.napi_types.specs.Plan.{Plan, plan_of, Registers, registers_of}
 
 -- the plans once an addon was given these entries: one that did not tell its plan does not tell it now

@@ -6,7 +6,7 @@
 mod list;
 
 ghost use Rattle.std.specs.Prelude.{◌≡◌, ℕ, List, Option, None, IfSome, option_map};
-ghost use Rattle.napi_types.specs.declared.call.Op.{Op};
+ghost use Rattle.napi_types.specs.declared.op.Op.{Op};
 ghost use Rattle.napi_types.specs.Registers.{plan_ask, kept, blank_registers, gifted};
 
 pub use list::{ask_at, enter_at, load_at, note_at};

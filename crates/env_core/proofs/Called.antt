@@ -8,9 +8,9 @@ use Rattle.napi_types.specs.declared.entry.Entry.{Entry}
 use Rattle.napi_types.specs.Environment.{Environment}
 use Rattle.napi_types.specs.Calls.{answer}
 use Rattle.napi_types.specs.Changes.{asks_made, noted, called}
-use Rattle.napi_types.specs.Scopes.{Frame}
+use Rattle.napi_types.specs.Frames.{Frame}
 use Rattle.napi_types.specs.Lists.{first_changed}
-use Rattle.napi_types.proofs.Answers.{answer-keeps, called-keeps}
+use Rattle.napi_types.proofs.Answers.{called-keeps}
 
 abbrev pub told_entry : ℕ → ℕ → Call → Reply → Entry
 told_entry depth step c r = record { actor = actor.Env; depth = depth; step = step; what = what.Call c; reply = r; given = None }
@@ -40,6 +40,4 @@ pub stands-called : (e : Environment) (c : Call) (n : ℕ) → e.frames ≢ [] �
 stands-called e c n stands = frames-stand e.frames (called e c n).after.frames (called-keeps e c n).depth stands
 
 pub asks-called : (e : Environment) (c : Call) (n : ℕ) → e.frames ≢ [] → asks_made (called e c n).after.frames ≡ asks_made e.frames + 1
-asks-called e c n stands =
-    asks-counted (answer e c n).after.frames (frames-stand e.frames (answer e c n).after.frames (answer-keeps e c n).depth stands)
-    ∙ ap (λ k. k + 1) (answer-keeps e c n).asks
+asks-called e c n stands = asks-counted e.frames stands

@@ -23,7 +23,7 @@ core-called old new pages l after c k room e =
       reserved = omega (arith, c.reserved, kept);
       within = omega (arith, c.within, grown);
       small = c.small;
-      handles = omega (arith, c.handles, k.handles, grown);
-      scopes = omega (arith, c.scopes, k.scopes, grown);
-      values = omega (arith, c.values, k.made, grown);
+      handles = omega (arith, c.handles, k.heap.handles, grown);
+      scopes = omega (arith, c.scopes, k.heap.scopes, grown);
+      values = omega (arith, c.values, k.heap.made, grown);
     })

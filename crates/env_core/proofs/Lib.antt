@@ -1,4 +1,5 @@
 pub mod Called
 pub mod Cores
 pub mod Scopes
-pub mod Values
+pub mod SeenScopes
+pub mod ValueAnswers

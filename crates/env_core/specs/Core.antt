@@ -1,5 +1,5 @@
 -- The environment and its journal.
-use Rattle.std.specs.Prelude.{◌≡◌, ℕ, ◌+◌, ◌≤◌, List, [], ◌∷◌, ◌++◌, length}
+use Rattle.std.specs.Prelude.{◌≡◌, ℕ, ◌+◌, ◌*◌, ◌≤◌, List, [], ◌∷◌, ◌++◌, length}
 use Rattle.napi_types.specs.declared.entry.Local.{Local}
 use Rattle.napi_types.specs.declared.entry.Phase.{Phase}
 use Rattle.napi_types.specs.declared.entry.Phase.TheVariants as phase
@@ -33,11 +33,11 @@ advanced p position core = record core { env = in_phase p core.env; position = p
 abbrev pub room_in : Core → Room
 room_in core = journal_room core.env (length core.journal) core.limit
 
--- the promised places are the reserved ones, and each number that was given out has an entry
+-- the promised places are the reserved ones, each number that was given out has an entry, and no entry made more than 65,537 values
 pub record IsCore (e : Environment) (pages : Pages) : Type 0 where
   pub reserved : pages.promised ≡ reserved_journal e
   pub within : length pages.entries + pages.promised ≤ pages.limit
   pub small : pages.limit ≤ most_entries
-  pub handles : e.handles ≤ length pages.entries
-  pub scopes : length e.scope_numbers ≤ length pages.entries
-  pub values : e.made ≤ length pages.entries + 5
+  pub handles : e.heap.handles ≤ length pages.entries
+  pub scopes : length e.heap.scope_numbers ≤ length pages.entries
+  pub values : e.heap.made ≤ 65537 * length pages.entries + 5

@@ -1,5 +1,4 @@
 pub mod Core
 pub mod Journal
-pub mod Scopes
 pub mod State
 pub mod Steps

@@ -1,24 +1,35 @@
 -- The environment's state as the machine sees it.
-use Rattle.std.specs.Prelude.{◌≡◌, ℕ, ◌+◌, List, [], ◌∷◌, Option, Some, None, IsTrue}
-use Rattle.napi_types.specs.declared.body.Body.{Body}
+use Rattle.std.specs.Prelude.{◌≡◌, ℕ, List, [], ◌∷◌, length, Option, Some, None, IsTrue}
 use Rattle.napi_types.specs.declared.call.Call.{Call}
 use Rattle.napi_types.specs.declared.entry.Entry.{Entry}
 use Rattle.napi_types.specs.declared.entry.Reply.{Reply}
-use Rattle.napi_types.specs.Values.{Value, fresh_value}
-use Rattle.napi_types.specs.Scopes.{Frame, in_frame, open_in}
+use Rattle.napi_types.specs.Frames.{Frame}
 use Rattle.napi_types.specs.Environment.{Environment}
 use Rattle.napi_types.specs.Calls.{answer}
 use Rattle.napi_types.specs.Changes.{called, number_of, is_fresh}
+use Rattle.napi_types.specs.Graph.{StoreState}
+use Rattle.handle_scope.specs.HandleScopes.{HandleScopes}
+use Rattle.env_core.specs.declared.frame.StandingFrame.{StandingFrame}
+use Rattle.env_values.specs.Seen.{HoldsLive}
 
--- values that were made one after another, the first with that number
-abbrev pub numbered : ℕ → List Body → List Value
-numbered n [] = []
-numbered n (b ∷ bs) = fresh_value n b ∷ numbered (n + 1) bs
+-- a frame as the machine sees it
+abbrev pub frame_seen : StandingFrame → Frame
+frame_seen f = record { cause = f.cause; addon = f.addon; entry = f.entry; asks = f.asks }
 
 -- the frames, where at most one stands
-abbrev pub standing : Option Frame → List Frame
+abbrev pub standing : Option StandingFrame → List Frame
 standing None = []
-standing (Some f) = f ∷ []
+standing (Some f) = frame_seen f ∷ []
+
+-- the addon of the innermost frame
+abbrev pub caller_of : List Frame → ℕ
+caller_of [] = 0
+caller_of (f ∷ fs) = f.addon
+
+-- each frame that stands has its scopes, and what they hold is live
+pub record IsState (store : StoreState) (scopes : HandleScopes) (frame : Option StandingFrame) : Type 0 where
+  pub live : HoldsLive store scopes
+  pub frames : length scopes.frames ≡ length (standing frame)
 
 -- the call's entry is the machine's, with a fresh number where it gives one, and the environment is the one after it
 pub record Calls (old : Environment) (c : Call) (x : Entry) (new : Environment) : Type 0 where
@@ -31,7 +42,3 @@ pub record Answers (old : Environment) (c : Call) (r : Reply) (new : Environment
   pub fresh : IsTrue (is_fresh old r.out)
   pub reply : r ≡ (answer old c (number_of r.out)).reply
   pub after : new ≡ (answer old c (number_of r.out)).after
-
--- a scope of that number is open inside the innermost one
-abbrev pub with_scope : ℕ → Environment → Environment
-with_scope n e = record e { scope_numbers = n ∷ e.scope_numbers; frames = in_frame (open_in n) e.frames }

@@ -1,6 +1,7 @@
 //! The environment with its journal.
-ghost use Rattle.std.specs.Prelude.{◌≡◌, ◌≢◌, ℕ, ◌+◌, ◌-◌, ◌*◌, ◌<◌, ◌≤◌, [], length, Some, IfOk, IsTrue, ◌↔◌};
+ghost use Rattle.std.specs.Prelude.{◌≡◌, ◌≢◌, ℕ, ◌+◌, ◌-◌, ◌*◌, ◌<◌, ◌≤◌, [], length, Some, true, IfOk, IsTrue, ◌↔◌};
 ghost use Rattle.napi_types.specs.Room.{is_full, most_entries};
+ghost use Rattle.napi_types.specs.Built.{is_built};
 ghost use Rattle.napi_types.specs.Changes.{asks_made, most_asks, called, frame_ended, init_begun};
 ghost use Rattle.napi_types.specs.Phases.{next_phase};
 ghost use Rattle.env_core.specs.Core.{opened_core, wrote, advanced, room_in};
@@ -74,6 +75,7 @@ impl EnvCore {
     /// Makes a call of the innermost frame. `step` is the number of the ask in its frame, from 0.
     pub fn step(&mut self, step: u32, call: &Call) -> Stepped
         requires standing { self.old.env.frames ≢ [] }
+        requires built { is_built call.now ≡ true }
         requires ask { step ≡ asks_made self.old.env.frames }
         requires within { step < most_asks }
 

@@ -1,11 +1,12 @@
 //! Calls of an init frame, with memory at hand.
-ghost use Rattle.std.specs.Prelude.{◌≡◌, ◌≢◌, ◌+◌, ◌≤◌, ◌<◌, [], IfOk, OnOk};
+ghost use Rattle.std.specs.Prelude.{◌≡◌, ◌≢◌, ◌+◌, ◌≤◌, ◌<◌, [], length, IfOk, OnOk};
 ghost use Rattle.napi_types.specs.Changes.{asks_made, most_asks};
 ghost use Rattle.napi_types.specs.Room.{most_entries};
 
 use crate::{EnvCore, Stepped};
-use napi_types::{Call, Limits, Out, Reply, ScopeId, Status, Why};
+use napi_types::{Call, Limits, Out, Reply, ScopeId, Why};
 use std::alloc::Global;
+use std::process::Abort;
 use std::test::Fail;
 
 /// An environment in the init frame of its only addon.
@@ -30,6 +31,9 @@ fn reply_to(core: &mut EnvCore, step: u32, call: Call) -> Result<Reply, Fail>
     ensures standing { OnOk result (core.new.env.frames ≢ []) }
     ensures asks { OnOk result (asks_made core.new.env.frames ≡ step + 1) }
 {
+    if !call.is_built() {
+        return Err(Fail::new("the call is not built"));
+    }
     match core.step(step, &call) {
         Stepped::Reply(reply) => Ok(reply),
         Stepped::Stop(status) => Err(Fail::new(format_args!(
@@ -40,35 +44,65 @@ fn reply_to(core: &mut EnvCore, step: u32, call: Call) -> Result<Reply, Fail>
     }
 }
 
-fn scope_of(reply: Reply) -> Result<ScopeId, Fail> {
-    match reply.out {
-        Out::Scope(scope) => Ok(scope),
-        _ => Err(Fail::new("the reply tells no scope")),
+/// A result in words: what it is, and the number that it tells.
+fn told(out: Out) -> (&'static str, u64) {
+    match out {
+        Out::Nothing => ("nothing", 0),
+        Out::Scope(scope) => ("scope", scope.0),
+        Out::Unsigned(number) => ("number", number),
+        Out::Handle(handle) => ("handle", handle.0),
+        Out::Signed(number) => ("signed", number.cast_unsigned()),
+        Out::Flag(flag) => ("flag", flag as u64),
+        Out::Text(text) => ("text", text.0 as u64),
+        Out::Kind(kind) => (kind.name(), 0),
+        _ => ("other", 0),
     }
 }
 
-#[test]
-fn scopes_close_innermost_first(rt: HostRuntime) -> Result<(), Fail> {
+/// A call with the status and the result that it is to have.
+type Row = (Call, u16, (&'static str, u64));
+
+/// Makes the calls of the rows in a new frame, with three texts, and compares what they answer.
+fn compare(rt: &impl Abort, alloc: Global, rows: &[Row]) -> Result<(), Fail>
+    requires { length rows.now < most_asks }
+{
     let limits = Limits {
-        journal: 16,
+        journal: 1024,
         history: 16,
     };
-    let mut core = in_frame(rt.alloc(), limits)?;
-    let first = reply_to(&mut core, 0, Call::OpenHandleScope)?;
-    let outer = scope_of(first)?;
-    let second = reply_to(&mut core, 1, Call::OpenHandleScope)?;
-    let inner = scope_of(second)?;
-    let early = reply_to(&mut core, 2, Call::CloseHandleScope(outer))?;
-    let third = reply_to(&mut core, 3, Call::CloseHandleScope(inner))?;
-    let fourth = reply_to(&mut core, 4, Call::CloseHandleScope(outer))?;
-    let late = reply_to(&mut core, 5, Call::CloseHandleScope(outer))?;
-    let opened = [first.status.number(), second.status.number()];
-    let closed = [third.status.number(), fourth.status.number()];
-    let refused = [early.status.number(), late.status.number()];
-    assert_eq!(rt; opened, [0, 0]);
-    assert_eq!(rt; closed, [0, 0]);
-    assert_eq!(rt; refused, [13, 13]);
+    let mut core = in_frame(alloc, limits)?;
+    for (step, (call, status, result)) in rows.iter().enumerate() {
+        let reply = reply_to(&mut core, step as u32, *call)?;
+        assert_eq!(rt; reply.status.number(), *status, "at row {step}");
+        assert_eq!(rt; told(reply.out), *result, "at row {step}");
+    }
     Ok(())
+}
+
+fn close(number: u64) -> Call {
+    Call::CloseHandleScope(ScopeId(number))
+}
+
+mod creates;
+mod properties;
+mod reads;
+
+#[test]
+fn scopes_and_the_version(rt: HostRuntime) -> Result<(), Fail> {
+    // Each call with its status and its result. Scope numbers count from 1.
+    let rows = [
+        (close(1), 13, ("nothing", 0)),
+        (Call::GetVersion, 0, ("number", 9)),
+        (Call::OpenHandleScope, 0, ("scope", 1)),
+        (Call::OpenHandleScope, 0, ("scope", 2)),
+        (close(3), 1, ("nothing", 0)),
+        (close(1), 13, ("nothing", 0)),
+        (close(2), 0, ("nothing", 0)),
+        (close(2), 1, ("nothing", 0)),
+        (close(1), 0, ("nothing", 0)),
+        (close(1), 13, ("nothing", 0)),
+    ];
+    compare(&rt, rt.alloc(), &rows)
 }
 
 #[test]
@@ -78,15 +112,17 @@ fn a_full_journal_stops_the_second_call(rt: HostRuntime) -> Result<(), Fail> {
         history: 16,
     };
     let mut core = in_frame(rt.alloc(), limits)?;
-    let first = reply_to(&mut core, 0, Call::CreateObject)?;
-    assert!(rt; matches!(first.status, Status::Ok));
+    let first = reply_to(&mut core, 0, Call::GetUndefined)?;
+    assert_eq!(rt; first.status.number(), 0);
+    assert_eq!(rt; told(first.out), ("handle", 1));
     assert_eq!(rt; core.journal().len(), 3);
-    match core.step(1, &Call::CreateObject) {
+    match core.step(1, &Call::GetUndefined) {
         Stepped::Stop(status) => {
             assert_eq!(rt; status.number(), 1001);
             assert_eq!(rt; core.journal().len(), 3);
             let end = core.leave(None, Some(Why::Full));
             assert!(rt; matches!(end.out, Out::Cut(Why::Full)));
+            assert_eq!(rt; core.into_journal().items().len(), 4);
             Ok(())
         }
         Stepped::Reply(reply) => Err(Fail::new(format_args!(

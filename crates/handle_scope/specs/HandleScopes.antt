@@ -1,5 +1,5 @@
 -- The handle scopes as the machine sees them, and what each call makes of them.
-use Rattle.std.specs.Prelude.{ℕ, ◌+◌, Bool, not, List, [], ◌∷◌}
+use Rattle.std.specs.Prelude.{ℕ, ◌+◌, ◌-◌, max, Bool, not, List, [], ◌∷◌}
 use Rattle.napi_types.specs.Lists.{has_number, first_changed, tail}
 use Rattle.napi_types.specs.Scopes.{FrameScopes, no_handles, hold_in, open_in, close_in}
 
@@ -10,10 +10,12 @@ pub record HandleScopes : Type 0 where
   -- how many handles were issued, and which scope numbers were
   pub handles : ℕ
   pub scope_numbers : List ℕ
+  -- how many places for handles have their memory beside those that are filled
+  pub spare : ℕ
 
 -- no frame stands, and nothing was issued
 abbrev pub no_scopes : HandleScopes
-no_scopes = record { frames = []; handles = 0; scope_numbers = [] }
+no_scopes = record { frames = []; handles = 0; scope_numbers = []; spare = 0 }
 
 -- how many frames may stand
 abbrev pub most_frames : ℕ
@@ -35,9 +37,13 @@ scope_opened n s = record s { frames = first_changed (open_in n) s.frames; scope
 abbrev pub scope_closed : HandleScopes → HandleScopes
 scope_closed s = record s { frames = first_changed close_in s.frames }
 
--- the innermost scope holds the next handle, of that value
+-- there is memory for one more handle at least
+abbrev pub place_reserved : HandleScopes → HandleScopes
+place_reserved s = record s { spare = max 1 s.spare }
+
+-- the innermost scope holds the next handle, of that value, at a spare place where there was one
 abbrev pub handle_issued : ℕ → HandleScopes → HandleScopes
-handle_issued v s = record s { frames = first_changed (hold_in (record { handle = s.handles + 1; value = v })) s.frames; handles = s.handles + 1 }
+handle_issued v s = record s { frames = first_changed (hold_in (record { handle = s.handles + 1; value = v })) s.frames; handles = s.handles + 1; spare = s.spare - 1 }
 
 -- a scope number is above 0 and was never issued
 abbrev pub is_fresh : ℕ → HandleScopes → Bool

@@ -1,5 +1,5 @@
 -- One stack of handles, where marks say at which place each scope and each frame begins.
-use Rattle.std.specs.Prelude.{◌≡◌, ℕ, ◌<◌, ◌≤◌, List, [], ◌∷◌, length, map, reverse, take, drop, slice_index_or}
+use Rattle.std.specs.Prelude.{◌≡◌, ℕ, ◌+◌, ◌<◌, ◌≤◌, List, [], ◌∷◌, length, map, reverse, take, drop, slice_index_or}
 use Rattle.napi_types.specs.Scopes.{Held, FrameScopes}
 use Rattle.handle_scope.specs.HandleScopes.{most_frames}
 use Rattle.handle_scope.specs.declared.scopes.HeldHandle.{HeldHandle}
@@ -55,3 +55,8 @@ pub record IsStack (frames : List FrameMark) (scopes : List ScopeMark) (held : L
   pub numbers_rise : Rises (λ s. s.number) scopes
   pub numbers_issued : AreAtMost (λ s. s.number) scopes numbers
   pub room : most_frames ≤ capacity
+
+-- the same, and the memory of the spare places is there, where the stack has room for that many handles
+pub record IsKept (frames : List FrameMark) (scopes : List ScopeMark) (held : List HeldHandle) (handles numbers capacity spare places : ℕ) : Type 0 where
+  pub stack : IsStack frames scopes held handles numbers capacity
+  pub reserved : length held + spare ≤ places

@@ -4,7 +4,7 @@ ghost use Rattle.std.specs.Result.{result_err};
 ghost use Rattle.std.specs.List.{list_any};
 ghost use Rattle.napi_types.specs.Lists.{head};
 ghost use Rattle.napi_types.specs.Scopes.{gives, value_in, held_by_frames, opened_scopes, closing};
-ghost use Rattle.handle_scope.specs.HandleScopes.{no_scopes, most_frames, frame_entered, frame_left, scope_opened, scope_closed, handle_issued, is_fresh};
+ghost use Rattle.handle_scope.specs.HandleScopes.{no_scopes, most_frames, frame_entered, frame_left, scope_opened, scope_closed, place_reserved, handle_issued, is_fresh};
 ghost use Rattle.handle_scope.specs.Marks.{Rises, held_of, scopes_above};
 
 use napi_types::{HandleId, NoMemory, ScopeId, Status, ValueId};
@@ -56,6 +56,8 @@ pub struct Scopes {
     // How many handles and how many scope numbers were issued. Scope numbers count from 1.
     handles: u64,
     numbers: u64,
+    // How many places of `held` were reserved and are not filled yet.
+    spare: usize,
 }
 
 impl Model for Scopes {
@@ -65,15 +67,16 @@ impl Model for Scopes {
 
     ghost use Rattle.std.specs.Prelude.{vec_capacity};
     ghost use Rattle.napi_types.specs.Lists.{down_from};
-    ghost use Rattle.handle_scope.specs.Marks.{frames_of, IsStack};
+    ghost use Rattle.handle_scope.specs.Marks.{frames_of, IsKept};
 
     ghost view = { λ s. record {
       frames = frames_of s.frames.items s.scopes.items s.held.items;
       handles = s.handles;
       scope_numbers = down_from s.numbers;
+      spare = s.spare;
     } };
 
-    ghost invariant = { λ s. IsStack s.frames.items s.scopes.items s.held.items s.handles s.numbers (vec_capacity s.frames) };
+    ghost invariant = { λ s. IsKept s.frames.items s.scopes.items s.held.items s.handles s.numbers (vec_capacity s.frames) s.spare (vec_capacity s.held) };
 }
 
 impl Scopes {
@@ -88,6 +91,7 @@ impl Scopes {
                 frames,
                 handles: 0,
                 numbers: 0,
+                spare: 0,
             }),
             Err(_) => Err(NoMemory),
         }
@@ -169,14 +173,41 @@ impl Scopes {
         ensures ok { OnOk result (self.new ≡ handle_issued value.0 self.old) }
         ensures err { OnErr result (self.new ≡ self.old) }
     {
-        let handle = self.handles + 1;
-        match self.held.push(HeldHandle { handle, value }) {
+        self.reserve()?;
+        Ok(self.issue_reserved(value))
+    }
+
+    /// Takes the memory for one handle, so that `issue_reserved` can issue it later. A place that is spare already is
+    /// enough. It takes amortized constant time.
+    pub fn reserve(&mut self) -> Result<(), NoMemory>
+        ensures ok { OnOk result (self.new ≡ place_reserved self.old) }
+        ensures err { OnErr result (self.new ≡ self.old) }
+    {
+        if self.spare > 0 {
+            return Ok(());
+        }
+        match self.held.reserve(1) {
             Ok(()) => {
-                self.handles = handle;
-                Ok(HandleId(handle))
+                self.spare = 1;
+                Ok(())
             }
             Err(_) => Err(NoMemory),
         }
+    }
+
+    /// As `issue`, at a place that was reserved before. It takes no memory, and constant time.
+    pub fn issue_reserved(&mut self, value: ValueId) -> HandleId
+        requires standing { self.old.frames ≢ [] }
+        requires handles { self.old.handles < 2 ^ 62 }
+        requires spare { 0 < self.old.spare }
+        ensures handle { result.0 ≡ self.old.handles + 1 }
+        ensures issued { self.new ≡ handle_issued value.0 self.old }
+    {
+        let handle = self.handles + 1;
+        self.held.push_reserved(HeldHandle { handle, value });
+        self.handles = handle;
+        self.spare -= 1;
+        HandleId(handle)
     }
 
     /// The value of a handle, `None` exactly where no open scope of any frame holds it. It takes time logarithmic in

@@ -120,3 +120,24 @@ fn no_number_is_given_out_again(rt: HostRuntime) {
         Some(((1, 2), (0, 8), (0, 1), 8))
     );
 }
+
+/// Two handles in a frame, of the values 7 and 8, the first at a place that was reserved twice: their numbers, the values
+/// of both, and how many are held.
+fn issues(alloc: Global) -> Result<((u64, u64), (u64, u64), usize), NoMemory> {
+    let mut scopes = Scopes::new(alloc)?;
+    scopes.enter_frame();
+    scopes.reserve()?;
+    scopes.reserve()?;
+    let first = scopes.issue_reserved(ValueId(7));
+    let second = scopes.issue(ValueId(8))?;
+    Ok((
+        (first.0, second.0),
+        (value(&scopes, first), value(&scopes, second)),
+        scopes.held(),
+    ))
+}
+
+#[test]
+fn a_reserved_place_takes_a_handle(rt: HostRuntime) {
+    assert_eq!(rt; issues(rt.alloc()).ok(), Some(((1, 2), (7, 8), 2)));
+}

@@ -1,8 +1,10 @@
 //! The top call over sources and sinks in memory: the worked rows, and faults at each call of a source or a sink.
-ghost use Rattle.std.specs.Prelude.{Some};
+ghost use Rattle.std.specs.Prelude.{Some, None};
 
 use super::*;
-use napi_types::{Failed, MemSink, MemSource, SafeSource, Sink, Source};
+use napi_types::{
+    AddonPlan, Ask, Call, Failed, MemSink, MemSource, Reply, SafeSource, Sink, Source,
+};
 use std::test::Fail;
 
 const FIRST_RUN: &[u8] =
@@ -22,6 +24,24 @@ const CLOSED_SCOPE: &[u8] =
 
 const CLOSED_SCOPE_TRACE: &[u8] =
     b"1 env opened 0 9\n2 env begin 0 init:0.0\n3 env open_handle_scope 0 scope\n4 env create_object 0 handle\n5 env close_handle_scope 0 -\n6 env typeof 1 -\n7 env end 0 -\n8 env go 0 -\n9 env loop_end 0 idle\n10 env drain 0 0\n11 env finals 0 -\n12 env gone 0 -\n";
+
+const EMPTY: &[u8] = br#"{"version":9,"workers":0,"addons":[],"threads":[]}"#;
+
+const EMPTY_TRACE: &[u8] =
+    b"1 env opened 0 9\n2 env go 0 -\n3 env loop_end 0 idle\n4 env drain 0 0\n5 env finals 0 -\n6 env gone 0 -\n";
+
+const NAMES: &[u8] =
+    br#"{"version":9,"workers":0,"addons":[{"name":"a","entries":[[["create_object",0],["create_int64",-3,1],["set_named_property",0,"b",1],["set_named_property",0,"a",1],["set_named_property",0,"b",0],["get_property_names",0,2],["get_array_length",2,3],["get_element",2,0,4],["get_value_string_utf8",4,5],["delete_property",0,"zz",6],["get_named_property",0,"zz",7],["typeof",7,8],["set_element",0,65536,1],["get_value_bool",1,9],["create_int64",9007199254740992,9]]]}],"threads":[]}"#;
+
+const NAMES_TRACE: &[u8] =
+    b"1 env opened 0 9\n2 env begin 0 init:0.0\n3 env create_object 0 handle\n4 env create_int64 0 handle\n5 env set_named_property 0 -\n6 env set_named_property 0 -\n7 env set_named_property 0 -\n8 env get_property_names 0 handle\n9 env get_array_length 0 2\n10 env get_element 0 handle\n11 env get_value_string_utf8 0 \"b\"\n12 env delete_property 0 true\n13 env get_named_property 0 handle\n14 env typeof 0 undefined\n15 env set_element 1 -\n16 env get_value_bool 7 -\n17 env create_int64 1 -\n18 env end 0 -\n19 env go 0 -\n20 env loop_end 0 idle\n21 env drain 0 0\n22 env finals 0 -\n23 env gone 0 -\n";
+
+/// Three addons: the second one's frame makes two calls, and leaves with a third one behind; the third has no entries.
+const THREE_ADDONS: &[u8] =
+    br#"{"version":9,"workers":0,"addons":[{"name":"a","entries":[[["create_object",1]],[["get_null",1]]]},{"name":"b","entries":[[["get_version",2],["typeof",1,2],["return",-1],["get_null",1]]]},{"name":"c","entries":[]}],"threads":[]}"#;
+
+const THREE_ADDONS_TRACE: &[u8] =
+    b"1 env opened 0 9\n2 env begin 0 init:0.0\n3 env create_object 0 handle\n4 env end 0 -\n5 env begin 0 init:1.0\n6 env get_version 0 9\n7 env typeof 1 -\n8 env end 0 -\n9 env begin 0 init:2.0\n10 env end 0 -\n11 env go 0 -\n12 env loop_end 0 idle\n13 env drain 0 0\n14 env finals 0 -\n15 env gone 0 -\n";
 
 /// The most bytes that a source may give.
 const LONGEST: usize = 4_194_304;
@@ -97,10 +117,13 @@ fn prints_the_worked_rows(rt: HostRuntime) -> Result<(), Fail> {
         (FIRST_RUN, FIRST_TRACE),
         (SCOPE_ORDER, SCOPE_ORDER_TRACE),
         (CLOSED_SCOPE, CLOSED_SCOPE_TRACE),
+        (EMPTY, EMPTY_TRACE),
+        (NAMES, NAMES_TRACE),
+        (THREE_ADDONS, THREE_ADDONS_TRACE),
     ] {
         let mut source = MemSource::of(Vec::from_slice(alloc, script)?, Vec::new(alloc));
         let mut sink = MemSink::new(alloc, 1, Vec::new(alloc));
-        let status = ended(&rt, alloc, &run, &mut source, &mut sink, 1)?;
+        let status = ended(&rt, alloc, &run, &mut source, &mut sink, 3)?;
         assert_eq!(rt; status, 0);
         assert_eq!(rt; sink.bytes(), trace);
     }
@@ -125,6 +148,34 @@ fn writes_a_line_for_each_refusal(rt: HostRuntime) -> Result<(), Fail> {
         (
             ["run"].as_slice(),
             b"[]".as_slice(),
+            1,
+            3,
+            b"refused shape -\n".as_slice(),
+        ),
+        (
+            ["run"].as_slice(),
+            br#"{"version":9,"workers":0,"addons":[{"name":"a","entries":[[["create_object",32]]]}],"threads":[]}"#.as_slice(),
+            1,
+            3,
+            b"refused shape addons/0/entries/0/0\n".as_slice(),
+        ),
+        (
+            ["run"].as_slice(),
+            br#"{"version":9,"workers":0,"addons":[],"threads":[[],[],[],[],[],[],[],[],[],[],[],[],[],[],[],[],[]]}"#.as_slice(),
+            1,
+            3,
+            b"refused limit threads\n".as_slice(),
+        ),
+        (
+            ["run"].as_slice(),
+            br#"{"version":9,"workers":9,"addons":[],"threads":[]}"#.as_slice(),
+            1,
+            3,
+            b"refused limit workers\n".as_slice(),
+        ),
+        (
+            ["run"].as_slice(),
+            br#"{"version":9,"workers":0,"addons":[{"name":"a","entries":[[["exit"]]]}],"threads":[]}"#.as_slice(),
             1,
             3,
             b"refused stage\n".as_slice(),
@@ -180,8 +231,8 @@ fn leaves_a_front_of_the_trace_at_each_fault_of_the_sink(rt: HostRuntime) -> Res
         let status = ended(&rt, alloc, &run, &mut source, &mut sink, 1)?;
         assert!(rt; FIRST_TRACE.starts_with(sink.bytes()), "at {failing}");
         if status == 0 {
-            // Twelve lines took a call each at least.
-            assert!(rt; failing >= 12);
+            // Its 252 bytes take sixteen calls of 16 bytes.
+            assert!(rt; failing >= 16);
             assert_eq!(rt; sink.bytes(), FIRST_TRACE);
             return Ok(());
         }
@@ -228,5 +279,67 @@ fn reads_a_source_byte_by_byte(rt: HostRuntime) -> Result<(), Fail> {
     let mut sink = MemSink::new(alloc, 1, Vec::new(alloc));
     assert_eq!(rt; ended(&rt, alloc, &run, &mut source, &mut sink, 1)?, 0);
     assert_eq!(rt; sink.bytes(), FIRST_TRACE);
+    Ok(())
+}
+
+/// An addon that tells no plan, and asks for undefined whatever it is given.
+#[derive(Drop)]
+struct Stays {
+    registers: [u64; 32],
+}
+
+impl Addon for Stays {
+    ghost plan = { λ _. None };
+
+    ghost regs = { λ addon. addon.registers };
+
+    fn load(&mut self, _given: AddonPlan) {
+        self.registers = [0; 32];
+    }
+
+    fn enter(&mut self, _entry: u32, gifts: &[u64; 8]) {
+        self.registers[24..].copy_from_slice(gifts);
+    }
+
+    fn ask(&mut self, _entry: u32, _step: u32) -> Ask {
+        Ask::Do(Call::GetUndefined)
+    }
+
+    fn note(&mut self, _entry: u32, _step: u32, _reply: &Reply) {}
+}
+
+#[test]
+fn an_addon_that_never_leaves_is_cut(rt: HostRuntime) -> Result<(), Fail> {
+    let alloc = rt.alloc();
+    let run = said(alloc, &["run"])?;
+    let mut source = MemSource::of(Vec::from_slice(alloc, FIRST_RUN)?, Vec::new(alloc));
+    let mut sink = MemSink::new(alloc, LONGEST, Vec::new(alloc));
+    let mut addons: Vec<Box<dyn Addon>> = Vec::new(alloc);
+    let stays = Stays { registers: [0; 32] };
+    addons.push(Box::new(alloc, stays)?)?;
+    let mut left = Record::blank(alloc);
+    let status = host(
+        &rt,
+        alloc,
+        &run,
+        &mut source,
+        &mut sink,
+        &OpenGate,
+        &mut addons,
+        &mut left,
+    );
+    assert_eq!(rt; status, 0);
+    let text = sink.bytes();
+    // Two lines come before the 65,536 calls.
+    assert!(rt;
+        text.starts_with(
+            b"1 env opened 0 9\n2 env begin 0 init:0.0\n3 env get_undefined 0 handle\n"
+        )
+    );
+    assert!(rt;
+        text.ends_with(
+            b"\n65538 env get_undefined 0 handle\n65539 env end 0 cut:asks\n65540 env go 0 -\n65541 env loop_end 0 idle\n65542 env drain 0 0\n65543 env finals 0 -\n65544 env gone 0 -\n"
+        )
+    );
     Ok(())
 }

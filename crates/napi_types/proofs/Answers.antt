@@ -1,115 +1,109 @@
 -- What every call of the environment keeps, and by how much it may grow.
-use Rattle.std.proofs.Common.{◌≡◌, ◌≤◌, ℕ, ◌+◌, List, [], ◌∷◌, length, refl, Option, Some, None, arith}
+use Rattle.std.proofs.Common.{◌≡◌, ◌≤◌, ℕ, ◌+◌, nat_lt, Bool, true, false, List, [], ◌∷◌, length, refl, ap, ◌∙◌, Option, Some, None, arith}
+use Rattle.std.proofs.lemmas.List.{length-map}
+use Rattle.std.specs.Option.{option_or}
 use Rattle.napi_types.specs.declared.call.Call.{Call}
-use Rattle.napi_types.specs.declared.call.Call.TheVariants.{CreateObject, Typeof, OpenHandleScope, CloseHandleScope}
+use Rattle.napi_types.specs.declared.call.Call.TheVariants as call
 use Rattle.napi_types.specs.declared.status.Status.{Status}
-use Rattle.napi_types.specs.Lists.{first_changed}
-use Rattle.napi_types.specs.Scopes.{Frame, FrameScopes, in_frame}
+use Rattle.napi_types.specs.declared.status.Status.TheVariants as status
+use Rattle.napi_types.specs.Lists.{first_changed, when}
 use Rattle.napi_types.specs.Environment.{Environment}
-use Rattle.napi_types.specs.Refusals.{refusal}
-use Rattle.napi_types.specs.Calls.{accepted, answer_by, answer}
-use Rattle.napi_types.specs.Changes.{asks_made, noted, called}
+use Rattle.napi_types.specs.Frames.{Frame}
+use Rattle.napi_types.specs.Heap.{Heap, handle_properties, with_handle, new_list}
+use Rattle.napi_types.specs.PropertyCalls.{names_of}
+use Rattle.napi_types.specs.Refusals.{unknown_refusal, kind_refusal, row_refusal, refusal_in}
+use Rattle.napi_types.specs.Calls.{accepted, answer_by, answer_in, answer}
+use Rattle.napi_types.specs.Changes.{noted, called}
 
-length-changed : (f : Frame → Frame) (fs : List Frame) → length (first_changed f fs) ≡ length fs
+length-changed : {A : Type 0} (f : A → A) (xs : List A) → length (first_changed f xs) ≡ length xs
 length-changed f [] = refl
-length-changed f (g ∷ gs) = refl
+length-changed f (x ∷ xs) = refl
 
--- a change of a frame's scopes is no ask
-asks-in_frame : (c : FrameScopes → FrameScopes) (fs : List Frame) → asks_made (in_frame c fs) ≡ asks_made fs
-asks-in_frame c [] = refl
-asks-in_frame c (f ∷ fs) = refl
-
--- what a call keeps: the addons, the opening, the init frames that began, the phase, how many frames stand and how many asks the innermost made;
--- it issues one number of each kind at most
-pub record Keeps (old new : Environment) : Type 0 where
-  pub addons : new.addons ≡ old.addons
-  pub opened : new.opened ≡ old.opened
-  pub inits : new.inits ≡ old.inits
-  pub phase : new.phase ≡ old.phase
-  pub depth : length new.frames ≡ length old.frames
-  pub asks : asks_made new.frames ≡ asks_made old.frames
+-- what a call keeps of a heap: how many frames have scopes. It issues one number of each kind at most, and makes as many values as an array of names has, with the array
+pub record HeapKeeps (old new : Heap) : Type 0 where
+  pub depth : length new.scopes ≡ length old.scopes
   pub handles : new.handles ≤ old.handles + 1
   pub scopes : length new.scope_numbers ≤ length old.scope_numbers + 1
-  pub made : new.made ≤ old.made + 1
+  pub made : new.made ≤ old.made + 65537
 
-same : (e : Environment) → Keeps e e
-same e = record {
-  addons = refl;
-  opened = refl;
-  inits = refl;
-  phase = refl;
-  depth = refl;
-  asks = refl;
-  handles = omega arith;
-  scopes = omega arith;
-  made = omega arith;
+same : (heap : Heap) → HeapKeeps heap heap
+same heap = record { depth = refl; handles = omega arith; scopes = omega arith; made = omega arith }
+
+-- a handle is given, after so many values were made
+handled : (old heap : Heap) (v : ℕ) → heap.scopes ≡ old.scopes → heap.handles ≡ old.handles → heap.scope_numbers ≡ old.scope_numbers → heap.made ≤ old.made + 65537
+    → HeapKeeps old (with_handle v heap)
+handled old heap v s h n m = record {
+  depth = length-changed _ heap.scopes ∙ ap length s;
+  handles = omega (arith, h);
+  scopes = omega (arith, ap length n);
+  made = m;
 }
 
-accepted-keeps : (e : Environment) (c : Call) (n : ℕ) → Keeps e (accepted e c n).after
-accepted-keeps e CreateObject n = record {
-  addons = refl;
-  opened = refl;
-  inits = refl;
-  phase = refl;
-  depth = length-changed _ e.frames;
-  asks = asks-in_frame _ e.frames;
-  handles = omega arith;
-  scopes = omega arith;
-  made = omega arith;
-}
-accepted-keeps e (Typeof h) n = same e
-accepted-keeps e OpenHandleScope n = record {
-  addons = refl;
-  opened = refl;
-  inits = refl;
-  phase = refl;
-  depth = length-changed _ e.frames;
-  asks = asks-in_frame _ e.frames;
-  handles = omega arith;
-  scopes = omega arith;
-  made = omega arith;
-}
-accepted-keeps e (CloseHandleScope s) n = record {
-  addons = refl;
-  opened = refl;
-  inits = refl;
-  phase = refl;
-  depth = length-changed _ e.frames;
-  asks = asks-in_frame _ e.frames;
-  handles = omega arith;
-  scopes = omega arith;
-  made = omega arith;
-}
+in-scopes : (heap : Heap) (new : Heap) → length new.scopes ≡ length heap.scopes → new.handles ≡ heap.handles → length new.scope_numbers ≤ length heap.scope_numbers + 1 → new.made ≡ heap.made → HeapKeeps heap new
+in-scopes heap new d h n m = record { depth = d; handles = omega (arith, h); scopes = n; made = omega (arith, m) }
 
-by-refusal : (e : Environment) (c : Call) (n : ℕ) (s : Option Status) → Keeps e (answer_by e c n s).after
-by-refusal e c n None = accepted-keeps e c n
-by-refusal e c n (Some s) = same e
+none-last : (a b c : Option Status) → option_or a (option_or b c) ≡ None → c ≡ None
+none-last None None c h = h
+none-last None (Some s) c h = cc
+none-last (Some s) b c h = cc
 
-pub answer-keeps : (e : Environment) (c : Call) (n : ℕ) → Keeps e (answer e c n).after
-answer-keeps e c n = by-refusal e c n (refusal e c)
+not-when : (b : Bool) (s : Status) → when b s ≡ None → b ≡ false
+not-when true s h = cc
+not-when false s h = refl
 
--- a call's entry and one ask more
+few : (n : ℕ) → nat_lt 65536 n ≡ false → n ≤ 65536
+few n h = grind arith
+
+named : (old : Heap) (n k : ℕ) → n ≡ k → k ≤ 65536 → old.made + n + 1 ≤ old.made + 65537
+named old n k e h = omega arith
+
+accepted-keeps : (texts : ℕ) (heap : Heap) (c : Call) (n : ℕ) → refusal_in texts heap c ≡ None → HeapKeeps heap (accepted heap c n).after
+accepted-keeps texts heap call.GetUndefined n h = handled heap heap _ refl refl refl (omega arith)
+accepted-keeps texts heap call.GetNull n h = handled heap heap _ refl refl refl (omega arith)
+accepted-keeps texts heap call.GetGlobal n h = handled heap heap _ refl refl refl (omega arith)
+accepted-keeps texts heap (call.GetBoolean b) n h = handled heap heap _ refl refl refl (omega arith)
+accepted-keeps texts heap (call.CreateInt64 i) n h = handled heap _ _ refl refl refl (omega arith)
+accepted-keeps texts heap (call.CreateBigintInt64 i) n h = handled heap _ _ refl refl refl (omega arith)
+accepted-keeps texts heap (call.CreateStringUtf8 t) n h = handled heap _ _ refl refl refl (omega arith)
+accepted-keeps texts heap (call.CreateSymbol d) n h = handled heap _ _ refl refl refl (omega arith)
+accepted-keeps texts heap call.CreateObject n h = handled heap _ _ refl refl refl (omega arith)
+accepted-keeps texts heap call.CreateArray n h = handled heap _ _ refl refl refl (omega arith)
+accepted-keeps texts heap (call.GetNamedProperty o name) n h = handled heap heap _ refl refl refl (omega arith)
+accepted-keeps texts heap (call.GetElement o at) n h = handled heap heap _ refl refl refl (omega arith)
+accepted-keeps texts heap (call.GetPropertyNames o) n h =
+    let ps = handle_properties heap o.0 in
+    let c : Call = call.GetPropertyNames o in
+    let row : row_refusal heap c ≡ None = none-last (unknown_refusal texts heap c) (kind_refusal heap c) (row_refusal heap c) h in
+    handled heap _ _ refl refl refl (named heap (length (names_of ps)) (length ps) (length-map ps _) (few (length ps) (not-when (nat_lt 65536 (length ps)) status.InvalidArg row)))
+accepted-keeps texts heap call.OpenHandleScope n h = in-scopes heap _ (length-changed _ heap.scopes) refl (omega arith) refl
+accepted-keeps texts heap (call.CloseHandleScope s) n h = in-scopes heap _ (length-changed _ heap.scopes) refl (omega arith) refl
+accepted-keeps texts heap (call.SetNamedProperty o name v) n h = in-scopes heap _ refl refl (omega arith) refl
+accepted-keeps texts heap (call.DeleteProperty o name) n h = in-scopes heap _ refl refl (omega arith) refl
+accepted-keeps texts heap (call.SetElement o at v) n h = in-scopes heap _ refl refl (omega arith) refl
+accepted-keeps texts heap _ n h = same heap
+
+by-refusal : (texts : ℕ) (heap : Heap) (c : Call) (n : ℕ) (s : Option Status) → refusal_in texts heap c ≡ s → HeapKeeps heap (answer_by heap c n s).after
+by-refusal texts heap c n None h = accepted-keeps texts heap c n h
+by-refusal texts heap c n (Some s) h = same heap
+
+pub answer_in-keeps : (texts : ℕ) (heap : Heap) (c : Call) (n : ℕ) → HeapKeeps heap (answer_in texts heap c n).after
+answer_in-keeps texts heap c n = by-refusal texts heap c n (refusal_in texts heap c) refl
+
+-- what a call's entry keeps: the addons, the opening, the init frames that began, the phase, and how many frames stand; one of them has made one ask more
 pub record KeepsButAsk (old new : Environment) : Type 0 where
   pub addons : new.addons ≡ old.addons
   pub opened : new.opened ≡ old.opened
   pub inits : new.inits ≡ old.inits
   pub phase : new.phase ≡ old.phase
   pub depth : length new.frames ≡ length old.frames
-  pub handles : new.handles ≤ old.handles + 1
-  pub scopes : length new.scope_numbers ≤ length old.scope_numbers + 1
-  pub made : new.made ≤ old.made + 1
-
-noted-keeps : (old e : Environment) (s : Status) → Keeps old e → KeepsButAsk old (noted s e)
-noted-keeps old e s k = record {
-  addons = k.addons;
-  opened = k.opened;
-  inits = k.inits;
-  phase = k.phase;
-  depth = rw (length-changed _ e.frames) k.depth;
-  handles = k.handles;
-  scopes = k.scopes;
-  made = k.made;
-}
+  pub heap : HeapKeeps old.heap new.heap
 
 pub called-keeps : (e : Environment) (c : Call) (n : ℕ) → KeepsButAsk e (called e c n).after
-called-keeps e c n = noted-keeps e (answer e c n).after (answer e c n).reply.status (answer-keeps e c n)
+called-keeps e c n = record {
+  addons = refl;
+  opened = refl;
+  inits = refl;
+  phase = refl;
+  depth = length-changed _ e.frames;
+  heap = answer_in-keeps e.texts e.heap c n;
+}

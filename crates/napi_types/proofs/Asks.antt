@@ -6,7 +6,7 @@ use Rattle.napi_types.specs.declared.entry.Entry.{Entry}
 use Rattle.napi_types.specs.declared.call.Ask.{Ask}
 use Rattle.napi_types.specs.declared.call.Ask.TheVariants as ask
 use Rattle.napi_types.specs.Lists.{head, tail}
-use Rattle.napi_types.specs.Scopes.{Frame}
+use Rattle.napi_types.specs.Frames.{Frame}
 use Rattle.napi_types.specs.Machine.{Machine}
 use Rattle.napi_types.specs.Run.{after, IsRunBy, steps, entries_of}
 use Rattle.napi_types.specs.Plan.{Plan, plan_of, Registers, registers_of, frame_ask, frames_ask, asked, asked_along, told_asks_along, registers_after, loaded_registers}

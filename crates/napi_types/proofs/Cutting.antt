@@ -3,36 +3,36 @@ use Rattle.std.proofs.Common.{◌≡◌, ◌<◌, ℕ, ◌==◌, ◌&&◌, false
 use Rattle.napi_types.specs.declared.call.Ask.{Ask}
 use Rattle.napi_types.specs.declared.call.Ask.TheVariants as ask
 use Rattle.napi_types.specs.declared.call.Call.{Call}
-use Rattle.napi_types.specs.declared.call.Call.TheVariants as call
 use Rattle.napi_types.specs.declared.entry.Actor.{Actor}
 use Rattle.napi_types.specs.declared.entry.Actor.TheVariants as actor
 use Rattle.napi_types.specs.declared.entry.Entry.{Entry}
 use Rattle.napi_types.specs.declared.entry.Out.{Out}
 use Rattle.napi_types.specs.declared.entry.Why.{Why}
 use Rattle.napi_types.specs.declared.entry.Why.TheVariants as why
+use Rattle.napi_types.specs.Built.{is_built, taken}
 use Rattle.napi_types.specs.Changes.{asks_made, is_fresh, may_ask}
 use Rattle.napi_types.specs.Cuts.{cut_by, first_called}
 use Rattle.napi_types.specs.Environment.{Environment}
 use Rattle.napi_types.specs.Machine.{Machine}
 use Rattle.napi_types.specs.Room.{room_of, may_want_memory, need, is_full}
 use Rattle.napi_types.specs.Run.{IsNext}
-use Rattle.napi_types.specs.Scopes.{Frame}
+use Rattle.napi_types.specs.Frames.{Frame}
 use Rattle.napi_types.specs.Step.{Step, env_step, step_of, frame_step, cut_of}
 use Rattle.napi_types.proofs.Runs.{and-left, and-right}
 
 -- the step is that of the frame
 frame-step : (m : Machine) (a : Ask) (x : Entry) (who : Actor) (f : Frame) (fs : List Frame) → m.env.frames ≡ f ∷ fs
-    → IsTrue (step_of m a x who).may → step_of m a x who ≡ frame_step m a x.reply.out (cut_of x.reply.out)
+    → IsTrue (step_of m a x who).may → step_of m a x who ≡ frame_step m (taken a) x.reply.out (cut_of x.reply.out)
 frame-step m a x actor.Env f fs e h = ap (λ l. env_step m a x.reply.out l) e
 frame-step m a x (actor.Thread n) f fs e h = cc
 frame-step m a x (actor.Worker n) f fs e h = cc
 
 -- whatever a frame may leave is one entry: so it is the only one that may come
 pub only-in-frame : (m : Machine) (a : Ask) (f : Frame) (fs : List Frame) (y : Entry) → m.env.frames ≡ f ∷ fs
-    → ((o : Out) (w : Option Why) → IsTrue (frame_step m a o w).may → (frame_step m a o w).entry ≡ y)
+    → ((o : Out) (w : Option Why) → IsTrue (frame_step m (taken a) o w).may → (frame_step m (taken a) o w).entry ≡ y)
     → (x : Entry) → IsNext m a x → x ≡ y
 only-in-frame m a f fs y e k x n =
-    let s : step_of m a x x.actor ≡ frame_step m a x.reply.out (cut_of x.reply.out) = frame-step m a x x.actor f fs e n.1 in
+    let s : step_of m a x x.actor ≡ frame_step m (taken a) x.reply.out (cut_of x.reply.out) = frame-step m a x x.actor f fs e n.1 in
     let P : Step → Type 0 = λ t. IsTrue t.may in
     n.0 ∙ ap (λ t. t.entry) s ∙ k x.reply.out (cut_of x.reply.out) (subst P s n.1)
 
@@ -54,10 +54,7 @@ spent-only m (ask.Leave v) s o None h = absurd (spent-asks m.env s h)
 
 -- each call needs a place for its entry
 pub needs-place : (c : Call) → 1 ≤ need c
-needs-place call.CreateObject = omega arith
-needs-place (call.Typeof h) = omega arith
-needs-place call.OpenHandleScope = omega arith
-needs-place (call.CloseHandleScope s) = omega arith
+needs-place c = omega arith
 
 -- where the journal's places are taken, every call is full
 pub full-there : (c : Call) → is_full (room_of first_called c) c ≡ true
@@ -80,7 +77,7 @@ full-only c o None h =
 
 -- the cut after the last ask may come there, and not before
 asks-step : (m : Machine) (a : Ask) (f : Frame) (fs : List Frame) → m.env.frames ≡ f ∷ fs
-    → step_of m a (cut_by why.Asks) actor.Env ≡ frame_step m a (cut_by why.Asks).reply.out (Some why.Asks)
+    → step_of m a (cut_by why.Asks) actor.Env ≡ frame_step m (taken a) (cut_by why.Asks).reply.out (Some why.Asks)
 asks-step m a f fs e = ap (λ l. env_step m a (cut_by why.Asks).reply.out l) e
 
 pub asks-next : (m : Machine) (f : Frame) (fs : List Frame) (a : Ask) → m.env.frames ≡ f ∷ fs → asks_made m.env.frames ≡ 65536 → IsNext m a (cut_by why.Asks)

@@ -27,6 +27,10 @@ abbrev pub told_kind : Kind → Out → Kind
 told_kind d (out.Kind k) = k
 told_kind d _ = d
 
+abbrev pub told_text : ℕ → Out → ℕ
+told_text d (out.Text t) = t.0
+told_text d _ = d
+
 abbrev pub told_reason : LoopEnd → Out → LoopEnd
 told_reason d (out.Ended e) = e
 told_reason d _ = d

@@ -14,6 +14,7 @@ use Rattle.napi_types.specs.declared.entry.Phase.{Phase}
 use Rattle.napi_types.specs.declared.entry.Phase.TheVariants as phase
 use Rattle.napi_types.specs.declared.entry.Why.{Why}
 use Rattle.napi_types.specs.Changes.{opened, called, frame_ended, may_ask, is_fresh, number_of}
+use Rattle.napi_types.specs.Built.{taken}
 use Rattle.napi_types.specs.Environment.{Environment}
 use Rattle.napi_types.specs.Hub.{Hub, Stage, Before, Going, Looped, Drained, Final, stage_after, staged, hub_next}
 use Rattle.napi_types.specs.Laws.{RoomSuffices}
@@ -21,7 +22,7 @@ use Rattle.napi_types.specs.Loop.{Event, Opens, Inits, Goes, EndsLoop, Drains, F
 use Rattle.napi_types.specs.Machine.{Machine}
 use Rattle.napi_types.specs.Room.{one_if, gone_place, stage_places, reserved_journal, reserved_history, room_of, is_full, need}
 use Rattle.napi_types.specs.Run.{IsRunBy, after, final}
-use Rattle.napi_types.specs.Scopes.{Frame}
+use Rattle.napi_types.specs.Frames.{Frame}
 use Rattle.napi_types.specs.Step.{locally, hub_moved, by_hub, event_step, chosen, call_step, asked_step, cut_of, frame_step, env_step, step_of}
 use Rattle.napi_types.specs.Teardown.{choice_in, choice}
 use Rattle.napi_types.specs.Whole.{Setting, final_of, opening_of}
@@ -195,7 +196,7 @@ frame-room l m a o None f fs e r h = asked-room l m a o f fs e r h
 env-room : (l : Limits) (m : Machine) (a : Ask) (o : Out) (fs : List Frame) → m.env.frames ≡ fs
     → Roomy l m → IsTrue (env_step m a o fs).may → Roomy l (env_step m a o fs).after
 env-room l m a o [] e r h = event-room l m m.env.phase refl e r
-env-room l m a o (f ∷ fs) e r h = frame-room l m a o (cut_of o) f fs e r h
+env-room l m a o (f ∷ fs) e r h = frame-room l m (taken a) o (cut_of o) f fs e r h
 
 step-room : (l : Limits) (m : Machine) (a : Ask) (x : Entry) (who : Actor) → Roomy l m → IsTrue (step_of m a x who).may → Roomy l (step_of m a x who).after
 step-room l m a x actor.Env r h = env-room l m a x.reply.out m.env.frames refl r h
@@ -247,7 +248,7 @@ frame-counted m a o None = asked-counted m a o
 
 env-counted : (m : Machine) (a : Ask) (o : Out) (fs : List Frame) → IsTrue (env_step m a o fs).may → entries (env_step m a o fs).after ≡ suc (entries m)
 env-counted m a o [] t = chosen-counted m (choice m.env) t
-env-counted m a o (f ∷ fs) t = frame-counted m a o (cut_of o)
+env-counted m a o (f ∷ fs) t = frame-counted m (taken a) o (cut_of o)
 
 step-counted : (m : Machine) (a : Ask) (x : Entry) (who : Actor) → IsTrue (step_of m a x who).may → entries (step_of m a x who).after ≡ suc (entries m)
 step-counted m a x actor.Env t = env-counted m a x.reply.out m.env.frames t

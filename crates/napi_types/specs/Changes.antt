@@ -16,8 +16,10 @@ use Rattle.napi_types.specs.declared.entry.Why.{Why}
 use Rattle.napi_types.specs.declared.entry.Phase.{Phase}
 use Rattle.napi_types.specs.declared.entry.Phase.TheVariants as phase
 use Rattle.napi_types.specs.Lists.{has_number, first_changed, tail}
-use Rattle.napi_types.specs.Scopes.{Frame, frame_of}
-use Rattle.napi_types.specs.Environment.{Environment, plain}
+use Rattle.napi_types.specs.Frames.{Frame, frame_of}
+use Rattle.napi_types.specs.Heap.{frame_entered, frame_left}
+use Rattle.napi_types.specs.Environment.{Environment}
+use Rattle.napi_types.specs.Replies.{plain}
 use Rattle.napi_types.specs.Calls.{answer}
 
 -- an entry of the environment, and the environment after it
@@ -33,11 +35,11 @@ host_entry h o = record { actor = actor.Env; depth = 0; step = 0; what = what.Ho
 abbrev pub opened : Environment → Change
 opened e = record { entry = host_entry host.Opened (out.Unsigned 9); after = record e { opened = true } }
 
--- the init frame of an addon begins at the addon's entry 0
+-- the init frame of an addon begins at the addon's entry 0, with a scope of its own
 abbrev pub init_begun : ℕ → Environment → Change
 init_begun n e = record {
   entry = host_entry host.Begin (out.Begin cause.Init n 0 None);
-  after = record e { inits = e.inits + 1; frames = frame_of cause.Init n 0 ∷ e.frames };
+  after = record e { inits = e.inits + 1; heap = frame_entered e.heap; frames = frame_of cause.Init n 0 ∷ e.frames };
 }
 
 -- how many asks the innermost frame made
@@ -60,7 +62,7 @@ number_of _ = 0
 
 -- a number that the environment chooses is above 0 and was never issued
 abbrev pub is_fresh : Environment → Out → Bool
-is_fresh e (out.Scope s) = not (has_number s.0 (0 ∷ e.scope_numbers))
+is_fresh e (out.Scope s) = not (has_number s.0 (0 ∷ e.heap.scope_numbers))
 is_fresh e _ = true
 
 -- how many asks a frame may make
@@ -82,7 +84,7 @@ end_out None = out.Nothing
 
 -- the innermost frame ends, cut or not, and its scopes close
 abbrev pub frame_ended : Option Why → Environment → Change
-frame_ended cut e = record { entry = host_entry host.End (end_out cut); after = record e { frames = tail e.frames } }
+frame_ended cut e = record { entry = host_entry host.End (end_out cut); after = record e { heap = frame_left e.heap; frames = tail e.frames } }
 
 -- the environment is gone
 abbrev pub gone : Environment → Change

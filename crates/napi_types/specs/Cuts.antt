@@ -1,5 +1,5 @@
 -- Where a frame is cut.
-use Rattle.std.specs.Prelude.{◌≡◌, ◌<◌, List, [], ◌∷◌, ◌++◌, None}
+use Rattle.std.specs.Prelude.{◌≡◌, ◌<◌, true, false, List, [], ◌∷◌, ◌++◌, None}
 use Rattle.napi_types.specs.declared.call.Ask.{Ask}
 use Rattle.napi_types.specs.declared.call.Ask.TheVariants as ask
 use Rattle.napi_types.specs.declared.call.Call.{Call}
@@ -11,10 +11,11 @@ use Rattle.napi_types.specs.declared.entry.Why.{Why}
 use Rattle.napi_types.specs.declared.entry.Why.TheVariants as why
 use Rattle.napi_types.specs.declared.ids.HandleId.{HandleId}
 use Rattle.napi_types.specs.declared.status.Status.TheVariants as status
+use Rattle.napi_types.specs.Built.{is_built}
 use Rattle.napi_types.specs.Changes.{host_entry}
 use Rattle.napi_types.specs.Machine.{Machine}
 use Rattle.napi_types.specs.Run.{IsNext}
-use Rattle.napi_types.specs.Scopes.{Frame}
+use Rattle.napi_types.specs.Frames.{Frame}
 use Rattle.napi_types.specs.Traces.{call_at, opening_entries}
 use Rattle.napi_types.specs.Whole.{Setting, RunsBy, final_of}
 
@@ -60,8 +61,10 @@ pub record CutsForRoom : Type 0 where
   -- for want of memory it may be cut at a call that grows, and at no other
   pub grows : IsNext begun create (cut_by why.Memory)
   pub stays : (h : HandleId) → IsNext begun (ask.Do (call.Typeof h)) (cut_by why.Memory) → ⊥
-  -- at the second call, whichever it is, the frame is cut as full, and nothing else may come
-  pub full : (c : Call) → IsOnlyNext first_called (ask.Do c) (cut_by why.Full)
+  -- at the second call, whichever of those built it is, the frame is cut as full, and nothing else may come
+  pub full : (c : Call) → is_built c ≡ true → IsOnlyNext first_called (ask.Do c) (cut_by why.Full)
+  -- an addon that asks another call is taken to leave
+  pub leaves : (c : Call) → is_built c ≡ false → IsOnlyNext first_called (ask.Do c) (host_entry host.End out.Nothing)
 
 -- THE LAST ASK
 -- a frame that has made 65,536 asks is cut for that whatever it would ask, and nothing else may come

@@ -9,11 +9,14 @@ use Rattle.napi_types.specs.declared.entry.Phase.TheVariants as phase
 use Rattle.napi_types.specs.declared.ids.HandleId.{HandleId}
 use Rattle.napi_types.specs.declared.status.Status.TheVariants as status
 use Rattle.napi_types.specs.Calls.{answer, by_groups}
-use Rattle.napi_types.specs.Environment.{Environment, plain}
+use Rattle.napi_types.specs.Built.{is_built}
+use Rattle.napi_types.specs.Environment.{Environment}
+use Rattle.napi_types.specs.Heap.{Heap}
+use Rattle.napi_types.specs.Replies.{plain}
 use Rattle.napi_types.specs.Machine.{Machine}
 use Rattle.napi_types.specs.Refusals.{refusal}
-use Rattle.napi_types.specs.Room.{reserved_journal, reserved_history}
-use Rattle.napi_types.specs.Scopes.{scopes_of, gives}
+use Rattle.napi_types.specs.Room.{reserved_journal, reserved_history, one_if}
+use Rattle.napi_types.specs.Scopes.{gives}
 use Rattle.napi_types.specs.Whole.{Setting, RunsBy, final_of}
 use Rattle.napi_types.specs.Run.{IsRunBy, ComputesBy}
 
@@ -25,11 +28,11 @@ pub record RefusesHandle (e : Environment) (h : HandleId) : Type 0 where
 
 -- a handle that no open scope holds is refused
 abbrev pub RefusesUnknownHandles : Type 0
-RefusesUnknownHandles = (e : Environment) (h : HandleId) → gives (scopes_of e.frames) h.0 ≡ None → RefusesHandle e h
+RefusesUnknownHandles = (e : Environment) (h : HandleId) → gives e.heap.scopes h.0 ≡ None → RefusesHandle e h
 
--- each call has a row: exactly one group of calls answers it
+-- each call that is built has a row: exactly one group of calls answers it, and none answers another call
 abbrev pub EveryCallHasARow : Type 0
-EveryCallHasARow = (e : Environment) (c : Call) (n : ℕ) → length (filter is_some (by_groups e c n)) ≡ 1
+EveryCallHasARow = (heap : Heap) (c : Call) (n : ℕ) → length (filter is_some (by_groups heap c n)) ≡ one_if (is_built c)
 
 -- a run, and what computes to be one, are the same
 abbrev pub RunsAreComputed : Type 0

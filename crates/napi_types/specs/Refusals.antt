@@ -1,37 +1,103 @@
 -- The first refusal of a call that applies: a table for each point of their order.
-use Rattle.std.specs.Prelude.{ℕ, Bool, List, [], Option, None, is_some}
-use Rattle.std.specs.Option.{option_or}
+use Rattle.std.specs.Prelude.{ℕ, Bool, ◌&&◌, List, [], ◌∷◌, ◌++◌, length, nat_lt, pos, negsuc, int_le, Option, Some, None, is_some}
 use Rattle.std.specs.List.{list_all}
+use Rattle.std.specs.Option.{option_or}
+use Rattle.napi_types.specs.declared.body.Body.{Body}
 use Rattle.napi_types.specs.declared.call.Call.{Call}
-use Rattle.napi_types.specs.declared.call.Call.TheVariants.{CreateObject, Typeof, OpenHandleScope, CloseHandleScope}
+use Rattle.napi_types.specs.declared.call.Call.TheVariants as call
+use Rattle.napi_types.specs.declared.ids.HandleId.{HandleId}
 use Rattle.napi_types.specs.declared.status.Status.{Status}
 use Rattle.napi_types.specs.declared.status.Status.TheVariants as status
-use Rattle.napi_types.specs.Lists.{one, unless}
-use Rattle.napi_types.specs.Scopes.{scopes_of, gives, opened_scopes, closing}
 use Rattle.napi_types.specs.Environment.{Environment}
+use Rattle.napi_types.specs.Heap.{Heap, handle_body, handle_properties}
+use Rattle.napi_types.specs.Lists.{one, when, unless}
+use Rattle.napi_types.specs.Scopes.{gives, opened_scopes, closing}
+use Rattle.napi_types.specs.Values.{is_object_like, is_string, is_number, is_bigint, is_boolean, is_array, most_names, most_index}
+
+-- A HANDLE OR A TEXT THAT IS UNKNOWN
+-- the handle of an argument that may be left out
+abbrev pub handle_if : Option HandleId → List ℕ
+handle_if None = []
+handle_if (Some h) = one h.0
 
 -- the handles that a call names
 abbrev pub handles_of : Call → List ℕ
-handles_of CreateObject = []
-handles_of (Typeof h) = one h.0
-handles_of OpenHandleScope = []
-handles_of (CloseHandleScope s) = []
+handles_of (call.CreateSymbol h) = handle_if h
+handles_of (call.Typeof h) = one h.0
+handles_of (call.IsArray h) = one h.0
+handles_of (call.GetValueInt64 h) = one h.0
+handles_of (call.GetValueBigintInt64 h) = one h.0
+handles_of (call.GetValueBool h) = one h.0
+handles_of (call.GetValueStringUtf8 h) = one h.0
+handles_of (call.GetArrayLength h) = one h.0
+handles_of (call.StrictEquals g h) = g.0 ∷ one h.0
+handles_of (call.SetNamedProperty h _ v) = h.0 ∷ one v.0
+handles_of (call.GetNamedProperty h _) = one h.0
+handles_of (call.HasNamedProperty h _) = one h.0
+handles_of (call.DeleteProperty h _) = one h.0
+handles_of (call.GetPropertyNames h) = one h.0
+handles_of (call.SetElement h _ v) = h.0 ∷ one v.0
+handles_of (call.GetElement h _) = one h.0
+handles_of (call.HasElement h _) = one h.0
+handles_of _ = []
 
--- each handle that the call names lies in an open scope
-abbrev pub is_known : Environment → Call → Bool
-is_known e c = list_all (λ h. is_some (gives (scopes_of e.frames) h)) (handles_of c)
+-- the texts that a call names
+abbrev pub texts_of : Call → List ℕ
+texts_of (call.CreateStringUtf8 t) = one t.0
+texts_of (call.SetNamedProperty _ name _) = one name.0
+texts_of (call.GetNamedProperty _ name) = one name.0
+texts_of (call.HasNamedProperty _ name) = one name.0
+texts_of (call.DeleteProperty _ name) = one name.0
+texts_of _ = []
 
--- a handle that no open scope holds is an invalid argument
-abbrev pub unknown_refusal : Environment → Call → Option Status
-unknown_refusal e c = unless (is_known e c) status.InvalidArg
+-- each handle that the call names lies in an open scope, and each text that it names stands in the table, of so many texts
+abbrev pub is_known : ℕ → Heap → Call → Bool
+is_known texts heap c = list_all (λ h. is_some (gives heap.scopes h)) (handles_of c) && list_all (λ t. nat_lt t texts) (texts_of c)
 
--- the refusals of the call's own row
-abbrev pub row_refusal : Environment → Call → Option Status
-row_refusal e CreateObject = None
-row_refusal e (Typeof h) = None
-row_refusal e OpenHandleScope = None
-row_refusal e (CloseHandleScope s) = closing s.0 (opened_scopes (scopes_of e.frames))
+-- a handle that no open scope holds, and a text past the table, is an invalid argument
+abbrev pub unknown_refusal : ℕ → Heap → Call → Option Status
+unknown_refusal texts heap c = unless (is_known texts heap c) status.InvalidArg
+
+-- A VALUE OF ANOTHER KIND
+-- a status where a handle's value is not of the expected kind
+abbrev pub expects : Heap → HandleId → (Body → Bool) → Status → Option Status
+expects heap h test s = unless (test (handle_body heap h.0)) s
+
+-- the same of an argument that may be left out
+abbrev pub expects_if : Heap → Option HandleId → (Body → Bool) → Status → Option Status
+expects_if heap None test s = None
+expects_if heap (Some h) test s = expects heap h test s
+
+abbrev pub kind_refusal : Heap → Call → Option Status
+kind_refusal heap (call.CreateSymbol h) = expects_if heap h is_string status.StringExpected
+kind_refusal heap (call.GetValueInt64 h) = expects heap h is_number status.NumberExpected
+kind_refusal heap (call.GetValueBigintInt64 h) = expects heap h is_bigint status.BigintExpected
+kind_refusal heap (call.GetValueBool h) = expects heap h is_boolean status.BooleanExpected
+kind_refusal heap (call.GetValueStringUtf8 h) = expects heap h is_string status.StringExpected
+kind_refusal heap (call.GetArrayLength h) = expects heap h is_array status.ArrayExpected
+kind_refusal heap (call.SetNamedProperty h _ _) = expects heap h is_object_like status.ObjectExpected
+kind_refusal heap (call.GetNamedProperty h _) = expects heap h is_object_like status.ObjectExpected
+kind_refusal heap (call.HasNamedProperty h _) = expects heap h is_object_like status.ObjectExpected
+kind_refusal heap (call.DeleteProperty h _) = expects heap h is_object_like status.ObjectExpected
+kind_refusal heap (call.GetPropertyNames h) = expects heap h is_object_like status.ObjectExpected
+kind_refusal heap (call.SetElement h _ _) = expects heap h is_object_like status.ObjectExpected
+kind_refusal heap (call.GetElement h _) = expects heap h is_object_like status.ObjectExpected
+kind_refusal heap (call.HasElement h _) = expects heap h is_object_like status.ObjectExpected
+kind_refusal heap _ = None
+
+-- THE CALL'S OWN REFUSALS
+-- a number is a whole number from -(2^53-1) to 2^53-1; an object with more than 65,536 names is not listed; an element's index is at most 65,535; scopes close innermost first
+abbrev pub row_refusal : Heap → Call → Option Status
+row_refusal heap (call.CreateInt64 i) = unless (int_le (negsuc 9007199254740990) i && int_le i (pos 9007199254740991)) status.InvalidArg
+row_refusal heap (call.GetPropertyNames h) = when (nat_lt most_names (length (handle_properties heap h.0))) status.InvalidArg
+row_refusal heap (call.SetElement _ at _) = when (nat_lt most_index at) status.InvalidArg
+row_refusal heap (call.CloseHandleScope s) = closing s.0 (opened_scopes heap.scopes)
+row_refusal heap _ = None
+
+-- the first of the points that applies, in a heap and a table of so many texts
+abbrev pub refusal_in : ℕ → Heap → Call → Option Status
+refusal_in texts heap c = option_or (unknown_refusal texts heap c) (option_or (kind_refusal heap c) (row_refusal heap c))
 
 -- the first of the points that applies
 abbrev pub refusal : Environment → Call → Option Status
-refusal e c = option_or (unknown_refusal e c) (row_refusal e c)
+refusal e c = refusal_in e.texts e.heap c

@@ -1,11 +1,14 @@
 -- The registers of an addon, and what its plan asks: a plan has a list of operations for each entry, and an addon has 32 registers.
-use Rattle.std.specs.Prelude.{ℕ, ◌++◌, Bool, true, false, List, take, set, replicate, slice_get, slice_index, Option, Some, None, option_and_then}
+use Rattle.std.specs.Prelude.{ℕ, ◌++◌, Bool, true, false, cond, min, nat_lt, List, [], ◌∷◌, take, set, replicate, slice_get, slice_index, Option, Some, None, option_and_then, option_map, is_some}
 use Rattle.std.specs.Int.{cast_unsigned, w64}
+use Rattle.napi_types.specs.declared.call.Args.{Args}
 use Rattle.napi_types.specs.declared.call.Ask.{Ask}
 use Rattle.napi_types.specs.declared.call.Ask.TheVariants as ask
 use Rattle.napi_types.specs.declared.call.Call.TheVariants as call
-use Rattle.napi_types.specs.declared.call.Op.{Op}
-use Rattle.napi_types.specs.declared.call.Op.TheVariants as op
+use Rattle.napi_types.specs.declared.ids.HandleId.{HandleId}
+use Rattle.napi_types.specs.declared.op.Regs.{Regs}
+use Rattle.napi_types.specs.declared.op.Op.{Op}
+use Rattle.napi_types.specs.declared.op.Op.TheVariants as op
 use Rattle.napi_types.specs.declared.entry.Out.{Out}
 use Rattle.napi_types.specs.declared.entry.Out.TheVariants as out
 use Rattle.napi_types.specs.declared.entry.Reply.{Reply}
@@ -17,19 +20,153 @@ use Rattle.napi_types.specs.Numbers.{kind_number}
 abbrev pub register_at : List ℕ → ℕ → ℕ
 register_at rs r = slice_index rs r
 
+-- the handle whose number is in a register
+abbrev pub handle_in : List ℕ → ℕ → HandleId
+handle_in rs r = record { 0 = register_at rs r }
+
+-- the handle of the place among the arguments of a call, 0 from the count on
+abbrev pub argument_in : List ℕ → Regs → ℕ → HandleId
+argument_in rs list place = cond (nat_lt place (min list.count 4)) (handle_in rs (slice_index list.regs place)) (record { 0 = 0 })
+
+-- the arguments of a call of a function, whose handles are in registers: at most four
+abbrev pub arguments_in : List ℕ → Regs → Args
+arguments_in rs list = record {
+  count = min list.count 4;
+  handles = argument_in rs list 0 ∷ argument_in rs list 1 ∷ argument_in rs list 2 ∷ argument_in rs list 3 ∷ [];
+}
+
 -- an operation filled from registers
 abbrev pub filled : Op → List ℕ → Ask
+filled (op.GetUndefined w) rs = ask.Do call.GetUndefined
+filled (op.GetNull w) rs = ask.Do call.GetNull
+filled (op.GetGlobal w) rs = ask.Do call.GetGlobal
+filled (op.GetBoolean flag w) rs = ask.Do (call.GetBoolean flag)
+filled (op.CreateInt64 number w) rs = ask.Do (call.CreateInt64 number)
+filled (op.CreateBigintInt64 number w) rs = ask.Do (call.CreateBigintInt64 number)
+filled (op.CreateStringUtf8 text w) rs = ask.Do (call.CreateStringUtf8 text)
+filled (op.CreateSymbol description w) rs = ask.Do (call.CreateSymbol (option_map (handle_in rs) description))
 filled (op.CreateObject w) rs = ask.Do call.CreateObject
-filled (op.Typeof r w) rs = ask.Do (call.Typeof (record { 0 = register_at rs r }))
+filled (op.CreateArray w) rs = ask.Do call.CreateArray
+filled (op.CreateFunction entry payload w) rs = ask.Do (call.CreateFunction entry payload)
+filled (op.CreateExternal payload entry hint w) rs = ask.Do (call.CreateExternal payload entry hint)
+filled (op.CreateError code message w) rs = ask.Do (call.CreateError (option_map (handle_in rs) code) (handle_in rs message))
+filled (op.Typeof value w) rs = ask.Do (call.Typeof (handle_in rs value))
+filled (op.IsArray value w) rs = ask.Do (call.IsArray (handle_in rs value))
+filled (op.IsError value w) rs = ask.Do (call.IsError (handle_in rs value))
+filled (op.GetValueInt64 value w) rs = ask.Do (call.GetValueInt64 (handle_in rs value))
+filled (op.GetValueBigintInt64 value w) rs = ask.Do (call.GetValueBigintInt64 (handle_in rs value))
+filled (op.GetValueBool value w) rs = ask.Do (call.GetValueBool (handle_in rs value))
+filled (op.GetValueStringUtf8 value w) rs = ask.Do (call.GetValueStringUtf8 (handle_in rs value))
+filled (op.GetValueExternal value w) rs = ask.Do (call.GetValueExternal (handle_in rs value))
+filled (op.GetArrayLength value w) rs = ask.Do (call.GetArrayLength (handle_in rs value))
+filled (op.StrictEquals left right w) rs = ask.Do (call.StrictEquals (handle_in rs left) (handle_in rs right))
+filled (op.SetNamedProperty object name value) rs = ask.Do (call.SetNamedProperty (handle_in rs object) name (handle_in rs value))
+filled (op.GetNamedProperty object name w) rs = ask.Do (call.GetNamedProperty (handle_in rs object) name)
+filled (op.HasNamedProperty object name w) rs = ask.Do (call.HasNamedProperty (handle_in rs object) name)
+filled (op.DeleteProperty object name w) rs = ask.Do (call.DeleteProperty (handle_in rs object) name)
+filled (op.GetPropertyNames object w) rs = ask.Do (call.GetPropertyNames (handle_in rs object))
+filled (op.SetElement object index value) rs = ask.Do (call.SetElement (handle_in rs object) index (handle_in rs value))
+filled (op.GetElement object index w) rs = ask.Do (call.GetElement (handle_in rs object) index)
+filled (op.HasElement object index w) rs = ask.Do (call.HasElement (handle_in rs object) index)
 filled (op.OpenHandleScope w) rs = ask.Do call.OpenHandleScope
-filled (op.CloseHandleScope r) rs = ask.Do (call.CloseHandleScope (record { 0 = register_at rs r }))
+filled (op.OpenEscapableHandleScope w) rs = ask.Do call.OpenEscapableHandleScope
+filled (op.CloseHandleScope scope) rs = ask.Do (call.CloseHandleScope (record { 0 = register_at rs scope }))
+filled (op.CloseEscapableHandleScope scope) rs = ask.Do (call.CloseEscapableHandleScope (record { 0 = register_at rs scope }))
+filled (op.EscapeHandle scope value w) rs = ask.Do (call.EscapeHandle (record { 0 = register_at rs scope }) (handle_in rs value))
+filled (op.CreateReference value count w) rs = ask.Do (call.CreateReference (handle_in rs value) count)
+filled (op.DeleteReference reference) rs = ask.Do (call.DeleteReference (record { 0 = register_at rs reference }))
+filled (op.ReferenceRef reference w) rs = ask.Do (call.ReferenceRef (record { 0 = register_at rs reference }))
+filled (op.ReferenceUnref reference w) rs = ask.Do (call.ReferenceUnref (record { 0 = register_at rs reference }))
+filled (op.GetReferenceValue reference w) rs = ask.Do (call.GetReferenceValue (record { 0 = register_at rs reference }))
+filled (op.Wrap object payload entry hint w) rs = ask.Do (call.Wrap (handle_in rs object) payload entry hint (is_some w))
+filled (op.Unwrap object w) rs = ask.Do (call.Unwrap (handle_in rs object))
+filled (op.RemoveWrap object w) rs = ask.Do (call.RemoveWrap (handle_in rs object))
+filled (op.TypeTagObject object lower upper) rs = ask.Do (call.TypeTagObject (handle_in rs object) lower upper)
+filled (op.CheckObjectTypeTag object lower upper w) rs = ask.Do (call.CheckObjectTypeTag (handle_in rs object) lower upper)
+filled (op.AddFinalizer object payload entry hint w) rs = ask.Do (call.AddFinalizer (handle_in rs object) payload entry hint (is_some w))
+filled (op.CallFunction receiver function arguments w) rs = ask.Do (call.CallFunction (option_map (handle_in rs) receiver) (handle_in rs function) (arguments_in rs arguments))
+filled (op.Throw error) rs = ask.Do (call.Throw (handle_in rs error))
+filled (op.ThrowError code message) rs = ask.Do (call.ThrowError code message)
+filled (op.IsExceptionPending w) rs = ask.Do call.IsExceptionPending
+filled (op.GetAndClearLastException w) rs = ask.Do call.GetAndClearLastException
+filled (op.GetLastErrorInfo w) rs = ask.Do call.GetLastErrorInfo
+filled (op.SetInstanceData payload entry hint) rs = ask.Do (call.SetInstanceData payload entry hint)
+filled (op.GetInstanceData w) rs = ask.Do call.GetInstanceData
+filled (op.AddEnvCleanupHook entry argument) rs = ask.Do (call.AddEnvCleanupHook entry argument)
+filled (op.RemoveEnvCleanupHook entry argument) rs = ask.Do (call.RemoveEnvCleanupHook entry argument)
+filled (op.CreateAsyncWork job entry payload w) rs = ask.Do (call.CreateAsyncWork job entry payload)
+filled (op.DeleteAsyncWork work) rs = ask.Do (call.DeleteAsyncWork (record { 0 = register_at rs work }))
+filled (op.CancelAsyncWork work) rs = ask.Do (call.CancelAsyncWork (record { 0 = register_at rs work }))
+filled (op.QueueAsyncWork work) rs = ask.Do (call.QueueAsyncWork (record { 0 = register_at rs work }))
+filled (op.CreateThreadsafeFunction function entry maximum count finalizer context w) rs = ask.Do (call.CreateThreadsafeFunction (option_map (handle_in rs) function) entry maximum count finalizer context)
+filled (op.CallThreadsafeFunction function payload mode) rs = ask.Do (call.CallThreadsafeFunction (record { 0 = register_at rs function }) payload mode)
+filled (op.AcquireThreadsafeFunction function) rs = ask.Do (call.AcquireThreadsafeFunction (record { 0 = register_at rs function }))
+filled (op.ReleaseThreadsafeFunction function mode) rs = ask.Do (call.ReleaseThreadsafeFunction (record { 0 = register_at rs function }) mode)
+filled (op.RefThreadsafeFunction function) rs = ask.Do (call.RefThreadsafeFunction (record { 0 = register_at rs function }))
+filled (op.UnrefThreadsafeFunction function) rs = ask.Do (call.UnrefThreadsafeFunction (record { 0 = register_at rs function }))
+filled (op.GetThreadsafeFunctionContext function w) rs = ask.Do (call.GetThreadsafeFunctionContext (record { 0 = register_at rs function }))
+filled (op.GetVersion w) rs = ask.Do call.GetVersion
+filled (op.Collect w) rs = ask.Do call.Collect
+filled op.Exit rs = ask.Do call.Exit
+filled (op.Return r) rs = ask.Leave (option_map (handle_in rs) r)
+filled (op.ThreadCall f n m) rs = ask.Do (call.CallThreadsafeFunction (record { 0 = f }) n m)
+filled (op.ThreadAcquire f) rs = ask.Do (call.AcquireThreadsafeFunction (record { 0 = f }))
+filled (op.ThreadRelease f m) rs = ask.Do (call.ReleaseThreadsafeFunction (record { 0 = f }) m)
 
 -- the register that keeps an operation's result
 abbrev pub result_register : Op → Option ℕ
+result_register (op.GetUndefined w) = Some w
+result_register (op.GetNull w) = Some w
+result_register (op.GetGlobal w) = Some w
+result_register (op.GetBoolean _ w) = Some w
+result_register (op.CreateInt64 _ w) = Some w
+result_register (op.CreateBigintInt64 _ w) = Some w
+result_register (op.CreateStringUtf8 _ w) = Some w
+result_register (op.CreateSymbol _ w) = Some w
 result_register (op.CreateObject w) = Some w
-result_register (op.Typeof r w) = Some w
+result_register (op.CreateArray w) = Some w
+result_register (op.CreateFunction _ _ w) = Some w
+result_register (op.CreateExternal _ _ _ w) = Some w
+result_register (op.CreateError _ _ w) = Some w
+result_register (op.Typeof _ w) = Some w
+result_register (op.IsArray _ w) = Some w
+result_register (op.IsError _ w) = Some w
+result_register (op.GetValueInt64 _ w) = Some w
+result_register (op.GetValueBigintInt64 _ w) = Some w
+result_register (op.GetValueBool _ w) = Some w
+result_register (op.GetValueStringUtf8 _ w) = Some w
+result_register (op.GetValueExternal _ w) = Some w
+result_register (op.GetArrayLength _ w) = Some w
+result_register (op.StrictEquals _ _ w) = Some w
+result_register (op.GetNamedProperty _ _ w) = Some w
+result_register (op.HasNamedProperty _ _ w) = Some w
+result_register (op.DeleteProperty _ _ w) = Some w
+result_register (op.GetPropertyNames _ w) = Some w
+result_register (op.GetElement _ _ w) = Some w
+result_register (op.HasElement _ _ w) = Some w
 result_register (op.OpenHandleScope w) = Some w
-result_register (op.CloseHandleScope r) = None
+result_register (op.OpenEscapableHandleScope w) = Some w
+result_register (op.EscapeHandle _ _ w) = Some w
+result_register (op.CreateReference _ _ w) = Some w
+result_register (op.ReferenceRef _ w) = Some w
+result_register (op.ReferenceUnref _ w) = Some w
+result_register (op.GetReferenceValue _ w) = Some w
+result_register (op.Wrap _ _ _ _ w) = w
+result_register (op.Unwrap _ w) = Some w
+result_register (op.RemoveWrap _ w) = Some w
+result_register (op.CheckObjectTypeTag _ _ _ w) = Some w
+result_register (op.AddFinalizer _ _ _ _ w) = w
+result_register (op.CallFunction _ _ _ w) = Some w
+result_register (op.IsExceptionPending w) = Some w
+result_register (op.GetAndClearLastException w) = Some w
+result_register (op.GetLastErrorInfo w) = Some w
+result_register (op.GetInstanceData w) = Some w
+result_register (op.CreateAsyncWork _ _ _ w) = Some w
+result_register (op.CreateThreadsafeFunction _ _ _ _ _ _ w) = Some w
+result_register (op.GetThreadsafeFunctionContext _ w) = Some w
+result_register (op.GetVersion w) = Some w
+result_register (op.Collect w) = Some w
+result_register _ = None
 
 -- a flag as a number
 abbrev pub flag_number : Bool → ℕ

@@ -3,7 +3,7 @@ use Rattle.std.specs.Prelude.{ℕ, ◌+◌, ◌-◌, ◌*◌, Bool, true, false,
 use Rattle.napi_types.specs.declared.call.Call.{Call}
 use Rattle.napi_types.specs.declared.entry.Phase.{Phase}
 use Rattle.napi_types.specs.declared.entry.Phase.TheVariants as phase
-use Rattle.napi_types.specs.declared.call.Call.TheVariants.{CreateObject, Typeof, OpenHandleScope, CloseHandleScope}
+use Rattle.napi_types.specs.declared.call.Call.TheVariants as call
 use Rattle.napi_types.specs.Environment.{Environment}
 use Rattle.napi_types.specs.Hub.{Hub, Stage, Before, Going, Looped, Drained, Final}
 use Rattle.napi_types.specs.Machine.{Machine}
@@ -47,12 +47,9 @@ journal_room e locals limit = record { limit = limit; taken = locals + reserved_
 abbrev pub room_of : Machine → Call → Room
 room_of m c = journal_room m.env m.locals m.limits.journal
 
--- the places that a call needs, counted as if it were accepted
+-- the places that a call needs, counted as if it were accepted: one for its entry, since no call that is built enters a frame or makes a duty
 abbrev pub need : Call → ℕ
-need CreateObject = 1
-need (Typeof h) = 1
-need OpenHandleScope = 1
-need (CloseHandleScope s) = 1
+need c = 1
 
 -- how many entries a list may have at most
 abbrev pub most_entries : ℕ
@@ -66,12 +63,25 @@ first_places = 65536
 abbrev pub is_full : Room → Call → Bool
 is_full r c = nat_lt r.limit (r.taken + need c)
 
--- a call that takes memory beside that of its places in the list of its entry: one whose result is a newly issued number
+-- a call that takes memory beside that of its places in the list of its entry: one whose result is a newly issued number, and one that sets a property or an element
 abbrev pub is_growing : Call → Bool
-is_growing CreateObject = true
-is_growing OpenHandleScope = true
-is_growing (Typeof h) = false
-is_growing (CloseHandleScope s) = false
+is_growing call.GetUndefined = true
+is_growing call.GetNull = true
+is_growing call.GetGlobal = true
+is_growing (call.GetBoolean _) = true
+is_growing (call.CreateInt64 _) = true
+is_growing (call.CreateBigintInt64 _) = true
+is_growing (call.CreateStringUtf8 _) = true
+is_growing (call.CreateSymbol _) = true
+is_growing call.CreateObject = true
+is_growing call.CreateArray = true
+is_growing (call.SetNamedProperty _ _ _) = true
+is_growing (call.GetNamedProperty _ _) = true
+is_growing (call.GetPropertyNames _) = true
+is_growing (call.SetElement _ _ _) = true
+is_growing (call.GetElement _ _) = true
+is_growing call.OpenHandleScope = true
+is_growing _ = false
 
 -- the call grows, or entries, reserved places and its need pass the first places
 abbrev pub may_want_memory : Room → Call → Bool

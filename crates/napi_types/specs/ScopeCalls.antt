@@ -1,14 +1,18 @@
 -- What the calls on scopes answer and leave where nothing refuses them.
-use Rattle.std.specs.Prelude.{ℕ, ◌∷◌, Option, Some, None}
+use Rattle.std.specs.Prelude.{ℕ, List, ◌∷◌, Option, Some, None}
 use Rattle.napi_types.specs.declared.call.Call.{Call}
-use Rattle.napi_types.specs.declared.call.Call.TheVariants.{OpenHandleScope, CloseHandleScope}
+use Rattle.napi_types.specs.declared.call.Call.TheVariants as call
 use Rattle.napi_types.specs.declared.entry.Out.TheVariants as out
-use Rattle.napi_types.specs.Scopes.{in_frame, open_in, close_in}
-use Rattle.napi_types.specs.Environment.{Environment, Answer, answered}
+use Rattle.napi_types.specs.Heap.{Heap, in_scopes}
+use Rattle.napi_types.specs.Replies.{Answer, answered}
+use Rattle.napi_types.specs.Scopes.{open_in, close_in}
 
--- `open_handle_scope` opens a scope of the number n inside the innermost one; `close_handle_scope` ends the innermost one
-abbrev pub on_scopes : Environment → Call → ℕ → Option Answer
-on_scopes e OpenHandleScope n =
-    Some (answered (out.Scope (record { 0 = n })) (record e { scope_numbers = n ∷ e.scope_numbers; frames = in_frame (open_in n) e.frames }))
-on_scopes e (CloseHandleScope s) n = Some (answered out.Nothing (record e { frames = in_frame close_in e.frames }))
-on_scopes e _ n = None
+-- a scope of the number n is open inside the innermost one
+abbrev pub with_scope : ℕ → Heap → Heap
+with_scope n heap = in_scopes (open_in n) (record heap { scope_numbers = n ∷ heap.scope_numbers })
+
+-- `open_handle_scope` opens a scope of the number n; `close_handle_scope` ends the innermost one
+abbrev pub on_scopes : Heap → Call → ℕ → Option (Answer Heap)
+on_scopes heap call.OpenHandleScope n = Some (answered (out.Scope (record { 0 = n })) (with_scope n heap))
+on_scopes heap (call.CloseHandleScope s) n = Some (answered out.Nothing (in_scopes close_in heap))
+on_scopes heap _ n = None

@@ -1,10 +1,9 @@
--- Handle scopes: the frames that stand, each with its scopes, and the handles that the scopes hold.
-use Rattle.std.specs.Prelude.{ℕ, ◌==◌, Bool, not, List, [], ◌∷◌, ◌++◌, map, Option, Some, None, option_map}
+-- Handle scopes: those of each frame that stands, and the handles that they hold.
+use Rattle.std.specs.Prelude.{ℕ, ◌==◌, Bool, not, List, [], ◌∷◌, ◌++◌, Option, Some, None, option_map}
 use Rattle.std.specs.Option.{option_or}
-use Rattle.napi_types.specs.declared.entry.Cause.{Cause}
 use Rattle.napi_types.specs.declared.status.Status.{Status}
 use Rattle.napi_types.specs.declared.status.Status.TheVariants as status
-use Rattle.napi_types.specs.Lists.{found, has, first_changed, when, tail, one}
+use Rattle.napi_types.specs.Lists.{found, has, when, tail, one}
 
 -- a handle, and the creation number of its value
 pub record Held : Type 0 where
@@ -24,30 +23,6 @@ pub record FrameScopes : Type 0 where
 -- the scopes of a frame as it begins
 abbrev pub no_handles : FrameScopes
 no_handles = record { own = []; opened = [] }
-
--- a frame: why it began, which entry of which addon it runs, how many asks it made, and its scopes
-pub record Frame : Type 0 where
-  pub cause : Cause
-  pub addon : ℕ
-  pub entry : ℕ
-  pub asks : ℕ
-  pub scopes : FrameScopes
-
--- a frame as it begins
-abbrev pub frame_of : Cause → ℕ → ℕ → Frame
-frame_of c addon entry = record { cause = c; addon = addon; entry = entry; asks = 0; scopes = no_handles }
-
--- the scopes of the frames that stand
-abbrev pub scopes_of : List Frame → List FrameScopes
-scopes_of fs = map (λ f. f.scopes) fs
-
--- a frame whose scopes changed
-abbrev pub scopes_changed : (FrameScopes → FrameScopes) → Frame → Frame
-scopes_changed c f = record f { scopes = c f.scopes }
-
--- the frames where the innermost one's scopes changed
-abbrev pub in_frame : (FrameScopes → FrameScopes) → List Frame → List Frame
-in_frame c fs = first_changed (scopes_changed c) fs
 
 -- the value of a handle that is held here
 abbrev pub value_in : List Held → ℕ → Option ℕ

@@ -14,7 +14,8 @@ use Rattle.napi_types.specs.declared.entry.Why.{Why}
 use Rattle.napi_types.specs.declared.entry.Why.TheVariants as why
 use Rattle.napi_types.specs.declared.entry.Phase.{Phase}
 use Rattle.napi_types.specs.declared.entry.Phase.TheVariants as phase
-use Rattle.napi_types.specs.Scopes.{Frame}
+use Rattle.napi_types.specs.Built.{taken}
+use Rattle.napi_types.specs.Frames.{Frame}
 use Rattle.napi_types.specs.Hub.{Hub, hub_next}
 use Rattle.napi_types.specs.Machine.{Machine}
 use Rattle.napi_types.specs.Room.{room_of, is_full, may_want_memory}
@@ -93,10 +94,10 @@ abbrev pub frame_step : Machine → Ask → Out → Option Why → Step
 frame_step m a o (Some w) = locally m (frame_ended (Some w) m.env) (may_cut m a w)
 frame_step m a o None = asked_step m a o
 
--- the step of the environment: that of its innermost frame, or of its next event where no frame stands
+-- the step of the environment: that of its innermost frame by what it is taken to ask, or of its next event where no frame stands
 abbrev pub env_step : Machine → Ask → Out → List Frame → Step
 env_step m a o [] = chosen m (choice m.env)
-env_step m a o (f ∷ fs) = frame_step m a o (cut_of o)
+env_step m a o (f ∷ fs) = frame_step m (taken a) o (cut_of o)
 
 -- threads and workers make no entry
 abbrev pub step_of : Machine → Ask → Entry → Actor → Step

@@ -1,7 +1,7 @@
 -- Words that small runs are written by.
 use Rattle.std.specs.Prelude.{ℕ, ◌+◌, List, [], ◌∷◌, ◌++◌, take, drop, Some, None}
 use Rattle.napi_types.specs.declared.call.Call.{Call}
-use Rattle.napi_types.specs.declared.call.Op.{Op}
+use Rattle.napi_types.specs.declared.op.Op.{Op}
 use Rattle.napi_types.specs.declared.status.Status.{Status}
 use Rattle.napi_types.specs.declared.entry.Actor.TheVariants as actor
 use Rattle.napi_types.specs.declared.entry.Cause.TheVariants as cause
@@ -12,7 +12,7 @@ use Rattle.napi_types.specs.declared.entry.LoopEnd.TheVariants as loop_end
 use Rattle.napi_types.specs.declared.entry.Out.{Out}
 use Rattle.napi_types.specs.declared.entry.Out.TheVariants as out
 use Rattle.napi_types.specs.declared.entry.What.TheVariants as what
-use Rattle.napi_types.specs.Environment.{plain}
+use Rattle.napi_types.specs.Replies.{plain}
 use Rattle.napi_types.specs.Changes.{host_entry}
 use Rattle.napi_types.specs.Whole.{Setting}
 use Rattle.napi_types.specs.Room.{most_entries}

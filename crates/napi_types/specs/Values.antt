@@ -1,9 +1,10 @@
 -- The value graph: a finite map from creation numbers to values.
-use Rattle.std.specs.Prelude.{ℕ, ◌+◌, ◌-◌, ◌==◌, nat_eq, Bool, true, false, cond, not, List, [], ◌∷◌, ◌++◌, length, map, filter, filter_map, replicate, slice_index_or, slice_set, Option, Some, None, option_map}
-use Rattle.std.specs.List.{IsDistinct}
+use Rattle.std.specs.Prelude.{ℕ, ◌+◌, ◌-◌, ◌==◌, nat_eq, ℤ, pos, int_le, Bool, true, false, cond, not, ◌&&◌, List, [], ◌∷◌, ◌++◌, length, map, filter, filter_map, replicate, slice_index_or, slice_set, Option, Some, None, option_map}
+use Rattle.std.specs.List.{IsDistinct, range_with_len}
 use Rattle.std.specs.Option.{unwrap_or}
 use Rattle.napi_types.specs.declared.body.Body.{Body}
 use Rattle.napi_types.specs.declared.body.Body.TheVariants as body
+use Rattle.napi_types.specs.declared.ids.TextNo.{TextNo}
 use Rattle.napi_types.specs.declared.status.Kind.{Kind}
 use Rattle.napi_types.specs.declared.status.Kind.TheVariants as kind
 use Rattle.napi_types.specs.Lists.{found}
@@ -24,15 +25,26 @@ pub record Value : Type 0 where
 abbrev pub fresh_value : ℕ → Body → Value
 fresh_value n b = record { number = n; body = b; properties = []; elements = [] }
 
--- the number of undefined
+-- undefined, null, true, false and the global object have the numbers 1 to 5
 abbrev pub undefined_value : ℕ
 undefined_value = 1
 
--- undefined, null, true, false and the global object have the numbers 1 to 5
+abbrev pub null_value : ℕ
+null_value = 2
+
+abbrev pub true_value : ℕ
+true_value = 3
+
+abbrev pub false_value : ℕ
+false_value = 4
+
+abbrev pub global_value : ℕ
+global_value = 5
+
 abbrev pub starting_values : List Value
 starting_values =
-    fresh_value undefined_value body.Undefined ∷ fresh_value 2 body.Null ∷ fresh_value 3 (body.Boolean true) ∷ fresh_value 4 (body.Boolean false)
-    ∷ fresh_value 5 (body.Object false false) ∷ []
+    fresh_value undefined_value body.Undefined ∷ fresh_value null_value body.Null ∷ fresh_value true_value (body.Boolean true) ∷ fresh_value false_value (body.Boolean false)
+    ∷ fresh_value global_value (body.Object false false) ∷ []
 
 -- the value of a number
 abbrev pub value_at : List Value → ℕ → Option Value
@@ -41,6 +53,13 @@ value_at vs n = found (λ v. v.number) n vs
 -- what the value of a number is; a number that no value has reads as undefined
 abbrev pub body_of : List Value → ℕ → Body
 body_of vs n = unwrap_or (option_map (λ v. v.body) (value_at vs n)) body.Undefined
+
+-- its properties and its elements; a number that no value has has none
+abbrev pub properties_of : List Value → ℕ → List Property
+properties_of vs n = unwrap_or (option_map (λ v. v.properties) (value_at vs n)) []
+
+abbrev pub elements_of : List Value → ℕ → List (Option ℕ)
+elements_of vs n = unwrap_or (option_map (λ v. v.elements) (value_at vs n)) []
 
 -- the kind that `typeof` tells; an array is an object
 abbrev pub kind_of : Body → Kind
@@ -60,6 +79,65 @@ abbrev pub is_object_like : Body → Bool
 is_object_like (body.Object array error) = true
 is_object_like (body.Function addon entry payload) = true
 is_object_like _ = false
+
+-- the values that a call may expect
+abbrev pub is_string : Body → Bool
+is_string (body.Str t) = true
+is_string _ = false
+
+abbrev pub is_number : Body → Bool
+is_number (body.Number n) = true
+is_number _ = false
+
+abbrev pub is_bigint : Body → Bool
+is_bigint (body.Bigint n) = true
+is_bigint _ = false
+
+abbrev pub is_boolean : Body → Bool
+is_boolean (body.Boolean b) = true
+is_boolean _ = false
+
+abbrev pub is_array : Body → Bool
+is_array (body.Object array error) = array
+is_array _ = false
+
+-- the number that a number or a bigint is, the flag that a boolean is, the text that a string is; a value of another kind is refused before it is read so
+abbrev pub signed_of : Body → ℤ
+signed_of (body.Number n) = n
+signed_of (body.Bigint n) = n
+signed_of _ = pos 0
+
+abbrev pub flag_of : Body → Bool
+flag_of (body.Boolean b) = b
+flag_of _ = false
+
+abbrev pub text_of : Body → TextNo
+text_of (body.Str t) = t
+text_of _ = record { 0 = 0 }
+
+-- two signed numbers, and two flags, are the same
+abbrev pub same_signed : ℤ → ℤ → Bool
+same_signed a b = int_le a b && int_le b a
+
+abbrev pub same_flag : Bool → Bool → Bool
+same_flag true b = b
+same_flag false b = not b
+
+-- strict equality (`===`) of two values, each told by what it is and its number: numbers, bigints, booleans and strings by content, and all else by identity.
+-- Equal texts have equal numbers. Undefined and null are one value each
+abbrev pub strictly_equal : Body → ℕ → Body → ℕ → Bool
+strictly_equal (body.Number a) m (body.Number b) n = same_signed a b
+strictly_equal (body.Bigint a) m (body.Bigint b) n = same_signed a b
+strictly_equal (body.Boolean a) m (body.Boolean b) n = same_flag a b
+strictly_equal (body.Str a) m (body.Str b) n = a.0 == b.0
+strictly_equal _ m _ n = m == n
+
+-- how many names of an object are listed at most, and the greatest index of an element
+abbrev pub most_names : ℕ
+most_names = 65536
+
+abbrev pub most_index : ℕ
+most_index = 65535
 
 -- the value of the property with the name, where there is one
 abbrev pub property_at : ℕ → List Property → Option ℕ
@@ -105,3 +183,16 @@ with_element at to v = record v { elements = element_set at to v.elements }
 -- the values with the one of a number changed so
 abbrev pub value_changed : ℕ → (Value → Value) → List Value → List Value
 value_changed n change vs = map (λ v. cond (v.number == n) (change v) v) vs
+
+-- new values of these bodies, where so many were made before
+abbrev pub made_after : ℕ → List Body → List Value
+made_after n [] = []
+made_after n (b ∷ bs) = fresh_value (n + 1) b ∷ made_after (n + 1) bs
+
+-- an array of the values of these numbers
+abbrev pub array_of : ℕ → List ℕ → Value
+array_of n numbers = record { number = n; body = body.Object true false; properties = []; elements = map Some numbers }
+
+-- new values of these bodies, and then an array of them
+abbrev pub list_of : ℕ → List Body → List Value
+list_of n bs = made_after n bs ++ array_of (n + length bs + 1) (range_with_len (n + 1) (length bs)) ∷ []

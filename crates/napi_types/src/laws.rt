@@ -2,6 +2,7 @@
 ghost use Rattle.napi_types.specs.FirstRun as first_run;
 ghost use Rattle.napi_types.specs.ScopeOrder as scope_order;
 ghost use Rattle.napi_types.specs.ClosedScope as closed_scope;
+ghost use Rattle.napi_types.specs.NamesRun as names_run;
 ghost use Rattle.napi_types.specs.Cuts.{CutsForRoom, CutAtLastAsk, NotBeforeLastAsk};
 ghost use Rattle.napi_types.specs.Laws.{RefusesUnknownHandles, FrontsAreRuns, RoomSuffices, EveryCallHasARow, RunsAreComputed};
 
@@ -53,6 +54,21 @@ pub fn closed_scope_prints()
 /// The call with that handle has no other status, and tells no kind.
 pub fn closed_scope_is_strict()
     ensures { closed_scope.IsStrict }
+{}
+
+/// Properties and elements: the entries are a run of their script and come to its end.
+pub fn names_run_ends()
+    ensures { names_run.Ends }
+{}
+
+/// The text of that run, line by line.
+pub fn names_run_prints()
+    ensures { names_run.Prints }
+{}
+
+/// No other name is listed first, an absent name gives no other kind, and the refused calls have no other status.
+pub fn names_run_is_strict()
+    ensures { names_run.IsStrict }
 {}
 
 /// A handle that no open scope holds is an invalid argument, and the call that names it changes nothing.

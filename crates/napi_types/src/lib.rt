@@ -12,12 +12,13 @@ mod ids;
 pub mod laws;
 mod lists;
 mod names;
+mod op;
 mod script;
 mod status;
 mod text;
 
 pub use body::Body;
-pub use call::{Ask, Call, Op};
+pub use call::{Args, Ask, Call, JobSpec, Mode, Release};
 pub use edge::{Gate, MemSink, MemSource, OpenGate, SafeSink, SafeSource, Sink, Source};
 pub use entry::{
     Actor, Cause, Duty, Entry, Failed, Given, HostStep, Limits, Local, LoopEnd, NoMemory, Out,
@@ -25,6 +26,7 @@ pub use entry::{
 };
 pub use ids::{HandleId, RefId, ScopeId, TextNo, Ticket, TsfnId, ValueId, WorkId};
 pub use lists::{Actors, AddonPlan, EntryList, Listed, LocalList, OpList, OpLists, Plans, Record};
-pub use script::Script;
+pub use op::{Op, Regs};
+pub use script::{LimitName, Place, Script, Wrong};
 pub use status::{Kind, Status};
 pub use text::{Text, Texts};

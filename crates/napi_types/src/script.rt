@@ -1,5 +1,9 @@
-//! What a script gives to a run.
-use crate::{Actors, OpLists, Plans, Texts};
+//! What a script gives to a run, and what is wrong with a JSON value that is no script.
+ghost use Rattle.std.specs.Prelude.{◌≡◌, IfOk, string_bytes};
+ghost use Rattle.napi_types.specs.ScriptPaths.{path};
+
+use crate::{Actors, NoMemory, OpLists, Plans, Text, Texts};
+use std::alloc::{AllocError, Global};
 
 /// A script, as it was read.
 #[derive(Drop)]
@@ -16,4 +20,86 @@ pub struct Script {
     pub schedule: Option<Actors>,
     /// The texts that the script's entries can name.
     pub texts: Texts,
+}
+
+/// A part of a script. Addons, entries, operations, threads and words are counted from 0.
+#[derive(Clone, Copy)]
+pub enum Place {
+    Root,
+    Version,
+    Workers,
+    Addons,
+    Threads,
+    Schedule,
+    Addon(usize),
+    /// The name of an addon.
+    Name(usize),
+    /// The entries of an addon.
+    Entries(usize),
+    /// The addon and the entry.
+    Entry(usize, usize),
+    /// The addon, the entry and the operation.
+    Operation(usize, usize, usize),
+    Thread(usize),
+    /// The thread and the operation.
+    ThreadOperation(usize, usize),
+    Word(usize),
+}
+
+/// A number in a script that has a limit: of workers, or of the members of a list.
+#[derive(Clone, Copy)]
+pub enum LimitName {
+    Workers,
+    Addons,
+    /// The entries of an addon.
+    Entries,
+    /// The operations of an entry or of a thread.
+    Operations,
+    Threads,
+    /// The words of the schedule.
+    Schedule,
+}
+
+/// What is wrong with a JSON value that is no script that can run.
+#[derive(Clone, Copy)]
+pub enum Wrong {
+    /// A part has the wrong form, or is missing.
+    Shape(Place),
+    /// There are more than there may be.
+    Limit(LimitName),
+    /// It is a script, and something in it is not built.
+    Stage,
+}
+
+impl Place {
+    /// The path of the part in the script, as a refusal names it.
+    pub fn path(self, alloc: Global) -> Result<Text, NoMemory>
+        ensures { IfOk result (λ text. text ≡ path self) }
+    {
+        match self.written(alloc) {
+            Ok(text) => Text::of(alloc, text.as_str()),
+            Err(_) => Err(NoMemory),
+        }
+    }
+
+    fn written(self, alloc: Global) -> Result<String, AllocError>
+        ensures { IfOk result (λ text. string_bytes text ≡ path self) }
+    {
+        match self {
+            Place::Root => format!(in alloc; "-"),
+            Place::Version => format!(in alloc; "version"),
+            Place::Workers => format!(in alloc; "workers"),
+            Place::Addons => format!(in alloc; "addons"),
+            Place::Threads => format!(in alloc; "threads"),
+            Place::Schedule => format!(in alloc; "schedule"),
+            Place::Addon(a) => format!(in alloc; "addons/{a}"),
+            Place::Name(a) => format!(in alloc; "addons/{a}/name"),
+            Place::Entries(a) => format!(in alloc; "addons/{a}/entries"),
+            Place::Entry(a, e) => format!(in alloc; "addons/{a}/entries/{e}"),
+            Place::Operation(a, e, o) => format!(in alloc; "addons/{a}/entries/{e}/{o}"),
+            Place::Thread(t) => format!(in alloc; "threads/{t}"),
+            Place::ThreadOperation(t, o) => format!(in alloc; "threads/{t}/{o}"),
+            Place::Word(s) => format!(in alloc; "schedule/{s}"),
+        }
+    }
 }

@@ -1,84 +1,88 @@
 -- What the top call knows of a run that was made.
-use Rattle.std.proofs.Common.{◌≡◌, ◌≤◌, ◌<◌, ℕ, List, [], ◌∷◌, length, drop, refl, ap, subst, sym, ◌∙◌, arith, lit≤}
+use Rattle.std.proofs.Common.{◌≡◌, ◌≤◌, ◌+◌, ◌*◌, ℕ, List, ◌++◌, length, drop, Option, inl, inr, refl, subst, arith, lit≤}
 use Rattle.napi_types.specs.declared.entry.Entry.{Entry}
 use Rattle.napi_types.specs.declared.entry.Local.{Local}
 use Rattle.napi_types.specs.declared.lists.AddonPlan.{AddonPlan}
 use Rattle.napi_types.specs.declared.lists.Record.{Record}
 use Rattle.napi_types.specs.declared.script.Script.{Script}
 use Rattle.napi_types.specs.Laws.{HasRoom}
-use Rattle.napi_types.specs.Plan.{Plan, plan_of, registers_of}
+use Rattle.napi_types.specs.Plan.{Plan, Registers}
 use Rattle.napi_types.specs.Room.{most_entries}
 use Rattle.napi_types.specs.Weave.{weave}
-use Rattle.napi_types.specs.Whole.{Setting, final_of, final_registers}
+use Rattle.napi_types.specs.Whole.{final_of}
 use Rattle.napi_types.proofs.Rooms.{room-suffices}
-use Rattle.addon_trait.specs.Addons.{loaded_at, OthersStay}
-use Rattle.script_host.specs.Recording.{AgreesWhereTold, IsEnded, loaded_plan, alone_setting}
+use Rattle.script_host.specs.Recording.{IsEnded, told_plans, setting_with}
 use Rattle.script_host.specs.declared.words.Line.{Line}
 use Rattle.script_host.specs.declared.words.Line.TheVariants as line
 use Rattle.script_host.specs.Words.{line_status}
-use Rattle.script_host.specs.Host.{IsStatus, Ran, setting_of}
+use Rattle.script_host.specs.Host.{IsStatus, Ran, setting_of, Causes, GaveRefused}
+use Rattle.script_host.proofs.Inits.{length-told, length-told-le}
 
--- the lists of a run are within their limits
-pub journal-within : (told : Plan) (texts : ℕ) (journal : List Local) (history : List Entry) (mine : List ℕ)
-    → IsEnded (alone_setting told texts) journal history mine → length journal ≤ most_entries
-journal-within told texts journal history mine e =
-    let room : HasRoom (alone_setting told texts) (weave journal history) (final_of (alone_setting told texts) e.asks (weave journal history)) =
-    room-suffices (alone_setting told texts) e.asks (weave journal history) (lit≤ tt) (lit≤ tt) e.ended.run in
+-- the lists of a run with few addons are within their limits
+lists-within : (plans : List Plan) (texts : ℕ) (journal : List Local) (history : List Entry) (all : Registers) → length plans ≤ 8
+    → (e : IsEnded (setting_with plans texts) journal history all)
+    → HasRoom (setting_with plans texts) (weave journal history) (final_of (setting_with plans texts) e.asks (weave journal history))
+lists-within plans texts journal history all few e =
+    let opens : 2 + 2 * length plans ≤ most_entries = omega arith in
+    room-suffices (setting_with plans texts) e.asks (weave journal history) opens (lit≤ tt) e.ended.run
+
+pub journal-within : (given : List AddonPlan) (handed : List Plan) (texts : ℕ) (journal : List Local) (history : List Entry) (all : Registers) → length given ≤ 8
+    → IsEnded (setting_with (told_plans given handed) texts) journal history all → length journal ≤ most_entries
+journal-within given handed texts journal history all few e =
+    let fewer : length (told_plans given handed) ≤ 8 = omega (arith, length-told-le given handed) in
+    let room = lists-within (told_plans given handed) texts journal history all fewer e in
     omega (arith, room.journal, e.locals)
 
-pub history-within : (told : Plan) (texts : ℕ) (journal : List Local) (history : List Entry) (mine : List ℕ)
-    → IsEnded (alone_setting told texts) journal history mine → length history ≤ most_entries
-history-within told texts journal history mine e =
-    let room : HasRoom (alone_setting told texts) (weave journal history) (final_of (alone_setting told texts) e.asks (weave journal history)) =
-    room-suffices (alone_setting told texts) e.asks (weave journal history) (lit≤ tt) (lit≤ tt) e.ended.run in
+pub history-within : (given : List AddonPlan) (handed : List Plan) (texts : ℕ) (journal : List Local) (history : List Entry) (all : Registers) → length given ≤ 8
+    → IsEnded (setting_with (told_plans given handed) texts) journal history all → length history ≤ most_entries
+history-within given handed texts journal history all few e =
+    let fewer : length (told_plans given handed) ≤ 8 = omega (arith, length-told-le given handed) in
+    let room = lists-within (told_plans given handed) texts journal history all fewer e in
     omega (arith, room.history, e.shareds)
 
--- the first member is read alike
-first-registers : (rss : List (List ℕ)) → registers_of rss 0 ≡ registers_of rss 0
-first-registers [] = refl
-first-registers (rs ∷ rss) = refl
-
-others-dropped : (before after : List (List ℕ)) → OthersStay before after 0 → drop 1 after ≡ drop 1 before
-others-dropped [] after h = ap (drop 1) h
-others-dropped (rs ∷ rss) after h = ap (drop 1) h
-
--- a run with one addon, as the top call tells it
-pub ran-of : (script : Script) (given : AddonPlan) (texts : ℕ) (handed after : List Plan) (registers registers_after : List (List ℕ)) (left : Record)
-    → script.addons ≡ given ∷ [] → length script.texts ≡ texts → 0 < length handed
-    → IsEnded (alone_setting (loaded_plan (plan_of handed 0) given.entries) texts) left.journal left.history (registers_of registers_after 0)
-    → after ≡ loaded_at handed 0 given.entries → OthersStay registers registers_after 0
+-- a run of the script's addons, as the top call tells it
+pub ran-of : (script : Script) (texts : ℕ) (handed after : List Plan) (registers registers_after : Registers) (left : Record)
+    → texts ≡ length script.texts → length script.addons ≤ length handed
+    → IsEnded (setting_with (told_plans script.addons handed) texts) left.journal left.history registers_after
+    → after ≡ told_plans script.addons handed ++ drop (length script.addons) handed
+    → drop (length script.addons) registers_after ≡ drop (length script.addons) registers
     → Ran script handed registers left after registers_after
-ran-of script given texts [] after registers registers_after left one same more ended loaded others = absurd (omega arith)
-ran-of script given texts (told ∷ rest) after registers registers_after left one same more ended loaded others =
-    let setting : setting_of script (told ∷ rest) ≡ alone_setting (loaded_plan told given.entries) texts = rw (one, same) refl in
-    let E : Setting → Type 0 = λ s. IsEnded s left.journal left.history (registers_of registers_after 0) in
-    let e : IsEnded (setting_of script (told ∷ rest)) left.journal left.history (registers_of registers_after 0) = subst E (sym setting) ended in
-    let count : length script.addons ≡ 1 = ap length one in
-    let A : List ℕ → Type 0 = λ mine. AgreesWhereTold (plan_of (setting_of script (told ∷ rest)).plans 0) mine
-    (registers_of (final_registers (setting_of script (told ∷ rest)) e.asks (weave left.journal left.history)) 0) in
-    let first : A (registers_of registers_after 0) = subst A (sym (first-registers registers_after)) e.agrees in
+ran-of script texts handed after registers registers_after left counted enough ended loaded others =
+    let E : ℕ → Type 0 = λ n. IsEnded (setting_with (told_plans script.addons handed) n) left.journal left.history registers_after in
+    let e : IsEnded (setting_of script handed) left.journal left.history registers_after = subst E counted ended in
     record {
-      enough = omega (arith, count);
+      enough = enough;
       run = record {
         asks = e.asks;
         ended = e.ended;
         parted = e.parted;
-        agrees = λ addon below.
-            let B : ℕ → Type 0 = λ k. AgreesWhereTold (plan_of (setting_of script (told ∷ rest)).plans k) (registers_of registers_after k)
-            (registers_of (final_registers (setting_of script (told ∷ rest)) e.asks (weave left.journal left.history)) k) in
-            let zeroth : 0 ≡ addon = omega (arith, count) in
-            subst B zeroth first;
+        agrees = λ addon below. e.agrees addon (omega (arith, length-told script.addons handed enough));
       };
-      loaded = loaded ∙ rw one refl;
-      others = rw count (others-dropped registers registers_after others);
+      loaded = loaded;
+      others = others;
     }
 
 -- a line's status is one of the statuses
 pub line-known : (l : Line) → IsStatus (line_status l)
 line-known line.Usage = refl
 line-known line.NotJson = refl
+line-known (line.Shape path) = refl
+line-known (line.Limit which) = refl
 line-known line.Stage = refl
 line-known line.TooManyAddons = refl
 line-known line.NoMemory = refl
 line-known line.ReadFault = refl
 line-known line.TooLong = refl
+
+-- a line with the status of a refusal has a refusal as its cause
+pub refused-of : (l : Line) (words : List (List ℕ)) (before after : Option (List ℕ)) (faults risen handed : ℕ)
+    → Causes l words before after faults risen handed → line_status l ≡ 3 → GaveRefused before after handed
+refused-of line.Usage words before after faults risen handed cause e = absurd (omega arith)
+refused-of line.NotJson words before after faults risen handed cause e = inl cause.1
+refused-of (line.Shape path) words before after faults risen handed cause e = inr (inl (inl (path, cause.1)))
+refused-of (line.Limit which) words before after faults risen handed cause e = inr (inl (inr (inl (which, cause.1))))
+refused-of line.Stage words before after faults risen handed cause e = inr (inl (inr (inr cause.1)))
+refused-of line.TooManyAddons words before after faults risen handed cause e = inr (inr cause.1)
+refused-of line.NoMemory words before after faults risen handed cause e = absurd (omega arith)
+refused-of line.ReadFault words before after faults risen handed cause e = absurd (omega arith)
+refused-of line.TooLong words before after faults risen handed cause e = absurd (omega arith)

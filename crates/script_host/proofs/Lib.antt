@@ -1,5 +1,7 @@
-pub mod Alone
+pub mod Complete
 pub mod Hosts
+pub mod Inits
+pub mod Pieces
 pub mod Recordings
-pub mod Scripts
+pub mod Small
 pub mod Turns

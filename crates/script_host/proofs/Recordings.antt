@@ -1,5 +1,6 @@
 -- A recorded run goes on.
-use Rattle.std.proofs.Common.{◌≡◌, ℕ, ◌+◌, true, false, IsTrue, not, List, [], ◌∷◌, ◌++◌, length, refl, ap, subst, sym, ◌∙◌, arith, nat_lt, length-append, Some, None}
+use Rattle.std.proofs.Common.{◌≡◌, ℕ, ◌+◌, ◌<◌, true, false, IsTrue, not, List, [], ◌∷◌, ◌++◌, length, refl, ap, subst, sym, ◌∙◌, arith, nat_lt, length-append, Some, None}
+use Rattle.std.proofs.lemmas.List.{length-map, get_or-map}
 use Rattle.napi_types.specs.declared.call.Ask.{Ask}
 use Rattle.napi_types.specs.declared.entry.Entry.{Entry}
 use Rattle.napi_types.specs.declared.entry.HostStep.{HostStep}
@@ -10,18 +11,17 @@ use Rattle.napi_types.specs.declared.entry.LoopEnd.TheVariants as loop_end
 use Rattle.napi_types.specs.declared.entry.Phase.{Phase}
 use Rattle.napi_types.specs.declared.entry.Phase.TheVariants as phase
 use Rattle.napi_types.specs.declared.call.Ask.TheVariants as ask
-use Rattle.napi_types.specs.declared.entry.Limits.{Limits}
 use Rattle.napi_types.specs.Machine.{Machine}
 use Rattle.napi_types.specs.Step.{Step, step, locally}
 use Rattle.napi_types.specs.Run.{after, IsNext}
 use Rattle.napi_types.specs.Changes.{Change, host_entry, in_phase, gone, init_begun}
 use Rattle.napi_types.specs.Registers.{blank_registers}
-use Rattle.napi_types.specs.Plan.{Plan, plan_of, registers_of, asked, registers_after, Registers}
+use Rattle.napi_types.specs.Plan.{Plan, plan_of, registers_of, asked, registers_after, Registers, loaded_registers}
 use Rattle.napi_types.specs.Weave.{weave, StandsWithin, is_shared, is_hub_event}
 use Rattle.napi_types.specs.Whole.{Setting, opening_of, RunsBy, final_of, final_registers, planned_asks}
 use Rattle.env_core.specs.Core.{Core, wrote, opened_core}
 use Rattle.napi_types.specs.Phases.{stage_of}
-use Rattle.script_host.specs.Recording.{machine_of, AgreesWhereTold, IsRecorded, IsEnded}
+use Rattle.script_host.specs.Recording.{machine_of, AgreesWhereTold, AgreesWith, IsRecorded, IsEnded}
 use Rattle.napi_types.proofs.Runs.{run-more, final-more, asked-more, registers-more}
 use Rattle.napi_types.proofs.Weaves.{weave-local, weave-shared, within-append, within-more, parted-local, parted-shared}
 
@@ -57,20 +57,21 @@ grow s bs xs m rss a x st r f g next entry may here =
     }
 
 -- a local event goes into the journal
-pub local-grown : (s : Setting) (core : Core) (history : List Entry) (mine : List ℕ) (r : IsRecorded s core history mine)
-    (a : Ask) (c : Change) (own : List ℕ) (after_mine : List ℕ)
+pub local-grown : (s : Setting) (core : Core) (history : List Entry) (all : Registers) (r : IsRecorded s core history all)
+    (a : Ask) (c : Change) (own : Registers) (after_all : Registers)
     → step (machine_of s.limits core history) a c.entry ≡ locally (machine_of s.limits core history) c true
-    → a ≡ asked s.plans (r.own ∷ []) (machine_of s.limits core history) a
-    → registers_after s.plans (r.own ∷ []) (machine_of s.limits core history) c.entry ≡ own ∷ []
-    → AgreesWhereTold (plan_of s.plans 0) after_mine own
+    → a ≡ asked s.plans r.own (machine_of s.limits core history) a
+    → registers_after s.plans r.own (machine_of s.limits core history) c.entry ≡ own
+    → length own ≡ length s.plans
+    → AgreesWith s.plans after_all own
     → stage_of c.after.phase ≡ stage_of core.env.phase
     → not (is_shared c.entry.what) ≡ true
-    → IsRecorded s (wrote c core) history after_mine
-local-grown s core history mine r a c own after_mine next here kept agrees staged local_one =
+    → IsRecorded s (wrote c core) history after_all
+local-grown s core history all r a c own after_all next here kept count agrees staged local_one =
     let m : Machine = machine_of s.limits core history in
     let xs : List Entry = weave core.journal history in
-    let g : Grown s (r.asks ++ a ∷ []) (xs ++ c.entry ∷ []) (locally m c true).after (registers_after s.plans (r.own ∷ []) m c.entry) =
-    grow s r.asks xs m (r.own ∷ []) a c.entry (locally m c true) r.run r.final r.registers next refl refl here in
+    let g : Grown s (r.asks ++ a ∷ []) (xs ++ c.entry ∷ []) (locally m c true).after (registers_after s.plans r.own m c.entry) =
+    grow s r.asks xs m r.own a c.entry (locally m c true) r.run r.final r.registers next refl refl here in
     let woven : weave (core.journal ++ record { at = core.position; entry = c.entry } ∷ []) history ≡ xs ++ c.entry ∷ [] =
     ap (λ n. weave (core.journal ++ record { at = n; entry = c.entry } ∷ []) history) r.position ∙ weave-local core.journal history c.entry in
     let longer : length core.journal + 1 ≡ length (core.journal ++ record { at = core.position; entry = c.entry } ∷ []) =
@@ -85,6 +86,7 @@ local-grown s core history mine r a c own after_mine next here kept agrees stage
           ∙ ap (λ n. record m { env = c.after; locals = n }) longer
           ∙ ap (λ t. record m { env = c.after; hub = record { stage = t }; locals = length (core.journal ++ record { at = core.position; entry = c.entry } ∷ []) }) (sym staged);
       registers = ap (λ ys. final_registers s (r.asks ++ a ∷ []) ys) woven ∙ g.registers_are ∙ kept;
+      count = count;
       agrees = agrees;
       limit = r.limit;
       position = r.position;
@@ -97,21 +99,21 @@ abbrev pub hub_left : Machine → Phase → Machine
 hub_left m p = record m { env = in_phase p m.env; hub = record { stage = stage_of p }; shareds = m.shareds + 1 }
 
 -- an event of the hub goes into the history, and its phase starts
-pub shared-grown : (s : Setting) (core : Core) (history : List Entry) (mine : List ℕ) (r : IsRecorded s core history mine)
+pub shared-grown : (s : Setting) (core : Core) (history : List Entry) (all : Registers) (r : IsRecorded s core history all)
     (event : HostStep) (o : Out) (p : Phase)
     → core.env.frames ≡ []
     → step (machine_of s.limits core history) (ask.Leave None) (host_entry event o)
     ≡ record { entry = host_entry event o; after = hub_left (machine_of s.limits core history) p; may = true }
     → is_hub_event event ≡ true
-    → IsRecorded s (record core { env = in_phase p core.env; position = length history + 1 }) (history ++ host_entry event o ∷ []) mine
-shared-grown s core history mine r event o p alone next shared_one =
+    → IsRecorded s (record core { env = in_phase p core.env; position = length history + 1 }) (history ++ host_entry event o ∷ []) all
+shared-grown s core history all r event o p alone next shared_one =
     let m : Machine = machine_of s.limits core history in
     let xs : List Entry = weave core.journal history in
     let x : Entry = host_entry event o in
-    let nothing : ask.Leave None ≡ asked s.plans (r.own ∷ []) m (ask.Leave None) = rw alone refl in
+    let nothing : ask.Leave None ≡ asked s.plans r.own m (ask.Leave None) = rw alone refl in
     let st : Step = record { entry = x; after = hub_left m p; may = true } in
-    let g : Grown s (r.asks ++ ask.Leave None ∷ []) (xs ++ x ∷ []) (hub_left m p) (r.own ∷ []) =
-    grow s r.asks xs m (r.own ∷ []) (ask.Leave None) x st r.run r.final r.registers next refl refl nothing in
+    let g : Grown s (r.asks ++ ask.Leave None ∷ []) (xs ++ x ∷ []) (hub_left m p) r.own =
+    grow s r.asks xs m r.own (ask.Leave None) x st r.run r.final r.registers next refl refl nothing in
     let woven : weave core.journal (history ++ x ∷ []) ≡ xs ++ x ∷ [] = weave-shared core.journal history x r.within in
     let longer : length (history ++ x ∷ []) ≡ length history + 1 = length-append history (x ∷ []) in
     let R : List Entry → Type 0 = λ ys. RunsBy s (r.asks ++ ask.Leave None ∷ []) ys in
@@ -124,6 +126,7 @@ shared-grown s core history mine r event o p alone next shared_one =
           ap (λ ys. final_of s (r.asks ++ ask.Leave None ∷ []) ys) woven ∙ g.final
           ∙ ap (λ n. record m { env = in_phase p core.env; hub = record { stage = stage_of p }; shareds = n }) (sym longer);
       registers = ap (λ ys. final_registers s (r.asks ++ ask.Leave None ∷ []) ys) woven ∙ g.registers_are;
+      count = r.count;
       agrees = r.agrees;
       limit = r.limit;
       position = sym longer;
@@ -133,97 +136,97 @@ shared-grown s core history mine r event o p alone next shared_one =
 
 -- THE EVENTS WITH NO FRAME, one after another
 -- every init frame has begun, so the run goes live
-pub go-grown : (s : Setting) (core : Core) (history : List Entry) (mine : List ℕ) → IsRecorded s core history mine
+pub go-grown : (s : Setting) (core : Core) (history : List Entry) (all : Registers) → IsRecorded s core history all
     → core.env.frames ≡ [] → core.env.phase ≡ phase.Init → core.env.opened ≡ true → nat_lt core.env.inits core.env.addons ≡ false
-    → IsRecorded s (record core { env = in_phase phase.Live core.env; position = length history + 1 }) (history ++ host_entry host.Go out.Nothing ∷ []) mine
-go-grown s core history mine r alone here opened all = shared-grown s core history mine r host.Go out.Nothing phase.Live alone (rw (alone, here, opened, all) refl) refl
+    → IsRecorded s (record core { env = in_phase phase.Live core.env; position = length history + 1 }) (history ++ host_entry host.Go out.Nothing ∷ []) all
+go-grown s core history all r alone here opened every = shared-grown s core history all r host.Go out.Nothing phase.Live alone (rw (alone, here, opened, every) refl) refl
 
-pub loop_end-grown : (s : Setting) (core : Core) (history : List Entry) (mine : List ℕ) → IsRecorded s core history mine
+pub loop_end-grown : (s : Setting) (core : Core) (history : List Entry) (all : Registers) → IsRecorded s core history all
     → core.env.frames ≡ [] → core.env.phase ≡ phase.Live
-    → IsRecorded s (record core { env = in_phase phase.Hooks core.env; position = length history + 1 }) (history ++ host_entry host.LoopEnd (out.Ended loop_end.Idle) ∷ []) mine
-loop_end-grown s core history mine r alone here = shared-grown s core history mine r host.LoopEnd (out.Ended loop_end.Idle) phase.Hooks alone (rw (alone, here) refl) refl
+    → IsRecorded s (record core { env = in_phase phase.Hooks core.env; position = length history + 1 }) (history ++ host_entry host.LoopEnd (out.Ended loop_end.Idle) ∷ []) all
+loop_end-grown s core history all r alone here = shared-grown s core history all r host.LoopEnd (out.Ended loop_end.Idle) phase.Hooks alone (rw (alone, here) refl) refl
 
-pub drain-grown : (s : Setting) (core : Core) (history : List Entry) (mine : List ℕ) → IsRecorded s core history mine
+pub drain-grown : (s : Setting) (core : Core) (history : List Entry) (all : Registers) → IsRecorded s core history all
     → core.env.frames ≡ [] → core.env.phase ≡ phase.Hooks
-    → IsRecorded s (record core { env = in_phase phase.Drain core.env; position = length history + 1 }) (history ++ host_entry host.Drain (out.Unsigned 0) ∷ []) mine
-drain-grown s core history mine r alone here = shared-grown s core history mine r host.Drain (out.Unsigned 0) phase.Drain alone (rw (alone, here) refl) refl
+    → IsRecorded s (record core { env = in_phase phase.Drain core.env; position = length history + 1 }) (history ++ host_entry host.Drain (out.Unsigned 0) ∷ []) all
+drain-grown s core history all r alone here = shared-grown s core history all r host.Drain (out.Unsigned 0) phase.Drain alone (rw (alone, here) refl) refl
 
-pub finals-grown : (s : Setting) (core : Core) (history : List Entry) (mine : List ℕ) → IsRecorded s core history mine
+pub finals-grown : (s : Setting) (core : Core) (history : List Entry) (all : Registers) → IsRecorded s core history all
     → core.env.frames ≡ [] → core.env.phase ≡ phase.Drain
-    → IsRecorded s (record core { env = in_phase phase.Finals core.env; position = length history + 1 }) (history ++ host_entry host.Finals out.Nothing ∷ []) mine
-finals-grown s core history mine r alone here = shared-grown s core history mine r host.Finals out.Nothing phase.Finals alone (rw (alone, here) refl) refl
+    → IsRecorded s (record core { env = in_phase phase.Finals core.env; position = length history + 1 }) (history ++ host_entry host.Finals out.Nothing ∷ []) all
+finals-grown s core history all r alone here = shared-grown s core history all r host.Finals out.Nothing phase.Finals alone (rw (alone, here) refl) refl
 
-pub gone-grown : (s : Setting) (core : Core) (history : List Entry) (mine : List ℕ) → IsRecorded s core history mine
+pub gone-grown : (s : Setting) (core : Core) (history : List Entry) (all : Registers) → IsRecorded s core history all
     → core.env.frames ≡ [] → core.env.phase ≡ phase.Finals
-    → IsRecorded s (wrote (gone core.env) core) history mine
-gone-grown s core history mine r alone here =
-    local-grown s core history mine r (ask.Leave None) (gone core.env) r.own mine (rw (alone, here) refl) (rw alone refl) refl r.agrees (rw here refl) refl
+    → IsRecorded s (wrote (gone core.env) core) history all
+gone-grown s core history all r alone here =
+    local-grown s core history all r (ask.Leave None) (gone core.env) r.own all (rw (alone, here) refl) (rw alone refl) refl r.count r.agrees (rw here refl) refl
 
--- THE INIT FRAME
-agrees-same : (p : Plan) (x : List ℕ) → AgreesWhereTold p x x
-agrees-same None x = tt
-agrees-same (Some p) x = refl
+-- THE INIT FRAMES
+-- blank registers are those that the run starts from
+agrees-blank : (p : Plan) (mine own : List ℕ) → mine ≡ blank_registers → own ≡ blank_registers → AgreesWhereTold p mine own
+agrees-blank None mine own e f = tt
+agrees-blank (Some p) mine own e f = e ∙ sym f
 
--- the setting of a script with one addon
-abbrev pub setting_of : Plan → ℕ → Limits → Setting
-setting_of p texts limits = record { plans = p ∷ []; texts = texts; limits = limits }
-
--- a core that opened is a recorded run
-pub opened-recorded : (p : Plan) (texts : ℕ) (limits : Limits) → IsRecorded (setting_of p texts limits) (opened_core 1 texts limits.journal) [] blank_registers
-opened-recorded p texts limits = record {
+-- a core that opened is a recorded run, where the addons' registers are cleared
+pub opened-recorded : (s : Setting) (all : Registers) → ((addon : ℕ) → addon < length s.plans → registers_of all addon ≡ blank_registers)
+    → IsRecorded s (opened_core (length s.plans) s.texts s.limits.journal) [] all
+opened-recorded s all blank = record {
   asks = ask.Leave None ∷ [];
-  own = blank_registers;
+  own = loaded_registers s.plans;
   run = record { steps = ((refl, refl), tt); asked = refl };
   final = refl;
   registers = refl;
-  agrees = agrees-same p blank_registers;
+  count = length-map s.plans (λ (p : Plan). blank_registers);
+  agrees = λ addon below. agrees-blank (plan_of s.plans addon) (registers_of all addon) (registers_of (loaded_registers s.plans) addon) (blank addon below)
+      (get_or-map (λ (p : Plan). blank_registers) s.plans addon None [] below);
   limit = refl;
   position = refl;
   within = (omega arith, tt);
   parted = record { local_ones = refl; shared_ones = refl };
 }
 
--- the first addon's init frame begins
-pub init-grown : (s : Setting) (core : Core) (history : List Entry) (mine : List ℕ) → IsRecorded s core history mine
-    → core.env.frames ≡ [] → core.env.phase ≡ phase.Init → core.env.opened ≡ true → core.env.inits ≡ 0 → core.env.addons ≡ 1
-    → IsRecorded s (wrote (init_begun 0 core.env) core) history mine
-init-grown s core history mine r alone here opened none one =
-    local-grown s core history mine r (ask.Leave None) (init_begun 0 core.env) r.own mine (rw (alone, here, opened, none, one) refl) (rw alone refl) refl r.agrees refl refl
+-- the next addon's init frame begins
+pub init-grown : (s : Setting) (core : Core) (history : List Entry) (all : Registers) → IsRecorded s core history all
+    → core.env.frames ≡ [] → core.env.phase ≡ phase.Init → core.env.opened ≡ true → nat_lt core.env.inits core.env.addons ≡ true
+    → IsRecorded s (wrote (init_begun core.env.inits core.env) core) history all
+init-grown s core history all r alone here opened more =
+    local-grown s core history all r (ask.Leave None) (init_begun core.env.inits core.env) r.own all (rw (alone, here, opened, more) refl) (rw alone refl) refl r.count r.agrees refl refl
 
 -- THE END
 -- a recorded run whose environment is gone came to its end
-gone-ended : (s : Setting) (core : Core) (history : List Entry) (mine : List ℕ) → IsRecorded s core history mine → core.env.phase ≡ phase.Gone
-    → IsEnded s core.journal history mine
-gone-ended s core history mine r here = record {
+gone-ended : (s : Setting) (core : Core) (history : List Entry) (all : Registers) → IsRecorded s core history all → core.env.phase ≡ phase.Gone
+    → IsEnded s core.journal history all
+gone-ended s core history all r here = record {
   asks = r.asks;
   ended = record { run = r.run; gone = ap (λ (m : Machine). m.env.phase) r.final ∙ here };
   locals = ap (λ (m : Machine). m.locals) r.final;
   shareds = ap (λ (m : Machine). m.shareds) r.final;
   parted = r.parted;
-  agrees = subst (λ (own : List ℕ). AgreesWhereTold (plan_of s.plans 0) mine own) (sym (ap (λ rss. registers_of rss 0) r.registers)) r.agrees;
+  agrees = subst (λ (own : Registers). AgreesWith s.plans all own) (sym r.registers) r.agrees;
 }
 
 -- the hub's four events and `gone`, from the end of the init frames on
-pub ended-of : (s : Setting) (mine : List ℕ) (c₀ c₁ c₂ c₃ c₄ c₅ : Core) (h₀ h₁ h₂ h₃ h₄ : List Entry)
+pub ended-of : (s : Setting) (all : Registers) (c₀ c₁ c₂ c₃ c₄ c₅ : Core) (h₀ h₁ h₂ h₃ h₄ : List Entry)
     → c₀.env.frames ≡ [] → c₀.env.phase ≡ phase.Init → c₀.env.opened ≡ true → nat_lt c₀.env.inits c₀.env.addons ≡ false
     → h₁ ≡ h₀ ++ host_entry host.Go out.Nothing ∷ [] → c₁ ≡ record c₀ { env = in_phase phase.Live c₀.env; position = length h₀ + 1 }
     → h₂ ≡ h₁ ++ host_entry host.LoopEnd (out.Ended loop_end.Idle) ∷ [] → c₂ ≡ record c₁ { env = in_phase phase.Hooks c₁.env; position = length h₁ + 1 }
     → h₃ ≡ h₂ ++ host_entry host.Drain (out.Unsigned 0) ∷ [] → c₃ ≡ record c₂ { env = in_phase phase.Drain c₂.env; position = length h₂ + 1 }
     → h₄ ≡ h₃ ++ host_entry host.Finals out.Nothing ∷ [] → c₄ ≡ record c₃ { env = in_phase phase.Finals c₃.env; position = length h₃ + 1 }
     → c₅ ≡ wrote (gone c₄.env) c₄
-    → IsRecorded s c₀ h₀ mine → IsEnded s c₅.journal h₄ mine
-ended-of s mine c₀ c₁ c₂ c₃ c₄ c₅ h₀ h₁ h₂ h₃ h₄ alone here opened all p₁ q₁ p₂ q₂ p₃ q₃ p₄ q₄ q₅ r₀ =
-    let R : Core → List Entry → Type 0 = λ c h. IsRecorded s c h mine in
-    let r₁ : R c₁ h₁ = moved R c₁ h₁ p₁ q₁ (go-grown s c₀ h₀ mine r₀ alone here opened all) in
+    → IsRecorded s c₀ h₀ all → IsEnded s c₅.journal h₄ all
+ended-of s all c₀ c₁ c₂ c₃ c₄ c₅ h₀ h₁ h₂ h₃ h₄ alone here opened every p₁ q₁ p₂ q₂ p₃ q₃ p₄ q₄ q₅ r₀ =
+    let R : Core → List Entry → Type 0 = λ c h. IsRecorded s c h all in
+    let r₁ : R c₁ h₁ = moved R c₁ h₁ p₁ q₁ (go-grown s c₀ h₀ all r₀ alone here opened every) in
     let a₁ : c₁.env.frames ≡ [] = ap (λ (c : Core). c.env.frames) q₁ ∙ alone in
-    let r₂ : R c₂ h₂ = moved R c₂ h₂ p₂ q₂ (loop_end-grown s c₁ h₁ mine r₁ a₁ (ap (λ (c : Core). c.env.phase) q₁)) in
+    let r₂ : R c₂ h₂ = moved R c₂ h₂ p₂ q₂ (loop_end-grown s c₁ h₁ all r₁ a₁ (ap (λ (c : Core). c.env.phase) q₁)) in
     let a₂ : c₂.env.frames ≡ [] = ap (λ (c : Core). c.env.frames) q₂ ∙ a₁ in
-    let r₃ : R c₃ h₃ = moved R c₃ h₃ p₃ q₃ (drain-grown s c₂ h₂ mine r₂ a₂ (ap (λ (c : Core). c.env.phase) q₂)) in
+    let r₃ : R c₃ h₃ = moved R c₃ h₃ p₃ q₃ (drain-grown s c₂ h₂ all r₂ a₂ (ap (λ (c : Core). c.env.phase) q₂)) in
     let a₃ : c₃.env.frames ≡ [] = ap (λ (c : Core). c.env.frames) q₃ ∙ a₂ in
-    let r₄ : R c₄ h₄ = moved R c₄ h₄ p₄ q₄ (finals-grown s c₃ h₃ mine r₃ a₃ (ap (λ (c : Core). c.env.phase) q₃)) in
+    let r₄ : R c₄ h₄ = moved R c₄ h₄ p₄ q₄ (finals-grown s c₃ h₃ all r₃ a₃ (ap (λ (c : Core). c.env.phase) q₃)) in
     let a₄ : c₄.env.frames ≡ [] = ap (λ (c : Core). c.env.frames) q₄ ∙ a₃ in
-    let r₅ : R c₅ h₄ = moved R c₅ h₄ refl q₅ (gone-grown s c₄ h₄ mine r₄ a₄ (ap (λ (c : Core). c.env.phase) q₄)) in
-    gone-ended s c₅ h₄ mine r₅ (ap (λ (c : Core). c.env.phase) q₅)
+    let r₅ : R c₅ h₄ = moved R c₅ h₄ refl q₅ (gone-grown s c₄ h₄ all r₄ a₄ (ap (λ (c : Core). c.env.phase) q₄)) in
+    gone-ended s c₅ h₄ all r₅ (ap (λ (c : Core). c.env.phase) q₅)
   where
     moved : (R : Core → List Entry → Type 0) (c : Core) (h : List Entry) {d : Core} {k : List Entry} → h ≡ k → c ≡ d → R d k → R c h
     moved R c h {d} {k} e f r = let P : List Entry → Type 0 = λ x. R c x in let Q : Core → Type 0 = λ x. R x k in subst P (sym e) (subst Q (sym f) r)

@@ -1,20 +1,21 @@
 -- What the top call does: the run that it leaves, the text that it writes, and the refusals that stand in place of a trace.
-use Rattle.std.specs.Prelude.{◌≡◌, ◌≤◌, ◌<◌, ℕ, Bool, true, false, List, [], ◌∷◌, ◌++◌, length, drop, Option, option_map, IfSome, IsTrue, ◌==◌, ◌⊎◌}
+use Rattle.std.specs.Prelude.{◌≡◌, ◌≤◌, ◌<◌, ◌^◌, ℕ, Bool, true, false, List, [], ◌∷◌, ◌++◌, length, drop, Option, Some, IfSome, IsTrue, ◌==◌, ◌⊎◌}
 use Rattle.std.specs.List.{list_any}
 use Rattle.std.specs.Io.KnownBytes.{prepend_known, append_known, IsAtEnd}
 use Rattle.napi_types.specs.declared.call.Ask.{Ask}
-use Rattle.napi_types.specs.declared.lists.AddonPlan.{AddonPlan}
 use Rattle.napi_types.specs.declared.lists.Record.{Record}
+use Rattle.napi_types.specs.declared.script.LimitName.{LimitName}
 use Rattle.napi_types.specs.declared.script.Script.{Script}
+use Rattle.napi_types.specs.declared.script.Wrong.{Wrong}
+use Rattle.napi_types.specs.declared.script.Wrong.TheVariants as wrong
 use Rattle.napi_types.specs.Edge.{HasRisen, TookFront}
 use Rattle.napi_types.specs.Plan.{Plan, plan_of, registers_of}
-use Rattle.napi_types.specs.Room.{most_entries}
-use Rattle.napi_types.specs.Script.{IsNoJson, IsScript, IsNoScript}
+use Rattle.napi_types.specs.Script.{IsNoJson, IsScript, IsWrong, HasWrongShape}
 use Rattle.napi_types.specs.Text.{text}
 use Rattle.napi_types.specs.Weave.{weave, IsParted}
 use Rattle.napi_types.specs.Whole.{Setting, EndsBy, final_registers}
 use Rattle.script_host.specs.Reading.{longest_source, GaveTooMany}
-use Rattle.script_host.specs.Recording.{AgreesWhereTold}
+use Rattle.script_host.specs.Recording.{AgreesWhereTold, told_plans, setting_with}
 use Rattle.script_host.specs.Words.{is_run_words}
 use Rattle.std.specs.declared.result.Result.{Result}
 use Rattle.std.specs.declared.result.Result.TheVariants.{Ok}
@@ -24,18 +25,9 @@ use Rattle.script_host.specs.declared.words.Line.{Line}
 use Rattle.script_host.specs.declared.words.Line.TheVariants as line
 
 -- THE RUN
--- what the script's addons tell of their plans: the entries that the script gives them, or nothing where they told nothing before
-abbrev pub told_plans : List AddonPlan → List Plan → List Plan
-told_plans (given ∷ rest) (told ∷ others) = option_map (λ _. given.entries) told ∷ told_plans rest others
-told_plans _ _ = []
-
 -- a run of the script, with these addons handed in
 abbrev pub setting_of : Script → List Plan → Setting
-setting_of script handed = record {
-  plans = told_plans script.addons handed;
-  texts = length script.texts;
-  limits = record { journal = most_entries; history = most_entries };
-}
+setting_of script handed = setting_with (told_plans script.addons handed) (length script.texts)
 
 -- the two lists are the journal and the history of a run of the script that ends in `gone`, and the registers of each addon that tells its plan are the run's
 pub record IsRunOf (script : Script) (handed : List Plan) (left : Record) (registers : List (List ℕ)) : Type 0 where
@@ -52,10 +44,10 @@ pub record Ran (script : Script) (handed : List Plan) (registers : List (List �
   pub loaded : plans_after ≡ told_plans script.addons handed ++ drop (length script.addons) handed
   pub others : drop (length script.addons) registers_after ≡ drop (length script.addons) registers
 
--- a script of the first form has one addon and the fixed texts alone
-pub record HasOneAddon (script : Script) : Type 0 where
-  pub one : length script.addons ≡ 1
-  pub texts : length script.texts ≡ 3
+-- a script that the host can run: it has eight addons at most, and its texts can be counted in 32 bits
+pub record IsSmall (script : Script) : Type 0 where
+  pub few : length script.addons ≤ 8
+  pub texts : length script.texts < 2 ^ 32
 
 -- the text of the run
 abbrev pub trace_of : Script → Record → List ℕ
@@ -81,11 +73,17 @@ pub record GaveNoJson (before after : Option (List ℕ)) : Type 0 where
   pub gave : Gave before after bytes
   pub is_no_json : IsNoJson bytes
 
--- the source gave a JSON text that is no script
-pub record GaveNoScript (before after : Option (List ℕ)) : Type 0 where
+-- the source gave a JSON text that is no script that can run, and this is the first thing that is wrong
+pub record GaveWrong (before after : Option (List ℕ)) (w : Wrong) : Type 0 where
   pub bytes : List ℕ
   pub gave : Gave before after bytes
-  pub is_no_script : IsNoScript bytes
+  pub is_wrong : IsWrong bytes w
+
+-- the source gave a JSON text in which the part at this path has the wrong form, before anything else is wrong
+pub record GaveWrongShape (before after : Option (List ℕ)) (path : List ℕ) : Type 0 where
+  pub bytes : List ℕ
+  pub gave : Gave before after bytes
+  pub has_wrong_shape : HasWrongShape bytes path
 
 -- the source gave a script with more addons than were handed in
 pub record GaveTooManyAddons (before after : Option (List ℕ)) (handed : ℕ) : Type 0 where
@@ -103,7 +101,9 @@ pub record GaveTooMuch (before after : Option (List ℕ)) : Type 0 where
 abbrev pub Causes : Line → List (List ℕ) → Option (List ℕ) → Option (List ℕ) → ℕ → ℕ → ℕ → Type 0
 Causes line.Usage words before after faults risen handed = is_run_words words ≡ false
 Causes line.NotJson words before after faults risen handed = (is_run_words words ≡ true) × GaveNoJson before after
-Causes line.Stage words before after faults risen handed = (is_run_words words ≡ true) × GaveNoScript before after
+Causes (line.Shape path) words before after faults risen handed = (is_run_words words ≡ true) × GaveWrongShape before after path
+Causes (line.Limit which) words before after faults risen handed = (is_run_words words ≡ true) × GaveWrong before after (wrong.Limit which)
+Causes line.Stage words before after faults risen handed = (is_run_words words ≡ true) × GaveWrong before after wrong.Stage
 Causes line.TooManyAddons words before after faults risen handed = (is_run_words words ≡ true) × GaveTooManyAddons before after handed
 Causes line.NoMemory words before after faults risen handed = is_run_words words ≡ true
 Causes line.ReadFault words before after faults risen handed = (is_run_words words ≡ true) × HasRisen faults risen
@@ -132,6 +132,28 @@ IsStatus status = IsTrue (list_any (λ known. known == status) (0 ∷ 2 ∷ 3 �
 abbrev pub IsRunStatus : ℕ → Type 0
 IsRunStatus status = (status ≡ 0) ⊎ (status ≡ 5)
 
--- the source gave no JSON text, or no script, or a script with more addons than were handed in
+-- the source gave a JSON text that is no script, or a script that cannot run: something has the wrong form, is too many, or is not built
+abbrev pub GaveNoScript : Option (List ℕ) → Option (List ℕ) → Type 0
+GaveNoScript before after = ((path : List ℕ) × GaveWrongShape before after path) ⊎ (((which : LimitName) × GaveWrong before after (wrong.Limit which)) ⊎ GaveWrong before after wrong.Stage)
+
+-- the source gave no JSON text, or no script that can run, or a script with more addons than were handed in
 abbrev pub GaveRefused : Option (List ℕ) → Option (List ℕ) → ℕ → Type 0
 GaveRefused before after handed = GaveNoJson before after ⊎ (GaveNoScript before after ⊎ GaveTooManyAddons before after handed)
+
+-- COMPLETENESS
+-- nothing but want of memory is in the way of a run: the words are the command line, the source's bytes are known to be a script that is built
+-- and has no more addons than were handed in, and neither the reading nor the writing failed
+pub record IsRunnable (words : List (List ℕ)) (before : Option (List ℕ)) (faults risen sink_faults sink_risen handed : ℕ) : Type 0 where
+  pub command : is_run_words words ≡ true
+  pub bytes : List ℕ
+  pub told : before ≡ Some bytes
+  pub short : length bytes ≤ longest_source
+  pub script : Script
+  pub is_script : IsScript bytes script
+  pub enough : length script.addons ≤ handed
+  pub readable : HasRisen faults risen → ⊥
+  pub writable : HasRisen sink_faults sink_risen → ⊥
+
+-- the run was made and written, or there was no memory
+abbrev pub IsRunOrNoMemory : ℕ → Type 0
+IsRunOrNoMemory status = (status ≡ 0) ⊎ (status ≡ 6)

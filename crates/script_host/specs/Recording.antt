@@ -1,18 +1,19 @@
--- A run as it is recorded: the environment's core, the history, and the registers of the addon that runs.
-use Rattle.std.specs.Prelude.{◌≡◌, ℕ, List, [], ◌∷◌, length, Some, None, option_map}
+-- A run as it is recorded: the environment's core, the history, and the registers of the addons.
+use Rattle.std.specs.Prelude.{◌≡◌, ℕ, ◌<◌, List, [], ◌∷◌, length, true, Some, None, option_map}
 use Rattle.napi_types.specs.declared.call.Ask.{Ask}
-use Rattle.napi_types.specs.declared.call.Op.{Op}
 use Rattle.napi_types.specs.declared.entry.Entry.{Entry}
 use Rattle.napi_types.specs.declared.entry.Local.{Local}
 use Rattle.napi_types.specs.declared.entry.Limits.{Limits}
+use Rattle.napi_types.specs.declared.entry.Phase.TheVariants as phase
 use Rattle.napi_types.specs.declared.entry.Why.{Why}
 use Rattle.napi_types.specs.declared.entry.Why.TheVariants as why
+use Rattle.napi_types.specs.declared.lists.AddonPlan.{AddonPlan}
 use Rattle.napi_types.specs.declared.status.Status.{Status}
 use Rattle.napi_types.specs.declared.status.Status.TheVariants as status
-use Rattle.napi_types.specs.Scopes.{Frame}
+use Rattle.napi_types.specs.Frames.{Frame}
 use Rattle.napi_types.specs.Phases.{stage_of}
 use Rattle.napi_types.specs.Machine.{Machine}
-use Rattle.napi_types.specs.Plan.{Plan, plan_of, registers_of}
+use Rattle.napi_types.specs.Plan.{Plan, plan_of, Registers, registers_of}
 use Rattle.napi_types.specs.Weave.{weave, StandsWithin, IsParted}
 use Rattle.napi_types.specs.Whole.{Setting, RunsBy, EndsBy, final_of, final_registers}
 use Rattle.env_core.specs.Core.{Core}
@@ -33,36 +34,51 @@ abbrev pub AgreesWhereTold : Plan → List ℕ → List ℕ → Type 0
 AgreesWhereTold None mine own = Unit {0}
 AgreesWhereTold (Some plan) mine own = mine ≡ own
 
--- the weave of the journal and the history is a run of a script with one addon, it came to this machine, and the addon's registers are the run's
-pub record IsRecorded (s : Setting) (core : Core) (history : List Entry) (mine : List ℕ) : Type 0 where
+-- the registers of each addon that tells its plan are those of the run
+abbrev pub AgreesWith : List Plan → Registers → Registers → Type 0
+AgreesWith plans all own = (addon : ℕ) → addon < length plans → AgreesWhereTold (plan_of plans addon) (registers_of all addon) (registers_of own addon)
+
+-- the weave of the journal and the history is a run of the script, it came to this machine, and the registers of its addons are the run's;
+-- `all` are the registers of every addon that was handed in, and the script's addons are the first ones
+pub record IsRecorded (s : Setting) (core : Core) (history : List Entry) (all : Registers) : Type 0 where
   pub asks : List Ask
-  pub own : List ℕ
+  pub own : Registers
   pub run : RunsBy s asks (weave core.journal history)
   pub final : final_of s asks (weave core.journal history) ≡ machine_of s.limits core history
-  pub registers : final_registers s asks (weave core.journal history) ≡ own ∷ []
-  pub agrees : AgreesWhereTold (plan_of s.plans 0) mine own
+  pub registers : final_registers s asks (weave core.journal history) ≡ own
+  pub count : length own ≡ length s.plans
+  pub agrees : AgreesWith s.plans all own
   pub limit : core.limit ≡ s.limits.journal
   pub position : core.position ≡ length history
   pub within : StandsWithin (length history) core.journal
   pub parted : IsParted core.journal history
 
 -- a run that came to its end, as it is left: the weave of the two lists is a run of the script to `gone`, each list has its own entries,
--- and the addon's registers are the run's
-pub record IsEnded (s : Setting) (journal : List Local) (history : List Entry) (mine : List ℕ) : Type 0 where
+-- and the registers of the script's addons are the run's
+pub record IsEnded (s : Setting) (journal : List Local) (history : List Entry) (all : Registers) : Type 0 where
   pub asks : List Ask
   pub ended : EndsBy s asks (weave journal history)
   pub locals : (final_of s asks (weave journal history)).locals ≡ length journal
   pub shareds : (final_of s asks (weave journal history)).shareds ≡ length history
   pub parted : IsParted journal history
-  pub agrees : AgreesWhereTold (plan_of s.plans 0) mine (registers_of (final_registers s asks (weave journal history)) 0)
+  pub agrees : AgreesWith s.plans all (final_registers s asks (weave journal history))
 
--- one frame stands, of entry 0 of the first addon, and made so many asks
-pub record StandsAt (core : Core) (asks : ℕ) : Type 0 where
+-- one frame stands, of entry 0 of this addon of the script, and made so many asks
+pub record StandsAt (core : Core) (addon : ℕ) (asks : ℕ) : Type 0 where
   pub frame : Frame
   pub alone : core.env.frames ≡ frame ∷ []
-  pub addon : frame.addon ≡ 0
+  pub there : addon < core.env.addons
+  pub addon_is : frame.addon ≡ addon
   pub entry : frame.entry ≡ 0
   pub asked : frame.asks ≡ asks
+
+-- the opening is over, no frame stands, and so many of the script's init frames began
+pub record HasBegun (core : Core) (begun addons : ℕ) : Type 0 where
+  pub alone : core.env.frames ≡ []
+  pub phase : core.env.phase ≡ phase.Init
+  pub opened : core.env.opened ≡ true
+  pub inits : core.env.inits ≡ begun
+  pub count : core.env.addons ≡ addons
 
 -- the opening, the phase and the init frames that began are as before
 pub record IsSamePlace (old new : Core) : Type 0 where
@@ -76,15 +92,21 @@ abbrev pub why_stopped : Status → Why
 why_stopped status.TraceFull = why.Full
 why_stopped _ = why.Memory
 
--- whatever script it is a run of, the recorded run goes on from one core and these registers to another
-abbrev pub Continues : Plan → Core → List ℕ → Core → List ℕ → Type 0
-Continues plan old mine new now =
-    (s : Setting) (history : List Entry) → plan_of s.plans 0 ≡ plan → IsRecorded s old history mine → IsRecorded s new history now
+-- the script's addons are the first of those that tell these plans, as many as the core has
+pub record IsOf (s : Setting) (plans : List Plan) (core : Core) : Type 0 where
+  pub count : length s.plans ≡ core.env.addons
+  pub first : (addon : ℕ) → addon < length s.plans → plan_of s.plans addon ≡ plan_of plans addon
 
--- what an addon tells of its plan once it was given these entries: one that told none tells none now
-abbrev pub loaded_plan : Plan → List (List Op) → Plan
-loaded_plan told entries = option_map (λ _. entries) told
+-- whatever script of these addons it is a run of, the recorded run goes on from one core and these registers to another
+abbrev pub Continues : List Plan → Core → Registers → Core → Registers → Type 0
+Continues plans old all new now =
+    (s : Setting) (history : List Entry) → IsOf s plans old → IsRecorded s old history all → IsRecorded s new history now
 
--- the setting of a script with one addon, under the limits of every run
-abbrev pub alone_setting : Plan → ℕ → Setting
-alone_setting told texts = record { plans = told ∷ []; texts = texts; limits = record { journal = most_entries; history = most_entries } }
+-- what the script's addons tell of their plans: the entries that the script gives them, or nothing where they told nothing before
+abbrev pub told_plans : List AddonPlan → List Plan → List Plan
+told_plans (given ∷ rest) (told ∷ others) = option_map (λ _. given.entries) told ∷ told_plans rest others
+told_plans _ _ = []
+
+-- a run of a script whose addons tell these plans, under the limits of every run
+abbrev pub setting_with : List Plan → ℕ → Setting
+setting_with plans texts = record { plans = plans; texts = texts; limits = record { journal = most_entries; history = most_entries } }

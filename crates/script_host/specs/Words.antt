@@ -1,5 +1,7 @@
 -- The command line, and the lines that stand in place of a trace.
-use Rattle.std.specs.Prelude.{ℕ, ◌==◌, ◌&&◌, Bool, List, [], length, codes, bytes_eq, slice_index_or}
+use Rattle.std.specs.Prelude.{ℕ, ◌==◌, ◌&&◌, Bool, List, [], ◌++◌, length, codes, bytes_eq, slice_index_or}
+use Rattle.napi_types.specs.declared.script.LimitName.{LimitName}
+use Rattle.napi_types.specs.declared.script.LimitName.TheVariants as limit
 use Rattle.script_host.specs.declared.words.Line.{Line}
 use Rattle.script_host.specs.declared.words.Line.TheVariants as line
 
@@ -15,7 +17,20 @@ usage_line = codes "usage: napi_host run\n"
 abbrev pub not_json_line : List ℕ
 not_json_line = codes "refused json\n"
 
--- the bytes are a JSON text, and no script of the first form
+-- the part at this path has the wrong form
+abbrev pub shape_line : List ℕ → List ℕ
+shape_line path = codes "refused shape " ++ path ++ codes "\n"
+
+-- there are more than a script may have
+abbrev pub limit_line : LimitName → List ℕ
+limit_line limit.Workers = codes "refused limit workers\n"
+limit_line limit.Addons = codes "refused limit addons\n"
+limit_line limit.Entries = codes "refused limit entries\n"
+limit_line limit.Operations = codes "refused limit operations\n"
+limit_line limit.Threads = codes "refused limit threads\n"
+limit_line limit.Schedule = codes "refused limit schedule\n"
+
+-- the bytes are a script, and something in it is not built
 abbrev pub stage_line : List ℕ
 stage_line = codes "refused stage\n"
 
@@ -39,6 +54,8 @@ too_long_line = codes "refused length\n"
 abbrev pub line_text : Line → List ℕ
 line_text line.Usage = usage_line
 line_text line.NotJson = not_json_line
+line_text (line.Shape path) = shape_line path
+line_text (line.Limit which) = limit_line which
 line_text line.Stage = stage_line
 line_text line.TooManyAddons = too_many_addons_line
 line_text line.NoMemory = no_memory_line
@@ -49,6 +66,8 @@ line_text line.TooLong = too_long_line
 abbrev pub line_status : Line → ℕ
 line_status line.Usage = 2
 line_status line.NotJson = 3
+line_status (line.Shape _) = 3
+line_status (line.Limit _) = 3
 line_status line.Stage = 3
 line_status line.TooManyAddons = 3
 line_status line.ReadFault = 4

@@ -1,20 +1,23 @@
 //! The top call.
-ghost use Rattle.std.specs.Prelude.{◌≡◌, ◌≢◌, ◌≤◌, ◌<◌, ℕ, ◌↔◌, ◌==◌, List, [], ◌∷◌, length, map, true, false, Some, None, IfOk, OnOk, OnErr, IfErr, Contains, IsOk, ◌⊎◌};
+ghost use Rattle.std.specs.Prelude.{◌≡◌, ◌≢◌, ◌≤◌, ◌<◌, ◌^◌, ℕ, ◌↔◌, ◌==◌, List, [], ◌∷◌, length, map, true, false, Some, None, IfOk, OnOk, OnErr, IfErr, Contains, IsOk, ◌⊎◌};
 ghost use Rattle.std.specs.Io.KnownBytes.{append_known};
 ghost use Rattle.napi_types.specs.Edge.{HasRisen, TookFront};
-ghost use Rattle.script_host.specs.Host.{Ran, HasOneAddon, GaveScript, GaveTooMuch, Causes, WroteLine, WroteTrace, is_whole, trace_of, IsStatus, IsRunStatus, GaveRefused};
+ghost use Rattle.script_host.specs.Host.{Ran, IsSmall, GaveScript, GaveTooMuch, Causes, WroteLine, WroteTrace, is_whole, trace_of, IsStatus, IsRunStatus, GaveRefused, IsRunnable, IsRunOrNoMemory};
 ghost use Rattle.script_host.specs.Words.{is_run_words, line_text, line_status};
 
 use crate::reading::{ReadError, read_all};
 use crate::recording::run;
 use crate::words::{Line, is_run};
 use addon_trait::Addon;
-use napi_types::{AddonPlan, Failed, Gate, Plans, Record, Script, Sink, Source, Text};
+use napi_types::{Failed, Gate, Record, Script, Sink, Source, Text};
 use script_read::{Refusal, read_script};
 use std::alloc::Global;
 use std::sync::Wait;
 use std::thread::Threads;
-use trace_text::{put_all, write_trace};
+use trace_text::write_trace;
+
+/// How many texts can be counted in 32 bits.
+const MOST_TEXTS: usize = 4_294_967_295;
 
 /// How much of a trace was written.
 enum Written {
@@ -30,14 +33,28 @@ fn refuse<K: Sink>(sink: &mut K, line: Line) -> u8
     ensures line { WroteLine (K.taken sink.old) (K.faults sink.old) (line_text line) (K.taken sink.new) (K.faults sink.new) }
     ensures faults { K.faults sink.old ≤ K.faults sink.new }
 {
-    let _ = put_all(sink, line.text().as_bytes());
+    let _ = line.write(sink);
     line.status()
+}
+
+/// The script, where its texts can be counted in 32 bits. No source is long enough for more; a table of so many is taken for want
+/// of memory.
+fn counted(script: Script) -> Result<Script, Line>
+    ensures same { IfOk result (λ same. same ≡ script) }
+    ensures texts { IfOk result (λ same. length same.texts < 2 ^ 32) }
+    ensures err { IfErr result (λ line. line ≡ Line.NoMemory) }
+{
+    if script.texts.items().len() > MOST_TEXTS {
+        return Err(Line::NoMemory);
+    }
+    Ok(script)
 }
 
 /// The script that the source gives, where the words are the command line.
 fn script_of<S: Source>(alloc: Global, words: &[Text], source: &mut S) -> Result<Script, Line>
     ensures words { OnOk result (is_run_words words.now ≡ true) }
     ensures ok { IfOk result (λ script. GaveScript (S.left source.old) (S.left source.new) script) }
+    ensures small { IfOk result IsSmall }
     ensures err { IfErr result (λ line. (handed : ℕ) →
         Causes line words.now (S.left source.old) (S.left source.new) (S.faults source.old) (S.faults source.new) handed) }
     ensures faults { S.faults source.old ≤ S.faults source.new }
@@ -52,22 +69,12 @@ fn script_of<S: Source>(alloc: Global, words: &[Text], source: &mut S) -> Result
         Err(ReadError::Long) => return Err(Line::TooLong),
     };
     match read_script(alloc, &bytes) {
-        Ok(script) => Ok(script),
+        Ok(script) => counted(script),
         Err(Refusal::NotJson) => Err(Line::NotJson),
+        Err(Refusal::Shape { path }) => Err(Line::Shape(path)),
+        Err(Refusal::Limit { which }) => Err(Line::Limit(which)),
         Err(Refusal::Stage) => Err(Line::Stage),
         Err(Refusal::NoMemory) => Err(Line::NoMemory),
-    }
-}
-
-/// The plan of the only addon.
-fn only_plan(plans: Plans) -> AddonPlan
-    requires { length plans ≡ 1 }
-    ensures { plans ≡ result ∷ [] }
-{
-    let mut plans = plans.into_items();
-    match plans.pop() {
-        Some(plan) => plan,
-        None => unreachable!(),
     }
 }
 
@@ -79,7 +86,7 @@ fn perform<K: Sink>(
     addons: &mut Vec<Box<dyn Addon>>,
     left: &mut Record,
 ) -> Result<Written, Line>
-    requires { HasOneAddon script }
+    requires { IsSmall script }
     ensures ran { let plans = map (λ b. plan b) addons.old.items in
         let registers = map (λ b. regs b) addons.old.items in
         OnOk result (Ran script plans registers left.new (map (λ b. plan b) addons.new.items) (map (λ b. regs b) addons.new.items)) }
@@ -103,8 +110,7 @@ fn perform<K: Sink>(
         schedule: _,
         texts,
     } = script;
-    let given = only_plan(plans);
-    let Ok(record) = run(alloc, given, texts.items().len() as u32, addons) else {
+    let Ok(record) = run(alloc, plans, texts.items().len() as u32, addons) else {
         return Err(Line::NoMemory);
     };
     let written = write_trace(sink, &texts, record.journal.items(), record.history.items());
@@ -148,9 +154,9 @@ fn attempt<S: Source, K: Sink>(
 /// The one command line is the word `run`. At status 0 the whole trace was written, at 5 the sink failed within it; then
 /// `left` holds the journal and the history of the run, and each addon of the script was loaded with its plan. At every
 /// other status a line stands in place of the trace and `left` is as it was: 2 where the words are no command line, 3
-/// where the bytes are no JSON text, no script of a part that is built, or a script with more addons than were handed in,
-/// 4 where the source failed, 7 where it gave more than 4,194,304 bytes, and 6 for want of memory, which may come in
-/// place of 0, 3, 4, 5 and 7. `gate` and `rt` serve threads, which no script has.
+/// where the bytes are no JSON text, no script, a script of which something is not built, or one with more addons than
+/// were handed in, 4 where the source failed, 7 where it gave more than 4,194,304 bytes, and 6 for want of memory, which may
+/// come in place of 0, 3, 4, 5 and 7. `gate` and `rt` serve threads, which no script that is built has.
 pub fn host<R: Threads + Wait + Sync, S: Source, K: Sink, G: Gate>(
     rt: &R,
     alloc: Global,
@@ -184,6 +190,11 @@ pub fn host<R: Threads + Wait + Sync, S: Source, K: Sink, G: Gate>(
     ensures read_fault { result ≡ 4 → HasRisen (S.faults source.old) (S.faults source.new) }
     ensures write_fault { result ≡ 5 → HasRisen (K.faults sink.old) (K.faults sink.new) }
     ensures too_long { result ≡ 7 → GaveTooMuch (S.left source.old) (S.left source.new) }
+
+    // Where nothing is in the way of a run but want of memory, the run is made and its whole trace is written, or there was no memory.
+    ensures complete { let handed = length addons.old.items in
+        IsRunnable words.now (S.left source.old) (S.faults source.old) (S.faults source.new) (K.faults sink.old) (K.faults sink.new) handed
+        → IsRunOrNoMemory result }
     ensures reading { S.faults source.old ≤ S.faults source.new }
     ensures writing { K.faults sink.old ≤ K.faults sink.new }
 {

@@ -1,38 +1,70 @@
 -- What the definitions of a script say of a list of values of which the length is known.
-use Rattle.std.proofs.Common.{◌≡◌, ◌<◌, ◌≤◌, List, [], ◌∷◌, length, refl, arith, None}
-use Rattle.std.proofs.lemmas.Bool.Decides.{nat_tests}
+use Rattle.std.proofs.Common.{◌≡◌, ◌<◌, ◌≤◌, ℕ, List, [], ◌∷◌, length, refl, arith, None}
 use Rattle.serde_json.specs.View.{items_view}
 use Rattle.serde_json.specs.declared.value.Value.{Value}
-use Rattle.napi_types.specs.Script.{one_register, two_registers, single, operation_in, operations, each, most_operations}
-use Rattle.serde_json.proofs.Views.{items_len-items_view}
+use Rattle.napi_types.specs.ScriptArguments.{registers_among, job_of}
+use Rattle.serde_json.specs.Data.{Data}
+use Rattle.napi_types.specs.ScriptOperations.{of_many, text_operation, thread_operation_named}
 
-pub one_register-long : (vs : List Value) → 2 ≤ length vs → one_register (items_view vs) ≡ None
-one_register-long [] long = absurd (omega arith)
-one_register-long (v ∷ []) long = absurd (omega arith)
-one_register-long (v ∷ w ∷ vs) long = refl
+pub job-few : (vs : List Value) → length vs < 2 → job_of (items_view vs) ≡ None
+unfolding job_of
+job-few [] few = refl
+job-few (a ∷ []) few = refl
+job-few (a ∷ b ∷ vs) few = absurd (omega arith)
 
-pub two_registers-short : (vs : List Value) → length vs < 2 → two_registers (items_view vs) ≡ None
-two_registers-short [] short = refl
-two_registers-short (v ∷ []) short = refl
-two_registers-short (v ∷ w ∷ vs) short = absurd (omega arith)
+pub job-many : (vs : List Value) → 4 ≤ length vs → job_of (items_view vs) ≡ None
+unfolding job_of
+job-many [] many = absurd (omega arith)
+job-many (a ∷ []) many = absurd (omega arith)
+job-many (a ∷ b ∷ []) many = absurd (omega arith)
+job-many (a ∷ b ∷ c ∷ []) many = absurd (omega arith)
+job-many (a ∷ b ∷ c ∷ d ∷ vs) many = refl
 
-pub two_registers-long : (vs : List Value) → 3 ≤ length vs → two_registers (items_view vs) ≡ None
-two_registers-long [] long = absurd (omega arith)
-two_registers-long (v ∷ []) long = absurd (omega arith)
-two_registers-long (v ∷ w ∷ []) long = absurd (omega arith)
-two_registers-long (v ∷ w ∷ x ∷ vs) long = refl
+pub registers-many : (vs : List Value) → 5 ≤ length vs → registers_among (items_view vs) ≡ None
+unfolding registers_among
+registers-many [] many = absurd (omega arith)
+registers-many (a ∷ []) many = absurd (omega arith)
+registers-many (a ∷ b ∷ []) many = absurd (omega arith)
+registers-many (a ∷ b ∷ c ∷ []) many = absurd (omega arith)
+registers-many (a ∷ b ∷ c ∷ d ∷ []) many = absurd (omega arith)
+registers-many (a ∷ b ∷ c ∷ d ∷ e ∷ vs) many = refl
 
-pub single-long : (vs : List Value) → 2 ≤ length vs → single (items_view vs) ≡ None
-single-long [] long = absurd (omega arith)
-single-long (v ∷ []) long = absurd (omega arith)
-single-long (v ∷ w ∷ vs) long = refl
+pub of_many-one : (k : ℕ) (name : List ℕ) (a b c d e : Data) (vs : List Value) → 1 ≤ length vs → length vs < 2 → of_many k name a b c d e (items_view vs) ≡ None
+unfolding of_many
+of_many-one k name a b c d e [] some few = absurd (omega arith)
+of_many-one k name a b c d e (f ∷ []) some few = refl
+of_many-one k name a b c d e (f ∷ g ∷ vs) some few = absurd (omega arith)
 
-pub single-none : (vs : List Value) → length vs < 1 → single (items_view vs) ≡ None
-single-none [] few = refl
-single-none (v ∷ vs) few = absurd (omega arith)
+pub of_many-many : (k : ℕ) (name : List ℕ) (a b c d e : Data) (vs : List Value) → 3 ≤ length vs → of_many k name a b c d e (items_view vs) ≡ None
+unfolding of_many
+of_many-many k name a b c d e [] many = absurd (omega arith)
+of_many-many k name a b c d e (f ∷ []) many = absurd (omega arith)
+of_many-many k name a b c d e (f ∷ g ∷ []) many = absurd (omega arith)
+of_many-many k name a b c d e (f ∷ g ∷ h ∷ vs) many = refl
 
-pub operations-few : (vs : List Value) → length vs ≤ most_operations → operations (items_view vs) ≡ each operation_in (items_view vs)
-operations-few vs few = rw (items_len-items_view vs) (grind (arith, nat_tests))
+pub text-few : (table : List (List ℕ)) (name : List ℕ) (vs : List Value) → length vs < 2 → text_operation table name (items_view vs) ≡ None
+unfolding text_operation
+text-few table name [] few = refl
+text-few table name (a ∷ []) few = refl
+text-few table name (a ∷ b ∷ vs) few = absurd (omega arith)
 
-pub operations-many : (vs : List Value) → most_operations < length vs → operations (items_view vs) ≡ None
-operations-many vs many = rw (items_len-items_view vs) (grind (arith, nat_tests))
+pub text-many : (table : List (List ℕ)) (name : List ℕ) (vs : List Value) → 4 ≤ length vs → text_operation table name (items_view vs) ≡ None
+unfolding text_operation
+text-many table name [] many = absurd (omega arith)
+text-many table name (a ∷ []) many = absurd (omega arith)
+text-many table name (a ∷ b ∷ []) many = absurd (omega arith)
+text-many table name (a ∷ b ∷ c ∷ []) many = absurd (omega arith)
+text-many table name (a ∷ b ∷ c ∷ d ∷ vs) many = refl
+
+pub thread-none : (name : List ℕ) (vs : List Value) → length vs < 1 → thread_operation_named name (items_view vs) ≡ None
+unfolding thread_operation_named
+thread-none name [] few = refl
+thread-none name (a ∷ vs) few = absurd (omega arith)
+
+pub thread-many : (name : List ℕ) (vs : List Value) → 4 ≤ length vs → thread_operation_named name (items_view vs) ≡ None
+unfolding thread_operation_named
+thread-many name [] many = absurd (omega arith)
+thread-many name (a ∷ []) many = absurd (omega arith)
+thread-many name (a ∷ b ∷ []) many = absurd (omega arith)
+thread-many name (a ∷ b ∷ c ∷ []) many = absurd (omega arith)
+thread-many name (a ∷ b ∷ c ∷ d ∷ vs) many = refl

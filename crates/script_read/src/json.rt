@@ -1,31 +1,42 @@
-//! The JSON value of bytes, and what stands in one.
-ghost use Rattle.std.specs.Prelude.{◌≡◌, ℕ, ◌==◌, IfOk, option_map, option_copied};
+//! The JSON value of bytes, the lists in one, and how what is wrong with one stops its reading.
+ghost use Rattle.std.specs.Prelude.{◌≡◌, ◌≤◌, IfOk, length, option_map};
 ghost use Rattle.serde_json.specs.Find.{as_array};
 ghost use Rattle.serde_json.specs.View.{view, items_view};
-ghost use Rattle.napi_types.specs.Script.{IsJson, IsNoJson, whole_number, single, only_item, has_members, member_is, is_empty_array};
+ghost use Rattle.napi_types.specs.Script.{IsJson, IsNoJson, list_at, has_members};
 
-use crate::Refusal;
+use napi_types::{LimitName, Place, Wrong};
 use serde_json::Value;
 use std::alloc::Global;
 
+/// Why reading stops before there is a script.
+#[derive(Clone, Copy)]
+pub(crate) enum Stop {
+    /// The bytes are no JSON text.
+    NotJson,
+    /// This is the first thing that is wrong with the value.
+    Wrong(Wrong),
+    /// There was no memory to go on.
+    NoMemory,
+}
+
 /// The value of a JSON text.
-pub(crate) fn json_of(alloc: Global, bytes: &[u8]) -> Result<Value, Refusal>
+pub(crate) fn json_of(alloc: Global, bytes: &[u8]) -> Result<Value, Stop>
     ensures ok { IfOk result (λ value. IsJson bytes.now (view value)) }
-    ensures not_json { result ≡ Err Refusal.NotJson → IsNoJson bytes.now }
-    ensures stage { ¬ (result ≡ Err Refusal.Stage) }
+    ensures not_json { result ≡ Err Stop.NotJson → IsNoJson bytes.now }
+    ensures right { (w : Wrong) → ¬ (result ≡ Err (Stop.Wrong w)) }
 {
     match Value::from_slice(alloc, bytes) {
         Ok(value) => Ok(value),
         Err(error) => Err(if error.is_memory() {
-            Refusal::NoMemory
+            Stop::NoMemory
         } else {
-            Refusal::NotJson
+            Stop::NotJson
         }),
     }
 }
 
 /// The items of a value that is an array.
-pub(crate) fn items(value: &Value) -> Option<&[Value]>
+fn items(value: &Value) -> Option<&[Value]>
     ensures { option_map (λ items. items_view items.now) result ≡ as_array (view value.now) }
 {
     match value {
@@ -34,49 +45,36 @@ pub(crate) fn items(value: &Value) -> Option<&[Value]>
     }
 }
 
-fn single(items: &[Value]) -> Option<&Value>
-    ensures { option_map (λ item. view item.now) result ≡ single (items_view items.now) }
+/// The items of an array with at most so many.
+#[tactic(auto, using(crate::proofs::Lists::items_len_of), unfolding(napi_types::specs::Script::list_at))]
+pub(crate) fn list_at<'v>(
+    place: Place,
+    which: LimitName,
+    most: usize,
+    found: Option<&'v Value>,
+) -> Result<&'v [Value], Stop>
+    ensures ok { IfOk result (λ items. list_at place which most (option_map (λ v. view v.now) found.entry) ≡ Ok (items_view items.now)) }
+    ensures wrong { (w : Wrong) → result ≡ Err (Stop.Wrong w) → list_at place which most (option_map (λ v. view v.now) found.entry) ≡ Err w }
+    ensures json { ¬ (result ≡ Err Stop.NotJson) }
+    ensures few { IfOk result (λ items. length items.now ≤ most) }
 {
-    match items {
-        [] => None,
-        [item] => Some(item),
-        _ => None,
+    let Some(items) = found.and_then(items) else {
+        return Err(Stop::Wrong(Wrong::Shape(place)));
+    };
+    if items.len() <= most {
+        Ok(items)
+    } else {
+        Err(Stop::Wrong(Wrong::Limit(which)))
     }
 }
 
-/// The item of an array that has exactly one.
-pub(crate) fn only_item(value: &Value) -> Option<&Value>
-    ensures { option_map (λ item. view item.now) result ≡ only_item (view value.now) }
-{
-    single(items(value)?)
-}
-
 /// Whether a value is an object with so many members.
+#[tactic(auto, using(crate::proofs::Lists::members_len_of), unfolding(napi_types::specs::Script::has_members))]
 pub(crate) fn has_members(value: &Value, count: usize) -> bool
     ensures { result ≡ has_members count (view value.now) }
 {
     match value.as_object() {
         Some(members) => members.len() == count,
-        None => false,
-    }
-}
-
-/// Whether a value is an array without items.
-pub(crate) fn is_empty_array(value: &Value) -> bool
-    ensures { result ≡ is_empty_array (view value.now) }
-{
-    match items(value) {
-        Some(items) => items.is_empty(),
-        None => false,
-    }
-}
-
-/// Whether an object has a member of this name that is this whole number.
-pub(crate) fn has_number(value: &Value, name: &str, number: u64) -> bool
-    ensures { result ≡ member_is name.now number (view value.now) }
-{
-    match value.get(name).and_then(Value::as_u64) {
-        Some(found) => found == number,
         None => false,
     }
 }

@@ -1,49 +1,94 @@
-//! Reading a script: from the bytes of a JSON text to the script that they are, or the reason why they are none.
+//! Reading a script: from the bytes of a JSON text to the script that they are, or the first reason why they are none.
 //! What a script is stands in the definitions of `napi_types`; contracts see bytes, JSON values and scripts.
 //! `script_host` stands above it.
 #![tactic(auto)]
 
-ghost use Rattle.std.specs.Prelude.{◌≡◌, IfOk};
-ghost use Rattle.napi_types.specs.Script.{IsNoJson, IsScript, IsNoScript};
+ghost use Rattle.std.specs.Prelude.{◌≡◌, IfOk, List, ℕ};
+ghost use Rattle.napi_types.specs.Script.{IsNoJson, IsScript, IsWrong, HasWrongShape};
+ghost use Rattle.napi_types.specs.ScriptPaths.{path as path_of};
+ghost use Rattle.napi_types.specs.declared.script.Wrong.TheVariants as wrong;
 
+mod addon;
+mod arguments;
+mod entry;
 mod json;
+mod more;
+mod named;
+mod one;
 mod operation;
-mod plan;
 mod root;
+mod schedule;
 mod texts;
+mod threads;
+mod three;
+mod two;
 
-use json::json_of;
-use napi_types::NoMemory;
-pub use napi_types::Script;
+use json::{Stop, json_of};
+pub use napi_types::{LimitName, Script};
+use napi_types::{NoMemory, Place, Text, Wrong};
 use root::script;
 use std::alloc::Global;
 
 /// Why bytes are no script that can run.
-#[derive(Clone, Copy)]
+#[derive(Drop)]
 pub enum Refusal {
     /// The bytes are no JSON text.
     NotJson,
-    /// They are a JSON text of a value that is no script of the first form: version 9, no workers, no threads, no
-    /// schedule, and one addon with one entry.
+    /// A part of the value has the wrong form, or is missing: the first such part, by its path.
+    Shape { path: Text },
+    /// There are more of something than there may be, before anything else is wrong.
+    Limit { which: LimitName },
+    /// They are a script, and something in it is not built: a call, workers, threads or a schedule.
     Stage,
     /// There was no memory to read them.
     NoMemory,
 }
 
-/// Reads the script of the first form that a JSON text is.
-///
-/// It answers `Refusal::NotJson` only where the bytes are no JSON text, and `Refusal::Stage` only where they are one
-/// of a value that is no script of the first form. Want of memory may come in place of any answer.
-pub fn read_script(alloc: Global, bytes: &[u8]) -> Result<Script, Refusal>
-    ensures ok { IfOk result (λ read. IsScript bytes.now read) }
-    ensures not_json { result ≡ Err Refusal.NotJson → IsNoJson bytes.now }
-    ensures stage { result ≡ Err Refusal.Stage → IsNoScript bytes.now }
+/// The script that bytes are, or why reading them stopped.
+fn read(alloc: Global, bytes: &[u8]) -> Result<Script, Stop>
+    ensures ok { IfOk result (λ found. IsScript bytes.now found) }
+    ensures json { result ≡ Err Stop.NotJson → IsNoJson bytes.now }
+    ensures wrong { (w : Wrong) → result ≡ Err (Stop.Wrong w) → IsWrong bytes.now w }
 {
     let value = json_of(alloc, bytes)?;
-    match script(alloc, &value) {
-        Ok(Some(script)) => Ok(script),
-        Ok(None) => Err(Refusal::Stage),
-        Err(NoMemory) => Err(Refusal::NoMemory),
+    script(alloc, &value)
+}
+
+/// The refusal that tells why reading stopped.
+fn told(alloc: Global, stop: Stop) -> Refusal
+    ensures json { result ≡ Refusal.NotJson → stop ≡ Stop.NotJson }
+    ensures shape { (text : List ℕ) → result ≡ Refusal.Shape text → (p : Place) × (text ≡ path_of p) × (stop ≡ Stop.Wrong (wrong.Shape p)) }
+    ensures limit { (which : LimitName) → result ≡ Refusal.Limit which → stop ≡ Stop.Wrong (wrong.Limit which) }
+    ensures stage { result ≡ Refusal.Stage → stop ≡ Stop.Wrong wrong.Stage }
+{
+    match stop {
+        Stop::NotJson => Refusal::NotJson,
+        Stop::NoMemory => Refusal::NoMemory,
+        Stop::Wrong(Wrong::Stage) => Refusal::Stage,
+        Stop::Wrong(Wrong::Limit(which)) => Refusal::Limit { which },
+        Stop::Wrong(Wrong::Shape(place)) => match place.path(alloc) {
+            Ok(path) => Refusal::Shape { path },
+            Err(NoMemory) => Refusal::NoMemory,
+        },
+    }
+}
+
+/// Reads the script that a JSON text is.
+///
+/// It answers `Ok` exactly where the bytes are a script all of which is built. Else it answers the first reason why they
+/// are none: `NotJson` where they are no JSON text; then `Shape` or `Limit` for the first part that is wrong, in the order
+/// of the root, the version, the workers, the addons, the threads and the schedule, each before what follows it, and a
+/// list's limit before its members; and `Stage` last. Want of memory may come in place of any answer.
+pub fn read_script(alloc: Global, bytes: &[u8]) -> Result<Script, Refusal>
+    ensures ok { IfOk result (λ found. IsScript bytes.now found) }
+    ensures not_json { result ≡ Err Refusal.NotJson → IsNoJson bytes.now }
+    ensures shape { (text : List ℕ) → result ≡ Err (Refusal.Shape text) → HasWrongShape bytes.now text }
+    ensures limit { (which : LimitName) → result ≡ Err (Refusal.Limit which) → IsWrong bytes.now (wrong.Limit which) }
+    ensures stage { result ≡ Err Refusal.Stage → IsWrong bytes.now wrong.Stage }
+{
+    match read(alloc, bytes) {
+        Ok(script) => Ok(script),
+        Err(stop) => Err(told(alloc, stop)),
     }
 }
 

@@ -1,51 +1,192 @@
 //! The script that a JSON value is.
-ghost use Rattle.std.specs.Prelude.{◌≡◌, IfOk};
-ghost use Rattle.napi_types.specs.Script.{is_root, script_of, script};
+ghost use Rattle.std.specs.Prelude.{◌≡◌, IfOk, option_map};
 ghost use Rattle.serde_json.specs.View.{view};
+ghost use Rattle.napi_types.specs.Script.{read_with, is_root, version_in, workers_in, addons_in, threads_in, script_in, is_built_plan, is_built_script, script, count_of};
+ghost use Rattle.napi_types.specs.Texts.{fixed_texts};
+ghost use Rattle.std.specs.List.{list_all};
+ghost use Rattle.napi_types.specs.ScriptOperations.{is_built_operation};
 
-use crate::json::{has_members, has_number, is_empty_array};
-use crate::plan::{addon, list_of_one, only_item_of};
-use crate::texts::fixed_texts;
-use napi_types::{AddonPlan, Listed, NoMemory, Script};
+use crate::addon::each_addon;
+use crate::arguments::whole;
+use crate::json::{Stop, has_members, list_at};
+use crate::schedule::schedule_in;
+use crate::texts::Table;
+use crate::threads::each_thread;
+use napi_types::{AddonPlan, LimitName, NoMemory, OpList, OpLists, Place, Plans, Script, Wrong};
 use serde_json::Value;
 use std::alloc::Global;
 
-/// Whether a value is an object with the members of a script, of which all but the addons are those of the first form.
+/// How many addons, threads and workers a script may have.
+const MOST_ADDONS: usize = 8;
+
+const MOST_THREADS: usize = 16;
+
+const MOST_WORKERS: u64 = 8;
+
+/// One where a value has a member of this name, else none.
+fn count_of(value: &Value, name: &str) -> usize
+    ensures { result ≡ count_of name.now (view value.now) }
+{
+    if value.get(name).is_some() { 1 } else { 0 }
+}
+
+/// Whether a value is an object that has no member but those of a script.
+#[tactic(auto, unfolding(napi_types::specs::Script::is_root))]
 fn is_root(value: &Value) -> bool
     ensures { result ≡ is_root (view value.now) }
 {
-    has_members(value, 4)
-        && has_number(value, "version", 9)
-        && has_number(value, "workers", 0)
-        && value.get("threads").is_some_and(is_empty_array)
+    let count = count_of(value, "version")
+        + count_of(value, "workers")
+        + count_of(value, "addons")
+        + count_of(value, "threads")
+        + count_of(value, "schedule");
+    has_members(value, count)
 }
 
-/// The script of one addon.
-fn script_of(alloc: Global, plan: AddonPlan) -> Result<Script, NoMemory>
-    ensures { IfOk result (λ made. made ≡ script_of plan) }
+/// The version, which is 9.
+#[tactic(auto, unfolding(napi_types::specs::Script::version_in))]
+fn version_in(found: Option<&Value>) -> Result<(), Stop>
+    ensures ok { result ≡ Ok tt → version_in (option_map (λ v. view v.now) found.entry) ≡ Ok tt }
+    ensures wrong { (w : Wrong) → result ≡ Err (Stop.Wrong w) → version_in (option_map (λ v. view v.now) found.entry) ≡ Err w }
+    ensures json { ¬ (result ≡ Err Stop.NotJson) }
 {
+    match found.and_then(whole) {
+        Some(9) => Ok(()),
+        _ => Err(Stop::Wrong(Wrong::Shape(Place::Version))),
+    }
+}
+
+/// The number of workers.
+#[tactic(auto, unfolding(napi_types::specs::Script::workers_in))]
+fn workers_in(found: Option<&Value>) -> Result<u32, Stop>
+    ensures ok { IfOk result (λ n. workers_in (option_map (λ v. view v.now) found.entry) ≡ Ok n) }
+    ensures wrong { (w : Wrong) → result ≡ Err (Stop.Wrong w) → workers_in (option_map (λ v. view v.now) found.entry) ≡ Err w }
+    ensures json { ¬ (result ≡ Err Stop.NotJson) }
+{
+    let Some(number) = found.and_then(whole) else {
+        return Err(Stop::Wrong(Wrong::Shape(Place::Workers)));
+    };
+    if number <= MOST_WORKERS {
+        Ok(number as u32)
+    } else {
+        Err(Stop::Wrong(Wrong::Limit(LimitName::Workers)))
+    }
+}
+
+/// The table of the texts that stand in every one.
+fn first_texts(alloc: Global) -> Result<Table, Stop>
+    ensures ok { IfOk result (λ table. table ≡ fixed_texts) }
+    ensures right { (w : Wrong) → ¬ (result ≡ Err (Stop.Wrong w)) }
+    ensures json { ¬ (result ≡ Err Stop.NotJson) }
+{
+    match Table::fixed(alloc) {
+        Ok(table) => Ok(table),
+        Err(NoMemory) => Err(Stop::NoMemory),
+    }
+}
+
+/// The addons, with the table of their texts.
+#[tactic(auto, unfolding(napi_types::specs::Script::addons_in))]
+fn addons_in(alloc: Global, found: Option<&Value>) -> Result<(Plans, Table), Stop>
+    ensures ok { IfOk result (λ p. addons_in (option_map (λ v. view v.now) found.entry) ≡ Ok (read_with p.1 p.0)) }
+    ensures wrong { (w : Wrong) → result ≡ Err (Stop.Wrong w) → addons_in (option_map (λ v. view v.now) found.entry) ≡ Err w }
+    ensures json { ¬ (result ≡ Err Stop.NotJson) }
+{
+    let items = list_at(Place::Addons, LimitName::Addons, MOST_ADDONS, found)?;
+    let mut table = first_texts(alloc)?;
+    let addons = each_addon(alloc, &mut table, items)?;
+    Ok((addons, table))
+}
+
+/// The threads.
+#[tactic(auto, unfolding(napi_types::specs::Script::threads_in))]
+fn threads_in(alloc: Global, found: Option<&Value>) -> Result<OpLists, Stop>
+    ensures ok { IfOk result (λ threads. threads_in (option_map (λ v. view v.now) found.entry) ≡ Ok threads) }
+    ensures wrong { (w : Wrong) → result ≡ Err (Stop.Wrong w) → threads_in (option_map (λ v. view v.now) found.entry) ≡ Err w }
+    ensures json { ¬ (result ≡ Err Stop.NotJson) }
+{
+    let items = list_at(Place::Threads, LimitName::Threads, MOST_THREADS, found)?;
+    each_thread(alloc, items)
+}
+
+/// The script that a value is, whether or not all of it is built.
+#[tactic(auto, unfolding(napi_types::specs::Script::script_in))]
+fn script_in(alloc: Global, value: &Value) -> Result<Script, Stop>
+    ensures ok { IfOk result (λ read. script_in (view value.now) ≡ Ok read) }
+    ensures wrong { (w : Wrong) → result ≡ Err (Stop.Wrong w) → script_in (view value.now) ≡ Err w }
+    ensures json { ¬ (result ≡ Err Stop.NotJson) }
+{
+    if !is_root(value) {
+        return Err(Stop::Wrong(Wrong::Shape(Place::Root)));
+    }
+    version_in(value.get("version"))?;
+    let workers = workers_in(value.get("workers"))?;
+    let (addons, table) = addons_in(alloc, value.get("addons"))?;
+    let threads = threads_in(alloc, value.get("threads"))?;
+    let count = threads.items().len();
+    let schedule = schedule_in(alloc, count, workers as usize, value.get("schedule"))?;
     Ok(Script {
         version: 9,
-        workers: 0,
-        addons: list_of_one(alloc, plan)?,
-        threads: Listed::of(Vec::new(alloc)),
-        schedule: None,
-        texts: fixed_texts(alloc)?,
+        workers,
+        addons,
+        threads,
+        schedule,
+        texts: table.into_texts(),
     })
 }
 
-/// The script that a value is.
-pub(crate) fn script(alloc: Global, value: &Value) -> Result<Option<Script>, NoMemory>
-    ensures { IfOk result (λ found. found ≡ script (view value.now)) }
+/// Whether each operation of an entry is built.
+fn is_built_entry(operations: &OpList) -> bool
+    ensures { result ≡ list_all is_built_operation operations.now }
 {
-    if !is_root(value) {
-        return Ok(None);
+    operations
+        .items()
+        .iter()
+        .all(|operation| operation.is_built())
+}
+
+/// Whether each operation of an addon is built.
+fn is_built_plan(plan: &AddonPlan) -> bool
+    ensures { result ≡ is_built_plan plan.now }
+{
+    plan.entries.items().iter().all(is_built_entry)
+}
+
+/// Whether each operation of each addon is built.
+fn are_built_plans(plans: &Plans) -> bool
+    ensures { result ≡ list_all is_built_plan plans.now }
+{
+    plans.items().iter().all(is_built_plan)
+}
+
+/// Whether all of a script is built.
+#[tactic(auto, unfolding(napi_types::specs::Script::is_built_script))]
+fn is_built_script(script: &Script) -> bool
+    ensures { result ≡ is_built_script script.now }
+{
+    if script.workers != 0 {
+        return false;
     }
-    let Some(item) = only_item_of(value, "addons") else {
-        return Ok(None);
-    };
-    match addon(alloc, item)? {
-        Some(plan) => Ok(Some(script_of(alloc, plan)?)),
-        None => Ok(None),
+    if !script.threads.items().is_empty() {
+        return false;
+    }
+    if script.schedule.is_some() {
+        return false;
+    }
+    are_built_plans(&script.addons)
+}
+
+/// The script that a value is, where all of it is built.
+#[tactic(auto, unfolding(napi_types::specs::Script::script))]
+pub(crate) fn script(alloc: Global, value: &Value) -> Result<Script, Stop>
+    ensures ok { IfOk result (λ read. script (view value.now) ≡ Ok read) }
+    ensures wrong { (w : Wrong) → result ≡ Err (Stop.Wrong w) → script (view value.now) ≡ Err w }
+    ensures json { ¬ (result ≡ Err Stop.NotJson) }
+{
+    let read = script_in(alloc, value)?;
+    if is_built_script(&read) {
+        Ok(read)
+    } else {
+        Err(Stop::Wrong(Wrong::Stage))
     }
 }

@@ -7,7 +7,7 @@ use Rattle.std.proofs.Math.Seq.{take-add}
 use Rattle.std.specs.declared.option.Option.{Option}
 use Rattle.std.specs.Io.KnownBytes.{append_known}
 use Rattle.napi_types.specs.Edge.{HasRisen, TookFront}
-use Rattle.trace_text.specs.Writing.{Adds, Took, Stand, stand}
+use Rattle.trace_text.specs.Writing.{Adds, Held, Took, Stand, stand}
 
 -- what a sink took in two steps
 pub append_known-append : (had : Option (List ℕ)) (xs ys : List ℕ) →
@@ -43,7 +43,7 @@ marked_then {b = false} le me one two ct af = let r : HasRisen _ _ = two ct refl
 pub adds_then : {a b c : Stand} {xs ys : List ℕ} → Adds a xs b → Adds b ys c → Adds a (xs ++ ys) c
 adds_then {a = a} {b = b} {c = c} {xs = xs} {ys = ys} one two = record {
   goes_on = λ had before h.
-      let P : List ℕ → Type 0 = λ bytes. Took had bytes c.taken c.failed in
+      let P : List ℕ → Type 0 = λ bytes. Took had bytes c in
       subst P (append_assoc before xs ys) (two.goes_on had (before ++ xs) (one.goes_on had before h));
   later = (let p = one.later in let q = two.later in omega arith);
   marked = marked_then {b = b.failed} one.later two.later one.marked two.marked;
@@ -63,26 +63,108 @@ adds_more {X = X} {a = a} {b = b} {c = c} f xs i d within before piece =
 -- no piece
 pub adds_none : (a : Stand) → Adds a [] a
 adds_none a = record {
-  goes_on = λ had before h. let P : List ℕ → Type 0 = λ bytes. Took had bytes a.taken a.failed in
+  goes_on = λ had before h. let P : List ℕ → Type 0 = λ bytes. Took had bytes a in
       subst P (sym (append-nil before)) h;
   later = omega arith;
   marked = λ failed fine. cc;
+}
+
+-- bytes that a sink took a front of, and the others held, were added behind those held before
+pub adds_by : (a b : Stand) (bytes : List ℕ) → a.failed ≡ false → a.faults ≤ b.faults →
+    (b.failed ≡ true → HasRisen a.faults b.faults) → Took a.taken (a.held ++ bytes) b → Adds a bytes b
+adds_by a b bytes fine later marked took = record {
+  goes_on = λ had before h.
+      let first = h.front in
+      let next = took.front in
+      record {
+        front = record {
+          front = first.front ++ next.front;
+          rest = next.rest;
+          whole_is = append_assoc first.front next.front next.rest ∙ ap (λ xs. first.front ++ xs) next.whole_is ∙
+              ap (λ xs. first.front ++ (xs ++ bytes)) (sym (h.waiting fine)) ∙
+              sym (append_assoc first.front first.rest bytes) ∙ ap (λ xs. xs ++ bytes) first.whole_is;
+          took = next.took ∙ ap (λ o. append_known o next.front) first.took ∙ append_known-append had first.front next.front;
+        };
+        waiting = took.waiting;
+      };
+  later = later;
+  marked = λ failed _. marked failed;
 }
 
 append_known-nil : (had : Option (List ℕ)) → had ≡ append_known had []
 append_known-nil None = refl
 append_known-nil (Some had) = ap Some (sym (append-nil had))
 
--- a text that was written to its end
-pub adds_whole : (had taken : Option (List ℕ)) (before after : ℕ) (failed : Bool) (whole : List ℕ) → failed ≡ false →
-    Adds (stand had before false) whole (stand taken after failed) → taken ≡ append_known had whole
-adds_whole had taken before after failed whole fine adds =
-    let P : Bool → Type 0 = λ f. Took had whole taken f in
-    subst P fine (adds.goes_on had [] (append_known-nil had))
+-- nothing taken, and all held
+pub took_none : (now : Stand) → Took now.taken now.held now
+took_none now = record {
+  front = record { front = []; rest = now.held; whole_is = refl; took = append_known-nil now.taken };
+  waiting = λ _. refl;
+}
 
--- a text that was not
-pub adds_front : (had taken : Option (List ℕ)) (before after : ℕ) (failed : Bool) (whole : List ℕ) → failed ≡ true →
-    Adds (stand had before false) whole (stand taken after failed) → TookFront had whole taken
-adds_front had taken before after failed whole ill adds =
-    let P : Bool → Type 0 = λ f. Took had whole taken f in
-    subst P ill (adds.goes_on had [] (append_known-nil had))
+-- all taken, and nothing held
+pub took_all : (had : Option (List ℕ)) (bytes : List ℕ) (now : Stand) → now.held ≡ [] → now.taken ≡ append_known had bytes →
+    Took had bytes now
+took_all had bytes now none taken = record {
+  front = record { front = bytes; rest = []; whole_is = append-nil bytes; took = taken };
+  waiting = λ _. sym none;
+}
+
+-- a front taken, where the writing failed
+pub took_front : (had : Option (List ℕ)) (bytes : List ℕ) (now : Stand) → now.failed ≡ true → TookFront had bytes now.taken →
+    Took had bytes now
+took_front had bytes now failed front = record { front = front; waiting = λ fine. cc }
+
+-- bytes that are held behind the others
+pub adds_held : (taken : Option (List ℕ)) (faults : ℕ) (old new : Held) (bytes : List ℕ) → old.failed ≡ false →
+    new ≡ record old { bytes = old.bytes ++ bytes } → Adds (stand taken faults old) bytes (stand taken faults new)
+adds_held taken faults old new bytes fine same =
+    let P : Held → Type 0 = λ held. Adds (stand taken faults old) bytes (stand taken faults held) in
+    let b = stand taken faults (record old { bytes = old.bytes ++ bytes }) in
+    subst P (sym same) (adds_by (stand taken faults old) b bytes fine (omega arith) (λ failed. cc) (took_none b))
+
+-- bytes that were written after the others
+pub adds_written : (t u : Option (List ℕ)) (f g : ℕ) (old new : Held) (bytes whole : List ℕ) → old.failed ≡ false →
+    new ≡ record { bytes = []; failed = false } → whole ≡ old.bytes ++ bytes → u ≡ append_known t whole → f ≤ g →
+    Adds (stand t f old) bytes (stand u g new)
+adds_written t u f g old new bytes whole fine same parts took later =
+    let P : Held → Type 0 = λ held. Adds (stand t f old) bytes (stand u g held) in
+    let b = stand u g (record { bytes = []; failed = false }) in
+    subst P (sym same) (adds_by (stand t f old) b bytes fine later (λ failed. cc)
+    (took_all t (old.bytes ++ bytes) b refl (took ∙ ap (append_known t) parts)))
+
+-- bytes at which the writing failed
+pub adds_cut : (t u : Option (List ℕ)) (f g : ℕ) (old new : Held) (bytes whole : List ℕ) → old.failed ≡ false →
+    new ≡ record { bytes = []; failed = true } → whole ≡ old.bytes ++ bytes → TookFront t whole u → f ≤ g → HasRisen f g →
+    Adds (stand t f old) bytes (stand u g new)
+adds_cut t u f g old new bytes whole fine same parts took later risen =
+    let P : Held → Type 0 = λ held. Adds (stand t f old) bytes (stand u g held) in
+    let Q : List ℕ → Type 0 = λ xs. TookFront t xs u in
+    let b = stand u g (record { bytes = []; failed = true }) in
+    subst P (sym same) (adds_by (stand t f old) b bytes fine later (λ _. risen)
+    (took_front t (old.bytes ++ bytes) b refl (subst Q parts took)))
+
+-- a text that was added and written out
+took_of : (had : Option (List ℕ)) (faults : ℕ) (first : Held) (mid end : Stand) (whole : List ℕ) →
+    first ≡ record { bytes = []; failed = false } → Adds (stand had faults first) whole mid → Adds mid [] end → Took had whole end
+took_of had faults first mid end whole fresh adds out =
+    let start = stand had faults (record { bytes = []; failed = false }) in
+    let P : Held → Type 0 = λ held. Adds (stand had faults held) whole mid in
+    let Q : List ℕ → Type 0 = λ bytes. Took had bytes end in
+    subst Q (append-nil whole) ((adds_then (subst P fresh adds) out).goes_on had [] (took_none start))
+
+-- what a sink took of a text that was added and written out, in full where the writing did not fail
+pub adds_whole : (had : Option (List ℕ)) (faults : ℕ) (first : Held) (mid end : Stand) (whole : List ℕ) →
+    first ≡ record { bytes = []; failed = false } → Adds (stand had faults first) whole mid → Adds mid [] end →
+    end.held ≡ [] → end.failed ≡ false → end.taken ≡ append_known had whole
+adds_whole had faults first mid end whole fresh adds out none fine =
+    let took = took_of had faults first mid end whole fresh adds out in
+    let rest : took.front.rest ≡ [] = took.waiting fine ∙ none in
+    took.front.took ∙ ap (append_known had)
+    (sym (append-nil took.front.front) ∙ ap (λ xs. took.front.front ++ xs) (sym rest) ∙ took.front.whole_is)
+
+-- and a front in any case
+pub adds_front : (had : Option (List ℕ)) (faults : ℕ) (first : Held) (mid end : Stand) (whole : List ℕ) →
+    first ≡ record { bytes = []; failed = false } → Adds (stand had faults first) whole mid → Adds mid [] end →
+    TookFront had whole end.taken
+adds_front had faults first mid end whole fresh adds out = (took_of had faults first mid end whole fresh adds out).front

@@ -1,5 +1,5 @@
 -- The lines of a weave, place by place.
-use Rattle.std.proofs.Common.{◌≡◌, ℕ, ◌+◌, ◌<◌, ◌==◌, cond, List, [], ◌∷◌, ◌++◌, length, get_or, take, drop, map, append_assoc, subst, sym, ◌∙◌, ap, arith, eq-eqb, length-append}
+use Rattle.std.proofs.Common.{◌≡◌, ℕ, ◌+◌, ◌<◌, ◌==◌, false, cond, refl, List, [], ◌∷◌, ◌++◌, length, get_or, take, drop, map, append_assoc, subst, sym, ◌∙◌, ap, arith, eq-eqb, length-append}
 use Rattle.std.proofs.lemmas.List.{append-nil, take_more, drop_more, map-append}
 use Rattle.std.proofs.Math.Seq.{drop-length}
 use Rattle.std.proofs.lemmas.List.Elements.{filter-append}
@@ -9,12 +9,16 @@ use Rattle.napi_types.specs.declared.entry.Local.{Local}
 use Rattle.napi_types.specs.Text.{line, lines_from}
 use Rattle.napi_types.specs.Weave.{local_at, weave_from}
 use Rattle.trace_text.specs.Writing.{Adds, Owes, Stand}
-use Rattle.trace_text.proofs.Adding.{adds_then}
+use Rattle.trace_text.proofs.Adding.{adds_none, adds_then}
 
 -- an entry of the journal at its place
 pub local_at-here : (p : ℕ) (local : Local) → local.at ≡ p → local_at p (local ∷ []) ≡ local.entry ∷ []
 local_at-here p local here =
     ap (λ test. map (λ (l : Local). l.entry) (cond test (local ∷ []) [])) (eq-eqb local.at p here)
+
+-- and at another
+pub local_at-elsewhere : (p : ℕ) (local : Local) → (local.at ≡ p → ⊥) → local_at p (local ∷ []) ≡ []
+local_at-elsewhere p local other = let apart : (local.at == p) ≡ false = grind arith in rw apart refl
 
 pub lines_from-one : (texts : List (List ℕ)) (n : ℕ) (x : Entry) → lines_from texts n (x ∷ []) ≡ line texts n x
 lines_from-one texts n x = append-nil (line texts n x)
@@ -46,6 +50,13 @@ pub adds_here : {a b : Stand} (texts : List (List ℕ)) (n p : ℕ) (local : Loc
 adds_here {a = a} {b = b} texts n p local here one =
     let P : List ℕ → Type 0 = λ bytes. Adds a bytes b in
     subst P (sym (ap (lines_from texts n) (local_at-here p local here) ∙ lines_from-one texts n local.entry)) one
+
+-- no line for an entry of the journal elsewhere
+pub adds_elsewhere : (a : Stand) (texts : List (List ℕ)) (n p : ℕ) (local : Local) → (local.at ≡ p → ⊥) →
+    Adds a (lines_from texts n (local_at p (local ∷ []))) a
+adds_elsewhere a texts n p local other =
+    let P : List Entry → Type 0 = λ entries. Adds a (lines_from texts n entries) a in
+    subst P (sym (local_at-elsewhere p local other)) (adds_none a)
 
 -- the lines of some entries, and then of more
 pub lines_then : {a b c : Stand} (texts : List (List ℕ)) (first n : ℕ) (xs ys : List Entry) → n ≡ first + length xs →

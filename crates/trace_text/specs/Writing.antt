@@ -1,29 +1,33 @@
--- Writing a text piece by piece to a sink that may fail on the way.
+-- Writing a text piece by piece, through bytes that are held back, to a sink that may fail on the way.
 use Rattle.std.specs.Prelude.{◌≡◌, ℕ, ◌≤◌, Bool, true, false, List, ◌++◌}
 use Rattle.std.specs.declared.option.Option.{Option}
-use Rattle.std.specs.Io.KnownBytes.{append_known}
 use Rattle.napi_types.specs.Edge.{HasRisen, TookFront}
 
--- a sink took all these bytes after what it had or, where the writing failed, a front of them
-abbrev pub Took : Option (List ℕ) → List ℕ → Option (List ℕ) → Bool → Type 0
-Took had bytes has false = has ≡ append_known had bytes
-Took had bytes has true = TookFront had bytes has
+-- the bytes that wait to be written, and whether the writing failed
+pub record Held : Type 0 where
+  pub bytes : List ℕ
+  pub failed : Bool
 
--- how a sink stands in the midst of a text: the bytes that it took, its faults, and whether the writing failed
+-- how a writing stands in the midst of a text: the bytes that the sink took, its faults, the bytes held, and whether it failed
 pub record Stand : Type 0 where
   pub taken : Option (List ℕ)
   pub faults : ℕ
+  pub held : List ℕ
   pub failed : Bool
 
 -- such a stand, from its parts
-abbrev pub stand : Option (List ℕ) → ℕ → Bool → Stand
-stand taken faults failed = record { taken = taken; faults = faults; failed = failed }
+abbrev pub stand : Option (List ℕ) → ℕ → Held → Stand
+stand taken faults pending = record { taken = taken; faults = faults; held = pending.bytes; failed = pending.failed }
+
+-- of these bytes the sink took a front after what it had, and all the others are held where the writing did not fail
+pub record Took (had : Option (List ℕ)) (bytes : List ℕ) (now : Stand) : Type 0 where
+  pub front : TookFront had bytes now.taken
+  pub waiting : now.failed ≡ false → front.rest ≡ now.held
 
 -- bytes were added to the text, in full or, where the writing failed, up to some place. A writing that failed adds
 -- nothing more, and it failed only where the count of faults rose.
 pub record Adds (old : Stand) (bytes : List ℕ) (new : Stand) : Type 0 where
-  pub goes_on : (had : Option (List ℕ)) (before : List ℕ) → Took had before old.taken old.failed →
-      Took had (before ++ bytes) new.taken new.failed
+  pub goes_on : (had : Option (List ℕ)) (before : List ℕ) → Took had before old → Took had (before ++ bytes) new
   pub later : old.faults ≤ new.faults
   pub marked : new.failed ≡ true → old.failed ≡ false → HasRisen old.faults new.faults
 

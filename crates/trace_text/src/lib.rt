@@ -4,7 +4,10 @@
 
 mod laws;
 mod line;
+mod merge;
+mod pending;
 mod put;
+mod scan;
 #[cfg(test)]
 mod tests;
 mod write;

@@ -1,8 +1,7 @@
-//! Writes pieces of bytes through short writes, and remembers the first fault.
+//! Writes bytes through short writes.
 ghost use Rattle.std.specs.Prelude.{◌≡◌, ◌≤◌, OnOk, OnErr};
 ghost use Rattle.std.specs.Io.KnownBytes.{append_known};
 ghost use Rattle.napi_types.specs.Edge.{HasRisen, TookFront};
-ghost use Rattle.trace_text.specs.Writing.{Adds, stand};
 
 use napi_types::{Failed, Sink};
 
@@ -18,14 +17,4 @@ pub fn put_all<K: Sink>(sink: &mut K, bytes: &[u8]) -> Result<(), Failed>
         at += sink.write(&bytes[at..])?;
     }
     Ok(())
-}
-
-/// Adds a piece to a text, unless the writing failed before, and marks where it fails.
-pub fn add<K: Sink>(sink: &mut K, failed: &mut bool, bytes: &[u8])
-    ensures { Adds (stand (K.taken sink.old) (K.faults sink.old) failed.old) bytes.now
-        (stand (K.taken sink.new) (K.faults sink.new) failed.new) }
-{
-    if !*failed {
-        *failed = put_all(sink, bytes).is_err();
-    }
 }

@@ -1,18 +1,21 @@
 //! The text of a whole trace.
-ghost use Rattle.std.specs.Prelude.{◌≡◌, ℕ, ◌+◌, ◌^◌, ◌<◌, ◌≤◌, [], ◌∷◌, ◌++◌, length, OnOk, OnErr};
+ghost use Rattle.std.specs.Prelude.{◌≡◌, ◌≤◌, length, OnOk, OnErr};
 ghost use Rattle.std.specs.Io.KnownBytes.{append_known};
 ghost use Rattle.napi_types.specs.Edge.{HasRisen, TookFront};
-ghost use Rattle.napi_types.specs.Text.{lines_from, text};
-ghost use Rattle.napi_types.specs.Weave.{local_at, weave};
+ghost use Rattle.napi_types.specs.Text.{text};
+ghost use Rattle.napi_types.specs.Weave.{weave};
 ghost use Rattle.napi_types.specs.Room.{most_entries};
 ghost use Rattle.trace_text.specs.Writing.{Adds, stand};
 
-use crate::line::add_line;
+use crate::merge::{add_merged, rises_within};
+use crate::pending::{Pending, write_out};
+use crate::scan::add_scanned;
 use napi_types::{Entry, Failed, Local, Sink, Texts};
 
 /// Writes the text of a trace, a line for each entry of the weave of a journal and a history, each of at most
-/// 4,194,304 entries. It takes no memory.
+/// 4,194,304 entries. It takes no memory, and holds up to 8,192 bytes back until it writes them.
 ///
+/// Where the journal stands in the order of its places, as that of a run does, it takes time in the length of the text.
 /// A fault of the sink ends it, after a front of the text.
 pub fn write_trace<K: Sink>(
     sink: &mut K,
@@ -29,95 +32,33 @@ pub fn write_trace<K: Sink>(
     ensures failed { OnErr result (HasRisen (K.faults sink.old) (K.faults sink.new)) }
     ensures faults { K.faults sink.old ≤ K.faults sink.new }
 {
-    let mut failed = false;
-    add_trace(sink, &mut failed, texts, journal, history);
-    if failed { Err(Failed) } else { Ok(()) }
+    let mut pending = Pending::new();
+    add_trace(sink, &mut pending, texts, journal, history);
+    write_out(sink, &mut pending);
+    if pending.has_failed() {
+        Err(Failed)
+    } else {
+        Ok(())
+    }
 }
 
+/// Adds the text of a trace, by a merge where the journal's places allow it.
 fn add_trace<K: Sink>(
     sink: &mut K,
-    failed: &mut bool,
+    pending: &mut Pending,
     texts: &Texts,
     journal: &[Local],
     history: &[Entry],
 )
     requires journal { length journal.now ≤ most_entries }
     requires history { length history.now ≤ most_entries }
-    ensures { Adds (stand (K.taken sink.old) (K.faults sink.old) failed.old)
+    ensures { Adds (stand (K.taken sink.old) (K.faults sink.old) pending.old)
         (text texts.now (weave journal.now history.now))
-        (stand (K.taken sink.new) (K.faults sink.new) failed.new) }
+        (stand (K.taken sink.new) (K.faults sink.new) pending.new) }
 {
-    let mut number = 1;
-    for (at, shared) in history.iter().enumerate() {
-        number = add_place(sink, failed, texts, number, journal, at as u64, *shared);
+    if rises_within(journal, history.len() as u64) {
+        add_merged(sink, pending, texts, journal, history);
+    } else {
+        add_scanned(sink, pending, texts, journal, history);
     }
-    add_locals(sink, failed, texts, number, journal, history.len() as u64);
-}
-
-/// Adds the lines of a place, those of the journal and then that of the history, and answers the number of the next line.
-fn add_place<K: Sink>(
-    sink: &mut K,
-    failed: &mut bool,
-    texts: &Texts,
-    first: u64,
-    journal: &[Local],
-    at: u64,
-    shared: Entry,
-) -> u64
-    requires { first + length journal.now + 1 < 2 ^ 64 }
-    ensures next { result ≡ first + length (local_at at journal.now ++ shared ∷ []) }
-    ensures few { result ≤ first + length journal.now + 1 }
-    ensures added { Adds (stand (K.taken sink.old) (K.faults sink.old) failed.old)
-        (lines_from texts.now first (local_at at journal.now ++ shared ∷ []))
-        (stand (K.taken sink.new) (K.faults sink.new) failed.new) }
-{
-    let number = add_locals(sink, failed, texts, first, journal, at);
-    add_line(sink, failed, texts, number, shared);
-    number + 1
-}
-
-/// Adds the lines of the journal's entries that stand at a place, and answers the number of the next line.
-fn add_locals<K: Sink>(
-    sink: &mut K,
-    failed: &mut bool,
-    texts: &Texts,
-    first: u64,
-    journal: &[Local],
-    at: u64,
-) -> u64
-    requires { first + length journal.now < 2 ^ 64 }
-    ensures next { result ≡ first + length (local_at at journal.now) }
-    ensures few { result ≤ first + length journal.now }
-    ensures added { Adds (stand (K.taken sink.old) (K.faults sink.old) failed.old)
-        (lines_from texts.now first (local_at at journal.now))
-        (stand (K.taken sink.new) (K.faults sink.new) failed.new) }
-{
-    let mut number = first;
-    for local in journal {
-        number = add_local(sink, failed, texts, number, *local, at);
-    }
-    number
-}
-
-/// Adds the line of an entry of the journal if it stands at this place, and answers the number of the next line.
-fn add_local<K: Sink>(
-    sink: &mut K,
-    failed: &mut bool,
-    texts: &Texts,
-    number: u64,
-    local: Local,
-    at: u64,
-) -> u64
-    requires { number + 1 < 2 ^ 64 }
-    ensures next { result ≡ number + length (local_at at (local ∷ [])) }
-    ensures few { result ≤ number + 1 }
-    ensures added { Adds (stand (K.taken sink.old) (K.faults sink.old) failed.old)
-        (lines_from texts.now number (local_at at (local ∷ [])))
-        (stand (K.taken sink.new) (K.faults sink.new) failed.new) }
-{
-    if local.at != at {
-        return number;
-    }
-    add_line(sink, failed, texts, number, local.entry);
-    number + 1
 }

@@ -3,7 +3,7 @@ use Rattle.std.proofs.Common.{◌≡◌, ◌≢◌, ℕ, suc, ◌+◌, ◌<◌, 
 use Rattle.std.specs.declared.result.Result.{Result}
 use Rattle.std.specs.declared.result.Result.TheVariants.{Ok, Err}
 use Rattle.std.specs.List.{All}
-use Rattle.std.proofs.lemmas.List.Elements.{All-nil, All-head, All-tail}
+use Rattle.std.proofs.lemmas.List.Elements.{All-nil, All-head, All-tail, All-weaker}
 use borrow.Author.Tests.{eqb-true}
 use Rattle.napi_types.specs.declared.body.Body.{Body}
 use Rattle.napi_types.specs.Lists.{has_number, down_from}
@@ -17,7 +17,7 @@ use Rattle.value_store.proofs.Lookup.{value_of-state_of, at_number-push, same-nu
 use Rattle.value_store.proofs.Names.{distinct-property_set, distinct-property_removed, distinct-none}
 use Rattle.value_store.proofs.Properties.{same-flip}
 use Rattle.value_store.proofs.Reading.{some-is, starting-long, starting-there}
-use Rattle.value_store.proofs.States.{updated, updated-numbered, same-map, IsGoodChange, changed-numbered, changed-only}
+use Rattle.value_store.proofs.States.{updated, updated-live, updated-numbered, same-map, IsGoodChange, changed-numbered, changed-only}
 
 pub ok-then : {A E : Type 0} {P Q : Type 0} (r : Result A E) → (P → Q) → OnOk r P → OnOk r Q
 ok-then (Ok a) f h = f h
@@ -88,14 +88,19 @@ removed-only ps qs s k name view all there absent = by (at_number ps k) refl
     by None is = subst (λ (t : StoreState). ChangesOnly t (state_of qs) k (without_property name)) view (subst (λ (l : List (Option Value)). ChangesOnly (state_of ps) (state_of l) k (without_property name)) (sym (absent is)) (none is))
     by (Some v) is = change-only ps qs s k (without_property name) view all (good-removal ps k name all v is) (there (rw is refl))
 
--- a new value has the next number
-pub made-numbered : (ps : List (Option Value)) (b : Body) → IsNumbered (at_number ps) → IsNumbered (at_number (ps ++ Some (fresh_value (length ps + 1) b) ∷ []))
-made-numbered ps b all =
+-- a value pushed with the next number, which names what is there
+pub pushed-numbered : (ps : List (Option Value)) (w : Value) → IsNumbered (at_number ps) → w.number ≡ length ps + 1 → HasDistinctNames w.properties → All (λ m. IsSome (at_number ps m)) (children w) → IsNumbered (at_number (ps ++ Some w ∷ []))
+pushed-numbered ps w all number names closed =
     let k : ℕ = length ps + 1 in
-    let w : Value = fresh_value (length ps + 1) b in
     let long : 5 ≤ length ps = starting-long ps all in
     same-map (at_number (ps ++ Some w ∷ [])) (updated (at_number ps) k w) (at_number-push ps (Some w))
-    (updated-numbered (at_number ps) k w all refl distinct-none (All-nil (λ m. IsSome (updated (at_number ps) k w m))) (λ which less same. absurd (omega arith)))
+    (updated-numbered (at_number ps) k w all number names
+    (All-weaker (λ m. IsSome (at_number ps m)) (λ m. IsSome (updated (at_number ps) k w m)) (updated-live (at_number ps) k w) (children w) closed)
+    (λ which less same. absurd (omega arith)))
+
+-- a new value has the next number
+pub made-numbered : (ps : List (Option Value)) (b : Body) → IsNumbered (at_number ps) → IsNumbered (at_number (ps ++ Some (fresh_value (length ps + 1) b) ∷ []))
+made-numbered ps b all = pushed-numbered ps (fresh_value (length ps + 1) b) all refl distinct-none (All-nil (λ m. IsSome (at_number ps m)))
 
 pub makes : (ps qs : List (Option Value)) (s : StoreState) (b : Body) → state_of ps ≡ s → IsNumbered (at_number ps) → qs ≡ ps ++ Some (fresh_value (length ps + 1) b) ∷ [] → Makes s (state_of qs) (length ps + 1) b
 makes ps qs s b view all is =

@@ -5,6 +5,7 @@ pub mod Clearing
 pub mod Elements
 pub mod GraphCalls
 pub mod Graphs
+pub mod Listing
 pub mod Lookup
 pub mod Names
 pub mod Properties

@@ -14,7 +14,7 @@ use Rattle.value_store.proofs.Lookup.{value_of-state_of, number-within, at_numbe
 abbrev pub updated : (ℕ → Option Value) → ℕ → Value → ℕ → Option Value
 updated values k w n = cond (n == k) (Some w) (values n)
 
-updated-live : (values : ℕ → Option Value) (k : ℕ) (w : Value) (m : ℕ) → IsSome (values m) → IsSome (updated values k w m)
+pub updated-live : (values : ℕ → Option Value) (k : ℕ) (w : Value) (m : ℕ) → IsSome (values m) → IsSome (updated values k w m)
 updated-live values k w m h = by (m == k)
   where
     by : (b : Bool) → IsSome (cond b (Some w) (values m))
@@ -51,7 +51,8 @@ updated-numbered values k w all number names closed starting = record {
 pub same-map : (f g : ℕ → Option Value) → ((n : ℕ) → f n ≡ g n) → IsNumbered g → IsNumbered f
 same-map f g each h = let e : g ≡ f = λ i n. sym (each n) i in subst IsNumbered e h
 
-given : (n k : ℕ) → 0 < k → k ≤ n → has_number k (down_from n) ≡ true
+-- the numbers from 1 on are those that were issued
+pub given : (n k : ℕ) → 0 < k → k ≤ n → has_number k (down_from n) ≡ true
 given zero k some less = absurd (omega arith)
 given (suc n) k some less = by (given n k some) (suc n == k) refl
   where

@@ -43,6 +43,14 @@ pub record Makes (old new : StoreState) (id : ℕ) (b : Body) : Type 0 where
   pub issued : (n : ℕ) → has_number n new.issued ≡ ((n == id) || has_number n old.issued)
   pub made : new.made ≡ old.made + 1
 
+-- so many values and one more are made, the last under a number never issued before; what was issued before is live or not as before, with the same value
+pub record MakesList (old new : StoreState) (id count : ℕ) : Type 0 where
+  pub fresh : IsFresh id old
+  pub number : creation_number new id ≡ Some (old.made + count + 1)
+  pub others : (n : ℕ) → has_number n old.issued ≡ true → value_of new n ≡ value_of old n
+  pub issued : (n : ℕ) → has_number n old.issued ≡ true → has_number n new.issued ≡ true
+  pub made : new.made ≡ old.made + count + 1
+
 -- the values of these numbers are live no more, and every other value is as before
 pub record Frees (old new : StoreState) (ids : List ℕ) : Type 0 where
   pub gone : (n : ℕ) → has_number n ids ≡ true → value_of new n ≡ None

@@ -1,5 +1,5 @@
 -- How a value's lists stand for its properties and elements.
-use Rattle.std.specs.Prelude.{ℕ, ◌≤◌, nat_eq, List, length, map, Option, option_map}
+use Rattle.std.specs.Prelude.{ℕ, ◌≤◌, nat_eq, List, length, map, Option, Some, option_map}
 use Rattle.std.specs.List.{IsDistinct}
 use Rattle.std.specs.Map.{keys_of}
 use Rattle.napi_types.specs.declared.ids.ValueId.{ValueId}
@@ -16,6 +16,10 @@ properties_of es = map property_of es
 -- the elements, each by the number of its value
 abbrev pub elements_of : List (Option ValueId) → List (Option ℕ)
 elements_of es = map (λ e. option_map (λ v. v.0) e) es
+
+-- the elements of an array of the values of these numbers
+abbrev pub elements_named : List ℕ → List (Option ValueId)
+elements_named ns = map (λ n. Some (record { 0 = n })) ns
 
 -- no name stands twice, and no index is above 65,535
 pub record AreLists (es : List (ℕ × ValueId)) (elements : List (Option ValueId)) : Type 0 where

@@ -1,6 +1,7 @@
 //! One value: what it is, its properties and its elements.
-ghost use Rattle.std.specs.Prelude.{◌≡◌, ◌-◌, ◌<◌, ◌≤◌, ◌++◌, length, replicate, OnOk, OnErr, option_map, slice_get, is_some, Some, None};
+ghost use Rattle.std.specs.Prelude.{◌≡◌, ◌-◌, ◌<◌, ◌≤◌, ◌++◌, length, replicate, OnOk, OnErr, option_map, slice_get, is_some, Some, None, true, false};
 ghost use Rattle.napi_types.specs.Values.{fresh_value, property_at, element_at, with_property, without_property, with_element};
+ghost use Rattle.value_store.specs.Properties.{elements_of};
 
 use indexmap::IndexMap;
 use napi_types::{Body, NoMemory, TextNo, ValueId};
@@ -45,6 +46,22 @@ impl ValueInfo {
             body,
             properties: IndexMap::new(alloc),
             elements: Vec::new(alloc),
+        }
+    }
+
+    /// An array of these elements, at most 65,536.
+    pub(crate) fn array(alloc: Global, number: u64, elements: Vec<Option<ValueId>>) -> ValueInfo
+        requires { length elements.items ≤ 65536 }
+        ensures { result ≡ record (fresh_value number (Body.Object true false)) { elements = elements_of elements.items } }
+    {
+        ValueInfo {
+            number,
+            body: Body::Object {
+                array: true,
+                error: false,
+            },
+            properties: IndexMap::new(alloc),
+            elements,
         }
     }
 

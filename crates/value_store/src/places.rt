@@ -1,10 +1,11 @@
 //! The list of a store's values, read and changed by number.
-ghost use Rattle.std.specs.Prelude.{◌≡◌, ℕ, ◌+◌, ◌-◌, ◌<◌, ◌≤◌, ◌++◌, [], ◌∷◌, true, length, slice_get, slice_index_or, slice_set, is_some, cond, option_map, option_copied, IsSome, OnOk, OnErr, IfOk, Some, None};
-ghost use Rattle.std.specs.List.{All};
+ghost use Rattle.std.specs.Prelude.{◌≡◌, ℕ, ◌+◌, ◌-◌, ◌<◌, ◌≤◌, ◌^◌, ◌++◌, [], ◌∷◌, true, length, map, vec_capacity, slice_get, slice_index_or, slice_set, is_some, cond, option_map, option_copied, IsSome, OnOk, OnErr, IfOk, Some, None};
+ghost use Rattle.std.specs.List.{All, range_with_len};
 ghost use Rattle.napi_types.specs.Lists.{has_number};
-ghost use Rattle.napi_types.specs.Values.{property_at, element_at, with_property, without_property, with_element};
+ghost use Rattle.napi_types.specs.Values.{property_at, element_at, with_property, without_property, with_element, made_after, list_of};
 ghost use Rattle.value_store.specs.Changes.{numbers_of};
 ghost use Rattle.value_store.specs.Places.{at_number, changed_at, properties_at, elements_at, starting_list, IsCleared};
+ghost use Rattle.value_store.specs.Properties.{elements_named};
 
 use crate::ValueInfo;
 use napi_types::{Body, NoMemory, TextNo, ValueId};
@@ -42,6 +43,62 @@ pub(crate) fn push(values: &mut Vec<Option<ValueInfo>>, value: ValueInfo) -> Res
     match values.push(Some(value)) {
         Ok(()) => Ok(()),
         Err(_) => Err(NoMemory),
+    }
+}
+
+/// Adds a value of each of these bodies, in their order, and then an array of them. All memory is taken before the first.
+pub(crate) fn push_list(
+    alloc: Global,
+    values: &mut Vec<Option<ValueInfo>>,
+    bodies: &[Body],
+) -> Result<(), NoMemory>
+    requires count { length bodies.now ≤ 65536 }
+    requires room { length values.old.items + length bodies.now + 2 < 2 ^ 48 }
+    ensures listed { OnOk result (values.new.items ≡ values.old.items ++ map Some (list_of (length values.old.items) bodies.now)) }
+    ensures err { OnErr result (values.new.items ≡ values.old.items) }
+{
+    let first = values.len() as u64 + 1;
+    let elements = counting_from(alloc, first, bodies.len())?;
+    reserve(values, bodies.len() + 1)?;
+    push_each(alloc, values, bodies);
+    let number = values.len() as u64 + 1;
+    values.push_reserved(Some(ValueInfo::array(alloc, number, elements)));
+    Ok(())
+}
+
+/// The elements of an array of so many values, whose numbers count up from the first.
+fn counting_from(alloc: Global, first: u64, count: usize) -> Result<Vec<Option<ValueId>>, NoMemory>
+    requires { first + count < 2 ^ 63 }
+    ensures { IfOk result (λ elements. elements.items ≡ elements_named (range_with_len first count)) }
+{
+    let numbers = first..first + count as u64;
+    match numbers.map(|number| Some(ValueId(number))).collect(alloc) {
+        Ok(elements) => Ok(elements),
+        Err(_) => Err(NoMemory),
+    }
+}
+
+/// Takes the memory for so many values more.
+fn reserve(values: &mut Vec<Option<ValueInfo>>, count: usize) -> Result<(), NoMemory>
+    ensures items { values.new.items ≡ values.old.items }
+    ensures reserved { OnOk result (length values.old.items + count ≤ vec_capacity values.new) }
+{
+    if values.reserve(count).is_err() {
+        return Err(NoMemory);
+    }
+    Ok(())
+}
+
+/// Adds a value of each of these bodies, in their order, at places that are reserved.
+fn push_each(alloc: Global, values: &mut Vec<Option<ValueInfo>>, bodies: &[Body])
+    requires room { length values.old.items + length bodies.now < 2 ^ 48 }
+    requires reserved { length values.old.items + length bodies.now ≤ vec_capacity values.old }
+    ensures made { values.new.items ≡ values.old.items ++ map Some (made_after (length values.old.items) bodies.now) }
+    ensures capacity { vec_capacity values.new ≡ vec_capacity values.old }
+{
+    for body in bodies {
+        let number = values.len() as u64 + 1;
+        values.push_reserved(Some(ValueInfo::new(alloc, number, *body)));
     }
 }
 

@@ -1,9 +1,9 @@
 //! The store: the values that were made and not freed, each under a number.
 ghost use Rattle.std.specs.Prelude.{◌≡◌, ◌+◌, ◌-◌, ◌<◌, ◌≤◌, ◌^◌, ◌++◌, [], ◌∷◌, not, filter, map, length, slice_get, is_some, option_map, option_copied, IfSome, IfOk, OnOk, OnErr, Some};
 ghost use Rattle.napi_types.specs.Lists.{has_number};
-ghost use Rattle.napi_types.specs.Values.{value_at, value_changed, fresh_value, property_at, element_at, with_property, without_property, with_element};
+ghost use Rattle.napi_types.specs.Values.{value_at, value_changed, fresh_value, list_of, property_at, element_at, with_property, without_property, with_element};
 ghost use Rattle.napi_types.specs.Graph.{value_of, number_in, renamed, graph_of, IsLive, IsSound};
-ghost use Rattle.value_store.specs.Changes.{properties_in, elements_in, id_at, numbers_of, IsNew, IsStarting, IsObject, StandsAt, ChangesOnly, Makes, Frees, CanFree};
+ghost use Rattle.value_store.specs.Changes.{properties_in, elements_in, id_at, numbers_of, IsNew, IsStarting, IsObject, StandsAt, ChangesOnly, Makes, MakesList, Frees, CanFree};
 
 use crate::{ValueInfo, places};
 use napi_types::{Body, NoMemory, TextNo, ValueId};
@@ -62,6 +62,21 @@ impl Store {
         let value = ValueInfo::new(self.alloc, number, body);
         places::push(&mut self.values, value)?;
         Ok(ValueId(number))
+    }
+
+    /// Makes a value of each of these bodies, in their order, and then an array that has them as its elements: all of them or
+    /// none. It answers with the array's number.
+    ///
+    /// The time grows with the list; now and then the list of values grows.
+    pub fn make_list(&mut self, bodies: &[Body]) -> Result<ValueId, NoMemory>
+        requires count { length bodies.now ≤ 65536 }
+        requires room { self.old.made + length bodies.now + 2 < 2 ^ 48 }
+        ensures listed { IfOk result (λ id. MakesList self.old self.new id.0 (length bodies.now)) }
+        ensures graph { OnOk result (graph_of self.new ≡ graph_of self.old ++ list_of self.old.made bodies.now) }
+        ensures err { OnErr result (self.new ≡ self.old) }
+    {
+        places::push_list(self.alloc, &mut self.values, bodies)?;
+        Ok(ValueId(self.values.len() as u64))
     }
 
     /// The value of a number, `None` exactly where no live value has it. Constant time.

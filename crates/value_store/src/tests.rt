@@ -117,3 +117,41 @@ fn a_number_is_never_given_again(rt: HostRuntime) -> Result<(), Fail> {
     assert_eq!(rt; standing, 6);
     Ok(())
 }
+
+fn is_array(body: Body) -> bool {
+    matches!(
+        body,
+        Body::Object {
+            array: true,
+            error: false
+        }
+    )
+}
+
+/// The number of the text that an element is, `None` where it is no text.
+fn text_at(store: &Store, list: ValueId, at: u32) -> Option<u32> {
+    let element = store.get_element(list, at)?;
+    match store.get(element)?.body() {
+        Body::Str(text) => Some(text.0),
+        _ => None,
+    }
+}
+
+#[test]
+fn a_list_has_its_values_in_order(rt: HostRuntime) -> Result<(), Fail> {
+    let mut store = ample(Store::new(rt.alloc()))?;
+    let texts = [Body::Str(TextNo(9)), Body::Str(TextNo(2))];
+    let list = ample(store.make_list(&texts))?;
+    assert_eq!(rt; store.places(), 8);
+    assert!(rt; store.get(list).is_some_and(|value| is_array(value.body())));
+    assert_eq!(rt; store.name_count(list), 0);
+    assert_eq!(rt; store.element_count(list), 2);
+    for (at, text) in [(0, Some(9)), (1, Some(2)), (2, None)] {
+        assert_eq!(rt; text_at(&store, list, at), text);
+    }
+    let empty = ample(store.make_list(&[]))?;
+    assert!(rt; empty.0 != list.0);
+    assert_eq!(rt; store.element_count(empty), 0);
+    assert_eq!(rt; store.element_count(list), 2);
+    Ok(())
+}

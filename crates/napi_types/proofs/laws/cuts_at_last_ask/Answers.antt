@@ -1,5 +1,6 @@
 use Rattle.std.proofs.Common.{◌≡◌, ap, ◌∙◌}
 use Rattle.napi_types.specs.declared.entry.Why.TheVariants as why
+use Rattle.napi_types.specs.Built.{taken}
 use Rattle.napi_types.specs.Changes.{asks_made}
 use Rattle.napi_types.specs.Cuts.{cut_by, CutAtLastAsk, NotBeforeLastAsk}
 use Rattle.napi_types.proofs.Cutting.{only-in-frame, spent-only, asks-next, early-none}
@@ -8,7 +9,7 @@ use Rattle.napi_types.proofs.laws.cuts_at_last_ask.Goals as goal
 last : CutAtLastAsk
 last m f fs a e s =
     let spent : asks_made m.env.frames ≡ 65536 = ap asks_made e ∙ s in
-    (asks-next m f fs a e spent, only-in-frame m a f fs (cut_by why.Asks) e (spent-only m a spent))
+    (asks-next m f fs a e spent, only-in-frame m a f fs (cut_by why.Asks) e (spent-only m (taken a) spent))
 
 early : NotBeforeLastAsk
 early m f fs a e s n = early-none m f fs a e s n

@@ -4,10 +4,8 @@ use Rattle.napi_types.specs.Laws.{EveryCallHasARow}
 use Rattle.napi_types.proofs.laws.every_call_has_a_row.Goals as goal
 
 by-call : EveryCallHasARow
-by-call e call.CreateObject n = refl
-by-call e (call.Typeof h) n = refl
-by-call e call.OpenHandleScope n = refl
-by-call e (call.CloseHandleScope s) n = refl
+by-call heap call.CreateObject n = refl
+by-call heap c n = refl
 
 pub returns : goal.returns
 returns c = by-call

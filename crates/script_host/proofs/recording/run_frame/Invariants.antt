@@ -1,7 +1,6 @@
 use Rattle.std.proofs.Common.{◌≡◌, ℕ, List, Option, length, map}
-use Rattle.napi_types.specs.declared.call.Op.{Op}
+use Rattle.napi_types.specs.declared.op.Op.{Op}
 use Rattle.addon_trait.specs.Addons.{OthersStay}
-use Rattle.napi_types.specs.Plan.{plan_of, registers_of}
 use Rattle.script_host.specs.Recording.{StandsAt, IsSamePlace, Continues}
 use Rattle.script_host.proofs.recording.run_frame.Given as goal
 
@@ -15,8 +14,8 @@ invariant-loop-step g l =
     record {
       count : length l.addons.items ≡ length l.fn.addons.items;
       plans : plans ≡ first_plans;
-      others : OthersStay first_regs regs 0;
-      recorded : Continues (plan_of first_plans 0) l.fn.core (registers_of first_regs 0) l.core (registers_of regs 0);
-      stands : StandsAt l.core l.step;
+      others : OthersStay first_regs regs l.addon;
+      recorded : Continues first_plans l.fn.core first_regs l.core regs;
+      stands : StandsAt l.core l.addon l.step;
       same : IsSamePlace l.fn.core l.core;
     }

@@ -6,6 +6,6 @@ use Rattle.trace_text.proofs.line.add_all_escaped.Given as goal
 
 abbrev pub invariant-loop-byte : goal.invariant-loop-byte
 invariant-loop-byte g l = Adds
-    (stand (g.K.Sink.taken l.fn.sink) (g.K.Sink.faults l.fn.sink) l.fn.failed)
+    (stand (g.K.Sink.taken l.fn.sink) (g.K.Sink.faults l.fn.sink) l.fn.pending)
     (flat_map escaped (take l.byte-index l.text))
-    (stand (g.K.Sink.taken l.sink) (g.K.Sink.faults l.sink) l.failed)
+    (stand (g.K.Sink.taken l.sink) (g.K.Sink.faults l.sink) l.pending)

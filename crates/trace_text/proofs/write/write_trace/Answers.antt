@@ -1,8 +1,12 @@
+use Rattle.std.proofs.Common.{sym, ◌∙◌}
 use Rattle.trace_text.proofs.Adding.{adds_whole, adds_front}
 use Rattle.trace_text.proofs.write.write_trace.Goals as goal
 
-pub returns-then-failed-clause-err : goal.returns-then-failed-clause-err
-returns-then-failed-clause-err g c = adds_front _ _ _ _ _ _ c.if-failed.true c.add_trace.ensures
+pub returns-then-has_failed-clause-err : goal.returns-then-has_failed-clause-err
+returns-then-has_failed-clause-err g c =
+    adds_front _ _ _ _ _ _ c.new-pending.ensures c.add_trace.ensures c.write_out.ensures.added
 
-pub returns-else-failed-clause-ok : goal.returns-else-failed-clause-ok
-returns-else-failed-clause-ok g c = adds_whole _ _ _ _ _ _ c.if-failed.false c.add_trace.ensures
+pub returns-else-has_failed-clause-ok : goal.returns-else-has_failed-clause-ok
+returns-else-has_failed-clause-ok g c =
+    adds_whole _ _ _ _ _ _ c.new-pending.ensures c.add_trace.ensures c.write_out.ensures.added c.write_out.ensures.none
+    (sym c.has_failed.ensures.failed ∙ c.if-has_failed.false)

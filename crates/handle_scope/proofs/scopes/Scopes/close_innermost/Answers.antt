@@ -13,9 +13,12 @@ invariant_of-self c =
     let P : List ScopeMark → Type 0 = λ l. IsStack c.self.inside.frames.items l c.self.inside.held.items c.self.inside.handles c.self.inside.numbers (vec_capacity c.self.inside.frames) in
     let O : List ScopeMark → Type 0 = λ l. opened_scopes (frames_of c.self.inside.frames.items l c.self.inside.held.items) ≢ [] in
     let V : HandleScopes → Type 0 = λ s. opened_scopes s.frames ≢ [] in
-    rw c.truncate.ensures.items
-    (stack-closed c.self.inside.frames.items c.pop.new.self.items c.in-Some.scope c.self.inside.held.items _ _ _
-    (subst P c.in-Some.ensures.items c.self.invariant) (subst O c.in-Some.ensures.items (subst V (sym c.self.view_is) c.requires)))
+    record {
+      stack = rw c.truncate.ensures.items
+          (stack-closed c.self.inside.frames.items c.pop.new.self.items c.in-Some.scope c.self.inside.held.items _ _ _
+          (subst P c.in-Some.ensures.items c.self.invariant.stack) (subst O c.in-Some.ensures.items (subst V (sym c.self.view_is) c.requires)));
+      reserved = omega (arith, c.truncate.ensures.len, c.truncate.ensures.capacity, c.self.invariant.reserved);
+    }
 
 pub returns-in-Some : goal.returns-in-Some
 returns-in-Some c =
@@ -23,7 +26,7 @@ returns-in-Some c =
     let O : List ScopeMark → Type 0 = λ l. opened_scopes (frames_of c.self.inside.frames.items l c.self.inside.held.items) ≢ [] in
     let V : HandleScopes → Type 0 = λ s. opened_scopes s.frames ≢ [] in
     let closed = frames-closed c.self.inside.frames.items c.pop.new.self.items c.in-Some.scope c.self.inside.held.items _ _ _
-    (subst P c.in-Some.ensures.items c.self.invariant) (subst O c.in-Some.ensures.items (subst V (sym c.self.view_is) c.requires)) in
+    (subst P c.in-Some.ensures.items c.self.invariant.stack) (subst O c.in-Some.ensures.items (subst V (sym c.self.view_is) c.requires)) in
     rw (← c.self.view_is) (rw (c.truncate.ensures.items, c.in-Some.ensures.items, closed) refl)
 
 pub returns-in_default : goal.returns-in_default

@@ -5,5 +5,5 @@ use Rattle.handle_scope.proofs.scopes.Scopes.held.Goals as goal
 
 pub returns : goal.returns
 returns c =
-    let places : length (held_by_frames c.args.self.now.frames) ≡ length c.self.inside.held.items = rw (← c.self.view_is) (length-held c.self.inside.frames.items c.self.inside.scopes.items c.self.inside.held.items c.self.inside.handles c.self.inside.numbers _ c.self.invariant) in
+    let places : length (held_by_frames c.args.self.now.frames) ≡ length c.self.inside.held.items = rw (← c.self.view_is) (length-held c.self.inside.frames.items c.self.inside.scopes.items c.self.inside.held.items c.self.inside.handles c.self.inside.numbers _ c.self.invariant.stack) in
     omega (arith, places, c.len.ensures)

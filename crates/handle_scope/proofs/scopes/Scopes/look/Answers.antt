@@ -10,5 +10,5 @@ returns c =
     let h = c.args.handle.0 in
     c.value_among.ensures
     ∙ ap (λ l. value_in (map held_of l) h) c.deref.ensures.value
-    ∙ sym (gives-stack c.self.inside.frames.items c.self.inside.scopes.items c.self.inside.held.items c.self.inside.handles c.self.inside.numbers _ c.self.invariant h)
+    ∙ sym (gives-stack c.self.inside.frames.items c.self.inside.scopes.items c.self.inside.held.items c.self.inside.handles c.self.inside.numbers _ c.self.invariant.stack h)
     ∙ ap (λ (s : HandleScopes). gives s.frames h) c.self.view_is

@@ -11,7 +11,10 @@ overflow_add-number c = omega (arith, rw (← c.self.view_is) at c.requires.numb
 pub invariant_of-self : goal.invariant_of-self
 invariant_of-self c =
     let P : HandleScopes → Type 0 = λ s. s.frames ≢ [] in
-    rw c.in-Ok.ensures.items (stack-opened c.self.inside.frames.items c.self.inside.scopes.items c.self.inside.held.items c.self.inside.handles c.self.inside.numbers _ c.self.invariant _ (subst P (sym c.self.view_is) c.requires.standing) (omega (arith, c.len.ensures)) refl)
+    record {
+      stack = rw c.in-Ok.ensures.items (stack-opened c.self.inside.frames.items c.self.inside.scopes.items c.self.inside.held.items c.self.inside.handles c.self.inside.numbers _ c.self.invariant.stack _ (subst P (sym c.self.view_is) c.requires.standing) (omega (arith, c.len.ensures)) refl);
+      reserved = c.self.invariant.reserved;
+    }
 
 pub returns-in-Ok-clause-fresh : goal.returns-in-Ok-clause-fresh
 returns-in-Ok-clause-fresh c = rw (← c.self.view_is) (fresh_number c.self.inside.numbers)
@@ -20,6 +23,6 @@ pub returns-in-Ok-clause-ok : goal.returns-in-Ok-clause-ok
 returns-in-Ok-clause-ok c =
     let m : ScopeMark = record { number = c.self.inside.numbers + 1; start = c.len.result } in
     let begins : m.start ≡ length c.self.inside.held.items = omega (arith, c.len.ensures) in
-    let opened = frames-opened c.self.inside.frames.items c.self.inside.scopes.items c.self.inside.held.items c.self.inside.handles c.self.inside.numbers _ c.self.invariant m begins in
+    let opened = frames-opened c.self.inside.frames.items c.self.inside.scopes.items c.self.inside.held.items c.self.inside.handles c.self.inside.numbers _ c.self.invariant.stack m begins in
     rw (← c.self.view_is)
     (rw (c.in-Ok.ensures.items, down_from-more c.self.inside.numbers, opened) refl)

@@ -14,5 +14,5 @@ returns-in-Some c =
     c.why_not_among.ensures
     ∙ ap (λ l. closing n (scopes_above 0 (reverse l) []).opened) (rest-slice f.scopes c.deref-in-Some.result.now)
     ∙ ap (λ l. closing n (scopes_above 0 (reverse (drop f.scopes l)) []).opened) c.deref-in-Some.ensures.value
-    ∙ closing-frames n f c.self.inside.frames.items c.self.inside.scopes.items c.self.inside.held.items c.self.inside.handles c.self.inside.numbers _ c.self.invariant last
+    ∙ closing-frames n f c.self.inside.frames.items c.self.inside.scopes.items c.self.inside.held.items c.self.inside.handles c.self.inside.numbers _ c.self.invariant.stack last
     ∙ ap (λ (s : HandleScopes). closing n (opened_scopes s.frames)) c.self.view_is

@@ -1,0 +1,102 @@
+-- The heap where a handle is given, of a value that was there or of a new one.
+use Rattle.std.proofs.Common.{◌≡◌, ◌≢◌, ◌∙◌, ℕ, ◌+◌, ◌==◌, ◌||◌, true, false, Bool, List, [], ◌∷◌, ◌++◌, map, max, length, Option, Some, None, option_map, IsSome, ap, sym, refl, subst}
+use Rattle.std.specs.List.{All}
+use Rattle.std.specs.Option.{unwrap_or}
+use Rattle.std.proofs.lemmas.List.Elements.{All-weaker}
+use Rattle.napi_types.specs.declared.body.Body.{Body}
+use Rattle.napi_types.specs.declared.entry.Out.TheVariants as out
+use Rattle.napi_types.specs.declared.ids.HandleId.{HandleId}
+use Rattle.napi_types.specs.Graph.{StoreState, IsLive, IsSound, value_of, number_in, creation_number, graph_of}
+use Rattle.napi_types.specs.Heap.{Heap, handle_of, with_handle, with_value, new_value, with_list, new_list}
+use Rattle.napi_types.specs.Lists.{first_changed, has_number}
+use Rattle.napi_types.specs.Replies.{answered}
+use Rattle.napi_types.specs.Scopes.{Held, FrameScopes, hold_in, held_by_frames}
+use Rattle.napi_types.specs.Values.{Value, fresh_value, list_of}
+use Rattle.handle_scope.specs.HandleScopes.{HandleScopes, handle_issued, place_reserved}
+use Rattle.value_store.specs.Changes.{Makes, MakesList}
+use Rattle.value_store.proofs.Callers.{makes-live}
+use Rattle.env_values.specs.Seen.{seen_frame, seen_held, heap_of, HoldsLive}
+use Rattle.env_values.proofs.Held.{held-holds}
+use Rattle.env_values.proofs.Seen.{IsSame, seen-same, held-seen}
+
+-- HELD VALUES STAY LIVE
+pub issued-live : (s : StoreState) (scopes after : HandleScopes) (v : ℕ) → after ≡ handle_issued v scopes → IsLive s v → HoldsLive s scopes → HoldsLive s after
+issued-live s scopes after v is live held =
+    let P : HandleScopes → Type 0 = λ x. HoldsLive s x in
+    subst P (sym is) (held-holds (λ n. IsLive s n) (record { handle = scopes.handles + 1; value = v }) scopes.frames live held)
+
+pub more-live : (s t : StoreState) (scopes : HandleScopes) → ((n : ℕ) → IsLive s n → IsLive t n) → HoldsLive s scopes → HoldsLive t scopes
+more-live s t scopes more = All-weaker (λ (p : Held). IsLive s p.value) (λ p. IsLive t p.value) (λ p. more p.value) (held_by_frames scopes.frames)
+
+-- THE HEAP
+-- two states of a store agree on what is live in the first
+abbrev pub Agrees : StoreState → StoreState → Type 0
+Agrees s t = (n : ℕ) → IsLive s n → number_in t n ≡ number_in s n
+
+seen-alike : (s t : StoreState) (scopes : HandleScopes) → Agrees s t → HoldsLive s scopes → map (seen_frame t) scopes.frames ≡ map (seen_frame s) scopes.frames
+seen-alike s t scopes agrees held =
+    seen-same s t scopes.frames (All-weaker (λ (p : Held). IsLive s p.value) (λ p. IsSame s t p) (λ p. agrees p.value) (held_by_frames scopes.frames) held)
+
+-- a handle of a value under the number n is given, where the store came to another state
+pub given-heap : (s t : StoreState) (scopes after : HandleScopes) (id n : ℕ) → Agrees s t → HoldsLive s scopes → number_in t id ≡ n → after ≡ handle_issued id scopes
+    → heap_of t after ≡ with_handle n (record (heap_of s scopes) { values = graph_of t; made = t.made })
+given-heap s t scopes after id n agrees held number is =
+    ap (heap_of t) is
+    ∙ ap (λ fs. record (heap_of t (handle_issued id scopes)) { scopes = fs }) (held-seen t (record { handle = scopes.handles + 1; value = id }) scopes.frames)
+    ∙ ap (λ m. record (heap_of t (handle_issued id scopes)) { scopes = first_changed (hold_in (record { handle = scopes.handles + 1; value = m })) (map (seen_frame t) scopes.frames) }) number
+    ∙ ap (λ fs. record (heap_of t (handle_issued id scopes)) { scopes = first_changed (hold_in (record { handle = scopes.handles + 1; value = n })) fs }) (seen-alike s t scopes agrees held)
+
+-- the answer that gives it
+pub given-answer : (before after : Heap) (v : ℕ) (h : HandleId) → h.0 ≡ before.handles + 1 → after ≡ with_handle v before → handle_of v before ≡ answered (out.Handle h) after
+given-answer before after v h number is =
+    ap (λ n. answered (out.Handle (record { 0 = n })) (with_handle v before)) (sym number) ∙ ap (λ (heap : Heap). answered (out.Handle h) heap) (sym is)
+
+-- A NEW VALUE
+never : (a c : Bool) → (a || c) ≡ false → c ≡ false
+never true c h = let no : ⊥ = cc in absurd no
+never false c h = h
+
+makes-agrees : (s t : StoreState) (id : ℕ) (b : Body) → IsSound s → Makes s t id b → Agrees s t
+makes-agrees s t id b sound step n live =
+    let apart : n ≢ id = λ same. stands same in ap (λ o. unwrap_or (option_map (λ (v : Value). v.number) o) 0) (step.others n apart)
+  where
+    stands : n ≡ id → ⊥
+    stands same =
+        let was : has_number n s.issued ≡ true = sound.given n live in
+        let fresh : has_number id s.issued ≡ false = never (0 == id) (has_number id s.issued) step.fresh in
+        let both : has_number n s.issued ≡ false = subst (λ (k : ℕ). has_number k s.issued ≡ false) (sym same) fresh in
+        cc
+
+pub made-heap : (s t : StoreState) (scopes after : HandleScopes) (id : ℕ) (b : Body) → IsSound s → Makes s t id b → graph_of t ≡ graph_of s ++ fresh_value (s.made + 1) b ∷ []
+    → HoldsLive s scopes → after ≡ handle_issued id scopes → heap_of t after ≡ with_handle (s.made + 1) (with_value b (heap_of s scopes))
+made-heap s t scopes after id b sound step graph held is =
+    given-heap s t scopes after id (s.made + 1) (makes-agrees s t id b sound step) held (ap (λ o. unwrap_or (option_map (λ (v : Value). v.number) o) 0) step.named) is
+    ∙ ap (λ vs. with_handle (s.made + 1) (record (heap_of s scopes) { values = vs; made = t.made })) graph
+    ∙ ap (λ m. with_handle (s.made + 1) (record (heap_of s scopes) { values = graph_of s ++ fresh_value (s.made + 1) b ∷ []; made = m })) step.made
+
+-- a value under a new number is live, and every held value with it
+pub made-live : (s t : StoreState) (scopes after : HandleScopes) (id : ℕ) (b : Body) → Makes s t id b → HoldsLive s scopes → after ≡ handle_issued id scopes → HoldsLive t after
+made-live s t scopes after id b step held is =
+    issued-live t scopes after id is (subst (λ (o : Option Value). IsSome o) (sym step.named) refl) (more-live s t scopes (makes-live s t id b step) held)
+
+-- A NEW LIST
+list-agrees : (s t : StoreState) (id n : ℕ) → IsSound s → MakesList s t id n → Agrees s t
+list-agrees s t id n sound step m live = ap (λ o. unwrap_or (option_map (λ (v : Value). v.number) o) 0) (step.others m (sound.given m live))
+
+list-live : (s t : StoreState) (id n : ℕ) → IsSound s → MakesList s t id n → (m : ℕ) → IsLive s m → IsLive t m
+list-live s t id n sound step m live = subst (λ (o : Option Value). IsSome o) (sym (step.others m (sound.given m live))) live
+
+some-live : (o : Option Value) (n : ℕ) → option_map (λ (v : Value). v.number) o ≡ Some n → IsSome o
+some-live None n e = cc
+some-live (Some v) n e = refl
+
+pub listed-heap : (s t : StoreState) (scopes after : HandleScopes) (id : ℕ) (bs : List Body) → IsSound s → MakesList s t id (length bs) → graph_of t ≡ graph_of s ++ list_of s.made bs
+    → HoldsLive s scopes → after ≡ handle_issued id scopes → heap_of t after ≡ with_handle (s.made + length bs + 1) (with_list bs (heap_of s scopes))
+listed-heap s t scopes after id bs sound step graph held is =
+    given-heap s t scopes after id (s.made + length bs + 1) (list-agrees s t id (length bs) sound step) held (ap (λ o. unwrap_or o 0) step.number) is
+    ∙ ap (λ vs. with_handle (s.made + length bs + 1) (record (heap_of s scopes) { values = vs; made = t.made })) graph
+    ∙ ap (λ m. with_handle (s.made + length bs + 1) (record (heap_of s scopes) { values = graph_of s ++ list_of s.made bs; made = m })) step.made
+
+pub listed-live : (s t : StoreState) (scopes after : HandleScopes) (id n : ℕ) → IsSound s → MakesList s t id n → HoldsLive s scopes → after ≡ handle_issued id scopes → HoldsLive t after
+listed-live s t scopes after id n sound step held is =
+    issued-live t scopes after id is (some-live (value_of t id) (s.made + n + 1) step.number) (more-live s t scopes (list-live s t id n sound step) held)

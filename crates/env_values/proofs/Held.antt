@@ -1,0 +1,66 @@
+-- What holds of each handle that open scopes hold.
+use Rattle.std.proofs.Common.{◌≡◌, ℕ, ◌==◌, Bool, true, false, List, [], ◌∷◌, ◌++◌, Option, Some, None, option_map, refl, subst, cond}
+use Rattle.std.specs.List.{All}
+use Rattle.std.specs.Option.{option_or}
+use Rattle.std.proofs.lemmas.List.Elements.{All-nil, All-cons, All-head, All-tail, All-append}
+use Rattle.napi_types.specs.Lists.{found, first_changed}
+use Rattle.napi_types.specs.Scopes.{Held, Scope, FrameScopes, value_in, value_in_scopes, gives, hold_in, hold_at, held_by_scopes, held_by_frame, held_by_frames}
+
+-- what holds of each element of two lists holds of each element of either
+pub All-left : {X : Type 0} (P : X → Type 0) (xs ys : List X) → All P (xs ++ ys) → All P xs
+All-left P [] ys h = All-nil P
+All-left P (x ∷ xs) ys h = All-cons P x xs (All-head P x (xs ++ ys) h) (All-left P xs ys (All-tail P x (xs ++ ys) h))
+
+pub All-right : {X : Type 0} (P : X → Type 0) (xs ys : List X) → All P (xs ++ ys) → All P ys
+All-right P [] ys h = h
+All-right P (x ∷ xs) ys h = All-right P xs ys (All-tail P x (xs ++ ys) h)
+
+module _ (P : ℕ → Type 0) where
+  abbrev OfValue : Held → Type 0
+  OfValue p = P p.value
+
+  in-held : (hs : List Held) (h v : ℕ) → All OfValue hs → value_in hs h ≡ Some v → P v
+  in-held [] h v all is = cc
+  in-held (p ∷ hs) h v all is = by (in-held hs h v (All-tail OfValue p hs all)) (p.handle == h) is
+    where
+      by : (value_in hs h ≡ Some v → P v) → (b : Bool) → option_map (λ (q : Held). q.value) (cond b (Some p) (found (λ q. q.handle) h hs)) ≡ Some v → P v
+      by rest true e = let same : p.value ≡ v = cc in subst P same (All-head OfValue p hs all)
+      by rest false e = rest e
+
+  first-of : (a b : Option ℕ) (v : ℕ) → (a ≡ Some v → P v) → (b ≡ Some v → P v) → option_or a b ≡ Some v → P v
+  first-of None b v left right is = right is
+  first-of (Some x) b v left right is = left is
+
+  in-scopes : (ss : List Scope) (h v : ℕ) → All OfValue (held_by_scopes ss) → value_in_scopes ss h ≡ Some v → P v
+  in-scopes [] h v all is = cc
+  in-scopes (s ∷ ss) h v all is =
+      first-of (value_in s.held h) (value_in_scopes ss h) v (in-held s.held h v (All-right OfValue (held_by_scopes ss) s.held all))
+      (in-scopes ss h v (All-left OfValue (held_by_scopes ss) s.held all)) is
+
+  -- what holds of each held value holds of the one that a handle gives
+  pub given-holds : (fs : List FrameScopes) (h v : ℕ) → All OfValue (held_by_frames fs) → gives fs h ≡ Some v → P v
+  given-holds [] h v all is = cc
+  given-holds (f ∷ fs) h v all is =
+      let here : All OfValue (held_by_frame f) = All-right OfValue (held_by_frames fs) (held_by_frame f) all in
+      first-of (value_in_scopes f.opened h) (option_or (value_in f.own h) (gives fs h)) v
+      (in-scopes f.opened h v (All-right OfValue f.own (held_by_scopes f.opened) here))
+      (first-of (value_in f.own h) (gives fs h) v (in-held f.own h v (All-left OfValue f.own (held_by_scopes f.opened) here))
+      (given-holds fs h v (All-left OfValue (held_by_frames fs) (held_by_frame f) all))) is
+
+  alone : (p : Held) → P p.value → All OfValue (p ∷ [])
+  alone p here = All-cons OfValue p [] here (All-nil OfValue)
+
+  one-more : (p : Held) (own : List Held) (ss : List Scope) → P p.value → All OfValue (own ++ held_by_scopes ss) → All OfValue (held_by_frame (hold_at p own ss))
+  one-more p own [] here all = All-append OfValue (own ++ p ∷ []) [] (All-append OfValue own (p ∷ []) (All-left OfValue own [] all) (alone p here)) (All-nil OfValue)
+  one-more p own (s ∷ ss) here all =
+      let inner : All OfValue (held_by_scopes ss ++ s.held) = All-right OfValue own (held_by_scopes ss ++ s.held) all in
+      All-append OfValue own (held_by_scopes ss ++ (s.held ++ p ∷ [])) (All-left OfValue own (held_by_scopes ss ++ s.held) all)
+      (All-append OfValue (held_by_scopes ss) (s.held ++ p ∷ []) (All-left OfValue (held_by_scopes ss) s.held inner)
+      (All-append OfValue s.held (p ∷ []) (All-right OfValue (held_by_scopes ss) s.held inner) (alone p here)))
+
+  -- it holds of each held value where the innermost scope holds one handle more
+  pub held-holds : (p : Held) (fs : List FrameScopes) → P p.value → All OfValue (held_by_frames fs) → All OfValue (held_by_frames (first_changed (hold_in p) fs))
+  held-holds p [] here all = all
+  held-holds p (f ∷ fs) here all =
+      All-append OfValue (held_by_frames fs) (held_by_frame (hold_in p f)) (All-left OfValue (held_by_frames fs) (held_by_frame f) all)
+      (one-more p f.own f.opened here (All-right OfValue (held_by_frames fs) (held_by_frame f) all))

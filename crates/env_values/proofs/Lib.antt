@@ -1,0 +1,6 @@
+pub mod Giving
+pub mod HandleValues
+pub mod Heaps
+pub mod Held
+pub mod Listing
+pub mod Seen

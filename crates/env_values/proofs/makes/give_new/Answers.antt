@@ -1,0 +1,23 @@
+use Rattle.std.proofs.Common.{◌≡◌, ◌∙◌, ◌+◌, ap}
+use Rattle.napi_types.specs.Heap.{with_value}
+use Rattle.handle_scope.specs.HandleScopes.{HandleScopes, handle_issued, place_reserved}
+use Rattle.env_values.specs.Seen.{heap_of}
+use Rattle.env_values.proofs.Giving.{given-answer, made-heap, made-live}
+use Rattle.env_values.proofs.makes.give_new.Goals as goal
+
+pub returns-clause-gives : goal.returns-clause-gives
+returns-clause-gives c =
+    let s = c.args.store.now in
+    let scopes = c.args.scopes.now in
+    let after = c.issue_reserved.new.self in
+    let issued : after ≡ handle_issued c.in_ok-value.value.0 (place_reserved scopes) = c.issue_reserved.ensures.issued ∙ ap (handle_issued c.in_ok-value.value.0) c.in_ok-reserve.ensures.ok in
+    given-answer (with_value c.args.body (heap_of s scopes)) (heap_of c.make.new.self after) (s.made + 1) c.issue_reserved.result
+    (c.issue_reserved.ensures.handle ∙ ap (λ (x : HandleScopes). x.handles + 1) c.in_ok-reserve.ensures.ok)
+    (made-heap s c.make.new.self (place_reserved scopes) after c.in_ok-value.value.0 c.args.body c.recall.ensures c.in_ok-value.ensures.made c.in_ok-value.ensures.graph c.requires.live issued)
+
+pub returns-clause-live : goal.returns-clause-live
+returns-clause-live c =
+    let scopes = c.args.scopes.now in
+    let issued : c.issue_reserved.new.self ≡ handle_issued c.in_ok-value.value.0 (place_reserved scopes) =
+    c.issue_reserved.ensures.issued ∙ ap (handle_issued c.in_ok-value.value.0) c.in_ok-reserve.ensures.ok in
+    made-live c.args.store.now c.make.new.self (place_reserved scopes) c.issue_reserved.new.self c.in_ok-value.value.0 c.args.body c.in_ok-value.ensures.made c.requires.live issued

@@ -1,0 +1,21 @@
+use Rattle.std.proofs.Common.{◌≡◌, ◌∙◌, ℕ, true, Option, None, Some, option_map, is_some, ap, sym, refl}
+use Rattle.napi_types.specs.Graph.{number_in}
+use Rattle.napi_types.specs.Heap.{handle_body}
+use Rattle.napi_types.specs.Replies.{answered}
+use Rattle.napi_types.specs.declared.entry.Out.TheVariants as out
+use Rattle.napi_types.specs.Values.{is_object_like}
+use Rattle.env_values.specs.Seen.{heap_of}
+use Rattle.env_values.proofs.HandleValues.{like-known, property-known, same-there}
+use Rattle.env_values.proofs.reads.has_named_property.Goals as goal
+
+pub returns : goal.returns
+returns c =
+    let s = c.args.store.now in
+    let scopes = c.args.scopes.now in
+    let k = c.in_ok-object.ensures.ok in
+    let like : is_object_like (handle_body (heap_of s scopes) c.args.object.0) ≡ true =
+    like-known s scopes c.args.object.0 c.in_ok-object.object k c.in_ok-object_like.ensures.ok in (
+      rw (k.known, c.in_ok-known_text.ensures.ok, like) refl,
+      ap (λ b. answered (out.Flag b) (heap_of s scopes))
+          (ap is_some (property-known s scopes c.args.object.0 c.in_ok-object.object k c.args.name.0) ∙ same-there s _ _ c.get_prop.ensures.value ∙ sym c.is_some.ensures),
+    )

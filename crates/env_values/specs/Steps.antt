@@ -1,0 +1,48 @@
+-- What the calls come to.
+use Rattle.std.specs.Prelude.{◌≡◌, ℕ, Some, None, is_some, true, option_map, IsTrue}
+use Rattle.std.specs.declared.result.Result.{Result}
+use Rattle.std.specs.declared.result.Result.TheVariants.{Ok, Err}
+use Rattle.napi_types.specs.declared.call.Call.{Call}
+use Rattle.napi_types.specs.declared.entry.NoMemory.{NoMemory}
+use Rattle.napi_types.specs.declared.entry.Out.{Out}
+use Rattle.napi_types.specs.declared.status.Status.{Status}
+use Rattle.napi_types.specs.Calls.{accepted}
+use Rattle.napi_types.specs.Graph.{StoreState, value_of, number_in, renamed}
+use Rattle.napi_types.specs.Heap.{Heap, handle_value}
+use Rattle.napi_types.specs.Refusals.{refusal_in}
+use Rattle.napi_types.specs.Replies.{Answer, answered}
+use Rattle.napi_types.specs.Room.{is_growing}
+use Rattle.napi_types.specs.Scopes.{gives}
+use Rattle.napi_types.specs.Values.{value_at}
+use Rattle.handle_scope.specs.HandleScopes.{HandleScopes}
+use Rattle.env_values.specs.declared.known.HandleValue.{HandleValue}
+use Rattle.env_values.specs.declared.stop.Stop.{Stop}
+use Rattle.env_values.specs.declared.stop.Stop.TheVariants as stop
+use Rattle.env_values.specs.Seen.{heap_of}
+
+-- the value is live, and is this
+abbrev pub IsStored : StoreState → HandleValue → Type 0
+IsStored store v = option_map (λ w. w.body) (value_of store v.id.0) ≡ Some v.body
+
+-- an open scope holds the handle, and this is its value: a live one, which the machine sees under its creation number
+pub record IsValueOf (store : StoreState) (scopes : HandleScopes) (h : ℕ) (v : HandleValue) : Type 0 where
+  pub known : is_some (gives (heap_of store scopes).scopes h) ≡ true
+  pub number : handle_value (heap_of store scopes) h ≡ number_in store v.id.0
+  pub body : IsStored store v
+  pub seen : value_at (heap_of store scopes).values (number_in store v.id.0) ≡ option_map (renamed store) (value_of store v.id.0)
+
+-- what a call that only reads comes to: its result where nothing refuses it, or else the first refusal
+abbrev pub Reads : ℕ → Heap → Call → Result Out Status → Type 0
+Reads texts heap c (Ok o) = (refusal_in texts heap c ≡ None) × (accepted heap c 0 ≡ answered o heap)
+Reads texts heap c (Err s) = refusal_in texts heap c ≡ Some s
+
+-- what a call comes to: its result where nothing refuses it, and the heap that it leaves; or the first refusal; or want of memory. The last two leave the heap as it was
+abbrev pub Comes : ℕ → Heap → Call → Result Out Stop → Heap → Type 0
+Comes texts before c (Ok o) after = (refusal_in texts before c ≡ None) × (accepted before c 0 ≡ answered o after)
+Comes texts before c (Err (stop.Refused s)) after = (refusal_in texts before c ≡ Some s) × (after ≡ before)
+Comes texts before c (Err stop.NoMemory) after = IsTrue (is_growing c) × (after ≡ before)
+
+-- what gives a handle comes to: this answer and what it leaves; or want of memory, which leaves the heap as it was
+abbrev pub Gives : Answer Heap → Heap → Result Out NoMemory → Heap → Type 0
+Gives answer before (Ok o) after = answer ≡ answered o after
+Gives answer before (Err e) after = after ≡ before

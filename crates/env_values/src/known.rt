@@ -1,0 +1,187 @@
+//! The values of handles, and what a call may expect of a value.
+ghost use Rattle.std.specs.Prelude.{◌≡◌, true, false, is_some, nat_lt, option_map, IfSome, IfOk, IfErr, OnOk};
+ghost use Rattle.napi_types.specs.Graph.{number_in, IsLive, IsSound};
+ghost use Rattle.napi_types.specs.Scopes.{gives};
+ghost use Rattle.napi_types.specs.Values.{is_object_like, is_string, is_number, is_bigint, is_boolean, is_array, signed_of, flag_of, text_of, strictly_equal, element_at, undefined_value};
+ghost use Rattle.std.specs.Option.{unwrap_or};
+ghost use Rattle.value_store.specs.Changes.{elements_in};
+ghost use Rattle.env_values.specs.Seen.{heap_of, HoldsLive};
+ghost use Rattle.env_values.specs.Steps.{IsValueOf, IsStored};
+
+use handle_scope::Scopes;
+use napi_types::{Body, HandleId, Status, TextNo, ValueId};
+use value_store::Store;
+
+/// The value that a handle gives: its number in the store, and what it is.
+#[derive(Clone, Copy)]
+pub(crate) struct HandleValue {
+    pub(crate) id: ValueId,
+    pub(crate) body: Body,
+}
+
+/// The value of a handle, refused as an invalid argument where no open scope holds the handle.
+pub(crate) fn value_of_handle(
+    store: &Store,
+    scopes: &Scopes,
+    handle: HandleId,
+) -> Result<HandleValue, Status>
+    requires { HoldsLive store.now scopes.now }
+    ensures ok { IfOk result (λ value. IsValueOf store.now scopes.now handle.0 value) }
+    ensures unknown { IfErr result (λ status. is_some (gives (heap_of store.now scopes.now).scopes handle.0) ≡ false) }
+    ensures refused { IfErr result (λ status. status ≡ Status.InvalidArg) }
+{
+    let Some(id) = scopes.look(handle) else {
+        return Err(Status::InvalidArg);
+    };
+    match store.get(id) {
+        Some(value) => Ok(HandleValue {
+            id,
+            body: value.body(),
+        }),
+        None => unreachable!(),
+    }
+}
+
+/// A text is known where it stands in the table, of so many texts.
+pub(crate) fn known_text(text: TextNo, texts: u32) -> Result<(), Status>
+    ensures ok { OnOk result (nat_lt text.0 texts ≡ true) }
+    ensures unknown { IfErr result (λ status. nat_lt text.0 texts ≡ false) }
+    ensures refused { IfErr result (λ status. status ≡ Status.InvalidArg) }
+{
+    if text.0 < texts {
+        Ok(())
+    } else {
+        Err(Status::InvalidArg)
+    }
+}
+
+/// Expects an object or a function.
+pub(crate) fn object_like(body: Body) -> Result<(), Status>
+    ensures ok { OnOk result (is_object_like body ≡ true) }
+    ensures other { IfErr result (λ status. is_object_like body ≡ false) }
+    ensures refused { IfErr result (λ status. status ≡ Status.ObjectExpected) }
+{
+    match body {
+        Body::Object { .. } | Body::Function { .. } => Ok(()),
+        _ => Err(Status::ObjectExpected),
+    }
+}
+
+/// The text of a string.
+pub(crate) fn text(body: Body) -> Result<TextNo, Status>
+    ensures ok { IfOk result (λ text. text ≡ text_of body) }
+    ensures string { OnOk result (is_string body ≡ true) }
+    ensures other { IfErr result (λ status. is_string body ≡ false) }
+    ensures refused { IfErr result (λ status. status ≡ Status.StringExpected) }
+{
+    match body {
+        Body::Str(text) => Ok(text),
+        _ => Err(Status::StringExpected),
+    }
+}
+
+/// The whole number that a number is.
+pub(crate) fn number(body: Body) -> Result<i64, Status>
+    ensures ok { IfOk result (λ number. number ≡ signed_of body) }
+    ensures number { OnOk result (is_number body ≡ true) }
+    ensures other { IfErr result (λ status. is_number body ≡ false) }
+    ensures refused { IfErr result (λ status. status ≡ Status.NumberExpected) }
+{
+    match body {
+        Body::Number(number) => Ok(number),
+        _ => Err(Status::NumberExpected),
+    }
+}
+
+/// The whole number that a bigint is.
+pub(crate) fn bigint(body: Body) -> Result<i64, Status>
+    ensures ok { IfOk result (λ number. number ≡ signed_of body) }
+    ensures bigint { OnOk result (is_bigint body ≡ true) }
+    ensures other { IfErr result (λ status. is_bigint body ≡ false) }
+    ensures refused { IfErr result (λ status. status ≡ Status.BigintExpected) }
+{
+    match body {
+        Body::Bigint(number) => Ok(number),
+        _ => Err(Status::BigintExpected),
+    }
+}
+
+/// The flag that a boolean is.
+pub(crate) fn boolean(body: Body) -> Result<bool, Status>
+    ensures ok { IfOk result (λ flag. flag ≡ flag_of body) }
+    ensures boolean { OnOk result (is_boolean body ≡ true) }
+    ensures other { IfErr result (λ status. is_boolean body ≡ false) }
+    ensures refused { IfErr result (λ status. status ≡ Status.BooleanExpected) }
+{
+    match body {
+        Body::Boolean(flag) => Ok(flag),
+        _ => Err(Status::BooleanExpected),
+    }
+}
+
+/// Expects an array.
+pub(crate) fn array(body: Body) -> Result<(), Status>
+    ensures ok { OnOk result (is_array body ≡ true) }
+    ensures other { IfErr result (λ status. is_array body ≡ false) }
+    ensures refused { IfErr result (λ status. status ≡ Status.ArrayExpected) }
+{
+    match body {
+        Body::Object { array: true, .. } => Ok(()),
+        _ => Err(Status::ArrayExpected),
+    }
+}
+
+/// Whether a value is an array.
+pub(crate) fn is_array_value(body: Body) -> bool
+    ensures { result ≡ is_array body }
+{
+    matches!(body, Body::Object { array: true, .. })
+}
+
+/// Recalls what holds of every store, which a store tells where it gives a value.
+pub(crate) fn recall(store: &Store)
+    ensures { IsSound store.now }
+{
+    let _ = store.get(store.starting(0));
+}
+
+/// Whether two values are strictly equal (`===`).
+pub(crate) fn equals_strictly(store: &Store, left: HandleValue, right: HandleValue) -> bool
+    requires left { IsStored store.now left }
+    requires right { IsStored store.now right }
+    ensures { result ≡ strictly_equal left.body (number_in store.now left.id.0) right.body (number_in store.now right.id.0) }
+{
+    // No two live values have one creation number.
+    recall(store);
+    match (left.body, right.body) {
+        (Body::Number(left), Body::Number(right)) => left == right,
+        (Body::Bigint(left), Body::Bigint(right)) => left == right,
+        (Body::Boolean(left), Body::Boolean(right)) => left == right,
+        (Body::Str(left), Body::Str(right)) => left.0 == right.0,
+        _ => left.id.0 == right.id.0,
+    }
+}
+
+/// The element of an index, `None` exactly at a hole or past the end.
+pub(crate) fn element(store: &Store, id: ValueId, index: u64) -> Option<ValueId>
+    ensures value { option_map (λ v. v.0) result ≡ element_at index (elements_in store.now id.0) }
+    ensures live { IfSome result (λ v. IsLive store.now v.0) }
+{
+    match u32::try_from(index) {
+        Ok(index) => store.get_element(id, index),
+        Err(_) => {
+            // No value has so many elements, as their count tells.
+            let _ = store.element_count(id);
+            None
+        }
+    }
+}
+
+/// A live value, or else undefined.
+pub(crate) fn or_undefined(store: &Store, value: Option<ValueId>) -> ValueId
+    requires { IfSome value (λ v. IsLive store.now v.0) }
+    ensures live { IsLive store.now result.0 }
+    ensures number { number_in store.now result.0 ≡ unwrap_or (option_map (λ v. number_in store.now v.0) value) undefined_value }
+{
+    value.unwrap_or(store.starting(0))
+}

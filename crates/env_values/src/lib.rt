@@ -1,0 +1,17 @@
+//! The calls on values, properties and elements, over a store of values and the handle scopes.
+//! Contracts see the two as the machine's heap (`specs/Seen.antt`), and each call as the machine's answer there.
+//! The environment, which knows guards, phases and the other calls, stands above.
+#![tactic(auto)]
+
+mod known;
+mod makes;
+mod names;
+mod properties;
+mod reads;
+mod step;
+mod stop;
+#[cfg(test)]
+mod tests;
+mod values;
+
+pub use step::value_step;

@@ -1,0 +1,84 @@
+//! The names of an object's properties.
+ghost use Rattle.std.specs.Prelude.{◌≡◌, ◌≢◌, ◌+◌, ◌<◌, ◌≤◌, ◌^◌, [], true, false, length, nat_lt, IfOk, IfErr, OnOk};
+ghost use Rattle.napi_types.specs.Heap.{new_list};
+ghost use Rattle.napi_types.specs.PropertyCalls.{names_of};
+ghost use Rattle.napi_types.specs.Values.{most_names};
+ghost use Rattle.value_store.specs.Changes.{properties_in};
+ghost use Rattle.env_values.specs.Seen.{heap_of, HoldsLive};
+ghost use Rattle.env_values.specs.Steps.{Comes, Gives};
+
+use crate::known::{object_like, recall, value_of_handle};
+use crate::stop::Stop;
+use handle_scope::Scopes;
+use napi_types::{Body, Call, HandleId, NoMemory, Out, Status, ValueId};
+use std::alloc::Global;
+use value_store::Store;
+
+/// How many names are listed at most.
+const MOST_NAMES: usize = 65536;
+
+/// The names of a value, as strings, in the order in which they were first set.
+fn names(alloc: Global, store: &Store, id: ValueId) -> Result<Vec<Body>, NoMemory>
+    ensures { IfOk result (λ names. names.items ≡ names_of (properties_in store.now id.0)) }
+{
+    let mut names = Vec::new(alloc);
+    for at in 0..store.name_count(id) {
+        let Ok(()) = names.push(Body::Str(store.name_at(id, at))) else {
+            return Err(NoMemory);
+        };
+    }
+    Ok(names)
+}
+
+/// An object is listed that has not too many names; another one is refused as an invalid argument.
+fn listable(store: &Store, id: ValueId) -> Result<(), Status>
+    ensures ok { OnOk result (nat_lt most_names (length (properties_in store.now id.0)) ≡ false) }
+    ensures many { IfErr result (λ status. nat_lt most_names (length (properties_in store.now id.0)) ≡ true) }
+    ensures refused { IfErr result (λ status. status ≡ Status.InvalidArg) }
+{
+    if store.name_count(id) <= MOST_NAMES {
+        Ok(())
+    } else {
+        Err(Status::InvalidArg)
+    }
+}
+
+/// A new array of new values, and its handle. The place of the handle is taken first.
+fn give_list(store: &mut Store, scopes: &mut Scopes, bodies: &[Body]) -> Result<Out, NoMemory>
+    requires count { length bodies.now ≤ most_names }
+    requires standing { scopes.old.frames ≢ [] }
+    requires live { HoldsLive store.old scopes.old }
+    requires values { store.old.made + most_names + 8 < 2 ^ 48 }
+    requires handles { scopes.old.handles < 2 ^ 62 }
+    ensures gives { let before = heap_of store.old scopes.old in
+        Gives (new_list bodies.now before) before result (heap_of store.new scopes.new) }
+    ensures live { HoldsLive store.new scopes.new }
+{
+    scopes.reserve()?;
+    recall(store);
+    let value = store.make_list(bodies)?;
+    Ok(Out::Handle(scopes.issue_reserved(value)))
+}
+
+/// `get_property_names`: a new array of the names, refused as an invalid argument for an object with more than 65,536 names.
+pub(crate) fn get_property_names(
+    alloc: Global,
+    store: &mut Store,
+    scopes: &mut Scopes,
+    texts: u32,
+    object: HandleId,
+) -> Result<Out, Stop>
+    requires standing { scopes.old.frames ≢ [] }
+    requires live { HoldsLive store.old scopes.old }
+    requires values { store.old.made + most_names + 8 < 2 ^ 48 }
+    requires handles { scopes.old.handles < 2 ^ 62 }
+    ensures comes { let before = heap_of store.old scopes.old in
+        Comes texts before (Call.GetPropertyNames object) result (heap_of store.new scopes.new) }
+    ensures live { HoldsLive store.new scopes.new }
+{
+    let object = value_of_handle(store, scopes, object)?;
+    object_like(object.body)?;
+    listable(store, object.id)?;
+    let names = names(alloc, store, object.id)?;
+    Ok(give_list(store, scopes, &names)?)
+}

@@ -1,0 +1,149 @@
+//! One call on values, properties or elements.
+ghost use Rattle.std.specs.Prelude.{◌≡◌, ◌≢◌, ◌+◌, ◌<◌, ◌^◌, true, cond, [], IsTrue, IfOk, OnOk, OnErr};
+ghost use Rattle.napi_types.specs.Built.{is_value_call};
+ghost use Rattle.napi_types.specs.Calls.{answer_in};
+ghost use Rattle.napi_types.specs.Room.{is_growing};
+ghost use Rattle.napi_types.specs.Replies.{plain as plain_reply};
+ghost use Rattle.napi_types.specs.Values.{most_names, true_value, false_value};
+ghost use Rattle.env_values.specs.Seen.{heap_of, HoldsLive};
+ghost use Rattle.env_values.specs.Steps.{Comes};
+
+use crate::makes::{give_new, give_starting};
+use crate::names::get_property_names;
+use crate::properties::{delete_property, set_element, set_named_property};
+use crate::reads::{
+    get_array_length, get_value_bigint_int64, get_value_bool, get_value_int64,
+    get_value_string_utf8, has_element, has_named_property, is_array, strict_equals, type_of,
+};
+use crate::stop::Stop;
+use crate::values::{
+    create_int64, create_string_utf8, create_symbol, get_element, get_named_property,
+};
+use handle_scope::Scopes;
+use napi_types::{Body, Call, NoMemory, Out, Reply, Status};
+use std::alloc::Global;
+use value_store::Store;
+
+/// An object as it is created.
+const OBJECT: Body = Body::Object {
+    array: false,
+    error: false,
+};
+
+/// An array as it is created.
+const ARRAY: Body = Body::Object {
+    array: true,
+    error: false,
+};
+
+/// The place of a boolean among the starting values.
+fn place_of(flag: bool) -> u32
+    ensures { result + 1 ≡ cond flag true_value false_value }
+{
+    if flag { 2 } else { 3 }
+}
+
+/// What a call comes to.
+fn outcome(
+    alloc: Global,
+    store: &mut Store,
+    scopes: &mut Scopes,
+    texts: u32,
+    call: &Call,
+) -> Result<Out, Stop>
+    requires value_call { is_value_call call.now ≡ true }
+    requires standing { scopes.old.frames ≢ [] }
+    requires live { HoldsLive store.old scopes.old }
+    requires values { store.old.made + most_names + 8 < 2 ^ 48 }
+    requires handles { scopes.old.handles < 2 ^ 62 }
+    ensures comes { let before = heap_of store.old scopes.old in
+        Comes texts before call.now result (heap_of store.new scopes.new) }
+    ensures live { HoldsLive store.new scopes.new }
+{
+    match *call {
+        Call::GetUndefined => Ok(give_starting(store, scopes, 0)?),
+        Call::GetNull => Ok(give_starting(store, scopes, 1)?),
+        Call::GetBoolean(flag) => Ok(give_starting(store, scopes, place_of(flag))?),
+        Call::GetGlobal => Ok(give_starting(store, scopes, 4)?),
+        Call::CreateInt64(number) => create_int64(store, scopes, texts, number),
+        Call::CreateBigintInt64(number) => Ok(give_new(store, scopes, Body::Bigint(number))?),
+        Call::CreateStringUtf8(text) => create_string_utf8(store, scopes, texts, text),
+        Call::CreateSymbol(description) => create_symbol(store, scopes, texts, description),
+        Call::CreateObject => Ok(give_new(store, scopes, OBJECT)?),
+        Call::CreateArray => Ok(give_new(store, scopes, ARRAY)?),
+        Call::Typeof(value) => Ok(type_of(store, scopes, texts, value)?),
+        Call::IsArray(value) => Ok(is_array(store, scopes, texts, value)?),
+        Call::GetValueInt64(value) => Ok(get_value_int64(store, scopes, texts, value)?),
+        Call::GetValueBigintInt64(value) => {
+            Ok(get_value_bigint_int64(store, scopes, texts, value)?)
+        }
+        Call::GetValueBool(value) => Ok(get_value_bool(store, scopes, texts, value)?),
+        Call::GetValueStringUtf8(value) => Ok(get_value_string_utf8(store, scopes, texts, value)?),
+        Call::GetArrayLength(value) => Ok(get_array_length(store, scopes, texts, value)?),
+        Call::StrictEquals(left, right) => Ok(strict_equals(store, scopes, texts, left, right)?),
+        Call::SetNamedProperty(object, name, value) => {
+            set_named_property(store, scopes, texts, object, name, value)
+        }
+        Call::GetNamedProperty(object, name) => {
+            get_named_property(store, scopes, texts, object, name)
+        }
+        Call::HasNamedProperty(object, name) => {
+            Ok(has_named_property(store, scopes, texts, object, name)?)
+        }
+        Call::DeleteProperty(object, name) => delete_property(store, scopes, texts, object, name),
+        Call::GetPropertyNames(object) => get_property_names(alloc, store, scopes, texts, object),
+        Call::SetElement(object, index, value) => {
+            set_element(store, scopes, texts, object, index, value)
+        }
+        Call::GetElement(object, index) => get_element(store, scopes, texts, object, index),
+        Call::HasElement(object, index) => Ok(has_element(store, scopes, texts, object, index)?),
+        _ => unreachable!(),
+    }
+}
+
+/// A reply that neither withdraws nor makes a duty.
+fn plain(status: Status, out: Out) -> Reply
+    ensures { result ≡ plain_reply status out }
+{
+    Reply {
+        status,
+        out,
+        dropped: None,
+        made: None,
+    }
+}
+
+/// Makes a call on values, properties or elements in the innermost frame: the machine's step, without guard and phase.
+///
+/// `texts` says how many texts there are. `_addon` is the addon that calls, of which no call that is built asks. After
+/// `NoMemory` the scopes and the value graph are as they were: all memory is taken before the first change.
+///
+/// Near constant time and logarithmic in the open handles, beside `delete_property` and `get_property_names`, whose time grows
+/// with the number of the object's properties.
+pub fn value_step(
+    alloc: Global,
+    store: &mut Store,
+    scopes: &mut Scopes,
+    texts: u32,
+    _addon: u32,
+    call: &Call,
+) -> Result<Reply, NoMemory>
+    requires value_call { is_value_call call.now ≡ true }
+    requires standing { scopes.old.frames ≢ [] }
+    requires live { HoldsLive store.old scopes.old }
+    requires values { store.old.made + most_names + 8 < 2 ^ 48 }
+    requires handles { scopes.old.handles < 2 ^ 62 }
+    ensures reply { IfOk result (λ reply. reply ≡ (answer_in texts (heap_of store.old scopes.old) call.now 0).reply) }
+    ensures after { OnOk result (heap_of store.new scopes.new ≡ (answer_in texts (heap_of store.old scopes.old) call.now 0).after) }
+    ensures live { HoldsLive store.new scopes.new }
+
+    // A call that finds no memory is one that grows, and leaves the scopes and the value graph as they were.
+    ensures err { OnErr result (heap_of store.new scopes.new ≡ heap_of store.old scopes.old) }
+    ensures growing { OnErr result (IsTrue (is_growing call.now)) }
+{
+    match outcome(alloc, store, scopes, texts, call) {
+        Ok(out) => Ok(plain(Status::Ok, out)),
+        Err(Stop::Refused(status)) => Ok(plain(status, Out::Nothing)),
+        Err(Stop::NoMemory) => Err(NoMemory),
+    }
+}

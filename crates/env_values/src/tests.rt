@@ -1,0 +1,68 @@
+//! What no call of a frame can show: an object with more names than a frame makes asks.
+ghost use Rattle.std.specs.Prelude.{◌≡◌, ◌≢◌, ◌+◌, ◌≤◌, ◌<◌, ◌^◌, true, [], length, IfOk, Ok};
+ghost use Rattle.napi_types.specs.Built.{is_value_call};
+ghost use Rattle.napi_types.specs.Graph.{IsLive};
+ghost use Rattle.napi_types.specs.Values.{is_object_like as has_properties};
+ghost use Rattle.env_values.specs.Seen.{HoldsLive};
+
+use crate::value_step;
+use handle_scope::Scopes;
+use napi_types::{Body, Call, HandleId, NoMemory, Out, Reply, TextNo, ValueId};
+use std::alloc::Global;
+use std::test::Fail;
+use value_store::Store;
+
+const OBJECT: Body = Body::Object {
+    array: false,
+    error: false,
+};
+
+/// What was made where there was memory.
+fn ample<T>(outcome: Result<T, NoMemory>) -> Result<T, Fail>
+    ensures { IfOk result (λ value. outcome ≡ Ok value) }
+{
+    match outcome {
+        Ok(value) => Ok(value),
+        Err(NoMemory) => Err(Fail::new("there is no memory")),
+    }
+}
+
+/// A store with an object that has so many names, each of the value undefined.
+fn with_names(alloc: Global, count: u32) -> Result<(Store, ValueId), Fail>
+    ensures made { IfOk result (λ made. made.0.made ≡ 6) }
+    ensures live { IfOk result (λ made. IsLive made.0 made.1.0) }
+{
+    let mut store = ample(Store::new(alloc))?;
+    let object = ample(store.make(OBJECT))?;
+    let undefined = store.starting(0);
+    for name in 0..count {
+        ample(store.set_prop(object, TextNo(name), undefined))?;
+    }
+    Ok((store, object))
+}
+
+/// What `get_property_names` answers for an object with so many names.
+fn names_of(alloc: Global, count: u32) -> Result<Reply, Fail> {
+    let (mut store, object) = with_names(alloc, count)?;
+    let mut scopes = ample(Scopes::new(alloc))?;
+    scopes.enter_frame();
+    let handle = ample(scopes.issue(object))?;
+    let call = Call::GetPropertyNames(handle);
+    ample(value_step(alloc, &mut store, &mut scopes, count, 0, &call))
+}
+
+#[test]
+fn the_most_names_are_listed(rt: HostRuntime) -> Result<(), Fail> {
+    let reply = names_of(rt.alloc(), 65536)?;
+    assert_eq!(rt; reply.status.number(), 0);
+    assert!(rt; matches!(reply.out, Out::Handle(HandleId(2))));
+    Ok(())
+}
+
+#[test]
+fn one_name_more_is_refused(rt: HostRuntime) -> Result<(), Fail> {
+    let reply = names_of(rt.alloc(), 65537)?;
+    assert_eq!(rt; reply.status.number(), 1);
+    assert!(rt; matches!(reply.out, Out::Nothing));
+    Ok(())
+}

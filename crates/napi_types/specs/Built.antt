@@ -1,0 +1,52 @@
+-- Which calls are built so far.
+use Rattle.std.specs.Prelude.{Bool, true, false, ◌||◌, cond, None}
+use Rattle.napi_types.specs.declared.call.Ask.{Ask}
+use Rattle.napi_types.specs.declared.call.Ask.TheVariants as ask
+use Rattle.napi_types.specs.declared.call.Call.{Call}
+use Rattle.napi_types.specs.declared.call.Call.TheVariants as call
+
+-- the calls on values, and those on properties and elements
+abbrev pub is_value_call : Call → Bool
+is_value_call call.GetUndefined = true
+is_value_call call.GetNull = true
+is_value_call call.GetGlobal = true
+is_value_call (call.GetBoolean _) = true
+is_value_call (call.CreateInt64 _) = true
+is_value_call (call.CreateBigintInt64 _) = true
+is_value_call (call.CreateStringUtf8 _) = true
+is_value_call (call.CreateSymbol _) = true
+is_value_call call.CreateObject = true
+is_value_call call.CreateArray = true
+is_value_call (call.Typeof _) = true
+is_value_call (call.IsArray _) = true
+is_value_call (call.GetValueInt64 _) = true
+is_value_call (call.GetValueBigintInt64 _) = true
+is_value_call (call.GetValueBool _) = true
+is_value_call (call.GetValueStringUtf8 _) = true
+is_value_call (call.GetArrayLength _) = true
+is_value_call (call.StrictEquals _ _) = true
+is_value_call (call.SetNamedProperty _ _ _) = true
+is_value_call (call.GetNamedProperty _ _) = true
+is_value_call (call.HasNamedProperty _ _) = true
+is_value_call (call.DeleteProperty _ _) = true
+is_value_call (call.GetPropertyNames _) = true
+is_value_call (call.SetElement _ _ _) = true
+is_value_call (call.GetElement _ _) = true
+is_value_call (call.HasElement _ _) = true
+is_value_call _ = false
+
+-- the plain scopes, and the version
+abbrev pub is_scope_or_version : Call → Bool
+is_scope_or_version call.OpenHandleScope = true
+is_scope_or_version (call.CloseHandleScope _) = true
+is_scope_or_version call.GetVersion = true
+is_scope_or_version _ = false
+
+-- the calls that are built
+abbrev pub is_built : Call → Bool
+is_built c = is_scope_or_version c || is_value_call c
+
+-- what a frame is taken to ask: a call that is not built is never made, and the addon that asks it is taken to leave
+abbrev pub taken : Ask → Ask
+taken (ask.Do c) = cond (is_built c) (ask.Do c) (ask.Leave None)
+taken (ask.Leave v) = ask.Leave v

@@ -1,0 +1,78 @@
+-- Values and the handles to them: what the calls on values, properties, elements and scopes read and change.
+use Rattle.std.specs.Prelude.{ℕ, ◌+◌, List, [], ◌∷◌, ◌++◌, length, Option}
+use Rattle.std.specs.Option.{unwrap_or}
+use Rattle.napi_types.specs.declared.body.Body.{Body}
+use Rattle.napi_types.specs.declared.entry.Out.TheVariants as out
+use Rattle.napi_types.specs.Lists.{first_changed, tail}
+use Rattle.napi_types.specs.Replies.{Answer, answered}
+use Rattle.napi_types.specs.Scopes.{FrameScopes, no_handles, gives, hold_in}
+use Rattle.napi_types.specs.Values.{Value, Property, body_of, properties_of, elements_of, fresh_value, starting_values, undefined_value, value_changed, list_of}
+
+-- the value graph and the handle scopes
+pub record Heap : Type 0 where
+  pub values : List Value
+  -- how many values were made, the five starting ones counted
+  pub made : ℕ
+  -- the scopes of the frames that stand, the innermost frame first
+  pub scopes : List FrameScopes
+  -- how many handles were issued, and which scope numbers were
+  pub handles : ℕ
+  pub scope_numbers : List ℕ
+
+-- the starting values, and no frame
+abbrev pub new_heap : Heap
+new_heap = record { values = starting_values; made = length starting_values; scopes = []; handles = 0; scope_numbers = [] }
+
+-- the creation number of a handle's value. A call that names a handle which no open scope holds is refused before its value is read, so the number given here in its place is never read
+abbrev pub handle_value : Heap → ℕ → ℕ
+handle_value heap h = unwrap_or (gives heap.scopes h) undefined_value
+
+-- what the value of a handle is, its properties and its elements
+abbrev pub handle_body : Heap → ℕ → Body
+handle_body heap h = body_of heap.values (handle_value heap h)
+
+abbrev pub handle_properties : Heap → ℕ → List Property
+handle_properties heap h = properties_of heap.values (handle_value heap h)
+
+abbrev pub handle_elements : Heap → ℕ → List (Option ℕ)
+handle_elements heap h = elements_of heap.values (handle_value heap h)
+
+-- a new handle of a value in the innermost scope
+abbrev pub with_handle : ℕ → Heap → Heap
+with_handle v heap = record heap { handles = heap.handles + 1; scopes = first_changed (hold_in (record { handle = heap.handles + 1; value = v })) heap.scopes }
+
+-- the answer is a new handle of a value
+abbrev pub handle_of : ℕ → Heap → Answer Heap
+handle_of v heap = answered (out.Handle (record { 0 = heap.handles + 1 })) (with_handle v heap)
+
+-- a value with the next creation number
+abbrev pub with_value : Body → Heap → Heap
+with_value b heap = record heap { values = heap.values ++ fresh_value (heap.made + 1) b ∷ []; made = heap.made + 1 }
+
+-- a new value and its handle
+abbrev pub new_value : Body → Heap → Answer Heap
+new_value b heap = handle_of (heap.made + 1) (with_value b heap)
+
+-- new values of these bodies, one after another, then an array of them
+abbrev pub with_list : List Body → Heap → Heap
+with_list bs heap = record heap { values = heap.values ++ list_of heap.made bs; made = heap.made + length bs + 1 }
+
+-- a new array of new values of these bodies, and its handle
+abbrev pub new_list : List Body → Heap → Answer Heap
+new_list bs heap = handle_of (heap.made + length bs + 1) (with_list bs heap)
+
+-- the value of a handle changed so
+abbrev pub with_changed : ℕ → (Value → Value) → Heap → Heap
+with_changed h change heap = record heap { values = value_changed (handle_value heap h) change heap.values }
+
+-- the innermost frame's scopes changed so
+abbrev pub in_scopes : (FrameScopes → FrameScopes) → Heap → Heap
+in_scopes change heap = record heap { scopes = first_changed change heap.scopes }
+
+-- a frame begins inside the innermost one, with a scope of its own
+abbrev pub frame_entered : Heap → Heap
+frame_entered heap = record heap { scopes = no_handles ∷ heap.scopes }
+
+-- the innermost frame is gone, with all its scopes
+abbrev pub frame_left : Heap → Heap
+frame_left heap = record heap { scopes = tail heap.scopes }

@@ -1,0 +1,12 @@
+-- What the calls of no group answer where nothing refuses them.
+use Rattle.std.specs.Prelude.{Option, Some, None}
+use Rattle.napi_types.specs.declared.call.Call.{Call}
+use Rattle.napi_types.specs.declared.call.Call.TheVariants as call
+use Rattle.napi_types.specs.declared.entry.Out.TheVariants as out
+use Rattle.napi_types.specs.Heap.{Heap}
+use Rattle.napi_types.specs.Replies.{Answer, answered}
+
+-- `get_version` tells the version of Node-API
+abbrev pub on_others : Heap → Call → Option (Answer Heap)
+on_others heap call.GetVersion = Some (answered (out.Unsigned 9) heap)
+on_others heap _ = None

@@ -1,0 +1,24 @@
+-- Replies, and what a call answers and leaves.
+use Rattle.std.specs.Prelude.{None}
+use Rattle.napi_types.specs.declared.status.Status.{Status}
+use Rattle.napi_types.specs.declared.status.Status.TheVariants as status
+use Rattle.napi_types.specs.declared.entry.Out.{Out}
+use Rattle.napi_types.specs.declared.entry.Out.TheVariants as out
+use Rattle.napi_types.specs.declared.entry.Reply.{Reply}
+
+-- a reply that neither withdraws nor makes a duty
+abbrev pub plain : Status → Out → Reply
+plain s o = record { status = s; out = o; dropped = None; made = None }
+
+-- what a call answers, and what it leaves of a state
+pub record Answer (S : Type 0) : Type 0 where
+  pub reply : Reply
+  pub after : S
+
+-- a call that is accepted
+abbrev pub answered : {S : Type 0} → Out → S → Answer S
+answered o after = record { reply = plain status.Ok o; after = after }
+
+-- a call that is refused leaves everything as it was
+abbrev pub refused : {S : Type 0} → Status → S → Answer S
+refused s before = record { reply = plain s out.Nothing; after = before }

@@ -1,0 +1,51 @@
+-- What a sink took that was given a line piece by piece.
+use Rattle.std.proofs.Common.{◌≡◌, ℕ, List, ◌++◌, Option, Some, None, Result, Ok, Err, OnErr, refl, ap, sym, ◌∙◌, append_assoc}
+use Rattle.std.specs.Io.KnownBytes.{append_known}
+use Rattle.napi_types.specs.Edge.{TookFront}
+
+-- two pieces in turn are their text
+pub both-known : (had : Option (List ℕ)) (xs ys : List ℕ) → append_known (append_known had xs) ys ≡ append_known had (xs ++ ys)
+both-known None xs ys = refl
+both-known (Some had) xs ys = ap Some (append_assoc had xs ys)
+
+-- a front of a text is a front of a longer one
+pub front-longer : (had has : Option (List ℕ)) (xs ys : List ℕ) → TookFront had xs has → TookFront had (xs ++ ys) has
+front-longer had has xs ys t = record {
+  front = t.front;
+  rest = t.rest ++ ys;
+  whole_is = sym (append_assoc t.front t.rest ys) ∙ ap (λ l. l ++ ys) t.whole_is;
+  took = t.took;
+}
+
+-- a front of the second piece, after the whole first one
+pub front-later : (had now has : Option (List ℕ)) (xs ys : List ℕ) → now ≡ append_known had xs → TookFront now ys has → TookFront had (xs ++ ys) has
+front-later had now has xs ys first t = record {
+  front = xs ++ t.front;
+  rest = t.rest;
+  whole_is = append_assoc xs t.front t.rest ∙ ap (λ l. xs ++ l) t.whole_is;
+  took = t.took ∙ (ap (λ o. append_known o t.front) first ∙ both-known had xs t.front);
+}
+
+-- both pieces whole
+pub pieces-known : (had now has : Option (List ℕ)) (xs ys : List ℕ) → now ≡ append_known had xs → has ≡ append_known now ys → has ≡ append_known had (xs ++ ys)
+pieces-known had now has xs ys first second = second ∙ (ap (λ o. append_known o ys) first ∙ both-known had xs ys)
+
+-- what holds anyhow holds at an error
+pub at-err : {T E : Type 0} {P : Type 0} (r : Result T E) → P → OnErr r P
+at-err (Ok x) p = tt
+at-err (Err e) p = p
+
+-- a line of three pieces that was cut off in the first, the second or the third, or written whole
+pub cut-first : (had has : Option (List ℕ)) (xs ys zs : List ℕ) → TookFront had xs has → TookFront had (xs ++ ys ++ zs) has
+cut-first had has xs ys zs t = front-longer had has (xs ++ ys) zs (front-longer had has xs ys t)
+
+pub cut-second : (had one has : Option (List ℕ)) (xs ys zs : List ℕ) → one ≡ append_known had xs → TookFront one ys has → TookFront had (xs ++ ys ++ zs) has
+cut-second had one has xs ys zs first t = front-longer had has (xs ++ ys) zs (front-later had one has xs ys first t)
+
+pub cut-third : (had one two has : Option (List ℕ)) (xs ys zs : List ℕ) → one ≡ append_known had xs → two ≡ append_known one ys → TookFront two zs has
+    → TookFront had (xs ++ ys ++ zs) has
+cut-third had one two has xs ys zs first second t = front-later had two has (xs ++ ys) zs (pieces-known had one two xs ys first second) t
+
+pub three-known : (had one two has : Option (List ℕ)) (xs ys zs : List ℕ) → one ≡ append_known had xs → two ≡ append_known one ys → has ≡ append_known two zs
+    → has ≡ append_known had (xs ++ ys ++ zs)
+three-known had one two has xs ys zs first second third = pieces-known had two has (xs ++ ys) zs (pieces-known had one two xs ys first second) third

@@ -1,0 +1,89 @@
+-- A script has eight addons at most.
+use Rattle.std.proofs.Common.{◌≡◌, ◌≤◌, ◌<◌, ◌^◌, ◌+◌, ℕ, suc, Bool, true, false, nat_le, cond, List, [], ◌∷◌, length, Option, Some, None, Ok, Err, refl, ap, sym, subst, ◌∙◌, arith}
+use Rattle.std.specs.declared.result.Result.{Result}
+use Rattle.serde_json.specs.Data.{Data, Items, item, no_items}
+use Rattle.serde_json.specs.Events.{items_len}
+use Rattle.serde_json.specs.Find.{get, as_array}
+use Rattle.std.specs.Prelude.{codes, option_and_then, IfOk}
+use Rattle.napi_types.specs.declared.script.LimitName.{LimitName}
+use Rattle.napi_types.specs.declared.script.LimitName.TheVariants as limit
+use Rattle.napi_types.specs.declared.script.Place.{Place}
+use Rattle.napi_types.specs.declared.script.Place.TheVariants as place
+use Rattle.napi_types.specs.declared.script.Script.{Script}
+use Rattle.napi_types.specs.declared.script.Wrong.{Wrong}
+use Rattle.napi_types.specs.declared.script.Wrong.TheVariants as wrong
+use Rattle.napi_types.specs.declared.lists.AddonPlan.{AddonPlan}
+use Rattle.napi_types.specs.Script.{Reading, ◌>>=◌, formed, list_at, within, each, Read, Table, read_with, addons_in, addon_at, when_formed, is_root, version_in, workers_in, threads_in, schedule_in, script_in, script, is_built_script, IsScript}
+use Rattle.script_host.specs.Host.{IsSmall}
+use Rattle.script_host.specs.declared.words.Line.{Line}
+
+-- what follows a part that was read was read too
+record Both {A B : Type 0} (r : Reading A) (f : A → Reading B) (b : B) : Type 0 where
+  pub first : A
+  pub was : r ≡ Ok first
+  pub then : f first ≡ Ok b
+
+both : {A B : Type 0} (r : Reading A) (f : A → Reading B) (b : B) → (r >>= f) ≡ Ok b → Both r f b
+both (Ok a) f b e = record { first = a; was = refl; then = e }
+both (Err w) f b e = cc
+
+each-length : {A : Type 0} (f : ℕ → Table → Data → Reading (Read A)) (n : ℕ) (table : Table) (ds : Items) (r : Read (List A)) → each f n table ds ≡ Ok r → length r.found ≡ items_len ds
+unfolding each
+each-length {A} f n table no_items r e = let same : read_with table [] ≡ r = cc in ap (λ (x : Read (List A)). length x.found) (sym same)
+each-length {A} f n table (item d ds) r e =
+    let one : Both (f n table d) _ r = both (f n table d) _ r e in
+    let rest : Both (each f (n + 1) one.first.texts ds) _ r = both (each f (n + 1) one.first.texts ds) _ r one.then in
+    let same : read_with rest.first.texts (one.first.found ∷ rest.first.found) ≡ r = cc in
+    ap (λ (x : Read (List A)). length x.found) (sym same) ∙ ap suc (each-length f (n + 1) one.first.texts ds rest.first rest.was)
+
+within-limit : (which : LimitName) (most n : ℕ) (u : Unit {0}) → within which most n ≡ Ok u → n ≤ most
+within-limit which most n u e = by (nat_le n most) refl e
+  where
+    by : (b : Bool) → nat_le n most ≡ b → cond b (Ok tt) (Err (wrong.Limit which)) ≡ Ok u → n ≤ most
+    by true h k = grind arith
+    by false h k = cc
+
+list-short : (p : Place) (which : LimitName) (most : ℕ) (found : Option Data) (ds : Items) → list_at p which most found ≡ Ok ds → items_len ds ≤ most
+unfolding list_at
+list-short p which most found ds e =
+    let items : Both (formed p (option_and_then as_array found)) _ ds = both (formed p (option_and_then as_array found)) _ ds e in
+    let short : Both (within which most (items_len items.first)) _ ds = both (within which most (items_len items.first)) _ ds items.then in
+    let same : items.first ≡ ds = cc in
+    subst (λ (l : Items). items_len l ≤ most) same (within-limit which most (items_len items.first) short.first short.was)
+
+addons-few : (found : Option Data) (r : Read (List AddonPlan)) → addons_in found ≡ Ok r → length r.found ≤ 8
+unfolding addons_in
+addons-few found r e =
+    let items : Both (list_at place.Addons limit.Addons 8 found) _ r = both (list_at place.Addons limit.Addons 8 found) _ r e in
+    let few : items_len items.first ≤ 8 = list-short place.Addons limit.Addons 8 found items.first items.was in
+    omega (arith, few, each-length addon_at 0 _ items.first r items.then)
+
+script_in-few : (d : Data) (s : Script) → script_in d ≡ Ok s → length s.addons ≤ 8
+unfolding script_in
+script_in-few d s e =
+    let root : Both (when_formed place.Root (is_root d)) _ s = both (when_formed place.Root (is_root d)) _ s e in
+    let version : Both (version_in (get (codes "version") d)) _ s = both (version_in (get (codes "version") d)) _ s root.then in
+    let workers : Both (workers_in (get (codes "workers") d)) _ s = both (workers_in (get (codes "workers") d)) _ s version.then in
+    let addons : Both (addons_in (get (codes "addons") d)) _ s = both (addons_in (get (codes "addons") d)) _ s workers.then in
+    let threads : Both (threads_in (get (codes "threads") d)) _ s = both (threads_in (get (codes "threads") d)) _ s addons.then in
+    let schedule : Both (schedule_in (length threads.first) workers.first (get (codes "schedule") d)) _ s =
+    both (schedule_in (length threads.first) workers.first (get (codes "schedule") d)) _ s threads.then in
+    let same : record { version = 9; workers = workers.first; addons = addons.first.found; threads = threads.first; schedule = schedule.first; texts = addons.first.texts } ≡ s = cc in
+    subst (λ (x : Script). length x.addons ≤ 8) same (addons-few (get (codes "addons") d) addons.first addons.was)
+
+-- of a script that is built
+pub few-addons : (d : Data) (s : Script) → script d ≡ Ok s → length s.addons ≤ 8
+unfolding script
+few-addons d s e =
+    let whole : Both (script_in d) _ s = both (script_in d) _ s e in
+    let same : whole.first ≡ s = built (is_built_script whole.first) whole.first whole.then in
+    script_in-few d s (whole.was ∙ ap Ok same)
+  where
+    built : (b : Bool) (t : Script) → cond b (Ok t) (Err wrong.Stage) ≡ Ok s → t ≡ s
+    built true t h = cc
+    built false t h = cc
+
+-- so a script that was read is one that the host can run, where its texts can be counted
+pub small-of : (bytes : List ℕ) (s : Script) (r : Result Script Line) → IsScript bytes s → IfOk r (λ t. t ≡ s) → IfOk r (λ t. length t.texts < 2 ^ 32) → IfOk r IsSmall
+small-of bytes s (Ok t) is same texts = record { few = subst (λ (x : Script). length x.addons ≤ 8) (sym same) (few-addons is.0 s is.2); texts = texts }
+small-of bytes s (Err line) is same texts = tt

@@ -1,0 +1,8 @@
+use Rattle.std.proofs.Common.{◌≡◌, drop}
+use Rattle.serde_json.specs.View.{items_view}
+use Rattle.napi_types.specs.Script.{each, entry_at}
+use Rattle.script_read.specs.Lists.{onto}
+use Rattle.script_read.proofs.addon.each_entry.Given as goal
+
+abbrev pub invariant-loop-e : goal.invariant-loop-e
+invariant-loop-e l = onto l.list.items (each (entry_at l.entries l.a) l.e l.table (items_view (drop l.e l.items))) ≡ each (entry_at l.entries l.a) 0 l.initial.table (items_view l.items)

@@ -1,5 +1,0 @@
-use Rattle.serde_json.proofs.Views.{members_len-members_view}
-use Rattle.script_read.proofs.json.has_members.Goals as goal
-
-pub returns-in-Some : goal.returns-in-Some
-returns-in-Some c = rw (← c.in-Some.ensures, c.len.ensures.len, members_len-members_view)

@@ -1,0 +1,84 @@
+//! The addons of a script.
+ghost use Rattle.std.specs.Prelude.{◌≡◌, IfOk};
+ghost use Rattle.serde_json.specs.View.{view, items_view};
+ghost use Rattle.napi_types.specs.Script.{read_with, each, entry_at, is_addon, addon_at};
+
+use crate::entry::entry_at;
+use crate::json::{Stop, has_members, list_at};
+use crate::texts::Table;
+use napi_types::{AddonPlan, LimitName, Listed, OpLists, Place, Plans, Wrong};
+use serde_json::Value;
+use std::alloc::Global;
+
+/// How many entries an addon may have.
+const MOST_ENTRIES: usize = 64;
+
+/// The entries that items are, in an addon with so many.
+fn each_entry(
+    alloc: Global,
+    entries: u32,
+    a: usize,
+    table: &mut Table,
+    items: &[Value],
+) -> Result<OpLists, Stop>
+    ensures ok { IfOk result (λ found. each (entry_at entries a) 0 table.old (items_view items.now) ≡ Ok (read_with table.new found)) }
+    ensures wrong { (w : Wrong) → result ≡ Err (Stop.Wrong w) → each (entry_at entries a) 0 table.old (items_view items.now) ≡ Err w }
+    ensures json { ¬ (result ≡ Err Stop.NotJson) }
+{
+    let mut list = Vec::new(alloc);
+    for (e, item) in items.iter().enumerate() {
+        let entry = entry_at(alloc, entries, a, e, table, item)?;
+        let Ok(()) = list.push(entry) else {
+            return Err(Stop::NoMemory);
+        };
+    }
+    Ok(Listed::of(list))
+}
+
+/// Whether a value is an object with exactly the members `name` and `entries`.
+#[tactic(auto, unfolding(napi_types::specs::Script::is_addon))]
+fn is_addon(value: &Value) -> bool
+    ensures { result ≡ is_addon (view value.now) }
+{
+    has_members(value, 2) && value.get("name").is_some() && value.get("entries").is_some()
+}
+
+/// An addon: its name, which is a text, and its entries.
+#[tactic(auto, using(crate::proofs::Lists::items_len_of), unfolding(napi_types::specs::Script::addon_at))]
+fn addon_at(alloc: Global, a: usize, table: &mut Table, value: &Value) -> Result<AddonPlan, Stop>
+    ensures ok { IfOk result (λ found. addon_at a table.old (view value.now) ≡ Ok (read_with table.new found)) }
+    ensures wrong { (w : Wrong) → result ≡ Err (Stop.Wrong w) → addon_at a table.old (view value.now) ≡ Err w }
+    ensures json { ¬ (result ≡ Err Stop.NotJson) }
+{
+    if !is_addon(value) {
+        return Err(Stop::Wrong(Wrong::Shape(Place::Addon(a))));
+    }
+    if value.get("name").and_then(Value::as_str).is_none() {
+        return Err(Stop::Wrong(Wrong::Shape(Place::Name(a))));
+    }
+    let place = Place::Entries(a);
+    let items = list_at(
+        place,
+        LimitName::Entries,
+        MOST_ENTRIES,
+        value.get("entries"),
+    )?;
+    let entries = each_entry(alloc, items.len() as u32, a, table, items)?;
+    Ok(AddonPlan { entries })
+}
+
+/// The addons that items are.
+pub(crate) fn each_addon(alloc: Global, table: &mut Table, items: &[Value]) -> Result<Plans, Stop>
+    ensures ok { IfOk result (λ found. each addon_at 0 table.old (items_view items.now) ≡ Ok (read_with table.new found)) }
+    ensures wrong { (w : Wrong) → result ≡ Err (Stop.Wrong w) → each addon_at 0 table.old (items_view items.now) ≡ Err w }
+    ensures json { ¬ (result ≡ Err Stop.NotJson) }
+{
+    let mut list = Vec::new(alloc);
+    for (a, item) in items.iter().enumerate() {
+        let addon = addon_at(alloc, a, table, item)?;
+        let Ok(()) = list.push(addon) else {
+            return Err(Stop::NoMemory);
+        };
+    }
+    Ok(Listed::of(list))
+}

@@ -1,0 +1,78 @@
+//! The entries of an addon and their operations.
+ghost use Rattle.std.specs.Prelude.{◌≡◌, IfOk, Some};
+ghost use Rattle.serde_json.specs.View.{view, items_view};
+ghost use Rattle.napi_types.specs.Script.{read_with, each, operation_at, entry_at};
+
+use crate::json::{Stop, list_at};
+use crate::operation::operation_in;
+use crate::texts::Table;
+use napi_types::{LimitName, Listed, NoMemory, Op, OpList, Place, Wrong};
+use serde_json::Value;
+use std::alloc::Global;
+
+/// How many operations an entry may have.
+const MOST_OPERATIONS: usize = 4096;
+
+/// An operation of an entry.
+#[tactic(auto, unfolding(napi_types::specs::Script::operation_at))]
+fn operation_at(
+    alloc: Global,
+    entries: u32,
+    a: usize,
+    e: usize,
+    o: usize,
+    table: &mut Table,
+    value: &Value,
+) -> Result<Op, Stop>
+    ensures ok { IfOk result (λ found. operation_at entries a e o table.old (view value.now) ≡ Ok (read_with table.new found)) }
+    ensures wrong { (w : Wrong) → result ≡ Err (Stop.Wrong w) → operation_at entries a e o table.old (view value.now) ≡ Err w }
+    ensures json { ¬ (result ≡ Err Stop.NotJson) }
+{
+    match operation_in(alloc, entries, table, value) {
+        Ok(Some(operation)) => Ok(operation),
+        Ok(None) => Err(Stop::Wrong(Wrong::Shape(Place::Operation(a, e, o)))),
+        Err(NoMemory) => Err(Stop::NoMemory),
+    }
+}
+
+/// The operations that items are.
+fn each_operation(
+    alloc: Global,
+    entries: u32,
+    a: usize,
+    e: usize,
+    table: &mut Table,
+    items: &[Value],
+) -> Result<OpList, Stop>
+    ensures ok { IfOk result (λ found. each (operation_at entries a e) 0 table.old (items_view items.now) ≡ Ok (read_with table.new found)) }
+    ensures wrong { (w : Wrong) → result ≡ Err (Stop.Wrong w) → each (operation_at entries a e) 0 table.old (items_view items.now) ≡ Err w }
+    ensures json { ¬ (result ≡ Err Stop.NotJson) }
+{
+    let mut list = Vec::new(alloc);
+    for (o, item) in items.iter().enumerate() {
+        let operation = operation_at(alloc, entries, a, e, o, table, item)?;
+        let Ok(()) = list.push(operation) else {
+            return Err(Stop::NoMemory);
+        };
+    }
+    Ok(Listed::of(list))
+}
+
+/// An entry of an addon with so many entries.
+#[tactic(auto, unfolding(napi_types::specs::Script::entry_at))]
+pub(crate) fn entry_at(
+    alloc: Global,
+    entries: u32,
+    a: usize,
+    e: usize,
+    table: &mut Table,
+    value: &Value,
+) -> Result<OpList, Stop>
+    ensures ok { IfOk result (λ found. entry_at entries a e table.old (view value.now) ≡ Ok (read_with table.new found)) }
+    ensures wrong { (w : Wrong) → result ≡ Err (Stop.Wrong w) → entry_at entries a e table.old (view value.now) ≡ Err w }
+    ensures json { ¬ (result ≡ Err Stop.NotJson) }
+{
+    let place = Place::Entry(a, e);
+    let items = list_at(place, LimitName::Operations, MOST_OPERATIONS, Some(value))?;
+    each_operation(alloc, entries, a, e, table, items)
+}

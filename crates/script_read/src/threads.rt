@@ -1,0 +1,129 @@
+//! The threads of a script and their operations.
+ghost use Rattle.std.specs.Prelude.{◌≡◌, IfOk};
+ghost use Rattle.serde_json.specs.View.{view, items_view};
+ghost use Rattle.napi_types.specs.Script.{every, thread_operation_at, thread_at};
+ghost use Rattle.napi_types.specs.ScriptOperations.{thread_acquire, thread_release, thread_call, thread_operation_named, thread_operation};
+
+use crate::arguments::{mode, release, whole};
+use crate::json::{Stop, list_at};
+use crate::named::named;
+use napi_types::{LimitName, Listed, Op, OpList, OpLists, Place, Wrong};
+use serde_json::Value;
+use std::alloc::Global;
+
+/// How many operations a thread may have.
+const MOST_OPERATIONS: usize = 16_384;
+
+/// A thread's acquiring of a function, by the function's own number.
+#[tactic(auto, unfolding(napi_types::specs::ScriptOperations::thread_acquire))]
+fn thread_acquire(name: &str, a: &Value) -> Option<Op>
+    ensures { result ≡ thread_acquire name.now (view a.now) }
+{
+    let x = whole(a)?;
+    named(name, &[Op::ThreadAcquire(x)])
+}
+
+/// A thread's release of a function.
+#[tactic(auto, unfolding(napi_types::specs::ScriptOperations::thread_release))]
+fn thread_release(name: &str, a: &Value, b: &Value) -> Option<Op>
+    ensures { result ≡ thread_release name.now (view a.now) (view b.now) }
+{
+    let x = whole(a)?;
+    let y = release(b)?;
+    named(name, &[Op::ThreadRelease(x, y)])
+}
+
+/// A thread's call of a function.
+#[tactic(auto, unfolding(napi_types::specs::ScriptOperations::thread_call))]
+fn thread_call(name: &str, a: &Value, b: &Value, c: &Value) -> Option<Op>
+    ensures { result ≡ thread_call name.now (view a.now) (view b.now) (view c.now) }
+{
+    let x = whole(a)?;
+    let y = whole(b)?;
+    let z = mode(c)?;
+    named(name, &[Op::ThreadCall(x, y, z)])
+}
+
+/// The operation of a thread of this name with these arguments.
+#[tactic(auto, unfolding(napi_types::specs::ScriptOperations::thread_operation_named))]
+fn thread_operation_named(name: &str, args: &[Value]) -> Option<Op>
+    ensures { result ≡ thread_operation_named name.now (items_view args.now) }
+{
+    match args {
+        [a] => thread_acquire(name, a),
+        [a, b] => thread_release(name, a, b),
+        [a, b, c] => thread_call(name, a, b, c),
+        _ => None,
+    }
+}
+
+/// The operation of a thread that a value is.
+#[tactic(auto, unfolding(napi_types::specs::ScriptOperations::thread_operation))]
+fn thread_operation(value: &Value) -> Option<Op>
+    ensures { result ≡ thread_operation (view value.now) }
+{
+    match value {
+        Value::Array(items) => match items.as_slice() {
+            [Value::String(name), args @ ..] => thread_operation_named(name.as_str(), args),
+            _ => None,
+        },
+        _ => None,
+    }
+}
+
+/// An operation of a thread.
+#[tactic(auto, unfolding(napi_types::specs::Script::thread_operation_at))]
+fn thread_operation_at(t: usize, o: usize, value: &Value) -> Result<Op, Stop>
+    ensures ok { IfOk result (λ found. thread_operation_at t o (view value.now) ≡ Ok found) }
+    ensures wrong { (w : Wrong) → result ≡ Err (Stop.Wrong w) → thread_operation_at t o (view value.now) ≡ Err w }
+    ensures json { ¬ (result ≡ Err Stop.NotJson) }
+{
+    match thread_operation(value) {
+        Some(operation) => Ok(operation),
+        None => Err(Stop::Wrong(Wrong::Shape(Place::ThreadOperation(t, o)))),
+    }
+}
+
+/// The operations that items are.
+fn each_operation(alloc: Global, t: usize, items: &[Value]) -> Result<OpList, Stop>
+    ensures ok { IfOk result (λ found. every (thread_operation_at t) 0 (items_view items.now) ≡ Ok found) }
+    ensures wrong { (w : Wrong) → result ≡ Err (Stop.Wrong w) → every (thread_operation_at t) 0 (items_view items.now) ≡ Err w }
+    ensures json { ¬ (result ≡ Err Stop.NotJson) }
+{
+    let mut list = Vec::new(alloc);
+    for (o, item) in items.iter().enumerate() {
+        let operation = thread_operation_at(t, o, item)?;
+        let Ok(()) = list.push(operation) else {
+            return Err(Stop::NoMemory);
+        };
+    }
+    Ok(Listed::of(list))
+}
+
+/// A thread.
+#[tactic(auto, unfolding(napi_types::specs::Script::thread_at))]
+fn thread_at(alloc: Global, t: usize, value: &Value) -> Result<OpList, Stop>
+    ensures ok { IfOk result (λ found. thread_at t (view value.now) ≡ Ok found) }
+    ensures wrong { (w : Wrong) → result ≡ Err (Stop.Wrong w) → thread_at t (view value.now) ≡ Err w }
+    ensures json { ¬ (result ≡ Err Stop.NotJson) }
+{
+    let place = Place::Thread(t);
+    let items = list_at(place, LimitName::Operations, MOST_OPERATIONS, Some(value))?;
+    each_operation(alloc, t, items)
+}
+
+/// The threads that items are.
+pub(crate) fn each_thread(alloc: Global, items: &[Value]) -> Result<OpLists, Stop>
+    ensures ok { IfOk result (λ found. every thread_at 0 (items_view items.now) ≡ Ok found) }
+    ensures wrong { (w : Wrong) → result ≡ Err (Stop.Wrong w) → every thread_at 0 (items_view items.now) ≡ Err w }
+    ensures json { ¬ (result ≡ Err Stop.NotJson) }
+{
+    let mut list = Vec::new(alloc);
+    for (t, item) in items.iter().enumerate() {
+        let thread = thread_at(alloc, t, item)?;
+        let Ok(()) = list.push(thread) else {
+            return Err(Stop::NoMemory);
+        };
+    }
+    Ok(Listed::of(list))
+}

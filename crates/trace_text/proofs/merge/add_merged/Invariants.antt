@@ -1,0 +1,18 @@
+use Rattle.std.proofs.Common.{◌≡◌, ◌+◌, ◌≤◌, length, drop}
+use Rattle.napi_types.specs.Text.{lines_from, text}
+use Rattle.napi_types.specs.Weave.{weave}
+use Rattle.trace_text.specs.Merging.{RisesBetween, unwoven}
+use Rattle.trace_text.specs.Writing.{Owes, stand}
+use Rattle.trace_text.proofs.merge.add_merged.Given as goal
+
+abbrev pub invariant-loop-line : goal.invariant-loop-line
+invariant-loop-line g l = record {
+  rises : RisesBetween l.passed.shared (length l.history) (drop l.passed.locals l.journal);
+  within : l.passed.locals ≤ length l.journal;
+  count : l.passed.locals + l.passed.shared ≡ l.line;
+  owes : Owes
+      (stand (g.K.Sink.taken l.fn.sink) (g.K.Sink.faults l.fn.sink) l.fn.pending)
+      (text l.texts (weave l.journal l.history))
+      (stand (g.K.Sink.taken l.sink) (g.K.Sink.faults l.sink) l.pending)
+      (lines_from l.texts (l.line + 1) (unwoven l.journal l.history l.passed.locals l.passed.shared));
+}

@@ -1,0 +1,14 @@
+use Rattle.std.proofs.Common.{sym, ap, ◌++◌}
+use Rattle.trace_text.proofs.Adding.{adds_held, adds_written, adds_cut}
+use Rattle.trace_text.proofs.pending.add_first.Goals as goal
+
+pub returns-then-has_room : goal.returns-then-has_room
+returns-then-has_room g c = adds_held _ _ _ _ _ (sym c.if-has_failed.ensures.failed) c.hold.ensures
+
+pub returns-in-Ok : goal.returns-in-Ok
+returns-in-Ok g c = adds_written _ _ _ _ _ _ _ _ (sym c.if-has_failed.ensures.failed) c.clear.ensures
+    (ap (λ held. held ++ c.args.bytes.now) (sym c.requires)) c.in-Ok.ensures.ok c.put_all.ensures.faults
+
+pub returns-in-Err : goal.returns-in-Err
+returns-in-Err g c = adds_cut _ _ _ _ _ _ _ _ (sym c.if-has_failed.ensures.failed) c.clear-in-Err.ensures
+    (ap (λ held. held ++ c.args.bytes.now) (sym c.requires)) c.in-Err.ensures.err c.put_all.ensures.faults c.in-Err.ensures.failed

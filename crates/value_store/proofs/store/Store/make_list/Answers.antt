@@ -1,0 +1,14 @@
+use Rattle.std.proofs.Common.{rules, ◌≡◌, length}
+use Rattle.value_store.proofs.Listing.{listed, listed-graph, listed-numbered}
+use Rattle.value_store.proofs.store.Store.make_list.Goals as goal
+
+pub invariant_of-self-2 : goal.invariant_of-self-2
+invariant_of-self-2 c = listed-numbered c.self.inside.values.items c.push_list.new.values.items c.args.self.now c.self.view_is c.self.invariant c.args.bodies.now c.in_ok-push_list.ensures.listed
+
+pub returns-clause-listed : goal.returns-clause-listed
+returns-clause-listed c =
+    let many : c.len.result ≡ length c.push_list.new.values.items = search rules in
+    rw many (listed c.self.inside.values.items c.push_list.new.values.items c.args.self.now c.self.view_is c.self.invariant c.args.bodies.now c.in_ok-push_list.ensures.listed)
+
+pub returns-clause-graph : goal.returns-clause-graph
+returns-clause-graph c = listed-graph c.self.inside.values.items c.push_list.new.values.items c.args.self.now c.self.view_is c.self.invariant c.args.bodies.now c.in_ok-push_list.ensures.listed
