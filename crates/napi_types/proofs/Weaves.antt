@@ -5,12 +5,22 @@ use Rattle.std.proofs.lemmas.List.Elements.{filter-append}
 use Rattle.std.proofs.lemmas.List.Folds.{list_all-append}
 use Rattle.napi_types.specs.declared.entry.Entry.{Entry}
 use Rattle.napi_types.specs.declared.entry.Local.{Local}
-use Rattle.napi_types.specs.Weave.{local_at, weave_from, weave, StandsWithin, is_shared, IsParted}
+use Rattle.napi_types.specs.Weave.{local_at, weave_from, weave, RisesBetween, is_shared, IsParted}
 
--- a journal stays within a longer history
-within : (n m : ℕ) (ls : List Local) → m ≤ n → StandsWithin m ls → StandsWithin n ls
-within n m [] h w = tt
-within n m (l ∷ ls) h w = (omega (arith, w.0), within n m ls h w.1)
+-- the places between which a journal rises do not fall
+pub bounds-rise : (least last : ℕ) (ls : List Local) → RisesBetween least last ls → least ≤ last
+bounds-rise least last [] rises = rises
+bounds-rise least last (l ∷ ls) rises = let from = rises.0 in let to = bounds-rise l.at last ls rises.1 in omega arith
+
+-- a journal rises within a longer history
+pub rises-more : (least m n : ℕ) (ls : List Local) → m ≤ n → RisesBetween least m ls → RisesBetween least n ls
+rises-more least m n [] h rises = omega arith
+rises-more least m n (l ∷ ls) h rises = (rises.0, rises-more l.at m n ls h rises.1)
+
+-- an entry more at the last place
+pub rises-append : (least last : ℕ) (ls : List Local) (l : Local) → l.at ≡ last → RisesBetween least last ls → RisesBetween least last (ls ++ l ∷ [])
+rises-append least last [] l here rises = (omega arith, omega arith)
+rises-append least last (k ∷ ls) l here rises = (rises.0, rises-append k.at last ls l here rises.1)
 
 -- one more entry of the journal
 local_at-append : (p : ℕ) (ls : List Local) (l : Local) → local_at p (ls ++ l ∷ []) ≡ local_at p ls ++ local_at p (l ∷ [])
@@ -34,29 +44,22 @@ local-from p ls (k ∷ ks) l h =
 pub weave-local : (ls : List Local) (ks : List Entry) (x : Entry) → weave (ls ++ record { at = length ks; entry = x } ∷ []) ks ≡ weave ls ks ++ x ∷ []
 weave-local ls ks x = local-from 0 ls ks (record { at = length ks; entry = x }) (omega arith)
 
-none-past : (p : ℕ) (ls : List Local) → StandsWithin p ls → local_at (p + 1) ls ≡ []
-none-past p [] w = refl
-none-past p (l ∷ ls) w = rw (apart w.0) (none-past p ls w.1)
+none-past : (least p : ℕ) (ls : List Local) → RisesBetween least p ls → local_at (p + 1) ls ≡ []
+none-past least p [] w = refl
+none-past least p (l ∷ ls) w = rw (apart (bounds-rise l.at p ls w.1)) (none-past l.at p ls w.1)
   where
     apart : l.at ≤ p → (l.at == p + 1) ≡ false
     apart h = grind arith
 
-shared-from : (p : ℕ) (ls : List Local) (ks : List Entry) (x : Entry) → StandsWithin (p + length ks) ls → weave_from p ls (ks ++ x ∷ []) ≡ weave_from p ls ks ++ x ∷ []
-shared-from p ls [] x w = ap (λ xs. local_at p ls ++ x ∷ xs) (none-past p ls (within p (p + 0) ls (omega arith) w))
+shared-from : (p : ℕ) (ls : List Local) (ks : List Entry) (x : Entry) → RisesBetween 0 (p + length ks) ls → weave_from p ls (ks ++ x ∷ []) ≡ weave_from p ls ks ++ x ∷ []
+shared-from p ls [] x w = ap (λ xs. local_at p ls ++ x ∷ xs) (none-past 0 p ls (rises-more 0 (p + 0) p ls (omega arith) w))
 shared-from p ls (k ∷ ks) x w =
-    ap (λ xs. local_at p ls ++ k ∷ xs) (shared-from (p + 1) ls ks x (within (p + 1 + length ks) (p + suc (length ks)) ls (omega arith) w))
+    ap (λ xs. local_at p ls ++ k ∷ xs) (shared-from (p + 1) ls ks x (rises-more 0 (p + suc (length ks)) (p + 1 + length ks) ls (omega arith) w))
     ∙ sym (append_assoc (local_at p ls) (k ∷ weave_from (p + 1) ls ks) (x ∷ []))
 
 -- an entry of the history is the weave's last
-pub weave-shared : (ls : List Local) (ks : List Entry) (x : Entry) → StandsWithin (length ks) ls → weave ls (ks ++ x ∷ []) ≡ weave ls ks ++ x ∷ []
-weave-shared ls ks x w = shared-from 0 ls ks x (within (0 + length ks) (length ks) ls (omega arith) w)
-
-pub within-more : (n : ℕ) (ls : List Local) → StandsWithin n ls → StandsWithin (n + 1) ls
-within-more n ls w = within (n + 1) n ls (omega arith) w
-
-pub within-append : (n : ℕ) (ls : List Local) (l : Local) → l.at ≤ n → StandsWithin n ls → StandsWithin n (ls ++ l ∷ [])
-within-append n [] l h w = (h, tt)
-within-append n (k ∷ ls) l h w = (w.0, within-append n ls l h w.1)
+pub weave-shared : (ls : List Local) (ks : List Entry) (x : Entry) → RisesBetween 0 (length ks) ls → weave ls (ks ++ x ∷ []) ≡ weave ls ks ++ x ∷ []
+weave-shared ls ks x w = shared-from 0 ls ks x (rises-more 0 (length ks) (0 + length ks) ls (omega arith) w)
 
 -- the two lists keep their own entries
 pub parted-local : (ls : List Local) (ks : List Entry) (l : Local) → IsParted ls ks → not (is_shared l.entry.what) ≡ true → IsParted (ls ++ l ∷ []) ks

@@ -21,10 +21,10 @@ weave_from p journal (shared ∷ later) = local_at p journal ++ shared ∷ weave
 abbrev pub weave : List Local → List Entry → List Entry
 weave journal history = weave_from 0 journal history
 
--- every entry of the journal stands at most at this length of the history
-abbrev pub StandsWithin : ℕ → List Local → Type 0
-StandsWithin n [] = Unit {0}
-StandsWithin n (local ∷ journal) = (local.at ≤ n) × StandsWithin n journal
+-- the places of a journal do not fall, and lie between these two lengths of the history
+abbrev pub RisesBetween : ℕ → ℕ → List Local → Type 0
+RisesBetween least last [] = least ≤ last
+RisesBetween least last (local ∷ journal) = (least ≤ local.at) × RisesBetween local.at last journal
 
 -- the hub's events stand in the history
 abbrev pub is_hub_event : HostStep → Bool

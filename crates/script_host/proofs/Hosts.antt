@@ -55,6 +55,7 @@ ran-of script texts handed after registers registers_after left counted enough e
       run = record {
         asks = e.asks;
         ended = e.ended;
+        rises = e.rises;
         parted = e.parted;
         agrees = λ addon below. e.agrees addon (omega (arith, length-told script.addons handed enough));
       };

@@ -17,13 +17,13 @@ use Rattle.napi_types.specs.Run.{after, IsNext}
 use Rattle.napi_types.specs.Changes.{Change, host_entry, in_phase, gone, init_begun}
 use Rattle.napi_types.specs.Registers.{blank_registers}
 use Rattle.napi_types.specs.Plan.{Plan, plan_of, registers_of, asked, registers_after, Registers, loaded_registers}
-use Rattle.napi_types.specs.Weave.{weave, StandsWithin, is_shared, is_hub_event}
+use Rattle.napi_types.specs.Weave.{weave, RisesBetween, is_shared, is_hub_event}
 use Rattle.napi_types.specs.Whole.{Setting, opening_of, RunsBy, final_of, final_registers, planned_asks}
 use Rattle.env_core.specs.Core.{Core, wrote, opened_core}
 use Rattle.napi_types.specs.Phases.{stage_of}
 use Rattle.script_host.specs.Recording.{machine_of, AgreesWhereTold, AgreesWith, IsRecorded, IsEnded}
 use Rattle.napi_types.proofs.Runs.{run-more, final-more, asked-more, registers-more}
-use Rattle.napi_types.proofs.Weaves.{weave-local, weave-shared, within-append, within-more, parted-local, parted-shared}
+use Rattle.napi_types.proofs.Weaves.{weave-local, weave-shared, rises-append, rises-more, parted-local, parted-shared}
 
 -- what one more entry makes of a run by its asks
 pub record Grown (s : Setting) (asks : List Ask) (xs : List Entry) (after : Machine) (registers : Registers) : Type 0 where
@@ -90,7 +90,7 @@ local-grown s core history all r a c own after_all next here kept count agrees s
       agrees = agrees;
       limit = r.limit;
       position = r.position;
-      within = within-append (length history) core.journal (record { at = core.position; entry = c.entry }) (omega (arith, r.position)) r.within;
+      rises = rises-append 0 (length history) core.journal (record { at = core.position; entry = c.entry }) r.position r.rises;
       parted = parted-local core.journal history (record { at = core.position; entry = c.entry }) r.parted local_one;
     }
 
@@ -114,10 +114,10 @@ shared-grown s core history all r event o p alone next shared_one =
     let st : Step = record { entry = x; after = hub_left m p; may = true } in
     let g : Grown s (r.asks ++ ask.Leave None ∷ []) (xs ++ x ∷ []) (hub_left m p) r.own =
     grow s r.asks xs m r.own (ask.Leave None) x st r.run r.final r.registers next refl refl nothing in
-    let woven : weave core.journal (history ++ x ∷ []) ≡ xs ++ x ∷ [] = weave-shared core.journal history x r.within in
+    let woven : weave core.journal (history ++ x ∷ []) ≡ xs ++ x ∷ [] = weave-shared core.journal history x r.rises in
     let longer : length (history ++ x ∷ []) ≡ length history + 1 = length-append history (x ∷ []) in
     let R : List Entry → Type 0 = λ ys. RunsBy s (r.asks ++ ask.Leave None ∷ []) ys in
-    let W : ℕ → Type 0 = λ n. StandsWithin n core.journal in
+    let U : ℕ → Type 0 = λ n. RisesBetween 0 n core.journal in
     record {
       asks = r.asks ++ ask.Leave None ∷ [];
       own = r.own;
@@ -130,7 +130,7 @@ shared-grown s core history all r event o p alone next shared_one =
       agrees = r.agrees;
       limit = r.limit;
       position = sym longer;
-      within = subst W (sym longer) (within-more (length history) core.journal r.within);
+      rises = subst U (sym longer) (rises-more 0 (length history) (length history + 1) core.journal (omega arith) r.rises);
       parted = parted-shared core.journal history x r.parted shared_one;
     }
 
@@ -182,7 +182,7 @@ opened-recorded s all blank = record {
       (get_or-map (λ (p : Plan). blank_registers) s.plans addon None [] below);
   limit = refl;
   position = refl;
-  within = (omega arith, tt);
+  rises = (omega arith, omega arith);
   parted = record { local_ones = refl; shared_ones = refl };
 }
 
@@ -202,6 +202,7 @@ gone-ended s core history all r here = record {
   ended = record { run = r.run; gone = ap (λ (m : Machine). m.env.phase) r.final ∙ here };
   locals = ap (λ (m : Machine). m.locals) r.final;
   shareds = ap (λ (m : Machine). m.shareds) r.final;
+  rises = r.rises;
   parted = r.parted;
   agrees = subst (λ (own : Registers). AgreesWith s.plans all own) (sym r.registers) r.agrees;
 }

@@ -14,7 +14,7 @@ use Rattle.napi_types.specs.Frames.{Frame}
 use Rattle.napi_types.specs.Phases.{stage_of}
 use Rattle.napi_types.specs.Machine.{Machine}
 use Rattle.napi_types.specs.Plan.{Plan, plan_of, Registers, registers_of}
-use Rattle.napi_types.specs.Weave.{weave, StandsWithin, IsParted}
+use Rattle.napi_types.specs.Weave.{weave, RisesBetween, IsParted}
 use Rattle.napi_types.specs.Whole.{Setting, RunsBy, EndsBy, final_of, final_registers}
 use Rattle.env_core.specs.Core.{Core}
 use Rattle.napi_types.specs.Room.{most_entries}
@@ -50,16 +50,17 @@ pub record IsRecorded (s : Setting) (core : Core) (history : List Entry) (all : 
   pub agrees : AgreesWith s.plans all own
   pub limit : core.limit ≡ s.limits.journal
   pub position : core.position ≡ length history
-  pub within : StandsWithin (length history) core.journal
+  pub rises : RisesBetween 0 (length history) core.journal
   pub parted : IsParted core.journal history
 
--- a run that came to its end, as it is left: the weave of the two lists is a run of the script to `gone`, each list has its own entries,
--- and the registers of the script's addons are the run's
+-- a run that came to its end, as it is left: the weave of the two lists is a run of the script to `gone`, the journal stands in the order of
+-- its places, each list has its own entries, and the registers of the script's addons are the run's
 pub record IsEnded (s : Setting) (journal : List Local) (history : List Entry) (all : Registers) : Type 0 where
   pub asks : List Ask
   pub ended : EndsBy s asks (weave journal history)
   pub locals : (final_of s asks (weave journal history)).locals ≡ length journal
   pub shareds : (final_of s asks (weave journal history)).shareds ≡ length history
+  pub rises : RisesBetween 0 (length history) journal
   pub parted : IsParted journal history
   pub agrees : AgreesWith s.plans all (final_registers s asks (weave journal history))
 

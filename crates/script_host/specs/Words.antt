@@ -34,10 +34,6 @@ limit_line limit.Schedule = codes "refused limit schedule\n"
 abbrev pub stage_line : List ℕ
 stage_line = codes "refused stage\n"
 
--- the script names more addons than were handed in
-abbrev pub too_many_addons_line : List ℕ
-too_many_addons_line = codes "refused limit addons\n"
-
 -- want of memory before the trace began
 abbrev pub no_memory_line : List ℕ
 no_memory_line = codes "out of memory\n"
@@ -57,7 +53,7 @@ line_text line.NotJson = not_json_line
 line_text (line.Shape path) = shape_line path
 line_text (line.Limit which) = limit_line which
 line_text line.Stage = stage_line
-line_text line.TooManyAddons = too_many_addons_line
+line_text line.TooManyAddons = limit_line limit.Addons
 line_text line.NoMemory = no_memory_line
 line_text line.ReadFault = read_fault_line
 line_text line.TooLong = too_long_line

@@ -25,7 +25,7 @@ pub(crate) enum Line {
     Shape(Text),
     /// They are a JSON text with more of something than a script may have.
     Limit(LimitName),
-    /// They are a script, and something in it is not built; or it has no addon, or several.
+    /// They are a script, and something in it is not built.
     Stage,
     /// The script names more addons than were handed in.
     TooManyAddons,
@@ -65,7 +65,7 @@ impl Line {
             Line::Usage => put_text(sink, "usage: napi_host run\n"),
             Line::NotJson => put_text(sink, "refused json\n"),
             Line::Stage => put_text(sink, "refused stage\n"),
-            Line::TooManyAddons => put_text(sink, "refused limit addons\n"),
+            Line::TooManyAddons => put_text(sink, limit_line(LimitName::Addons)),
             Line::NoMemory => put_text(sink, "out of memory\n"),
             Line::ReadFault => put_text(sink, "read fault\n"),
             Line::TooLong => put_text(sink, "refused length\n"),

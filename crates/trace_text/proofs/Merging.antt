@@ -5,8 +5,9 @@ use Rattle.std.proofs.Math.Seq.{drop-length}
 use Rattle.napi_types.specs.declared.entry.Entry.{Entry}
 use Rattle.napi_types.specs.declared.entry.Local.{Local}
 use Rattle.napi_types.specs.Text.{line, lines_from}
-use Rattle.napi_types.specs.Weave.{local_at, weave_from}
-use Rattle.trace_text.specs.Merging.{RisesBetween, BeginsAt, unwoven}
+use Rattle.napi_types.specs.Weave.{local_at, weave_from, RisesBetween}
+use Rattle.napi_types.proofs.Weaves.{bounds-rise}
+use Rattle.trace_text.specs.Merging.{BeginsAt, unwoven}
 use Rattle.trace_text.specs.Writing.{Adds, Owes, Stand}
 use Rattle.trace_text.proofs.Adding.{adds_none, adds_then}
 
@@ -45,11 +46,6 @@ pub shared-first : (p last : ℕ) (ls : List Local) (k : Entry) (ks : List Entry
     weave_from p ls (k ∷ ks) ≡ k ∷ weave_from (p + 1) ls ks
 shared-first p last ls k ks rises =
     ap (λ xs. xs ++ k ∷ weave_from (p + 1) ls ks) (none-below p (p + 1) last ls (omega arith) rises)
-
--- the places between which a journal rises do not fall
-pub bounds-rise : (least last : ℕ) (ls : List Local) → RisesBetween least last ls → least ≤ last
-bounds-rise least last [] rises = rises
-bounds-rise least last (l ∷ ls) rises = let from = rises.0 in let to = bounds-rise l.at last ls rises.1 in omega arith
 
 -- a journal with no entry at the place from which it rises
 pub rises-later : (p last : ℕ) (ls : List Local) → RisesBetween p last ls → (BeginsAt p ls → ⊥) → p < length ls + last →

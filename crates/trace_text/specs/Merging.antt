@@ -1,13 +1,8 @@
 -- Merging a journal whose places never fall with a history.
-use Rattle.std.specs.Prelude.{◌≡◌, ℕ, ◌≤◌, List, [], ◌∷◌, drop}
+use Rattle.std.specs.Prelude.{◌≡◌, ℕ, List, [], ◌∷◌, drop}
 use Rattle.napi_types.specs.declared.entry.Entry.{Entry}
 use Rattle.napi_types.specs.declared.entry.Local.{Local}
 use Rattle.napi_types.specs.Weave.{weave_from}
-
--- the places of a journal do not fall, and lie between these two
-abbrev pub RisesBetween : ℕ → ℕ → List Local → Type 0
-RisesBetween least last [] = least ≤ last
-RisesBetween least last (local ∷ journal) = (least ≤ local.at) × RisesBetween local.at last journal
 
 -- what is left of the weave, so many entries of the journal and of the history being passed
 abbrev pub unwoven : List Local → List Entry → ℕ → ℕ → List Entry

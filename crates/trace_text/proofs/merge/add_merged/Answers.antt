@@ -1,5 +1,6 @@
 use Rattle.std.proofs.Common.{◌≡◌, ◌+◌, length, drop, arith}
-use Rattle.trace_text.proofs.Merging.{bounds-rise, owes_line, owes_none, unwoven-end}
+use Rattle.napi_types.proofs.Weaves.{bounds-rise}
+use Rattle.trace_text.proofs.Merging.{owes_line, owes_none, unwoven-end}
 use Rattle.trace_text.proofs.merge.add_merged.Goals as goal
 
 pub loop-line-preserved : goal.loop-line-preserved

@@ -1,6 +1,7 @@
 use Rattle.std.proofs.Common.{◌+◌, length, drop, refl, arith}
 use Rattle.std.proofs.lemmas.Bool.{iff_false}
-use Rattle.trace_text.proofs.Merging.{bounds-rise, rises-local, rises-shared, unwoven-local, unwoven-shared}
+use Rattle.napi_types.proofs.Weaves.{bounds-rise}
+use Rattle.trace_text.proofs.Merging.{rises-local, rises-shared, unwoven-local, unwoven-shared}
 use Rattle.trace_text.proofs.merge.next_of.Goals as goal
 
 pub returns-then-is_local_next-clause-woven : goal.returns-then-is_local_next-clause-woven
