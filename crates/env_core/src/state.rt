@@ -169,6 +169,7 @@ impl State {
     }
 
     /// A call on values, properties or elements.
+    #[tactic(auto, using(env_values::proofs::Numbering::numbers_for_any))]
     fn value_call(&mut self, call: &Call) -> Result<Reply, NoMemory>
         requires standing { self.old.frames ≢ [] }
         requires value_call { is_value_call call.now ≡ true }

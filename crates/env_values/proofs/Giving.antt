@@ -1,21 +1,20 @@
 -- The heap where a handle is given, of a value that was there or of a new one.
-use Rattle.std.proofs.Common.{◌≡◌, ◌≢◌, ◌∙◌, ℕ, ◌+◌, ◌==◌, ◌||◌, true, false, Bool, List, [], ◌∷◌, ◌++◌, map, max, length, Option, Some, None, option_map, IsSome, ap, sym, refl, subst}
-use Rattle.std.specs.List.{All}
+use Rattle.std.proofs.Common.{◌≡◌, ◌≢◌, ◌∙◌, ℕ, ◌+◌, ◌==◌, ◌||◌, true, false, Bool, List, [], ◌∷◌, ◌++◌, map, length, Option, Some, None, option_map, IsSome, ap, sym, refl, subst}
 use Rattle.std.specs.Option.{unwrap_or}
 use Rattle.std.proofs.lemmas.List.Elements.{All-weaker}
 use Rattle.napi_types.specs.declared.body.Body.{Body}
 use Rattle.napi_types.specs.declared.entry.Out.TheVariants as out
 use Rattle.napi_types.specs.declared.ids.HandleId.{HandleId}
-use Rattle.napi_types.specs.Graph.{StoreState, IsLive, IsSound, value_of, number_in, creation_number, graph_of}
-use Rattle.napi_types.specs.Heap.{Heap, handle_of, with_handle, with_value, new_value, with_list, new_list}
+use Rattle.napi_types.specs.Graph.{StoreState, IsLive, IsSound, value_of, number_in, graph_of}
+use Rattle.napi_types.specs.Heap.{Heap, handle_of, with_handle, with_value, with_list}
 use Rattle.napi_types.specs.Lists.{first_changed, has_number}
 use Rattle.napi_types.specs.Replies.{answered}
-use Rattle.napi_types.specs.Scopes.{Held, FrameScopes, hold_in, held_by_frames}
+use Rattle.napi_types.specs.Scopes.{Held, hold_in, held_by_frames}
 use Rattle.napi_types.specs.Values.{Value, fresh_value, list_of}
-use Rattle.handle_scope.specs.HandleScopes.{HandleScopes, handle_issued, place_reserved}
+use Rattle.handle_scope.specs.HandleScopes.{HandleScopes, handle_issued}
 use Rattle.value_store.specs.Changes.{Makes, MakesList}
 use Rattle.value_store.proofs.Callers.{makes-live}
-use Rattle.env_values.specs.Seen.{seen_frame, seen_held, heap_of, HoldsLive}
+use Rattle.env_values.specs.Seen.{seen_frame, heap_of, HoldsLive}
 use Rattle.env_values.proofs.Held.{held-holds}
 use Rattle.env_values.proofs.Seen.{IsSame, seen-same, held-seen}
 

@@ -1,11 +1,10 @@
 -- What the value of a handle is to the machine.
-use Rattle.std.proofs.Common.{◌≡◌, ◌∙◌, ℕ, zero, suc, ◌==◌, Bool, cond, true, false, [], ◌∷◌, Option, Some, None, option_map, is_some, IsSome, map, List, ap, sym, refl, subst}
+use Rattle.std.proofs.Common.{◌≡◌, ◌∙◌, ℕ, zero, suc, ◌==◌, Bool, cond, true, false, [], ◌∷◌, Option, Some, None, option_map, is_some, map, List, ap, sym, refl}
 use Rattle.std.specs.Option.{unwrap_or}
-use Rattle.napi_types.specs.declared.body.Body.{Body}
 use Rattle.napi_types.specs.declared.body.Body.TheVariants as body
 use Rattle.napi_types.specs.declared.ids.ValueId.{ValueId}
 use Rattle.napi_types.specs.Graph.{StoreState, IsLive, value_of, number_in, renamed}
-use Rattle.napi_types.specs.Heap.{handle_value, handle_body, handle_properties, handle_elements}
+use Rattle.napi_types.specs.Heap.{handle_body, handle_properties, handle_elements}
 use Rattle.napi_types.specs.Lists.{found}
 use Rattle.napi_types.specs.Scopes.{FrameScopes, gives}
 use Rattle.napi_types.specs.Values.{Value, Property, value_at, undefined_value, is_object_like, property_at, element_at}

@@ -1,21 +1,18 @@
 -- The heap where the store or the scopes change.
-use Rattle.std.proofs.Common.{◌≡◌, ◌≢◌, ◌∙◌, ℕ, ◌+◌, ◌==◌, true, false, Bool, List, [], ◌∷◌, ◌++◌, map, length, Option, Some, None, option_map, IsSome, ap, sym, refl, subst}
-use Rattle.std.specs.List.{All}
+use Rattle.std.proofs.Common.{◌≡◌, ◌∙◌, ℕ, ◌==◌, true, false, Bool, Option, Some, None, option_map, ap, sym, refl}
 use Rattle.std.specs.Option.{unwrap_or}
 use Rattle.std.proofs.lemmas.List.Elements.{All-weaker}
 use borrow.Author.Tests.{eqb-true}
-use Rattle.napi_types.specs.declared.body.Body.{Body}
-use Rattle.napi_types.specs.Graph.{StoreState, IsLive, IsSound, value_of, number_in, creation_number, graph_of}
-use Rattle.napi_types.specs.Heap.{Heap, handle_value, with_handle, with_value, with_changed}
-use Rattle.napi_types.specs.Lists.{first_changed}
-use Rattle.napi_types.specs.Scopes.{Held, FrameScopes, hold_in, held_by_frames}
-use Rattle.napi_types.specs.Values.{Value, value_changed, fresh_value}
+use Rattle.napi_types.specs.Graph.{StoreState, IsLive, value_of, number_in, graph_of}
+use Rattle.napi_types.specs.Heap.{handle_value, with_changed}
+use Rattle.napi_types.specs.Scopes.{Held, held_by_frames}
+use Rattle.napi_types.specs.Values.{Value, value_changed}
 use Rattle.handle_scope.specs.HandleScopes.{HandleScopes}
-use Rattle.value_store.specs.Changes.{ChangesOnly, Makes}
-use Rattle.value_store.proofs.Callers.{changes-live, makes-live}
+use Rattle.value_store.specs.Changes.{ChangesOnly}
+use Rattle.value_store.proofs.Callers.{changes-live}
 use Rattle.value_store.proofs.Lookup.{other-number}
-use Rattle.env_values.specs.Seen.{seen_frame, seen_held, heap_of, HoldsLive}
-use Rattle.env_values.proofs.Seen.{IsSame, seen-same}
+use Rattle.env_values.specs.Seen.{heap_of, HoldsLive}
+use Rattle.env_values.proofs.Seen.{seen-same}
 
 -- ONE VALUE CHANGES
 -- a change that keeps the creation number

@@ -3,4 +3,5 @@ pub mod HandleValues
 pub mod Heaps
 pub mod Held
 pub mod Listing
+pub mod Numbering
 pub mod Seen

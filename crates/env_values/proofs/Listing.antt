@@ -1,6 +1,5 @@
 -- The names of properties, one after another.
-use Rattle.std.proofs.Common.{◌≡◌, ◌∙◌, ℕ, zero, suc, ◌+◌, List, [], ◌∷◌, ◌++◌, map, take, length, ◌≤◌, Option, Some, None, option_map, slice_get, ap, sym, refl, add-one, arith}
-use Rattle.napi_types.specs.declared.body.Body.{Body}
+use Rattle.std.proofs.Common.{◌≡◌, ℕ, zero, suc, ◌+◌, List, [], ◌∷◌, ◌++◌, map, take, length, ◌≤◌, Some, option_map, slice_get, ap, refl, add-one, arith}
 use Rattle.napi_types.specs.declared.body.Body.TheVariants as body
 use Rattle.napi_types.specs.declared.ids.TextNo.{TextNo}
 use Rattle.napi_types.specs.Graph.{StoreState}

@@ -1,5 +1,5 @@
 -- The heap of the machine that a store of values and handle scopes stand for.
-use Rattle.std.specs.Prelude.{ℕ, List, map}
+use Rattle.std.specs.Prelude.{map}
 use Rattle.std.specs.List.{All}
 use Rattle.napi_types.specs.Graph.{StoreState, IsLive, number_in, graph_of}
 use Rattle.napi_types.specs.Heap.{Heap}

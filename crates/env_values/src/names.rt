@@ -4,6 +4,7 @@ ghost use Rattle.napi_types.specs.Heap.{new_list};
 ghost use Rattle.napi_types.specs.PropertyCalls.{names_of};
 ghost use Rattle.napi_types.specs.Values.{most_names};
 ghost use Rattle.value_store.specs.Changes.{properties_in};
+ghost use Rattle.env_values.specs.Numbering.{HasNumbersLeft};
 ghost use Rattle.env_values.specs.Seen.{heap_of, HoldsLive};
 ghost use Rattle.env_values.specs.Steps.{Comes, Gives};
 
@@ -48,7 +49,7 @@ fn give_list(store: &mut Store, scopes: &mut Scopes, bodies: &[Body]) -> Result<
     requires count { length bodies.now ≤ most_names }
     requires standing { scopes.old.frames ≢ [] }
     requires live { HoldsLive store.old scopes.old }
-    requires values { store.old.made + most_names + 8 < 2 ^ 48 }
+    requires values { store.old.made + length bodies.now + 2 < 2 ^ 48 }
     requires handles { scopes.old.handles < 2 ^ 62 }
     ensures gives { let before = heap_of store.old scopes.old in
         Gives (new_list bodies.now before) before result (heap_of store.new scopes.new) }
@@ -70,7 +71,7 @@ pub(crate) fn get_property_names(
 ) -> Result<Out, Stop>
     requires standing { scopes.old.frames ≢ [] }
     requires live { HoldsLive store.old scopes.old }
-    requires values { store.old.made + most_names + 8 < 2 ^ 48 }
+    requires values { HasNumbersLeft store.old }
     requires handles { scopes.old.handles < 2 ^ 62 }
     ensures comes { let before = heap_of store.old scopes.old in
         Comes texts before (Call.GetPropertyNames object) result (heap_of store.new scopes.new) }

@@ -4,7 +4,8 @@ ghost use Rattle.napi_types.specs.Built.{is_value_call};
 ghost use Rattle.napi_types.specs.Calls.{answer_in};
 ghost use Rattle.napi_types.specs.Room.{is_growing};
 ghost use Rattle.napi_types.specs.Replies.{plain as plain_reply};
-ghost use Rattle.napi_types.specs.Values.{most_names, true_value, false_value};
+ghost use Rattle.napi_types.specs.Values.{true_value, false_value};
+ghost use Rattle.env_values.specs.Numbering.{HasNumbersLeft};
 ghost use Rattle.env_values.specs.Seen.{heap_of, HoldsLive};
 ghost use Rattle.env_values.specs.Steps.{Comes};
 
@@ -44,6 +45,7 @@ fn place_of(flag: bool) -> u32
 }
 
 /// What a call comes to.
+#[tactic(auto, using(crate::proofs::Numbering::number_left))]
 fn outcome(
     alloc: Global,
     store: &mut Store,
@@ -54,7 +56,7 @@ fn outcome(
     requires value_call { is_value_call call.now ≡ true }
     requires standing { scopes.old.frames ≢ [] }
     requires live { HoldsLive store.old scopes.old }
-    requires values { store.old.made + most_names + 8 < 2 ^ 48 }
+    requires values { HasNumbersLeft store.old }
     requires handles { scopes.old.handles < 2 ^ 62 }
     ensures comes { let before = heap_of store.old scopes.old in
         Comes texts before call.now result (heap_of store.new scopes.new) }
@@ -131,7 +133,7 @@ pub fn value_step(
     requires value_call { is_value_call call.now ≡ true }
     requires standing { scopes.old.frames ≢ [] }
     requires live { HoldsLive store.old scopes.old }
-    requires values { store.old.made + most_names + 8 < 2 ^ 48 }
+    requires values { HasNumbersLeft store.old }
     requires handles { scopes.old.handles < 2 ^ 62 }
     ensures reply { IfOk result (λ reply. reply ≡ (answer_in texts (heap_of store.old scopes.old) call.now 0).reply) }
     ensures after { OnOk result (heap_of store.new scopes.new ≡ (answer_in texts (heap_of store.old scopes.old) call.now 0).after) }

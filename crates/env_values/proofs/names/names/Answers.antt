@@ -1,6 +1,5 @@
-use Rattle.std.proofs.Common.{◌≡◌, ◌≤◌, ◌∙◌, ◌++◌, ◌∷◌, [], length, ap, sym, arith}
+use Rattle.std.proofs.Common.{◌≤◌, ◌∙◌, ◌++◌, ◌∷◌, [], length, ap, sym, arith}
 use Rattle.napi_types.specs.declared.body.Body.TheVariants as body
-use Rattle.napi_types.specs.PropertyCalls.{names_of}
 use Rattle.value_store.specs.Changes.{properties_in}
 use Rattle.env_values.proofs.Listing.{name-more, all-names}
 use Rattle.env_values.proofs.names.names.Goals as goal

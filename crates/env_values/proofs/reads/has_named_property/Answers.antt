@@ -1,5 +1,4 @@
-use Rattle.std.proofs.Common.{◌≡◌, ◌∙◌, ℕ, true, Option, None, Some, option_map, is_some, ap, sym, refl}
-use Rattle.napi_types.specs.Graph.{number_in}
+use Rattle.std.proofs.Common.{◌≡◌, ◌∙◌, true, is_some, ap, sym, refl}
 use Rattle.napi_types.specs.Heap.{handle_body}
 use Rattle.napi_types.specs.Replies.{answered}
 use Rattle.napi_types.specs.declared.entry.Out.TheVariants as out
