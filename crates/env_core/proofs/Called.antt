@@ -1,5 +1,5 @@
 -- A call's entry, and the environment after it, from their parts.
-use Rattle.std.proofs.Common.{◌≡◌, ◌∙◌, ℕ, length, refl, ap, None, ◌≢◌, ◌+◌, List, [], ◌∷◌, sym}
+use Rattle.std.proofs.Common.{◌≡◌, ◌∙◌, ℕ, length, refl, ap, None, ◌≢◌, ◌+◌, List, [], ◌∷◌, arith}
 use Rattle.napi_types.specs.declared.call.Call.{Call}
 use Rattle.napi_types.specs.declared.entry.Reply.{Reply}
 use Rattle.napi_types.specs.declared.entry.Actor.TheVariants as actor
@@ -9,7 +9,7 @@ use Rattle.napi_types.specs.Environment.{Environment}
 use Rattle.napi_types.specs.Calls.{answer}
 use Rattle.napi_types.specs.Changes.{asks_made, noted, called}
 use Rattle.napi_types.specs.Frames.{Frame}
-use Rattle.napi_types.specs.Lists.{first_changed}
+use Rattle.napi_types.specs.Lists.{first_changed, tail}
 use Rattle.napi_types.proofs.Answers.{called-keeps}
 
 abbrev pub told_entry : ℕ → ℕ → Call → Reply → Entry
@@ -24,20 +24,24 @@ pub after-called : (e mid new : Environment) (c : Call) (n : ℕ) (r : Reply)
     → r ≡ (answer e c n).reply → mid ≡ (answer e c n).after → new ≡ noted r.status mid → new ≡ (called e c n).after
 after-called e mid new c n r q m h = h ∙ ap (λ x. noted x.status mid) q ∙ ap (λ x. noted (answer e c n).reply.status x) m
 
+-- one frame stands
+pub stands-alone : (fs : List Frame) → length fs ≡ 1 → fs ≢ []
+stands-alone [] alone = absurd (omega arith)
+stands-alone (f ∷ fs) alone = λ none. cc
+
+-- it ends, and none stands
+pub none-left : (fs : List Frame) → length fs ≡ 1 → tail fs ≡ []
+none-left [] alone = refl
+none-left (f ∷ []) alone = refl
+none-left (f ∷ g ∷ fs) alone = absurd (omega arith)
+
 -- a call leaves its frame, with one ask more
-bare : (fs : List Frame) → length fs ≡ 0 → fs ≡ []
-bare [] h = refl
-bare (f ∷ fs) h = cc
-
-frames-stand : (old new : List Frame) → length new ≡ length old → old ≢ [] → new ≢ []
-frames-stand old new e stands = λ h. stands (bare old (sym e ∙ ap length h))
-
 asks-counted : (fs : List Frame) → fs ≢ [] → asks_made (first_changed (λ f. record f { asks = f.asks + 1 }) fs) ≡ asks_made fs + 1
 asks-counted [] stands = absurd (stands refl)
 asks-counted (f ∷ fs) stands = refl
 
-pub stands-called : (e : Environment) (c : Call) (n : ℕ) → e.frames ≢ [] → (called e c n).after.frames ≢ []
-stands-called e c n stands = frames-stand e.frames (called e c n).after.frames (called-keeps e c n).depth stands
+pub depth-called : (e : Environment) (c : Call) (n : ℕ) → length (called e c n).after.frames ≡ length e.frames
+depth-called e c n = (called-keeps e c n).depth
 
 pub asks-called : (e : Environment) (c : Call) (n : ℕ) → e.frames ≢ [] → asks_made (called e c n).after.frames ≡ asks_made e.frames + 1
 asks-called e c n stands = asks-counted e.frames stands

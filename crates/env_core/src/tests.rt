@@ -1,5 +1,5 @@
 //! Calls of an init frame, with memory at hand.
-ghost use Rattle.std.specs.Prelude.{◌≡◌, ◌≢◌, ◌+◌, ◌≤◌, ◌<◌, [], length, IfOk, OnOk};
+ghost use Rattle.std.specs.Prelude.{◌≡◌, ◌+◌, ◌*◌, ◌≤◌, ◌<◌, length, IfOk, OnOk};
 ghost use Rattle.napi_types.specs.Changes.{asks_made, most_asks};
 ghost use Rattle.napi_types.specs.Room.{most_entries};
 
@@ -9,14 +9,17 @@ use std::alloc::Global;
 use std::process::Abort;
 use std::test::Fail;
 
-/// An environment in the init frame of its only addon.
-fn in_frame(alloc: Global, limits: Limits) -> Result<EnvCore, Fail>
-    requires room { 4 ≤ limits.journal }
+/// An environment in the init frame of its first addon, where there are so many addons and texts.
+fn in_frame(alloc: Global, addons: u32, texts: u32, limits: Limits) -> Result<EnvCore, Fail>
+    requires some { 0 < addons }
+    requires room { 2 + 2 * addons ≤ limits.journal }
     requires most { limits.journal ≤ most_entries }
-    ensures standing { IfOk result (λ core. core.env.frames ≢ []) }
+    ensures depth { IfOk result (λ core. length core.env.frames ≡ 1) }
     ensures asks { IfOk result (λ core. asks_made core.env.frames ≡ 0) }
+    ensures inits { IfOk result (λ core. core.env.inits ≡ 1) }
+    ensures addons { IfOk result (λ core. core.env.addons ≡ addons) }
 {
-    let Ok(mut core) = EnvCore::new(alloc, 9, 1, 3, limits) else {
+    let Ok(mut core) = EnvCore::new(alloc, 9, addons, texts, limits) else {
         return Err(Fail::new("the environment found no memory"));
     };
     core.begin_init(0);
@@ -25,11 +28,13 @@ fn in_frame(alloc: Global, limits: Limits) -> Result<EnvCore, Fail>
 
 /// The reply to a call of the frame.
 fn reply_to(core: &mut EnvCore, step: u32, call: Call) -> Result<Reply, Fail>
-    requires standing { core.old.env.frames ≢ [] }
+    requires depth { length core.old.env.frames ≡ 1 }
     requires ask { step ≡ asks_made core.old.env.frames }
     requires within { step < most_asks }
-    ensures standing { OnOk result (core.new.env.frames ≢ []) }
+    ensures depth { OnOk result (length core.new.env.frames ≡ 1) }
     ensures asks { OnOk result (asks_made core.new.env.frames ≡ step + 1) }
+    ensures inits { OnOk result (core.new.env.inits ≡ core.old.env.inits) }
+    ensures addons { OnOk result (core.new.env.addons ≡ core.old.env.addons) }
 {
     if !call.is_built() {
         return Err(Fail::new("the call is not built"));
@@ -70,7 +75,15 @@ fn compare(rt: &impl Abort, alloc: Global, rows: &[Row]) -> Result<(), Fail>
         journal: 1024,
         history: 16,
     };
-    let mut core = in_frame(alloc, limits)?;
+    compare_in(rt, in_frame(alloc, 1, 3, limits)?, rows)
+}
+
+/// Makes the calls of the rows in a frame that made none, and compares what they answer.
+fn compare_in(rt: &impl Abort, mut core: EnvCore, rows: &[Row]) -> Result<(), Fail>
+    requires few { length rows.now < most_asks }
+    requires depth { length core.env.frames ≡ 1 }
+    requires asks { asks_made core.env.frames ≡ 0 }
+{
     for (step, (call, status, result)) in rows.iter().enumerate() {
         let reply = reply_to(&mut core, step as u32, *call)?;
         assert_eq!(rt; reply.status.number(), *status, "at row {step}");
@@ -84,6 +97,7 @@ fn close(number: u64) -> Call {
 }
 
 mod creates;
+mod many_names;
 mod properties;
 mod reads;
 
@@ -111,7 +125,7 @@ fn a_full_journal_stops_the_second_call(rt: HostRuntime) -> Result<(), Fail> {
         journal: 5,
         history: 16,
     };
-    let mut core = in_frame(rt.alloc(), limits)?;
+    let mut core = in_frame(rt.alloc(), 1, 3, limits)?;
     let first = reply_to(&mut core, 0, Call::GetUndefined)?;
     assert_eq!(rt; first.status.number(), 0);
     assert_eq!(rt; told(first.out), ("handle", 1));

@@ -1,6 +1,5 @@
 //! The calls on properties and elements: accepted, and refused for an unknown handle or text, a value that is no object, and an
-//! index too great. The texts 0, 1 and 2 are names; 3 is past the table. That an object with too many names is refused is
-//! tested in `env_values`, since a frame makes too few asks to set them.
+//! index too great. The texts 0, 1 and 2 are names; 3 is past the table. An object with too many names is a row of `many_names`.
 use super::compare;
 use napi_types::{Call, HandleId, TextNo};
 use std::test::Fail;
