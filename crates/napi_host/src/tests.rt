@@ -43,6 +43,14 @@ const THREE_ADDONS: &[u8] =
 const THREE_ADDONS_TRACE: &[u8] =
     b"1 env opened 0 9\n2 env begin 0 init:0.0\n3 env create_object 0 handle\n4 env end 0 -\n5 env begin 0 init:1.0\n6 env get_version 0 9\n7 env typeof 1 -\n8 env end 0 -\n9 env begin 0 init:2.0\n10 env end 0 -\n11 env go 0 -\n12 env loop_end 0 idle\n13 env drain 0 0\n14 env finals 0 -\n15 env gone 0 -\n";
 
+/// Two addons: the first one leaves with the handle of its object, and with a third operation behind; the second one leaves with a
+/// register that holds no handle.
+const RETURNS: &[u8] =
+    br#"{"version":9,"workers":0,"addons":[{"name":"a","entries":[[["create_object",1],["return",1],["get_null",2]]]},{"name":"b","entries":[[["return",31]]]}],"threads":[]}"#;
+
+const RETURNS_TRACE: &[u8] =
+    b"1 env opened 0 9\n2 env begin 0 init:0.0\n3 env create_object 0 handle\n4 env end 0 -\n5 env begin 0 init:1.0\n6 env end 0 -\n7 env go 0 -\n8 env loop_end 0 idle\n9 env drain 0 0\n10 env finals 0 -\n11 env gone 0 -\n";
+
 /// The most bytes that a source may give.
 const LONGEST: usize = 4_194_304;
 
@@ -100,10 +108,10 @@ fn said(alloc: Global, words: &[&str]) -> Result<Vec<Text>, Fail> {
     Ok(texts)
 }
 
-/// A script followed by spaces, up to so many bytes.
-fn padded(alloc: Global, length: usize) -> Result<Vec<u8>, Fail> {
-    let mut bytes = Vec::from_slice(alloc, FIRST_RUN)?;
-    for _ in FIRST_RUN.len()..length {
+/// A text followed by spaces, up to so many bytes.
+fn padded(alloc: Global, text: &[u8], length: usize) -> Result<Vec<u8>, Fail> {
+    let mut bytes = Vec::from_slice(alloc, text)?;
+    for _ in text.len()..length {
         bytes.push(b' ')?;
     }
     Ok(bytes)
@@ -120,6 +128,7 @@ fn prints_the_worked_rows(rt: HostRuntime) -> Result<(), Fail> {
         (EMPTY, EMPTY_TRACE),
         (NAMES, NAMES_TRACE),
         (THREE_ADDONS, THREE_ADDONS_TRACE),
+        (RETURNS, RETURNS_TRACE),
     ] {
         let mut source = MemSource::of(Vec::from_slice(alloc, script)?, Vec::new(alloc));
         let mut sink = MemSink::new(alloc, 1, Vec::new(alloc));
@@ -257,14 +266,63 @@ fn a_fault_at_a_refusal_line_keeps_the_status(rt: HostRuntime) -> Result<(), Fai
 fn reads_the_longest_source_and_no_longer(rt: HostRuntime) -> Result<(), Fail> {
     let alloc = rt.alloc();
     let run = said(alloc, &["run"])?;
-    for (length, status, text) in [
-        (LONGEST, 0, FIRST_TRACE),
-        (LONGEST + 1, 7, b"refused length\n".as_slice()),
+    let long = b"refused length\n".as_slice();
+    for (script, length, status, text) in [
+        (FIRST_RUN, LONGEST, 0, FIRST_TRACE),
+        (FIRST_RUN, LONGEST + 1, 7, long),
+        (EMPTY, LONGEST, 0, EMPTY_TRACE),
+        (EMPTY, LONGEST + 1, 7, long),
     ] {
-        let mut source = MemSource::of(padded(alloc, length)?, Vec::new(alloc));
+        let mut source = MemSource::of(padded(alloc, script, length)?, Vec::new(alloc));
         let mut sink = MemSink::new(alloc, 16, Vec::new(alloc));
         assert_eq!(rt; ended(&rt, alloc, &run, &mut source, &mut sink, 1)?, status);
         assert_eq!(rt; sink.bytes(), text);
+    }
+    Ok(())
+}
+
+#[test]
+fn answers_the_first_of_causes_that_stand_together(rt: HostRuntime) -> Result<(), Fail> {
+    let alloc = rt.alloc();
+    let run = ["run"].as_slice();
+    let fault = b"read fault\n".as_slice();
+    // The source gives no JSON text, of so many bytes, and these of its calls fail.
+    for (words, length, failing, status, line) in [
+        (run, LONGEST, [].as_slice(), 3, b"refused json\n".as_slice()),
+        // It is too long as well.
+        (
+            run,
+            LONGEST + 1,
+            [].as_slice(),
+            7,
+            b"refused length\n".as_slice(),
+        ),
+        // It fails before its end.
+        (run, 1, [1].as_slice(), 4, fault),
+        (run, LONGEST, [1].as_slice(), 4, fault),
+        // It would be too long, but fails before.
+        (run, LONGEST + 1, [0].as_slice(), 4, fault),
+        (run, LONGEST + 1, [1].as_slice(), 4, fault),
+        // The words are no command line, so nothing of it is read.
+        (
+            ["load"].as_slice(),
+            LONGEST + 1,
+            [0].as_slice(),
+            2,
+            b"usage: napi_host run\n".as_slice(),
+        ),
+    ] {
+        let words = said(alloc, words)?;
+        let mut source = MemSource::of(
+            padded(alloc, b"{", length)?,
+            Vec::from_slice(alloc, failing)?,
+        );
+        let mut sink = MemSink::new(alloc, 16, Vec::new(alloc));
+        assert_eq!(rt;
+            ended(&rt, alloc, &words, &mut source, &mut sink, 1)?,
+            status
+        );
+        assert_eq!(rt; sink.bytes(), line);
     }
     Ok(())
 }
@@ -274,7 +332,7 @@ fn reads_a_source_byte_by_byte(rt: HostRuntime) -> Result<(), Fail> {
     let alloc = rt.alloc();
     let run = said(alloc, &["run"])?;
     let mut source = Slow {
-        bytes: SafeSource::of(padded(alloc, LONGEST)?),
+        bytes: SafeSource::of(padded(alloc, FIRST_RUN, LONGEST)?),
     };
     let mut sink = MemSink::new(alloc, 1, Vec::new(alloc));
     assert_eq!(rt; ended(&rt, alloc, &run, &mut source, &mut sink, 1)?, 0);
@@ -308,6 +366,19 @@ impl Addon for Stays {
     fn note(&mut self, _entry: u32, _step: u32, _reply: &Reply) {}
 }
 
+/// The trace of a frame that asks for undefined 65,536 times, and is cut then.
+fn trace_of_a_cut_frame(alloc: Global) -> Result<String, Fail> {
+    let mut trace = String::from_str(alloc, "1 env opened 0 9\n2 env begin 0 init:0.0\n")?;
+    for number in 3..65_539 {
+        let line = format!(in alloc; "{number} env get_undefined 0 handle\n")?;
+        trace.push_str(line.as_str())?;
+    }
+    trace.push_str(
+        "65539 env end 0 cut:asks\n65540 env go 0 -\n65541 env loop_end 0 idle\n65542 env drain 0 0\n65543 env finals 0 -\n65544 env gone 0 -\n",
+    )?;
+    Ok(trace)
+}
+
 #[test]
 fn an_addon_that_never_leaves_is_cut(rt: HostRuntime) -> Result<(), Fail> {
     let alloc = rt.alloc();
@@ -330,16 +401,10 @@ fn an_addon_that_never_leaves_is_cut(rt: HostRuntime) -> Result<(), Fail> {
     );
     assert_eq!(rt; status, 0);
     let text = sink.bytes();
-    // Two lines come before the 65,536 calls.
-    assert!(rt;
-        text.starts_with(
-            b"1 env opened 0 9\n2 env begin 0 init:0.0\n3 env get_undefined 0 handle\n"
-        )
-    );
-    assert!(rt;
-        text.ends_with(
-            b"\n65538 env get_undefined 0 handle\n65539 env end 0 cut:asks\n65540 env go 0 -\n65541 env loop_end 0 idle\n65542 env drain 0 0\n65543 env finals 0 -\n65544 env gone 0 -\n"
-        )
-    );
+    // Two lines, the 65,536 calls, and six lines.
+    let lines = text.iter().filter(|byte| **byte == b'\n').count();
+    assert_eq!(rt; lines, 65_544);
+    let trace = trace_of_a_cut_frame(alloc)?;
+    assert!(rt; text == trace.as_bytes(), "a line is another one");
     Ok(())
 }
