@@ -121,7 +121,7 @@ fn plain(status: Status, out: Out) -> Reply
 /// `NoMemory` the scopes and the value graph are as they were: all memory is taken before the first change.
 ///
 /// Near constant time and logarithmic in the open handles, beside `delete_property` and `get_property_names`, whose time grows
-/// with the number of the object's properties.
+/// with the number of the object's properties, and `set_element`, whose time grows with the holes that it fills.
 pub fn value_step(
     alloc: Global,
     store: &mut Store,

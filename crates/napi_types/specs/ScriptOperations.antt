@@ -1,6 +1,6 @@
 -- The operations of a script: for each form of arguments the calls that have it. Where two numbers have the same form, as the register of an argument
 -- and the register that keeps the result, they stand in the order of the operation's own.
-use Rattle.std.specs.Prelude.{ℕ, Bool, true, List, [], ◌∷◌, Option, Some, None, option_map, codes, bytes_eq, find, if◌then◌else◌}
+use Rattle.std.specs.Prelude.{ℕ, Bool, true, List, [], ◌∷◌, Option, Some, None, option_map, is_some, codes, bytes_eq, find, if◌then◌else◌}
 use Rattle.std.specs.Option.{option_or}
 use Rattle.serde_json.specs.Data.{Data, string, array, Items, no_items, item}
 use Rattle.napi_types.specs.declared.call.Ask.{Ask}
@@ -330,7 +330,7 @@ thrown_with table (Some code) message = thrown (with_text table code) (Some (rec
 
 -- a text or none, and a text
 unfoldable pub with_texts : List (List ℕ) → List ℕ → Data → Data → Option Numbered
-with_texts table name a b = if bytes_eq name (codes "throw_error") then (do
+with_texts table name a b = if is_some (named name (op.ThrowError None (record { 0 = 0 }) ∷ [])) then (do
   x ← text_or_none a
   y ← text b
   Some (thrown_with table x y)) else None

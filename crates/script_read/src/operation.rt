@@ -151,7 +151,7 @@ fn with_texts(
 ) -> Result<Option<Op>, NoMemory>
     ensures found { IfOk result (λ found. option_map (numbered table.new) found ≡ with_texts table.old name.now (view a.now) (view b.now)) }
 {
-    if name != "throw_error" {
+    if named(name, &[Op::ThrowError(None, TextNo(0))]).is_none() {
         return Ok(None);
     }
     let Some(code) = text_or_none(a) else {
