@@ -55,7 +55,7 @@ never : (a c : Bool) → (a || c) ≡ false → c ≡ false
 never true c h = let no : ⊥ = cc in absurd no
 never false c h = h
 
-makes-agrees : (s t : StoreState) (id : ℕ) (b : Body) → IsSound s → Makes s t id b → Agrees s t
+pub makes-agrees : (s t : StoreState) (id : ℕ) (b : Body) → IsSound s → Makes s t id b → Agrees s t
 makes-agrees s t id b sound step n live =
     let apart : n ≢ id = λ same. stands same in ap (λ o. unwrap_or (option_map (λ (v : Value). v.number) o) 0) (step.others n apart)
   where
@@ -79,10 +79,10 @@ made-live s t scopes after id b step held is =
     issued-live t scopes after id is (subst (λ (o : Option Value). IsSome o) (sym step.named) refl) (more-live s t scopes (makes-live s t id b step) held)
 
 -- A NEW LIST
-list-agrees : (s t : StoreState) (id n : ℕ) → IsSound s → MakesList s t id n → Agrees s t
+pub list-agrees : (s t : StoreState) (id n : ℕ) → IsSound s → MakesList s t id n → Agrees s t
 list-agrees s t id n sound step m live = ap (λ o. unwrap_or (option_map (λ (v : Value). v.number) o) 0) (step.others m (sound.given m live))
 
-list-live : (s t : StoreState) (id n : ℕ) → IsSound s → MakesList s t id n → (m : ℕ) → IsLive s m → IsLive t m
+pub list-live : (s t : StoreState) (id n : ℕ) → IsSound s → MakesList s t id n → (m : ℕ) → IsLive s m → IsLive t m
 list-live s t id n sound step m live = subst (λ (o : Option Value). IsSome o) (sym (step.others m (sound.given m live))) live
 
 some-live : (o : Option Value) (n : ℕ) → option_map (λ (v : Value). v.number) o ≡ Some n → IsSome o

@@ -1,5 +1,5 @@
 -- The heap of the machine that a store of values and handle scopes stand for.
-use Rattle.std.specs.Prelude.{map}
+use Rattle.std.specs.Prelude.{◌≡◌, ℕ, map}
 use Rattle.std.specs.List.{All}
 use Rattle.napi_types.specs.Graph.{StoreState, IsLive, number_in, graph_of}
 use Rattle.napi_types.specs.Heap.{Heap}
@@ -27,6 +27,11 @@ heap_of store scopes = record {
   handles = scopes.handles;
   scope_numbers = scopes.scope_numbers;
 }
+
+-- each live value stays live under its creation number, whether or not a scope holds it
+pub record KeepsValues (old new : StoreState) : Type 0 where
+  pub live : (id : ℕ) → IsLive old id → IsLive new id
+  pub numbers : (id : ℕ) → IsLive old id → number_in new id ≡ number_in old id
 
 -- each value that an open scope holds is live in the store
 abbrev pub HoldsLive : StoreState → HandleScopes → Type 0

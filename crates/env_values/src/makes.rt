@@ -2,7 +2,7 @@
 ghost use Rattle.std.specs.Prelude.{◌≡◌, ◌≢◌, ◌+◌, ◌<◌, ◌≤◌, ◌^◌, [], length, IfOk, OnOk, OnErr};
 ghost use Rattle.napi_types.specs.Graph.{IsLive, number_in};
 ghost use Rattle.napi_types.specs.Heap.{handle_of, new_value, new_list};
-ghost use Rattle.env_values.specs.Seen.{heap_of, HoldsLive};
+ghost use Rattle.env_values.specs.Seen.{heap_of, HoldsLive, KeepsValues};
 ghost use Rattle.env_values.specs.Steps.{Gives};
 
 use crate::known::recall;
@@ -33,6 +33,7 @@ pub(crate) fn give_new(store: &mut Store, scopes: &mut Scopes, body: Body) -> Re
     ensures gives { let before = heap_of store.old scopes.old in
         Gives (new_value body before) before result (heap_of store.new scopes.new) }
     ensures live { HoldsLive store.new scopes.new }
+    ensures kept { KeepsValues store.old store.new }
 {
     scopes.reserve()?;
     // A value that a scope holds has another number than a new one.

@@ -5,7 +5,7 @@ ghost use Rattle.napi_types.specs.PropertyCalls.{names_of};
 ghost use Rattle.napi_types.specs.Values.{most_names};
 ghost use Rattle.value_store.specs.Changes.{properties_in};
 ghost use Rattle.env_values.specs.Numbering.{HasNumbersLeft};
-ghost use Rattle.env_values.specs.Seen.{heap_of, HoldsLive};
+ghost use Rattle.env_values.specs.Seen.{heap_of, HoldsLive, KeepsValues};
 ghost use Rattle.env_values.specs.Steps.{Comes, Gives};
 
 use crate::known::{object_like, recall, value_of_handle};
@@ -54,6 +54,7 @@ fn give_list(store: &mut Store, scopes: &mut Scopes, bodies: &[Body]) -> Result<
     ensures gives { let before = heap_of store.old scopes.old in
         Gives (new_list bodies.now before) before result (heap_of store.new scopes.new) }
     ensures live { HoldsLive store.new scopes.new }
+    ensures kept { KeepsValues store.old store.new }
 {
     scopes.reserve()?;
     recall(store);
@@ -76,6 +77,7 @@ pub(crate) fn get_property_names(
     ensures comes { let before = heap_of store.old scopes.old in
         Comes texts before (Call.GetPropertyNames object) result (heap_of store.new scopes.new) }
     ensures live { HoldsLive store.new scopes.new }
+    ensures kept { KeepsValues store.old store.new }
 {
     let object = value_of_handle(store, scopes, object)?;
     object_like(object.body)?;

@@ -1,7 +1,7 @@
 //! The calls that set and remove properties and elements.
 ghost use Rattle.std.specs.Prelude.{◌≡◌, ◌≤◌, true, false, nat_lt, IfOk, IfErr, OnOk};
 ghost use Rattle.napi_types.specs.Values.{most_index};
-ghost use Rattle.env_values.specs.Seen.{heap_of, HoldsLive};
+ghost use Rattle.env_values.specs.Seen.{heap_of, HoldsLive, KeepsValues};
 ghost use Rattle.env_values.specs.Steps.{Comes};
 
 use crate::known::{known_text, object_like, value_of_handle};
@@ -23,6 +23,7 @@ pub(crate) fn set_named_property(
     ensures comes { let before = heap_of store.old scopes.now in
         Comes texts before (Call.SetNamedProperty object name value) result (heap_of store.new scopes.now) }
     ensures live { HoldsLive store.new scopes.now }
+    ensures kept { KeepsValues store.old store.new }
 {
     let object = value_of_handle(store, scopes, object)?;
     let value = value_of_handle(store, scopes, value)?;
@@ -44,6 +45,7 @@ pub(crate) fn delete_property(
     ensures comes { let before = heap_of store.old scopes.now in
         Comes texts before (Call.DeleteProperty object name) result (heap_of store.new scopes.now) }
     ensures live { HoldsLive store.new scopes.now }
+    ensures kept { KeepsValues store.old store.new }
 {
     let object = value_of_handle(store, scopes, object)?;
     known_text(name, texts)?;
@@ -82,6 +84,7 @@ pub(crate) fn set_element(
     ensures comes { let before = heap_of store.old scopes.now in
         Comes texts before (Call.SetElement object index value) result (heap_of store.new scopes.now) }
     ensures live { HoldsLive store.new scopes.now }
+    ensures kept { KeepsValues store.old store.new }
 {
     let object = value_of_handle(store, scopes, object)?;
     let value = value_of_handle(store, scopes, value)?;

@@ -6,7 +6,7 @@ ghost use Rattle.napi_types.specs.Room.{is_growing};
 ghost use Rattle.napi_types.specs.Replies.{plain as plain_reply};
 ghost use Rattle.napi_types.specs.Values.{true_value, false_value};
 ghost use Rattle.env_values.specs.Numbering.{HasNumbersLeft};
-ghost use Rattle.env_values.specs.Seen.{heap_of, HoldsLive};
+ghost use Rattle.env_values.specs.Seen.{heap_of, HoldsLive, KeepsValues};
 ghost use Rattle.env_values.specs.Steps.{Comes};
 
 use crate::makes::{give_new, give_starting};
@@ -61,6 +61,7 @@ fn outcome(
     ensures comes { let before = heap_of store.old scopes.old in
         Comes texts before call.now result (heap_of store.new scopes.new) }
     ensures live { HoldsLive store.new scopes.new }
+    ensures kept { KeepsValues store.old store.new }
 {
     match *call {
         Call::GetUndefined => Ok(give_starting(store, scopes, 0)?),
@@ -138,6 +139,7 @@ pub fn value_step(
     ensures reply { IfOk result (λ reply. reply ≡ (answer_in texts (heap_of store.old scopes.old) call.now 0).reply) }
     ensures after { OnOk result (heap_of store.new scopes.new ≡ (answer_in texts (heap_of store.old scopes.old) call.now 0).after) }
     ensures live { HoldsLive store.new scopes.new }
+    ensures kept { KeepsValues store.old store.new }
 
     // A call that finds no memory is one that grows, and leaves the scopes and the value graph as they were.
     ensures err { OnErr result (heap_of store.new scopes.new ≡ heap_of store.old scopes.old) }

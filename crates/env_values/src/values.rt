@@ -1,7 +1,7 @@
 //! The calls that make values, and those that give the value of a property or an element.
 ghost use Rattle.std.specs.Prelude.{◌≡◌, ◌≢◌, ◌+◌, ◌<◌, ◌^◌, []};
 ghost use Rattle.napi_types.specs.Graph.{IsLive};
-ghost use Rattle.env_values.specs.Seen.{heap_of, HoldsLive};
+ghost use Rattle.env_values.specs.Seen.{heap_of, HoldsLive, KeepsValues};
 ghost use Rattle.env_values.specs.Steps.{Comes};
 
 use crate::known::{element, known_text, object_like, or_undefined, text, value_of_handle};
@@ -28,6 +28,7 @@ pub(crate) fn create_int64(
     ensures comes { let before = heap_of store.old scopes.old in
         Comes texts before (Call.CreateInt64 number) result (heap_of store.new scopes.new) }
     ensures live { HoldsLive store.new scopes.new }
+    ensures kept { KeepsValues store.old store.new }
 {
     if number < -MOST_NUMBER || number > MOST_NUMBER {
         return Err(Stop::Refused(Status::InvalidArg));
@@ -49,6 +50,7 @@ pub(crate) fn create_string_utf8(
     ensures comes { let before = heap_of store.old scopes.old in
         Comes texts before (Call.CreateStringUtf8 text) result (heap_of store.new scopes.new) }
     ensures live { HoldsLive store.new scopes.new }
+    ensures kept { KeepsValues store.old store.new }
 {
     known_text(text, texts)?;
     Ok(give_new(store, scopes, Body::Str(text))?)
@@ -68,6 +70,7 @@ pub(crate) fn create_symbol(
     ensures comes { let before = heap_of store.old scopes.old in
         Comes texts before (Call.CreateSymbol description) result (heap_of store.new scopes.new) }
     ensures live { HoldsLive store.new scopes.new }
+    ensures kept { KeepsValues store.old store.new }
 {
     match description {
         None => Ok(give_new(store, scopes, Body::Symbol(None))?),

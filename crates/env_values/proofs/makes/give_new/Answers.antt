@@ -3,6 +3,7 @@ use Rattle.napi_types.specs.Heap.{with_value}
 use Rattle.handle_scope.specs.HandleScopes.{HandleScopes, handle_issued, place_reserved}
 use Rattle.env_values.specs.Seen.{heap_of}
 use Rattle.env_values.proofs.Giving.{given-answer, made-heap, made-live}
+use Rattle.env_values.proofs.Keeping.{keeps_made}
 use Rattle.env_values.proofs.makes.give_new.Goals as goal
 
 pub returns-clause-gives : goal.returns-clause-gives
@@ -21,3 +22,6 @@ returns-clause-live c =
     let issued : c.issue_reserved.new.self ≡ handle_issued c.in_ok-value.value.0 (place_reserved scopes) =
     c.issue_reserved.ensures.issued ∙ ap (handle_issued c.in_ok-value.value.0) c.in_ok-reserve.ensures.ok in
     made-live c.args.store.now c.make.new.self (place_reserved scopes) c.issue_reserved.new.self c.in_ok-value.value.0 c.args.body c.in_ok-value.ensures.made c.requires.live issued
+
+pub returns-clause-kept : goal.returns-clause-kept
+returns-clause-kept c = keeps_made c.args.store.now c.make.new.self c.in_ok-value.value.0 c.args.body c.recall.ensures c.in_ok-value.ensures.made

@@ -3,6 +3,7 @@ use Rattle.napi_types.specs.Heap.{with_list}
 use Rattle.handle_scope.specs.HandleScopes.{HandleScopes, handle_issued, place_reserved}
 use Rattle.env_values.specs.Seen.{heap_of}
 use Rattle.env_values.proofs.Giving.{given-answer, listed-heap, listed-live}
+use Rattle.env_values.proofs.Keeping.{keeps_listed}
 use Rattle.env_values.proofs.names.give_list.Goals as goal
 
 pub returns-clause-gives : goal.returns-clause-gives
@@ -22,3 +23,6 @@ returns-clause-live c =
     let issued : c.issue_reserved.new.self ≡ handle_issued c.in_ok-value.value.0 (place_reserved scopes) =
     c.issue_reserved.ensures.issued ∙ ap (handle_issued c.in_ok-value.value.0) c.in_ok-reserve.ensures.ok in
     listed-live c.args.store.now c.make_list.new.self (place_reserved scopes) c.issue_reserved.new.self c.in_ok-value.value.0 (length c.args.bodies.now) c.recall.ensures c.in_ok-value.ensures.listed c.requires.live issued
+
+pub returns-clause-kept : goal.returns-clause-kept
+returns-clause-kept c = keeps_listed c.args.store.now c.make_list.new.self c.in_ok-value.value.0 (length c.args.bodies.now) c.recall.ensures c.in_ok-value.ensures.listed

@@ -6,6 +6,7 @@ use Rattle.napi_types.specs.Values.{is_object_like, with_element}
 use Rattle.env_values.specs.Seen.{heap_of}
 use Rattle.env_values.proofs.HandleValues.{like-known}
 use Rattle.env_values.proofs.Heaps.{with_changed-heap}
+use Rattle.env_values.proofs.Keeping.{keeps_changed}
 use Rattle.env_values.proofs.properties.set_element.Goals as goal
 
 pub returns-clause-comes : goal.returns-clause-comes
@@ -22,3 +23,6 @@ returns-clause-comes c =
           ∙ ap (λ (heap : Heap). answered out.Nothing heap)
           (with_changed-heap s c.set_element.new.self scopes c.args.object.0 c.in_ok-object.object.id.0 _ _ (λ v. refl) c.in_ok-set_element.ensures.set c.in_ok-set_element.ensures.graph object.number),
     )
+
+pub returns-clause-kept : goal.returns-clause-kept
+returns-clause-kept c = keeps_changed c.args.store.now c.set_element.new.self c.in_ok-object.object.id.0 _ (λ v. refl) c.in_ok-set_element.ensures.set
