@@ -68,6 +68,7 @@ accepted-keeps texts heap (call.CreateStringUtf8 t) n h = handled heap _ _ refl 
 accepted-keeps texts heap (call.CreateSymbol d) n h = handled heap _ _ refl refl refl (omega arith)
 accepted-keeps texts heap call.CreateObject n h = handled heap _ _ refl refl refl (omega arith)
 accepted-keeps texts heap call.CreateArray n h = handled heap _ _ refl refl refl (omega arith)
+accepted-keeps texts heap (call.CreateError code message) n h = handled heap _ _ refl refl refl (omega arith)
 accepted-keeps texts heap (call.GetNamedProperty o name) n h = handled heap heap _ refl refl refl (omega arith)
 accepted-keeps texts heap (call.GetElement o at) n h = handled heap heap _ refl refl refl (omega arith)
 accepted-keeps texts heap (call.GetPropertyNames o) n h =

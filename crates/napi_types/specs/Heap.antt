@@ -6,7 +6,7 @@ use Rattle.napi_types.specs.declared.entry.Out.TheVariants as out
 use Rattle.napi_types.specs.Lists.{first_changed, tail}
 use Rattle.napi_types.specs.Replies.{Answer, answered}
 use Rattle.napi_types.specs.Scopes.{FrameScopes, no_handles, gives, hold_in}
-use Rattle.napi_types.specs.Values.{Value, Property, body_of, properties_of, elements_of, fresh_value, starting_values, undefined_value, value_changed, list_of}
+use Rattle.napi_types.specs.Values.{Value, Property, body_of, properties_of, elements_of, fresh_value, starting_values, undefined_value, value_changed, list_of, error_of}
 
 -- the value graph and the handle scopes
 pub record Heap : Type 0 where
@@ -52,6 +52,14 @@ with_value b heap = record heap { values = heap.values ++ fresh_value (heap.made
 -- a new value and its handle
 abbrev pub new_value : Body → Heap → Answer Heap
 new_value b heap = handle_of (heap.made + 1) (with_value b heap)
+
+-- an error with the next creation number, of the values that are its code, where one is given, and its message
+abbrev pub with_error : Option ℕ → ℕ → Heap → Heap
+with_error code message heap = record heap { values = heap.values ++ error_of (heap.made + 1) code message ∷ []; made = heap.made + 1 }
+
+-- a new error and its handle
+abbrev pub new_error : Option ℕ → ℕ → Heap → Answer Heap
+new_error code message heap = handle_of (heap.made + 1) (with_error code message heap)
 
 -- new values of these bodies, one after another, then an array of them
 abbrev pub with_list : List Body → Heap → Heap

@@ -23,8 +23,10 @@ handle_if (Some h) = one h.0
 -- the handles that a call names
 abbrev pub handles_of : Call → List ℕ
 handles_of (call.CreateSymbol h) = handle_if h
+handles_of (call.CreateError code message) = handle_if code ++ one message.0
 handles_of (call.Typeof h) = one h.0
 handles_of (call.IsArray h) = one h.0
+handles_of (call.IsError h) = one h.0
 handles_of (call.GetValueInt64 h) = one h.0
 handles_of (call.GetValueBigintInt64 h) = one h.0
 handles_of (call.GetValueBool h) = one h.0
@@ -70,6 +72,7 @@ expects_if heap (Some h) test s = expects heap h test s
 
 abbrev pub kind_refusal : Heap → Call → Option Status
 kind_refusal heap (call.CreateSymbol h) = expects_if heap h is_string status.StringExpected
+kind_refusal heap (call.CreateError code message) = option_or (expects_if heap code is_string status.StringExpected) (expects heap message is_string status.StringExpected)
 kind_refusal heap (call.GetValueInt64 h) = expects heap h is_number status.NumberExpected
 kind_refusal heap (call.GetValueBigintInt64 h) = expects heap h is_bigint status.BigintExpected
 kind_refusal heap (call.GetValueBool h) = expects heap h is_boolean status.BooleanExpected

@@ -75,6 +75,7 @@ is_growing (call.CreateStringUtf8 _) = true
 is_growing (call.CreateSymbol _) = true
 is_growing call.CreateObject = true
 is_growing call.CreateArray = true
+is_growing (call.CreateError _ _) = true
 is_growing (call.SetNamedProperty _ _ _) = true
 is_growing (call.GetNamedProperty _ _) = true
 is_growing (call.GetPropertyNames _) = true

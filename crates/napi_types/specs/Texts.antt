@@ -6,6 +6,13 @@ use Rattle.std.specs.List.{position_from}
 abbrev pub fixed_texts : List (List ℕ)
 fixed_texts = codes "message" ∷ codes "code" ∷ codes "stack depth" ∷ []
 
+-- their numbers in every table, of those that name the properties of an error
+abbrev pub message_text : ℕ
+message_text = 0
+
+abbrev pub code_text : ℕ
+code_text = 1
+
 -- each text stands once, and the fixed ones come first
 pub record IsTextTable (texts : List (List ℕ)) : Type 0 where
   pub fixed : take 3 texts ≡ fixed_texts

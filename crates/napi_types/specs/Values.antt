@@ -8,6 +8,7 @@ use Rattle.napi_types.specs.declared.ids.TextNo.{TextNo}
 use Rattle.napi_types.specs.declared.status.Kind.{Kind}
 use Rattle.napi_types.specs.declared.status.Kind.TheVariants as kind
 use Rattle.napi_types.specs.Lists.{found}
+use Rattle.napi_types.specs.Texts.{message_text, code_text}
 
 -- a property: the number of its name's text, and the number of its value
 pub record Property : Type 0 where
@@ -101,6 +102,11 @@ abbrev pub is_array : Body → Bool
 is_array (body.Object array error) = array
 is_array _ = false
 
+-- an error is an object that was created as one, whatever its properties are
+abbrev pub is_error_body : Body → Bool
+is_error_body (body.Object array error) = error
+is_error_body _ = false
+
 -- the number that a number or a bigint is, the flag that a boolean is, the text that a string is; a value of another kind is refused before it is read so
 abbrev pub signed_of : Body → ℤ
 signed_of (body.Number n) = n
@@ -183,6 +189,15 @@ with_element at to v = record v { elements = element_set at to v.elements }
 -- the values with the one of a number changed so
 abbrev pub value_changed : ℕ → (Value → Value) → List Value → List Value
 value_changed n change vs = map (λ v. cond (v.number == n) (change v) v) vs
+
+-- the property of an error's code, where there is one
+abbrev pub code_property : Option ℕ → List Property
+code_property None = []
+code_property (Some code) = record { name = code_text; value = code } ∷ []
+
+-- an error: an object with the properties `message` and, where a code is given, `code`, in this order
+abbrev pub error_of : ℕ → Option ℕ → ℕ → Value
+error_of n code message = record { number = n; body = body.Object false true; properties = record { name = message_text; value = message } ∷ code_property code; elements = [] }
 
 -- new values of these bodies, where so many were made before
 abbrev pub made_after : ℕ → List Body → List Value

@@ -174,8 +174,10 @@ impl Call {
             | Call::CreateSymbol(_)
             | Call::CreateObject
             | Call::CreateArray
+            | Call::CreateError(..)
             | Call::Typeof(_)
             | Call::IsArray(_)
+            | Call::IsError(_)
             | Call::GetValueInt64(_)
             | Call::GetValueBigintInt64(_)
             | Call::GetValueBool(_)

@@ -7,7 +7,7 @@ use Rattle.napi_types.specs.declared.body.Body.{Body}
 use Rattle.napi_types.specs.Lists.{has_number}
 use Rattle.napi_types.specs.Values.{Value, children}
 use Rattle.napi_types.specs.Graph.{StoreState, IsSound, IsLive, value_of, creation_number}
-use Rattle.value_store.specs.Changes.{ChangesOnly, Makes, CanFree}
+use Rattle.value_store.specs.Changes.{ChangesOnly, Makes, MakesValue, CanFree}
 use Rattle.value_store.proofs.Lookup.{other-number}
 
 -- what is live stays so where one value changes
@@ -23,8 +23,8 @@ changes-live s t id change step n h = by (n == id) refl
     by false e = subst (λ (o : Option Value). IsSome o) (sym (step.others n (other-number n id e))) h
 
 -- a new value is live, and what was live stays so
-pub makes-live : (s t : StoreState) (id : ℕ) (b : Body) → Makes s t id b → (n : ℕ) → IsLive s n → IsLive t n
-makes-live s t id b step n h = by (n == id) refl
+pub makes-live : (s t : StoreState) (id : ℕ) (v : Value) → MakesValue s t id v → (n : ℕ) → IsLive s n → IsLive t n
+makes-live s t id v step n h = by (n == id) refl
   where
     by : (e : Bool) → (n == id) ≡ e → IsLive t n
     by true e = let same : n ≡ id = eqb-true n id e in subst (λ (m : ℕ). IsLive t m) (sym same) (subst (λ (o : Option Value). IsSome o) (sym step.named) refl)

@@ -11,7 +11,7 @@ use Rattle.napi_types.specs.Values.{Value, HasDistinctNames, fresh_value, childr
 use Rattle.napi_types.specs.Graph.{StoreState, value_of, creation_number}
 use Rattle.napi_types.proofs.Issued.{above-down_from}
 use Rattle.value_store.specs.Places.{state_of, at_number, changed_at, IsNumbered, IsCleared}
-use Rattle.value_store.specs.Changes.{ChangesOnly, Makes, Frees, CanFree}
+use Rattle.value_store.specs.Changes.{ChangesOnly, Makes, MakesValue, Frees, CanFree}
 use Rattle.value_store.proofs.Children.{children-with_property, children-without_property, children-with_element}
 use Rattle.value_store.proofs.Lookup.{value_of-state_of, at_number-push, same-number, apart-number, apart-below}
 use Rattle.value_store.proofs.Names.{distinct-property_set, distinct-property_removed, distinct-none}
@@ -98,24 +98,26 @@ pushed-numbered ps w all number names closed =
     (All-weaker (λ m. IsSome (at_number ps m)) (λ m. IsSome (updated (at_number ps) k w m)) (updated-live (at_number ps) k w) (children w) closed)
     (λ which less same. absurd (omega arith)))
 
--- a new value has the next number
-pub made-numbered : (ps : List (Option Value)) (b : Body) → IsNumbered (at_number ps) → IsNumbered (at_number (ps ++ Some (fresh_value (length ps + 1) b) ∷ []))
-made-numbered ps b all = pushed-numbered ps (fresh_value (length ps + 1) b) all refl distinct-none (All-nil (λ m. IsSome (at_number ps m)))
-
-pub makes : (ps qs : List (Option Value)) (s : StoreState) (b : Body) → state_of ps ≡ s → IsNumbered (at_number ps) → qs ≡ ps ++ Some (fresh_value (length ps + 1) b) ∷ [] → Makes s (state_of qs) (length ps + 1) b
-makes ps qs s b view all is =
-    subst (λ (t : StoreState). Makes t (state_of qs) (length ps + 1) b) view (subst (λ (l : List (Option Value)). Makes (state_of ps) (state_of l) (length ps + 1) b) (sym is) here)
+-- and it is the one value that is made
+pub pushed-makes : (ps : List (Option Value)) (w : Value) → IsNumbered (at_number ps) → IsNumbered (at_number (ps ++ Some w ∷ [])) → MakesValue (state_of ps) (state_of (ps ++ Some w ∷ [])) (length ps + 1) w
+pushed-makes ps w all after = record {
+  fresh = fresh (length ps);
+  named = new (length ps + 1) ∙ same;
+  others = λ n apart. new n ∙ other n apart ∙ sym (value_of-state_of ps all.numbered n);
+  issued = λ n. ap (λ m. has_number n (down_from m)) many ∙ next (length ps) n;
+  made = many ∙ omega arith;
+}
   where
-    new : (n : ℕ) → value_of (state_of (ps ++ Some (fresh_value (length ps + 1) b) ∷ [])) n ≡ updated (at_number ps) (length ps + 1) (fresh_value (length ps + 1) b) n
-    new n = value_of-state_of (ps ++ Some (fresh_value (length ps + 1) b) ∷ []) (made-numbered ps b all).numbered n ∙ at_number-push ps (Some (fresh_value (length ps + 1) b)) n
+    new : (n : ℕ) → value_of (state_of (ps ++ Some w ∷ [])) n ≡ updated (at_number ps) (length ps + 1) w n
+    new n = value_of-state_of (ps ++ Some w ∷ []) after.numbered n ∙ at_number-push ps (Some w) n
 
-    many : length (ps ++ Some (fresh_value (length ps + 1) b) ∷ []) ≡ suc (length ps)
-    many = length-append ps (Some (fresh_value (length ps + 1) b) ∷ []) ∙ omega arith
+    many : length (ps ++ Some w ∷ []) ≡ suc (length ps)
+    many = length-append ps (Some w ∷ []) ∙ omega arith
 
-    same : updated (at_number ps) (length ps + 1) (fresh_value (length ps + 1) b) (length ps + 1) ≡ Some (fresh_value (length ps + 1) b)
+    same : updated (at_number ps) (length ps + 1) w (length ps + 1) ≡ Some w
     same = rw (same-number (length ps + 1) (length ps + 1) refl) refl
 
-    other : (n : ℕ) → n ≢ length ps + 1 → updated (at_number ps) (length ps + 1) (fresh_value (length ps + 1) b) n ≡ at_number ps n
+    other : (n : ℕ) → n ≢ length ps + 1 → updated (at_number ps) (length ps + 1) w n ≡ at_number ps n
     other n apart = rw (apart-number n (length ps + 1) apart) refl
 
     fresh : (m : ℕ) → has_number (m + 1) (0 ∷ down_from m) ≡ false
@@ -124,14 +126,14 @@ makes ps qs s b view all is =
     next : (m n : ℕ) → ((suc m == n) || has_number n (down_from m)) ≡ ((n == m + 1) || has_number n (down_from m))
     next m n = let e : m + 1 ≡ suc m = omega arith in rw (e, same-flip n (suc m)) refl
 
-    here : Makes (state_of ps) (state_of (ps ++ Some (fresh_value (length ps + 1) b) ∷ [])) (length ps + 1) b
-    here = record {
-      fresh = fresh (length ps);
-      named = new (length ps + 1) ∙ same;
-      others = λ n apart. new n ∙ other n apart ∙ sym (value_of-state_of ps all.numbered n);
-      issued = λ n. ap (λ m. has_number n (down_from m)) many ∙ next (length ps) n;
-      made = many ∙ omega arith;
-    }
+-- a new value has the next number
+pub made-numbered : (ps : List (Option Value)) (b : Body) → IsNumbered (at_number ps) → IsNumbered (at_number (ps ++ Some (fresh_value (length ps + 1) b) ∷ []))
+made-numbered ps b all = pushed-numbered ps (fresh_value (length ps + 1) b) all refl distinct-none (All-nil (λ m. IsSome (at_number ps m)))
+
+pub makes : (ps qs : List (Option Value)) (s : StoreState) (b : Body) → state_of ps ≡ s → IsNumbered (at_number ps) → qs ≡ ps ++ Some (fresh_value (length ps + 1) b) ∷ [] → Makes s (state_of qs) (length ps + 1) b
+makes ps qs s b view all is =
+    subst (λ (t : StoreState). Makes t (state_of qs) (length ps + 1) b) view
+    (subst (λ (l : List (Option Value)). Makes (state_of ps) (state_of l) (length ps + 1) b) (sym is) (pushed-makes ps (fresh_value (length ps + 1) b) all (made-numbered ps b all)))
 
 -- what holds of each number in a list holds of one that is found in it
 all-has : (P : ℕ → Type 0) (ids : List ℕ) (n : ℕ) → All P ids → has_number n ids ≡ true → P n

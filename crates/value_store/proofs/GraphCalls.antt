@@ -27,7 +27,7 @@ changed-graph ps qs s k change view all good is =
     ∙ ap (value_changed k change) (sym (graph-is ps all) ∙ ap graph_of view)
 
 module _ (ps qs : List (Option Value)) (s : StoreState) (view : state_of ps ≡ s) (all : IsNumbered (at_number ps)) where
-  number-view : (n : ℕ) → IsSome (at_number ps n) → number_in s n ≡ n
+  pub number-view : (n : ℕ) → IsSome (at_number ps n) → number_in s n ≡ n
   number-view n some = subst (λ (t : StoreState). number_in t n ≡ n) view (number-is ps all n some)
 
   pub property-graph : (k name to : ℕ) → IsSome (at_number ps k) → IsSome (at_number ps to) → qs ≡ changed_at k (with_property name to) ps
@@ -50,14 +50,19 @@ module _ (ps qs : List (Option Value)) (s : StoreState) (view : state_of ps ≡ 
       by None is = rw (none-in k is) (ap (λ l. graph_of (state_of l)) (absent is) ∙ graph-is ps all ∙ sym (unchanged-none ps (without_property name) all) ∙ ap (value_changed 0 (without_property name)) (sym (graph-is ps all) ∙ ap graph_of view))
       by (Some v) is = let some : IsSome (at_number ps k) = rw is refl in rw (number-view k some) (changed-graph ps qs s k (without_property name) view all (good-removal ps k name all v is) (there some))
 
+  -- how many values were made
+  pub many-view : length ps ≡ s.made
+  many-view = ap (λ (t : StoreState). t.made) view
+
+  -- a value that is pushed goes last in the graph
+  pub pushed-graph : (w : Value) → IsNumbered (at_number (ps ++ Some w ∷ [])) → qs ≡ ps ++ Some w ∷ [] → graph_of (state_of qs) ≡ graph_of s ++ w ∷ []
+  pushed-graph w after is =
+      ap (λ l. graph_of (state_of l)) is ∙ graph-is (ps ++ Some w ∷ []) after
+      ∙ filter_map-append (λ (place : Option Value). place) ps (Some w ∷ [])
+      ∙ ap (λ g. g ++ w ∷ []) (sym (graph-is ps all) ∙ ap graph_of view)
+
   pub made-graph : (b : Body) → qs ≡ ps ++ Some (fresh_value (length ps + 1) b) ∷ [] → graph_of (state_of qs) ≡ graph_of s ++ fresh_value (s.made + 1) b ∷ []
-  made-graph b is =
-      let w : Value = fresh_value (length ps + 1) b in
-      let many : length ps ≡ s.made = ap (λ (t : StoreState). t.made) view in
-      ap (λ l. graph_of (state_of l)) is ∙ graph-is (ps ++ Some (fresh_value (length ps + 1) b) ∷ []) (made-numbered ps b all)
-      ∙ filter_map-append (λ (place : Option Value). place) ps (Some (fresh_value (length ps + 1) b) ∷ [])
-      ∙ ap (λ g. g ++ fresh_value (length ps + 1) b ∷ []) (sym (graph-is ps all) ∙ ap graph_of view)
-      ∙ ap (λ n. graph_of s ++ fresh_value (n + 1) b ∷ []) many
+  made-graph b is = pushed-graph (fresh_value (length ps + 1) b) (made-numbered ps b all) is ∙ ap (λ n. graph_of s ++ fresh_value (n + 1) b ∷ []) many-view
 
   numbers-view : (ids : List ℕ) → All (λ n. IsSome (at_number ps n)) ids → map (number_in s) ids ≡ ids
   numbers-view [] h = refl

@@ -3,6 +3,7 @@ pub mod Calls
 pub mod Children
 pub mod Clearing
 pub mod Elements
+pub mod Errors
 pub mod GraphCalls
 pub mod Graphs
 pub mod Listing

@@ -35,13 +35,17 @@ pub record ChangesOnly (old new : StoreState) (id : ℕ) (change : Value → Val
   pub others : (n : ℕ) → n ≢ id → value_of new n ≡ value_of old n
   pub nothing_issued : IssuesNothing old new
 
--- one value more is live, under a number never issued before and with the next creation number; every other value is as before
-pub record Makes (old new : StoreState) (id : ℕ) (b : Body) : Type 0 where
+-- one value more is live, and it is this one, under a number never issued before; every other value is as before
+pub record MakesValue (old new : StoreState) (id : ℕ) (v : Value) : Type 0 where
   pub fresh : IsFresh id old
-  pub named : value_of new id ≡ Some (fresh_value (old.made + 1) b)
+  pub named : value_of new id ≡ Some v
   pub others : (n : ℕ) → n ≢ id → value_of new n ≡ value_of old n
   pub issued : (n : ℕ) → has_number n new.issued ≡ ((n == id) || has_number n old.issued)
   pub made : new.made ≡ old.made + 1
+
+-- the value that is made has the next creation number, no properties and no elements
+abbrev pub Makes : StoreState → StoreState → ℕ → Body → Type 0
+Makes old new id b = MakesValue old new id (fresh_value (old.made + 1) b)
 
 -- so many values and one more are made, the last under a number never issued before; what was issued before is live or not as before, with the same value
 pub record MakesList (old new : StoreState) (id count : ℕ) : Type 0 where

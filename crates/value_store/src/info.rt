@@ -1,12 +1,24 @@
 //! One value: what it is, its properties and its elements.
-ghost use Rattle.std.specs.Prelude.{◌≡◌, ◌-◌, ◌<◌, ◌≤◌, ◌++◌, length, replicate, OnOk, OnErr, option_map, slice_get, is_some, Some, None, true, false};
-ghost use Rattle.napi_types.specs.Values.{fresh_value, property_at, element_at, with_property, without_property, with_element};
+ghost use Rattle.std.specs.Prelude.{◌≡◌, ◌-◌, ◌<◌, ◌≤◌, ◌++◌, length, replicate, IfOk, OnOk, OnErr, option_map, slice_get, is_some, Some, None, true, false};
+ghost use Rattle.napi_types.specs.Values.{fresh_value, error_of, property_at, element_at, with_property, without_property, with_element};
 ghost use Rattle.value_store.specs.Properties.{elements_of};
 
 use indexmap::IndexMap;
 use napi_types::{Body, NoMemory, TextNo, ValueId};
 use std::alloc::Global;
 use std::marker::Model;
+
+/// An error as it is created.
+const ERROR: Body = Body::Object {
+    array: false,
+    error: true,
+};
+
+/// The name of an error's message.
+const MESSAGE: TextNo = TextNo(0);
+
+/// The name of an error's code.
+const CODE: TextNo = TextNo(1);
 
 /// A value of the store: what it is, its properties in the order in which their names were first set, its elements, and its
 /// creation number. `Store` reads and changes the properties and elements.
@@ -63,6 +75,23 @@ impl ValueInfo {
             properties: IndexMap::new(alloc),
             elements,
         }
+    }
+
+    /// An error: an object with its message and, where one is given, its code, in this order.
+    pub(crate) fn error(
+        alloc: Global,
+        number: u64,
+        code: Option<ValueId>,
+        message: ValueId,
+    ) -> Result<ValueInfo, NoMemory>
+        ensures { IfOk result (λ value. value ≡ error_of number (option_map (λ c. c.0) code) message.0) }
+    {
+        let mut value = ValueInfo::new(alloc, number, ERROR);
+        value.set_prop(MESSAGE, message)?;
+        if let Some(code) = code {
+            value.set_prop(CODE, code)?;
+        }
+        Ok(value)
     }
 
     /// What the value is.

@@ -1,9 +1,9 @@
 //! The store: the values that were made and not freed, each under a number.
 ghost use Rattle.std.specs.Prelude.{◌≡◌, ◌+◌, ◌-◌, ◌<◌, ◌≤◌, ◌^◌, ◌++◌, [], ◌∷◌, not, filter, map, length, slice_get, is_some, option_map, option_copied, IfSome, IfOk, OnOk, OnErr, Some};
 ghost use Rattle.napi_types.specs.Lists.{has_number};
-ghost use Rattle.napi_types.specs.Values.{value_at, value_changed, fresh_value, list_of, property_at, element_at, with_property, without_property, with_element};
+ghost use Rattle.napi_types.specs.Values.{value_at, value_changed, fresh_value, error_of, list_of, property_at, element_at, with_property, without_property, with_element};
 ghost use Rattle.napi_types.specs.Graph.{value_of, number_in, renamed, graph_of, IsLive, IsSound};
-ghost use Rattle.value_store.specs.Changes.{properties_in, elements_in, id_at, numbers_of, IsNew, IsStarting, IsObject, StandsAt, ChangesOnly, Makes, MakesList, Frees, CanFree};
+ghost use Rattle.value_store.specs.Changes.{properties_in, elements_in, id_at, numbers_of, IsNew, IsStarting, IsObject, StandsAt, ChangesOnly, Makes, MakesValue, MakesList, Frees, CanFree};
 
 use crate::{ValueInfo, places};
 use napi_types::{Body, NoMemory, TextNo, ValueId};
@@ -60,6 +60,30 @@ impl Store {
     {
         let number = self.values.len() as u64 + 1;
         let value = ValueInfo::new(self.alloc, number, body);
+        places::push(&mut self.values, value)?;
+        Ok(ValueId(number))
+    }
+
+    /// Makes an error: an object with the properties `message` and, where a code is given, `code`, in this order. Its number was
+    /// never issued before, and is not 0.
+    ///
+    /// Near constant time: now and then the list of values grows.
+    pub fn make_error(
+        &mut self,
+        code: Option<ValueId>,
+        message: ValueId,
+    ) -> Result<ValueId, NoMemory>
+        requires room { self.old.made + 2 < 2 ^ 48 }
+        requires code { IfSome code (λ c. IsLive self.old c.0) }
+        requires message { IsLive self.old message.0 }
+        ensures made { let error = error_of (self.old.made + 1) (option_map (λ c. c.0) code) message.0 in
+            IfOk result (λ id. MakesValue self.old self.new id.0 error) }
+        ensures graph { let error = error_of (self.old.made + 1) (option_map (λ c. number_in self.old c.0) code) (number_in self.old message.0) in
+            OnOk result (graph_of self.new ≡ graph_of self.old ++ error ∷ []) }
+        ensures err { OnErr result (self.new ≡ self.old) }
+    {
+        let number = self.values.len() as u64 + 1;
+        let value = ValueInfo::error(self.alloc, number, code, message)?;
         places::push(&mut self.values, value)?;
         Ok(ValueId(number))
     }

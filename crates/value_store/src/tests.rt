@@ -155,3 +155,41 @@ fn a_list_has_its_values_in_order(rt: HostRuntime) -> Result<(), Fail> {
     assert_eq!(rt; store.element_count(list), 2);
     Ok(())
 }
+
+fn is_error(body: Body) -> bool {
+    matches!(
+        body,
+        Body::Object {
+            array: false,
+            error: true
+        }
+    )
+}
+
+/// Whether a property of an object is this value.
+fn has(store: &Store, object: ValueId, name: u32, value: ValueId) -> bool {
+    let found = store.get_prop(object, TextNo(name));
+    matches!(found, Some(found) if found.0 == value.0)
+}
+
+#[test]
+fn an_error_has_its_message_and_then_its_code(rt: HostRuntime) -> Result<(), Fail> {
+    let mut store = ample(Store::new(rt.alloc()))?;
+    let message = ample(store.make(Body::Str(TextNo(9))))?;
+    let code = ample(store.make(Body::Str(TextNo(2))))?;
+    assert!(rt; store.get(message).is_some());
+    assert!(rt; store.get(code).is_some());
+    let error = ample(store.make_error(Some(code), message))?;
+    assert!(rt; store.get(error).is_some_and(|value| is_error(value.body())));
+    assert_eq!(rt; store.name_count(error), 2);
+    for (at, name) in [0, 1].into_iter().enumerate() {
+        assert_eq!(rt; store.name_at(error, at).0, name);
+    }
+    assert!(rt; has(&store, error, 0, message));
+    assert!(rt; has(&store, error, 1, code));
+    let without = ample(store.make_error(None, error))?;
+    assert!(rt; without.0 != error.0);
+    assert_eq!(rt; store.name_count(without), 1);
+    assert!(rt; has(&store, without, 0, error));
+    Ok(())
+}
