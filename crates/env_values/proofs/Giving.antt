@@ -6,13 +6,13 @@ use Rattle.napi_types.specs.declared.body.Body.{Body}
 use Rattle.napi_types.specs.declared.entry.Out.TheVariants as out
 use Rattle.napi_types.specs.declared.ids.HandleId.{HandleId}
 use Rattle.napi_types.specs.Graph.{StoreState, IsLive, IsSound, value_of, number_in, graph_of}
-use Rattle.napi_types.specs.Heap.{Heap, handle_of, with_handle, with_value, with_list}
+use Rattle.napi_types.specs.Heap.{Heap, handle_of, with_handle, with_list}
 use Rattle.napi_types.specs.Lists.{first_changed, has_number}
 use Rattle.napi_types.specs.Replies.{answered}
 use Rattle.napi_types.specs.Scopes.{Held, hold_in, held_by_frames}
-use Rattle.napi_types.specs.Values.{Value, fresh_value, list_of}
+use Rattle.napi_types.specs.Values.{Value, list_of}
 use Rattle.handle_scope.specs.HandleScopes.{HandleScopes, handle_issued}
-use Rattle.value_store.specs.Changes.{Makes, MakesList}
+use Rattle.value_store.specs.Changes.{MakesValue, MakesList}
 use Rattle.value_store.proofs.Callers.{makes-live}
 use Rattle.env_values.specs.Seen.{seen_frame, heap_of, HoldsLive}
 use Rattle.env_values.proofs.Held.{held-holds}
@@ -55,8 +55,8 @@ never : (a c : Bool) → (a || c) ≡ false → c ≡ false
 never true c h = let no : ⊥ = cc in absurd no
 never false c h = h
 
-pub makes-agrees : (s t : StoreState) (id : ℕ) (b : Body) → IsSound s → Makes s t id b → Agrees s t
-makes-agrees s t id b sound step n live =
+pub makes-agrees : (s t : StoreState) (id : ℕ) (v : Value) → IsSound s → MakesValue s t id v → Agrees s t
+makes-agrees s t id v sound step n live =
     let apart : n ≢ id = λ same. stands same in ap (λ o. unwrap_or (option_map (λ (v : Value). v.number) o) 0) (step.others n apart)
   where
     stands : n ≡ id → ⊥
@@ -66,17 +66,18 @@ makes-agrees s t id b sound step n live =
         let both : has_number n s.issued ≡ false = subst (λ (k : ℕ). has_number k s.issued ≡ false) (sym same) fresh in
         cc
 
-pub made-heap : (s t : StoreState) (scopes after : HandleScopes) (id : ℕ) (b : Body) → IsSound s → Makes s t id b → graph_of t ≡ graph_of s ++ fresh_value (s.made + 1) b ∷ []
-    → HoldsLive s scopes → after ≡ handle_issued id scopes → heap_of t after ≡ with_handle (s.made + 1) (with_value b (heap_of s scopes))
-made-heap s t scopes after id b sound step graph held is =
-    given-heap s t scopes after id (s.made + 1) (makes-agrees s t id b sound step) held (ap (λ o. unwrap_or (option_map (λ (v : Value). v.number) o) 0) step.named) is
+-- the store has it as v, and its graph as w
+pub made-heap : (s t : StoreState) (scopes after : HandleScopes) (id : ℕ) (v w : Value) → IsSound s → MakesValue s t id v → v.number ≡ s.made + 1 → graph_of t ≡ graph_of s ++ w ∷ []
+    → HoldsLive s scopes → after ≡ handle_issued id scopes → heap_of t after ≡ with_handle (s.made + 1) (record (heap_of s scopes) { values = graph_of s ++ w ∷ []; made = s.made + 1 })
+made-heap s t scopes after id v w sound step number graph held is =
+    given-heap s t scopes after id (s.made + 1) (makes-agrees s t id v sound step) held (ap (λ o. unwrap_or (option_map (λ (u : Value). u.number) o) 0) step.named ∙ number) is
     ∙ ap (λ vs. with_handle (s.made + 1) (record (heap_of s scopes) { values = vs; made = t.made })) graph
-    ∙ ap (λ m. with_handle (s.made + 1) (record (heap_of s scopes) { values = graph_of s ++ fresh_value (s.made + 1) b ∷ []; made = m })) step.made
+    ∙ ap (λ m. with_handle (s.made + 1) (record (heap_of s scopes) { values = graph_of s ++ w ∷ []; made = m })) step.made
 
 -- a value under a new number is live, and every held value with it
-pub made-live : (s t : StoreState) (scopes after : HandleScopes) (id : ℕ) (b : Body) → Makes s t id b → HoldsLive s scopes → after ≡ handle_issued id scopes → HoldsLive t after
-made-live s t scopes after id b step held is =
-    issued-live t scopes after id is (subst (λ (o : Option Value). IsSome o) (sym step.named) refl) (more-live s t scopes (makes-live s t id b step) held)
+pub made-live : (s t : StoreState) (scopes after : HandleScopes) (id : ℕ) (v : Value) → MakesValue s t id v → HoldsLive s scopes → after ≡ handle_issued id scopes → HoldsLive t after
+made-live s t scopes after id v step held is =
+    issued-live t scopes after id is (subst (λ (o : Option Value). IsSome o) (sym step.named) refl) (more-live s t scopes (makes-live s t id v step) held)
 
 -- A NEW LIST
 pub list-agrees : (s t : StoreState) (id n : ℕ) → IsSound s → MakesList s t id n → Agrees s t

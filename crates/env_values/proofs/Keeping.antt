@@ -1,9 +1,8 @@
 -- Values that are live stay so, under their creation numbers.
 use Rattle.std.proofs.Common.{◌≡◌, ℕ, refl}
-use Rattle.napi_types.specs.declared.body.Body.{Body}
 use Rattle.napi_types.specs.Graph.{StoreState, IsSound}
 use Rattle.napi_types.specs.Values.{Value}
-use Rattle.value_store.specs.Changes.{ChangesOnly, Makes, MakesList}
+use Rattle.value_store.specs.Changes.{ChangesOnly, MakesValue, MakesList}
 use Rattle.value_store.proofs.Callers.{changes-live, makes-live}
 use Rattle.env_values.specs.Seen.{KeepsValues}
 use Rattle.env_values.proofs.Giving.{makes-agrees, list-agrees, list-live}
@@ -14,8 +13,8 @@ pub keeps_same : (s : StoreState) → KeepsValues s s
 keeps_same s = record { live = λ id here. here; numbers = λ id here. refl }
 
 -- where a value is made
-pub keeps_made : (s t : StoreState) (id : ℕ) (b : Body) → IsSound s → Makes s t id b → KeepsValues s t
-keeps_made s t id b sound step = record { live = makes-live s t id b step; numbers = makes-agrees s t id b sound step }
+pub keeps_made : (s t : StoreState) (id : ℕ) (v : Value) → IsSound s → MakesValue s t id v → KeepsValues s t
+keeps_made s t id v sound step = record { live = makes-live s t id v step; numbers = makes-agrees s t id v sound step }
 
 -- where a list is made
 pub keeps_listed : (s t : StoreState) (id n : ℕ) → IsSound s → MakesList s t id n → KeepsValues s t

@@ -2,7 +2,7 @@
 ghost use Rattle.std.specs.Prelude.{◌≡◌, true, false, is_some, nat_lt, option_map, IfSome, IfOk, IfErr, OnOk};
 ghost use Rattle.napi_types.specs.Graph.{number_in, IsLive, IsSound};
 ghost use Rattle.napi_types.specs.Scopes.{gives};
-ghost use Rattle.napi_types.specs.Values.{is_object_like, is_string, is_number, is_bigint, is_boolean, is_array, signed_of, flag_of, text_of, strictly_equal, element_at, undefined_value};
+ghost use Rattle.napi_types.specs.Values.{is_object_like, is_string, is_number, is_bigint, is_boolean, is_array, is_error_body, signed_of, flag_of, text_of, strictly_equal, element_at, undefined_value};
 ghost use Rattle.std.specs.Option.{unwrap_or};
 ghost use Rattle.value_store.specs.Changes.{elements_in};
 ghost use Rattle.env_values.specs.Seen.{heap_of, HoldsLive};
@@ -136,6 +136,13 @@ pub(crate) fn is_array_value(body: Body) -> bool
     ensures { result ≡ is_array body }
 {
     matches!(body, Body::Object { array: true, .. })
+}
+
+/// Whether a value was created as an error.
+pub(crate) fn is_error_value(body: Body) -> bool
+    ensures { result ≡ is_error_body body }
+{
+    matches!(body, Body::Object { error: true, .. })
 }
 
 /// Recalls what holds of every store, which a store tells where it gives a value.

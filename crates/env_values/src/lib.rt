@@ -3,6 +3,7 @@
 //! The environment, which knows frames and the other calls, stands above.
 #![tactic(auto)]
 
+mod errors;
 mod known;
 mod makes;
 mod names;
@@ -14,4 +15,5 @@ mod stop;
 mod tests;
 mod values;
 
+pub use errors::error_value;
 pub use step::value_step;

@@ -4,8 +4,8 @@ ghost use Rattle.env_values.specs.Seen.{heap_of, HoldsLive};
 ghost use Rattle.env_values.specs.Steps.{Reads};
 
 use crate::known::{
-    array, bigint, boolean, element, equals_strictly, is_array_value, known_text, number,
-    object_like, text, value_of_handle,
+    array, bigint, boolean, element, equals_strictly, is_array_value, is_error_value, known_text,
+    number, object_like, text, value_of_handle,
 };
 use handle_scope::Scopes;
 use napi_types::{Call, HandleId, Out, Status, TextNo};
@@ -51,6 +51,20 @@ pub(crate) fn is_array(
 {
     let value = value_of_handle(store, scopes, value)?;
     Ok(Out::Flag(is_array_value(value.body)))
+}
+
+/// `is_error`: whether a value was created as an error.
+pub(crate) fn is_error(
+    store: &Store,
+    scopes: &Scopes,
+    texts: u32,
+    value: HandleId,
+) -> Result<Out, Status>
+    requires { HoldsLive store.now scopes.now }
+    ensures { Reads texts (heap_of store.now scopes.now) (Call.IsError value) result }
+{
+    let value = value_of_handle(store, scopes, value)?;
+    Ok(Out::Flag(is_error_value(value.body)))
 }
 
 /// `get_value_bigint_int64`: the whole number that a bigint is.

@@ -9,12 +9,14 @@ ghost use Rattle.env_values.specs.Numbering.{HasNumbersLeft};
 ghost use Rattle.env_values.specs.Seen.{heap_of, HoldsLive, KeepsValues};
 ghost use Rattle.env_values.specs.Steps.{Comes};
 
+use crate::errors::create_error;
 use crate::makes::{give_new, give_starting};
 use crate::names::get_property_names;
 use crate::properties::{delete_property, set_element, set_named_property};
 use crate::reads::{
     get_array_length, get_value_bigint_int64, get_value_bool, get_value_int64,
-    get_value_string_utf8, has_element, has_named_property, is_array, strict_equals, type_of,
+    get_value_string_utf8, has_element, has_named_property, is_array, is_error, strict_equals,
+    type_of,
 };
 use crate::stop::Stop;
 use crate::values::{
@@ -74,8 +76,10 @@ fn outcome(
         Call::CreateSymbol(description) => create_symbol(store, scopes, texts, description),
         Call::CreateObject => Ok(give_new(store, scopes, OBJECT)?),
         Call::CreateArray => Ok(give_new(store, scopes, ARRAY)?),
+        Call::CreateError(code, message) => create_error(store, scopes, texts, code, message),
         Call::Typeof(value) => Ok(type_of(store, scopes, texts, value)?),
         Call::IsArray(value) => Ok(is_array(store, scopes, texts, value)?),
+        Call::IsError(value) => Ok(is_error(store, scopes, texts, value)?),
         Call::GetValueInt64(value) => Ok(get_value_int64(store, scopes, texts, value)?),
         Call::GetValueBigintInt64(value) => {
             Ok(get_value_bigint_int64(store, scopes, texts, value)?)

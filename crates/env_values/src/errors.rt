@@ -1,0 +1,96 @@
+//! Errors: what makes one of values, and the call that does.
+ghost use Rattle.std.specs.Prelude.{◌≡◌, ◌≢◌, ◌+◌, ◌<◌, ◌^◌, ◌++◌, [], ◌∷◌, option_map, IfSome, IfOk, OnOk, OnErr};
+ghost use Rattle.napi_types.specs.Graph.{IsLive, number_in, graph_of};
+ghost use Rattle.napi_types.specs.Heap.{new_error};
+ghost use Rattle.napi_types.specs.Values.{error_of};
+ghost use Rattle.value_store.specs.Changes.{MakesValue};
+ghost use Rattle.env_values.specs.Seen.{heap_of, HoldsLive, KeepsValues};
+ghost use Rattle.env_values.specs.Steps.{Comes, Gives};
+
+use crate::known::{recall, text, value_of_handle};
+use crate::stop::Stop;
+use handle_scope::Scopes;
+use napi_types::{Call, HandleId, NoMemory, Out, ValueId};
+use value_store::Store;
+
+/// Makes an error of the value that is its message and, where one is given, the value that is its code. What was live stays live,
+/// under its number.
+///
+/// Near constant time.
+pub fn error_value(
+    store: &mut Store,
+    code: Option<ValueId>,
+    message: ValueId,
+) -> Result<ValueId, NoMemory>
+    requires values { store.old.made + 2 < 2 ^ 48 }
+    requires code { IfSome code (λ c. IsLive store.old c.0) }
+    requires message { IsLive store.old message.0 }
+    ensures made { let error = error_of (store.old.made + 1) (option_map (λ c. c.0) code) message.0 in
+        IfOk result (λ id. MakesValue store.old store.new id.0 error) }
+    ensures graph { let error = error_of (store.old.made + 1) (option_map (λ c. number_in store.old c.0) code) (number_in store.old message.0) in
+        OnOk result (graph_of store.new ≡ graph_of store.old ++ error ∷ []) }
+    ensures kept { KeepsValues store.old store.new }
+    ensures err { OnErr result (store.new ≡ store.old) }
+{
+    // A value that is live has another number than a new one.
+    recall(store);
+    store.make_error(code, message)
+}
+
+/// A new error, and its handle. The place of the handle is taken first, so that an error is made only where its handle can be.
+fn give_error(
+    store: &mut Store,
+    scopes: &mut Scopes,
+    code: Option<ValueId>,
+    message: ValueId,
+) -> Result<Out, NoMemory>
+    requires standing { scopes.old.frames ≢ [] }
+    requires live { HoldsLive store.old scopes.old }
+    requires code { IfSome code (λ c. IsLive store.old c.0) }
+    requires message { IsLive store.old message.0 }
+    requires values { store.old.made + 2 < 2 ^ 48 }
+    requires handles { scopes.old.handles < 2 ^ 62 }
+    ensures gives { let before = heap_of store.old scopes.old in
+        let answer = new_error (option_map (λ c. number_in store.old c.0) code) (number_in store.old message.0) before in
+        Gives answer before result (heap_of store.new scopes.new) }
+    ensures live { HoldsLive store.new scopes.new }
+    ensures kept { KeepsValues store.old store.new }
+{
+    scopes.reserve()?;
+    recall(store);
+    let error = error_value(store, code, message)?;
+    Ok(Out::Handle(scopes.issue_reserved(error)))
+}
+
+/// `create_error`: an error, whose message is a string, and its code where there is one.
+pub(crate) fn create_error(
+    store: &mut Store,
+    scopes: &mut Scopes,
+    texts: u32,
+    code: Option<HandleId>,
+    message: HandleId,
+) -> Result<Out, Stop>
+    requires standing { scopes.old.frames ≢ [] }
+    requires live { HoldsLive store.old scopes.old }
+    requires values { store.old.made + 2 < 2 ^ 48 }
+    requires handles { scopes.old.handles < 2 ^ 62 }
+    ensures comes { let before = heap_of store.old scopes.old in
+        Comes texts before (Call.CreateError code message) result (heap_of store.new scopes.new) }
+    ensures live { HoldsLive store.new scopes.new }
+    ensures kept { KeepsValues store.old store.new }
+{
+    match code {
+        None => {
+            let message = value_of_handle(store, scopes, message)?;
+            let _ = text(message.body)?;
+            Ok(give_error(store, scopes, None, message.id)?)
+        }
+        Some(code) => {
+            let code = value_of_handle(store, scopes, code)?;
+            let message = value_of_handle(store, scopes, message)?;
+            let _ = text(code.body)?;
+            let _ = text(message.body)?;
+            Ok(give_error(store, scopes, Some(code.id), message.id)?)
+        }
+    }
+}
