@@ -84,3 +84,79 @@ fn strings_symbols_and_objects(rt: HostRuntime) -> Result<(), Fail> {
     ];
     compare(&rt, rt.alloc(), &rows)
 }
+
+/// A call of `create_error`, with a code above 0 or without one.
+fn error(code: u64, message: u64) -> Call {
+    let code = if code == 0 {
+        None
+    } else {
+        Some(HandleId(code))
+    };
+    Call::CreateError(code, HandleId(message))
+}
+
+#[test]
+fn errors(rt: HostRuntime) -> Result<(), Fail> {
+    // Handle 1 is the message, 2 the code, 3 no string, 4 an error with a code and 5 one without.
+    let rows = [
+        (Call::CreateStringUtf8(TextNo(0)), 0, handle(1)),
+        (Call::CreateStringUtf8(TextNo(2)), 0, handle(2)),
+        (Call::CreateInt64(7), 0, handle(3)),
+        (error(2, 1), 0, handle(4)),
+        (error(0, 1), 0, handle(5)),
+        (error(99, 1), 1, NOTHING),
+        (error(2, 99), 1, NOTHING),
+        (error(0, 99), 1, NOTHING),
+        (error(3, 1), 3, NOTHING),
+        (error(2, 3), 3, NOTHING),
+        (error(0, 3), 3, NOTHING),
+        (error(4, 1), 3, NOTHING),
+        (error(3, 99), 1, NOTHING),
+        (error(99, 3), 1, NOTHING),
+        kind(4, "object"),
+        kind(5, "object"),
+        (Call::IsError(HandleId(4)), 0, ("flag", 1)),
+        (Call::IsError(HandleId(5)), 0, ("flag", 1)),
+        (Call::IsArray(HandleId(4)), 0, ("flag", 0)),
+        (Call::DeleteProperty(HandleId(5), TextNo(0)), 0, ("flag", 1)),
+        (Call::IsError(HandleId(5)), 0, ("flag", 1)),
+        (error(1, 2), 0, handle(6)),
+        (Call::StrictEquals(HandleId(4), HandleId(6)), 0, ("flag", 0)),
+    ];
+    compare(&rt, rt.alloc(), &rows)
+}
+
+#[test]
+fn properties_of_errors(rt: HostRuntime) -> Result<(), Fail> {
+    // Handle 1 is the message, 2 the code, 3 an error with a code and 4 one without.
+    let rows = [
+        (Call::CreateStringUtf8(TextNo(0)), 0, handle(1)),
+        (Call::CreateStringUtf8(TextNo(2)), 0, handle(2)),
+        (error(2, 1), 0, handle(3)),
+        (error(0, 1), 0, handle(4)),
+        (Call::GetPropertyNames(HandleId(3)), 0, handle(5)),
+        (Call::GetArrayLength(HandleId(5)), 0, ("number", 2)),
+        (Call::GetElement(HandleId(5), 0), 0, handle(6)),
+        (Call::GetValueStringUtf8(HandleId(6)), 0, ("text", 0)),
+        (Call::GetElement(HandleId(5), 1), 0, handle(7)),
+        (Call::GetValueStringUtf8(HandleId(7)), 0, ("text", 1)),
+        (Call::GetNamedProperty(HandleId(3), TextNo(0)), 0, handle(8)),
+        (Call::GetValueStringUtf8(HandleId(8)), 0, ("text", 0)),
+        (Call::GetNamedProperty(HandleId(3), TextNo(1)), 0, handle(9)),
+        (Call::GetValueStringUtf8(HandleId(9)), 0, ("text", 2)),
+        (Call::GetPropertyNames(HandleId(4)), 0, handle(10)),
+        (Call::GetArrayLength(HandleId(10)), 0, ("number", 1)),
+        (
+            Call::HasNamedProperty(HandleId(4), TextNo(0)),
+            0,
+            ("flag", 1),
+        ),
+        (
+            Call::HasNamedProperty(HandleId(4), TextNo(1)),
+            0,
+            ("flag", 0),
+        ),
+        (Call::HasElement(HandleId(3), 0), 0, ("flag", 0)),
+    ];
+    compare(&rt, rt.alloc(), &rows)
+}
