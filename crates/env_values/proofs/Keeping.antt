@@ -1,5 +1,5 @@
 -- Values that are live stay so, under their creation numbers.
-use Rattle.std.proofs.Common.{◌≡◌, ℕ, refl}
+use Rattle.std.proofs.Common.{ℕ, refl}
 use Rattle.napi_types.specs.Graph.{StoreState, IsSound}
 use Rattle.napi_types.specs.Values.{Value}
 use Rattle.value_store.specs.Changes.{ChangesOnly, MakesValue, MakesList}

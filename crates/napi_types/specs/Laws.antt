@@ -1,5 +1,5 @@
 -- Laws over all environments and all runs.
-use Rattle.std.specs.Prelude.{◌≡◌, ℕ, ◌+◌, ◌*◌, ◌≤◌, List, length, take, Some, None, filter, is_some, ◌↔◌}
+use Rattle.std.specs.Prelude.{◌≡◌, ℕ, ◌+◌, ◌*◌, ◌≤◌, List, length, take, Some, None, filter, is_some, slice_get, codes, ◌↔◌}
 use Rattle.napi_types.specs.declared.call.Ask.{Ask}
 use Rattle.napi_types.specs.declared.call.Call.{Call}
 use Rattle.napi_types.specs.declared.call.Call.TheVariants.{Typeof}
@@ -19,6 +19,7 @@ use Rattle.napi_types.specs.Room.{reserved_journal, reserved_history, one_if}
 use Rattle.napi_types.specs.Scopes.{gives}
 use Rattle.napi_types.specs.Whole.{Setting, RunsBy, final_of}
 use Rattle.napi_types.specs.Run.{IsRunBy, ComputesBy}
+use Rattle.napi_types.specs.Texts.{fixed_texts, message_text, code_text}
 
 -- `typeof` refuses the handle as an invalid argument, tells nothing, and leaves the environment as it was
 pub record RefusesHandle (e : Environment) (h : HandleId) : Type 0 where
@@ -33,6 +34,11 @@ RefusesUnknownHandles = (e : Environment) (h : HandleId) → gives e.heap.scopes
 -- each call that is built has a row: exactly one group of calls answers it, and none answers another call
 abbrev pub EveryCallHasARow : Type 0
 EveryCallHasARow = (heap : Heap) (c : Call) (n : ℕ) → length (filter is_some (by_groups heap c n)) ≡ one_if (is_built c)
+
+-- the texts that name an error's properties are `message` and `code`, which every table of texts begins with
+pub record ErrorNamesAreFixed : Type 0 where
+  pub message : slice_get fixed_texts message_text ≡ Some (codes "message")
+  pub code : slice_get fixed_texts code_text ≡ Some (codes "code")
 
 -- a run, and what computes to be one, are the same
 abbrev pub RunsAreComputed : Type 0

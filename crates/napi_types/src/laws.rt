@@ -4,7 +4,7 @@ ghost use Rattle.napi_types.specs.ScopeOrder as scope_order;
 ghost use Rattle.napi_types.specs.ClosedScope as closed_scope;
 ghost use Rattle.napi_types.specs.NamesRun as names_run;
 ghost use Rattle.napi_types.specs.Cuts.{CutsForRoom, CutAtLastAsk, NotBeforeLastAsk};
-ghost use Rattle.napi_types.specs.Laws.{RefusesUnknownHandles, FrontsAreRuns, RoomSuffices, EveryCallHasARow, RunsAreComputed};
+ghost use Rattle.napi_types.specs.Laws.{RefusesUnknownHandles, FrontsAreRuns, RoomSuffices, EveryCallHasARow, ErrorNamesAreFixed, RunsAreComputed};
 
 /// The first run: the entries are a run of its script and come to its end.
 pub fn first_run_ends()
@@ -79,6 +79,11 @@ pub fn refuses_unknown_handles()
 /// Each call is answered by exactly one group of calls.
 pub fn every_call_has_a_row()
     ensures { EveryCallHasARow }
+{}
+
+/// An error's properties are named by the texts `message` and `code`.
+pub fn error_names_are_fixed()
+    ensures { ErrorNamesAreFixed }
 {}
 
 /// A frame is cut at a call that has no place in the journal, and for want of memory at a call that grows.
