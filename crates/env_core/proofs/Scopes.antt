@@ -1,21 +1,33 @@
--- What closing a scope answers, and what stays of a state's parts.
-use Rattle.std.proofs.Common.{◌≡◌, List, [], ◌∷◌, length, map, refl, ap, sym, ◌∙◌, Option, Some, None}
+-- What the calls on scopes answer, and what stays of a state's parts.
+use Rattle.std.proofs.Common.{◌≡◌, ℕ, ◌+◌, Bool, true, false, IsTrue, List, [], ◌∷◌, length, refl, ap, sym, ◌∙◌, Option, Some, None, is_some, option_map}
+use Rattle.std.specs.Option.{unwrap_or, option_or}
+use Rattle.napi_types.specs.declared.call.Call.{Call}
 use Rattle.napi_types.specs.declared.call.Call.TheVariants as call
 use Rattle.napi_types.specs.declared.entry.Out.TheVariants as out
+use Rattle.napi_types.specs.declared.ids.HandleId.{HandleId}
 use Rattle.napi_types.specs.declared.ids.ScopeId.{ScopeId}
+use Rattle.napi_types.specs.declared.ids.ScopeKind.{ScopeKind}
+use Rattle.napi_types.specs.declared.ids.ScopeKind.TheVariants as scope_kind
 use Rattle.napi_types.specs.declared.status.Status.{Status}
 use Rattle.napi_types.specs.declared.status.Status.TheVariants as status
-use Rattle.napi_types.specs.Calls.{answer_by, with_heap}
+use Rattle.napi_types.specs.Calls.{accepted, answer_by, with_heap}
 use Rattle.napi_types.specs.Environment.{Environment}
-use Rattle.napi_types.specs.Graph.{StoreState, IsLive}
-use Rattle.napi_types.specs.Lists.{first_changed}
-use Rattle.napi_types.specs.Replies.{plain}
-use Rattle.napi_types.specs.Scopes.{FrameScopes, close_in, opened_scopes, closing}
-use Rattle.handle_scope.specs.HandleScopes.{HandleScopes, scope_closed}
+use Rattle.napi_types.specs.Graph.{StoreState, IsLive, number_in}
+use Rattle.napi_types.specs.Heap.{Heap, handle_value, in_scopes}
+use Rattle.napi_types.specs.Lists.{first_changed, unless}
+use Rattle.napi_types.specs.Refusals.{refusal_in}
+use Rattle.napi_types.specs.Replies.{Answer, answered, plain}
+use Rattle.napi_types.specs.ScopeCalls.{with_escaped}
+use Rattle.napi_types.specs.Scopes.{Held, FrameScopes, gives, open_in, close_in, escape_in, opened_scopes, closing, escaping}
+use Rattle.napi_types.specs.Values.{undefined_value}
+use Rattle.handle_scope.specs.HandleScopes.{HandleScopes, is_fresh, scope_opened, scope_closed, handle_escaped}
 use Rattle.env_core.specs.declared.frame.StandingFrame.{StandingFrame}
-use Rattle.env_values.specs.Seen.{seen_frame, heap_of}
-use Rattle.env_core.specs.State.{IsState, Answers}
-use Rattle.env_core.proofs.SeenScopes.{seen-closed, closing-seen, all-closed}
+use Rattle.env_values.specs.Seen.{heap_of}
+use Rattle.env_values.proofs.Held.{escaped-holds}
+use Rattle.env_values.proofs.HandleValues.{unknown-handle, given-live}
+use Rattle.env_values.proofs.Seen.{gives-seen, escaped-seen}
+use Rattle.env_core.specs.State.{IsState, Answers, opening_call, closing_call}
+use Rattle.env_core.proofs.SeenScopes.{seen-opened, seen-closed, closing-seen, escaping-seen, all-opened, all-closed}
 
 length-changed : {A : Type 0} (f : A → A) (xs : List A) → length (first_changed f xs) ≡ length xs
 length-changed f [] = refl
@@ -25,33 +37,134 @@ length-changed f (x ∷ xs) = refl
 abbrev pub with_parts : Environment → StoreState → HandleScopes → Environment
 with_parts e store scopes = with_heap e (heap_of store scopes)
 
+-- the environment with other scopes
+abbrev pub with_seen : Environment → StoreState → HandleScopes → List FrameScopes → Environment
+with_seen e store scopes fs = with_heap e (record (heap_of store scopes) { scopes = fs })
+
+-- a scope opens inside the innermost one
+pub accepted-open : (e : Environment) (store : StoreState) (old new : HandleScopes) (kind : ScopeKind) (scope : ScopeId)
+    → IsTrue (is_fresh scope.0 old) → new ≡ scope_opened kind scope.0 old
+    → Answers (with_parts e store old) (opening_call kind) (plain status.Ok (out.Scope scope)) (with_parts e store new)
+accepted-open e store old new scope_kind.Plain scope fresh opened = record {
+  fresh = fresh;
+  reply = refl;
+  after =
+      ap (λ k. with_parts e store k) opened
+      ∙ ap (with_seen e store (scope_opened scope_kind.Plain scope.0 old)) (seen-opened store scope_kind.Plain scope.0 old.frames);
+}
+accepted-open e store old new scope_kind.Escapable scope fresh opened = record {
+  fresh = fresh;
+  reply = refl;
+  after =
+      ap (λ k. with_parts e store k) opened
+      ∙ ap (with_seen e store (scope_opened scope_kind.Escapable scope.0 old)) (seen-opened store scope_kind.Escapable scope.0 old.frames);
+}
+
+-- what a call on scopes answers whose first refusal is known
+by-refusal : (e : Environment) (store : StoreState) (old new : HandleScopes) (c : Call) (s : Status)
+    → refusal_in e.texts (heap_of store old) c ≡ Some s → new ≡ old → Answers (with_parts e store old) c (plain s out.Nothing) (with_parts e store new)
+by-refusal e store old new c s why same = record {
+  fresh = refl;
+  reply = ap (λ (o : Option Status). (answer_by (heap_of store old) c 0 o).reply) (sym why);
+  after = ap (λ k. with_parts e store k) same ∙ ap (λ (o : Option Status). with_heap e (answer_by (heap_of store old) c 0 o).after) (sym why);
+}
+
 -- a close that is refused answers why, and leaves all as it was
-pub refused-close : (e : Environment) (store : StoreState) (old new : HandleScopes) (scope : ScopeId) (s : Status)
-    → Some s ≡ closing scope.0 (opened_scopes old.frames) → new ≡ old
-    → Answers (with_parts e store old) (call.CloseHandleScope scope) (plain s out.Nothing) (with_parts e store new)
-refused-close e store old new scope s h same =
-    let why : Some s ≡ closing scope.0 (opened_scopes (map (seen_frame store) old.frames)) = h ∙ sym (closing-seen store scope.0 old.frames) in
+pub refused-close : (e : Environment) (store : StoreState) (old new : HandleScopes) (kind : ScopeKind) (scope : ScopeId) (s : Status)
+    → Some s ≡ closing scope.0 kind (opened_scopes old.frames) → new ≡ old
+    → Answers (with_parts e store old) (closing_call kind scope) (plain s out.Nothing) (with_parts e store new)
+refused-close e store old new scope_kind.Plain scope s h same =
+    by-refusal e store old new (call.CloseHandleScope scope) s (closing-seen store scope.0 scope_kind.Plain old.frames ∙ sym h) same
+refused-close e store old new scope_kind.Escapable scope s h same =
+    by-refusal e store old new (call.CloseEscapableHandleScope scope) s (closing-seen store scope.0 scope_kind.Escapable old.frames ∙ sym h) same
+
+-- what a close answers that nothing refuses
+by-close : (e : Environment) (store : StoreState) (old new : HandleScopes) (c : Call)
+    → refusal_in e.texts (heap_of store old) c ≡ None → accepted (heap_of store old) c 0 ≡ answered out.Nothing (in_scopes close_in (heap_of store old)) → new ≡ scope_closed old
+    → Answers (with_parts e store old) c (plain status.Ok out.Nothing) (with_parts e store new)
+by-close e store old new c why is closed =
+    let answer : answer_by (heap_of store old) c 0 (refusal_in e.texts (heap_of store old) c) ≡ answered out.Nothing (in_scopes close_in (heap_of store old)) =
+    ap (answer_by (heap_of store old) c 0) why ∙ is in
     record {
       fresh = refl;
-      reply = ap (λ (o : Option Status). (answer_by (heap_of store old) (call.CloseHandleScope scope) 0 o).reply) why;
-      after = ap (λ k. with_parts e store k) same ∙ ap (λ (o : Option Status). with_heap e (answer_by (heap_of store old) (call.CloseHandleScope scope) 0 o).after) why;
+      reply = ap (λ (a : Answer Heap). a.reply) (sym answer);
+      after =
+          ap (λ k. with_parts e store k) closed
+          ∙ ap (with_seen e store old) (seen-closed store old.frames)
+          ∙ ap (λ (a : Answer Heap). with_heap e a.after) (sym answer);
     }
 
 -- one that is accepted closes the innermost scope
-pub accepted-close : (e : Environment) (store : StoreState) (old new : HandleScopes) (scope : ScopeId)
-    → None ≡ closing scope.0 (opened_scopes old.frames) → new ≡ scope_closed old
-    → Answers (with_parts e store old) (call.CloseHandleScope scope) (plain status.Ok out.Nothing) (with_parts e store new)
-accepted-close e store old new scope h closed =
-    let why : None ≡ closing scope.0 (opened_scopes (map (seen_frame store) old.frames)) = h ∙ sym (closing-seen store scope.0 old.frames) in
-    let heap_with : List FrameScopes → Environment = λ fs. with_heap e (record (heap_of store old) { scopes = fs }) in
+pub accepted-close : (e : Environment) (store : StoreState) (old new : HandleScopes) (kind : ScopeKind) (scope : ScopeId)
+    → None ≡ closing scope.0 kind (opened_scopes old.frames) → new ≡ scope_closed old
+    → Answers (with_parts e store old) (closing_call kind scope) (plain status.Ok out.Nothing) (with_parts e store new)
+accepted-close e store old new scope_kind.Plain scope h closed =
+    by-close e store old new (call.CloseHandleScope scope) (closing-seen store scope.0 scope_kind.Plain old.frames ∙ sym h) refl closed
+accepted-close e store old new scope_kind.Escapable scope h closed =
+    by-close e store old new (call.CloseEscapableHandleScope scope) (closing-seen store scope.0 scope_kind.Escapable old.frames ∙ sym h) refl closed
+
+-- the refusals of an escape: an unknown handle, and then those of its row
+escape-refusal : (texts : ℕ) (heap : Heap) (scope : ScopeId) (h : HandleId) (b : Bool) → is_some (gives heap.scopes h.0) ≡ b
+    → refusal_in texts heap (call.EscapeHandle scope h) ≡ option_or (unless b status.InvalidArg) (escaping scope.0 (opened_scopes heap.scopes))
+escape-refusal texts heap scope h true known = rw known refl
+escape-refusal texts heap scope h false known = rw known refl
+
+-- a handle that no open scope holds does not escape
+pub unknown-escape : (e : Environment) (store : StoreState) (scopes : HandleScopes) (scope : ScopeId) (h : HandleId)
+    → None ≡ gives scopes.frames h.0 → Answers (with_parts e store scopes) (call.EscapeHandle scope h) (plain status.InvalidArg out.Nothing) (with_parts e store scopes)
+unknown-escape e store scopes scope h none =
+    by-refusal e store scopes scopes (call.EscapeHandle scope h) status.InvalidArg
+    (escape-refusal e.texts (heap_of store scopes) scope h false (unknown-handle store scopes.frames h.0 none)) refl
+
+-- a known one is given by its value's creation number
+known-handle : (store : StoreState) (scopes : HandleScopes) (h v : ℕ) → Some v ≡ gives scopes.frames h → gives (heap_of store scopes).scopes h ≡ Some (number_in store v)
+known-handle store scopes h v given = gives-seen store scopes.frames h ∙ ap (option_map (number_in store)) (sym given)
+
+-- an escape that is refused answers why, and leaves all as it was
+pub refused-escape : (e : Environment) (store : StoreState) (old new : HandleScopes) (scope : ScopeId) (h : HandleId) (v : ℕ) (s : Status)
+    → Some v ≡ gives old.frames h.0 → Some s ≡ escaping scope.0 (opened_scopes old.frames) → new ≡ old
+    → Answers (with_parts e store old) (call.EscapeHandle scope h) (plain s out.Nothing) (with_parts e store new)
+refused-escape e store old new scope h v s given why same =
+    by-refusal e store old new (call.EscapeHandle scope h) s
+    (escape-refusal e.texts (heap_of store old) scope h true (ap is_some (known-handle store old h.0 v given)) ∙ escaping-seen store scope.0 old.frames ∙ sym why) same
+
+-- one that is accepted gives the next handle to the scope outside
+pub accepted-escape : (e : Environment) (store : StoreState) (old new : HandleScopes) (scope : ScopeId) (h made : HandleId) (v : ℕ)
+    → Some v ≡ gives old.frames h.0 → None ≡ escaping scope.0 (opened_scopes old.frames) → made.0 ≡ old.handles + 1 → new ≡ handle_escaped scope.0 v old
+    → Answers (with_parts e store old) (call.EscapeHandle scope h) (plain status.Ok (out.Handle made)) (with_parts e store new)
+accepted-escape e store old new scope h made v given why next escaped =
+    let heap : Heap = heap_of store old in
+    let known : gives heap.scopes h.0 ≡ Some (number_in store v) = known-handle store old h.0 v given in
+    let none : refusal_in e.texts heap (call.EscapeHandle scope h) ≡ None =
+    escape-refusal e.texts heap scope h true (ap is_some known) ∙ escaping-seen store scope.0 old.frames ∙ sym why in
+    let value : handle_value heap h.0 ≡ number_in store v = ap (λ o. unwrap_or o undefined_value) known in
+    let given_handle : ℕ → Answer Heap = λ n. answered (out.Handle (record { 0 = old.handles + 1 })) (with_escaped scope.0 n heap) in
+    let answer : answer_by heap (call.EscapeHandle scope h) 0 (refusal_in e.texts heap (call.EscapeHandle scope h)) ≡ given_handle (number_in store v) =
+    ap (answer_by heap (call.EscapeHandle scope h) 0) none ∙ ap given_handle value in
     record {
       fresh = refl;
-      reply = ap (λ (o : Option Status). (answer_by (heap_of store old) (call.CloseHandleScope scope) 0 o).reply) why;
+      reply = ap (λ n. plain status.Ok (out.Handle (record { 0 = n }))) next ∙ ap (λ (a : Answer Heap). a.reply) (sym answer);
       after =
-          ap (λ k. with_parts e store k) closed
-          ∙ ap heap_with (seen-closed store old.frames)
-          ∙ ap (λ (o : Option Status). with_heap e (answer_by (heap_of store old) (call.CloseHandleScope scope) 0 o).after) why;
+          ap (λ k. with_parts e store k) escaped
+          ∙ ap (with_seen e store (handle_escaped scope.0 v old)) (escaped-seen store scope.0 (record { handle = old.handles + 1; value = v }) old.frames)
+          ∙ ap (λ (a : Answer Heap). with_heap e a.after) (sym answer);
     }
+
+-- a scope that opens leaves each frame its scopes, and what they hold live
+pub state-opened : (store : StoreState) (old new : HandleScopes) (frame : Option StandingFrame) (kind : ScopeKind) (n : ℕ) → IsState store old frame → new ≡ scope_opened kind n old → IsState store new frame
+state-opened store old new frame kind n s opened = rw opened (record {
+  live = all-opened (λ p. IsLive store p.value) kind n old.frames s.live;
+  frames = length-changed (open_in kind n) old.frames ∙ s.frames;
+})
+
+-- so does a handle that escapes
+pub state-escaped : (store : StoreState) (old new : HandleScopes) (frame : Option StandingFrame) (n h v : ℕ) → IsState store old frame → Some v ≡ gives old.frames h → new ≡ handle_escaped n v old → IsState store new frame
+state-escaped store old new frame n h v s given escaped =
+    let p : Held = record { handle = old.handles + 1; value = v } in
+    rw escaped (record {
+      live = escaped-holds (λ m. IsLive store m) n p old.frames (given-live store old h v s.live given) s.live;
+      frames = length-changed (escape_in n p) old.frames ∙ s.frames;
+    })
 
 -- a close leaves each frame its scopes, and what they hold live
 pub state-closed : (store : StoreState) (old new : HandleScopes) (frame : Option StandingFrame) → IsState store old frame → new ≡ scope_closed old → IsState store new frame

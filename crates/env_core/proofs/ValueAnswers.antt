@@ -20,6 +20,7 @@ use Rattle.napi_types.proofs.Answers.{answer_in-keeps}
 
 accepted-any : (heap : Heap) (c : Call) (n : ℕ) → is_value_call c ≡ true → accepted heap c 0 ≡ accepted heap c n
 accepted-any heap call.OpenHandleScope n h = cc
+accepted-any heap call.OpenEscapableHandleScope n h = cc
 accepted-any heap _ n h = refl
 
 by-any : (heap : Heap) (c : Call) (n : ℕ) (s : Option Status) → is_value_call c ≡ true → answer_by heap c 0 s ≡ answer_by heap c n s
@@ -32,6 +33,7 @@ answer-any texts heap c n h = by-any heap c n (refusal_in texts heap c) h
 
 accepted-fresh : (e : Environment) (heap : Heap) (c : Call) (n : ℕ) → is_value_call c ≡ true → is_fresh e (accepted heap c n).reply.out ≡ true
 accepted-fresh e heap call.OpenHandleScope n h = cc
+accepted-fresh e heap call.OpenEscapableHandleScope n h = cc
 accepted-fresh e heap _ n h = refl
 
 by-fresh : (e : Environment) (heap : Heap) (c : Call) (n : ℕ) (s : Option Status) → is_value_call c ≡ true → is_fresh e (answer_by heap c n s).reply.out ≡ true

@@ -1,6 +1,10 @@
 -- The environment's state as the machine sees it.
 use Rattle.std.specs.Prelude.{◌≡◌, ℕ, List, [], ◌∷◌, length, Option, Some, None, IsTrue}
 use Rattle.napi_types.specs.declared.call.Call.{Call}
+use Rattle.napi_types.specs.declared.call.Call.TheVariants as call
+use Rattle.napi_types.specs.declared.ids.ScopeId.{ScopeId}
+use Rattle.napi_types.specs.declared.ids.ScopeKind.{ScopeKind}
+use Rattle.napi_types.specs.declared.ids.ScopeKind.TheVariants as scope_kind
 use Rattle.napi_types.specs.declared.entry.Entry.{Entry}
 use Rattle.napi_types.specs.declared.entry.Reply.{Reply}
 use Rattle.napi_types.specs.Frames.{Frame}
@@ -30,6 +34,15 @@ caller_of (f ∷ fs) = f.addon
 pub record IsState (store : StoreState) (scopes : HandleScopes) (frame : Option StandingFrame) : Type 0 where
   pub live : HoldsLive store scopes
   pub frames : length scopes.frames ≡ length (standing frame)
+
+-- the call that opens a scope of a kind, and the one that closes it
+abbrev pub opening_call : ScopeKind → Call
+opening_call scope_kind.Plain = call.OpenHandleScope
+opening_call scope_kind.Escapable = call.OpenEscapableHandleScope
+
+abbrev pub closing_call : ScopeKind → ScopeId → Call
+closing_call scope_kind.Plain scope = call.CloseHandleScope scope
+closing_call scope_kind.Escapable scope = call.CloseEscapableHandleScope scope
 
 -- the call's entry is the machine's, with a fresh number where it gives one, and the environment is the one after it
 pub record Calls (old : Environment) (c : Call) (x : Entry) (new : Environment) : Type 0 where

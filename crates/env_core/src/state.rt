@@ -7,13 +7,14 @@ ghost use Rattle.napi_types.specs.Environment.{new_environment};
 ghost use Rattle.napi_types.specs.Replies.{plain as plain_reply};
 ghost use Rattle.napi_types.specs.Room.{is_growing};
 ghost use Rattle.napi_types.specs.Values.{most_names};
-ghost use Rattle.env_core.specs.State.{Calls, Answers, caller_of};
+ghost use Rattle.env_core.specs.State.{Calls, Answers, caller_of, opening_call, closing_call};
 
 use crate::frame::StandingFrame;
 use env_values::value_step;
 use handle_scope::{ScopeKind, Scopes};
 use napi_types::{
-    Actor, Call, Cause, Entry, HostStep, NoMemory, Out, Phase, Reply, ScopeId, Status, What, Why,
+    Actor, Call, Cause, Entry, HandleId, HostStep, NoMemory, Out, Phase, Reply, ScopeId, Status,
+    What, Why,
 };
 use std::alloc::Global;
 use std::marker::Model;
@@ -161,8 +162,13 @@ impl State {
             return self.value_call(call);
         }
         match call {
-            Call::OpenHandleScope => self.open_scope(),
-            Call::CloseHandleScope(scope) => Ok(self.close_scope(*scope)),
+            Call::OpenHandleScope => self.open_scope(ScopeKind::Plain),
+            Call::OpenEscapableHandleScope => self.open_scope(ScopeKind::Escapable),
+            Call::CloseHandleScope(scope) => Ok(self.close_scope(*scope, ScopeKind::Plain)),
+            Call::CloseEscapableHandleScope(scope) => {
+                Ok(self.close_scope(*scope, ScopeKind::Escapable))
+            }
+            Call::EscapeHandle(scope, handle) => Ok(self.escape(*scope, *handle)),
             Call::GetVersion => Ok(plain(Status::Ok, Out::Unsigned(VERSION))),
             _ => unreachable!(),
         }
@@ -201,25 +207,40 @@ impl State {
         }
     }
 
-    /// A scope of a fresh number opens inside the innermost one.
-    fn open_scope(&mut self) -> Result<Reply, NoMemory>
+    /// A scope of this kind and a fresh number opens inside the innermost one.
+    fn open_scope(&mut self, kind: ScopeKind) -> Result<Reply, NoMemory>
         requires standing { self.old.frames ≢ [] }
         requires scopes { length self.old.heap.scope_numbers < 2 ^ 62 }
-        ensures ok { IfOk result (λ reply. Answers self.old call_of.OpenHandleScope reply self.new) }
+        ensures ok { IfOk result (λ reply. Answers self.old (opening_call kind) reply self.new) }
         ensures err { OnErr result (self.new ≡ self.old) }
     {
-        let scope = self.scopes.open_scope(ScopeKind::Plain)?;
+        let scope = self.scopes.open_scope(kind)?;
         Ok(plain(Status::Ok, Out::Scope(scope)))
     }
 
-    /// The innermost scope closes, if it is the one that the call names.
-    fn close_scope(&mut self, scope: ScopeId) -> Reply
-        ensures { Answers self.old (call_of.CloseHandleScope scope) result self.new }
+    /// The innermost scope closes, if it is the one that the call names, and of the kind that the call closes.
+    fn close_scope(&mut self, scope: ScopeId, kind: ScopeKind) -> Reply
+        ensures { Answers self.old (closing_call kind scope) result self.new }
     {
-        if let Err(status) = self.scopes.close_scope(scope, ScopeKind::Plain) {
+        if let Err(status) = self.scopes.close_scope(scope, kind) {
             return plain(status, Out::Nothing);
         }
         plain(Status::Ok, Out::Nothing)
+    }
+
+    /// The value of a handle escapes from the scope that the call names, into the one that encloses it.
+    fn escape(&mut self, scope: ScopeId, handle: HandleId) -> Reply
+        requires { self.old.heap.handles < 2 ^ 62 }
+        ensures { Answers self.old (call_of.EscapeHandle scope handle) result self.new }
+    {
+        let Some(value) = self.scopes.look(handle) else {
+            return plain(Status::InvalidArg, Out::Nothing);
+        };
+        let escaped = match self.scopes.escape(scope, value) {
+            Ok(escaped) => escaped,
+            Err(status) => return plain(status, Out::Nothing),
+        };
+        plain(Status::Ok, Out::Handle(escaped))
     }
 
     /// Notes a call's status and counts its ask.

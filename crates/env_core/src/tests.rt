@@ -97,6 +97,7 @@ fn close(number: u64) -> Call {
 }
 
 mod creates;
+mod escapes;
 mod many_names;
 mod properties;
 mod reads;

@@ -4,7 +4,7 @@ use Rattle.std.specs.List.{All}
 use Rattle.std.specs.Option.{option_or}
 use Rattle.std.proofs.lemmas.List.Elements.{All-nil, All-cons, All-head, All-tail, All-append}
 use Rattle.napi_types.specs.Lists.{found, first_changed}
-use Rattle.napi_types.specs.Scopes.{Held, Scope, FrameScopes, value_in, value_in_scopes, gives, hold_in, hold_at, held_by_scopes, held_by_frame, held_by_frames}
+use Rattle.napi_types.specs.Scopes.{Held, Scope, FrameScopes, value_in, value_in_scopes, gives, hold_in, hold_at, inside, escape_at, escape_in, held_by_scopes, held_by_frame, held_by_frames}
 
 -- what holds of each element of two lists holds of each element of either
 pub All-left : {X : Type 0} (P : X → Type 0) (xs ys : List X) → All P (xs ++ ys) → All P xs
@@ -64,3 +64,30 @@ module _ (P : ℕ → Type 0) where
   held-holds p (f ∷ fs) here all =
       All-append OfValue (held_by_frames fs) (held_by_frame (hold_in p f)) (All-left OfValue (held_by_frames fs) (held_by_frame f) all)
       (one-more p f.own f.opened here (All-right OfValue (held_by_frames fs) (held_by_frame f) all))
+
+  inside-holds : (s : Scope) (f : FrameScopes) → All OfValue s.held → All OfValue (held_by_frame f) → All OfValue (held_by_frame (inside s f))
+  inside-holds s f held all =
+      All-append OfValue f.own (held_by_scopes f.opened ++ s.held) (All-left OfValue f.own (held_by_scopes f.opened) all)
+      (All-append OfValue (held_by_scopes f.opened) s.held (All-right OfValue f.own (held_by_scopes f.opened) all) held)
+
+  one-escaped : (n : ℕ) (p : Held) (own : List Held) (ss : List Scope) → P p.value → All OfValue (own ++ held_by_scopes ss) → All OfValue (held_by_frame (escape_at n p own ss))
+  one-escaped n p own [] here all = all
+  one-escaped n p own (s ∷ ss) here all =
+      let inner : All OfValue (held_by_scopes ss ++ s.held) = All-right OfValue own (held_by_scopes ss ++ s.held) all in
+      let outer : All OfValue (own ++ held_by_scopes ss) =
+      All-append OfValue own (held_by_scopes ss) (All-left OfValue own (held_by_scopes ss ++ s.held) all) (All-left OfValue (held_by_scopes ss) s.held inner) in
+      let held : All OfValue s.held = All-right OfValue (held_by_scopes ss) s.held inner in
+      by (inside-holds (record s { used = true }) (hold_at p own ss) held (one-more p own ss here outer))
+      (inside-holds s (escape_at n p own ss) held (one-escaped n p own ss here outer)) (s.number == n)
+    where
+      by : All OfValue (held_by_frame (inside (record s { used = true }) (hold_at p own ss))) → All OfValue (held_by_frame (inside s (escape_at n p own ss))) → (b : Bool)
+          → All OfValue (held_by_frame (cond b (inside (record s { used = true }) (hold_at p own ss)) (inside s (escape_at n p own ss))))
+      by found further true = found
+      by found further false = further
+
+  -- it holds of each held value where one handle more escapes
+  pub escaped-holds : (n : ℕ) (p : Held) (fs : List FrameScopes) → P p.value → All OfValue (held_by_frames fs) → All OfValue (held_by_frames (first_changed (escape_in n p) fs))
+  escaped-holds n p [] here all = all
+  escaped-holds n p (f ∷ fs) here all =
+      All-append OfValue (held_by_frames fs) (held_by_frame (escape_in n p f)) (All-left OfValue (held_by_frames fs) (held_by_frame f) all)
+      (one-escaped n p f.own f.opened here (All-right OfValue (held_by_frames fs) (held_by_frame f) all))

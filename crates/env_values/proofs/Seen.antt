@@ -6,7 +6,7 @@ use Rattle.std.proofs.lemmas.List.{map-append}
 use Rattle.std.proofs.lemmas.List.Elements.{All-head, All-tail}
 use Rattle.napi_types.specs.Graph.{StoreState, number_in}
 use Rattle.napi_types.specs.Lists.{found, first_changed}
-use Rattle.napi_types.specs.Scopes.{Held, Scope, FrameScopes, value_in, value_in_scopes, gives, hold_in, hold_at, held_by_scopes, held_by_frame, held_by_frames}
+use Rattle.napi_types.specs.Scopes.{Held, Scope, FrameScopes, value_in, value_in_scopes, gives, hold_in, hold_at, inside, escape_at, escape_in, held_by_scopes, held_by_frame, held_by_frames}
 use Rattle.env_values.specs.Seen.{seen_held, seen_scope, seen_frame}
 use Rattle.env_values.proofs.Held.{All-left, All-right}
 
@@ -41,12 +41,29 @@ module _ (s : StoreState) where
 
   held-seen-at : (p : Held) (own : List Held) (ss : List Scope) → seen_frame s (hold_at p own ss) ≡ hold_at (seen_held s p) (map (seen_held s) own) (map (seen_scope s) ss)
   held-seen-at p own [] = ap (λ l. record { own = l; opened = [] }) (map-append (seen_held s) own (p ∷ []))
-  held-seen-at p own (x ∷ ss) = ap (λ l. record { own = map (seen_held s) own; opened = record { number = x.number; held = l } ∷ map (seen_scope s) ss }) (map-append (seen_held s) x.held (p ∷ []))
+  held-seen-at p own (x ∷ ss) = ap (λ l. record { own = map (seen_held s) own; opened = record x { held = l } ∷ map (seen_scope s) ss }) (map-append (seen_held s) x.held (p ∷ []))
 
   -- one handle more is seen as one handle more
   pub held-seen : (p : Held) (fs : List FrameScopes) → map (seen_frame s) (first_changed (hold_in p) fs) ≡ first_changed (hold_in (seen_held s p)) (map (seen_frame s) fs)
   held-seen p [] = refl
   held-seen p (f ∷ fs) = ap (λ g. g ∷ map (seen_frame s) fs) (held-seen-at p f.own f.opened)
+
+  escaped-seen-at : (n : ℕ) (p : Held) (own : List Held) (ss : List Scope)
+      → seen_frame s (escape_at n p own ss) ≡ escape_at n (seen_held s p) (map (seen_held s) own) (map (seen_scope s) ss)
+  escaped-seen-at n p own [] = refl
+  escaped-seen-at n p own (x ∷ ss) = by (escaped-seen-at n p own ss) (x.number == n)
+    where
+      by : seen_frame s (escape_at n p own ss) ≡ escape_at n (seen_held s p) (map (seen_held s) own) (map (seen_scope s) ss) → (b : Bool)
+          → seen_frame s (cond b (inside (record x { used = true }) (hold_at p own ss)) (inside x (escape_at n p own ss)))
+          ≡ cond b (inside (record (seen_scope s x) { used = true }) (hold_at (seen_held s p) (map (seen_held s) own) (map (seen_scope s) ss)))
+          (inside (seen_scope s x) (escape_at n (seen_held s p) (map (seen_held s) own) (map (seen_scope s) ss)))
+      by rest true = ap (inside (seen_scope s (record x { used = true }))) (held-seen-at p own ss)
+      by rest false = ap (inside (seen_scope s x)) rest
+
+  -- a handle that escapes is seen as one that escapes
+  pub escaped-seen : (n : ℕ) (p : Held) (fs : List FrameScopes) → map (seen_frame s) (first_changed (escape_in n p) fs) ≡ first_changed (escape_in n (seen_held s p)) (map (seen_frame s) fs)
+  escaped-seen n p [] = refl
+  escaped-seen n p (f ∷ fs) = ap (λ g. g ∷ map (seen_frame s) fs) (escaped-seen-at n p f.own f.opened)
 
 -- two states of a store see scopes alike, where each held value has the same creation number in both
 module _ (s t : StoreState) where
@@ -62,7 +79,7 @@ module _ (s t : StoreState) where
   same-scopes : (ss : List Scope) → All IsSame (held_by_scopes ss) → map (seen_scope t) ss ≡ map (seen_scope s) ss
   same-scopes [] all = refl
   same-scopes (x ∷ ss) all =
-      ap (λ l. record { number = x.number; held = l } ∷ map (seen_scope t) ss) (same-held x.held (All-right IsSame (held_by_scopes ss) x.held all))
+      ap (λ l. record x { held = l } ∷ map (seen_scope t) ss) (same-held x.held (All-right IsSame (held_by_scopes ss) x.held all))
       ∙ ap (λ l. seen_scope s x ∷ l) (same-scopes ss (All-left IsSame (held_by_scopes ss) x.held all))
 
   same-frame : (f : FrameScopes) → All IsSame (held_by_frame f) → seen_frame t f ≡ seen_frame s f

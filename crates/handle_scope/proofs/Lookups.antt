@@ -12,7 +12,7 @@ pub option_or-assoc : {A : Type 0} (a b c : Option A) → option_or (option_or a
 option_or-assoc None b c = refl
 option_or-assoc (Some x) b c = refl
 
-option_or-none : {A : Type 0} (a : Option A) → option_or a None ≡ a
+pub option_or-none : {A : Type 0} (a : Option A) → option_or a None ≡ a
 option_or-none None = refl
 option_or-none (Some x) = refl
 
@@ -44,13 +44,15 @@ Lacks-held xs h l = record {
       rw (get_or-map held_of xs i x d here) (l.at i x here);
 }
 
-pub Rises-held : (xs : List HeldHandle) → Rises (λ x. x.handle) xs → Rises (λ p. p.handle) (map held_of xs)
-Rises-held xs r = record {
+-- the handles rise as contracts see them, and so they do in the stack
+pub Rises-of-held : (xs : List HeldHandle) → Rises (λ p. p.handle) (map held_of xs) → Rises (λ x. x.handle) xs
+Rises-of-held xs r = record {
   rise = λ i j d lt inside.
-      let x : HeldHandle = record { handle = d.handle; value = record { 0 = d.value } } in
-      let j_in : j < length xs = omega (arith, inside, length-map xs held_of) in
-      let i_in : i < length xs = omega arith in
-      rw (get_or-map held_of xs i x d i_in, get_or-map held_of xs j x d j_in) (r.rise i j x lt j_in);
+      let first : i < length xs = omega arith in
+      let at_i : (get_or (map held_of xs) i (held_of d)).handle ≡ (get_or xs i d).handle = ap (λ (q : Held). q.handle) (get_or-map held_of xs i d (held_of d) first) in
+      let at_j : (get_or (map held_of xs) j (held_of d)).handle ≡ (get_or xs j d).handle = ap (λ (q : Held). q.handle) (get_or-map held_of xs j d (held_of d) inside) in
+      let up : (get_or (map held_of xs) i (held_of d)).handle < (get_or (map held_of xs) j (held_of d)).handle = r.rise i j (held_of d) lt (omega (arith, inside, length-map xs held_of)) in
+      omega arith;
 }
 
 -- a handle that is not above the first of them is none of those after it
@@ -74,7 +76,20 @@ either-first p xs ys h true e r rest =
 either-first p xs ys h false e r rest =
     ap (option_or (value_in ys h)) (value_in-first p xs h false e) ∙ rest ∙ sym (value_in-first p (xs ++ ys) h false e)
 
+-- the first handle is the one that is looked for, or is not
+append-first : (p : Held) (xs ys : List Held) (h : ℕ) (same : Bool) → (p.handle == h) ≡ same
+    → value_in (xs ++ ys) h ≡ option_or (value_in xs h) (value_in ys h) → value_in (p ∷ xs ++ ys) h ≡ option_or (value_in (p ∷ xs) h) (value_in ys h)
+append-first p xs ys h true e rest =
+    value_in-first p (xs ++ ys) h true e ∙ sym (ap (λ o. option_or o (value_in ys h)) (value_in-first p xs h true e))
+append-first p xs ys h false e rest =
+    value_in-first p (xs ++ ys) h false e ∙ rest ∙ sym (ap (λ o. option_or o (value_in ys h)) (value_in-first p xs h false e))
+
 -- where the handles rise, one lies in one of two parts at most, so either part may be asked first
 pub value_in-either : (xs ys : List Held) (h : ℕ) → Rises (λ p. p.handle) (xs ++ ys) → option_or (value_in ys h) (value_in xs h) ≡ value_in (xs ++ ys) h
 value_in-either [] ys h r = option_or-none (value_in ys h)
 value_in-either (p ∷ xs) ys h r = either-first p xs ys h (p.handle == h) refl r (value_in-either xs ys h (Rises-tail (λ p. p.handle) p (xs ++ ys) r))
+
+-- what the earlier part says, or else the later one
+pub value_in-append : (xs ys : List Held) (h : ℕ) → value_in (xs ++ ys) h ≡ option_or (value_in xs h) (value_in ys h)
+value_in-append [] ys h = refl
+value_in-append (p ∷ xs) ys h = append-first p xs ys h (p.handle == h) refl (value_in-append xs ys h)

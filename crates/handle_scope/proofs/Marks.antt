@@ -1,19 +1,19 @@
 -- What each change of the stack and its marks does to the scopes that they stand for.
-use Rattle.std.proofs.Common.{◌≡◌, ◌≢◌, ◌∙◌, ℕ, ◌≤◌, List, [], ◌∷◌, ◌++◌, length, reverse, take, drop, refl, ap, sym, subst, arith, inl, inr, append_assoc, append-nil, ◌==◌, ◌||◌, not, true, false, Some}
-use Rattle.std.proofs.lemmas.List.Sorted.{list_any-IsPermutation, IsPermutation-reverse}
-use Rattle.std.specs.List.{list_any}
-use Rattle.std.specs.Option.{option_or}
-use Rattle.napi_types.specs.declared.status.Status.TheVariants as status
+use Rattle.std.proofs.Common.{◌≡◌, ◌≢◌, ◌∙◌, ℕ, suc, ◌+◌, ◌<◌, ◌≤◌, ◌==◌, true, false, List, [], ◌∷◌, ◌++◌, length, reverse, take, drop, get_or, refl, ap, sym, subst, arith, inl, inr, append_assoc, append-nil, Some, None}
 use Rattle.std.proofs.lemmas.Bool.{cases_lt}
-use Rattle.std.proofs.lemmas.List.{take-append-le, drop-append-le, take-take, take-append-drop, drop_all, reverse-append, length-append, length-take-le}
+use Rattle.std.proofs.lemmas.Bool.Decides.{nat_tests}
+use Rattle.std.proofs.lemmas.List.{take-append-le, drop-append-le, take-take, take-append-drop, drop_all, reverse-append, length-append, length-take-le, length-reverse}
+use Rattle.std.proofs.Math.ListN.{set}
+use Rattle.std.proofs.lemmas.List.{set_split, set-get_or, drop-set-add, take-set-le, length-set}
 use Rattle.std.proofs.Math.Seq.{drop-length, take-length}
-use Rattle.napi_types.specs.Lists.{first_changed, when, head}
-use Rattle.napi_types.specs.Scopes.{Held, FrameScopes, hold_in, open_in, close_in, opened_scopes, held_by_frames, held_by_scopes, gives, value_in, value_in_scopes, has_scope, closing}
+use Rattle.napi_types.specs.declared.ids.ScopeKind.{ScopeKind}
+use Rattle.napi_types.specs.Lists.{first_changed}
+use Rattle.napi_types.specs.Scopes.{Held, FrameScopes, hold_in, open_in, close_in, escape_in, inside, opened_scopes}
+use Rattle.handle_scope.specs.declared.scopes.HeldHandle.{HeldHandle}
 use Rattle.handle_scope.specs.declared.scopes.ScopeMark.{ScopeMark}
 use Rattle.handle_scope.specs.declared.scopes.FrameMark.{FrameMark}
-use Rattle.handle_scope.specs.Marks.{with_scope, scopes_above, frames_marked, AreScopesWithin, AreFramesWithin, Rises}
-use Rattle.handle_scope.proofs.Numbers.{Rises-take, Rises-drop}
-use Rattle.handle_scope.proofs.Lookups.{option_or-assoc, value_in-either}
+use Rattle.handle_scope.specs.Marks.{held_of, waiting, with_scope, scopes_above, frames_marked, AreScopesWithin, AreFramesWithin, ArePlaced, Rises, AreInOrder, AreScopesInOrder, AreFramesInOrder}
+use Rattle.handle_scope.proofs.Numbers.{Rises-push, AreAtMost-push, AreAtMost-more, Lacks, Lacks-tail, HasAt, Lacks-after, Lacks-reverse}
 
 -- A FRAME'S SCOPES
 -- the frame begins within the stack
@@ -25,12 +25,63 @@ within-more : (start : ℕ) (ss : List ScopeMark) (end more : ℕ) → end ≤ m
 within-more start [] end more le w = omega arith
 within-more start (s ∷ ss) end more le w = (omega (arith, w.0), w.1)
 
+-- once the innermost scope is closed, the stack reaches as far as that scope's mark at least
+closed-end : (s : ScopeMark) (hs : List Held) → s.start ≤ length hs → s.start ≤ length (take s.start hs ++ waiting s)
+closed-end s hs le = omega (arith, length-append (take s.start hs) (waiting s), length-take-le s.start hs le)
+
+pub within-closed : (start : ℕ) (s : ScopeMark) (ss : List ScopeMark) (hs : List Held) → AreScopesWithin start (s ∷ ss) (length hs)
+    → AreScopesWithin start ss (length (take s.start hs ++ waiting s))
+within-closed start s ss hs w = within-more start ss s.start (length (take s.start hs ++ waiting s)) (closed-end s hs w.0) w.1
+
+-- what stands below the mark of a scope is the same after its close
+pub take-closed : (n : ℕ) (s : ScopeMark) (hs : List Held) → n ≤ s.start → s.start ≤ length hs → take n (take s.start hs ++ waiting s) ≡ take n hs
+take-closed n s hs le within =
+    take-append-le n (take s.start hs) (waiting s) (omega (arith, length-take-le s.start hs within)) ∙ take-take n s.start hs le
+
 scopes-hold : (p : Held) (start : ℕ) (ss : List ScopeMark) (hs : List Held) → AreScopesWithin start ss (length hs)
     → scopes_above start ss (hs ++ p ∷ []) ≡ hold_in p (scopes_above start ss hs)
 scopes-hold p start [] hs w = ap (λ own. record { own = own; opened = [] }) (drop-append-le start hs (p ∷ []) w)
 scopes-hold p start (s ∷ ss) hs w =
-    ap (λ held. with_scope s.number held (scopes_above start ss (take s.start (hs ++ p ∷ [])))) (drop-append-le s.start hs (p ∷ []) w.0)
-    ∙ ap (λ rest. with_scope s.number (drop s.start hs ++ p ∷ []) (scopes_above start ss rest)) (take-append-le s.start hs (p ∷ []) w.0)
+    ap (λ held. with_scope s held (scopes_above start ss (take s.start (hs ++ p ∷ []) ++ waiting s))) (drop-append-le s.start hs (p ∷ []) w.0)
+    ∙ ap (λ rest. with_scope s (drop s.start hs ++ p ∷ []) (scopes_above start ss (rest ++ waiting s))) (take-append-le s.start hs (p ∷ []) w.0)
+
+-- ORDER
+order-push : (p : Held) (hs : List Held) (most more : ℕ) → AreInOrder hs most → most < p.handle → p.handle ≤ more → AreInOrder (hs ++ p ∷ []) more
+order-push p hs most more o above le = record {
+  rise = Rises-push (λ (q : Held). q.handle) hs p most o.rise o.issued above;
+  issued = AreAtMost-push (λ (q : Held). q.handle) hs p most more o.issued (omega arith) le;
+}
+
+order-more : (hs : List Held) (most more : ℕ) → most ≤ more → AreInOrder hs most → AreInOrder hs more
+order-more hs most more le o = record { rise = o.rise; issued = AreAtMost-more (λ (q : Held). q.handle) hs most more le o.issued }
+
+scopes-order-more : (ss : List ScopeMark) (hs : List Held) (most more : ℕ) → most ≤ more → AreScopesInOrder ss hs most → AreScopesInOrder ss hs more
+scopes-order-more [] hs most more le o = order-more hs most more le o
+scopes-order-more (s ∷ ss) hs most more le o =
+    (order-more hs most more le o.0, scopes-order-more ss (take s.start hs ++ waiting s) most more le o.1)
+
+frames-order-more : (fs : List FrameMark) (ss : List ScopeMark) (hs : List Held) (most more : ℕ) → most ≤ more → AreFramesInOrder fs ss hs most → AreFramesInOrder fs ss hs more
+frames-order-more [] ss hs most more le o = order-more hs most more le o
+frames-order-more (f ∷ fs) ss hs most more le o =
+    (scopes-order-more (reverse (drop f.scopes ss)) hs most more le o.0, frames-order-more fs (take f.scopes ss) (take f.start hs) most more le o.1)
+
+scopes-order-first : (ss : List ScopeMark) (hs : List Held) (most : ℕ) → AreScopesInOrder ss hs most → AreInOrder hs most
+scopes-order-first [] hs most o = o
+scopes-order-first (s ∷ ss) hs most o = o.0
+
+-- the handles of the whole stack are in order
+pub frames-order-first : (fs : List FrameMark) (ss : List ScopeMark) (hs : List Held) (most : ℕ) → AreFramesInOrder fs ss hs most → AreInOrder hs most
+frames-order-first [] ss hs most o = o
+frames-order-first (f ∷ fs) ss hs most o = scopes-order-first (reverse (drop f.scopes ss)) hs most o.0
+
+scopes-order-hold : (p : Held) (start : ℕ) (ss : List ScopeMark) (hs : List Held) (most more : ℕ) → AreScopesWithin start ss (length hs) → most < p.handle → p.handle ≤ more
+    → AreScopesInOrder ss hs most → AreScopesInOrder ss (hs ++ p ∷ []) more
+scopes-order-hold p start [] hs most more w above le o = order-push p hs most more o above le
+scopes-order-hold p start (s ∷ ss) hs most more w above le o =
+    let S : List Held → Type 0 = λ x. AreScopesInOrder ss (x ++ waiting s) more in (
+      order-push p hs most more o.0 above le,
+      subst S (sym (take-append-le s.start hs (p ∷ []) w.0)) (scopes-order-more ss (take s.start hs ++ waiting s) most more (omega arith) o.1),
+    )
 
 -- MARKS
 pub reverse-push : {A : Type 0} (xs : List A) (x : A) → reverse (xs ++ x ∷ []) ≡ x ∷ reverse xs
@@ -54,17 +105,37 @@ pub within-hold : (fs : List FrameMark) (ss : List ScopeMark) (n m : ℕ) → fs
 within-hold [] ss n m some le w = absurd (some refl)
 within-hold (f ∷ fs) ss n m some le w = (w.0, within-more f.start (reverse (drop f.scopes ss)) n m le w.1, w.2)
 
+pub order-hold : (p : Held) (fs : List FrameMark) (ss : List ScopeMark) (hs : List Held) (most more : ℕ) → AreFramesWithin fs ss (length hs) → most < p.handle → p.handle ≤ more
+    → AreFramesInOrder fs ss hs most → AreFramesInOrder fs ss (hs ++ p ∷ []) more
+order-hold p [] ss hs most more w above le o = order-push p hs most more o above le
+order-hold p (f ∷ fs) ss hs most more w above le o =
+    let ms : List ScopeMark = reverse (drop f.scopes ss) in
+    let within : f.start ≤ length hs = start-le f.start ms (length hs) w.1 in
+    let F : List Held → Type 0 = λ x. AreFramesInOrder fs (take f.scopes ss) x more in (
+      scopes-order-hold p f.start ms hs most more w.1 above le o.0,
+      subst F (sym (take-append-le f.start hs (p ∷ []) within)) (frames-order-more fs (take f.scopes ss) (take f.start hs) most more (omega arith) o.1),
+    )
+
 -- OPEN
-pub frames-open : (m : ScopeMark) (fs : List FrameMark) (ss : List ScopeMark) (hs : List Held) → AreFramesWithin fs ss (length hs) → m.start ≡ length hs
-    → frames_marked fs (ss ++ m ∷ []) hs ≡ first_changed (open_in m.number) (frames_marked fs ss hs)
-frames-open m [] ss hs w e = refl
-frames-open m (f ∷ fs) ss hs w e =
+-- the mark of a scope that opens
+abbrev pub opened_mark : ℕ → ScopeKind → ℕ → ℕ → ScopeMark
+opened_mark n kind start place = record { number = n; kind = kind; start = start; place = place; escaped = None }
+
+-- all that stands before the end
+all-taken : (hs : List Held) (n : ℕ) → n ≡ length hs → take n hs ++ [] ≡ hs
+all-taken hs n e = append-nil (take n hs) ∙ ap (λ k. take k hs) e ∙ take-length hs
+
+pub frames-open : (n : ℕ) (kind : ScopeKind) (at place : ℕ) (fs : List FrameMark) (ss : List ScopeMark) (hs : List Held) → AreFramesWithin fs ss (length hs) → at ≡ length hs
+    → frames_marked fs (ss ++ opened_mark n kind at place ∷ []) hs ≡ first_changed (open_in kind n) (frames_marked fs ss hs)
+frames-open n kind at place [] ss hs w e = refl
+frames-open n kind at place (f ∷ fs) ss hs w e =
+    let m : ScopeMark = opened_mark n kind at place in
     let ms : List ScopeMark = reverse (drop f.scopes ss) in
     let rest : List ScopeMark → List FrameScopes = λ x. frames_marked fs x (take f.start hs) in
     ap (λ x. scopes_above f.start x hs ∷ rest (take f.scopes (ss ++ m ∷ []))) (marks-push f.scopes ss m w.0)
     ∙ ap (λ x. scopes_above f.start (m ∷ ms) hs ∷ rest x) (take-append-le f.scopes ss (m ∷ []) w.0)
-    ∙ ap (λ x. with_scope m.number x (scopes_above f.start ms (take m.start hs)) ∷ rest (take f.scopes ss)) (ap (λ n. drop n hs) e ∙ drop-length hs)
-    ∙ ap (λ x. with_scope m.number [] (scopes_above f.start ms x) ∷ rest (take f.scopes ss)) (ap (λ n. take n hs) e ∙ take-length hs)
+    ∙ ap (λ x. with_scope m x (scopes_above f.start ms (take at hs ++ [])) ∷ rest (take f.scopes ss)) (ap (λ k. drop k hs) e ∙ drop-length hs)
+    ∙ ap (λ x. with_scope m [] (scopes_above f.start ms x) ∷ rest (take f.scopes ss)) (all-taken hs at e)
 
 pub within-open : (m : ScopeMark) (fs : List FrameMark) (ss : List ScopeMark) (n : ℕ) → fs ≢ [] → AreFramesWithin fs ss n → m.start ≡ n
     → AreFramesWithin fs (ss ++ m ∷ []) n
@@ -77,6 +148,24 @@ within-open m (f ∷ fs) ss n some w e =
       subst S (sym (marks-push f.scopes ss m w.0)) (omega arith, subst N (sym e) w.1),
       subst F (sym (take-append-le f.scopes ss (m ∷ []) w.0)) w.2,
     )
+
+pub order-open : (n : ℕ) (kind : ScopeKind) (at place : ℕ) (fs : List FrameMark) (ss : List ScopeMark) (hs : List Held) (most : ℕ) → AreFramesWithin fs ss (length hs)
+    → at ≡ length hs → AreFramesInOrder fs ss hs most → AreFramesInOrder fs (ss ++ opened_mark n kind at place ∷ []) hs most
+order-open n kind at place [] ss hs most w e o = o
+order-open n kind at place (f ∷ fs) ss hs most w e o =
+    let m : ScopeMark = opened_mark n kind at place in
+    let ms : List ScopeMark = reverse (drop f.scopes ss) in
+    let S : List ScopeMark → Type 0 = λ x. AreScopesInOrder x hs most in
+    let H : List Held → Type 0 = λ x. AreScopesInOrder ms x most in
+    let F : List ScopeMark → Type 0 = λ x. AreFramesInOrder fs x (take f.start hs) most in (
+      subst S (sym (marks-push f.scopes ss m w.0)) (scopes-order-first ms hs most o.0, subst H (sym (all-taken hs at e)) o.0),
+      subst F (sym (take-append-le f.scopes ss (m ∷ []) w.0)) o.1,
+    )
+
+pub placed-open : (m : ScopeMark) (ss : List ScopeMark) → m.place ≡ m.start + length ss → ArePlaced (reverse ss) → ArePlaced (reverse (ss ++ m ∷ []))
+placed-open m ss e p =
+    let P : List ScopeMark → Type 0 = λ x. ArePlaced x in
+    subst P (sym (reverse-push ss m)) (omega (arith, e, length-reverse ss), p)
 
 -- CLOSE
 pub none-opened : (fs : List FrameMark) (hs : List Held) → opened_scopes (frames_marked fs [] hs) ≡ []
@@ -93,8 +182,9 @@ mark-inside f fs ss m hs some = elim (cases_lt (length ss) f.scopes) [
 
 pub record Closes (fs : List FrameMark) (ss : List ScopeMark) (m : ScopeMark) (hs : List Held) : Type 0 where
   pub inside : m.start ≤ length hs
-  pub frames : frames_marked fs ss (take m.start hs) ≡ first_changed close_in (frames_marked fs (ss ++ m ∷ []) hs)
-  pub within : AreFramesWithin fs ss m.start
+  pub frames : frames_marked fs ss (take m.start hs ++ waiting m) ≡ first_changed close_in (frames_marked fs (ss ++ m ∷ []) hs)
+  pub within : AreFramesWithin fs ss (length (take m.start hs ++ waiting m))
+  pub in_order : (most : ℕ) → AreFramesInOrder fs (ss ++ m ∷ []) hs most → AreFramesInOrder fs ss (take m.start hs ++ waiting m) most
 
 pub frames-close : (fs : List FrameMark) (ss : List ScopeMark) (m : ScopeMark) (hs : List Held)
     → opened_scopes (frames_marked fs (ss ++ m ∷ []) hs) ≢ [] → AreFramesWithin fs (ss ++ m ∷ []) (length hs) → Closes fs ss m hs
@@ -106,124 +196,161 @@ frames-close (f ∷ fs) ss m hs some w =
     let scopes : AreScopesWithin f.start (m ∷ ms) (length hs) = subst S (marks-push f.scopes ss m le) w.1 in
     let begins : f.start ≤ m.start = start-le f.start ms m.start scopes.1 in
     let outer : take f.scopes (ss ++ m ∷ []) ≡ take f.scopes ss = take-append-le f.scopes ss (m ∷ []) le in
+    let below : take f.start (take m.start hs ++ waiting m) ≡ take f.start hs = take-closed f.start m hs begins scopes.0 in
     let F : List ScopeMark → Type 0 = λ x. AreFramesWithin fs x f.start in
+    let closed : List Held = take m.start hs ++ waiting m in
     record {
       inside = scopes.0;
-      within = (le, scopes.1, subst F outer w.2);
+      within = (le, within-closed f.start m ms hs scopes, subst F outer w.2);
       frames =
-          ap (λ x. scopes_above f.start ms (take m.start hs) ∷ frames_marked fs (take f.scopes ss) x) (take-take f.start m.start hs begins)
+          ap (λ x. scopes_above f.start ms closed ∷ frames_marked fs (take f.scopes ss) x) below
           ∙ sym (ap (λ x. close_in (scopes_above f.start x hs) ∷ frames_marked fs (take f.scopes (ss ++ m ∷ [])) (take f.start hs)) (marks-push f.scopes ss m le)
-          ∙ ap (λ x. scopes_above f.start ms (take m.start hs) ∷ frames_marked fs x (take f.start hs)) outer);
+          ∙ ap (λ x. scopes_above f.start ms closed ∷ frames_marked fs x (take f.start hs)) outer);
+      in_order = λ most o.
+          let O : List ScopeMark → Type 0 = λ x. AreScopesInOrder x hs most in
+          let G : List ScopeMark → Type 0 = λ x. AreFramesInOrder fs x (take f.start hs) most in
+          let H : List Held → Type 0 = λ x. AreFramesInOrder fs (take f.scopes ss) x most in
+          let here : AreScopesInOrder (m ∷ ms) hs most = subst O (marks-push f.scopes ss m le) o.0 in
+          (here.1, subst H (sym below) (subst G outer o.1));
     }
 
 -- ENTER AND LEAVE
-pub frames-enter : (f : FrameMark) (fs : List FrameMark) (ss : List ScopeMark) (hs : List Held) → f.start ≡ length hs → f.scopes ≡ length ss
-    → frames_marked (f ∷ fs) ss hs ≡ record { own = []; opened = [] } ∷ frames_marked fs ss hs
-frames-enter f fs ss hs e g = rw (e, g, drop-length ss, drop-length hs, take-length ss, take-length hs) refl
-
 pub within-enter : (f : FrameMark) (fs : List FrameMark) (ss : List ScopeMark) (n : ℕ) → f.start ≡ n → f.scopes ≡ length ss
     → AreFramesWithin fs ss n → AreFramesWithin (f ∷ fs) ss n
 within-enter f fs ss n e g w = rw (e, g, drop-length ss, take-length ss) (omega arith, omega arith, w)
 
--- WHAT IS HELD
-joined : (n m : ℕ) (hs : List Held) → n ≤ m → m ≤ length hs → drop n (take m hs) ++ drop m hs ≡ drop n hs
-joined n m hs le within =
-    sym (drop-append-le n (take m hs) (drop m hs) (omega (arith, length-take-le m hs within))) ∙ ap (drop n) (take-append-drop m hs)
+pub order-enter : (f : FrameMark) (fs : List FrameMark) (ss : List ScopeMark) (hs : List Held) (most : ℕ) → f.start ≡ length hs → f.scopes ≡ length ss
+    → AreFramesInOrder fs ss hs most → AreFramesInOrder (f ∷ fs) ss hs most
+order-enter f fs ss hs most e g o = rw (e, g, drop-length ss, take-length ss, take-length hs) (frames-order-first fs ss hs most o, o)
 
-held-scopes : (start : ℕ) (ss : List ScopeMark) (hs : List Held) → AreScopesWithin start ss (length hs)
-    → (scopes_above start ss hs).own ++ held_by_scopes (scopes_above start ss hs).opened ≡ drop start hs
-held-scopes start [] hs w = append-nil (drop start hs)
-held-scopes start (s ∷ ss) hs w =
-    let inner : FrameScopes = scopes_above start ss (take s.start hs) in
-    let N : ℕ → Type 0 = λ n. AreScopesWithin start ss n in
-    let within : AreScopesWithin start ss (length (take s.start hs)) = subst N (sym (length-take-le s.start hs w.0)) w.1 in
-    sym (append_assoc inner.own (held_by_scopes inner.opened) (drop s.start hs))
-    ∙ ap (λ x. x ++ drop s.start hs) (held-scopes start ss (take s.start hs) within)
-    ∙ joined start s.start hs (start-le start ss s.start w.1) w.0
+-- the marks of an inner part are placed, and so are those outside it
+pub placed-outer : (ms rs : List ScopeMark) → ArePlaced (ms ++ rs) → ArePlaced rs
+placed-outer [] rs p = p
+placed-outer (s ∷ ms) rs p = placed-outer ms rs p.1
 
--- the scopes hold what stands in the stack
-pub held-frames : (fs : List FrameMark) (ss : List ScopeMark) (hs : List Held) → AreFramesWithin fs ss (length hs) → held_by_frames (frames_marked fs ss hs) ≡ hs
-held-frames [] ss [] w = refl
-held-frames [] ss (h ∷ hs) w = absurd (omega (arith, w.1))
-held-frames (f ∷ fs) ss hs w =
-    let ms : List ScopeMark = reverse (drop f.scopes ss) in
-    let begins : f.start ≤ length hs = start-le f.start ms (length hs) w.1 in
-    let N : ℕ → Type 0 = λ n. AreFramesWithin fs (take f.scopes ss) n in
-    let outer : AreFramesWithin fs (take f.scopes ss) (length (take f.start hs)) = subst N (sym (length-take-le f.start hs begins)) w.2 in
-    ap (λ x. held_by_frames (frames_marked fs (take f.scopes ss) (take f.start hs)) ++ x) (held-scopes f.start ms hs w.1)
-    ∙ ap (λ x. x ++ drop f.start hs) (held-frames fs (take f.scopes ss) (take f.start hs) outer)
-    ∙ take-append-drop f.start hs
+-- the marks, the innermost first, where those from a place on are a frame's
+pub reverse-parts : {A : Type 0} (k : ℕ) (xs : List A) → reverse (drop k xs) ++ reverse (take k xs) ≡ reverse xs
+reverse-parts k xs = sym (reverse-append (take k xs) (drop k xs)) ∙ ap reverse (take-append-drop k xs)
 
--- LOOK
--- a frame's scopes give what the stack gives from the frame's place on
-gives-scopes : (start : ℕ) (ss : List ScopeMark) (hs : List Held) (h : ℕ) → AreScopesWithin start ss (length hs) → Rises (λ p. p.handle) hs
-    → option_or (value_in_scopes (scopes_above start ss hs).opened h) (value_in (scopes_above start ss hs).own h) ≡ value_in (drop start hs) h
-gives-scopes start [] hs h w r = refl
-gives-scopes start (s ∷ ss) hs h w r =
-    let inner : FrameScopes = scopes_above start ss (take s.start hs) in
-    let N : ℕ → Type 0 = λ n. AreScopesWithin start ss n in
-    let within : AreScopesWithin start ss (length (take s.start hs)) = subst N (sym (length-take-le s.start hs w.0)) w.1 in
-    let front : List Held = drop start (take s.start hs) in
-    let whole : front ++ drop s.start hs ≡ drop start hs = joined start s.start hs (start-le start ss s.start w.1) w.0 in
-    let R : List Held → Type 0 = λ x. Rises (λ p. p.handle) x in
-    option_or-assoc (value_in (drop s.start hs) h) (value_in_scopes inner.opened h) (value_in inner.own h)
-    ∙ ap (option_or (value_in (drop s.start hs) h)) (gives-scopes start ss (take s.start hs) h within (Rises-take (λ p. p.handle) s.start hs r))
-    ∙ value_in-either front (drop s.start hs) h (subst R (sym whole) (Rises-drop (λ p. p.handle) start hs r))
-    ∙ ap (λ x. value_in x h) whole
+pub placed-left : (k : ℕ) (ss : List ScopeMark) → ArePlaced (reverse ss) → ArePlaced (reverse (take k ss))
+placed-left k ss p =
+    let P : List ScopeMark → Type 0 = λ x. ArePlaced x in
+    placed-outer (reverse (drop k ss)) (reverse (take k ss)) (subst P (sym (reverse-parts k ss)) p)
 
--- the scopes give what the stack gives
-pub gives-frames : (fs : List FrameMark) (ss : List ScopeMark) (hs : List Held) (h : ℕ) → AreFramesWithin fs ss (length hs) → Rises (λ p. p.handle) hs
-    → gives (frames_marked fs ss hs) h ≡ value_in hs h
-gives-frames [] ss [] h w r = refl
-gives-frames [] ss (x ∷ hs) h w r = absurd (omega (arith, w.1))
-gives-frames (f ∷ fs) ss hs h w r =
-    let ms : List ScopeMark = reverse (drop f.scopes ss) in
-    let begins : f.start ≤ length hs = start-le f.start ms (length hs) w.1 in
-    let N : ℕ → Type 0 = λ n. AreFramesWithin fs (take f.scopes ss) n in
-    let outer : AreFramesWithin fs (take f.scopes ss) (length (take f.start hs)) = subst N (sym (length-take-le f.start hs begins)) w.2 in
-    let here : FrameScopes = scopes_above f.start ms hs in
-    let R : List Held → Type 0 = λ x. Rises (λ p. p.handle) x in
-    sym (option_or-assoc (value_in_scopes here.opened h) (value_in here.own h) (gives (frames_marked fs (take f.scopes ss) (take f.start hs)) h))
-    ∙ ap (λ x. option_or x (gives (frames_marked fs (take f.scopes ss) (take f.start hs)) h)) (gives-scopes f.start ms hs h w.1 r)
-    ∙ ap (option_or (value_in (drop f.start hs) h)) (gives-frames fs (take f.scopes ss) (take f.start hs) h outer (Rises-take (λ p. p.handle) f.start hs r))
-    ∙ value_in-either (take f.start hs) (drop f.start hs) h (subst R (sym (take-append-drop f.start hs)) r)
-    ∙ ap (λ x. value_in x h) (take-append-drop f.start hs)
+-- ESCAPE
+-- a list that has one element changed, with the innermost first
+reverse-middle : {A : Type 0} (xs ys : List A) (x : A) → reverse (xs ++ x ∷ ys) ≡ reverse ys ++ x ∷ reverse xs
+reverse-middle xs ys x =
+    reverse-append xs (x ∷ ys) ∙ ap (λ l. l ++ reverse xs) (reverse-append (x ∷ []) ys) ∙ append_assoc (reverse ys) (x ∷ []) (reverse xs)
 
--- CLOSING
-has-scopes : (n start : ℕ) (ss : List ScopeMark) (hs : List Held) → has_scope n (scopes_above start ss hs).opened ≡ list_any (λ s. s.number == n) ss
-has-scopes n start [] hs = refl
-has-scopes n start (s ∷ ss) hs = ap (λ b. (s.number == n) || b) (has-scopes n start ss (take s.start hs))
+reverse-set : {A : Type 0} (xs : List A) (i : ℕ) (y : A) → i < length xs → reverse (set xs i y) ≡ reverse (drop (suc i) xs) ++ y ∷ reverse (take i xs)
+reverse-set xs i y inside = ap reverse (set_split xs i y inside) ∙ reverse-middle (take i xs) (drop (suc i) xs) y
 
--- why a scope cannot be closed depends on the numbers alone
-pub closing-scopes : (n start other : ℕ) (ss : List ScopeMark) (hs gs : List Held)
-    → closing n (scopes_above start ss hs).opened ≡ closing n (scopes_above other ss gs).opened
-closing-scopes n start other [] hs gs = refl
-closing-scopes n start other (s ∷ ss) hs gs =
-    ap (λ b. option_or (when (not ((s.number == n) || b)) status.InvalidArg) (when (not (s.number == n)) status.HandleScopeMismatch))
-    (has-scopes n start ss (take s.start hs) ∙ sym (has-scopes n other ss (take s.start gs)))
+pub reverse-at : {A : Type 0} (xs : List A) (i : ℕ) (d : A) → i < length xs → reverse xs ≡ reverse (drop (suc i) xs) ++ get_or xs i d ∷ reverse (take i xs)
+reverse-at xs i d inside = ap reverse (sym (set-get_or xs i d)) ∙ reverse-set xs i (get_or xs i d) inside
 
-any-reverse : (n : ℕ) (ss : List ScopeMark) → list_any (λ s. s.number == n) (reverse ss) ≡ list_any (λ s. s.number == n) ss
-any-reverse n ss = sym (list_any-IsPermutation (λ (s : ScopeMark). s.number == n) ss (reverse ss) (IsPermutation-reverse ss))
+-- a mark after a handle escaped from its scope
+abbrev pub escaped_mark : ScopeMark → HeldHandle → ScopeMark
+escaped_mark m x = record m { escaped = Some x }
 
--- why a scope that is not the innermost cannot be closed
-closing-outer : (n : ℕ) (ms : List ScopeMark) (m : ScopeMark) → head ms ≡ Some m → (m.number == n) ≡ false
-    → closing n (scopes_above 0 ms []).opened ≡ option_or (when (not (list_any (λ s. s.number == n) ms)) status.InvalidArg) (Some status.HandleScopeMismatch)
-closing-outer n [] m e other = cc
-closing-outer n (x ∷ ms) m e other =
-    let same : x ≡ m = cc in
-    let differs : (x.number == n) ≡ false = ap (λ s. s.number == n) same ∙ other in
-    ap (λ b. option_or (when (not ((x.number == n) || b)) status.InvalidArg) (when (not (x.number == n)) status.HandleScopeMismatch))
-    (has-scopes n 0 ms (take x.start []))
-    ∙ ap (λ b. option_or (when (not ((x.number == n) || list_any (λ s. s.number == n) ms)) status.InvalidArg) (when (not b) status.HandleScopeMismatch)) differs
+-- a scope that is not the one that is looked for stays as it is
+passed-by : (n : ℕ) (s : ScopeMark) (hs : List Held) (p : Held) (f : FrameScopes) → (s.number == n) ≡ false
+    → with_scope s hs (escape_in n p f) ≡ escape_in n p (with_scope s hs f)
+passed-by n s hs p f e = rw e refl
 
-pub closing-there : (n : ℕ) (ss : List ScopeMark) (m : ScopeMark) → head (reverse ss) ≡ Some m → (m.number == n) ≡ false
-    → list_any (λ s. s.number == n) ss ≡ true → closing n (scopes_above 0 (reverse ss) []).opened ≡ Some status.HandleScopeMismatch
-closing-there n ss m e other there =
-    closing-outer n (reverse ss) m e other
-    ∙ ap (λ b. option_or (when (not b) status.InvalidArg) (Some status.HandleScopeMismatch)) (any-reverse n ss ∙ there)
+found-here : (n : ℕ) (m : ScopeMark) (x : HeldHandle) (hs : List Held) (f : FrameScopes) → (m.number == n) ≡ true → m.escaped ≡ None
+    → with_scope (escaped_mark m x) hs (hold_in (held_of x) f) ≡ escape_in n (held_of x) (with_scope m hs f)
+found-here n m x hs f e none = rw e refl
 
-pub closing-absent : (n : ℕ) (ss : List ScopeMark) (m : ScopeMark) → head (reverse ss) ≡ Some m → (m.number == n) ≡ false
-    → list_any (λ s. s.number == n) ss ≡ false → closing n (scopes_above 0 (reverse ss) []).opened ≡ Some status.InvalidArg
-closing-absent n ss m e other there =
-    closing-outer n (reverse ss) m e other
-    ∙ ap (λ b. option_or (when (not b) status.InvalidArg) (Some status.HandleScopeMismatch)) (any-reverse n ss ∙ there)
+scopes-escape : (n start : ℕ) (ys : List ScopeMark) (m : ScopeMark) (xs : List ScopeMark) (x : HeldHandle) (hs : List Held) → Lacks (λ s. s.number) ys n → m.number ≡ n → m.escaped ≡ None
+    → AreScopesWithin start (ys ++ m ∷ xs) (length hs)
+    → scopes_above start (ys ++ escaped_mark m x ∷ xs) hs ≡ escape_in n (held_of x) (scopes_above start (ys ++ m ∷ xs) hs)
+scopes-escape n start [] m xs x hs l e none w =
+    let P : ℕ → Type 0 = λ k. AreScopesWithin start xs k in
+    let below : List Held = take m.start hs in
+    let within : AreScopesWithin start xs (length below) = subst P (sym (length-take-le m.start hs w.0)) w.1 in
+    let before : scopes_above start xs below ≡ scopes_above start xs (below ++ waiting m) = ap (scopes_above start xs) (sym (append-nil below) ∙ ap (λ o. below ++ waiting (record m { escaped = o })) (sym none)) in
+    ap (with_scope (escaped_mark m x) (drop m.start hs)) (scopes-hold (held_of x) start xs below within)
+    ∙ found-here n m x (drop m.start hs) (scopes_above start xs below) (grind (arith, nat_tests)) none
+    ∙ ap (λ f. escape_in n (held_of x) (with_scope m (drop m.start hs) f)) before
+scopes-escape n start (y ∷ ys) m xs x hs l e none w =
+    let below : List Held = take y.start hs ++ waiting y in
+    let other : (y.number == n) ≡ false = grind (arith, nat_tests, l.at 0 y (omega arith)) in
+    ap (with_scope y (drop y.start hs)) (scopes-escape n start ys m xs x below (Lacks-tail (λ (s : ScopeMark). s.number) y ys n l) e none (within-closed start y (ys ++ m ∷ xs) hs w))
+    ∙ passed-by n y (drop y.start hs) (held_of x) (scopes_above start (ys ++ m ∷ xs) below) other
+
+scopes-within-escape : (start : ℕ) (ys : List ScopeMark) (m : ScopeMark) (xs : List ScopeMark) (x : HeldHandle) (end : ℕ)
+    → AreScopesWithin start (ys ++ m ∷ xs) end → AreScopesWithin start (ys ++ escaped_mark m x ∷ xs) end
+scopes-within-escape start [] m xs x end w = w
+scopes-within-escape start (y ∷ ys) m xs x end w = (w.0, scopes-within-escape start ys m xs x y.start w.1)
+
+scopes-order-escape : (start : ℕ) (ys : List ScopeMark) (m : ScopeMark) (xs : List ScopeMark) (x : HeldHandle) (hs : List Held) (most more : ℕ) → m.escaped ≡ None
+    → AreScopesWithin start (ys ++ m ∷ xs) (length hs) → most < x.handle → x.handle ≤ more
+    → AreScopesInOrder (ys ++ m ∷ xs) hs most → AreScopesInOrder (ys ++ escaped_mark m x ∷ xs) hs more
+scopes-order-escape start [] m xs x hs most more none w above le o =
+    let P : ℕ → Type 0 = λ k. AreScopesWithin start xs k in
+    let below : List Held = take m.start hs in
+    let within : AreScopesWithin start xs (length below) = subst P (sym (length-take-le m.start hs w.0)) w.1 in
+    let nothing : below ++ waiting m ≡ below = ap (λ o. below ++ waiting (record m { escaped = o })) none ∙ append-nil below in
+    let H : List Held → Type 0 = λ l. AreScopesInOrder xs l most in
+    (order-more hs most more (omega arith) o.0, scopes-order-hold (held_of x) start xs below most more within above le (subst H nothing o.1))
+scopes-order-escape start (y ∷ ys) m xs x hs most more none w above le o =
+    (order-more hs most more (omega arith) o.0, scopes-order-escape start ys m xs x (take y.start hs ++ waiting y) most more none (within-closed start y (ys ++ m ∷ xs) hs w) above le o.1)
+
+same-count : (ys : List ScopeMark) (m z : ScopeMark) (xs : List ScopeMark) → length (ys ++ z ∷ xs) ≡ length (ys ++ m ∷ xs)
+same-count ys m z xs = length-append ys (z ∷ xs) ∙ sym (length-append ys (m ∷ xs))
+
+placed-middle : (ys : List ScopeMark) (m : ScopeMark) (xs : List ScopeMark) (x : HeldHandle) → ArePlaced (ys ++ m ∷ xs) → ArePlaced (ys ++ escaped_mark m x ∷ xs)
+placed-middle [] m xs x p = p
+placed-middle (y ∷ ys) m xs x p = (p.0 ∙ ap (λ k. y.start + k) (sym (same-count ys m (escaped_mark m x) xs)), placed-middle ys m xs x p.1)
+
+pub placed-escape : (ss : List ScopeMark) (i : ℕ) (d : ScopeMark) (x : HeldHandle) → i < length ss → ArePlaced (reverse ss) → ArePlaced (reverse (set ss i (escaped_mark (get_or ss i d) x)))
+placed-escape ss i d x inside p =
+    let m : ScopeMark = get_or ss i d in
+    let P : List ScopeMark → Type 0 = λ l. ArePlaced l in
+    subst P (sym (reverse-set ss i (escaped_mark m x) inside)) (placed-middle (reverse (drop (suc i) ss)) m (reverse (take i ss)) x (subst P (reverse-at ss i d inside) p))
+
+-- what an escape from the i-th scope of the innermost frame does
+pub record Escapes (n : ℕ) (fs : List FrameMark) (ss : List ScopeMark) (at : ℕ) (x : HeldHandle) (d : ScopeMark) (hs : List Held) : Type 0 where
+  pub frames : frames_marked fs (set ss at (escaped_mark (get_or ss at d) x)) hs ≡ first_changed (escape_in n (held_of x)) (frames_marked fs ss hs)
+  pub within : AreFramesWithin fs (set ss at (escaped_mark (get_or ss at d) x)) (length hs)
+  pub in_order : (most more : ℕ) → most < x.handle → x.handle ≤ more → AreFramesInOrder fs ss hs most → AreFramesInOrder fs (set ss at (escaped_mark (get_or ss at d) x)) hs more
+
+pub frames-escape : (n : ℕ) (f : FrameMark) (fs : List FrameMark) (ss : List ScopeMark) (i : ℕ) (x : HeldHandle) (d : ScopeMark) (hs : List Held) → AreFramesWithin (f ∷ fs) ss (length hs)
+    → Rises (λ s. s.number) (drop f.scopes ss) → HasAt (λ s. s.number) (drop f.scopes ss) n i → (get_or (drop f.scopes ss) i d).escaped ≡ None
+    → get_or (drop f.scopes ss) i d ≡ get_or ss (f.scopes + i) d → Escapes n (f ∷ fs) ss (f.scopes + i) x d hs
+frames-escape n f fs ss i x d hs w r h none there =
+    let of_frame : List ScopeMark = drop f.scopes ss in
+    let m : ScopeMark = get_or of_frame i d in
+    let z : ScopeMark = escaped_mark m x in
+    let ys : List ScopeMark = reverse (drop (suc i) of_frame) in
+    let xs : List ScopeMark = reverse (take i of_frame) in
+    let written : escaped_mark (get_or ss (f.scopes + i) d) x ≡ z = ap (λ s. escaped_mark s x) (sym there) in
+    let after : List ScopeMark = set ss (f.scopes + i) (escaped_mark (get_or ss (f.scopes + i) d) x) in
+    let old : reverse of_frame ≡ ys ++ m ∷ xs = reverse-at of_frame i d h.inside in
+    let new : reverse (drop f.scopes after) ≡ ys ++ z ∷ xs =
+    ap (λ s. reverse (drop f.scopes (set ss (f.scopes + i) s))) written ∙ ap reverse (drop-set-add f.scopes ss i z) ∙ reverse-set of_frame i z h.inside in
+    let outer : take f.scopes after ≡ take f.scopes ss = take-set-le f.scopes ss (f.scopes + i) (escaped_mark (get_or ss (f.scopes + i) d) x) (omega arith) in
+    let lacks : Lacks (λ s. s.number) ys n = Lacks-reverse (λ (s : ScopeMark). s.number) (drop (suc i) of_frame) n (Lacks-after (λ (s : ScopeMark). s.number) of_frame n i r h) in
+    let W : List ScopeMark → Type 0 = λ l. AreScopesWithin f.start l (length hs) in
+    let F : List ScopeMark → Type 0 = λ l. AreFramesWithin fs l f.start in
+    let scopes : AreScopesWithin f.start (ys ++ m ∷ xs) (length hs) = subst W old w.1 in
+    record {
+      frames =
+          ap (λ l. scopes_above f.start l hs ∷ frames_marked fs (take f.scopes after) (take f.start hs)) new
+          ∙ ap (λ l. scopes_above f.start (ys ++ z ∷ xs) hs ∷ frames_marked fs l (take f.start hs)) outer
+          ∙ ap (λ l. l ∷ frames_marked fs (take f.scopes ss) (take f.start hs)) (scopes-escape n f.start ys m xs x hs lacks (h.same d) none scopes)
+          ∙ ap (λ l. escape_in n (held_of x) (scopes_above f.start l hs) ∷ frames_marked fs (take f.scopes ss) (take f.start hs)) (sym old);
+      within = (
+        omega (arith, w.0, length-set ss (f.scopes + i) (escaped_mark (get_or ss (f.scopes + i) d) x)),
+        subst W (sym new) (scopes-within-escape f.start ys m xs x (length hs) scopes),
+        subst F (sym outer) w.2,
+      );
+      in_order = λ most more above le o.
+          let O : List ScopeMark → Type 0 = λ l. AreScopesInOrder l hs most in
+          let N : List ScopeMark → Type 0 = λ l. AreScopesInOrder l hs more in
+          let G : List ScopeMark → Type 0 = λ l. AreFramesInOrder fs l (take f.start hs) more in (
+            subst N (sym new) (scopes-order-escape f.start ys m xs x hs most more none scopes above le (subst O old o.0)),
+            subst G (sym outer) (frames-order-more fs (take f.scopes ss) (take f.start hs) most more (omega arith) o.1),
+          );
+    }

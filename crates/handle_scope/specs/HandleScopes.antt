@@ -1,12 +1,15 @@
 -- The handle scopes as the machine sees them, and what each call makes of them.
-use Rattle.std.specs.Prelude.{ℕ, ◌+◌, ◌-◌, max, Bool, not, List, [], ◌∷◌}
+use Rattle.std.specs.Prelude.{ℕ, ◌+◌, ◌-◌, max, Bool, true, false, not, cond, List, [], ◌∷◌, ◌++◌, map, Option, Some, None}
+use Rattle.napi_types.specs.declared.ids.ScopeKind.{ScopeKind}
 use Rattle.napi_types.specs.Lists.{has_number, first_changed, tail}
-use Rattle.napi_types.specs.Scopes.{FrameScopes, no_handles, hold_in, open_in, close_in}
+use Rattle.napi_types.specs.Scopes.{Held, Scope, FrameScopes, no_handles, hold_in, open_in, close_in, escape_in}
 
 -- all handle scopes of an environment, and the numbers that were issued
 pub record HandleScopes : Type 0 where
   -- the scopes of the frames that stand, the innermost frame first
   pub frames : List FrameScopes
+  -- for each of these frames, whether a call of the frame around it entered it
+  pub by_call : List Bool
   -- how many handles were issued, and which scope numbers were
   pub handles : ℕ
   pub scope_numbers : List ℕ
@@ -15,7 +18,7 @@ pub record HandleScopes : Type 0 where
 
 -- no frame stands, and nothing was issued
 abbrev pub no_scopes : HandleScopes
-no_scopes = record { frames = []; handles = 0; scope_numbers = []; spare = 0 }
+no_scopes = record { frames = []; by_call = []; handles = 0; scope_numbers = []; spare = 0 }
 
 -- how many frames may stand
 abbrev pub most_frames : ℕ
@@ -23,15 +26,19 @@ most_frames = 64
 
 -- a frame begins inside the innermost one
 abbrev pub frame_entered : HandleScopes → HandleScopes
-frame_entered s = record s { frames = no_handles ∷ s.frames }
+frame_entered s = record s { frames = no_handles ∷ s.frames; by_call = false ∷ s.by_call }
+
+-- the same by a call of the innermost one, in which there is a place for the handle of what the call gives
+abbrev pub call_entered : HandleScopes → HandleScopes
+call_entered s = record s { frames = no_handles ∷ s.frames; by_call = true ∷ s.by_call }
 
 -- the innermost frame is gone, with all its scopes and the handles in them
 abbrev pub frame_left : HandleScopes → HandleScopes
-frame_left s = record s { frames = tail s.frames }
+frame_left s = record s { frames = tail s.frames; by_call = tail s.by_call }
 
--- a scope of that number is open inside the innermost one
-abbrev pub scope_opened : ℕ → HandleScopes → HandleScopes
-scope_opened n s = record s { frames = first_changed (open_in n) s.frames; scope_numbers = n ∷ s.scope_numbers }
+-- a scope of this kind and that number is open inside the innermost one
+abbrev pub scope_opened : ScopeKind → ℕ → HandleScopes → HandleScopes
+scope_opened kind n s = record s { frames = first_changed (open_in kind n) s.frames; scope_numbers = n ∷ s.scope_numbers }
 
 -- the innermost scope of the innermost frame is gone, with the handles in it
 abbrev pub scope_closed : HandleScopes → HandleScopes
@@ -41,9 +48,40 @@ scope_closed s = record s { frames = first_changed close_in s.frames }
 abbrev pub place_reserved : HandleScopes → HandleScopes
 place_reserved s = record s { spare = max 1 s.spare }
 
--- the innermost scope holds the next handle, of that value, at a spare place where there was one
+-- the innermost scope of the innermost frame holds the next handle, of that value
+abbrev pub next_held : ℕ → HandleScopes → HandleScopes
+next_held v s = record s { frames = first_changed (hold_in (record { handle = s.handles + 1; value = v })) s.frames; handles = s.handles + 1 }
+
+-- the same at a spare place, where there was one
 abbrev pub handle_issued : ℕ → HandleScopes → HandleScopes
-handle_issued v s = record s { frames = first_changed (hold_in (record { handle = s.handles + 1; value = v })) s.frames; handles = s.handles + 1; spare = s.spare - 1 }
+handle_issued v s = record (next_held v s) { spare = s.spare - 1 }
+
+-- the frame that a call entered is gone, and the innermost scope of its caller holds the next handle, of the value that the call gives, if it gives one
+abbrev pub call_left : Option ℕ → HandleScopes → HandleScopes
+call_left None s = frame_left s
+call_left (Some v) s = next_held v (frame_left s)
+
+-- the next handle, of that value, escapes from the innermost frame's scope of that number
+abbrev pub handle_escaped : ℕ → ℕ → HandleScopes → HandleScopes
+handle_escaped n v s = record s { frames = first_changed (escape_in n (record { handle = s.handles + 1; value = v })) s.frames; handles = s.handles + 1 }
+
+-- the values that handles hold, at places that are filled
+abbrev pub filled : List Held → List (Option ℕ)
+filled hs = map (λ p. Some p.value) hs
+
+-- the place for a handle that escapes from a scope, which lies in the scope that encloses it, as long as none has escaped
+abbrev pub free_place : Scope → List (Option ℕ)
+free_place s = cond s.used [] (None ∷ [])
+
+-- the handle places of a frame: those of an outer scope first, and in each scope in the order of their issue
+abbrev pub frame_places : List Held → List Scope → List (Option ℕ)
+frame_places own [] = filled own
+frame_places own (s ∷ ss) = (frame_places own ss ++ free_place s) ++ filled s.held
+
+-- the handle places of all frames, those of an outer frame first. Each scope that a call opened has a place for a handle that escapes from it; that of a plain scope stays free
+abbrev pub handle_places : List FrameScopes → List (Option ℕ)
+handle_places [] = []
+handle_places (f ∷ fs) = handle_places fs ++ frame_places f.own f.opened
 
 -- a scope number is above 0 and was never issued
 abbrev pub is_fresh : ℕ → HandleScopes → Bool

@@ -7,4 +7,5 @@ mod scopes;
 #[cfg(test)]
 mod tests;
 
-pub use scopes::{ScopeKind, Scopes};
+pub use napi_types::ScopeKind;
+pub use scopes::Scopes;

@@ -9,16 +9,26 @@ fn number(answer: Result<(), Status>) -> u16 {
     }
 }
 
-/// What two closes answer where one scope stands inside another; `true` names the inner one.
-fn closes(alloc: Global, first: bool, second: bool) -> Result<(u16, u16), NoMemory> {
+/// One close: whether it names the inner scope, and the kind as which it closes it.
+type Close = (bool, ScopeKind);
+
+const PLAIN: ScopeKind = ScopeKind::Plain;
+
+const ESCAPABLE: ScopeKind = ScopeKind::Escapable;
+
+/// What two closes answer where a scope of the second kind stands inside one of the first.
+fn closes(
+    alloc: Global,
+    kinds: (ScopeKind, ScopeKind),
+    first: Close,
+    second: Close,
+) -> Result<(u16, u16), NoMemory> {
     let mut scopes = Scopes::new(alloc)?;
     scopes.enter_frame();
-    let outer = scopes.open_scope(ScopeKind::Plain)?;
-    let inner = scopes.open_scope(ScopeKind::Plain)?;
-    let first = if first { inner } else { outer };
-    let second = if second { inner } else { outer };
-    let one = number(scopes.close_scope(first, ScopeKind::Plain));
-    let two = number(scopes.close_scope(second, ScopeKind::Plain));
+    let outer = scopes.open_scope(kinds.0)?;
+    let inner = scopes.open_scope(kinds.1)?;
+    let one = number(scopes.close_scope(if first.0 { inner } else { outer }, first.1));
+    let two = number(scopes.close_scope(if second.0 { inner } else { outer }, second.1));
     Ok((one, two))
 }
 
@@ -31,7 +41,63 @@ fn only_the_innermost_scope_closes(rt: HostRuntime) {
         (true, true, (0, 1)),
     ];
     for (first, second, want) in rows {
-        assert_eq!(rt; closes(rt.alloc(), first, second).ok(), Some(want));
+        let plain = closes(rt.alloc(), (PLAIN, PLAIN), (first, PLAIN), (second, PLAIN));
+        assert_eq!(rt; plain.ok(), Some(want));
+        let escapable = closes(
+            rt.alloc(),
+            (ESCAPABLE, ESCAPABLE),
+            (first, ESCAPABLE),
+            (second, ESCAPABLE),
+        );
+        assert_eq!(rt; escapable.ok(), Some(want));
+    }
+}
+
+#[test]
+fn a_scope_closes_as_its_own_kind(rt: HostRuntime) {
+    let rows = [
+        (
+            (PLAIN, ESCAPABLE),
+            (true, PLAIN),
+            (true, ESCAPABLE),
+            (13, 0),
+        ),
+        (
+            (PLAIN, ESCAPABLE),
+            (true, ESCAPABLE),
+            (false, ESCAPABLE),
+            (0, 13),
+        ),
+        (
+            (PLAIN, ESCAPABLE),
+            (true, ESCAPABLE),
+            (false, PLAIN),
+            (0, 0),
+        ),
+        ((PLAIN, ESCAPABLE), (true, ESCAPABLE), (true, PLAIN), (0, 1)),
+        (
+            (ESCAPABLE, PLAIN),
+            (true, ESCAPABLE),
+            (false, ESCAPABLE),
+            (13, 13),
+        ),
+        ((ESCAPABLE, PLAIN), (true, PLAIN), (false, PLAIN), (0, 13)),
+        (
+            (ESCAPABLE, PLAIN),
+            (true, PLAIN),
+            (false, ESCAPABLE),
+            (0, 0),
+        ),
+        (
+            (ESCAPABLE, ESCAPABLE),
+            (false, PLAIN),
+            (true, PLAIN),
+            (13, 13),
+        ),
+        ((PLAIN, PLAIN), (true, ESCAPABLE), (true, PLAIN), (13, 0)),
+    ];
+    for (kinds, first, second, want) in rows {
+        assert_eq!(rt; closes(rt.alloc(), kinds, first, second).ok(), Some(want));
     }
 }
 
@@ -59,7 +125,7 @@ fn looks(alloc: Global, leaves: bool) -> Result<[(u64, u64, u64, usize); 2], NoM
     let first = scopes.issue(ValueId(7))?;
     scopes.enter_frame();
     let second = scopes.issue(ValueId(8))?;
-    let scope = scopes.open_scope(ScopeKind::Plain)?;
+    let scope = scopes.open_scope(PLAIN)?;
     let third = scopes.issue(ValueId(9))?;
     let before = (
         value(&scopes, first),
@@ -70,7 +136,7 @@ fn looks(alloc: Global, leaves: bool) -> Result<[(u64, u64, u64, usize); 2], NoM
     if leaves {
         scopes.leave_frame();
     } else {
-        let _ = scopes.close_scope(scope, ScopeKind::Plain);
+        let _ = scopes.close_scope(scope, PLAIN);
     }
     let after = (
         value(&scopes, first),
@@ -85,31 +151,31 @@ fn looks(alloc: Global, leaves: bool) -> Result<[(u64, u64, u64, usize); 2], NoM
 fn handles_are_good_while_their_scope_is_open(rt: HostRuntime) {
     assert_eq!(rt;
         looks(rt.alloc(), false).ok(),
-        Some([(7, 8, 9, 3), (7, 8, 0, 2)])
+        Some([(7, 8, 9, 4), (7, 8, 0, 2)])
     );
     assert_eq!(rt;
         looks(rt.alloc(), true).ok(),
-        Some([(7, 8, 9, 3), (7, 0, 0, 1)])
+        Some([(7, 8, 9, 4), (7, 0, 0, 1)])
     );
 }
 
 /// Two handles, of the values 7 and 8, each in a scope of its own, the first of which is closed: their numbers, the
-/// values of both, what closing the first scope and closing it again answer, and the value at the one place.
-fn reissues(alloc: Global) -> Result<((u64, u64), (u64, u64), (u16, u16), u64), NoMemory> {
+/// values of both, what closing the first scope and closing it again answer, and the values at the two places.
+fn reissues(alloc: Global) -> Result<((u64, u64), (u64, u64), (u16, u16), (u64, u64)), NoMemory> {
     let mut scopes = Scopes::new(alloc)?;
     scopes.enter_frame();
-    let stale = scopes.open_scope(ScopeKind::Plain)?;
+    let stale = scopes.open_scope(PLAIN)?;
     let first = scopes.issue(ValueId(7))?;
-    let closes = number(scopes.close_scope(stale, ScopeKind::Plain));
-    let _ = scopes.open_scope(ScopeKind::Plain)?;
+    let closes = number(scopes.close_scope(stale, PLAIN));
+    let _ = scopes.open_scope(PLAIN)?;
     let second = scopes.issue(ValueId(8))?;
     let values = (value(&scopes, first), value(&scopes, second));
-    let again = number(scopes.close_scope(stale, ScopeKind::Plain));
+    let again = number(scopes.close_scope(stale, PLAIN));
     Ok((
         (first.0, second.0),
         values,
         (closes, again),
-        value_at(&scopes, 0),
+        (value_at(&scopes, 0), value_at(&scopes, 1)),
     ))
 }
 
@@ -117,7 +183,7 @@ fn reissues(alloc: Global) -> Result<((u64, u64), (u64, u64), (u16, u16), u64), 
 fn no_number_is_given_out_again(rt: HostRuntime) {
     assert_eq!(rt;
         reissues(rt.alloc()).ok(),
-        Some(((1, 2), (0, 8), (0, 1), 8))
+        Some(((1, 2), (0, 8), (0, 1), (0, 8)))
     );
 }
 
@@ -140,4 +206,209 @@ fn issues(alloc: Global) -> Result<((u64, u64), (u64, u64), usize), NoMemory> {
 #[test]
 fn a_reserved_place_takes_a_handle(rt: HostRuntime) {
     assert_eq!(rt; issues(rt.alloc()).ok(), Some(((1, 2), (7, 8), 2)));
+}
+
+/// The status of a refused escape, 0 where the handle escapes.
+fn refusal(answer: Result<HandleId, Status>) -> u16 {
+    match answer {
+        Ok(_) => 0,
+        Err(status) => status.number(),
+    }
+}
+
+/// What an escape answers out of a plain scope, out of an escapable one around that, out of the same again, out of the
+/// same inside a frame that a call entered, and out of the same once it is closed.
+fn escapes(alloc: Global) -> Result<[u16; 5], NoMemory> {
+    let mut scopes = Scopes::new(alloc)?;
+    scopes.enter_frame();
+    let outer = scopes.open_scope(ESCAPABLE)?;
+    let inner = scopes.open_scope(PLAIN)?;
+    let plain = refusal(scopes.escape(inner, ValueId(7)));
+    let first = refusal(scopes.escape(outer, ValueId(8)));
+    let twice = refusal(scopes.escape(outer, ValueId(9)));
+    scopes.enter_call()?;
+    let inside = refusal(scopes.escape(outer, ValueId(9)));
+    let _ = scopes.leave_call(None);
+    let _ = scopes.close_scope(inner, PLAIN);
+    let _ = scopes.close_scope(outer, ESCAPABLE);
+    let closed = refusal(scopes.escape(outer, ValueId(9)));
+    Ok([plain, first, twice, inside, closed])
+}
+
+#[test]
+fn one_handle_escapes_from_an_escapable_scope(rt: HostRuntime) {
+    assert_eq!(rt; escapes(rt.alloc()).ok(), Some([1, 0, 12, 1, 1]));
+}
+
+/// How many places the scopes have, and the values at the first six of them, 0 where a place is not filled or is none.
+fn places(scopes: &Scopes) -> (usize, [u64; 6]) {
+    (
+        scopes.held(),
+        [
+            value_at(scopes, 0),
+            value_at(scopes, 1),
+            value_at(scopes, 2),
+            value_at(scopes, 3),
+            value_at(scopes, 4),
+            value_at(scopes, 5),
+        ],
+    )
+}
+
+/// The places with the values 7, 8 and 9 in a frame, in an escapable scope of it and in a plain scope of that: at first,
+/// after the value 6 escaped from the escapable scope, after the plain one is closed, and after both are; and the value of
+/// the handle that escaped after each of these.
+fn steps(alloc: Global) -> Result<([(usize, [u64; 6]); 4], [u64; 3]), NoMemory> {
+    let mut scopes = Scopes::new(alloc)?;
+    scopes.enter_frame();
+    let _ = scopes.issue(ValueId(7))?;
+    let outer = scopes.open_scope(ESCAPABLE)?;
+    let _ = scopes.issue(ValueId(8))?;
+    let inner = scopes.open_scope(PLAIN)?;
+    let _ = scopes.issue(ValueId(9))?;
+    let before = places(&scopes);
+    let handle = match scopes.escape(outer, ValueId(6)) {
+        Ok(handle) => handle,
+        Err(_) => HandleId(0),
+    };
+    let escaped = (places(&scopes), value(&scopes, handle));
+    let _ = scopes.close_scope(inner, PLAIN);
+    let closed = (places(&scopes), value(&scopes, handle));
+    let _ = scopes.close_scope(outer, ESCAPABLE);
+    let left = (places(&scopes), value(&scopes, handle));
+    Ok((
+        [before, escaped.0, closed.0, left.0],
+        [escaped.1, closed.1, left.1],
+    ))
+}
+
+#[test]
+fn an_escaped_handle_takes_its_place_around_the_scope(rt: HostRuntime) {
+    let want = [
+        (5, [7, 0, 8, 0, 9, 0]),
+        (5, [7, 6, 8, 0, 9, 0]),
+        (3, [7, 6, 8, 0, 0, 0]),
+        (2, [7, 6, 0, 0, 0, 0]),
+    ];
+    assert_eq!(rt; steps(rt.alloc()).ok(), Some((want, [6, 6, 6])));
+}
+
+/// The places of calls inside each other: the value 7 in the outermost frame, 8 in the frame of a call, 9 in that of a
+/// call of it; then, after that one gave the value 5, after another one gave nothing, and after the outer one gave this.
+fn calls(alloc: Global, outer: Option<ValueId>) -> Result<[(usize, [u64; 6]); 4], NoMemory> {
+    let mut scopes = Scopes::new(alloc)?;
+    scopes.enter_frame();
+    let _ = scopes.issue(ValueId(7))?;
+    scopes.enter_call()?;
+    let _ = scopes.issue(ValueId(8))?;
+    let _ = scopes.open_scope(PLAIN)?;
+    scopes.enter_call()?;
+    let _ = scopes.issue(ValueId(9))?;
+    let _ = scopes.open_scope(ESCAPABLE)?;
+    let all = places(&scopes);
+    let _ = scopes.leave_call(Some(ValueId(5)));
+    let one = places(&scopes);
+    scopes.enter_call()?;
+    let _ = scopes.issue(ValueId(9))?;
+    let _ = scopes.leave_call(None);
+    let none = places(&scopes);
+    let _ = scopes.leave_call(outer);
+    Ok([all, one, none, places(&scopes)])
+}
+
+#[test]
+fn the_caller_holds_what_a_call_gives(rt: HostRuntime) {
+    let all = (5, [7, 8, 0, 9, 0, 0]);
+    let one = (4, [7, 8, 0, 5, 0, 0]);
+    assert_eq!(rt;
+        calls(rt.alloc(), Some(ValueId(4))).ok(),
+        Some([all, one, one, (2, [7, 4, 0, 0, 0, 0])])
+    );
+    assert_eq!(rt;
+        calls(rt.alloc(), None).ok(),
+        Some([all, one, one, (1, [7, 0, 0, 0, 0, 0])])
+    );
+}
+
+/// The handle that a call gives, 0 where it gives none.
+fn given(alloc: Global, value: Option<ValueId>) -> Result<u64, NoMemory> {
+    let mut scopes = Scopes::new(alloc)?;
+    scopes.enter_frame();
+    scopes.enter_call()?;
+    let _ = scopes.issue(ValueId(7))?;
+    Ok(scopes.leave_call(value).map_or(0, |handle| handle.0))
+}
+
+#[test]
+fn a_call_gives_a_handle_for_a_value(rt: HostRuntime) {
+    assert_eq!(rt; given(rt.alloc(), Some(ValueId(8))).ok(), Some(2));
+    assert_eq!(rt; given(rt.alloc(), None).ok(), Some(0));
+}
+
+/// The values of three handles that escaped one after the other: out of the innermost of three scopes, out of the
+/// outermost, and out of one that stands where the first was: at the end, and once that one is closed.
+fn replaced(alloc: Global) -> Result<[(u64, u64, u64); 2], NoMemory> {
+    let mut scopes = Scopes::new(alloc)?;
+    scopes.enter_frame();
+    let outer = scopes.open_scope(ESCAPABLE)?;
+    let middle = scopes.open_scope(PLAIN)?;
+    let inner = scopes.open_scope(ESCAPABLE)?;
+    let first = scopes.escape(inner, ValueId(7)).unwrap_or(HandleId(0));
+    let second = scopes.escape(outer, ValueId(8)).unwrap_or(HandleId(0));
+    let _ = scopes.close_scope(inner, ESCAPABLE);
+    let _ = scopes.close_scope(middle, PLAIN);
+    let _ = scopes.open_scope(PLAIN)?;
+    let inner = scopes.open_scope(ESCAPABLE)?;
+    let third = scopes.escape(inner, ValueId(9)).unwrap_or(HandleId(0));
+    let before = (
+        value(&scopes, first),
+        value(&scopes, second),
+        value(&scopes, third),
+    );
+    let _ = scopes.close_scope(inner, ESCAPABLE);
+    let after = (
+        value(&scopes, first),
+        value(&scopes, second),
+        value(&scopes, third),
+    );
+    Ok([before, after])
+}
+
+#[test]
+fn a_handle_is_no_other_that_escaped_in_its_place(rt: HostRuntime) {
+    assert_eq!(rt; replaced(rt.alloc()).ok(), Some([(0, 8, 9), (0, 8, 9)]));
+}
+
+/// The values of four handles that escaped from scopes inside each other, out of the innermost first: at once, after all
+/// scopes but the outermost are closed, and after that one is closed too.
+fn nested(alloc: Global) -> Result<[[u64; 4]; 3], NoMemory> {
+    let mut scopes = Scopes::new(alloc)?;
+    scopes.enter_frame();
+    let one = scopes.open_scope(ESCAPABLE)?;
+    let two = scopes.open_scope(ESCAPABLE)?;
+    let three = scopes.open_scope(ESCAPABLE)?;
+    let four = scopes.open_scope(ESCAPABLE)?;
+    let first = scopes.escape(four, ValueId(7)).unwrap_or(HandleId(0));
+    let second = scopes.escape(three, ValueId(8)).unwrap_or(HandleId(0));
+    let third = scopes.escape(two, ValueId(9)).unwrap_or(HandleId(0));
+    let fourth = scopes.escape(one, ValueId(10)).unwrap_or(HandleId(0));
+    let all = values(&scopes, [first, second, third, fourth]);
+    let _ = scopes.close_scope(four, ESCAPABLE);
+    let _ = scopes.close_scope(three, ESCAPABLE);
+    let _ = scopes.close_scope(two, ESCAPABLE);
+    let some = values(&scopes, [first, second, third, fourth]);
+    let _ = scopes.close_scope(one, ESCAPABLE);
+    Ok([all, some, values(&scopes, [first, second, third, fourth])])
+}
+
+fn values(scopes: &Scopes, handles: [HandleId; 4]) -> [u64; 4] {
+    handles.map(|handle| value(scopes, handle))
+}
+
+#[test]
+fn a_handle_stays_found_as_others_are_forgotten(rt: HostRuntime) {
+    assert_eq!(rt;
+        nested(rt.alloc()).ok(),
+        Some([[7, 8, 9, 10], [0, 0, 9, 10], [0, 0, 0, 10]])
+    );
 }

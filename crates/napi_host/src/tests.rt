@@ -25,6 +25,12 @@ const CLOSED_SCOPE: &[u8] =
 const CLOSED_SCOPE_TRACE: &[u8] =
     b"1 env opened 0 9\n2 env begin 0 init:0.0\n3 env open_handle_scope 0 scope\n4 env create_object 0 handle\n5 env close_handle_scope 0 -\n6 env typeof 1 -\n7 env end 0 -\n8 env go 0 -\n9 env loop_end 0 idle\n10 env drain 0 0\n11 env finals 0 -\n12 env gone 0 -\n";
 
+const ESCAPE_TWICE: &[u8] =
+    br#"{"version":9,"workers":0,"addons":[{"name":"a","entries":[[["open_escapable_handle_scope",0],["create_object",1],["escape_handle",0,1,2],["escape_handle",0,1,3],["close_escapable_handle_scope",0],["typeof",2,4],["typeof",1,4]]]}],"threads":[]}"#;
+
+const ESCAPE_TWICE_TRACE: &[u8] =
+    b"1 env opened 0 9\n2 env begin 0 init:0.0\n3 env open_escapable_handle_scope 0 scope\n4 env create_object 0 handle\n5 env escape_handle 0 handle\n6 env escape_handle 12 -\n7 env close_escapable_handle_scope 0 -\n8 env typeof 0 object\n9 env typeof 1 -\n10 env end 0 -\n11 env go 0 -\n12 env loop_end 0 idle\n13 env drain 0 0\n14 env finals 0 -\n15 env gone 0 -\n";
+
 const EMPTY: &[u8] = br#"{"version":9,"workers":0,"addons":[],"threads":[]}"#;
 
 const EMPTY_TRACE: &[u8] =
@@ -125,6 +131,7 @@ fn prints_the_worked_rows(rt: HostRuntime) -> Result<(), Fail> {
         (FIRST_RUN, FIRST_TRACE),
         (SCOPE_ORDER, SCOPE_ORDER_TRACE),
         (CLOSED_SCOPE, CLOSED_SCOPE_TRACE),
+        (ESCAPE_TWICE, ESCAPE_TWICE_TRACE),
         (EMPTY, EMPTY_TRACE),
         (NAMES, NAMES_TRACE),
         (THREE_ADDONS, THREE_ADDONS_TRACE),

@@ -39,7 +39,7 @@ handled old heap v s h n m = record {
   made = m;
 }
 
-in-scopes : (heap : Heap) (new : Heap) → length new.scopes ≡ length heap.scopes → new.handles ≡ heap.handles → length new.scope_numbers ≤ length heap.scope_numbers + 1 → new.made ≡ heap.made → HeapKeeps heap new
+in-scopes : (heap : Heap) (new : Heap) → length new.scopes ≡ length heap.scopes → new.handles ≤ heap.handles + 1 → length new.scope_numbers ≤ length heap.scope_numbers + 1 → new.made ≡ heap.made → HeapKeeps heap new
 in-scopes heap new d h n m = record { depth = d; handles = omega (arith, h); scopes = n; made = omega (arith, m) }
 
 none-last : (a b c : Option Status) → option_or a (option_or b c) ≡ None → c ≡ None
@@ -76,11 +76,14 @@ accepted-keeps texts heap (call.GetPropertyNames o) n h =
     let c : Call = call.GetPropertyNames o in
     let row : row_refusal heap c ≡ None = none-last (unknown_refusal texts heap c) (kind_refusal heap c) (row_refusal heap c) h in
     handled heap _ _ refl refl refl (named heap (length (names_of ps)) (length ps) (length-map ps _) (few (length ps) (not-when (nat_lt 65536 (length ps)) status.InvalidArg row)))
-accepted-keeps texts heap call.OpenHandleScope n h = in-scopes heap _ (length-changed _ heap.scopes) refl (omega arith) refl
-accepted-keeps texts heap (call.CloseHandleScope s) n h = in-scopes heap _ (length-changed _ heap.scopes) refl (omega arith) refl
-accepted-keeps texts heap (call.SetNamedProperty o name v) n h = in-scopes heap _ refl refl (omega arith) refl
-accepted-keeps texts heap (call.DeleteProperty o name) n h = in-scopes heap _ refl refl (omega arith) refl
-accepted-keeps texts heap (call.SetElement o at v) n h = in-scopes heap _ refl refl (omega arith) refl
+accepted-keeps texts heap call.OpenHandleScope n h = in-scopes heap _ (length-changed _ heap.scopes) (omega arith) (omega arith) refl
+accepted-keeps texts heap call.OpenEscapableHandleScope n h = in-scopes heap _ (length-changed _ heap.scopes) (omega arith) (omega arith) refl
+accepted-keeps texts heap (call.CloseHandleScope s) n h = in-scopes heap _ (length-changed _ heap.scopes) (omega arith) (omega arith) refl
+accepted-keeps texts heap (call.CloseEscapableHandleScope s) n h = in-scopes heap _ (length-changed _ heap.scopes) (omega arith) (omega arith) refl
+accepted-keeps texts heap (call.EscapeHandle s v) n h = in-scopes heap _ (length-changed _ heap.scopes) (omega arith) (omega arith) refl
+accepted-keeps texts heap (call.SetNamedProperty o name v) n h = in-scopes heap _ refl (omega arith) (omega arith) refl
+accepted-keeps texts heap (call.DeleteProperty o name) n h = in-scopes heap _ refl (omega arith) (omega arith) refl
+accepted-keeps texts heap (call.SetElement o at v) n h = in-scopes heap _ refl (omega arith) (omega arith) refl
 accepted-keeps texts heap _ n h = same heap
 
 by-refusal : (texts : ℕ) (heap : Heap) (c : Call) (n : ℕ) (s : Option Status) → refusal_in texts heap c ≡ s → HeapKeeps heap (answer_by heap c n s).after

@@ -37,10 +37,13 @@ is_value_call (call.GetElement _ _) = true
 is_value_call (call.HasElement _ _) = true
 is_value_call _ = false
 
--- the plain scopes, and the version
+-- the calls on scopes, and the version
 abbrev pub is_scope_or_version : Call → Bool
 is_scope_or_version call.OpenHandleScope = true
+is_scope_or_version call.OpenEscapableHandleScope = true
 is_scope_or_version (call.CloseHandleScope _) = true
+is_scope_or_version (call.CloseEscapableHandleScope _) = true
+is_scope_or_version (call.EscapeHandle _ _) = true
 is_scope_or_version call.GetVersion = true
 is_scope_or_version _ = false
 

@@ -5,6 +5,7 @@ pub mod ClosedScope
 pub mod Cuts
 pub mod Edge
 pub mod Environment
+pub mod EscapeTwice
 pub mod FirstRun
 pub mod Frames
 pub mod Graph

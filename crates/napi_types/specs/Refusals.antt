@@ -6,12 +6,13 @@ use Rattle.napi_types.specs.declared.body.Body.{Body}
 use Rattle.napi_types.specs.declared.call.Call.{Call}
 use Rattle.napi_types.specs.declared.call.Call.TheVariants as call
 use Rattle.napi_types.specs.declared.ids.HandleId.{HandleId}
+use Rattle.napi_types.specs.declared.ids.ScopeKind.TheVariants as scope_kind
 use Rattle.napi_types.specs.declared.status.Status.{Status}
 use Rattle.napi_types.specs.declared.status.Status.TheVariants as status
 use Rattle.napi_types.specs.Environment.{Environment}
 use Rattle.napi_types.specs.Heap.{Heap, handle_body, handle_properties}
 use Rattle.napi_types.specs.Lists.{one, when, unless}
-use Rattle.napi_types.specs.Scopes.{gives, opened_scopes, closing}
+use Rattle.napi_types.specs.Scopes.{gives, opened_scopes, closing, escaping}
 use Rattle.napi_types.specs.Values.{is_object_like, is_string, is_number, is_bigint, is_boolean, is_array, most_names, most_index}
 
 -- A HANDLE OR A TEXT THAT IS UNKNOWN
@@ -41,6 +42,7 @@ handles_of (call.GetPropertyNames h) = one h.0
 handles_of (call.SetElement h _ v) = h.0 ∷ one v.0
 handles_of (call.GetElement h _) = one h.0
 handles_of (call.HasElement h _) = one h.0
+handles_of (call.EscapeHandle _ h) = one h.0
 handles_of _ = []
 
 -- the texts that a call names
@@ -89,12 +91,15 @@ kind_refusal heap (call.HasElement h _) = expects heap h is_object_like status.O
 kind_refusal heap _ = None
 
 -- THE CALL'S OWN REFUSALS
--- a number is a whole number from -(2^53-1) to 2^53-1; an object with more than 65,536 names is not listed; an element's index is at most 65,535; scopes close innermost first
+-- a number is a whole number from -(2^53-1) to 2^53-1; an object with more than 65,536 names is not listed; an element's index is at most 65,535; scopes close innermost first;
+-- one handle escapes from an escapable scope
 abbrev pub row_refusal : Heap → Call → Option Status
 row_refusal heap (call.CreateInt64 i) = unless (int_le (negsuc 9007199254740990) i && int_le i (pos 9007199254740991)) status.InvalidArg
 row_refusal heap (call.GetPropertyNames h) = when (nat_lt most_names (length (handle_properties heap h.0))) status.InvalidArg
 row_refusal heap (call.SetElement _ at _) = when (nat_lt most_index at) status.InvalidArg
-row_refusal heap (call.CloseHandleScope s) = closing s.0 (opened_scopes heap.scopes)
+row_refusal heap (call.CloseHandleScope s) = closing s.0 scope_kind.Plain (opened_scopes heap.scopes)
+row_refusal heap (call.CloseEscapableHandleScope s) = closing s.0 scope_kind.Escapable (opened_scopes heap.scopes)
+row_refusal heap (call.EscapeHandle s _) = escaping s.0 (opened_scopes heap.scopes)
 row_refusal heap _ = None
 
 -- the first of the points that applies, in a heap and a table of so many texts

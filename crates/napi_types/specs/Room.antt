@@ -82,6 +82,7 @@ is_growing (call.GetPropertyNames _) = true
 is_growing (call.SetElement _ _ _) = true
 is_growing (call.GetElement _ _) = true
 is_growing call.OpenHandleScope = true
+is_growing call.OpenEscapableHandleScope = true
 is_growing _ = false
 
 -- the call grows, or entries, reserved places and its need pass the first places

@@ -1,6 +1,8 @@
 -- Handle scopes: those of each frame that stands, and the handles that they hold.
-use Rattle.std.specs.Prelude.{ℕ, ◌==◌, Bool, not, List, [], ◌∷◌, ◌++◌, Option, Some, None, option_map}
+use Rattle.std.specs.Prelude.{ℕ, ◌==◌, ◌&&◌, Bool, true, false, not, cond, find, List, [], ◌∷◌, ◌++◌, Option, Some, None, option_map}
 use Rattle.std.specs.Option.{option_or}
+use Rattle.napi_types.specs.declared.ids.ScopeKind.{ScopeKind}
+use Rattle.napi_types.specs.declared.ids.ScopeKind.TheVariants as scope_kind
 use Rattle.napi_types.specs.declared.status.Status.{Status}
 use Rattle.napi_types.specs.declared.status.Status.TheVariants as status
 use Rattle.napi_types.specs.Lists.{found, has, when, tail, one}
@@ -10,9 +12,11 @@ pub record Held : Type 0 where
   pub handle : ℕ
   pub value : ℕ
 
--- a scope that a call opened
+-- a scope that a call opened, and whether a handle has escaped from it
 pub record Scope : Type 0 where
   pub number : ℕ
+  pub kind : ScopeKind
+  pub used : Bool
   pub held : List Held
 
 -- the scopes of a frame: what its own scope holds, and the scopes that calls opened in it, the innermost first
@@ -47,15 +51,28 @@ hold_at p own (s ∷ ss) = record { own = own; opened = record s { held = s.held
 abbrev pub hold_in : Held → FrameScopes → FrameScopes
 hold_in p f = hold_at p f.own f.opened
 
--- a frame has one scope more, inside its innermost one
-abbrev pub open_in : ℕ → FrameScopes → FrameScopes
-open_in n f = record f { opened = record { number = n; held = [] } ∷ f.opened }
+-- a frame has one scope more, of this kind and this number, inside its innermost one
+abbrev pub open_in : ScopeKind → ℕ → FrameScopes → FrameScopes
+open_in kind n f = record f { opened = record { number = n; kind = kind; used = false; held = [] } ∷ f.opened }
 
 -- a frame's innermost scope is gone, with the handles in it
 abbrev pub close_in : FrameScopes → FrameScopes
 close_in f = record f { opened = tail f.opened }
 
--- the handles that scopes hold, in the order of their issue
+-- a scope inside the others of a frame
+abbrev pub inside : Scope → FrameScopes → FrameScopes
+inside s f = record f { opened = s ∷ f.opened }
+
+-- a handle escapes from the scope of that number: the scope that encloses it holds the handle, and it is used
+abbrev pub escape_at : ℕ → Held → List Held → List Scope → FrameScopes
+escape_at n p own [] = record { own = own; opened = [] }
+escape_at n p own (s ∷ ss) = cond (s.number == n) (inside (record s { used = true }) (hold_at p own ss)) (inside s (escape_at n p own ss))
+
+-- the same in a frame
+abbrev pub escape_in : ℕ → Held → FrameScopes → FrameScopes
+escape_in n p f = escape_at n p f.own f.opened
+
+-- the handles that scopes hold, those of an outer scope first, and in each scope in the order of their issue
 abbrev pub held_by_scopes : List Scope → List Held
 held_by_scopes [] = []
 held_by_scopes (s ∷ ss) = held_by_scopes ss ++ s.held
@@ -64,7 +81,7 @@ held_by_scopes (s ∷ ss) = held_by_scopes ss ++ s.held
 abbrev pub held_by_frame : FrameScopes → List Held
 held_by_frame f = f.own ++ held_by_scopes f.opened
 
--- the handles that the open scopes of all frames hold, in the order of their issue
+-- the handles that the open scopes of all frames hold
 abbrev pub held_by_frames : List FrameScopes → List Held
 held_by_frames [] = []
 held_by_frames (f ∷ fs) = held_by_frames fs ++ held_by_frame f
@@ -78,7 +95,27 @@ opened_scopes (f ∷ fs) = f.opened
 abbrev pub has_scope : ℕ → List Scope → Bool
 has_scope n ss = has (λ s. s.number) n ss
 
--- why the scope of that number cannot be closed: no scope is open, or else the number is none of theirs, or else it is not the innermost
-abbrev pub closing : ℕ → List Scope → Option Status
-closing n [] = Some status.HandleScopeMismatch
-closing n (s ∷ ss) = option_or (when (not (has_scope n (s ∷ ss))) status.InvalidArg) (when (not (s.number == n)) status.HandleScopeMismatch)
+-- two kinds are the same
+abbrev pub is_kind : ScopeKind → ScopeKind → Bool
+is_kind scope_kind.Plain scope_kind.Plain = true
+is_kind scope_kind.Escapable scope_kind.Escapable = true
+is_kind _ _ = false
+
+-- why the scope of that number cannot be closed as one of this kind: no scope is open, or else the number is none of theirs, or else it is not the
+-- innermost, or of the other kind
+abbrev pub closing : ℕ → ScopeKind → List Scope → Option Status
+closing n kind [] = Some status.HandleScopeMismatch
+closing n kind (s ∷ ss) = option_or (when (not (has_scope n (s ∷ ss))) status.InvalidArg) (when (not ((s.number == n) && is_kind s.kind kind)) status.HandleScopeMismatch)
+
+-- the escapable scope of that number
+abbrev pub escapable_scope : ℕ → List Scope → Option Scope
+escapable_scope n ss = find (λ s. (s.number == n) && is_kind s.kind scope_kind.Escapable) ss
+
+-- why no handle can escape from a scope: it is none that is escapable, or else one has escaped from it
+abbrev pub refuses_escape : Option Scope → Option Status
+refuses_escape None = Some status.InvalidArg
+refuses_escape (Some s) = when s.used status.EscapeCalledTwice
+
+-- why no handle can escape from the scope of that number
+abbrev pub escaping : ℕ → List Scope → Option Status
+escaping n ss = refuses_escape (escapable_scope n ss)

@@ -154,7 +154,12 @@ impl Call {
         ensures { result ≡ is_built self.now }
     {
         match self {
-            Call::OpenHandleScope | Call::CloseHandleScope(_) | Call::GetVersion => true,
+            Call::OpenHandleScope
+            | Call::OpenEscapableHandleScope
+            | Call::CloseHandleScope(_)
+            | Call::CloseEscapableHandleScope(_)
+            | Call::EscapeHandle(..)
+            | Call::GetVersion => true,
             _ => self.is_value_call(),
         }
     }

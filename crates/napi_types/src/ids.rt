@@ -1,4 +1,4 @@
-//! The numbers that name things. 0 is never issued.
+//! The numbers that name things, of which 0 is never issued, and the kinds of scopes.
 
 /// A handle, the manual's `napi_value`. Handles count from 1 over the whole run.
 #[derive(Clone, Copy)]
@@ -7,6 +7,15 @@ pub struct HandleId(pub u64);
 /// A handle scope, the manual's `napi_handle_scope`: any number that was never issued before.
 #[derive(Clone, Copy)]
 pub struct ScopeId(pub u64);
+
+/// What a scope that a call opens is for.
+#[derive(Clone, Copy)]
+pub enum ScopeKind {
+    /// The manual's `napi_handle_scope`.
+    Plain,
+    /// The manual's `napi_escapable_handle_scope`, from which one handle may escape into the scope around it.
+    Escapable,
+}
 
 /// A reference, the manual's `napi_ref`: any number that was never issued before.
 #[derive(Clone, Copy)]

@@ -2,6 +2,7 @@
 ghost use Rattle.napi_types.specs.FirstRun as first_run;
 ghost use Rattle.napi_types.specs.ScopeOrder as scope_order;
 ghost use Rattle.napi_types.specs.ClosedScope as closed_scope;
+ghost use Rattle.napi_types.specs.EscapeTwice as escape_twice;
 ghost use Rattle.napi_types.specs.NamesRun as names_run;
 ghost use Rattle.napi_types.specs.Cuts.{CutsForRoom, CutAtLastAsk, NotBeforeLastAsk};
 ghost use Rattle.napi_types.specs.Laws.{RefusesUnknownHandles, FrontsAreRuns, RoomSuffices, EveryCallHasARow, ErrorNamesAreFixed, RunsAreComputed};
@@ -54,6 +55,21 @@ pub fn closed_scope_prints()
 /// The call with that handle has no other status, and tells no kind.
 pub fn closed_scope_is_strict()
     ensures { closed_scope.IsStrict }
+{}
+
+/// A handle that escapes twice: the entries are a run of its script and come to its end.
+pub fn escape_twice_ends()
+    ensures { escape_twice.Ends }
+{}
+
+/// The text of that run, line by line.
+pub fn escape_twice_prints()
+    ensures { escape_twice.Prints }
+{}
+
+/// The first escape gives the next handle and the second none, and after the close the handle that escaped alone is good.
+pub fn escape_twice_is_strict()
+    ensures { escape_twice.IsStrict }
 {}
 
 /// Properties and elements: the entries are a run of their script and come to its end.

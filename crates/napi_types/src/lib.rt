@@ -24,7 +24,7 @@ pub use entry::{
     Actor, Cause, Duty, Entry, Failed, Given, HostStep, Limits, Local, LoopEnd, NoMemory, Out,
     Phase, Reply, SharedCall, Target, What, Why,
 };
-pub use ids::{HandleId, RefId, ScopeId, TextNo, Ticket, TsfnId, ValueId, WorkId};
+pub use ids::{HandleId, RefId, ScopeId, ScopeKind, TextNo, Ticket, TsfnId, ValueId, WorkId};
 pub use lists::{Actors, AddonPlan, EntryList, Listed, LocalList, OpList, OpLists, Plans, Record};
 pub use op::{Op, Regs};
 pub use script::{LimitName, Place, Script, Wrong};

@@ -6,7 +6,7 @@ pub returns-in-Err : goal.returns-in-Err
 returns-in-Err c =
     let s = c.self.inside in
     let k = c.in-Err.ensures in
-    rw (← c.self.view_is) (rw c.plain.ensures (refused-close (the_view s) s.store s.scopes c.close_scope.new.self c.args.scope c.in-Err.status k.refusal k.err))
+    rw (← c.self.view_is) (rw c.plain.ensures (refused-close (the_view s) s.store s.scopes c.close_scope.new.self c.args.kind c.args.scope c.in-Err.status k.refusal k.err))
 
 pub invariant_of-self-2 : goal.invariant_of-self-2
 invariant_of-self-2 c = state-closed c.self.inside.store c.self.inside.scopes c.close_scope.new.self c.self.inside.frame c.self.invariant c.in_default.ensures.ok
@@ -15,4 +15,4 @@ pub returns : goal.returns
 returns c =
     let s = c.self.inside in
     let k = c.in_default.ensures in
-    rw (← c.self.view_is) (rw c.plain-2.ensures (accepted-close (the_view s) s.store s.scopes c.close_scope.new.self c.args.scope k.refusal k.ok))
+    rw (← c.self.view_is) (rw c.plain-2.ensures (accepted-close (the_view s) s.store s.scopes c.close_scope.new.self c.args.kind c.args.scope k.refusal k.ok))
