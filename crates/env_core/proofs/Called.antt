@@ -10,7 +10,7 @@ use Rattle.napi_types.specs.Calls.{answer}
 use Rattle.napi_types.specs.Changes.{asks_made, noted, called}
 use Rattle.napi_types.specs.Frames.{Frame}
 use Rattle.napi_types.specs.Lists.{first_changed, tail}
-use Rattle.napi_types.proofs.Answers.{called-keeps}
+use Rattle.napi_types.proofs.Answers.{answer-keeps, called-keeps}
 
 abbrev pub told_entry : ℕ → ℕ → Call → Reply → Entry
 told_entry depth step c r = record { actor = actor.Env; depth = depth; step = step; what = what.Call c; reply = r; given = None }
@@ -21,8 +21,8 @@ entry-called e c n depth step r d s q =
     ap (λ x. told_entry x step c r) d ∙ ap (λ x. told_entry (length e.frames) x c r) s ∙ ap (λ x. told_entry (length e.frames) (asks_made e.frames) c x) q
 
 pub after-called : (e mid new : Environment) (c : Call) (n : ℕ) (r : Reply)
-    → r ≡ (answer e c n).reply → mid ≡ (answer e c n).after → new ≡ noted r.status mid → new ≡ (called e c n).after
-after-called e mid new c n r q m h = h ∙ ap (λ x. noted x.status mid) q ∙ ap (λ x. noted (answer e c n).reply.status x) m
+    → r ≡ (answer e c n).reply → mid ≡ (answer e c n).after → new ≡ noted c r.status mid → new ≡ (called e c n).after
+after-called e mid new c n r q m h = h ∙ ap (λ x. noted c x.status mid) q ∙ ap (λ x. noted c (answer e c n).reply.status x) m
 
 -- one frame stands
 pub stands-alone : (fs : List Frame) → length fs ≡ 1 → fs ≢ []
@@ -44,4 +44,6 @@ pub depth-called : (e : Environment) (c : Call) (n : ℕ) → length (called e c
 depth-called e c n = (called-keeps e c n).depth
 
 pub asks-called : (e : Environment) (c : Call) (n : ℕ) → e.frames ≢ [] → asks_made (called e c n).after.frames ≡ asks_made e.frames + 1
-asks-called e c n stands = asks-counted e.frames stands
+asks-called e c n stands =
+    let same : (answer e c n).after.frames ≡ e.frames = (answer-keeps e c n).frames in
+    ap (λ fs. asks_made (first_changed (λ f. record f { asks = f.asks + 1 }) fs)) same ∙ asks-counted e.frames stands

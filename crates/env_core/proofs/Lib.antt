@@ -1,5 +1,6 @@
 pub mod Called
 pub mod Cores
+pub mod Exceptions
 pub mod Scopes
 pub mod SeenScopes
 pub mod ValueAnswers

@@ -1,5 +1,5 @@
 -- What the calls on scopes answer, and what stays of a state's parts.
-use Rattle.std.proofs.Common.{◌≡◌, ℕ, ◌+◌, Bool, true, false, IsTrue, List, [], ◌∷◌, length, refl, ap, sym, ◌∙◌, Option, Some, None, is_some, option_map}
+use Rattle.std.proofs.Common.{◌≡◌, ℕ, ◌+◌, Bool, true, false, IsTrue, List, [], ◌∷◌, length, map, refl, ap, sym, ◌∙◌, Option, Some, None, is_some, option_map, Result, Ok, Err, OnOk, OnErr}
 use Rattle.std.specs.Option.{unwrap_or, option_or}
 use Rattle.napi_types.specs.declared.call.Call.{Call}
 use Rattle.napi_types.specs.declared.call.Call.TheVariants as call
@@ -10,8 +10,8 @@ use Rattle.napi_types.specs.declared.ids.ScopeKind.{ScopeKind}
 use Rattle.napi_types.specs.declared.ids.ScopeKind.TheVariants as scope_kind
 use Rattle.napi_types.specs.declared.status.Status.{Status}
 use Rattle.napi_types.specs.declared.status.Status.TheVariants as status
-use Rattle.napi_types.specs.Calls.{accepted, answer_by, with_heap}
-use Rattle.napi_types.specs.Environment.{Environment}
+use Rattle.napi_types.specs.Calls.{accepted_by, answer_given}
+use Rattle.napi_types.specs.Environment.{Environment, with_heap, in_heap}
 use Rattle.napi_types.specs.Graph.{StoreState, IsLive, number_in}
 use Rattle.napi_types.specs.Heap.{Heap, handle_value, in_scopes}
 use Rattle.napi_types.specs.Lists.{first_changed, unless}
@@ -22,14 +22,14 @@ use Rattle.napi_types.specs.Scopes.{Held, FrameScopes, gives, open_in, close_in,
 use Rattle.napi_types.specs.Values.{undefined_value}
 use Rattle.handle_scope.specs.HandleScopes.{HandleScopes, is_fresh, scope_opened, scope_closed, handle_escaped}
 use Rattle.env_core.specs.declared.frame.StandingFrame.{StandingFrame}
-use Rattle.env_values.specs.Seen.{heap_of}
+use Rattle.env_values.specs.Seen.{seen_frame, heap_of}
 use Rattle.env_values.proofs.Held.{escaped-holds}
 use Rattle.env_values.proofs.HandleValues.{unknown-handle, given-live}
 use Rattle.env_values.proofs.Seen.{gives-seen, escaped-seen}
-use Rattle.env_core.specs.State.{IsState, Answers, opening_call, closing_call}
+use Rattle.env_core.specs.State.{IsState, AnswersInTime, opening_call, closing_call}
 use Rattle.env_core.proofs.SeenScopes.{seen-opened, seen-closed, closing-seen, escaping-seen, all-opened, all-closed}
 
-length-changed : {A : Type 0} (f : A → A) (xs : List A) → length (first_changed f xs) ≡ length xs
+pub length-changed : {A : Type 0} (f : A → A) (xs : List A) → length (first_changed f xs) ≡ length xs
 length-changed f [] = refl
 length-changed f (x ∷ xs) = refl
 
@@ -44,7 +44,7 @@ with_seen e store scopes fs = with_heap e (record (heap_of store scopes) { scope
 -- a scope opens inside the innermost one
 pub accepted-open : (e : Environment) (store : StoreState) (old new : HandleScopes) (kind : ScopeKind) (scope : ScopeId)
     → IsTrue (is_fresh scope.0 old) → new ≡ scope_opened kind scope.0 old
-    → Answers (with_parts e store old) (opening_call kind) (plain status.Ok (out.Scope scope)) (with_parts e store new)
+    → AnswersInTime (with_parts e store old) (opening_call kind) (plain status.Ok (out.Scope scope)) (with_parts e store new)
 accepted-open e store old new scope_kind.Plain scope fresh opened = record {
   fresh = fresh;
   reply = refl;
@@ -61,18 +61,18 @@ accepted-open e store old new scope_kind.Escapable scope fresh opened = record {
 }
 
 -- what a call on scopes answers whose first refusal is known
-by-refusal : (e : Environment) (store : StoreState) (old new : HandleScopes) (c : Call) (s : Status)
-    → refusal_in e.texts (heap_of store old) c ≡ Some s → new ≡ old → Answers (with_parts e store old) c (plain s out.Nothing) (with_parts e store new)
+pub by-refusal : (e : Environment) (store : StoreState) (old new : HandleScopes) (c : Call) (s : Status)
+    → refusal_in e.texts (heap_of store old) c ≡ Some s → new ≡ old → AnswersInTime (with_parts e store old) c (plain s out.Nothing) (with_parts e store new)
 by-refusal e store old new c s why same = record {
   fresh = refl;
-  reply = ap (λ (o : Option Status). (answer_by (heap_of store old) c 0 o).reply) (sym why);
-  after = ap (λ k. with_parts e store k) same ∙ ap (λ (o : Option Status). with_heap e (answer_by (heap_of store old) c 0 o).after) (sym why);
+  reply = ap (λ (o : Option Status). (answer_given (with_parts e store old) c 0 o).reply) (sym why);
+  after = ap (λ k. with_parts e store k) same ∙ ap (λ (o : Option Status). (answer_given (with_parts e store old) c 0 o).after) (sym why);
 }
 
 -- a close that is refused answers why, and leaves all as it was
 pub refused-close : (e : Environment) (store : StoreState) (old new : HandleScopes) (kind : ScopeKind) (scope : ScopeId) (s : Status)
     → Some s ≡ closing scope.0 kind (opened_scopes old.frames) → new ≡ old
-    → Answers (with_parts e store old) (closing_call kind scope) (plain s out.Nothing) (with_parts e store new)
+    → AnswersInTime (with_parts e store old) (closing_call kind scope) (plain s out.Nothing) (with_parts e store new)
 refused-close e store old new scope_kind.Plain scope s h same =
     by-refusal e store old new (call.CloseHandleScope scope) s (closing-seen store scope.0 scope_kind.Plain old.frames ∙ sym h) same
 refused-close e store old new scope_kind.Escapable scope s h same =
@@ -80,24 +80,25 @@ refused-close e store old new scope_kind.Escapable scope s h same =
 
 -- what a close answers that nothing refuses
 by-close : (e : Environment) (store : StoreState) (old new : HandleScopes) (c : Call)
-    → refusal_in e.texts (heap_of store old) c ≡ None → accepted (heap_of store old) c 0 ≡ answered out.Nothing (in_scopes close_in (heap_of store old)) → new ≡ scope_closed old
-    → Answers (with_parts e store old) c (plain status.Ok out.Nothing) (with_parts e store new)
+    → refusal_in e.texts (heap_of store old) c ≡ None → accepted_by (with_parts e store old) c 0 ≡ in_heap (with_parts e store old) (answered out.Nothing (in_scopes close_in (heap_of store old))) → new ≡ scope_closed old
+    → AnswersInTime (with_parts e store old) c (plain status.Ok out.Nothing) (with_parts e store new)
 by-close e store old new c why is closed =
-    let answer : answer_by (heap_of store old) c 0 (refusal_in e.texts (heap_of store old) c) ≡ answered out.Nothing (in_scopes close_in (heap_of store old)) =
-    ap (answer_by (heap_of store old) c 0) why ∙ is in
+    let env : Environment = with_parts e store old in
+    let answer : answer_given env c 0 (refusal_in e.texts (heap_of store old) c) ≡ in_heap env (answered out.Nothing (in_scopes close_in (heap_of store old))) =
+    ap (answer_given env c 0) why ∙ is in
     record {
       fresh = refl;
-      reply = ap (λ (a : Answer Heap). a.reply) (sym answer);
+      reply = ap (λ (a : Answer Environment). a.reply) (sym answer);
       after =
           ap (λ k. with_parts e store k) closed
           ∙ ap (with_seen e store old) (seen-closed store old.frames)
-          ∙ ap (λ (a : Answer Heap). with_heap e a.after) (sym answer);
+          ∙ ap (λ (a : Answer Environment). a.after) (sym answer);
     }
 
 -- one that is accepted closes the innermost scope
 pub accepted-close : (e : Environment) (store : StoreState) (old new : HandleScopes) (kind : ScopeKind) (scope : ScopeId)
     → None ≡ closing scope.0 kind (opened_scopes old.frames) → new ≡ scope_closed old
-    → Answers (with_parts e store old) (closing_call kind scope) (plain status.Ok out.Nothing) (with_parts e store new)
+    → AnswersInTime (with_parts e store old) (closing_call kind scope) (plain status.Ok out.Nothing) (with_parts e store new)
 accepted-close e store old new scope_kind.Plain scope h closed =
     by-close e store old new (call.CloseHandleScope scope) (closing-seen store scope.0 scope_kind.Plain old.frames ∙ sym h) refl closed
 accepted-close e store old new scope_kind.Escapable scope h closed =
@@ -111,19 +112,19 @@ escape-refusal texts heap scope h false known = rw known refl
 
 -- a handle that no open scope holds does not escape
 pub unknown-escape : (e : Environment) (store : StoreState) (scopes : HandleScopes) (scope : ScopeId) (h : HandleId)
-    → None ≡ gives scopes.frames h.0 → Answers (with_parts e store scopes) (call.EscapeHandle scope h) (plain status.InvalidArg out.Nothing) (with_parts e store scopes)
+    → None ≡ gives scopes.frames h.0 → AnswersInTime (with_parts e store scopes) (call.EscapeHandle scope h) (plain status.InvalidArg out.Nothing) (with_parts e store scopes)
 unknown-escape e store scopes scope h none =
     by-refusal e store scopes scopes (call.EscapeHandle scope h) status.InvalidArg
     (escape-refusal e.texts (heap_of store scopes) scope h false (unknown-handle store scopes.frames h.0 none)) refl
 
 -- a known one is given by its value's creation number
-known-handle : (store : StoreState) (scopes : HandleScopes) (h v : ℕ) → Some v ≡ gives scopes.frames h → gives (heap_of store scopes).scopes h ≡ Some (number_in store v)
+pub known-handle : (store : StoreState) (scopes : HandleScopes) (h v : ℕ) → Some v ≡ gives scopes.frames h → gives (heap_of store scopes).scopes h ≡ Some (number_in store v)
 known-handle store scopes h v given = gives-seen store scopes.frames h ∙ ap (option_map (number_in store)) (sym given)
 
 -- an escape that is refused answers why, and leaves all as it was
 pub refused-escape : (e : Environment) (store : StoreState) (old new : HandleScopes) (scope : ScopeId) (h : HandleId) (v : ℕ) (s : Status)
     → Some v ≡ gives old.frames h.0 → Some s ≡ escaping scope.0 (opened_scopes old.frames) → new ≡ old
-    → Answers (with_parts e store old) (call.EscapeHandle scope h) (plain s out.Nothing) (with_parts e store new)
+    → AnswersInTime (with_parts e store old) (call.EscapeHandle scope h) (plain s out.Nothing) (with_parts e store new)
 refused-escape e store old new scope h v s given why same =
     by-refusal e store old new (call.EscapeHandle scope h) s
     (escape-refusal e.texts (heap_of store old) scope h true (ap is_some (known-handle store old h.0 v given)) ∙ escaping-seen store scope.0 old.frames ∙ sym why) same
@@ -131,44 +132,54 @@ refused-escape e store old new scope h v s given why same =
 -- one that is accepted gives the next handle to the scope outside
 pub accepted-escape : (e : Environment) (store : StoreState) (old new : HandleScopes) (scope : ScopeId) (h made : HandleId) (v : ℕ)
     → Some v ≡ gives old.frames h.0 → None ≡ escaping scope.0 (opened_scopes old.frames) → made.0 ≡ old.handles + 1 → new ≡ handle_escaped scope.0 v old
-    → Answers (with_parts e store old) (call.EscapeHandle scope h) (plain status.Ok (out.Handle made)) (with_parts e store new)
+    → AnswersInTime (with_parts e store old) (call.EscapeHandle scope h) (plain status.Ok (out.Handle made)) (with_parts e store new)
 accepted-escape e store old new scope h made v given why next escaped =
     let heap : Heap = heap_of store old in
     let known : gives heap.scopes h.0 ≡ Some (number_in store v) = known-handle store old h.0 v given in
     let none : refusal_in e.texts heap (call.EscapeHandle scope h) ≡ None =
     escape-refusal e.texts heap scope h true (ap is_some known) ∙ escaping-seen store scope.0 old.frames ∙ sym why in
     let value : handle_value heap h.0 ≡ number_in store v = ap (λ o. unwrap_or o undefined_value) known in
-    let given_handle : ℕ → Answer Heap = λ n. answered (out.Handle (record { 0 = old.handles + 1 })) (with_escaped scope.0 n heap) in
-    let answer : answer_by heap (call.EscapeHandle scope h) 0 (refusal_in e.texts heap (call.EscapeHandle scope h)) ≡ given_handle (number_in store v) =
-    ap (answer_by heap (call.EscapeHandle scope h) 0) none ∙ ap given_handle value in
+    let env : Environment = with_parts e store old in
+    let given_handle : ℕ → Answer Environment = λ n. in_heap env (answered (out.Handle (record { 0 = old.handles + 1 })) (with_escaped scope.0 n heap)) in
+    let answer : answer_given env (call.EscapeHandle scope h) 0 (refusal_in e.texts heap (call.EscapeHandle scope h)) ≡ given_handle (number_in store v) =
+    ap (answer_given env (call.EscapeHandle scope h) 0) none ∙ ap given_handle value in
     record {
       fresh = refl;
-      reply = ap (λ n. plain status.Ok (out.Handle (record { 0 = n }))) next ∙ ap (λ (a : Answer Heap). a.reply) (sym answer);
+      reply = ap (λ n. plain status.Ok (out.Handle (record { 0 = n }))) next ∙ ap (λ (a : Answer Environment). a.reply) (sym answer);
       after =
           ap (λ k. with_parts e store k) escaped
           ∙ ap (with_seen e store (handle_escaped scope.0 v old)) (escaped-seen store scope.0 (record { handle = old.handles + 1; value = v }) old.frames)
-          ∙ ap (λ (a : Answer Heap). with_heap e a.after) (sym answer);
+          ∙ ap (λ (a : Answer Environment). a.after) (sym answer);
     }
 
 -- a scope that opens leaves each frame its scopes, and what they hold live
-pub state-opened : (store : StoreState) (old new : HandleScopes) (frame : Option StandingFrame) (kind : ScopeKind) (n : ℕ) → IsState store old frame → new ≡ scope_opened kind n old → IsState store new frame
-state-opened store old new frame kind n s opened = rw opened (record {
+pub state-opened : (store : StoreState) (old new : HandleScopes) (frame : Option StandingFrame) (pending : Option ℕ) (kind : ScopeKind) (n : ℕ) → IsState store old frame pending → new ≡ scope_opened kind n old → IsState store new frame pending
+state-opened store old new frame pending kind n s opened = rw opened (record {
   live = all-opened (λ p. IsLive store p.value) kind n old.frames s.live;
   frames = length-changed (open_in kind n) old.frames ∙ s.frames;
+  pending = s.pending;
 })
 
 -- so does a handle that escapes
-pub state-escaped : (store : StoreState) (old new : HandleScopes) (frame : Option StandingFrame) (n h v : ℕ) → IsState store old frame → Some v ≡ gives old.frames h → new ≡ handle_escaped n v old → IsState store new frame
-state-escaped store old new frame n h v s given escaped =
+pub state-escaped : (store : StoreState) (old new : HandleScopes) (frame : Option StandingFrame) (pending : Option ℕ) (n h v : ℕ) → IsState store old frame pending → Some v ≡ gives old.frames h → new ≡ handle_escaped n v old → IsState store new frame pending
+state-escaped store old new frame pending n h v s given escaped =
     let p : Held = record { handle = old.handles + 1; value = v } in
     rw escaped (record {
       live = escaped-holds (λ m. IsLive store m) n p old.frames (given-live store old h v s.live given) s.live;
       frames = length-changed (escape_in n p) old.frames ∙ s.frames;
+      pending = s.pending;
     })
 
+-- also where it may be refused
+pub state-escaped-or-not : {A E : Type 0} (store : StoreState) (old new : HandleScopes) (frame : Option StandingFrame) (pending : Option ℕ) (n h v : ℕ) (r : Result A E)
+    → IsState store old frame pending → Some v ≡ gives old.frames h → OnOk r (new ≡ handle_escaped n v old) → OnErr r (new ≡ old) → IsState store new frame pending
+state-escaped-or-not store old new frame pending n h v (Ok x) s given ok err = state-escaped store old new frame pending n h v s given ok
+state-escaped-or-not store old new frame pending n h v (Err x) s given ok err = rw err s
+
 -- a close leaves each frame its scopes, and what they hold live
-pub state-closed : (store : StoreState) (old new : HandleScopes) (frame : Option StandingFrame) → IsState store old frame → new ≡ scope_closed old → IsState store new frame
-state-closed store old new frame s closed = rw closed (record {
+pub state-closed : (store : StoreState) (old new : HandleScopes) (frame : Option StandingFrame) (pending : Option ℕ) → IsState store old frame pending → new ≡ scope_closed old → IsState store new frame pending
+state-closed store old new frame pending s closed = rw closed (record {
   live = all-closed (λ p. IsLive store p.value) old.frames s.live;
   frames = length-changed close_in old.frames ∙ s.frames;
+  pending = s.pending;
 })

@@ -1,5 +1,5 @@
 -- A call on values, properties or elements gives no number of its own choice.
-use Rattle.std.proofs.Common.{◌≡◌, ℕ, true, length, map, refl, ap, sym, ◌∙◌, Option, Some, None, Result, Ok, Err, IfOk, OnOk, OnErr}
+use Rattle.std.proofs.Common.{◌≡◌, ℕ, true, length, map, refl, ap, sym, ◌∙◌, Option, Some, None, Result, Ok, Err, IfOk, OnOk, OnErr, IfSome}
 use Rattle.std.proofs.lemmas.List.{length-map}
 use Rattle.napi_types.specs.declared.call.Call.{Call}
 use Rattle.napi_types.specs.declared.call.Call.TheVariants as call
@@ -7,15 +7,15 @@ use Rattle.napi_types.specs.declared.status.Status.{Status}
 use Rattle.napi_types.specs.Built.{is_value_call}
 use Rattle.napi_types.specs.declared.entry.Reply.{Reply}
 use Rattle.napi_types.specs.Heap.{Heap}
-use Rattle.napi_types.specs.Graph.{StoreState}
+use Rattle.napi_types.specs.Graph.{StoreState, IsLive}
 use Rattle.napi_types.specs.Replies.{Answer}
-use Rattle.napi_types.specs.Environment.{Environment}
-use Rattle.napi_types.specs.Calls.{accepted, answer_by, answer_in, with_heap}
+use Rattle.napi_types.specs.Environment.{Environment, with_heap, in_heap}
+use Rattle.napi_types.specs.Calls.{accepted, answer_by, answer_in, accepted_by, answer_given}
 use Rattle.napi_types.specs.Refusals.{refusal_in}
 use Rattle.napi_types.specs.Changes.{is_fresh, number_of}
 use Rattle.handle_scope.specs.HandleScopes.{HandleScopes}
-use Rattle.env_values.specs.Seen.{seen_frame, heap_of}
-use Rattle.env_core.specs.State.{Answers}
+use Rattle.env_values.specs.Seen.{seen_frame, heap_of, KeepsValues}
+use Rattle.env_core.specs.State.{pending_seen, AnswersInTime}
 use Rattle.napi_types.proofs.Answers.{answer_in-keeps}
 
 accepted-any : (heap : Heap) (c : Call) (n : ℕ) → is_value_call c ≡ true → accepted heap c 0 ≡ accepted heap c n
@@ -44,18 +44,32 @@ by-fresh e heap c n (Some s) h = refl
 pub answer-fresh : (e : Environment) (texts : ℕ) (heap : Heap) (c : Call) (n : ℕ) → is_value_call c ≡ true → is_fresh e (answer_in texts heap c n).reply.out ≡ true
 answer-fresh e texts heap c n h = by-fresh e heap c n (refusal_in texts heap c) h
 
+-- such a call answers in the environment what it answers in the heap
+accepted-in_heap : (e : Environment) (c : Call) (n : ℕ) → is_value_call c ≡ true → accepted_by e c n ≡ in_heap e (accepted e.heap c n)
+accepted-in_heap e (call.Throw h) n v = cc
+accepted-in_heap e (call.ThrowError code message) n v = cc
+accepted-in_heap e call.IsExceptionPending n v = cc
+accepted-in_heap e call.GetAndClearLastException n v = cc
+accepted-in_heap e call.GetLastErrorInfo n v = cc
+accepted-in_heap e _ n v = refl
+
+given-in_heap : (e : Environment) (c : Call) (n : ℕ) (s : Option Status) → is_value_call c ≡ true → answer_given e c n s ≡ in_heap e (answer_by e.heap c n s)
+given-in_heap e c n None v = accepted-in_heap e c n v
+given-in_heap e c n (Some s) v = refl
+
 -- the reply of such a call, and the heap that it leaves, are the machine's answer in the environment
 pub value-answers : {E : Type 0} (e : Environment) (c : Call) (heap : Heap) (result : Result Reply E) → is_value_call c ≡ true
     → IfOk result (λ reply. reply ≡ (answer_in e.texts e.heap c 0).reply) → OnOk result (heap ≡ (answer_in e.texts e.heap c 0).after)
-    → IfOk result (λ reply. Answers e c reply (with_heap e heap))
+    → IfOk result (λ reply. AnswersInTime e c reply (with_heap e heap))
 value-answers e c heap (Err x) h replies leaves = tt
 value-answers e c heap (Ok r) h replies leaves =
     let n = number_of r.out in
     let any : answer_in e.texts e.heap c 0 ≡ answer_in e.texts e.heap c n = answer-any e.texts e.heap c n h in
+    let given : answer_given e c n (refusal_in e.texts e.heap c) ≡ in_heap e (answer_in e.texts e.heap c n) = given-in_heap e c n (refusal_in e.texts e.heap c) h in
     record {
       fresh = ap (λ (q : Reply). is_fresh e q.out) replies ∙ answer-fresh e e.texts e.heap c 0 h;
-      reply = replies ∙ ap (λ (a : Answer Heap). a.reply) any;
-      after = ap (with_heap e) leaves ∙ ap (λ (a : Answer Heap). with_heap e a.after) any;
+      reply = replies ∙ ap (λ (a : Answer Heap). a.reply) any ∙ ap (λ (a : Answer Environment). a.reply) (sym given);
+      after = ap (with_heap e) leaves ∙ ap (λ (a : Answer Heap). with_heap e a.after) any ∙ ap (λ (a : Answer Environment). a.after) (sym given);
     }
 
 -- such a call leaves as many frames their scopes
@@ -70,3 +84,13 @@ value-frames texts c store after_store old new result leaves stays =
         → length (map (seen_frame after_store) new.frames) ≡ length (map (seen_frame store) old.frames)
     seen (Ok r) leaves stays = ap (λ (h : Heap). length h.scopes) leaves ∙ (answer_in-keeps texts (heap_of store old) c 0).depth
     seen (Err x) leaves stays = ap (λ (h : Heap). length h.scopes) stays
+
+-- THE PENDING EXCEPTION
+-- it stays live, under its number
+pub pending-live : (s t : StoreState) (p : Option ℕ) → KeepsValues s t → IfSome p (IsLive s) → IfSome p (IsLive t)
+pending-live s t None kept live = tt
+pending-live s t (Some v) kept live = kept.live v live
+
+pub pending-kept : (s t : StoreState) (p : Option ℕ) → KeepsValues s t → IfSome p (IsLive s) → pending_seen t p ≡ pending_seen s p
+pending-kept s t None kept live = refl
+pending-kept s t (Some v) kept live = ap Some (kept.numbers v live)

@@ -4,17 +4,19 @@ ghost use Rattle.napi_types.specs.declared.call.Call.TheVariants as call_of;
 ghost use Rattle.napi_types.specs.Built.{is_built, is_value_call};
 ghost use Rattle.napi_types.specs.Changes.{opened, init_begun, asks_made, most_asks, frame_ended, gone, in_phase, noted, host_entry as entry_of};
 ghost use Rattle.napi_types.specs.Environment.{new_environment};
+ghost use Rattle.napi_types.specs.Refusals.{is_known, is_tearing, moment_refusal};
 ghost use Rattle.napi_types.specs.Replies.{plain as plain_reply};
 ghost use Rattle.napi_types.specs.Room.{is_growing};
 ghost use Rattle.napi_types.specs.Values.{most_names};
-ghost use Rattle.env_core.specs.State.{Calls, Answers, caller_of, opening_call, closing_call};
+ghost use Rattle.env_core.specs.State.{Calls, Answers, AnswersInTime, caller_of, opening_call, closing_call};
 
 use crate::frame::StandingFrame;
-use env_values::value_step;
+use env_values::{or_undefined, thrown_value, value_step};
+use exception_state::Exceptions;
 use handle_scope::{ScopeKind, Scopes};
 use napi_types::{
     Actor, Call, Cause, Entry, HandleId, HostStep, NoMemory, Out, Phase, Reply, ScopeId, Status,
-    What, Why,
+    TextNo, What, Why,
 };
 use std::alloc::Global;
 use std::marker::Model;
@@ -35,7 +37,7 @@ pub struct State {
     store: Store,
     scopes: Scopes,
     frame: Option<StandingFrame>,
-    last: Status,
+    exceptions: Exceptions,
 }
 
 impl Model for State {
@@ -44,7 +46,7 @@ impl Model for State {
     ghost Value = { Environment };
 
     ghost use Rattle.env_values.specs.Seen.{heap_of};
-    ghost use Rattle.env_core.specs.State.{standing, IsState};
+    ghost use Rattle.env_core.specs.State.{standing, pending_seen, IsState};
 
     ghost view = { λ state. record {
       addons = state.addons;
@@ -54,10 +56,11 @@ impl Model for State {
       phase = state.phase;
       heap = heap_of state.store state.scopes;
       frames = standing state.frame;
-      last = state.last;
+      pending = pending_seen state.store state.exceptions.pending;
+      last = state.exceptions.last;
     } };
 
-    ghost invariant = { λ state. IsState state.store state.scopes state.frame };
+    ghost invariant = { λ state. IsState state.store state.scopes state.frame state.exceptions.pending };
 }
 
 impl State {
@@ -77,7 +80,7 @@ impl State {
             store,
             scopes,
             frame: None,
-            last: Status::Ok,
+            exceptions: Exceptions::new(),
         })
     }
 
@@ -126,7 +129,7 @@ impl State {
     {
         let depth = self.depth();
         let reply = self.answer(call)?;
-        self.note(reply.status);
+        self.note(call, reply.status);
         Ok(Entry {
             actor: Actor::Env,
             depth,
@@ -158,6 +161,45 @@ impl State {
         ensures err { OnErr result (self.new ≡ self.old) }
         ensures growing { OnErr result (IsTrue (is_growing call.now)) }
     {
+        match self.untimely(call) {
+            Some(status) => Ok(plain(status, Out::Nothing)),
+            None => self.answer_in_time(call),
+        }
+    }
+
+    /// Why the call comes at a wrong moment, if it does: it is guarded or registers, and an exception is pending or the teardown
+    /// has started.
+    fn untimely(&self, call: &Call) -> Option<Status>
+        ensures { result ≡ moment_refusal self.now call.now }
+    {
+        let tearing = self.is_tearing();
+        if call.is_guarded() && (self.exceptions.pending().is_some() || tearing) {
+            return Some(Status::PendingException);
+        }
+        if call.is_registering() && tearing {
+            return Some(Status::GenericFailure);
+        }
+        None
+    }
+
+    /// Whether the teardown has started.
+    fn is_tearing(&self) -> bool
+        ensures { result ≡ is_tearing self.now.phase }
+    {
+        !matches!(self.phase, Phase::Init | Phase::Live)
+    }
+
+    /// What a call that comes at a right moment answers, refused or accepted.
+    fn answer_in_time(&mut self, call: &Call) -> Result<Reply, NoMemory>
+        requires standing { self.old.frames ≢ [] }
+        requires built { is_built call.now ≡ true }
+        requires values { self.old.heap.made + most_names + 8 < 2 ^ 48 }
+        requires handles { self.old.heap.handles < 2 ^ 62 }
+        requires scopes { length self.old.heap.scope_numbers < 2 ^ 62 }
+        ensures ok { IfOk result (λ reply. AnswersInTime self.old call.now reply self.new) }
+        ensures err { OnErr result (self.new ≡ self.old) }
+        ensures growing { OnErr result (IsTrue (is_growing call.now)) }
+    {
         if call.is_value_call() {
             return self.value_call(call);
         }
@@ -169,6 +211,11 @@ impl State {
                 Ok(self.close_scope(*scope, ScopeKind::Escapable))
             }
             Call::EscapeHandle(scope, handle) => Ok(self.escape(*scope, *handle)),
+            Call::Throw(handle) => Ok(self.throw(*handle)),
+            Call::ThrowError(code, message) => self.throw_error(*code, *message),
+            Call::IsExceptionPending => Ok(self.is_pending()),
+            Call::GetAndClearLastException => self.take_pending(),
+            Call::GetLastErrorInfo => Ok(self.last()),
             Call::GetVersion => Ok(plain(Status::Ok, Out::Unsigned(VERSION))),
             _ => unreachable!(),
         }
@@ -181,7 +228,7 @@ impl State {
         requires value_call { is_value_call call.now ≡ true }
         requires values { self.old.heap.made + most_names + 8 < 2 ^ 48 }
         requires handles { self.old.heap.handles < 2 ^ 62 }
-        ensures ok { IfOk result (λ reply. Answers self.old call.now reply self.new) }
+        ensures ok { IfOk result (λ reply. AnswersInTime self.old call.now reply self.new) }
         ensures err { OnErr result (self.new ≡ self.old) }
         ensures growing { OnErr result (IsTrue (is_growing call.now)) }
     {
@@ -211,7 +258,7 @@ impl State {
     fn open_scope(&mut self, kind: ScopeKind) -> Result<Reply, NoMemory>
         requires standing { self.old.frames ≢ [] }
         requires scopes { length self.old.heap.scope_numbers < 2 ^ 62 }
-        ensures ok { IfOk result (λ reply. Answers self.old (opening_call kind) reply self.new) }
+        ensures ok { IfOk result (λ reply. AnswersInTime self.old (opening_call kind) reply self.new) }
         ensures err { OnErr result (self.new ≡ self.old) }
     {
         let scope = self.scopes.open_scope(kind)?;
@@ -220,7 +267,7 @@ impl State {
 
     /// The innermost scope closes, if it is the one that the call names, and of the kind that the call closes.
     fn close_scope(&mut self, scope: ScopeId, kind: ScopeKind) -> Reply
-        ensures { Answers self.old (closing_call kind scope) result self.new }
+        ensures { AnswersInTime self.old (closing_call kind scope) result self.new }
     {
         if let Err(status) = self.scopes.close_scope(scope, kind) {
             return plain(status, Out::Nothing);
@@ -231,30 +278,95 @@ impl State {
     /// The value of a handle escapes from the scope that the call names, into the one that encloses it.
     fn escape(&mut self, scope: ScopeId, handle: HandleId) -> Reply
         requires { self.old.heap.handles < 2 ^ 62 }
-        ensures { Answers self.old (call_of.EscapeHandle scope handle) result self.new }
+        ensures { AnswersInTime self.old (call_of.EscapeHandle scope handle) result self.new }
     {
         let Some(value) = self.scopes.look(handle) else {
             return plain(Status::InvalidArg, Out::Nothing);
         };
-        let escaped = match self.scopes.escape(scope, value) {
-            Ok(escaped) => escaped,
-            Err(status) => return plain(status, Out::Nothing),
-        };
-        plain(Status::Ok, Out::Handle(escaped))
+        match self.scopes.escape(scope, value) {
+            Ok(escaped) => plain(Status::Ok, Out::Handle(escaped)),
+            Err(status) => plain(status, Out::Nothing),
+        }
     }
 
-    /// Notes a call's status and counts its ask.
-    fn note(&mut self, status: Status)
-        requires { asks_made self.old.frames < most_asks }
-        ensures { self.new ≡ noted status self.old }
+    /// The value of a handle is the pending exception from now on.
+    fn throw(&mut self, handle: HandleId) -> Reply
+        ensures { AnswersInTime self.old (call_of.Throw handle) result self.new }
     {
-        self.last = status;
+        let Some(value) = self.scopes.look(handle) else {
+            return plain(Status::InvalidArg, Out::Nothing);
+        };
+        self.exceptions.set(value);
+        plain(Status::Ok, Out::Nothing)
+    }
+
+    /// A new error of new strings of these texts is the pending exception from now on.
+    fn throw_error(&mut self, code: Option<TextNo>, message: TextNo) -> Result<Reply, NoMemory>
+        requires { self.old.heap.made + most_names + 8 < 2 ^ 48 }
+        ensures ok { IfOk result (λ reply. AnswersInTime self.old (call_of.ThrowError code message) reply self.new) }
+        ensures err { OnErr result (self.new ≡ self.old) }
+    {
+        if !self.knows(code, message) {
+            return Ok(plain(Status::InvalidArg, Out::Nothing));
+        }
+        let error = thrown_value(&mut self.store, code, message)?;
+        self.exceptions.set(error);
+        Ok(plain(Status::Ok, Out::Nothing))
+    }
+
+    /// Whether the texts of an error stand in the table.
+    fn knows(&self, code: Option<TextNo>, message: TextNo) -> bool
+        ensures { result ≡ is_known self.now.texts self.now.heap (call_of.ThrowError code message) }
+    {
+        match code {
+            Some(code) => self.texts > code.0 && self.texts > message.0,
+            None => self.texts > message.0,
+        }
+    }
+
+    /// Whether an exception is pending.
+    fn is_pending(&self) -> Reply
+        ensures { AnswersInTime self.now call_of.IsExceptionPending result self.now }
+    {
+        let pending = self.exceptions.pending().is_some();
+        plain(Status::Ok, Out::Flag(pending))
+    }
+
+    /// A new handle of the pending exception, or of undefined where none is pending; none is pending from now on.
+    fn take_pending(&mut self) -> Result<Reply, NoMemory>
+        requires standing { self.old.frames ≢ [] }
+        requires handles { self.old.heap.handles < 2 ^ 62 }
+        ensures ok { IfOk result (λ reply. AnswersInTime self.old call_of.GetAndClearLastException reply self.new) }
+        ensures err { OnErr result (self.new ≡ self.old) }
+    {
+        let value = or_undefined(&self.store, self.exceptions.pending());
+        let handle = self.scopes.issue(value)?;
+        let _ = self.exceptions.clear();
+        Ok(plain(Status::Ok, Out::Handle(handle)))
+    }
+
+    /// The number of the last status.
+    fn last(&self) -> Reply
+        ensures { AnswersInTime self.now call_of.GetLastErrorInfo result self.now }
+    {
+        let last = self.exceptions.last().number();
+        plain(Status::Ok, Out::Unsigned(u64::from(last)))
+    }
+
+    /// Notes a call's status, which the asking for the last one leaves, and counts its ask.
+    fn note(&mut self, call: &Call, status: Status)
+        requires { asks_made self.old.frames < most_asks }
+        ensures { self.new ≡ noted call.now status self.old }
+    {
+        if !matches!(call, Call::GetLastErrorInfo) {
+            self.exceptions.note(status);
+        }
         if let Some(frame) = &mut self.frame {
             frame.asks += 1;
         }
     }
 
-    /// The frame that stands ends, and its scopes close.
+    /// The frame that stands ends, and its scopes close. It is the outermost one, so an exception that is pending is cleared.
     pub fn leave(&mut self, cut: Option<Why>) -> Entry
         requires { self.old.frames ≢ [] }
         ensures entry { result ≡ (frame_ended cut self.old).entry }
@@ -262,9 +374,10 @@ impl State {
     {
         self.scopes.leave_frame();
         self.frame = None;
-        let out = match cut {
-            Some(why) => Out::Cut(why),
-            None => Out::Nothing,
+        let out = match (cut, self.exceptions.clear()) {
+            (Some(why), _) => Out::Cut(why),
+            (None, Some(_)) => Out::Uncaught,
+            (None, None) => Out::Nothing,
         };
         host_entry(HostStep::End, out)
     }

@@ -98,6 +98,7 @@ fn close(number: u64) -> Call {
 
 mod creates;
 mod escapes;
+mod exceptions;
 mod many_names;
 mod properties;
 mod reads;

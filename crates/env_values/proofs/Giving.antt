@@ -5,12 +5,13 @@ use Rattle.std.proofs.lemmas.List.Elements.{All-weaker}
 use Rattle.napi_types.specs.declared.body.Body.{Body}
 use Rattle.napi_types.specs.declared.entry.Out.TheVariants as out
 use Rattle.napi_types.specs.declared.ids.HandleId.{HandleId}
+use Rattle.napi_types.specs.declared.ids.TextNo.{TextNo}
 use Rattle.napi_types.specs.Graph.{StoreState, IsLive, IsSound, value_of, number_in, graph_of}
-use Rattle.napi_types.specs.Heap.{Heap, handle_of, with_handle, with_list}
+use Rattle.napi_types.specs.Heap.{Heap, handle_of, with_handle, with_list, with_thrown}
 use Rattle.napi_types.specs.Lists.{first_changed, has_number}
 use Rattle.napi_types.specs.Replies.{answered}
 use Rattle.napi_types.specs.Scopes.{Held, hold_in, held_by_frames}
-use Rattle.napi_types.specs.Values.{Value, list_of}
+use Rattle.napi_types.specs.Values.{Value, list_of, thrown_strings, thrown_of}
 use Rattle.handle_scope.specs.HandleScopes.{HandleScopes, handle_issued}
 use Rattle.value_store.specs.Changes.{MakesValue, MakesList}
 use Rattle.value_store.proofs.Callers.{makes-live}
@@ -32,7 +33,7 @@ more-live s t scopes more = All-weaker (λ (p : Held). IsLive s p.value) (λ p. 
 abbrev pub Agrees : StoreState → StoreState → Type 0
 Agrees s t = (n : ℕ) → IsLive s n → number_in t n ≡ number_in s n
 
-seen-alike : (s t : StoreState) (scopes : HandleScopes) → Agrees s t → HoldsLive s scopes → map (seen_frame t) scopes.frames ≡ map (seen_frame s) scopes.frames
+pub seen-alike : (s t : StoreState) (scopes : HandleScopes) → Agrees s t → HoldsLive s scopes → map (seen_frame t) scopes.frames ≡ map (seen_frame s) scopes.frames
 seen-alike s t scopes agrees held =
     seen-same s t scopes.frames (All-weaker (λ (p : Held). IsLive s p.value) (λ p. IsSame s t p) (λ p. agrees p.value) (held_by_frames scopes.frames) held)
 
@@ -86,7 +87,7 @@ list-agrees s t id n sound step m live = ap (λ o. unwrap_or (option_map (λ (v 
 pub list-live : (s t : StoreState) (id n : ℕ) → IsSound s → MakesList s t id n → (m : ℕ) → IsLive s m → IsLive t m
 list-live s t id n sound step m live = subst (λ (o : Option Value). IsSome o) (sym (step.others m (sound.given m live))) live
 
-some-live : (o : Option Value) (n : ℕ) → option_map (λ (v : Value). v.number) o ≡ Some n → IsSome o
+pub some-live : (o : Option Value) (n : ℕ) → option_map (λ (v : Value). v.number) o ≡ Some n → IsSome o
 some-live None n e = cc
 some-live (Some v) n e = refl
 
@@ -100,3 +101,13 @@ listed-heap s t scopes after id bs sound step graph held is =
 pub listed-live : (s t : StoreState) (scopes after : HandleScopes) (id n : ℕ) → IsSound s → MakesList s t id n → HoldsLive s scopes → after ≡ handle_issued id scopes → HoldsLive t after
 listed-live s t scopes after id n sound step held is =
     issued-live t scopes after id is (some-live (value_of t id) (s.made + n + 1) step.number) (more-live s t scopes (list-live s t id n sound step) held)
+
+-- AN ERROR THAT IS THROWN
+-- new strings of its texts, and the error
+pub thrown-heap : (s t : StoreState) (scopes : HandleScopes) (code : Option TextNo) (message : TextNo) → Agrees s t → HoldsLive s scopes
+    → t.made ≡ s.made + length (thrown_strings code message) + 1 → graph_of t ≡ graph_of s ++ thrown_of s.made code message
+    → heap_of t scopes ≡ with_thrown code message (heap_of s scopes)
+thrown-heap s t scopes code message agrees held made graph =
+    ap (λ fs. record (heap_of t scopes) { scopes = fs }) (seen-alike s t scopes agrees held)
+    ∙ ap (λ vs. record (heap_of s scopes) { values = vs; made = t.made }) graph
+    ∙ ap (λ m. record (heap_of s scopes) { values = graph_of s ++ thrown_of s.made code message; made = m }) made

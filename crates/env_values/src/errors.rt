@@ -1,8 +1,8 @@
 //! Errors: what makes one of values, and the call that does.
-ghost use Rattle.std.specs.Prelude.{◌≡◌, ◌≢◌, ◌+◌, ◌<◌, ◌^◌, ◌++◌, [], ◌∷◌, option_map, IfSome, IfOk, OnOk, OnErr};
+ghost use Rattle.std.specs.Prelude.{◌≡◌, ◌≢◌, ◌+◌, ◌<◌, ◌^◌, ◌++◌, [], ◌∷◌, length, option_map, IfSome, IfOk, OnOk, OnErr};
 ghost use Rattle.napi_types.specs.Graph.{IsLive, number_in, graph_of};
 ghost use Rattle.napi_types.specs.Heap.{new_error};
-ghost use Rattle.napi_types.specs.Values.{error_of};
+ghost use Rattle.napi_types.specs.Values.{error_of, thrown_strings, thrown_of};
 ghost use Rattle.value_store.specs.Changes.{MakesValue};
 ghost use Rattle.env_values.specs.Seen.{heap_of, HoldsLive, KeepsValues};
 ghost use Rattle.env_values.specs.Steps.{Comes, Gives};
@@ -10,7 +10,7 @@ ghost use Rattle.env_values.specs.Steps.{Comes, Gives};
 use crate::known::{recall, text, value_of_handle};
 use crate::stop::Stop;
 use handle_scope::Scopes;
-use napi_types::{Call, HandleId, NoMemory, Out, ValueId};
+use napi_types::{Call, HandleId, NoMemory, Out, TextNo, ValueId};
 use value_store::Store;
 
 /// Makes an error of the value that is its message and, where one is given, the value that is its code. What was live stays live,
@@ -35,6 +35,27 @@ pub fn error_value(
     // A value that is live has another number than a new one.
     recall(store);
     store.make_error(code, message)
+}
+
+/// Makes a string of each of these texts and then an error of them, all or none. What was live stays live, under its number.
+///
+/// Near constant time.
+pub fn thrown_value(
+    store: &mut Store,
+    code: Option<TextNo>,
+    message: TextNo,
+) -> Result<ValueId, NoMemory>
+    requires { store.old.made + 4 < 2 ^ 48 }
+    ensures live { IfOk result (λ id. IsLive store.new id.0) }
+    ensures number { IfOk result (λ id. number_in store.new id.0 ≡ store.old.made + length (thrown_strings code message) + 1) }
+    ensures made { OnOk result (store.new.made ≡ store.old.made + length (thrown_strings code message) + 1) }
+    ensures graph { OnOk result (graph_of store.new ≡ graph_of store.old ++ thrown_of store.old.made code message) }
+    ensures kept { KeepsValues store.old store.new }
+    ensures err { OnErr result (store.new ≡ store.old) }
+{
+    // A value that is live has another number than a new one.
+    recall(store);
+    store.make_thrown(code, message)
 }
 
 /// A new error, and its handle. The place of the handle is taken first, so that an error is made only where its handle can be.

@@ -185,7 +185,7 @@ pub(crate) fn element(store: &Store, id: ValueId, index: u64) -> Option<ValueId>
 }
 
 /// A live value, or else undefined.
-pub(crate) fn or_undefined(store: &Store, value: Option<ValueId>) -> ValueId
+pub fn or_undefined(store: &Store, value: Option<ValueId>) -> ValueId
     requires { IfSome value (λ v. IsLive store.now v.0) }
     ensures live { IsLive store.now result.0 }
     ensures number { number_in store.now result.0 ≡ unwrap_or (option_map (λ v. number_in store.now v.0) value) undefined_value }

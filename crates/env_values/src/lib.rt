@@ -15,5 +15,6 @@ mod stop;
 mod tests;
 mod values;
 
-pub use errors::error_value;
+pub use errors::{error_value, thrown_value};
+pub use known::or_undefined;
 pub use step::value_step;

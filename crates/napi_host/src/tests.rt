@@ -31,6 +31,25 @@ const ESCAPE_TWICE: &[u8] =
 const ESCAPE_TWICE_TRACE: &[u8] =
     b"1 env opened 0 9\n2 env begin 0 init:0.0\n3 env open_escapable_handle_scope 0 scope\n4 env create_object 0 handle\n5 env escape_handle 0 handle\n6 env escape_handle 12 -\n7 env close_escapable_handle_scope 0 -\n8 env typeof 0 object\n9 env typeof 1 -\n10 env end 0 -\n11 env go 0 -\n12 env loop_end 0 idle\n13 env drain 0 0\n14 env finals 0 -\n15 env gone 0 -\n";
 
+const STALE_HANDLE: &[u8] =
+    br#"{"version":9,"workers":0,"addons":[{"name":"a","entries":[[["open_handle_scope",0],["create_int64",5,1],["get_value_int64",1,2],["close_handle_scope",0],["get_value_int64",1,2],["get_last_error_info",3],["get_last_error_info",3]]]}],"threads":[]}"#;
+
+const STALE_HANDLE_TRACE: &[u8] =
+    b"1 env opened 0 9\n2 env begin 0 init:0.0\n3 env open_handle_scope 0 scope\n4 env create_int64 0 handle\n5 env get_value_int64 0 5\n6 env close_handle_scope 0 -\n7 env get_value_int64 1 -\n8 env get_last_error_info 0 1\n9 env get_last_error_info 0 1\n10 env end 0 -\n11 env go 0 -\n12 env loop_end 0 idle\n13 env drain 0 0\n14 env finals 0 -\n15 env gone 0 -\n";
+
+const PENDING_EXCEPTION: &[u8] =
+    br#"{"version":9,"workers":0,"addons":[{"name":"a","entries":[[["create_object",1],["throw",1],["set_named_property",1,"x",1],["is_exception_pending",2],["open_handle_scope",0],["close_handle_scope",0],["get_and_clear_last_exception",3],["strict_equals",1,3,4],["get_and_clear_last_exception",3],["typeof",3,4]]]}],"threads":[]}"#;
+
+const PENDING_EXCEPTION_TRACE: &[u8] =
+    b"1 env opened 0 9\n2 env begin 0 init:0.0\n3 env create_object 0 handle\n4 env throw 0 -\n5 env set_named_property 10 -\n6 env is_exception_pending 0 true\n7 env open_handle_scope 0 scope\n8 env close_handle_scope 0 -\n9 env get_and_clear_last_exception 0 handle\n10 env strict_equals 0 true\n11 env get_and_clear_last_exception 0 handle\n12 env typeof 0 undefined\n13 env end 0 -\n14 env go 0 -\n15 env loop_end 0 idle\n16 env drain 0 0\n17 env finals 0 -\n18 env gone 0 -\n";
+
+/// Two addons: the first one's frame ends while an error is pending, and the second one's has none.
+const UNCAUGHT: &[u8] =
+    br#"{"version":9,"workers":0,"addons":[{"name":"a","entries":[[["throw_error","E1","no such file"]]]},{"name":"b","entries":[[["is_exception_pending",1],["get_last_error_info",2]]]}],"threads":[]}"#;
+
+const UNCAUGHT_TRACE: &[u8] =
+    b"1 env opened 0 9\n2 env begin 0 init:0.0\n3 env throw_error 0 -\n4 env end 0 uncaught\n5 env begin 0 init:1.0\n6 env is_exception_pending 0 false\n7 env get_last_error_info 0 0\n8 env end 0 -\n9 env go 0 -\n10 env loop_end 0 idle\n11 env drain 0 0\n12 env finals 0 -\n13 env gone 0 -\n";
+
 const EMPTY: &[u8] = br#"{"version":9,"workers":0,"addons":[],"threads":[]}"#;
 
 const EMPTY_TRACE: &[u8] =
@@ -132,6 +151,9 @@ fn prints_the_worked_rows(rt: HostRuntime) -> Result<(), Fail> {
         (SCOPE_ORDER, SCOPE_ORDER_TRACE),
         (CLOSED_SCOPE, CLOSED_SCOPE_TRACE),
         (ESCAPE_TWICE, ESCAPE_TWICE_TRACE),
+        (STALE_HANDLE, STALE_HANDLE_TRACE),
+        (PENDING_EXCEPTION, PENDING_EXCEPTION_TRACE),
+        (UNCAUGHT, UNCAUGHT_TRACE),
         (EMPTY, EMPTY_TRACE),
         (NAMES, NAMES_TRACE),
         (THREE_ADDONS, THREE_ADDONS_TRACE),

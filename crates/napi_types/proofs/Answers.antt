@@ -4,16 +4,16 @@ use Rattle.std.proofs.lemmas.List.{length-map}
 use Rattle.std.specs.Option.{option_or}
 use Rattle.napi_types.specs.declared.call.Call.{Call}
 use Rattle.napi_types.specs.declared.call.Call.TheVariants as call
+use Rattle.napi_types.specs.declared.ids.TextNo.{TextNo}
 use Rattle.napi_types.specs.declared.status.Status.{Status}
 use Rattle.napi_types.specs.declared.status.Status.TheVariants as status
 use Rattle.napi_types.specs.Lists.{first_changed, when}
 use Rattle.napi_types.specs.Environment.{Environment}
-use Rattle.napi_types.specs.Frames.{Frame}
-use Rattle.napi_types.specs.Heap.{Heap, handle_properties, with_handle, new_list}
+use Rattle.napi_types.specs.Heap.{Heap, handle_properties, with_handle, with_thrown}
 use Rattle.napi_types.specs.PropertyCalls.{names_of}
-use Rattle.napi_types.specs.Refusals.{unknown_refusal, kind_refusal, row_refusal, refusal_in}
-use Rattle.napi_types.specs.Calls.{accepted, answer_by, answer_in, answer}
-use Rattle.napi_types.specs.Changes.{noted, called}
+use Rattle.napi_types.specs.Refusals.{unknown_refusal, kind_refusal, row_refusal, moment_refusal, refusal_in, refusal}
+use Rattle.napi_types.specs.Calls.{accepted, answer_by, answer_in, accepted_by, answer_given, answer}
+use Rattle.napi_types.specs.Changes.{called}
 
 length-changed : {A : Type 0} (f : A → A) (xs : List A) → length (first_changed f xs) ≡ length xs
 length-changed f [] = refl
@@ -41,6 +41,9 @@ handled old heap v s h n m = record {
 
 in-scopes : (heap : Heap) (new : Heap) → length new.scopes ≡ length heap.scopes → new.handles ≤ heap.handles + 1 → length new.scope_numbers ≤ length heap.scope_numbers + 1 → new.made ≡ heap.made → HeapKeeps heap new
 in-scopes heap new d h n m = record { depth = d; handles = omega (arith, h); scopes = n; made = omega (arith, m) }
+
+in-scopes-made : (heap : Heap) (new : Heap) → length new.scopes ≡ length heap.scopes → new.handles ≤ heap.handles + 1 → length new.scope_numbers ≤ length heap.scope_numbers + 1 → new.made ≤ heap.made + 65537 → HeapKeeps heap new
+in-scopes-made heap new d h n m = record { depth = d; handles = omega (arith, h); scopes = n; made = m }
 
 none-last : (a b c : Option Status) → option_or a (option_or b c) ≡ None → c ≡ None
 none-last None None c h = h
@@ -93,6 +96,44 @@ by-refusal texts heap c n (Some s) h = same heap
 pub answer_in-keeps : (texts : ℕ) (heap : Heap) (c : Call) (n : ℕ) → HeapKeeps heap (answer_in texts heap c n).after
 answer_in-keeps texts heap c n = by-refusal texts heap c n (refusal_in texts heap c) refl
 
+-- what a call keeps of the environment: all but the heap and the pending exception
+pub record Keeps (old new : Environment) : Type 0 where
+  pub addons : new.addons ≡ old.addons
+  pub opened : new.opened ≡ old.opened
+  pub inits : new.inits ≡ old.inits
+  pub phase : new.phase ≡ old.phase
+  pub frames : new.frames ≡ old.frames
+  pub heap : HeapKeeps old.heap new.heap
+
+keeps-all : (e : Environment) → Keeps e e
+keeps-all e = record { addons = refl; opened = refl; inits = refl; phase = refl; frames = refl; heap = same e.heap }
+
+keeps-heap : (e : Environment) (c : Call) (n : ℕ) → refusal_in e.texts e.heap c ≡ None → Keeps e (record e { heap = (accepted e.heap c n).after })
+keeps-heap e c n h = record { addons = refl; opened = refl; inits = refl; phase = refl; frames = refl; heap = accepted-keeps e.texts e.heap c n h }
+
+thrown-keeps : (heap : Heap) (code : Option TextNo) (message : TextNo) → HeapKeeps heap (with_thrown code message heap)
+thrown-keeps heap None message = in-scopes-made heap _ refl (omega arith) (omega arith) (omega arith)
+thrown-keeps heap (Some code) message = in-scopes-made heap _ refl (omega arith) (omega arith) (omega arith)
+
+accepted_by-keeps : (e : Environment) (c : Call) (n : ℕ) → refusal_in e.texts e.heap c ≡ None → Keeps e (accepted_by e c n).after
+accepted_by-keeps e (call.Throw v) n h = record { addons = refl; opened = refl; inits = refl; phase = refl; frames = refl; heap = same e.heap }
+accepted_by-keeps e (call.ThrowError code message) n h = record { addons = refl; opened = refl; inits = refl; phase = refl; frames = refl; heap = thrown-keeps e.heap code message }
+accepted_by-keeps e call.IsExceptionPending n h = keeps-all e
+accepted_by-keeps e call.GetLastErrorInfo n h = keeps-all e
+accepted_by-keeps e call.GetAndClearLastException n h = record { addons = refl; opened = refl; inits = refl; phase = refl; frames = refl; heap = handled e.heap e.heap _ refl refl refl (omega arith) }
+accepted_by-keeps e c n h = keeps-heap e c n h
+
+none-right : (a b : Option Status) → option_or a b ≡ None → b ≡ None
+none-right None b h = h
+none-right (Some s) b h = cc
+
+given-keeps : (e : Environment) (c : Call) (n : ℕ) (s : Option Status) → refusal e c ≡ s → Keeps e (answer_given e c n s).after
+given-keeps e c n None h = accepted_by-keeps e c n (none-right (moment_refusal e c) (refusal_in e.texts e.heap c) h)
+given-keeps e c n (Some s) h = keeps-all e
+
+pub answer-keeps : (e : Environment) (c : Call) (n : ℕ) → Keeps e (answer e c n).after
+answer-keeps e c n = given-keeps e c n (refusal e c) refl
+
 -- what a call's entry keeps: the addons, the opening, the init frames that began, the phase, and how many frames stand; one of them has made one ask more
 pub record KeepsButAsk (old new : Environment) : Type 0 where
   pub addons : new.addons ≡ old.addons
@@ -104,10 +145,10 @@ pub record KeepsButAsk (old new : Environment) : Type 0 where
 
 pub called-keeps : (e : Environment) (c : Call) (n : ℕ) → KeepsButAsk e (called e c n).after
 called-keeps e c n = record {
-  addons = refl;
-  opened = refl;
-  inits = refl;
-  phase = refl;
-  depth = length-changed _ e.frames;
-  heap = answer_in-keeps e.texts e.heap c n;
+  addons = (answer-keeps e c n).addons;
+  opened = (answer-keeps e c n).opened;
+  inits = (answer-keeps e c n).inits;
+  phase = (answer-keeps e c n).phase;
+  depth = length-changed _ (answer e c n).after.frames ∙ ap length (answer-keeps e c n).frames;
+  heap = (answer-keeps e c n).heap;
 }

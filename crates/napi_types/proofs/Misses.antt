@@ -1,5 +1,5 @@
 -- What it takes to show that entries are no run.
-use Rattle.std.proofs.Common.{◌≡◌, ℕ, false, List, [], IsTrue, subst, slice_index_or}
+use Rattle.std.proofs.Common.{◌≡◌, ℕ, Bool, false, List, [], IsTrue, subst, slice_index_or}
 use Rattle.napi_types.specs.declared.call.Ask.{Ask}
 use Rattle.napi_types.specs.declared.entry.Actor.{Actor}
 use Rattle.napi_types.specs.declared.entry.Actor.TheVariants as actor
@@ -23,6 +23,14 @@ abbrev pub entry_at : ℕ → List Entry → Entry
 entry_at n xs = slice_index_or xs n (host_entry host.Gone out.Nothing)
 
 -- what a result tells, or else what is given
+abbrev pub told_number : ℕ → Out → ℕ
+told_number d (out.Unsigned n) = n
+told_number d _ = d
+
+abbrev pub told_flag : Bool → Out → Bool
+told_flag d (out.Flag b) = b
+told_flag d _ = d
+
 abbrev pub told_kind : Kind → Out → Kind
 told_kind d (out.Kind k) = k
 told_kind d _ = d

@@ -47,9 +47,18 @@ is_scope_or_version (call.EscapeHandle _ _) = true
 is_scope_or_version call.GetVersion = true
 is_scope_or_version _ = false
 
+-- the calls on exceptions and on the last status
+abbrev pub is_exception_call : Call → Bool
+is_exception_call (call.Throw _) = true
+is_exception_call (call.ThrowError _ _) = true
+is_exception_call call.IsExceptionPending = true
+is_exception_call call.GetAndClearLastException = true
+is_exception_call call.GetLastErrorInfo = true
+is_exception_call _ = false
+
 -- the calls that are built
 abbrev pub is_built : Call → Bool
-is_built c = is_scope_or_version c || is_value_call c
+is_built c = is_scope_or_version c || is_exception_call c || is_value_call c
 
 -- what a frame is taken to ask: a call that is not built is never made, and the addon that asks it is taken to leave
 abbrev pub taken : Ask → Ask

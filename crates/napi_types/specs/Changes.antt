@@ -1,6 +1,7 @@
 -- What each local event of the environment writes, and the environment that it leaves.
 use Rattle.std.specs.Prelude.{ℕ, ◌+◌, Bool, true, not, nat_lt, List, [], ◌∷◌, length, Option, Some, None}
 use Rattle.napi_types.specs.declared.call.Call.{Call}
+use Rattle.napi_types.specs.declared.call.Call.TheVariants as call
 use Rattle.napi_types.specs.declared.status.Status.{Status}
 use Rattle.napi_types.specs.declared.status.Status.TheVariants as status
 use Rattle.napi_types.specs.declared.entry.Cause.TheVariants as cause
@@ -47,9 +48,14 @@ abbrev pub asks_made : List Frame → ℕ
 asks_made [] = 0
 asks_made (f ∷ fs) = f.asks
 
--- the call's status is the last one, and its frame made one ask more
-abbrev pub noted : Status → Environment → Environment
-noted s e = record e { last = s; frames = first_changed (λ f. record f { asks = f.asks + 1 }) e.frames }
+-- the last status after a call: the call's own, but that `get_last_error_info` leaves the one that it tells
+abbrev pub last_after : Call → Status → Status → Status
+last_after call.GetLastErrorInfo s last = last
+last_after _ s last = s
+
+-- a call's status is noted as the last one, and its frame made one ask more
+abbrev pub noted : Call → Status → Environment → Environment
+noted c s e = record e { last = last_after c s e.last; frames = first_changed (λ f. record f { asks = f.asks + 1 }) e.frames }
 
 -- a call's entry tells how many frames stand and the number of the ask in its frame
 abbrev pub call_entry : Environment → Call → Reply → Entry
@@ -75,16 +81,25 @@ may_ask e = nat_lt (asks_made e.frames) most_asks
 
 -- a call, with the number that its result newly gives
 abbrev pub called : Environment → Call → ℕ → Change
-called e c n = record { entry = call_entry e c (answer e c n).reply; after = noted (answer e c n).reply.status (answer e c n).after }
+called e c n = record { entry = call_entry e c (answer e c n).reply; after = noted c (answer e c n).reply.status (answer e c n).after }
 
--- what the end of a frame tells: the cut, where it was cut
-abbrev pub end_out : Option Why → Out
-end_out (Some w) = out.Cut w
-end_out None = out.Nothing
+-- what the end of a frame tells, which leaves these: the cut, where it was cut, or else, where it was the outermost, that an exception was pending
+abbrev pub end_out : Option Why → List Frame → Option ℕ → Out
+end_out (Some w) fs p = out.Cut w
+end_out None [] (Some v) = out.Uncaught
+end_out None fs p = out.Nothing
+
+-- the pending exception after the end of a frame, which leaves these: at the end of an outermost one it is cleared
+abbrev pub pending_left : List Frame → Option ℕ → Option ℕ
+pending_left [] p = None
+pending_left (f ∷ fs) p = p
 
 -- the innermost frame ends, cut or not, and its scopes close
 abbrev pub frame_ended : Option Why → Environment → Change
-frame_ended cut e = record { entry = host_entry host.End (end_out cut); after = record e { heap = frame_left e.heap; frames = tail e.frames } }
+frame_ended cut e = record {
+  entry = host_entry host.End (end_out cut (tail e.frames) e.pending);
+  after = record e { heap = frame_left e.heap; frames = tail e.frames; pending = pending_left (tail e.frames) e.pending };
+}
 
 -- the environment is gone
 abbrev pub gone : Environment → Change

@@ -1,11 +1,12 @@
 -- The environment's state.
-use Rattle.std.specs.Prelude.{ℕ, Bool, false, List, []}
+use Rattle.std.specs.Prelude.{ℕ, Bool, false, List, [], Option, None}
 use Rattle.napi_types.specs.declared.status.Status.{Status}
 use Rattle.napi_types.specs.declared.status.Status.TheVariants as status
 use Rattle.napi_types.specs.declared.entry.Phase.{Phase}
 use Rattle.napi_types.specs.declared.entry.Phase.TheVariants as phase
 use Rattle.napi_types.specs.Frames.{Frame}
 use Rattle.napi_types.specs.Heap.{Heap, new_heap}
+use Rattle.napi_types.specs.Replies.{Answer}
 
 -- the state of the environment (`napi_env`)
 pub record Environment : Type 0 where
@@ -20,6 +21,8 @@ pub record Environment : Type 0 where
   pub heap : Heap
   -- the frames that stand, the innermost first
   pub frames : List Frame
+  -- the creation number of the value that is the pending exception, where one is pending
+  pub pending : Option ℕ
   -- the status of the last call
   pub last : Status
 
@@ -33,5 +36,14 @@ new_environment addons texts = record {
   phase = phase.Init;
   heap = new_heap;
   frames = [];
+  pending = None;
   last = status.Ok;
 }
+
+-- an environment with another heap
+abbrev pub with_heap : Environment → Heap → Environment
+with_heap e heap = record e { heap = heap }
+
+-- an answer that is told of the heap, in the environment
+abbrev pub in_heap : Environment → Answer Heap → Answer Environment
+in_heap e a = record { reply = a.reply; after = with_heap e a.after }

@@ -3,10 +3,11 @@ use Rattle.std.specs.Prelude.{ℕ, ◌+◌, List, [], ◌∷◌, ◌++◌, lengt
 use Rattle.std.specs.Option.{unwrap_or}
 use Rattle.napi_types.specs.declared.body.Body.{Body}
 use Rattle.napi_types.specs.declared.entry.Out.TheVariants as out
+use Rattle.napi_types.specs.declared.ids.TextNo.{TextNo}
 use Rattle.napi_types.specs.Lists.{first_changed, tail}
 use Rattle.napi_types.specs.Replies.{Answer, answered}
 use Rattle.napi_types.specs.Scopes.{FrameScopes, no_handles, gives, hold_in}
-use Rattle.napi_types.specs.Values.{Value, Property, body_of, properties_of, elements_of, fresh_value, starting_values, undefined_value, value_changed, list_of, error_of}
+use Rattle.napi_types.specs.Values.{Value, Property, body_of, properties_of, elements_of, fresh_value, starting_values, undefined_value, value_changed, list_of, error_of, thrown_of, thrown_strings}
 
 -- the value graph and the handle scopes
 pub record Heap : Type 0 where
@@ -60,6 +61,14 @@ with_error code message heap = record heap { values = heap.values ++ error_of (h
 -- a new error and its handle
 abbrev pub new_error : Option ℕ → ℕ → Heap → Answer Heap
 new_error code message heap = handle_of (heap.made + 1) (with_error code message heap)
+
+-- the creation number of the error that new strings of these texts give
+abbrev pub thrown_number : Option TextNo → TextNo → Heap → ℕ
+thrown_number code message heap = heap.made + length (thrown_strings code message) + 1
+
+-- new strings of an error's texts, and then the error of them
+abbrev pub with_thrown : Option TextNo → TextNo → Heap → Heap
+with_thrown code message heap = record heap { values = heap.values ++ thrown_of heap.made code message; made = thrown_number code message heap }
 
 -- new values of these bodies, one after another, then an array of them
 abbrev pub with_list : List Body → Heap → Heap

@@ -11,7 +11,6 @@ use Rattle.napi_types.specs.declared.status.Status.TheVariants as status
 use Rattle.napi_types.specs.Calls.{answer, by_groups}
 use Rattle.napi_types.specs.Built.{is_built}
 use Rattle.napi_types.specs.Environment.{Environment}
-use Rattle.napi_types.specs.Heap.{Heap}
 use Rattle.napi_types.specs.Replies.{plain}
 use Rattle.napi_types.specs.Machine.{Machine}
 use Rattle.napi_types.specs.Refusals.{refusal}
@@ -33,7 +32,7 @@ RefusesUnknownHandles = (e : Environment) (h : HandleId) → gives e.heap.scopes
 
 -- each call that is built has a row: exactly one group of calls answers it, and none answers another call
 abbrev pub EveryCallHasARow : Type 0
-EveryCallHasARow = (heap : Heap) (c : Call) (n : ℕ) → length (filter is_some (by_groups heap c n)) ≡ one_if (is_built c)
+EveryCallHasARow = (e : Environment) (c : Call) (n : ℕ) → length (filter is_some (by_groups e c n)) ≡ one_if (is_built c)
 
 -- the texts that name an error's properties are `message` and `code`, which every table of texts begins with
 pub record ErrorNamesAreFixed : Type 0 where

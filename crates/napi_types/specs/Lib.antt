@@ -6,9 +6,11 @@ pub mod Cuts
 pub mod Edge
 pub mod Environment
 pub mod EscapeTwice
+pub mod ExceptionCalls
 pub mod FirstRun
 pub mod Frames
 pub mod Graph
+pub mod Guards
 pub mod Heap
 pub mod Hub
 pub mod Laws
@@ -19,6 +21,7 @@ pub mod Names
 pub mod NamesRun
 pub mod Numbers
 pub mod OtherCalls
+pub mod PendingException
 pub mod Phases
 pub mod Plan
 pub mod PropertyCalls
@@ -35,6 +38,7 @@ pub mod ScriptArguments
 pub mod ScriptOperations
 pub mod ScriptPaths
 pub mod ScriptSchedule
+pub mod StaleHandle
 pub mod Step
 pub mod Teardown
 pub mod Text

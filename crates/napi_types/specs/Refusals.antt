@@ -1,5 +1,5 @@
 -- The first refusal of a call that applies: a table for each point of their order.
-use Rattle.std.specs.Prelude.{ℕ, Bool, ◌&&◌, List, [], ◌∷◌, ◌++◌, length, nat_lt, pos, negsuc, int_le, Option, Some, None, is_some}
+use Rattle.std.specs.Prelude.{ℕ, Bool, true, false, ◌&&◌, ◌||◌, List, [], ◌∷◌, ◌++◌, length, nat_lt, pos, negsuc, int_le, Option, Some, None, is_some}
 use Rattle.std.specs.List.{list_all}
 use Rattle.std.specs.Option.{option_or}
 use Rattle.napi_types.specs.declared.body.Body.{Body}
@@ -7,13 +7,38 @@ use Rattle.napi_types.specs.declared.call.Call.{Call}
 use Rattle.napi_types.specs.declared.call.Call.TheVariants as call
 use Rattle.napi_types.specs.declared.ids.HandleId.{HandleId}
 use Rattle.napi_types.specs.declared.ids.ScopeKind.TheVariants as scope_kind
+use Rattle.napi_types.specs.declared.ids.TextNo.{TextNo}
+use Rattle.napi_types.specs.declared.entry.Phase.{Phase}
+use Rattle.napi_types.specs.declared.entry.Phase.TheVariants as phase
 use Rattle.napi_types.specs.declared.status.Status.{Status}
 use Rattle.napi_types.specs.declared.status.Status.TheVariants as status
 use Rattle.napi_types.specs.Environment.{Environment}
+use Rattle.napi_types.specs.Guards.{is_guarded, is_registering}
 use Rattle.napi_types.specs.Heap.{Heap, handle_body, handle_properties}
 use Rattle.napi_types.specs.Lists.{one, when, unless}
 use Rattle.napi_types.specs.Scopes.{gives, opened_scopes, closing, escaping}
 use Rattle.napi_types.specs.Values.{is_object_like, is_string, is_number, is_bigint, is_boolean, is_array, most_names, most_index}
+
+-- A CALL AT A WRONG MOMENT
+-- from the start of the teardown on
+abbrev pub is_tearing : Phase → Bool
+is_tearing phase.Hooks = true
+is_tearing phase.Drain = true
+is_tearing phase.Finals = true
+is_tearing phase.Gone = true
+is_tearing _ = false
+
+-- a guarded call is refused while an exception is pending, and in the teardown
+abbrev pub guard_refusal : Environment → Call → Option Status
+guard_refusal e c = when (is_guarded c && (is_some e.pending || is_tearing e.phase)) status.PendingException
+
+-- a call that registers is refused in the teardown
+abbrev pub registering_refusal : Environment → Call → Option Status
+registering_refusal e c = when (is_registering c && is_tearing e.phase) status.GenericFailure
+
+-- the first of both that applies
+abbrev pub moment_refusal : Environment → Call → Option Status
+moment_refusal e c = option_or (guard_refusal e c) (registering_refusal e c)
 
 -- A HANDLE OR A TEXT THAT IS UNKNOWN
 -- the handle of an argument that may be left out
@@ -43,7 +68,13 @@ handles_of (call.SetElement h _ v) = h.0 ∷ one v.0
 handles_of (call.GetElement h _) = one h.0
 handles_of (call.HasElement h _) = one h.0
 handles_of (call.EscapeHandle _ h) = one h.0
+handles_of (call.Throw h) = one h.0
 handles_of _ = []
+
+-- the text of an argument that may be left out
+abbrev pub text_if : Option TextNo → List ℕ
+text_if None = []
+text_if (Some t) = one t.0
 
 -- the texts that a call names
 abbrev pub texts_of : Call → List ℕ
@@ -52,6 +83,7 @@ texts_of (call.SetNamedProperty _ name _) = one name.0
 texts_of (call.GetNamedProperty _ name) = one name.0
 texts_of (call.HasNamedProperty _ name) = one name.0
 texts_of (call.DeleteProperty _ name) = one name.0
+texts_of (call.ThrowError code message) = text_if code ++ one message.0
 texts_of _ = []
 
 -- each handle that the call names lies in an open scope, and each text that it names stands in the table, of so many texts
@@ -102,10 +134,10 @@ row_refusal heap (call.CloseEscapableHandleScope s) = closing s.0 scope_kind.Esc
 row_refusal heap (call.EscapeHandle s _) = escaping s.0 (opened_scopes heap.scopes)
 row_refusal heap _ = None
 
--- the first of the points that applies, in a heap and a table of so many texts
+-- the first of these three points that applies, in a heap and a table of so many texts
 abbrev pub refusal_in : ℕ → Heap → Call → Option Status
 refusal_in texts heap c = option_or (unknown_refusal texts heap c) (option_or (kind_refusal heap c) (row_refusal heap c))
 
--- the first of the points that applies
+-- the first of all points that applies: whether the call comes at a wrong moment is asked first
 abbrev pub refusal : Environment → Call → Option Status
-refusal e c = refusal_in e.texts e.heap c
+refusal e c = option_or (moment_refusal e c) (refusal_in e.texts e.heap c)

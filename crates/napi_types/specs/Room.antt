@@ -63,7 +63,7 @@ first_places = 65536
 abbrev pub is_full : Room → Call → Bool
 is_full r c = nat_lt r.limit (r.taken + need c)
 
--- a call that takes memory beside that of its places in the list of its entry: one whose result is a newly issued number, and one that sets a property or an element
+-- a call that takes memory beside that of its places in the list of its entry: one whose result is a newly issued number, and one that sets a property or an element, or makes an error
 abbrev pub is_growing : Call → Bool
 is_growing call.GetUndefined = true
 is_growing call.GetNull = true
@@ -83,6 +83,8 @@ is_growing (call.SetElement _ _ _) = true
 is_growing (call.GetElement _ _) = true
 is_growing call.OpenHandleScope = true
 is_growing call.OpenEscapableHandleScope = true
+is_growing (call.ThrowError _ _) = true
+is_growing call.GetAndClearLastException = true
 is_growing _ = false
 
 -- the call grows, or entries, reserved places and its need pass the first places

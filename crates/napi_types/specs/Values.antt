@@ -211,3 +211,13 @@ array_of n numbers = record { number = n; body = body.Object true false; propert
 -- new values of these bodies, and then an array of them
 abbrev pub list_of : ℕ → List Body → List Value
 list_of n bs = made_after n bs ++ array_of (n + length bs + 1) (range_with_len (n + 1) (length bs)) ∷ []
+
+-- the strings of an error's texts, in the order of the properties that name them: its message, and its code where one is given
+abbrev pub thrown_strings : Option TextNo → TextNo → List Body
+thrown_strings None message = body.Str message ∷ []
+thrown_strings (Some code) message = body.Str message ∷ body.Str code ∷ []
+
+-- new strings of an error's texts, and then the error of them
+abbrev pub thrown_of : ℕ → Option TextNo → TextNo → List Value
+thrown_of n code message =
+    made_after n (thrown_strings code message) ++ error_of (n + length (thrown_strings code message) + 1) (option_map (λ c. n + 2) code) (n + 1) ∷ []

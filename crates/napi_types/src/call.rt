@@ -1,6 +1,7 @@
 //! Calls of the environment, by their names in the Node-API manual, and what an addon asks.
 ghost use Rattle.std.specs.Prelude.{◌≡◌};
 ghost use Rattle.napi_types.specs.Built.{is_built, is_value_call};
+ghost use Rattle.napi_types.specs.Guards.{is_guarded, is_registering};
 
 use crate::{HandleId, RefId, ScopeId, TextNo, TsfnId, WorkId};
 
@@ -159,8 +160,58 @@ impl Call {
             | Call::CloseHandleScope(_)
             | Call::CloseEscapableHandleScope(_)
             | Call::EscapeHandle(..)
+            | Call::Throw(_)
+            | Call::ThrowError(..)
+            | Call::IsExceptionPending
+            | Call::GetAndClearLastException
+            | Call::GetLastErrorInfo
             | Call::GetVersion => true,
             _ => self.is_value_call(),
+        }
+    }
+
+    /// Whether the call is guarded: refused while an exception is pending, and in the teardown.
+    pub fn is_guarded(&self) -> bool
+        ensures { result ≡ is_guarded self.now }
+    {
+        matches!(
+            self,
+            Call::CreateFunction(..)
+                | Call::StrictEquals(..)
+                | Call::SetNamedProperty(..)
+                | Call::GetNamedProperty(..)
+                | Call::HasNamedProperty(..)
+                | Call::DeleteProperty(..)
+                | Call::GetPropertyNames(_)
+                | Call::SetElement(..)
+                | Call::GetElement(..)
+                | Call::HasElement(..)
+                | Call::Wrap(..)
+                | Call::Unwrap(_)
+                | Call::RemoveWrap(_)
+                | Call::TypeTagObject(..)
+                | Call::CheckObjectTypeTag(..)
+                | Call::CallFunction(..)
+                | Call::Throw(_)
+                | Call::ThrowError(..)
+        )
+    }
+
+    /// Whether the call registers something to be done later, and so is refused in the teardown.
+    pub fn is_registering(&self) -> bool
+        ensures { result ≡ is_registering self.now }
+    {
+        match self {
+            Call::CreateExternal(_, finalizer, _)
+            | Call::Wrap(_, _, finalizer, _, _)
+            | Call::SetInstanceData(_, finalizer, _) => finalizer.is_some(),
+            Call::AddFinalizer(..)
+            | Call::AddEnvCleanupHook(..)
+            | Call::CreateAsyncWork(..)
+            | Call::QueueAsyncWork(_)
+            | Call::CreateThreadsafeFunction(..)
+            | Call::CallThreadsafeFunction(..) => true,
+            _ => false,
         }
     }
 

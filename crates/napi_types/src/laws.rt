@@ -4,6 +4,8 @@ ghost use Rattle.napi_types.specs.ScopeOrder as scope_order;
 ghost use Rattle.napi_types.specs.ClosedScope as closed_scope;
 ghost use Rattle.napi_types.specs.EscapeTwice as escape_twice;
 ghost use Rattle.napi_types.specs.NamesRun as names_run;
+ghost use Rattle.napi_types.specs.PendingException as pending_exception;
+ghost use Rattle.napi_types.specs.StaleHandle as stale_handle;
 ghost use Rattle.napi_types.specs.Cuts.{CutsForRoom, CutAtLastAsk, NotBeforeLastAsk};
 ghost use Rattle.napi_types.specs.Laws.{RefusesUnknownHandles, FrontsAreRuns, RoomSuffices, EveryCallHasARow, ErrorNamesAreFixed, RunsAreComputed};
 
@@ -85,6 +87,41 @@ pub fn names_run_prints()
 /// No other name is listed first, an absent name gives no other kind, and the refused calls have no other status.
 pub fn names_run_is_strict()
     ensures { names_run.IsStrict }
+{}
+
+/// A handle that is read after its scope closed, and the last status after that: the entries are a run of its script and come to its end.
+pub fn stale_handle_ends()
+    ensures { stale_handle.Ends }
+{}
+
+/// The text of that run, line by line.
+pub fn stale_handle_prints()
+    ensures { stale_handle.Prints }
+{}
+
+/// The refused call has no other status, and it is the last one, also after it was asked for.
+pub fn stale_handle_is_strict()
+    ensures { stale_handle.IsStrict }
+{}
+
+/// Calls while an exception is pending: the entries are a run of their script and come to its end.
+pub fn pending_exception_ends()
+    ensures { pending_exception.Ends }
+{}
+
+/// The text of that run, line by line.
+pub fn pending_exception_prints()
+    ensures { pending_exception.Prints }
+{}
+
+/// A guarded call has no other status, the exception stays pending, what is taken is what was thrown, and then none is pending.
+pub fn pending_exception_is_strict()
+    ensures { pending_exception.IsStrict }
+{}
+
+/// A frame that ends while an exception is pending says that it was not caught, and nothing else.
+pub fn exception_is_uncaught()
+    ensures { pending_exception.IsUncaught }
 {}
 
 /// A handle that no open scope holds is an invalid argument, and the call that names it changes nothing.

@@ -16,13 +16,14 @@ use Rattle.napi_types.specs.declared.status.Status.{Status}
 use Rattle.napi_types.specs.declared.status.Status.TheVariants as status
 use Rattle.napi_types.specs.declared.ids.HandleId.{HandleId}
 use Rattle.napi_types.specs.Built.{is_built, taken}
+use Rattle.napi_types.specs.Environment.{Environment}
 use Rattle.napi_types.specs.Frames.{Frame}
 use Rattle.napi_types.specs.Heap.{Heap}
-use Rattle.napi_types.specs.Lists.{first_changed}
+use Rattle.napi_types.specs.Lists.{first_changed, tail}
 use Rattle.napi_types.specs.Refusals.{refusal}
-use Rattle.napi_types.specs.Calls.{answer_by, accepted}
+use Rattle.napi_types.specs.Calls.{accepted, accepted_by, answer_given}
 use Rattle.napi_types.specs.Room.{Room, journal_room, room_of, is_full, may_want_memory}
-use Rattle.napi_types.specs.Changes.{Change, asks_made, number_of, is_fresh, most_asks, may_ask, called, frame_ended}
+use Rattle.napi_types.specs.Changes.{Change, asks_made, number_of, is_fresh, most_asks, may_ask, called, end_out, frame_ended}
 use Rattle.napi_types.specs.Machine.{Machine}
 use Rattle.napi_types.specs.Step.{locally, env_step, frame_step, cut_of, may_cut}
 use Rattle.napi_types.specs.Registers.{plan_ask, kept}
@@ -33,7 +34,7 @@ use Rattle.env_core.specs.Steps.{Replies, StopsBy}
 use Rattle.addon_trait.specs.Addons.{OthersStay}
 use Rattle.napi_types.specs.Phases.{stage_of}
 use Rattle.script_host.specs.Recording.{Continues, IsOf, machine_of, AgreesWhereTold, AgreesWith, IsRecorded, StandsAt, IsSamePlace, why_stopped}
-use Rattle.napi_types.proofs.Answers.{called-keeps}
+use Rattle.napi_types.proofs.Answers.{answer-keeps, called-keeps}
 use Rattle.script_host.proofs.Recordings.{local-grown}
 
 -- what a call answers is no cut
@@ -41,9 +42,17 @@ accepted-uncut : (heap : Heap) (c : Call) (n : ℕ) → cut_of (accepted heap c 
 accepted-uncut heap call.OpenHandleScope n = refl
 accepted-uncut heap _ n = refl
 
-reply-uncut : (heap : Heap) (c : Call) (n : ℕ) (x : Option Status) → cut_of (answer_by heap c n x).reply.out ≡ None
-reply-uncut heap c n (Some x) = refl
-reply-uncut heap c n None = accepted-uncut heap c n
+accepted_by-uncut : (e : Environment) (c : Call) (n : ℕ) → cut_of (accepted_by e c n).reply.out ≡ None
+accepted_by-uncut e (call.Throw h) n = refl
+accepted_by-uncut e (call.ThrowError code message) n = refl
+accepted_by-uncut e call.IsExceptionPending n = refl
+accepted_by-uncut e call.GetAndClearLastException n = refl
+accepted_by-uncut e call.GetLastErrorInfo n = refl
+accepted_by-uncut e c n = accepted-uncut e.heap c n
+
+reply-uncut : (e : Environment) (c : Call) (n : ℕ) (x : Option Status) → cut_of (answer_given e c n x).reply.out ≡ None
+reply-uncut e c n (Some x) = refl
+reply-uncut e c n None = accepted_by-uncut e c n
 
 -- STEPS
 both_may : (a b c : Bool) → a ≡ true → b ≡ true → c ≡ false → (a && b && not c) ≡ true
@@ -68,10 +77,19 @@ call-next m a c o n f alone made uncut number may fresh fits =
     ∙ ap (λ k. locally m (called m.env c k) (may_ask m.env && is_fresh m.env o && not (is_full (room_of m c) c))) number
     ∙ ap (locally m (called m.env c n)) (both_may (may_ask m.env) (is_fresh m.env o) (is_full (room_of m c) c) may fresh fits)
 
-leave-next : (m : Machine) (a : Ask) (v : Option HandleId) (f : Frame) → m.env.frames ≡ f ∷ [] → ask.Leave v ≡ taken a → may_ask m.env ≡ true
-    → env_step m a out.Nothing m.env.frames ≡ locally m (frame_ended None m.env) true
-leave-next m a v f alone left may =
-    ap (env_step m a out.Nothing) alone ∙ ap (λ b. frame_step m b out.Nothing None) (sym left) ∙ ap (locally m (frame_ended None m.env)) may
+-- what the end of a frame that leaves tells is no cut
+end-uncut : (fs : List Frame) (p : Option ℕ) → cut_of (end_out None fs p) ≡ None
+end-uncut [] None = refl
+end-uncut [] (Some v) = refl
+end-uncut (f ∷ fs) p = refl
+
+leave-next : (m : Machine) (a : Ask) (v : Option HandleId) (o : Out) (f : Frame) → m.env.frames ≡ f ∷ [] → ask.Leave v ≡ taken a → cut_of o ≡ None → may_ask m.env ≡ true
+    → env_step m a o m.env.frames ≡ locally m (frame_ended None m.env) true
+leave-next m a v o f alone left uncut may =
+    ap (env_step m a o) alone
+    ∙ ap (λ b. frame_step m b o (cut_of o)) (sym left)
+    ∙ ap (frame_step m (ask.Leave v) o) uncut
+    ∙ ap (locally m (frame_ended None m.env)) may
 
 cut-next : (m : Machine) (a : Ask) (w : Why) (f : Frame) → m.env.frames ≡ f ∷ [] → may_cut m (taken a) w ≡ true
     → env_step m a (out.Cut w) m.env.frames ≡ locally m (frame_ended (Some w) m.env) true
@@ -163,7 +181,7 @@ called-grown s core history all ps i n a c r new now of st below asked made repl
     subst (λ (x : Reply). IfSome (plan_of ps i) (λ t. registers_of now i ≡ kept t (registers_of all i) 0 n x)) reply.answer keeps in
     let grown : IsRecorded s (wrote change core) history now =
     local-grown s core history all rec a change (set rec.own i own) now
-    (call-next m a c o k st.frame st.alone made (reply-uncut core.env.heap c k (refusal core.env c)) number may fresh fits)
+    (call-next m a c o k st.frame st.alone made (reply-uncut core.env c k (refusal core.env c)) number may fresh fits)
     (asked-of s ps core history all i n a of st rec asked)
     (kept-here s.plans core.env.frames st.frame i rec.own change.entry.reply st.alone st.addon_is)
     (length-set rec.own i own ∙ rec.count)
@@ -180,7 +198,7 @@ pub left-grown : (s : Setting) (core : Core) (history : List Entry) (all : Regis
     → IsRecorded s core history all → IsRecorded s (wrote (frame_ended None core.env) core) history all
 left-grown s core history all ps i n a v of st below asked left rec =
     local-grown s core history all rec a (frame_ended None core.env) rec.own all
-    (leave-next (machine_of s.limits core history) a v st.frame st.alone left (below-most core.env.frames st.frame n st.alone st.asked below))
+    (leave-next (machine_of s.limits core history) a v (frame_ended None core.env).entry.reply.out st.frame st.alone left (end-uncut (tail core.env.frames) core.env.pending) (below-most core.env.frames st.frame n st.alone st.asked below))
     (asked-of s ps core history all i n a of st rec asked)
     refl rec.count rec.agrees refl refl
 
@@ -224,7 +242,7 @@ stands-after core new i n c r st reply =
     let k = called-keeps core.env c (number_of r.out) in
     subst P (sym reply.after) (record {
       frame = record st.frame { asks = st.frame.asks + 1 };
-      alone = ap (first_changed (λ (f : Frame). record f { asks = f.asks + 1 })) st.alone;
+      alone = ap (first_changed (λ (f : Frame). record f { asks = f.asks + 1 })) ((answer-keeps core.env c (number_of r.out)).frames ∙ st.alone);
       there = let L : ℕ → Type 0 = λ x. i < x in subst L (sym k.addons) st.there;
       addon_is = st.addon_is;
       entry = st.entry;

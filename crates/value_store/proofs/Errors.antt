@@ -19,7 +19,7 @@ abbrev code_number : Option ValueId → Option ℕ
 code_number code = option_map (λ (c : ValueId). c.0) code
 
 -- `message` and `code` are two names
-error-names : (n : ℕ) (code : Option ℕ) (message : ℕ) → HasDistinctNames (error_of n code message).properties
+pub error-names : (n : ℕ) (code : Option ℕ) (message : ℕ) → HasDistinctNames (error_of n code message).properties
 error-names n None message = IsDistinct-cons nat_eq message_text [] tt distinct-none
 error-names n (Some code) message = IsDistinct-cons nat_eq message_text (code_text ∷ []) (refl, tt) (IsDistinct-cons nat_eq code_text [] tt distinct-none)
 

@@ -13,3 +13,4 @@ pub mod Properties
 pub mod Reading
 pub mod Starting
 pub mod States
+pub mod Thrown

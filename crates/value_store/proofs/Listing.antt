@@ -80,7 +80,7 @@ some-at (v ∷ vs) zero less = refl
 some-at (v ∷ vs) (suc i) less = some-at vs i (omega arith)
 
 -- the numbers of the values that were added
-there : (ps : List (Option Value)) (vs : List Value) (i : ℕ) → i < length vs → IsSome (at_number (ps ++ map Some vs) (length ps + 1 + i))
+pub there : (ps : List (Option Value)) (vs : List Value) (i : ℕ) → i < length vs → IsSome (at_number (ps ++ map Some vs) (length ps + 1 + i))
 there ps vs i less =
     subst (λ (n : ℕ). IsSome (at_number (ps ++ map Some vs) n)) (next (length ps) i)
     (subst (λ (o : Option Value). IsSome o) (sym (get_or-append-add ps (map Some vs) i None)) (some-at vs i less))
@@ -131,7 +131,7 @@ list-numbered ps bs all =
     (pushed-numbered made array (each-numbered ps bs all) (omega arith) distinct-none closed)
 
 -- WHAT IT DOES TO THE STATE
-standing-some : (vs : List Value) → standing (map Some vs) ≡ vs
+pub standing-some : (vs : List Value) → standing (map Some vs) ≡ vs
 standing-some [] = refl
 standing-some (v ∷ vs) = ap (λ l. v ∷ l) (standing-some vs)
 
@@ -142,7 +142,7 @@ length-list ps bs =
     ∙ ap (λ n. n + 1) (length-each ps bs)
 
 -- a number that was issued is one from 1 to how many were made
-issued-within : (m n : ℕ) → has_number n (down_from m) ≡ true → (0 < n) × (n ≤ m)
+pub issued-within : (m n : ℕ) → has_number n (down_from m) ≡ true → (0 < n) × (n ≤ m)
 issued-within zero n h = let no : ⊥ = cc in absurd no
 issued-within (suc m) n h = by (issued-within m n) (suc m == n) refl h
   where
@@ -150,7 +150,7 @@ issued-within (suc m) n h = by (issued-within m n) (suc m == n) refl h
     by rest true e is = let same : suc m ≡ n = eqb-true (suc m) n e in (omega arith, omega arith)
     by rest false e is = let lower : (0 < n) × (n ≤ m) = rest is in (omega (arith, lower.0), omega (arith, lower.1))
 
-before : (ps qs : List (Option Value)) (n : ℕ) → n ≤ length ps → at_number (ps ++ qs) n ≡ at_number ps n
+pub before : (ps qs : List (Option Value)) (n : ℕ) → n ≤ length ps → at_number (ps ++ qs) n ≡ at_number ps n
 before ps qs zero h = refl
 before [] qs (suc p) h = absurd (omega arith)
 before (x ∷ ps) qs (suc zero) h = refl

@@ -2,7 +2,7 @@
 ghost use Rattle.std.specs.Prelude.{◌≡◌, ℕ, ◌+◌, ◌-◌, ◌<◌, ◌≤◌, ◌^◌, ◌++◌, [], ◌∷◌, true, length, map, vec_capacity, slice_get, slice_index_or, slice_set, is_some, cond, option_map, option_copied, IsSome, OnOk, OnErr, IfOk, Some, None};
 ghost use Rattle.std.specs.List.{All, range_with_len};
 ghost use Rattle.napi_types.specs.Lists.{has_number};
-ghost use Rattle.napi_types.specs.Values.{property_at, element_at, with_property, without_property, with_element, made_after, list_of};
+ghost use Rattle.napi_types.specs.Values.{property_at, element_at, with_property, without_property, with_element, made_after, list_of, error_of, thrown_of};
 ghost use Rattle.value_store.specs.Changes.{numbers_of};
 ghost use Rattle.value_store.specs.Places.{at_number, changed_at, properties_at, elements_at, starting_list, IsCleared};
 ghost use Rattle.value_store.specs.Properties.{elements_named};
@@ -63,6 +63,61 @@ pub(crate) fn push_list(
     push_each(alloc, values, bodies);
     let number = values.len() as u64 + 1;
     values.push_reserved(Some(ValueInfo::array(alloc, number, elements)));
+    Ok(())
+}
+
+/// Adds a string of each of an error's texts, the message first, and then the error of them. All memory is taken before the first.
+pub(crate) fn push_thrown(
+    alloc: Global,
+    values: &mut Vec<Option<ValueInfo>>,
+    code: Option<TextNo>,
+    message: TextNo,
+) -> Result<(), NoMemory>
+    requires { length values.old.items + 4 < 2 ^ 48 }
+    ensures thrown { OnOk result (values.new.items ≡ values.old.items ++ map Some (thrown_of (length values.old.items) code message)) }
+    ensures err { OnErr result (values.new.items ≡ values.old.items) }
+{
+    let before = values.len() as u64;
+    match code {
+        None => push_error(
+            alloc,
+            values,
+            &[Body::Str(message)],
+            None,
+            ValueId(before + 1),
+        ),
+        Some(code) => {
+            let strings = [Body::Str(message), Body::Str(code)];
+            push_error(
+                alloc,
+                values,
+                &strings,
+                Some(ValueId(before + 2)),
+                ValueId(before + 1),
+            )
+        }
+    }
+}
+
+/// Adds a value of each of these bodies, in their order, and then an error of the values of these numbers.
+fn push_error(
+    alloc: Global,
+    values: &mut Vec<Option<ValueInfo>>,
+    strings: &[Body],
+    code: Option<ValueId>,
+    message: ValueId,
+) -> Result<(), NoMemory>
+    requires { length values.old.items + length strings.now + 2 < 2 ^ 48 }
+    ensures added { let before = length values.old.items in
+        let error = error_of (before + length strings.now + 1) (option_map (λ c. c.0) code) message.0 in
+        OnOk result (values.new.items ≡ values.old.items ++ map Some (made_after before strings.now ++ error ∷ [])) }
+    ensures err { OnErr result (values.new.items ≡ values.old.items) }
+{
+    let number = values.len() as u64 + strings.len() as u64 + 1;
+    let error = ValueInfo::error(alloc, number, code, message)?;
+    reserve(values, strings.len() + 1)?;
+    push_each(alloc, values, strings);
+    values.push_reserved(Some(error));
     Ok(())
 }
 

@@ -1,7 +1,7 @@
 //! The store: the values that were made and not freed, each under a number.
 ghost use Rattle.std.specs.Prelude.{◌≡◌, ◌+◌, ◌-◌, ◌<◌, ◌≤◌, ◌^◌, ◌++◌, [], ◌∷◌, not, filter, map, length, slice_get, is_some, option_map, option_copied, IfSome, IfOk, OnOk, OnErr, Some};
 ghost use Rattle.napi_types.specs.Lists.{has_number};
-ghost use Rattle.napi_types.specs.Values.{value_at, value_changed, fresh_value, error_of, list_of, property_at, element_at, with_property, without_property, with_element};
+ghost use Rattle.napi_types.specs.Values.{value_at, value_changed, fresh_value, error_of, list_of, thrown_strings, thrown_of, property_at, element_at, with_property, without_property, with_element};
 ghost use Rattle.napi_types.specs.Graph.{value_of, number_in, renamed, graph_of, IsLive, IsSound};
 ghost use Rattle.value_store.specs.Changes.{properties_in, elements_in, id_at, numbers_of, IsNew, IsStarting, IsObject, StandsAt, ChangesOnly, Makes, MakesValue, MakesList, Frees, CanFree};
 
@@ -101,6 +101,25 @@ impl Store {
     {
         places::push_list(self.alloc, &mut self.values, bodies)?;
         Ok(ValueId(self.values.len() as u64))
+    }
+
+    /// Makes a string of each of these texts, the message first, and then an error of them: all of them or none. It answers with the
+    /// error's number.
+    ///
+    /// Near constant time: now and then the list of values grows.
+    pub fn make_thrown(
+        &mut self,
+        code: Option<TextNo>,
+        message: TextNo,
+    ) -> Result<ValueId, NoMemory>
+        requires { self.old.made + 4 < 2 ^ 48 }
+        ensures listed { IfOk result (λ id. MakesList self.old self.new id.0 (length (thrown_strings code message))) }
+        ensures graph { OnOk result (graph_of self.new ≡ graph_of self.old ++ thrown_of self.old.made code message) }
+        ensures err { OnErr result (self.new ≡ self.old) }
+    {
+        places::push_thrown(self.alloc, &mut self.values, code, message)?;
+        let error = self.values.len() as u64;
+        Ok(ValueId(error))
     }
 
     /// The value of a number, `None` exactly where no live value has it. Constant time.

@@ -172,6 +172,36 @@ fn has(store: &Store, object: ValueId, name: u32, value: ValueId) -> bool {
     matches!(found, Some(found) if found.0 == value.0)
 }
 
+/// The text of a string, none of another value.
+fn text_of(store: &Store, value: Option<ValueId>) -> Option<u32> {
+    match store.get(value?)?.body() {
+        Body::Str(text) => Some(text.0),
+        _ => None,
+    }
+}
+
+#[test]
+fn a_thrown_error_comes_after_its_strings(rt: HostRuntime) -> Result<(), Fail> {
+    let mut store = ample(Store::new(rt.alloc()))?;
+    let error = ample(store.make_thrown(Some(TextNo(7)), TextNo(9)))?;
+    assert_eq!(rt; store.places(), 8);
+    assert!(rt; store.at_place(7).is_some_and(|last| last.0 == error.0));
+    assert!(rt; store.get(error).is_some_and(|value| is_error(value.body())));
+    assert_eq!(rt; text_of(&store, store.at_place(5)), Some(9));
+    assert_eq!(rt; text_of(&store, store.at_place(6)), Some(7));
+    assert_eq!(rt; text_of(&store, store.get_prop(error, TextNo(0))), Some(9));
+    assert_eq!(rt; text_of(&store, store.get_prop(error, TextNo(1))), Some(7));
+    assert_eq!(rt; store.name_at(error, 0).0, 0);
+    let without = ample(store.make_thrown(None, TextNo(2)))?;
+    assert_eq!(rt; store.places(), 10);
+    assert_eq!(rt;
+        text_of(&store, store.get_prop(without, TextNo(0))),
+        Some(2)
+    );
+    assert!(rt; store.get_prop(without, TextNo(1)).is_none());
+    Ok(())
+}
+
 #[test]
 fn an_error_has_its_message_and_then_its_code(rt: HostRuntime) -> Result<(), Fail> {
     let mut store = ample(Store::new(rt.alloc()))?;

@@ -4,8 +4,8 @@ use Rattle.napi_types.specs.Laws.{EveryCallHasARow}
 use Rattle.napi_types.proofs.laws.every_call_has_a_row.Goals as goal
 
 by-call : EveryCallHasARow
-by-call heap call.CreateObject n = refl
-by-call heap c n = refl
+by-call e call.CreateObject n = refl
+by-call e c n = refl
 
 pub returns : goal.returns
 returns c = by-call

@@ -1,0 +1,143 @@
+-- What the calls on exceptions answer, and what a call at a wrong moment does.
+use Rattle.std.proofs.Common.{◌≡◌, ℕ, ◌+◌, Bool, true, false, length, refl, ap, sym, ◌∙◌, subst, Option, Some, None, is_some, option_map, IfSome, Result, Ok, Err, IfOk}
+use Rattle.std.specs.Option.{unwrap_or, option_or}
+use Rattle.napi_types.specs.declared.call.Call.{Call}
+use Rattle.napi_types.specs.declared.call.Call.TheVariants as call
+use Rattle.napi_types.specs.declared.entry.Out.TheVariants as out
+use Rattle.napi_types.specs.declared.entry.Reply.{Reply}
+use Rattle.napi_types.specs.declared.ids.HandleId.{HandleId}
+use Rattle.napi_types.specs.declared.ids.TextNo.{TextNo}
+use Rattle.napi_types.specs.declared.ids.ValueId.{ValueId}
+use Rattle.napi_types.specs.declared.status.Status.{Status}
+use Rattle.napi_types.specs.declared.status.Status.TheVariants as status
+use Rattle.napi_types.specs.Calls.{answer_given}
+use Rattle.napi_types.specs.Changes.{number_of}
+use Rattle.napi_types.specs.Environment.{Environment, with_heap, in_heap}
+use Rattle.napi_types.specs.ExceptionCalls.{with_pending}
+use Rattle.napi_types.specs.Graph.{StoreState, IsLive, number_in}
+use Rattle.napi_types.specs.Heap.{Heap, handle_value, handle_of, with_handle, with_thrown, thrown_number}
+use Rattle.napi_types.specs.Lists.{unless}
+use Rattle.napi_types.specs.Refusals.{is_known, moment_refusal, refusal_in, refusal}
+use Rattle.napi_types.specs.Replies.{Answer, answered, plain}
+use Rattle.napi_types.specs.Scopes.{gives, hold_in}
+use Rattle.napi_types.specs.Values.{undefined_value}
+use Rattle.handle_scope.specs.HandleScopes.{HandleScopes, handle_issued}
+use Rattle.env_values.specs.Seen.{heap_of}
+use Rattle.env_core.specs.declared.frame.StandingFrame.{StandingFrame}
+use Rattle.env_values.proofs.Giving.{issued-live}
+use Rattle.env_values.proofs.HandleValues.{unknown-handle}
+use Rattle.env_core.specs.State.{pending_seen, IsState, Answers, AnswersInTime}
+use Rattle.env_core.proofs.Scopes.{with_parts, by-refusal, known-handle, length-changed}
+
+-- THE MOMENT
+-- a call at a right moment answers what the other refusals give
+answers-in-time : (e new : Environment) (c : Call) (r : Reply) → None ≡ moment_refusal e c → AnswersInTime e c r new → Answers e c r new
+answers-in-time e new c r h a =
+    let same : refusal_in e.texts e.heap c ≡ refusal e c = ap (λ o. option_or o (refusal_in e.texts e.heap c)) h in
+    record {
+      fresh = a.fresh;
+      reply = a.reply ∙ ap (λ o. (answer_given e c (number_of r.out) o).reply) same;
+      after = a.after ∙ ap (λ o. (answer_given e c (number_of r.out) o).after) same;
+    }
+
+pub in-time : {E : Type 0} (e new : Environment) (c : Call) (r : Result Reply E) → None ≡ moment_refusal e c → IfOk r (λ reply. AnswersInTime e c reply new) → IfOk r (λ reply. Answers e c reply new)
+in-time e new c (Ok r) h a = answers-in-time e new c r h a
+in-time e new c (Err x) h a = tt
+
+-- one at a wrong moment is refused, and changes nothing
+pub out-of-time : (e : Environment) (c : Call) (s : Status) → Some s ≡ moment_refusal e c → Answers e c (plain s out.Nothing) e
+out-of-time e c s h =
+    let why : Some s ≡ refusal e c = ap (λ o. option_or o (refusal_in e.texts e.heap c)) h in
+    record {
+      fresh = refl;
+      reply = ap (λ o. (answer_given e c 0 o).reply) why;
+      after = ap (λ o. (answer_given e c 0 o).after) why;
+    }
+
+-- an exception is pending for the machine where one is
+pub pending-told : (store : StoreState) (p : Option ValueId) (q : Option ℕ) → option_map (λ (v : ValueId). v.0) p ≡ q → is_some p ≡ is_some (pending_seen store q)
+pending-told store None q e = ap (λ o. is_some (pending_seen store o)) e
+pending-told store (Some v) q e = ap (λ o. is_some (pending_seen store o)) e
+
+-- THROW
+throw-refusal : (texts : ℕ) (heap : Heap) (h : HandleId) (b : Bool) → is_some (gives heap.scopes h.0) ≡ b → refusal_in texts heap (call.Throw h) ≡ unless b status.InvalidArg
+throw-refusal texts heap h true known = rw known refl
+throw-refusal texts heap h false known = rw known refl
+
+pub unknown-throw : (e : Environment) (store : StoreState) (scopes : HandleScopes) (h : HandleId)
+    → None ≡ gives scopes.frames h.0 → AnswersInTime (with_parts e store scopes) (call.Throw h) (plain status.InvalidArg out.Nothing) (with_parts e store scopes)
+unknown-throw e store scopes h none =
+    by-refusal e store scopes scopes (call.Throw h) status.InvalidArg (throw-refusal e.texts (heap_of store scopes) h false (unknown-handle store scopes.frames h.0 none)) refl
+
+pub accepted-throw : (e : Environment) (store : StoreState) (scopes : HandleScopes) (h : HandleId) (v : ℕ) → Some v ≡ gives scopes.frames h.0
+    → AnswersInTime (with_parts e store scopes) (call.Throw h) (plain status.Ok out.Nothing) (with_pending (Some (number_in store v)) (with_parts e store scopes))
+accepted-throw e store scopes h v given =
+    let env : Environment = with_parts e store scopes in
+    let known : gives (heap_of store scopes).scopes h.0 ≡ Some (number_in store v) = known-handle store scopes h.0 v given in
+    let none : refusal_in e.texts (heap_of store scopes) (call.Throw h) ≡ None = throw-refusal e.texts (heap_of store scopes) h true (ap is_some known) in
+    let value : handle_value (heap_of store scopes) h.0 ≡ number_in store v = ap (λ o. unwrap_or o undefined_value) known in
+    let answer : answer_given env (call.Throw h) 0 (refusal_in e.texts (heap_of store scopes) (call.Throw h)) ≡ answered out.Nothing (with_pending (Some (number_in store v)) env) =
+    ap (answer_given env (call.Throw h) 0) none ∙ ap (λ n. answered out.Nothing (with_pending (Some n) env)) value in
+    record { fresh = refl; reply = ap (λ (a : Answer Environment). a.reply) (sym answer); after = ap (λ (a : Answer Environment). a.after) (sym answer) }
+
+-- THROW_ERROR
+thrown-refusal : (texts : ℕ) (heap : Heap) (code : Option TextNo) (message : TextNo) (b : Bool) → is_known texts heap (call.ThrowError code message) ≡ b
+    → refusal_in texts heap (call.ThrowError code message) ≡ unless b status.InvalidArg
+thrown-refusal texts heap code message true known = rw known refl
+thrown-refusal texts heap code message false known = rw known refl
+
+pub unknown-thrown : (e : Environment) (store : StoreState) (scopes : HandleScopes) (code : Option TextNo) (message : TextNo)
+    → is_known e.texts (heap_of store scopes) (call.ThrowError code message) ≡ false
+    → AnswersInTime (with_parts e store scopes) (call.ThrowError code message) (plain status.InvalidArg out.Nothing) (with_parts e store scopes)
+unknown-thrown e store scopes code message known =
+    by-refusal e store scopes scopes (call.ThrowError code message) status.InvalidArg (thrown-refusal e.texts (heap_of store scopes) code message false known) refl
+
+pub accepted-thrown : (e : Environment) (s t : StoreState) (scopes : HandleScopes) (code : Option TextNo) (message : TextNo) (id : ℕ)
+    → is_known e.texts (heap_of s scopes) (call.ThrowError code message) ≡ true
+    → heap_of t scopes ≡ with_thrown code message (heap_of s scopes) → number_in t id ≡ thrown_number code message (heap_of s scopes)
+    → AnswersInTime (with_parts e s scopes) (call.ThrowError code message) (plain status.Ok out.Nothing) (with_pending (Some (number_in t id)) (with_parts e t scopes))
+accepted-thrown e s t scopes code message id known heap number =
+    let env : Environment = with_parts e s scopes in
+    let none : refusal_in e.texts (heap_of s scopes) (call.ThrowError code message) ≡ None = thrown-refusal e.texts (heap_of s scopes) code message true known in
+    let answer : answer_given env (call.ThrowError code message) 0 (refusal_in e.texts (heap_of s scopes) (call.ThrowError code message))
+    ≡ answered out.Nothing (with_pending (Some (thrown_number code message (heap_of s scopes))) (with_heap env (with_thrown code message (heap_of s scopes)))) =
+    ap (answer_given env (call.ThrowError code message) 0) none in
+    record {
+      fresh = refl;
+      reply = ap (λ (a : Answer Environment). a.reply) (sym answer);
+      after =
+          ap (λ n. with_pending (Some n) (with_parts e t scopes)) number
+          ∙ ap (λ h. with_pending (Some (thrown_number code message (heap_of s scopes))) (with_heap env h)) heap
+          ∙ ap (λ (a : Answer Environment). a.after) (sym answer);
+    }
+
+-- GET_AND_CLEAR_LAST_EXCEPTION
+-- what is pending, or undefined
+pub pending-value : (store : StoreState) (p : Option ValueId) (q : Option ℕ) → option_map (λ (v : ValueId). v.0) p ≡ q
+    → unwrap_or (option_map (λ (v : ValueId). number_in store v.0) p) undefined_value ≡ unwrap_or (pending_seen store q) undefined_value
+pending-value store None q e = ap (λ o. unwrap_or (pending_seen store o) undefined_value) e
+pending-value store (Some v) q e = ap (λ o. unwrap_or (pending_seen store o) undefined_value) e
+
+pub pending-alive : (store : StoreState) (p : Option ValueId) (q : Option ℕ) → option_map (λ (v : ValueId). v.0) p ≡ q → IfSome q (IsLive store) → IfSome p (λ v. IsLive store v.0)
+pending-alive store None q e live = tt
+pending-alive store (Some v) q e live = subst (λ (o : Option ℕ). IfSome o (IsLive store)) (sym e) live
+
+pub taken-pending : (e : Environment) (store : StoreState) (old new : HandleScopes) (n : ℕ) (h : HandleId)
+    → n ≡ unwrap_or e.pending undefined_value → h.0 ≡ old.handles + 1 → heap_of store new ≡ with_handle n (heap_of store old)
+    → AnswersInTime (with_parts e store old) call.GetAndClearLastException (plain status.Ok (out.Handle h)) (with_pending None (with_parts e store new))
+taken-pending e store old new n h value next heap = record {
+  fresh = refl;
+  reply = ap (λ k. plain status.Ok (out.Handle (record { 0 = k }))) next;
+  after =
+      ap (λ k. with_pending None (with_heap e k)) heap
+      ∙ ap (λ k. with_pending None (with_heap e (with_handle k (heap_of store old)))) value;
+}
+
+-- the scopes hold one handle more, and no exception is pending
+pub state-taken : (store : StoreState) (old new : HandleScopes) (frame : Option StandingFrame) (thrown : Option ℕ) (v : ℕ)
+    → IsState store old frame thrown → IsLive store v → new ≡ handle_issued v old → IsState store new frame None
+state-taken store old new frame thrown v s live is = record {
+  live = issued-live store old new v is live s.live;
+  frames = ap (λ (x : HandleScopes). length x.frames) is ∙ length-changed (hold_in (record { handle = old.handles + 1; value = v })) old.frames ∙ s.frames;
+  pending = tt;
+}

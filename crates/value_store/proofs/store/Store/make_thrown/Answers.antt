@@ -1,0 +1,14 @@
+use Rattle.std.proofs.Common.{rules, ◌≡◌, length}
+use Rattle.value_store.proofs.Thrown.{thrown-makes, thrown-graph, thrown-numbered}
+use Rattle.value_store.proofs.store.Store.make_thrown.Goals as goal
+
+pub invariant_of-self-2 : goal.invariant_of-self-2
+invariant_of-self-2 c = thrown-numbered c.self.inside.values.items c.push_thrown.new.values.items c.args.self.now c.self.view_is c.self.invariant c.args.code c.args.message c.in_ok-push_thrown.ensures.thrown
+
+pub returns-clause-listed : goal.returns-clause-listed
+returns-clause-listed c =
+    let many : c.len-error.result ≡ length c.push_thrown.new.values.items = search rules in
+    rw many (thrown-makes c.self.inside.values.items c.push_thrown.new.values.items c.args.self.now c.self.view_is c.self.invariant c.args.code c.args.message c.in_ok-push_thrown.ensures.thrown)
+
+pub returns-clause-graph : goal.returns-clause-graph
+returns-clause-graph c = thrown-graph c.self.inside.values.items c.push_thrown.new.values.items c.args.self.now c.self.view_is c.self.invariant c.args.code c.args.message c.in_ok-push_thrown.ensures.thrown
