@@ -1,5 +1,5 @@
 -- A call's entry, and the environment after it, from their parts.
-use Rattle.std.proofs.Common.{◌≡◌, ◌∙◌, ℕ, length, refl, ap, None, ◌≢◌, ◌+◌, List, [], ◌∷◌, arith}
+use Rattle.std.proofs.Common.{◌≡◌, ◌∙◌, ℕ, length, refl, ap, sym, subst, None, ◌≢◌, ◌+◌, List, [], ◌∷◌, arith}
 use Rattle.napi_types.specs.declared.call.Call.{Call}
 use Rattle.napi_types.specs.declared.entry.Reply.{Reply}
 use Rattle.napi_types.specs.declared.entry.Actor.TheVariants as actor
@@ -7,18 +7,14 @@ use Rattle.napi_types.specs.declared.entry.What.TheVariants as what
 use Rattle.napi_types.specs.declared.entry.Entry.{Entry}
 use Rattle.napi_types.specs.Environment.{Environment}
 use Rattle.napi_types.specs.Calls.{answer}
-use Rattle.napi_types.specs.Changes.{asks_made, noted, called}
+use Rattle.napi_types.specs.Changes.{asks_made, noted, called, call_entry, number_of}
 use Rattle.napi_types.specs.Frames.{Frame}
 use Rattle.napi_types.specs.Lists.{first_changed, tail}
+use Rattle.env_core.specs.State.{Answers, Calls}
 use Rattle.napi_types.proofs.Answers.{answer-keeps, called-keeps}
 
 abbrev pub told_entry : ℕ → ℕ → Call → Reply → Entry
 told_entry depth step c r = record { actor = actor.Env; depth = depth; step = step; what = what.Call c; reply = r; given = None }
-
-pub entry-called : (e : Environment) (c : Call) (n depth step : ℕ) (r : Reply)
-    → depth ≡ length e.frames → step ≡ asks_made e.frames → r ≡ (answer e c n).reply → told_entry depth step c r ≡ (called e c n).entry
-entry-called e c n depth step r d s q =
-    ap (λ x. told_entry x step c r) d ∙ ap (λ x. told_entry (length e.frames) x c r) s ∙ ap (λ x. told_entry (length e.frames) (asks_made e.frames) c x) q
 
 pub after-called : (e mid new : Environment) (c : Call) (n : ℕ) (r : Reply)
     → r ≡ (answer e c n).reply → mid ≡ (answer e c n).after → new ≡ noted c r.status mid → new ≡ (called e c n).after
@@ -47,3 +43,14 @@ pub asks-called : (e : Environment) (c : Call) (n : ℕ) → e.frames ≢ [] →
 asks-called e c n stands =
     let same : (answer e c n).after.frames ≡ e.frames = (answer-keeps e c n).frames in
     ap (λ fs. asks_made (first_changed (λ f. record f { asks = f.asks + 1 }) fs)) same ∙ asks-counted e.frames stands
+
+-- the call was answered, and then its entry was written
+pub calls-told : (old mid new : Environment) (c : Call) (r : Reply) (x : Entry) → Answers old c r mid → x ≡ call_entry mid c r → new ≡ noted c r.status mid → Calls old c x new
+calls-told old mid new c r x k e h =
+    let P : Entry → Type 0 = λ y. Calls old c y new in
+    let same : mid.frames ≡ old.frames = ap (λ (s : Environment). s.frames) k.after ∙ (answer-keeps old c (number_of r.out)).frames in
+    subst P (sym e) (record {
+      fresh = k.fresh;
+      entry = ap (λ (fs : List Frame). told_entry (length fs) (asks_made fs) c r) same ∙ ap (λ q. call_entry old c q) k.reply;
+      after = after-called old mid new c (number_of r.out) r k.reply k.after h;
+    })

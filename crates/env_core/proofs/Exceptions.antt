@@ -1,5 +1,5 @@
 -- What the calls on exceptions answer, and what a call at a wrong moment does.
-use Rattle.std.proofs.Common.{◌≡◌, ℕ, ◌+◌, Bool, true, false, length, refl, ap, sym, ◌∙◌, subst, Option, Some, None, is_some, option_map, IfSome, Result, Ok, Err, IfOk}
+use Rattle.std.proofs.Common.{◌≡◌, ℕ, ◌+◌, List, Bool, true, false, length, refl, ap, sym, ◌∙◌, subst, Option, Some, None, is_some, option_map, IfSome, Result, Ok, Err, IfOk}
 use Rattle.std.specs.Option.{unwrap_or, option_or}
 use Rattle.napi_types.specs.declared.call.Call.{Call}
 use Rattle.napi_types.specs.declared.call.Call.TheVariants as call
@@ -10,48 +10,60 @@ use Rattle.napi_types.specs.declared.ids.TextNo.{TextNo}
 use Rattle.napi_types.specs.declared.ids.ValueId.{ValueId}
 use Rattle.napi_types.specs.declared.status.Status.{Status}
 use Rattle.napi_types.specs.declared.status.Status.TheVariants as status
-use Rattle.napi_types.specs.Calls.{answer_given}
+use Rattle.napi_types.specs.Calls.{answer_given, answer_at, answer}
+use Rattle.napi_types.specs.Built.{is_calling}
 use Rattle.napi_types.specs.Changes.{number_of}
-use Rattle.napi_types.specs.Environment.{Environment, with_heap, in_heap}
-use Rattle.napi_types.specs.ExceptionCalls.{with_pending}
+use Rattle.napi_types.specs.Environment.{Environment, with_heap}
+use Rattle.napi_types.specs.ExceptionCalls.{with_pending, with_thrown_error}
+use Rattle.napi_types.specs.Frames.{Frame}
 use Rattle.napi_types.specs.Graph.{StoreState, IsLive, number_in}
-use Rattle.napi_types.specs.Heap.{Heap, handle_value, handle_of, with_handle, with_thrown, thrown_number}
+use Rattle.napi_types.specs.Heap.{Heap, handle_value, with_handle, with_thrown, thrown_number}
 use Rattle.napi_types.specs.Lists.{unless}
-use Rattle.napi_types.specs.Refusals.{is_known, moment_refusal, refusal_in, refusal}
+use Rattle.napi_types.specs.Refusals.{is_known, moment_refusal, refusal_in, early_refusal, depth_refusal}
 use Rattle.napi_types.specs.Replies.{Answer, answered, plain}
 use Rattle.napi_types.specs.Scopes.{gives, hold_in}
 use Rattle.napi_types.specs.Values.{undefined_value}
 use Rattle.handle_scope.specs.HandleScopes.{HandleScopes, handle_issued}
 use Rattle.env_values.specs.Seen.{heap_of}
-use Rattle.env_core.specs.declared.frame.StandingFrame.{StandingFrame}
 use Rattle.env_values.proofs.Giving.{issued-live}
 use Rattle.env_values.proofs.HandleValues.{unknown-handle}
 use Rattle.env_core.specs.State.{pending_seen, IsState, Answers, AnswersInTime}
 use Rattle.env_core.proofs.Scopes.{with_parts, by-refusal, known-handle, length-changed}
 
 -- THE MOMENT
+-- only the call of a function is refused for the depth
+no-depth : (fs : List Frame) (c : Call) → is_calling c ≡ false → depth_refusal fs c ≡ None
+no-depth fs (call.CallFunction receiver f args) h = cc
+no-depth fs _ h = refl
+
+-- every other call answers what the refusals before the depth limit give
+given-answer : (e : Environment) (c : Call) (n : ℕ) → is_calling c ≡ false → answer_given e c n (early_refusal e c) ≡ answer e c n
+given-answer e c n h = ap (answer_at e c n (early_refusal e c)) (sym (no-depth e.frames c h))
+
 -- a call at a right moment answers what the other refusals give
-answers-in-time : (e new : Environment) (c : Call) (r : Reply) → None ≡ moment_refusal e c → AnswersInTime e c r new → Answers e c r new
-answers-in-time e new c r h a =
-    let same : refusal_in e.texts e.heap c ≡ refusal e c = ap (λ o. option_or o (refusal_in e.texts e.heap c)) h in
+answers-in-time : (e new : Environment) (c : Call) (r : Reply) → is_calling c ≡ false → None ≡ moment_refusal e c → AnswersInTime e c r new → Answers e c r new
+answers-in-time e new c r other h a =
+    let same : answer_given e c (number_of r.out) (refusal_in e.texts e.heap c) ≡ answer e c (number_of r.out) =
+    ap (λ o. answer_given e c (number_of r.out) (option_or o (refusal_in e.texts e.heap c))) h ∙ given-answer e c (number_of r.out) other in
     record {
       fresh = a.fresh;
-      reply = a.reply ∙ ap (λ o. (answer_given e c (number_of r.out) o).reply) same;
-      after = a.after ∙ ap (λ o. (answer_given e c (number_of r.out) o).after) same;
+      reply = a.reply ∙ ap (λ (x : Answer Environment). x.reply) same;
+      after = a.after ∙ ap (λ (x : Answer Environment). x.after) same;
     }
 
-pub in-time : {E : Type 0} (e new : Environment) (c : Call) (r : Result Reply E) → None ≡ moment_refusal e c → IfOk r (λ reply. AnswersInTime e c reply new) → IfOk r (λ reply. Answers e c reply new)
-in-time e new c (Ok r) h a = answers-in-time e new c r h a
-in-time e new c (Err x) h a = tt
+pub in-time : {E : Type 0} (e new : Environment) (c : Call) (r : Result Reply E) → is_calling c ≡ false → None ≡ moment_refusal e c → IfOk r (λ reply. AnswersInTime e c reply new) → IfOk r (λ reply. Answers e c reply new)
+in-time e new c (Ok r) other h a = answers-in-time e new c r other h a
+in-time e new c (Err x) other h a = tt
 
 -- one at a wrong moment is refused, and changes nothing
-pub out-of-time : (e : Environment) (c : Call) (s : Status) → Some s ≡ moment_refusal e c → Answers e c (plain s out.Nothing) e
-out-of-time e c s h =
-    let why : Some s ≡ refusal e c = ap (λ o. option_or o (refusal_in e.texts e.heap c)) h in
+pub out-of-time : (e : Environment) (c : Call) (s : Status) → is_calling c ≡ false → Some s ≡ moment_refusal e c → Answers e c (plain s out.Nothing) e
+out-of-time e c s other h =
+    let why : Some s ≡ early_refusal e c = ap (λ o. option_or o (refusal_in e.texts e.heap c)) h in
+    let same : answer_given e c 0 (Some s) ≡ answer e c 0 = ap (answer_given e c 0) why ∙ given-answer e c 0 other in
     record {
       fresh = refl;
-      reply = ap (λ o. (answer_given e c 0 o).reply) why;
-      after = ap (λ o. (answer_given e c 0 o).after) why;
+      reply = ap (λ (x : Answer Environment). x.reply) same;
+      after = ap (λ (x : Answer Environment). x.after) same;
     }
 
 -- an exception is pending for the machine where one is
@@ -111,6 +123,14 @@ accepted-thrown e s t scopes code message id known heap number =
           ∙ ap (λ (a : Answer Environment). a.after) (sym answer);
     }
 
+-- at the depth limit an error is thrown too
+pub limit-thrown : (e : Environment) (s t : StoreState) (scopes : HandleScopes) (code : Option TextNo) (message : TextNo) (id : ℕ)
+    → heap_of t scopes ≡ with_thrown code message (heap_of s scopes) → number_in t id ≡ thrown_number code message (heap_of s scopes)
+    → with_pending (Some (number_in t id)) (with_parts e t scopes) ≡ with_thrown_error code message (with_parts e s scopes)
+limit-thrown e s t scopes code message id heap number =
+    ap (λ n. with_pending (Some n) (with_parts e t scopes)) number
+    ∙ ap (λ h. with_pending (Some (thrown_number code message (heap_of s scopes))) (with_heap e h)) heap
+
 -- GET_AND_CLEAR_LAST_EXCEPTION
 -- what is pending, or undefined
 pub pending-value : (store : StoreState) (p : Option ValueId) (q : Option ℕ) → option_map (λ (v : ValueId). v.0) p ≡ q
@@ -134,10 +154,11 @@ taken-pending e store old new n h value next heap = record {
 }
 
 -- the scopes hold one handle more, and no exception is pending
-pub state-taken : (store : StoreState) (old new : HandleScopes) (frame : Option StandingFrame) (thrown : Option ℕ) (v : ℕ)
+pub state-taken : (store : StoreState) (old new : HandleScopes) (frame : List Frame) (thrown : Option ℕ) (v : ℕ)
     → IsState store old frame thrown → IsLive store v → new ≡ handle_issued v old → IsState store new frame None
 state-taken store old new frame thrown v s live is = record {
   live = issued-live store old new v is live s.live;
   frames = ap (λ (x : HandleScopes). length x.frames) is ∙ length-changed (hold_in (record { handle = old.handles + 1; value = v })) old.frames ∙ s.frames;
+  calls = ap (λ (x : HandleScopes). x.by_call) is ∙ s.calls;
   pending = tt;
 }

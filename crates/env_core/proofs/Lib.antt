@@ -1,6 +1,9 @@
 pub mod Called
 pub mod Cores
+pub mod Ending
 pub mod Exceptions
+pub mod Knowing
+pub mod Looking
 pub mod Scopes
 pub mod SeenScopes
 pub mod ValueAnswers

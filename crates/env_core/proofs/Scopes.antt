@@ -1,5 +1,5 @@
 -- What the calls on scopes answer, and what stays of a state's parts.
-use Rattle.std.proofs.Common.{◌≡◌, ℕ, ◌+◌, Bool, true, false, IsTrue, List, [], ◌∷◌, length, map, refl, ap, sym, ◌∙◌, Option, Some, None, is_some, option_map, Result, Ok, Err, OnOk, OnErr}
+use Rattle.std.proofs.Common.{◌≡◌, ℕ, ◌+◌, Bool, true, false, IsTrue, List, [], ◌∷◌, length, refl, ap, sym, ◌∙◌, Option, Some, None, is_some, option_map, Result, Ok, Err, OnOk, OnErr}
 use Rattle.std.specs.Option.{unwrap_or, option_or}
 use Rattle.napi_types.specs.declared.call.Call.{Call}
 use Rattle.napi_types.specs.declared.call.Call.TheVariants as call
@@ -12,6 +12,7 @@ use Rattle.napi_types.specs.declared.status.Status.{Status}
 use Rattle.napi_types.specs.declared.status.Status.TheVariants as status
 use Rattle.napi_types.specs.Calls.{accepted_by, answer_given}
 use Rattle.napi_types.specs.Environment.{Environment, with_heap, in_heap}
+use Rattle.napi_types.specs.Frames.{Frame}
 use Rattle.napi_types.specs.Graph.{StoreState, IsLive, number_in}
 use Rattle.napi_types.specs.Heap.{Heap, handle_value, in_scopes}
 use Rattle.napi_types.specs.Lists.{first_changed, unless}
@@ -21,8 +22,7 @@ use Rattle.napi_types.specs.ScopeCalls.{with_escaped}
 use Rattle.napi_types.specs.Scopes.{Held, FrameScopes, gives, open_in, close_in, escape_in, opened_scopes, closing, escaping}
 use Rattle.napi_types.specs.Values.{undefined_value}
 use Rattle.handle_scope.specs.HandleScopes.{HandleScopes, is_fresh, scope_opened, scope_closed, handle_escaped}
-use Rattle.env_core.specs.declared.frame.StandingFrame.{StandingFrame}
-use Rattle.env_values.specs.Seen.{seen_frame, heap_of}
+use Rattle.env_values.specs.Seen.{heap_of}
 use Rattle.env_values.proofs.Held.{escaped-holds}
 use Rattle.env_values.proofs.HandleValues.{unknown-handle, given-live}
 use Rattle.env_values.proofs.Seen.{gives-seen, escaped-seen}
@@ -153,33 +153,36 @@ accepted-escape e store old new scope h made v given why next escaped =
     }
 
 -- a scope that opens leaves each frame its scopes, and what they hold live
-pub state-opened : (store : StoreState) (old new : HandleScopes) (frame : Option StandingFrame) (pending : Option ℕ) (kind : ScopeKind) (n : ℕ) → IsState store old frame pending → new ≡ scope_opened kind n old → IsState store new frame pending
+pub state-opened : (store : StoreState) (old new : HandleScopes) (frame : List Frame) (pending : Option ℕ) (kind : ScopeKind) (n : ℕ) → IsState store old frame pending → new ≡ scope_opened kind n old → IsState store new frame pending
 state-opened store old new frame pending kind n s opened = rw opened (record {
   live = all-opened (λ p. IsLive store p.value) kind n old.frames s.live;
   frames = length-changed (open_in kind n) old.frames ∙ s.frames;
+  calls = s.calls;
   pending = s.pending;
 })
 
 -- so does a handle that escapes
-pub state-escaped : (store : StoreState) (old new : HandleScopes) (frame : Option StandingFrame) (pending : Option ℕ) (n h v : ℕ) → IsState store old frame pending → Some v ≡ gives old.frames h → new ≡ handle_escaped n v old → IsState store new frame pending
+pub state-escaped : (store : StoreState) (old new : HandleScopes) (frame : List Frame) (pending : Option ℕ) (n h v : ℕ) → IsState store old frame pending → Some v ≡ gives old.frames h → new ≡ handle_escaped n v old → IsState store new frame pending
 state-escaped store old new frame pending n h v s given escaped =
     let p : Held = record { handle = old.handles + 1; value = v } in
     rw escaped (record {
       live = escaped-holds (λ m. IsLive store m) n p old.frames (given-live store old h v s.live given) s.live;
       frames = length-changed (escape_in n p) old.frames ∙ s.frames;
+      calls = s.calls;
       pending = s.pending;
     })
 
 -- also where it may be refused
-pub state-escaped-or-not : {A E : Type 0} (store : StoreState) (old new : HandleScopes) (frame : Option StandingFrame) (pending : Option ℕ) (n h v : ℕ) (r : Result A E)
+pub state-escaped-or-not : {A E : Type 0} (store : StoreState) (old new : HandleScopes) (frame : List Frame) (pending : Option ℕ) (n h v : ℕ) (r : Result A E)
     → IsState store old frame pending → Some v ≡ gives old.frames h → OnOk r (new ≡ handle_escaped n v old) → OnErr r (new ≡ old) → IsState store new frame pending
 state-escaped-or-not store old new frame pending n h v (Ok x) s given ok err = state-escaped store old new frame pending n h v s given ok
 state-escaped-or-not store old new frame pending n h v (Err x) s given ok err = rw err s
 
 -- a close leaves each frame its scopes, and what they hold live
-pub state-closed : (store : StoreState) (old new : HandleScopes) (frame : Option StandingFrame) (pending : Option ℕ) → IsState store old frame pending → new ≡ scope_closed old → IsState store new frame pending
+pub state-closed : (store : StoreState) (old new : HandleScopes) (frame : List Frame) (pending : Option ℕ) → IsState store old frame pending → new ≡ scope_closed old → IsState store new frame pending
 state-closed store old new frame pending s closed = rw closed (record {
   live = all-closed (λ p. IsLive store p.value) old.frames s.live;
   frames = length-changed close_in old.frames ∙ s.frames;
+  calls = s.calls;
   pending = s.pending;
 })

@@ -13,7 +13,7 @@ use Rattle.napi_types.specs.Scopes.{Held, Scope, FrameScopes, open_in, close_in,
 use Rattle.env_values.specs.Seen.{seen_held, seen_scope, seen_frame}
 
 -- WHAT IS SEEN
-map-tail : {A B : Type 0} (f : A → B) (xs : List A) → map f (tail xs) ≡ tail (map f xs)
+pub map-tail : {A B : Type 0} (f : A → B) (xs : List A) → map f (tail xs) ≡ tail (map f xs)
 map-tail f [] = refl
 map-tail f (x ∷ xs) = refl
 
@@ -62,7 +62,7 @@ pub escaping-seen : (store : StoreState) (n : ℕ) (fs : List FrameScopes) → e
 escaping-seen store n fs = ap (escaping n) (opened-seen store fs) ∙ ap refuses_escape (escapable-seen store n (opened_scopes fs)) ∙ refuses-seen store (escapable_scope n (opened_scopes fs))
 
 -- WHAT SCOPES HOLD
-All-front : {A : Type 0} (P : A → Type 0) (xs ys : List A) → All P (xs ++ ys) → All P xs
+pub All-front : {A : Type 0} (P : A → Type 0) (xs ys : List A) → All P (xs ++ ys) → All P xs
 All-front P [] ys h = All-nil P
 All-front P (x ∷ xs) ys h = All-cons P x xs (All-head P x (xs ++ ys) h) (All-front P xs ys (All-tail P x (xs ++ ys) h))
 

@@ -1,5 +1,5 @@
 -- The environment and its journal.
-use Rattle.std.specs.Prelude.{◌≡◌, ℕ, ◌+◌, ◌*◌, ◌≤◌, List, [], ◌∷◌, ◌++◌, length}
+use Rattle.std.specs.Prelude.{◌≡◌, ℕ, ◌+◌, ◌*◌, ◌≤◌, List, [], ◌∷◌, ◌++◌, length, nat_lt, cond, Option, Some, None}
 use Rattle.napi_types.specs.declared.entry.Local.{Local}
 use Rattle.napi_types.specs.declared.entry.Phase.{Phase}
 use Rattle.napi_types.specs.declared.entry.Phase.TheVariants as phase
@@ -28,6 +28,10 @@ opened_core addons texts limit =
 abbrev pub advanced : Phase → ℕ → Core → Core
 advanced phase.Gone position core = wrote (gone core.env) core
 advanced p position core = record core { env = in_phase p core.env; position = position }
+
+-- the addon whose init frame is next, where one is to come
+abbrev pub next_init : Environment → Option ℕ
+next_init e = cond (nat_lt e.inits e.addons) (Some e.inits) None
 
 -- the room in the journal
 abbrev pub room_in : Core → Room

@@ -10,9 +10,9 @@ pub record Pages : Type 0 where
   pub limit : ℕ
   pub position : ℕ
 
--- one place more passes a bound
-abbrev pub passes : Pages → ℕ → Type 0
-passes p bound = bound < length p.entries + p.promised + 1
+-- so many places more pass a bound
+abbrev pub passes : Pages → ℕ → ℕ → Type 0
+passes p places bound = bound < length p.entries + p.promised + places
 
 -- entries and promised places stay within the limit and have their memory, and so have the first places
 pub record IsKept (entries promised limit capacity : ℕ) : Type 0 where

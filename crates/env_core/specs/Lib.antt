@@ -1,4 +1,5 @@
 pub mod Core
 pub mod Journal
+pub mod Standing
 pub mod State
 pub mod Steps

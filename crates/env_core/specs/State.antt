@@ -1,44 +1,45 @@
 -- The environment's state as the machine sees it.
-use Rattle.std.specs.Prelude.{◌≡◌, ℕ, List, [], ◌∷◌, length, Option, Some, None, option_map, IfSome, IsTrue}
+use Rattle.std.specs.Prelude.{◌≡◌, ℕ, ◌+◌, Bool, true, false, List, ◌∷◌, length, map, Option, None, option_map, IfSome, IsTrue}
+use Rattle.napi_types.specs.declared.call.Args.{Args}
 use Rattle.napi_types.specs.declared.call.Call.{Call}
 use Rattle.napi_types.specs.declared.call.Call.TheVariants as call
 use Rattle.napi_types.specs.declared.ids.ScopeId.{ScopeId}
 use Rattle.napi_types.specs.declared.ids.ScopeKind.{ScopeKind}
 use Rattle.napi_types.specs.declared.ids.ScopeKind.TheVariants as scope_kind
+use Rattle.napi_types.specs.declared.ids.HandleId.{HandleId}
+use Rattle.napi_types.specs.declared.entry.Cause.{Cause}
+use Rattle.napi_types.specs.declared.entry.Cause.TheVariants as cause
 use Rattle.napi_types.specs.declared.entry.Entry.{Entry}
 use Rattle.napi_types.specs.declared.entry.Reply.{Reply}
+use Rattle.napi_types.specs.declared.entry.Target.{Target}
 use Rattle.napi_types.specs.Frames.{Frame}
 use Rattle.napi_types.specs.Environment.{Environment}
 use Rattle.napi_types.specs.Calls.{answer_given, answer}
 use Rattle.napi_types.specs.Changes.{called, number_of, is_fresh}
 use Rattle.napi_types.specs.Graph.{StoreState, IsLive, number_in}
-use Rattle.napi_types.specs.Refusals.{refusal_in}
+use Rattle.napi_types.specs.Entering.{is_entering, entered}
+use Rattle.napi_types.specs.FunctionCalls.{callee_of, call_gifts, receiver_handle, with_receiver}
+use Rattle.napi_types.specs.Heap.{frame_entered}
+use Rattle.napi_types.specs.Refusals.{refusal_in, refusal}
 use Rattle.handle_scope.specs.HandleScopes.{HandleScopes}
-use Rattle.env_core.specs.declared.frame.StandingFrame.{StandingFrame}
-use Rattle.env_values.specs.Seen.{HoldsLive}
+use Rattle.env_core.specs.declared.state.calling.Called.{Called}
+use Rattle.env_core.specs.declared.state.calling.Called.TheVariants as called_of
+use Rattle.env_values.specs.Seen.{heap_of, HoldsLive}
 
--- a frame as the machine sees it
-abbrev pub frame_seen : StandingFrame → Frame
-frame_seen f = record { cause = f.cause; addon = f.addon; entry = f.entry; asks = f.asks }
-
--- the frames, where at most one stands
-abbrev pub standing : Option StandingFrame → List Frame
-standing None = []
-standing (Some f) = frame_seen f ∷ []
-
--- the addon of the innermost frame
-abbrev pub caller_of : List Frame → ℕ
-caller_of [] = 0
-caller_of (f ∷ fs) = f.addon
+-- whether a call of the frame around it began a frame
+abbrev pub is_by_call : Cause → Bool
+is_by_call cause.Call = true
+is_by_call _ = false
 
 -- the pending exception as the machine sees it, by the creation number of its value
 abbrev pub pending_seen : StoreState → Option ℕ → Option ℕ
 pending_seen store pending = option_map (number_in store) pending
 
--- each frame that stands has its scopes, what they hold is live, and so is the pending exception
-pub record IsState (store : StoreState) (scopes : HandleScopes) (frame : Option StandingFrame) (thrown : Option ℕ) : Type 0 where
+-- each frame that stands has its scopes, which know what frames a call began; what they hold is live, and so is the pending exception
+pub record IsState (store : StoreState) (scopes : HandleScopes) (standing : List Frame) (thrown : Option ℕ) : Type 0 where
   pub live : HoldsLive store scopes
-  pub frames : length scopes.frames ≡ length (standing frame)
+  pub frames : length scopes.frames ≡ length standing
+  pub calls : scopes.by_call ≡ map (λ f. is_by_call f.cause) standing
   pub pending : IfSome thrown (IsLive store)
 
 -- the call that opens a scope of a kind, and the one that closes it
@@ -67,3 +68,38 @@ pub record AnswersInTime (old : Environment) (c : Call) (r : Reply) (new : Envir
   pub fresh : IsTrue (is_fresh old r.out)
   pub reply : r ≡ (answer_given old c (number_of r.out) (refusal_in old.texts old.heap c)).reply
   pub after : new ≡ (answer_given old c (number_of r.out) (refusal_in old.texts old.heap c)).after
+
+-- CALLS OF FUNCTIONS
+-- a call that is refused answers at once, as every other call does
+pub record RefusesCall (old : Environment) (c : Call) (x : Entry) (new : Environment) : Type 0 where
+  pub at_once : is_entering old c ≡ false
+  pub calls : Calls old c x new
+
+-- one that nothing refuses enters the frame of the function, which is given its gifts
+pub record EntersCall (old : Environment) (receiver : Option HandleId) (f : HandleId) (args : Args) (x : Entry) (target : Target) (gifts : List ℕ) (new : Environment) : Type 0 where
+  pub accepted : refusal old (call.CallFunction receiver f args) ≡ None
+  pub addon : target.addon ≡ (callee_of old.heap f).addon
+  pub entry : target.entry ≡ (callee_of old.heap f).entry
+  pub runs : target.torn_runs ≡ false
+  pub gifts_are : gifts ≡ call_gifts old.heap receiver f args
+  pub begun : x ≡ (entered receiver f args old).entry
+  pub after : new ≡ (entered receiver f args old).after
+
+abbrev pub CallsFunction : Environment → Option HandleId → HandleId → Args → Called → Environment → Type 0
+CallsFunction old receiver f args (called_of.Refused x) new = RefusesCall old (call.CallFunction receiver f args) x new
+CallsFunction old receiver f args (called_of.Entered x target gifts) new = EntersCall old receiver f args x target gifts new
+
+-- the scopes of the frame that a call begins: a handle of undefined lies in them where the call names no receiver, and this is the receiver's handle
+pub record BeginsScopes (store : StoreState) (old : HandleScopes) (receiver : Option HandleId) (h : HandleId) (new : HandleScopes) : Type 0 where
+  pub heap : heap_of store new ≡ with_receiver receiver (frame_entered (heap_of store old))
+  pub frames : length new.frames ≡ length old.frames + 1
+  pub calls : new.by_call ≡ true ∷ old.by_call
+  pub live : HoldsLive store new
+  pub handle : h.0 ≡ receiver_handle (heap_of store old) receiver
+
+-- the same scopes, whatever places are spare
+pub record SameScopes (old new : HandleScopes) : Type 0 where
+  pub frames : new.frames ≡ old.frames
+  pub calls : new.by_call ≡ old.by_call
+  pub handles : new.handles ≡ old.handles
+  pub numbers : new.scope_numbers ≡ old.scope_numbers

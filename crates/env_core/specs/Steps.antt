@@ -1,11 +1,21 @@
 -- What a step of a frame comes to.
-use Rattle.std.specs.Prelude.{◌≡◌, false, IsTrue}
+use Rattle.std.specs.Prelude.{◌≡◌, ℕ, false, IsTrue, List, Option, None}
+use Rattle.napi_types.specs.declared.call.Args.{Args}
 use Rattle.napi_types.specs.declared.call.Call.{Call}
+use Rattle.napi_types.specs.declared.call.Call.TheVariants as call
+use Rattle.napi_types.specs.declared.entry.Out.TheVariants as out
 use Rattle.napi_types.specs.declared.entry.Reply.{Reply}
+use Rattle.napi_types.specs.declared.entry.Target.{Target}
+use Rattle.napi_types.specs.declared.ids.HandleId.{HandleId}
 use Rattle.napi_types.specs.declared.status.Status.{Status}
 use Rattle.napi_types.specs.declared.status.Status.TheVariants as status
 use Rattle.napi_types.specs.Room.{Room, is_full, may_want_memory}
-use Rattle.napi_types.specs.Changes.{called, number_of, is_fresh}
+use Rattle.napi_types.specs.Changes.{Change, called, call_entry, noted, number_of, is_fresh}
+use Rattle.napi_types.specs.Entering.{is_entering, entered}
+use Rattle.napi_types.specs.Environment.{Environment}
+use Rattle.napi_types.specs.FunctionCalls.{callee_of, call_gifts}
+use Rattle.napi_types.specs.Refusals.{refusal}
+use Rattle.napi_types.specs.Replies.{plain}
 use Rattle.env_core.specs.declared.env.Stepped.{Stepped}
 use Rattle.env_core.specs.declared.env.Stepped.TheVariants as stepped
 use Rattle.env_core.specs.Core.{Core, wrote, room_in}
@@ -20,9 +30,19 @@ abbrev pub IfStop : Stepped → (Status → Type 0) → Type 0
 IfStop (stepped.Stop s) P = P s
 IfStop _ P = Unit {0}
 
+-- a fact of the frame that is entered and of its gifts, where the step enters one
+abbrev pub IfEnter : Stepped → (Target → List ℕ → Type 0) → Type 0
+IfEnter (stepped.Enter t gifts) P = P t gifts
+IfEnter _ P = Unit {0}
+
 -- the step is a reply or a stop: it enters no frame and hands no call to the hub
+abbrev pub IsAtOnce : Stepped → Type 0
+IsAtOnce (stepped.Enter t gifts) = ⊥
+IsAtOnce (stepped.Shared c) = ⊥
+IsAtOnce _ = Unit {0}
+
+-- no call is handed to the hub
 abbrev pub IsLocal : Stepped → Type 0
-IsLocal (stepped.Enter t gifts) = ⊥
 IsLocal (stepped.Shared c) = ⊥
 IsLocal _ = Unit {0}
 
@@ -32,9 +52,34 @@ StopsBy room c status.TraceFull = IsTrue (is_full room c)
 StopsBy room c status.NoMemory = IsTrue (may_want_memory room c) × (is_full room c ≡ false)
 StopsBy room c _ = ⊥
 
--- the call fits, the reply is the machine's answer to it, with a fresh number where it gives one, and the core wrote the call's entry
+-- the call fits, it enters no frame, the reply is the machine's answer to it, with a fresh number where it gives one, and the core wrote the call's entry
 pub record Replies (old : Core) (c : Call) (r : Reply) (new : Core) : Type 0 where
+  pub at_once : is_entering old.env c ≡ false
   pub fits : is_full (room_in old) c ≡ false
   pub fresh : IsTrue (is_fresh old.env r.out)
   pub answer : r ≡ (called old.env c (number_of r.out)).entry.reply
   pub after : new ≡ wrote (called old.env c (number_of r.out)) old
+
+-- a call of a function fits, nothing refuses it, and the core wrote the begin of the frame that it enters: this entry of this addon, which is given these gifts
+pub record EntersBy (old : Core) (receiver : Option HandleId) (f : HandleId) (args : Args) (target : Target) (gifts : List ℕ) (new : Core) : Type 0 where
+  pub accepted : refusal old.env (call.CallFunction receiver f args) ≡ None
+  pub fits : is_full (room_in old) (call.CallFunction receiver f args) ≡ false
+  pub addon : target.addon ≡ (callee_of old.env.heap f).addon
+  pub entry : target.entry ≡ (callee_of old.env.heap f).entry
+  pub runs : target.torn_runs ≡ false
+  pub gifts_are : gifts ≡ call_gifts old.env.heap receiver f args
+  pub after : new ≡ wrote (entered receiver f args old.env) old
+
+-- no other call enters a frame
+abbrev pub Enters : Core → Call → Target → List ℕ → Core → Type 0
+Enters old (call.CallFunction receiver f args) target gifts new = EntersBy old receiver f args target gifts new
+Enters old _ target gifts new = ⊥
+
+-- a call's entry with a status and no result, where the environment is this one; its status is noted and its ask is counted
+abbrev pub refused_call : Core → Call → Status → Environment → Change
+refused_call old c s e = record { entry = call_entry old.env c (plain s out.Nothing); after = noted c s e }
+
+-- the reply is this status with no result, and all that changed besides is that this is the environment
+pub record RefusedAs (old : Core) (c : Call) (s : Status) (e : Environment) (r : Reply) (new : Core) : Type 0 where
+  pub reply : r ≡ plain s out.Nothing
+  pub after : new ≡ wrote (refused_call old c s e) old

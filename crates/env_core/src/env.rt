@@ -1,22 +1,30 @@
 //! The environment with its journal.
-ghost use Rattle.std.specs.Prelude.{◌≡◌, ◌≢◌, ℕ, ◌+◌, ◌-◌, ◌*◌, ◌<◌, ◌≤◌, [], length, Some, true, IfOk, IsTrue, ◌↔◌};
+ghost use Rattle.std.specs.Prelude.{◌≡◌, ◌≢◌, ℕ, ◌+◌, ◌-◌, ◌*◌, ◌<◌, ◌≤◌, [], length, option_map, Some, None, true, false, IfOk, IsTrue, ◌↔◌};
 ghost use Rattle.napi_types.specs.Room.{is_full, most_entries};
-ghost use Rattle.napi_types.specs.Built.{is_built};
-ghost use Rattle.napi_types.specs.Changes.{asks_made, most_asks, called, frame_ended, init_begun};
+ghost use Rattle.napi_types.specs.declared.call.Call.TheVariants as call_of;
+ghost use Rattle.napi_types.specs.Built.{is_built, is_calling};
+ghost use Rattle.napi_types.specs.Calls.{at_depth_limit};
+ghost use Rattle.napi_types.specs.Changes.{asks_made, most_asks, called, init_begun};
+ghost use Rattle.napi_types.specs.Ends.{frame_ended};
+ghost use Rattle.napi_types.specs.Lists.{head};
+ghost use Rattle.napi_types.specs.Refusals.{early_refusal, depth_refusal};
 ghost use Rattle.napi_types.specs.Phases.{next_phase};
-ghost use Rattle.env_core.specs.Core.{opened_core, wrote, advanced, room_in};
-ghost use Rattle.env_core.specs.Steps.{IfReply, IfStop, Replies, StopsBy, IsLocal};
+ghost use Rattle.env_core.specs.Standing.{frame_seen};
+ghost use Rattle.env_core.specs.Core.{opened_core, wrote, advanced, next_init, room_in};
+ghost use Rattle.env_core.specs.Steps.{IfReply, IfEnter, IfStop, Replies, Enters, EntersBy, RefusedAs, StopsBy, IsAtOnce, IsLocal};
 
+use crate::frames::StandingFrame;
 use crate::journal::Journal;
-use crate::state::State;
+use crate::state::{Called, State};
 use napi_types::{
-    Call, Entry, HandleId, Limits, Local, LocalList, NoMemory, Phase, Reply, SharedCall, Status,
-    Target, Why,
+    Args, Call, Entry, HandleId, Limits, Local, LocalList, NoMemory, Phase, Reply, SharedCall,
+    Status, Target, Why,
 };
 use std::alloc::Global;
 use std::marker::Model;
 
 /// What a step of a frame comes to.
+#[derive(Drop)]
 pub enum Stepped {
     /// The call's reply; its entry stands in the journal.
     Reply(Reply),
@@ -73,6 +81,9 @@ impl EnvCore {
     }
 
     /// Makes a call of the innermost frame. `step` is the number of the ask in its frame, from 0.
+    ///
+    /// An accepted call of a function enters the function's frame, whose `end` will have the call's reply. Every other call
+    /// answers at once.
     pub fn step(&mut self, step: u32, call: &Call) -> Stepped
         requires standing { self.old.env.frames ≢ [] }
         requires built { is_built call.now ≡ true }
@@ -82,6 +93,16 @@ impl EnvCore {
         // A reply is the machine's answer; its entry stands in the journal, and the environment is the one after it.
         ensures reply { IfReply result (λ reply. Replies self.old call.now reply self.new) }
 
+        // A frame that is entered is that of the function, which nothing refused; its begin stands in the journal.
+        ensures enter { IfEnter result (λ target gifts. Enters self.old call.now target gifts self.new) }
+
+        // A refusal changes nothing, but that its entry stands in the journal, its status is noted and its ask is counted;
+        // at the depth limit an exception is pending besides.
+        ensures refused { (s : Status) → early_refusal self.old.env call.now ≡ Some s
+            → IfReply result (λ reply. RefusedAs self.old call.now s self.old.env reply self.new) }
+        ensures depth_limit { (s : Status) → early_refusal self.old.env call.now ≡ None → depth_refusal self.old.env.frames call.now ≡ Some s
+            → IfReply result (λ reply. RefusedAs self.old call.now s (at_depth_limit self.old.env) reply self.new) }
+
         // A call that stops changes nothing, and says why it stopped.
         ensures stop { IfStop result (λ status. self.new ≡ self.old) }
         ensures cause { IfStop result (λ status. StopsBy (room_in self.old) call.now status) }
@@ -90,7 +111,28 @@ impl EnvCore {
         ensures full { IsTrue (is_full (room_in self.old) call.now) → result ≡ Stepped.Stop Status.TraceFull }
         ensures local { IsLocal result }
     {
-        if let Err(status) = self.journal.promise() {
+        match call {
+            Call::CallFunction(receiver, function, args) => {
+                self.call_function(step, *receiver, *function, args)
+            }
+            _ => self.answer(step, call),
+        }
+    }
+
+    /// A call that is no call of a function.
+    fn answer(&mut self, step: u32, call: &Call) -> Stepped
+        requires standing { self.old.env.frames ≢ [] }
+        requires built { is_built call.now ≡ true }
+        requires at_once { is_calling call.now ≡ false }
+        requires ask { step ≡ asks_made self.old.env.frames }
+        requires within { step < most_asks }
+        ensures reply { IfReply result (λ reply. Replies self.old call.now reply self.new) }
+        ensures stop { IfStop result (λ status. self.new ≡ self.old) }
+        ensures cause { IfStop result (λ status. StopsBy (room_in self.old) call.now status) }
+        ensures full { IsTrue (is_full (room_in self.old) call.now) → result ≡ Stepped.Stop Status.TraceFull }
+        ensures at_once { IsAtOnce result }
+    {
+        if let Err(status) = self.journal.promise(1) {
             return Stepped::Stop(status);
         }
         match self.state.call(step, call) {
@@ -99,7 +141,45 @@ impl EnvCore {
                 Stepped::Reply(entry.reply)
             }
             Err(NoMemory) => {
-                self.journal.give_back();
+                self.journal.give_back(1);
+                Stepped::Stop(Status::NoMemory)
+            }
+        }
+    }
+
+    /// A call of a function. It has a place for its entry, or two for the begin and the end of its frame.
+    fn call_function(
+        &mut self,
+        step: u32,
+        receiver: Option<HandleId>,
+        function: HandleId,
+        args: &Args,
+    ) -> Stepped
+        requires standing { self.old.env.frames ≢ [] }
+        requires ask { step ≡ asks_made self.old.env.frames }
+        requires within { step < most_asks }
+        ensures reply { IfReply result (λ reply. Replies self.old (call_of.CallFunction receiver function args.now) reply self.new) }
+        ensures enter { IfEnter result (λ target gifts. EntersBy self.old receiver function args.now target gifts self.new) }
+        ensures stop { IfStop result (λ status. self.new ≡ self.old) }
+        ensures cause { IfStop result (λ status. StopsBy (room_in self.old) (call_of.CallFunction receiver function args.now) status) }
+        ensures full { IsTrue (is_full (room_in self.old) (call_of.CallFunction receiver function args.now)) → result ≡ Stepped.Stop Status.TraceFull }
+        ensures local { IsLocal result }
+    {
+        if let Err(status) = self.journal.promise(2) {
+            return Stepped::Stop(status);
+        }
+        match self.state.call_function(step, receiver, function, args) {
+            Ok(Called::Refused(entry)) => {
+                self.journal.push(entry);
+                self.journal.give_back(1);
+                Stepped::Reply(entry.reply)
+            }
+            Ok(Called::Entered(begin, target, gifts)) => {
+                self.journal.push(begin);
+                Stepped::Enter(target, gifts)
+            }
+            Err(NoMemory) => {
+                self.journal.give_back(2);
                 Stepped::Stop(Status::NoMemory)
             }
         }
@@ -120,15 +200,15 @@ impl EnvCore {
 
     /// Ends the innermost frame, cut or not, and answers the reply of its `end`. It takes no memory.
     ///
-    /// A frame is cut as `Asks` only after its 65,536th ask. An init frame leaves its value to nobody, so `value`
-    /// changes nothing.
+    /// A frame is cut as `Asks` only after its 65,536th ask. The frame of a call leaves the value of a handle to its caller, where it
+    /// was not cut and no exception is pending; an init frame leaves its value to nobody, so `value` changes nothing.
     pub fn leave(&mut self, value: Option<HandleId>, cut: Option<Why>) -> Reply
         requires standing { self.old.env.frames ≢ [] }
         requires asks { cut ≡ Some Why.Asks → asks_made self.old.env.frames ≡ most_asks }
-        ensures reply { result ≡ (frame_ended cut self.old.env).entry.reply }
-        ensures ended { self.new ≡ wrote (frame_ended cut self.old.env) self.old }
+        ensures reply { result ≡ (frame_ended value cut self.old.env).entry.reply }
+        ensures ended { self.new ≡ wrote (frame_ended value cut self.old.env) self.old }
     {
-        let entry = self.state.leave(cut);
+        let entry = self.state.leave(value, cut);
         self.journal.push(entry);
         entry.reply
     }
@@ -159,6 +239,28 @@ impl EnvCore {
         ensures { result ≡ self.now.env.phase }
     {
         self.state.phase()
+    }
+
+    /// The innermost frame. The places that the journal owes, the end of each frame among them, are within its limit.
+    pub fn frame(&self) -> Option<StandingFrame>
+        ensures frame { option_map frame_seen result ≡ head self.now.env.frames }
+        ensures room { (room_in self.now).taken ≤ self.now.limit }
+    {
+        self.state.frame()
+    }
+
+    /// The addon whose init frame is next, `None` exactly where every addon had its init frame.
+    pub fn next_init(&self) -> Option<u32>
+        ensures { result ≡ next_init self.now.env }
+    {
+        self.state.next_init()
+    }
+
+    /// How many frames stand.
+    pub fn depth(&self) -> u32
+        ensures { result ≡ length self.now.env.frames }
+    {
+        self.state.depth()
     }
 
     /// The journal.

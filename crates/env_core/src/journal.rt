@@ -54,33 +54,37 @@ impl Journal {
         }
     }
 
-    /// Promises one place more: `TraceFull` exactly where that passes the limit, `NoMemory` only where it passes the first places.
-    pub fn promise(&mut self) -> Result<(), Status>
-        ensures ok { OnOk result (self.new ≡ record self.old { promised = self.old.promised + 1 }) }
+    /// Promises so many places more: `TraceFull` exactly where that passes the limit, `NoMemory` only where it passes the first
+    /// places.
+    pub fn promise(&mut self, places: u32) -> Result<(), Status>
+        ensures ok { OnOk result (self.new ≡ record self.old { promised = self.old.promised + places }) }
         ensures err { OnErr result (self.new ≡ self.old) }
-        ensures full { (result ≡ Err Status.TraceFull) ↔ passes self.old self.old.limit }
-        ensures room { OnOk result (length self.old.entries + self.old.promised < self.old.limit) }
+        ensures full { (result ≡ Err Status.TraceFull) ↔ passes self.old places self.old.limit }
+        ensures room { OnOk result (length self.old.entries + self.old.promised + places ≤ self.old.limit) }
         ensures cause { IfErr result (λ status. (status ≡ Status.TraceFull) ⊎ (status ≡ Status.NoMemory)) }
-        ensures memory { result ≡ Err Status.NoMemory → passes self.old (min first_places self.old.limit) }
+        ensures memory { result ≡ Err Status.NoMemory → passes self.old places (min first_places self.old.limit) }
     {
-        if self.room() == 0 {
+        if self.room() < places {
             return Err(Status::TraceFull);
         }
-        match self.entries.reserve(self.promised as usize + 1) {
+        match self
+            .entries
+            .reserve(self.promised as usize + places as usize)
+        {
             Ok(()) => {
-                self.promised += 1;
+                self.promised += places;
                 Ok(())
             }
             Err(_) => Err(Status::NoMemory),
         }
     }
 
-    /// Gives a promised place back.
-    pub fn give_back(&mut self)
-        requires { 0 < self.old.promised }
-        ensures { self.new ≡ record self.old { promised = self.old.promised - 1 } }
+    /// Gives so many promised places back.
+    pub fn give_back(&mut self, places: u32)
+        requires { places ≤ self.old.promised }
+        ensures { self.new ≡ record self.old { promised = self.old.promised - places } }
     {
-        self.promised -= 1;
+        self.promised -= places;
     }
 
     /// Fills a promised place. The entry stands at the position noted last.

@@ -5,10 +5,12 @@
 #![tactic(auto)]
 
 mod env;
-mod frame;
+mod frames;
+mod handles;
 mod journal;
 mod state;
 #[cfg(test)]
 mod tests;
 
 pub use env::{EnvCore, Stepped};
+pub use frames::StandingFrame;

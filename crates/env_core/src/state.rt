@@ -1,22 +1,31 @@
-//! The environment's state without its journal: values, scopes, the frame that stands, and how far the run has come.
-ghost use Rattle.std.specs.Prelude.{◌≡◌, ◌≢◌, ◌+◌, ◌<◌, ◌^◌, [], length, true, Some, None, IfOk, OnErr, IsTrue};
+//! The environment's state without its journal: values, scopes, the frames that stand, and how far the run has come.
+ghost use Rattle.std.specs.Prelude.{◌≡◌, ◌≢◌, ◌+◌, ◌<◌, ◌^◌, [], length, true, false, option_map, Some, None, IfOk, OnErr, IsTrue};
 ghost use Rattle.napi_types.specs.declared.call.Call.TheVariants as call_of;
-ghost use Rattle.napi_types.specs.Built.{is_built, is_value_call};
-ghost use Rattle.napi_types.specs.Changes.{opened, init_begun, asks_made, most_asks, frame_ended, gone, in_phase, noted, host_entry as entry_of};
+ghost use Rattle.napi_types.specs.Built.{is_built, is_calling, is_value_call};
+ghost use Rattle.napi_types.specs.Changes.{opened, init_begun, asks_made, most_asks, gone, in_phase, noted, call_entry, host_entry as entry_of, host_told as told_of};
 ghost use Rattle.napi_types.specs.Environment.{new_environment};
+ghost use Rattle.napi_types.specs.Frames.{caller_of};
+ghost use Rattle.napi_types.specs.Lists.{head};
+ghost use Rattle.env_core.specs.Standing.{frame_seen};
 ghost use Rattle.napi_types.specs.Refusals.{is_known, is_tearing, moment_refusal};
 ghost use Rattle.napi_types.specs.Replies.{plain as plain_reply};
 ghost use Rattle.napi_types.specs.Room.{is_growing};
 ghost use Rattle.napi_types.specs.Values.{most_names};
-ghost use Rattle.env_core.specs.State.{Calls, Answers, AnswersInTime, caller_of, opening_call, closing_call};
+ghost use Rattle.env_core.specs.Core.{next_init};
+ghost use Rattle.env_core.specs.State.{Calls, Answers, AnswersInTime, opening_call, closing_call};
 
-use crate::frame::StandingFrame;
-use env_values::{or_undefined, thrown_value, value_step};
+mod calling;
+mod ends;
+mod exceptions;
+
+use crate::frames::{Frames, StandingFrame};
+pub use calling::Called;
+use env_values::value_step;
 use exception_state::Exceptions;
 use handle_scope::{ScopeKind, Scopes};
 use napi_types::{
     Actor, Call, Cause, Entry, HandleId, HostStep, NoMemory, Out, Phase, Reply, ScopeId, Status,
-    TextNo, What, Why,
+    TextNo, What,
 };
 use std::alloc::Global;
 use std::marker::Model;
@@ -36,7 +45,7 @@ pub struct State {
     phase: Phase,
     store: Store,
     scopes: Scopes,
-    frame: Option<StandingFrame>,
+    frames: Frames,
     exceptions: Exceptions,
 }
 
@@ -46,7 +55,7 @@ impl Model for State {
     ghost Value = { Environment };
 
     ghost use Rattle.env_values.specs.Seen.{heap_of};
-    ghost use Rattle.env_core.specs.State.{standing, pending_seen, IsState};
+    ghost use Rattle.env_core.specs.State.{pending_seen, IsState};
 
     ghost view = { λ state. record {
       addons = state.addons;
@@ -55,12 +64,12 @@ impl Model for State {
       inits = state.inits;
       phase = state.phase;
       heap = heap_of state.store state.scopes;
-      frames = standing state.frame;
+      frames = state.frames;
       pending = pending_seen state.store state.exceptions.pending;
       last = state.exceptions.last;
     } };
 
-    ghost invariant = { λ state. IsState state.store state.scopes state.frame state.exceptions.pending };
+    ghost invariant = { λ state. IsState state.store state.scopes state.frames state.exceptions.pending };
 }
 
 impl State {
@@ -70,6 +79,7 @@ impl State {
     {
         let store = Store::new(alloc)?;
         let scopes = Scopes::new(alloc)?;
+        let frames = Frames::new(alloc)?;
         Ok(State {
             alloc,
             addons,
@@ -79,7 +89,7 @@ impl State {
             phase: Phase::Init,
             store,
             scopes,
-            frame: None,
+            frames,
             exceptions: Exceptions::new(),
         })
     }
@@ -104,7 +114,7 @@ impl State {
         prove!(self.inits < self.addons);
         let addon = self.inits;
         self.scopes.enter_frame();
-        self.frame = Some(StandingFrame {
+        self.frames.push(StandingFrame {
             cause: Cause::Init,
             addon,
             entry: 0,
@@ -114,10 +124,11 @@ impl State {
         host_entry(HostStep::Begin, Out::Begin(Cause::Init, addon, 0, None))
     }
 
-    /// A call of the frame that stands.
+    /// A call of the innermost frame, which is no call of a function.
     pub fn call(&mut self, step: u32, call: &Call) -> Result<Entry, NoMemory>
         requires standing { self.old.frames ≢ [] }
         requires built { is_built call.now ≡ true }
+        requires at_once { is_calling call.now ≡ false }
         requires ask { step ≡ asks_made self.old.frames }
         requires within { step < most_asks }
         requires values { self.old.heap.made + most_names + 8 < 2 ^ 48 }
@@ -127,33 +138,59 @@ impl State {
         ensures err { OnErr result (self.new ≡ self.old) }
         ensures growing { OnErr result (IsTrue (is_growing call.now)) }
     {
-        let depth = self.depth();
         let reply = self.answer(call)?;
+        Ok(self.write_call(step, call, reply))
+    }
+
+    /// Writes the entry of a call that was answered, notes its status and counts its ask.
+    fn write_call(&mut self, step: u32, call: &Call, reply: Reply) -> Entry
+        requires ask { step ≡ asks_made self.old.frames }
+        requires within { step < most_asks }
+        ensures entry { result ≡ call_entry self.old call.now reply }
+        ensures after { self.new ≡ noted call.now reply.status self.old }
+    {
+        let depth = self.frames.depth();
         self.note(call, reply.status);
-        Ok(Entry {
+        Entry {
             actor: Actor::Env,
             depth,
             step,
             what: What::Call(*call),
             reply,
             given: None,
-        })
+        }
+    }
+
+    /// The addon whose init frame is next.
+    pub fn next_init(&self) -> Option<u32>
+        ensures { result ≡ next_init self.now }
+    {
+        if self.inits < self.addons {
+            Some(self.inits)
+        } else {
+            None
+        }
     }
 
     /// How many frames stand.
-    fn depth(&self) -> u32
+    pub fn depth(&self) -> u32
         ensures { result ≡ length self.now.frames }
     {
-        match &self.frame {
-            Some(_) => 1,
-            None => 0,
-        }
+        self.frames.depth()
+    }
+
+    /// The innermost frame.
+    pub fn frame(&self) -> Option<StandingFrame>
+        ensures { option_map frame_seen result ≡ head self.now.frames }
+    {
+        self.frames.innermost()
     }
 
     /// What the call answers, refused or accepted.
     fn answer(&mut self, call: &Call) -> Result<Reply, NoMemory>
         requires standing { self.old.frames ≢ [] }
         requires built { is_built call.now ≡ true }
+        requires at_once { is_calling call.now ≡ false }
         requires values { self.old.heap.made + most_names + 8 < 2 ^ 48 }
         requires handles { self.old.heap.handles < 2 ^ 62 }
         requires scopes { length self.old.heap.scope_numbers < 2 ^ 62 }
@@ -193,6 +230,7 @@ impl State {
     fn answer_in_time(&mut self, call: &Call) -> Result<Reply, NoMemory>
         requires standing { self.old.frames ≢ [] }
         requires built { is_built call.now ≡ true }
+        requires at_once { is_calling call.now ≡ false }
         requires values { self.old.heap.made + most_names + 8 < 2 ^ 48 }
         requires handles { self.old.heap.handles < 2 ^ 62 }
         requires scopes { length self.old.heap.scope_numbers < 2 ^ 62 }
@@ -243,14 +281,13 @@ impl State {
         )
     }
 
-    /// The addon whose frame stands.
+    /// The addon of the innermost frame.
     fn caller(&self) -> u32
-        requires { self.now.frames ≢ [] }
         ensures { result ≡ caller_of self.now.frames }
     {
-        match &self.frame {
+        match self.frames.innermost() {
             Some(frame) => frame.addon,
-            None => unreachable!(),
+            None => 0,
         }
     }
 
@@ -289,70 +326,6 @@ impl State {
         }
     }
 
-    /// The value of a handle is the pending exception from now on.
-    fn throw(&mut self, handle: HandleId) -> Reply
-        ensures { AnswersInTime self.old (call_of.Throw handle) result self.new }
-    {
-        let Some(value) = self.scopes.look(handle) else {
-            return plain(Status::InvalidArg, Out::Nothing);
-        };
-        self.exceptions.set(value);
-        plain(Status::Ok, Out::Nothing)
-    }
-
-    /// A new error of new strings of these texts is the pending exception from now on.
-    fn throw_error(&mut self, code: Option<TextNo>, message: TextNo) -> Result<Reply, NoMemory>
-        requires { self.old.heap.made + most_names + 8 < 2 ^ 48 }
-        ensures ok { IfOk result (λ reply. AnswersInTime self.old (call_of.ThrowError code message) reply self.new) }
-        ensures err { OnErr result (self.new ≡ self.old) }
-    {
-        if !self.knows(code, message) {
-            return Ok(plain(Status::InvalidArg, Out::Nothing));
-        }
-        let error = thrown_value(&mut self.store, code, message)?;
-        self.exceptions.set(error);
-        Ok(plain(Status::Ok, Out::Nothing))
-    }
-
-    /// Whether the texts of an error stand in the table.
-    fn knows(&self, code: Option<TextNo>, message: TextNo) -> bool
-        ensures { result ≡ is_known self.now.texts self.now.heap (call_of.ThrowError code message) }
-    {
-        match code {
-            Some(code) => self.texts > code.0 && self.texts > message.0,
-            None => self.texts > message.0,
-        }
-    }
-
-    /// Whether an exception is pending.
-    fn is_pending(&self) -> Reply
-        ensures { AnswersInTime self.now call_of.IsExceptionPending result self.now }
-    {
-        let pending = self.exceptions.pending().is_some();
-        plain(Status::Ok, Out::Flag(pending))
-    }
-
-    /// A new handle of the pending exception, or of undefined where none is pending; none is pending from now on.
-    fn take_pending(&mut self) -> Result<Reply, NoMemory>
-        requires standing { self.old.frames ≢ [] }
-        requires handles { self.old.heap.handles < 2 ^ 62 }
-        ensures ok { IfOk result (λ reply. AnswersInTime self.old call_of.GetAndClearLastException reply self.new) }
-        ensures err { OnErr result (self.new ≡ self.old) }
-    {
-        let value = or_undefined(&self.store, self.exceptions.pending());
-        let handle = self.scopes.issue(value)?;
-        let _ = self.exceptions.clear();
-        Ok(plain(Status::Ok, Out::Handle(handle)))
-    }
-
-    /// The number of the last status.
-    fn last(&self) -> Reply
-        ensures { AnswersInTime self.now call_of.GetLastErrorInfo result self.now }
-    {
-        let last = self.exceptions.last().number();
-        plain(Status::Ok, Out::Unsigned(u64::from(last)))
-    }
-
     /// Notes a call's status, which the asking for the last one leaves, and counts its ask.
     fn note(&mut self, call: &Call, status: Status)
         requires { asks_made self.old.frames < most_asks }
@@ -361,25 +334,7 @@ impl State {
         if !matches!(call, Call::GetLastErrorInfo) {
             self.exceptions.note(status);
         }
-        if let Some(frame) = &mut self.frame {
-            frame.asks += 1;
-        }
-    }
-
-    /// The frame that stands ends, and its scopes close. It is the outermost one, so an exception that is pending is cleared.
-    pub fn leave(&mut self, cut: Option<Why>) -> Entry
-        requires { self.old.frames ≢ [] }
-        ensures entry { result ≡ (frame_ended cut self.old).entry }
-        ensures after { self.new ≡ (frame_ended cut self.old).after }
-    {
-        self.scopes.leave_frame();
-        self.frame = None;
-        let out = match (cut, self.exceptions.clear()) {
-            (Some(why), _) => Out::Cut(why),
-            (None, Some(_)) => Out::Uncaught,
-            (None, None) => Out::Nothing,
-        };
-        host_entry(HostStep::End, out)
+        self.frames.count_ask();
     }
 
     /// The environment is gone.
@@ -406,15 +361,23 @@ impl State {
     }
 }
 
+/// The entry of an event that is no call, with status 0.
 fn host_entry(event: HostStep, out: Out) -> Entry
     ensures { result ≡ entry_of event out }
+{
+    host_told(event, Status::Ok, out)
+}
+
+/// The same with any status, as at the end of a call's frame.
+fn host_told(event: HostStep, status: Status, out: Out) -> Entry
+    ensures { result ≡ told_of event status out }
 {
     Entry {
         actor: Actor::Env,
         depth: 0,
         step: 0,
         what: What::Host(event),
-        reply: plain(Status::Ok, out),
+        reply: plain(status, out),
         given: None,
     }
 }

@@ -45,7 +45,8 @@ fn reply_to(core: &mut EnvCore, step: u32, call: Call) -> Result<Reply, Fail>
             "it stopped with {}",
             status.number()
         ))),
-        Stepped::Enter(..) | Stepped::Shared(_) => unreachable!(),
+        Stepped::Enter(..) => Err(Fail::new("it entered a frame")),
+        Stepped::Shared(_) => unreachable!(),
     }
 }
 
@@ -99,6 +100,7 @@ fn close(number: u64) -> Call {
 mod creates;
 mod escapes;
 mod exceptions;
+mod functions;
 mod many_names;
 mod properties;
 mod reads;

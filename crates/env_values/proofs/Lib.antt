@@ -1,3 +1,4 @@
+pub mod Coming
 pub mod Giving
 pub mod HandleValues
 pub mod Heaps

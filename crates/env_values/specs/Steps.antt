@@ -6,7 +6,7 @@ use Rattle.napi_types.specs.declared.call.Call.{Call}
 use Rattle.napi_types.specs.declared.entry.NoMemory.{NoMemory}
 use Rattle.napi_types.specs.declared.entry.Out.{Out}
 use Rattle.napi_types.specs.declared.status.Status.{Status}
-use Rattle.napi_types.specs.Calls.{accepted}
+use Rattle.napi_types.specs.Calls.{accepted, accepted_of}
 use Rattle.napi_types.specs.Graph.{StoreState, value_of, number_in, renamed}
 use Rattle.napi_types.specs.Heap.{Heap, handle_value}
 use Rattle.napi_types.specs.Refusals.{refusal_in}
@@ -41,6 +41,12 @@ abbrev pub Comes : ℕ → Heap → Call → Result Out Stop → Heap → Type 0
 Comes texts before c (Ok o) after = (refusal_in texts before c ≡ None) × (accepted before c 0 ≡ answered o after)
 Comes texts before c (Err (stop.Refused s)) after = (refusal_in texts before c ≡ Some s) × (after ≡ before)
 Comes texts before c (Err stop.NoMemory) after = IsTrue (is_growing c) × (after ≡ before)
+
+-- the same of a call of this addon
+abbrev pub ComesOf : ℕ → ℕ → Heap → Call → Result Out Stop → Heap → Type 0
+ComesOf texts addon before c (Ok o) after = (refusal_in texts before c ≡ None) × (accepted_of addon before c 0 ≡ answered o after)
+ComesOf texts addon before c (Err (stop.Refused s)) after = (refusal_in texts before c ≡ Some s) × (after ≡ before)
+ComesOf texts addon before c (Err stop.NoMemory) after = IsTrue (is_growing c) × (after ≡ before)
 
 -- what gives a handle comes to: this answer and what it leaves; or want of memory, which leaves the heap as it was
 abbrev pub Gives : Answer Heap → Heap → Result Out NoMemory → Heap → Type 0

@@ -75,6 +75,7 @@ fn give_error(
         let answer = new_error (option_map (λ c. number_in store.old c.0) code) (number_in store.old message.0) before in
         Gives answer before result (heap_of store.new scopes.new) }
     ensures live { HoldsLive store.new scopes.new }
+    ensures calls { scopes.new.by_call ≡ scopes.old.by_call }
     ensures kept { KeepsValues store.old store.new }
 {
     scopes.reserve()?;
@@ -98,6 +99,7 @@ pub(crate) fn create_error(
     ensures comes { let before = heap_of store.old scopes.old in
         Comes texts before (Call.CreateError code message) result (heap_of store.new scopes.new) }
     ensures live { HoldsLive store.new scopes.new }
+    ensures calls { scopes.new.by_call ≡ scopes.old.by_call }
     ensures kept { KeepsValues store.old store.new }
 {
     match code {

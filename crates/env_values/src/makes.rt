@@ -19,6 +19,7 @@ pub(crate) fn give(store: &Store, scopes: &mut Scopes, value: ValueId) -> Result
     ensures gives { let before = heap_of store.now scopes.old in
         Gives (handle_of (number_in store.now value.0) before) before result (heap_of store.now scopes.new) }
     ensures live { HoldsLive store.now scopes.new }
+    ensures calls { scopes.new.by_call ≡ scopes.old.by_call }
 {
     let _ = store;
     Ok(Out::Handle(scopes.issue(value)?))
@@ -33,6 +34,7 @@ pub(crate) fn give_new(store: &mut Store, scopes: &mut Scopes, body: Body) -> Re
     ensures gives { let before = heap_of store.old scopes.old in
         Gives (new_value body before) before result (heap_of store.new scopes.new) }
     ensures live { HoldsLive store.new scopes.new }
+    ensures calls { scopes.new.by_call ≡ scopes.old.by_call }
     ensures kept { KeepsValues store.old store.new }
 {
     scopes.reserve()?;
@@ -51,7 +53,34 @@ pub(crate) fn give_starting(store: &Store, scopes: &mut Scopes, which: u32) -> R
     ensures gives { let before = heap_of store.now scopes.old in
         Gives (handle_of (which + 1) before) before result (heap_of store.now scopes.new) }
     ensures live { HoldsLive store.now scopes.new }
+    ensures calls { scopes.new.by_call ≡ scopes.old.by_call }
 {
     let value = store.starting(which);
     give(store, scopes, value)
+}
+
+/// `create_function`: a function that runs an entry of the addon that calls, and carries a payload.
+pub(crate) fn create_function(
+    store: &mut Store,
+    scopes: &mut Scopes,
+    addon: u32,
+    entry: u32,
+    payload: u64,
+) -> Result<Out, NoMemory>
+    requires standing { scopes.old.frames ≢ [] }
+    requires live { HoldsLive store.old scopes.old }
+    requires values { store.old.made + 2 < 2 ^ 48 }
+    requires handles { scopes.old.handles < 2 ^ 62 }
+    ensures gives { let before = heap_of store.old scopes.old in
+        Gives (new_value (Body.Function addon entry payload) before) before result (heap_of store.new scopes.new) }
+    ensures live { HoldsLive store.new scopes.new }
+    ensures calls { scopes.new.by_call ≡ scopes.old.by_call }
+    ensures kept { KeepsValues store.old store.new }
+{
+    let function = Body::Function {
+        addon,
+        entry,
+        payload,
+    };
+    give_new(store, scopes, function)
 }

@@ -54,6 +54,7 @@ fn give_list(store: &mut Store, scopes: &mut Scopes, bodies: &[Body]) -> Result<
     ensures gives { let before = heap_of store.old scopes.old in
         Gives (new_list bodies.now before) before result (heap_of store.new scopes.new) }
     ensures live { HoldsLive store.new scopes.new }
+    ensures calls { scopes.new.by_call ≡ scopes.old.by_call }
     ensures kept { KeepsValues store.old store.new }
 {
     scopes.reserve()?;
@@ -77,6 +78,7 @@ pub(crate) fn get_property_names(
     ensures comes { let before = heap_of store.old scopes.old in
         Comes texts before (Call.GetPropertyNames object) result (heap_of store.new scopes.new) }
     ensures live { HoldsLive store.new scopes.new }
+    ensures calls { scopes.new.by_call ≡ scopes.old.by_call }
     ensures kept { KeepsValues store.old store.new }
 {
     let object = value_of_handle(store, scopes, object)?;

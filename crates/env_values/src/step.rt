@@ -7,10 +7,10 @@ ghost use Rattle.napi_types.specs.Replies.{plain as plain_reply};
 ghost use Rattle.napi_types.specs.Values.{true_value, false_value};
 ghost use Rattle.env_values.specs.Numbering.{HasNumbersLeft};
 ghost use Rattle.env_values.specs.Seen.{heap_of, HoldsLive, KeepsValues};
-ghost use Rattle.env_values.specs.Steps.{Comes};
+ghost use Rattle.env_values.specs.Steps.{ComesOf};
 
 use crate::errors::create_error;
-use crate::makes::{give_new, give_starting};
+use crate::makes::{create_function, give_new, give_starting};
 use crate::names::get_property_names;
 use crate::properties::{delete_property, set_element, set_named_property};
 use crate::reads::{
@@ -53,6 +53,7 @@ fn outcome(
     store: &mut Store,
     scopes: &mut Scopes,
     texts: u32,
+    addon: u32,
     call: &Call,
 ) -> Result<Out, Stop>
     requires value_call { is_value_call call.now ≡ true }
@@ -61,8 +62,9 @@ fn outcome(
     requires values { HasNumbersLeft store.old }
     requires handles { scopes.old.handles < 2 ^ 62 }
     ensures comes { let before = heap_of store.old scopes.old in
-        Comes texts before call.now result (heap_of store.new scopes.new) }
+        ComesOf texts addon before call.now result (heap_of store.new scopes.new) }
     ensures live { HoldsLive store.new scopes.new }
+    ensures calls { scopes.new.by_call ≡ scopes.old.by_call }
     ensures kept { KeepsValues store.old store.new }
 {
     match *call {
@@ -76,6 +78,9 @@ fn outcome(
         Call::CreateSymbol(description) => create_symbol(store, scopes, texts, description),
         Call::CreateObject => Ok(give_new(store, scopes, OBJECT)?),
         Call::CreateArray => Ok(give_new(store, scopes, ARRAY)?),
+        Call::CreateFunction(entry, payload) => {
+            Ok(create_function(store, scopes, addon, entry, payload)?)
+        }
         Call::CreateError(code, message) => create_error(store, scopes, texts, code, message),
         Call::Typeof(value) => Ok(type_of(store, scopes, texts, value)?),
         Call::IsArray(value) => Ok(is_array(store, scopes, texts, value)?),
@@ -122,8 +127,9 @@ fn plain(status: Status, out: Out) -> Reply
 
 /// Makes a call on values, properties or elements in the innermost frame: the machine's step, without guard and phase.
 ///
-/// `texts` says how many texts there are. `_addon` is the addon that calls, of which no call that is built asks. After
-/// `NoMemory` the scopes and the value graph are as they were: all memory is taken before the first change.
+/// `texts` says how many texts there are, and `addon` which addon calls: a function that it creates belongs to it. Which frames
+/// a call entered stays as it was. After `NoMemory` the scopes and the value graph are as they were too: all memory is taken
+/// before the first change.
 ///
 /// Near constant time and logarithmic in the open handles, beside `delete_property` and `get_property_names`, whose time grows
 /// with the number of the object's properties, and `set_element`, whose time grows with the holes that it fills.
@@ -132,7 +138,7 @@ pub fn value_step(
     store: &mut Store,
     scopes: &mut Scopes,
     texts: u32,
-    _addon: u32,
+    addon: u32,
     call: &Call,
 ) -> Result<Reply, NoMemory>
     requires value_call { is_value_call call.now ≡ true }
@@ -140,16 +146,17 @@ pub fn value_step(
     requires live { HoldsLive store.old scopes.old }
     requires values { HasNumbersLeft store.old }
     requires handles { scopes.old.handles < 2 ^ 62 }
-    ensures reply { IfOk result (λ reply. reply ≡ (answer_in texts (heap_of store.old scopes.old) call.now 0).reply) }
-    ensures after { OnOk result (heap_of store.new scopes.new ≡ (answer_in texts (heap_of store.old scopes.old) call.now 0).after) }
+    ensures reply { IfOk result (λ reply. reply ≡ (answer_in texts addon (heap_of store.old scopes.old) call.now 0).reply) }
+    ensures after { OnOk result (heap_of store.new scopes.new ≡ (answer_in texts addon (heap_of store.old scopes.old) call.now 0).after) }
     ensures live { HoldsLive store.new scopes.new }
+    ensures calls { scopes.new.by_call ≡ scopes.old.by_call }
     ensures kept { KeepsValues store.old store.new }
 
     // A call that finds no memory is one that grows, and leaves the scopes and the value graph as they were.
     ensures err { OnErr result (heap_of store.new scopes.new ≡ heap_of store.old scopes.old) }
     ensures growing { OnErr result (IsTrue (is_growing call.now)) }
 {
-    match outcome(alloc, store, scopes, texts, call) {
+    match outcome(alloc, store, scopes, texts, addon, call) {
         Ok(out) => Ok(plain(Status::Ok, out)),
         Err(Stop::Refused(status)) => Ok(plain(status, Out::Nothing)),
         Err(Stop::NoMemory) => Err(NoMemory),

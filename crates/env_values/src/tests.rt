@@ -66,3 +66,39 @@ fn one_name_more_is_refused(rt: HostRuntime) -> Result<(), Fail> {
     assert!(rt; matches!(reply.out, Out::Nothing));
     Ok(())
 }
+
+/// What a function is that this addon creates of its entry 2, with the payload 7.
+fn function_of(alloc: Global, addon: u32) -> Result<Body, Fail> {
+    let mut store = ample(Store::new(alloc))?;
+    let mut scopes = ample(Scopes::new(alloc))?;
+    scopes.enter_frame();
+    let call = Call::CreateFunction(2, 7);
+    let reply = ample(value_step(alloc, &mut store, &mut scopes, 0, addon, &call))?;
+    let Out::Handle(handle) = reply.out else {
+        return Err(Fail::new("there is no handle"));
+    };
+    match scopes.look(handle) {
+        Some(id) => match store.get(id) {
+            Some(value) => Ok(value.body()),
+            None => Err(Fail::new("there is no value")),
+        },
+        None => Err(Fail::new("the handle is not good")),
+    }
+}
+
+#[test]
+fn a_function_belongs_to_the_addon_that_creates_it(rt: HostRuntime) -> Result<(), Fail> {
+    let body = function_of(rt.alloc(), 3)?;
+    let Body::Function {
+        addon,
+        entry,
+        payload,
+    } = body
+    else {
+        return Err(Fail::new("it is no function"));
+    };
+    assert_eq!(rt; addon, 3);
+    assert_eq!(rt; entry, 2);
+    assert_eq!(rt; payload, 7);
+    Ok(())
+}

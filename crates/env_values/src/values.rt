@@ -28,6 +28,7 @@ pub(crate) fn create_int64(
     ensures comes { let before = heap_of store.old scopes.old in
         Comes texts before (Call.CreateInt64 number) result (heap_of store.new scopes.new) }
     ensures live { HoldsLive store.new scopes.new }
+    ensures calls { scopes.new.by_call ≡ scopes.old.by_call }
     ensures kept { KeepsValues store.old store.new }
 {
     if number < -MOST_NUMBER || number > MOST_NUMBER {
@@ -50,6 +51,7 @@ pub(crate) fn create_string_utf8(
     ensures comes { let before = heap_of store.old scopes.old in
         Comes texts before (Call.CreateStringUtf8 text) result (heap_of store.new scopes.new) }
     ensures live { HoldsLive store.new scopes.new }
+    ensures calls { scopes.new.by_call ≡ scopes.old.by_call }
     ensures kept { KeepsValues store.old store.new }
 {
     known_text(text, texts)?;
@@ -70,6 +72,7 @@ pub(crate) fn create_symbol(
     ensures comes { let before = heap_of store.old scopes.old in
         Comes texts before (Call.CreateSymbol description) result (heap_of store.new scopes.new) }
     ensures live { HoldsLive store.new scopes.new }
+    ensures calls { scopes.new.by_call ≡ scopes.old.by_call }
     ensures kept { KeepsValues store.old store.new }
 {
     match description {
@@ -96,6 +99,7 @@ pub(crate) fn get_named_property(
     ensures comes { let before = heap_of store.now scopes.old in
         Comes texts before (Call.GetNamedProperty object name) result (heap_of store.now scopes.new) }
     ensures live { HoldsLive store.now scopes.new }
+    ensures calls { scopes.new.by_call ≡ scopes.old.by_call }
 {
     let object = value_of_handle(store, scopes, object)?;
     known_text(name, texts)?;
@@ -118,6 +122,7 @@ pub(crate) fn get_element(
     ensures comes { let before = heap_of store.now scopes.old in
         Comes texts before (Call.GetElement object index) result (heap_of store.now scopes.new) }
     ensures live { HoldsLive store.now scopes.new }
+    ensures calls { scopes.new.by_call ≡ scopes.old.by_call }
 {
     let object = value_of_handle(store, scopes, object)?;
     object_like(object.body)?;

@@ -9,10 +9,11 @@ use Rattle.napi_types.specs.declared.status.Status.{Status}
 use Rattle.napi_types.specs.declared.status.Status.TheVariants as status
 use Rattle.napi_types.specs.Lists.{first_changed, when}
 use Rattle.napi_types.specs.Environment.{Environment}
+use Rattle.napi_types.specs.Frames.{caller_of}
 use Rattle.napi_types.specs.Heap.{Heap, handle_properties, with_handle, with_thrown}
 use Rattle.napi_types.specs.PropertyCalls.{names_of}
-use Rattle.napi_types.specs.Refusals.{unknown_refusal, kind_refusal, row_refusal, moment_refusal, refusal_in, refusal}
-use Rattle.napi_types.specs.Calls.{accepted, answer_by, answer_in, accepted_by, answer_given, answer}
+use Rattle.napi_types.specs.Refusals.{unknown_refusal, kind_refusal, row_refusal, moment_refusal, refusal_in, early_refusal, depth_refusal}
+use Rattle.napi_types.specs.Calls.{accepted, accepted_of, answer_by, answer_in, accepted_by, answer_given, answer_at, at_depth_limit, answer}
 use Rattle.napi_types.specs.Changes.{called}
 
 length-changed : {A : Type 0} (f : A → A) (xs : List A) → length (first_changed f xs) ≡ length xs
@@ -89,12 +90,16 @@ accepted-keeps texts heap (call.DeleteProperty o name) n h = in-scopes heap _ re
 accepted-keeps texts heap (call.SetElement o at v) n h = in-scopes heap _ refl (omega arith) (omega arith) refl
 accepted-keeps texts heap _ n h = same heap
 
-by-refusal : (texts : ℕ) (heap : Heap) (c : Call) (n : ℕ) (s : Option Status) → refusal_in texts heap c ≡ s → HeapKeeps heap (answer_by heap c n s).after
-by-refusal texts heap c n None h = accepted-keeps texts heap c n h
-by-refusal texts heap c n (Some s) h = same heap
+accepted_of-keeps : (texts addon : ℕ) (heap : Heap) (c : Call) (n : ℕ) → refusal_in texts heap c ≡ None → HeapKeeps heap (accepted_of addon heap c n).after
+accepted_of-keeps texts addon heap (call.CreateFunction entry payload) n h = handled heap _ _ refl refl refl (omega arith)
+accepted_of-keeps texts addon heap c n h = accepted-keeps texts heap c n h
 
-pub answer_in-keeps : (texts : ℕ) (heap : Heap) (c : Call) (n : ℕ) → HeapKeeps heap (answer_in texts heap c n).after
-answer_in-keeps texts heap c n = by-refusal texts heap c n (refusal_in texts heap c) refl
+by-refusal : (texts addon : ℕ) (heap : Heap) (c : Call) (n : ℕ) (s : Option Status) → refusal_in texts heap c ≡ s → HeapKeeps heap (answer_by addon heap c n s).after
+by-refusal texts addon heap c n None h = accepted_of-keeps texts addon heap c n h
+by-refusal texts addon heap c n (Some s) h = same heap
+
+pub answer_in-keeps : (texts addon : ℕ) (heap : Heap) (c : Call) (n : ℕ) → HeapKeeps heap (answer_in texts addon heap c n).after
+answer_in-keeps texts addon heap c n = by-refusal texts addon heap c n (refusal_in texts heap c) refl
 
 -- what a call keeps of the environment: all but the heap and the pending exception
 pub record Keeps (old new : Environment) : Type 0 where
@@ -108,8 +113,8 @@ pub record Keeps (old new : Environment) : Type 0 where
 keeps-all : (e : Environment) → Keeps e e
 keeps-all e = record { addons = refl; opened = refl; inits = refl; phase = refl; frames = refl; heap = same e.heap }
 
-keeps-heap : (e : Environment) (c : Call) (n : ℕ) → refusal_in e.texts e.heap c ≡ None → Keeps e (record e { heap = (accepted e.heap c n).after })
-keeps-heap e c n h = record { addons = refl; opened = refl; inits = refl; phase = refl; frames = refl; heap = accepted-keeps e.texts e.heap c n h }
+keeps-heap : (e : Environment) (c : Call) (n : ℕ) → refusal_in e.texts e.heap c ≡ None → Keeps e (record e { heap = (accepted_of (caller_of e.frames) e.heap c n).after })
+keeps-heap e c n h = record { addons = refl; opened = refl; inits = refl; phase = refl; frames = refl; heap = accepted_of-keeps e.texts (caller_of e.frames) e.heap c n h }
 
 thrown-keeps : (heap : Heap) (code : Option TextNo) (message : TextNo) → HeapKeeps heap (with_thrown code message heap)
 thrown-keeps heap None message = in-scopes-made heap _ refl (omega arith) (omega arith) (omega arith)
@@ -127,12 +132,20 @@ none-right : (a b : Option Status) → option_or a b ≡ None → b ≡ None
 none-right None b h = h
 none-right (Some s) b h = cc
 
-given-keeps : (e : Environment) (c : Call) (n : ℕ) (s : Option Status) → refusal e c ≡ s → Keeps e (answer_given e c n s).after
+given-keeps : (e : Environment) (c : Call) (n : ℕ) (s : Option Status) → early_refusal e c ≡ s → Keeps e (answer_given e c n s).after
 given-keeps e c n None h = accepted_by-keeps e c n (none-right (moment_refusal e c) (refusal_in e.texts e.heap c) h)
 given-keeps e c n (Some s) h = keeps-all e
 
+limit-keeps : (e : Environment) → Keeps e (at_depth_limit e)
+limit-keeps e = record { addons = refl; opened = refl; inits = refl; phase = refl; frames = refl; heap = thrown-keeps e.heap None _ }
+
+at-keeps : (e : Environment) (c : Call) (n : ℕ) (early deep : Option Status) → early_refusal e c ≡ early → Keeps e (answer_at e c n early deep).after
+at-keeps e c n early None h = given-keeps e c n early h
+at-keeps e c n None (Some s) h = limit-keeps e
+at-keeps e c n (Some r) (Some s) h = keeps-all e
+
 pub answer-keeps : (e : Environment) (c : Call) (n : ℕ) → Keeps e (answer e c n).after
-answer-keeps e c n = given-keeps e c n (refusal e c) refl
+answer-keeps e c n = at-keeps e c n (early_refusal e c) (depth_refusal e.frames c) refl
 
 -- what a call's entry keeps: the addons, the opening, the init frames that began, the phase, and how many frames stand; one of them has made one ask more
 pub record KeepsButAsk (old new : Environment) : Type 0 where

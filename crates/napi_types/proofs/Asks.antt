@@ -33,9 +33,9 @@ pub asks-unique : (ps : List Plan) (rss : Registers) (m : Machine) (bs : List As
 asks-unique ps rss m [] [] h r e = refl
 asks-unique ps rss m (b ∷ bs) (x ∷ xs) h r e =
     let here : b ≡ asked ps rss m (ask.Leave None) = ap (λ l. unwrap_or (head l) b) e ∙ told-frames ps rss m.env.frames b (ask.Leave None) h in
-    let later : bs ≡ told_asks_along ps (registers_after ps rss m x) (after m b x) xs =
-    asks-unique ps (registers_after ps rss m x) (after m b x) bs xs h r.1 (ap tail e) in
-    let P : Ask → Type 0 = λ a. b ∷ bs ≡ a ∷ told_asks_along ps (registers_after ps rss m x) (after m a x) xs in
+    let later : bs ≡ told_asks_along ps (registers_after ps rss m b x) (after m b x) xs =
+    asks-unique ps (registers_after ps rss m b x) (after m b x) bs xs h r.1 (ap tail e) in
+    let P : Ask → Type 0 = λ a. b ∷ bs ≡ a ∷ told_asks_along ps (registers_after ps rss m a x) (after m a x) xs in
     subst P here (ap (λ l. b ∷ l) later)
 asks-unique ps rss m [] (x ∷ xs) h r e = absurd r
 asks-unique ps rss m (b ∷ bs) [] h r e = absurd r

@@ -1,9 +1,12 @@
 pub mod Answers
 pub mod Asks
 pub mod Cutting
+pub mod FrameChanges
 pub mod Fronts
 pub mod Issued
 pub mod Misses
+pub mod Owners
 pub mod Rooms
+pub mod Rows
 pub mod Runs
 pub mod Weaves

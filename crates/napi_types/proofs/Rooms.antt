@@ -13,9 +13,13 @@ use Rattle.napi_types.specs.declared.entry.Out.{Out}
 use Rattle.napi_types.specs.declared.entry.Phase.{Phase}
 use Rattle.napi_types.specs.declared.entry.Phase.TheVariants as phase
 use Rattle.napi_types.specs.declared.entry.Why.{Why}
-use Rattle.napi_types.specs.Changes.{opened, called, frame_ended, may_ask, is_fresh, number_of}
+use Rattle.napi_types.specs.Changes.{opened, may_ask, is_fresh, number_of}
+use Rattle.napi_types.specs.Ends.{frame_ended}
+use Rattle.napi_types.specs.Entering.{asked_for}
 use Rattle.napi_types.specs.Built.{taken}
+use Rattle.napi_types.specs.declared.ids.HandleId.{HandleId}
 use Rattle.napi_types.specs.Environment.{Environment}
+use Rattle.napi_types.specs.Lists.{tail}
 use Rattle.napi_types.specs.Hub.{Hub, Stage, Before, Going, Looped, Drained, Final, stage_after, staged, hub_next}
 use Rattle.napi_types.specs.Laws.{RoomSuffices}
 use Rattle.napi_types.specs.Loop.{Event, Opens, Inits, Goes, EndsLoop, Drains, FinalsCome, IsGone}
@@ -27,9 +31,8 @@ use Rattle.napi_types.specs.Step.{locally, hub_moved, by_hub, event_step, chosen
 use Rattle.napi_types.specs.Teardown.{choice_in, choice}
 use Rattle.napi_types.specs.Whole.{Setting, final_of, opening_of}
 use Rattle.napi_types.specs.Phases.{stage_of}
-use Rattle.napi_types.proofs.Answers.{KeepsButAsk, called-keeps}
 use Rattle.napi_types.proofs.Runs.{and-right}
-use Rattle.napi_types.proofs.Cutting.{needs-place}
+use Rattle.napi_types.proofs.FrameChanges.{KeepsButFrame, ended-keeps, KeepsButFrames, asked_for-fits}
 
 abbrev pub is_init : Phase → Bool
 is_init phase.Init = true
@@ -48,49 +51,60 @@ record Roomy (l : Limits) (m : Machine) : Type 0 where
   pub bare : m.env.phase ≡ phase.Gone → length m.env.frames ≡ 0
 
 -- A CALL
-call-fits : (j r d n x : ℕ) → nat_lt x (j + r + n) ≡ false → 1 ≤ n → d ≡ r → j + 1 + d ≤ x
-call-fits j r d n x h one e = grind arith
+call-fits : (j b d f n x : ℕ) → nat_lt x (j + (b + f) + n) ≡ false → d + 1 ≤ f + n → j + 1 + (b + d) ≤ x
+call-fits j b d f n x h k = grind arith
 
 not-full : (b : Bool) → IsTrue (not b) → b ≡ false
 not-full true h = cc
 not-full false h = refl
 
-same-places : (d e : Environment) → KeepsButAsk e d → reserved_journal d ≡ reserved_journal e
-same-places d e k = rw (k.opened, k.phase, k.addons, k.inits, k.depth) refl
+-- the places that are owed beside the ends of frames
+abbrev other_places : Environment → ℕ
+other_places e = one_if (not e.opened) + gone_place e.phase + 2 * (e.addons - e.inits)
 
-call-room : (l : Limits) (m : Machine) (c : Call) (o : Out) → Roomy l m → IsTrue (call_step m c o).may → Roomy l (call_step m c o).after
-call-room l m c o r h =
+same-others : (d e : Environment) (n : ℕ) → KeepsButFrames e d n → other_places d ≡ other_places e
+same-others d e n k = rw (k.opened, k.phase, k.addons, k.inits) refl
+
+call-room : (l : Limits) (m : Machine) (c : Call) (o : Out) (f : Frame) (fs : List Frame) → m.env.frames ≡ f ∷ fs
+    → Roomy l m → IsTrue (call_step m c o).may → Roomy l (call_step m c o).after
+call-room l m c o f fs e r h =
     let n : ℕ = number_of o in
-    let k : KeepsButAsk m.env (called m.env c n).after = called-keeps m.env c n in
+    let d : Environment = (asked_for m.env c n).after in
+    let k : KeepsButFrames m.env d (need c) = asked_for-fits m.env c n in
     let free : is_full (room_of m c) c ≡ false = not-full _ (and-right (may_ask m.env && is_fresh m.env o) (not (is_full (room_of m c) c)) h) in
-    let d : Environment = (called m.env c n).after in
     let P : Limits → Type 0 = λ q. m.locals + 1 + reserved_journal d ≤ q.journal in
+    let Q : ℕ → Type 0 = λ b. m.locals + 1 + (b + length d.frames) ≤ m.limits.journal in
     record {
       limits = r.limits;
-      journal = subst P r.limits (call-fits m.locals (reserved_journal m.env) (reserved_journal d) (need c) m.limits.journal free (needs-place c) (same-places d m.env k));
+      journal = subst P r.limits (subst Q (sym (same-others d m.env (need c) k))
+          (call-fits m.locals (other_places m.env) (length d.frames) (length m.env.frames) (need c) m.limits.journal free k.depth));
       history = r.history;
       stage = r.stage ∙ ap stage_of (sym k.phase);
       opened = λ p. k.opened ∙ r.opened (ap is_init (sym k.phase) ∙ p);
       inits = λ p. rw (k.inits, k.addons) (r.inits (ap is_init (sym k.phase) ∙ p));
-      bare = λ p. k.depth ∙ r.bare (sym k.phase ∙ p);
+      bare = λ p. let z : length (f ∷ fs) ≡ 0 = rw e at (r.bare (sym k.phase ∙ p)) in absurd (omega (arith, z));
     }
 
 -- THE END OF A FRAME
 end-fits : (j b n x : ℕ) → j + (b + suc n) ≤ x → j + 1 + (b + n) ≤ x
 end-fits j b n x h = omega (arith, h)
 
-end-room : (l : Limits) (m : Machine) (w : Option Why) (b : Bool) (f : Frame) (fs : List Frame) → m.env.frames ≡ f ∷ fs
-    → Roomy l m → Roomy l (locally m (frame_ended w m.env) b).after
-end-room l m w b f fs e r =
-    let j : m.locals + (one_if (not m.env.opened) + gone_place m.env.phase + 2 * (m.env.addons - m.env.inits) + length (f ∷ fs)) ≤ l.journal = rw e at r.journal in
+end-room : (l : Limits) (m : Machine) (v : Option HandleId) (w : Option Why) (b : Bool) (f : Frame) (fs : List Frame) → m.env.frames ≡ f ∷ fs
+    → Roomy l m → Roomy l (locally m (frame_ended v w m.env) b).after
+end-room l m v w b f fs e r =
+    let d : Environment = (frame_ended v w m.env).after in
+    let k : KeepsButFrame m.env d = ended-keeps v w m.env in
+    let left : d.frames ≡ fs = k.frames ∙ ap tail e in
+    let j : m.locals + (other_places m.env + length (f ∷ fs)) ≤ l.journal = rw e at r.journal in
+    let same : other_places d ≡ other_places m.env = rw (k.opened, k.phase, k.addons, k.inits) refl in
     record {
       limits = r.limits;
-      journal = rw e (end-fits m.locals (one_if (not m.env.opened) + gone_place m.env.phase + 2 * (m.env.addons - m.env.inits)) (length fs) l.journal j);
+      journal = rw (same, left) (end-fits m.locals (other_places m.env) (length fs) l.journal j);
       history = r.history;
-      stage = r.stage;
-      opened = r.opened;
-      inits = r.inits;
-      bare = λ p. let z : length (f ∷ fs) ≡ 0 = rw e at (r.bare p) in absurd (omega (arith, z));
+      stage = r.stage ∙ ap stage_of (sym k.phase);
+      opened = λ p. k.opened ∙ r.opened (ap is_init (sym k.phase) ∙ p);
+      inits = λ p. rw (k.inits, k.addons) (r.inits (ap is_init (sym k.phase) ∙ p));
+      bare = λ p. let z : length (f ∷ fs) ≡ 0 = rw e at (r.bare (sym k.phase ∙ p)) in absurd (omega (arith, z));
     }
 
 -- AN EVENT OF THE HUB
@@ -185,12 +199,12 @@ event-room l m phase.Gone e f r = r
 -- EACH STEP
 asked-room : (l : Limits) (m : Machine) (a : Ask) (o : Out) (f : Frame) (fs : List Frame) → m.env.frames ≡ f ∷ fs
     → Roomy l m → IsTrue (asked_step m a o).may → Roomy l (asked_step m a o).after
-asked-room l m (ask.Do c) o f fs e r h = call-room l m c o r h
-asked-room l m (ask.Leave v) o f fs e r h = end-room l m None (may_ask m.env) f fs e r
+asked-room l m (ask.Do c) o f fs e r h = call-room l m c o f fs e r h
+asked-room l m (ask.Leave v) o f fs e r h = end-room l m v None (may_ask m.env) f fs e r
 
 frame-room : (l : Limits) (m : Machine) (a : Ask) (o : Out) (w : Option Why) (f : Frame) (fs : List Frame) → m.env.frames ≡ f ∷ fs
     → Roomy l m → IsTrue (frame_step m a o w).may → Roomy l (frame_step m a o w).after
-frame-room l m a o (Some w) f fs e r h = end-room l m (Some w) (frame_step m a o (Some w)).may f fs e r
+frame-room l m a o (Some w) f fs e r h = end-room l m None (Some w) (frame_step m a o (Some w)).may f fs e r
 frame-room l m a o None f fs e r h = asked-room l m a o f fs e r h
 
 env-room : (l : Limits) (m : Machine) (a : Ask) (o : Out) (fs : List Frame) → m.env.frames ≡ fs

@@ -41,15 +41,15 @@ pub asked-more : (ps : List Plan) (rss : Registers) (m : Machine) (bs : List Ask
     → IsRunBy m bs xs
     → asked_along ps rss m (bs ++ a ∷ []) (xs ++ x ∷ []) ≡ asked_along ps rss m bs xs ++ asked ps (registers_along ps rss m bs xs) (final m bs xs) a ∷ []
 asked-more ps rss m [] [] a x r = refl
-asked-more ps rss m (b ∷ bs) (y ∷ ys) a x r = ap (λ l. asked ps rss m b ∷ l) (asked-more ps (registers_after ps rss m y) (after m b y) bs ys a x r.1)
+asked-more ps rss m (b ∷ bs) (y ∷ ys) a x r = ap (λ l. asked ps rss m b ∷ l) (asked-more ps (registers_after ps rss m b y) (after m b y) bs ys a x r.1)
 asked-more ps rss m [] (y ∷ ys) a x r = absurd r
 asked-more ps rss m (b ∷ bs) [] a x r = absurd r
 
 pub registers-more : (ps : List Plan) (rss : Registers) (m : Machine) (bs : List Ask) (xs : List Entry) (a : Ask) (x : Entry)
     → IsRunBy m bs xs
-    → registers_along ps rss m (bs ++ a ∷ []) (xs ++ x ∷ []) ≡ registers_after ps (registers_along ps rss m bs xs) (final m bs xs) x
+    → registers_along ps rss m (bs ++ a ∷ []) (xs ++ x ∷ []) ≡ registers_after ps (registers_along ps rss m bs xs) (final m bs xs) a x
 registers-more ps rss m [] [] a x r = refl
-registers-more ps rss m (b ∷ bs) (y ∷ ys) a x r = registers-more ps (registers_after ps rss m y) (after m b y) bs ys a x r.1
+registers-more ps rss m (b ∷ bs) (y ∷ ys) a x r = registers-more ps (registers_after ps rss m b y) (after m b y) bs ys a x r.1
 registers-more ps rss m [] (y ∷ ys) a x r = absurd r
 registers-more ps rss m (b ∷ bs) [] a x r = absurd r
 

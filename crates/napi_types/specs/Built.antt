@@ -17,6 +17,7 @@ is_value_call (call.CreateStringUtf8 _) = true
 is_value_call (call.CreateSymbol _) = true
 is_value_call call.CreateObject = true
 is_value_call call.CreateArray = true
+is_value_call (call.CreateFunction _ _) = true
 is_value_call (call.CreateError _ _) = true
 is_value_call (call.Typeof _) = true
 is_value_call (call.IsArray _) = true
@@ -56,9 +57,14 @@ is_exception_call call.GetAndClearLastException = true
 is_exception_call call.GetLastErrorInfo = true
 is_exception_call _ = false
 
+-- the call of a function
+abbrev pub is_calling : Call → Bool
+is_calling (call.CallFunction _ _ _) = true
+is_calling _ = false
+
 -- the calls that are built
 abbrev pub is_built : Call → Bool
-is_built c = is_scope_or_version c || is_exception_call c || is_value_call c
+is_built c = is_scope_or_version c || is_exception_call c || is_calling c || is_value_call c
 
 -- what a frame is taken to ask: a call that is not built is never made, and the addon that asks it is taken to leave
 abbrev pub taken : Ask → Ask

@@ -1,5 +1,5 @@
 -- What each local event of the environment writes, and the environment that it leaves.
-use Rattle.std.specs.Prelude.{ℕ, ◌+◌, Bool, true, not, nat_lt, List, [], ◌∷◌, length, Option, Some, None}
+use Rattle.std.specs.Prelude.{ℕ, ◌+◌, Bool, true, not, nat_lt, List, [], ◌∷◌, length, None}
 use Rattle.napi_types.specs.declared.call.Call.{Call}
 use Rattle.napi_types.specs.declared.call.Call.TheVariants as call
 use Rattle.napi_types.specs.declared.status.Status.{Status}
@@ -13,12 +13,11 @@ use Rattle.napi_types.specs.declared.entry.What.TheVariants as what
 use Rattle.napi_types.specs.declared.entry.HostStep.{HostStep}
 use Rattle.napi_types.specs.declared.entry.HostStep.TheVariants as host
 use Rattle.napi_types.specs.declared.entry.Actor.TheVariants as actor
-use Rattle.napi_types.specs.declared.entry.Why.{Why}
 use Rattle.napi_types.specs.declared.entry.Phase.{Phase}
 use Rattle.napi_types.specs.declared.entry.Phase.TheVariants as phase
-use Rattle.napi_types.specs.Lists.{has_number, first_changed, tail}
-use Rattle.napi_types.specs.Frames.{Frame, frame_of}
-use Rattle.napi_types.specs.Heap.{frame_entered, frame_left}
+use Rattle.napi_types.specs.Lists.{has_number}
+use Rattle.napi_types.specs.Frames.{Frame, frame_of, ask_counted}
+use Rattle.napi_types.specs.Heap.{frame_entered}
 use Rattle.napi_types.specs.Environment.{Environment}
 use Rattle.napi_types.specs.Replies.{plain}
 use Rattle.napi_types.specs.Calls.{answer}
@@ -28,9 +27,13 @@ pub record Change : Type 0 where
   pub entry : Entry
   pub after : Environment
 
--- an event of the environment that is no call
+-- an event of the environment that is no call, with a status
+abbrev pub host_told : HostStep → Status → Out → Entry
+host_told h s o = record { actor = actor.Env; depth = 0; step = 0; what = what.Host h; reply = plain s o; given = None }
+
+-- the same with status 0, as of all but the end of a call's frame
 abbrev pub host_entry : HostStep → Out → Entry
-host_entry h o = record { actor = actor.Env; depth = 0; step = 0; what = what.Host h; reply = plain status.Ok o; given = None }
+host_entry h o = host_told h status.Ok o
 
 -- `opened` tells the version
 abbrev pub opened : Environment → Change
@@ -55,7 +58,7 @@ last_after _ s last = s
 
 -- a call's status is noted as the last one, and its frame made one ask more
 abbrev pub noted : Call → Status → Environment → Environment
-noted c s e = record e { last = last_after c s e.last; frames = first_changed (λ f. record f { asks = f.asks + 1 }) e.frames }
+noted c s e = record e { last = last_after c s e.last; frames = ask_counted e.frames }
 
 -- a call's entry tells how many frames stand and the number of the ask in its frame
 abbrev pub call_entry : Environment → Call → Reply → Entry
@@ -79,27 +82,9 @@ most_asks = 65536
 abbrev pub may_ask : Environment → Bool
 may_ask e = nat_lt (asks_made e.frames) most_asks
 
--- a call, with the number that its result newly gives
+-- a call that answers at once, with the number that its result newly gives
 abbrev pub called : Environment → Call → ℕ → Change
 called e c n = record { entry = call_entry e c (answer e c n).reply; after = noted c (answer e c n).reply.status (answer e c n).after }
-
--- what the end of a frame tells, which leaves these: the cut, where it was cut, or else, where it was the outermost, that an exception was pending
-abbrev pub end_out : Option Why → List Frame → Option ℕ → Out
-end_out (Some w) fs p = out.Cut w
-end_out None [] (Some v) = out.Uncaught
-end_out None fs p = out.Nothing
-
--- the pending exception after the end of a frame, which leaves these: at the end of an outermost one it is cleared
-abbrev pub pending_left : List Frame → Option ℕ → Option ℕ
-pending_left [] p = None
-pending_left (f ∷ fs) p = p
-
--- the innermost frame ends, cut or not, and its scopes close
-abbrev pub frame_ended : Option Why → Environment → Change
-frame_ended cut e = record {
-  entry = host_entry host.End (end_out cut (tail e.frames) e.pending);
-  after = record e { heap = frame_left e.heap; frames = tail e.frames; pending = pending_left (tail e.frames) e.pending };
-}
 
 -- the environment is gone
 abbrev pub gone : Environment → Change

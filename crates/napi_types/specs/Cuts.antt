@@ -1,9 +1,12 @@
 -- Where a frame is cut.
-use Rattle.std.specs.Prelude.{◌≡◌, ◌<◌, true, false, List, [], ◌∷◌, ◌++◌, None}
+use Rattle.std.specs.Prelude.{◌≡◌, ◌<◌, true, false, List, [], ◌∷◌, ◌++◌, Option, None}
 use Rattle.napi_types.specs.declared.call.Ask.{Ask}
 use Rattle.napi_types.specs.declared.call.Ask.TheVariants as ask
 use Rattle.napi_types.specs.declared.call.Call.{Call}
 use Rattle.napi_types.specs.declared.call.Call.TheVariants as call
+use Rattle.napi_types.specs.declared.call.Args.{Args}
+use Rattle.napi_types.specs.declared.entry.Cause.{Cause}
+use Rattle.napi_types.specs.declared.entry.Cause.TheVariants as cause
 use Rattle.napi_types.specs.declared.entry.Entry.{Entry}
 use Rattle.napi_types.specs.declared.entry.HostStep.TheVariants as host
 use Rattle.napi_types.specs.declared.entry.Out.TheVariants as out
@@ -12,16 +15,18 @@ use Rattle.napi_types.specs.declared.entry.Why.TheVariants as why
 use Rattle.napi_types.specs.declared.ids.HandleId.{HandleId}
 use Rattle.napi_types.specs.declared.status.Status.TheVariants as status
 use Rattle.napi_types.specs.Built.{is_built}
-use Rattle.napi_types.specs.Changes.{host_entry}
+use Rattle.napi_types.specs.Changes.{host_told, host_entry}
 use Rattle.napi_types.specs.Machine.{Machine}
+use Rattle.napi_types.specs.Room.{need}
 use Rattle.napi_types.specs.Run.{IsNext}
 use Rattle.napi_types.specs.Frames.{Frame}
 use Rattle.napi_types.specs.Traces.{call_at, opening_entries}
 use Rattle.napi_types.specs.Whole.{Setting, RunsBy, final_of}
 
--- a frame's end by a cut
-abbrev pub cut_by : Why → Entry
-cut_by w = host_entry host.End (out.Cut w)
+-- the end by a cut of a frame that began for this reason: that of a call's frame says that the call failed
+abbrev pub cut_by : Cause → Why → Entry
+cut_by cause.Call w = host_told host.End status.GenericFailure (out.Cut w)
+cut_by _ w = host_entry host.End (out.Cut w)
 
 -- at this ask the entry may come next, and no other
 abbrev pub IsOnlyNext : Machine → Ask → Entry → Type 0
@@ -56,21 +61,23 @@ first_called = final_of tight (opening_asks ++ create ∷ []) (opening_entries +
 pub record CutsForRoom : Type 0 where
   -- the first call has its place
   pub first : RunsBy tight (opening_asks ++ create ∷ []) (opening_entries ++ object_made ∷ [])
-  -- so its frame is not cut there as full
-  pub room : (c : Call) → IsNext begun (ask.Do c) (cut_by why.Full) → ⊥
+  -- so its frame is not cut there as full, at no call that needs one place
+  pub room : (c : Call) → need c ≡ 1 → IsNext begun (ask.Do c) (cut_by cause.Init why.Full) → ⊥
+  -- a call of a function needs two, so there it is cut as full, and nothing else may come
+  pub calls : (receiver : Option HandleId) (f : HandleId) (args : Args) → IsOnlyNext begun (ask.Do (call.CallFunction receiver f args)) (cut_by cause.Init why.Full)
   -- for want of memory it may be cut at a call that grows, and at no other
-  pub grows : IsNext begun create (cut_by why.Memory)
-  pub stays : (h : HandleId) → IsNext begun (ask.Do (call.Typeof h)) (cut_by why.Memory) → ⊥
+  pub grows : IsNext begun create (cut_by cause.Init why.Memory)
+  pub stays : (h : HandleId) → IsNext begun (ask.Do (call.Typeof h)) (cut_by cause.Init why.Memory) → ⊥
   -- at the second call, whichever of those built it is, the frame is cut as full, and nothing else may come
-  pub full : (c : Call) → is_built c ≡ true → IsOnlyNext first_called (ask.Do c) (cut_by why.Full)
+  pub full : (c : Call) → is_built c ≡ true → IsOnlyNext first_called (ask.Do c) (cut_by cause.Init why.Full)
   -- an addon that asks another call is taken to leave
   pub leaves : (c : Call) → is_built c ≡ false → IsOnlyNext first_called (ask.Do c) (host_entry host.End out.Nothing)
 
 -- THE LAST ASK
 -- a frame that has made 65,536 asks is cut for that whatever it would ask, and nothing else may come
 abbrev pub CutAtLastAsk : Type 0
-CutAtLastAsk = (m : Machine) (f : Frame) (fs : List Frame) (a : Ask) → m.env.frames ≡ f ∷ fs → f.asks ≡ 65536 → IsOnlyNext m a (cut_by why.Asks)
+CutAtLastAsk = (m : Machine) (f : Frame) (fs : List Frame) (a : Ask) → m.env.frames ≡ f ∷ fs → f.asks ≡ 65536 → IsOnlyNext m a (cut_by f.cause why.Asks)
 
 -- before that no frame is
 abbrev pub NotBeforeLastAsk : Type 0
-NotBeforeLastAsk = (m : Machine) (f : Frame) (fs : List Frame) (a : Ask) → m.env.frames ≡ f ∷ fs → f.asks < 65536 → IsNext m a (cut_by why.Asks) → ⊥
+NotBeforeLastAsk = (m : Machine) (f : Frame) (fs : List Frame) (a : Ask) → m.env.frames ≡ f ∷ fs → f.asks < 65536 → IsNext m a (cut_by f.cause why.Asks) → ⊥

@@ -1,6 +1,8 @@
 -- The frames that stand: each runs one entry of one addon.
-use Rattle.std.specs.Prelude.{ℕ}
+use Rattle.std.specs.Prelude.{ℕ, ◌+◌, ◌-◌, List, [], ◌∷◌}
 use Rattle.napi_types.specs.declared.entry.Cause.{Cause}
+use Rattle.napi_types.specs.declared.entry.Cause.TheVariants as cause
+use Rattle.napi_types.specs.Lists.{first_changed}
 
 -- a frame: why it began, which entry of which addon it runs, and how many asks it made
 pub record Frame : Type 0 where
@@ -12,3 +14,25 @@ pub record Frame : Type 0 where
 -- a frame as it begins
 abbrev pub frame_of : Cause → ℕ → ℕ → Frame
 frame_of c addon entry = record { cause = c; addon = addon; entry = entry; asks = 0 }
+
+-- how many frames may stand, the outermost counted
+abbrev pub most_frames : ℕ
+most_frames = 64
+
+-- the addon of the innermost frame, which makes the calls
+abbrev pub caller_of : List Frame → ℕ
+caller_of [] = 0
+caller_of (f ∷ fs) = f.addon
+
+-- why the innermost frame began
+abbrev pub cause_of : List Frame → Cause
+cause_of [] = cause.Init
+cause_of (f ∷ fs) = f.cause
+
+-- the innermost frame made one ask more
+abbrev pub ask_counted : List Frame → List Frame
+ask_counted fs = first_changed (λ f. record f { asks = f.asks + 1 }) fs
+
+-- the innermost frame as it made its last ask
+abbrev pub at_last_ask : List Frame → List Frame
+at_last_ask fs = first_changed (λ f. record f { asks = f.asks - 1 }) fs

@@ -24,7 +24,7 @@ pub record Heap : Type 0 where
 abbrev pub new_heap : Heap
 new_heap = record { values = starting_values; made = length starting_values; scopes = []; handles = 0; scope_numbers = [] }
 
--- the creation number of a handle's value. A call that names a handle which no open scope holds is refused before its value is read, so the number given here in its place is never read
+-- the creation number of a handle's value; a number that no open scope holds reads as undefined. Only a frame can leave such a number: a call that names one is refused before its value is read
 abbrev pub handle_value : Heap → ℕ → ℕ
 handle_value heap h = unwrap_or (gives heap.scopes h) undefined_value
 

@@ -1,5 +1,5 @@
 -- Laws over all environments and all runs.
-use Rattle.std.specs.Prelude.{◌≡◌, ℕ, ◌+◌, ◌*◌, ◌≤◌, List, length, take, Some, None, filter, is_some, slice_get, codes, ◌↔◌}
+use Rattle.std.specs.Prelude.{◌≡◌, ℕ, ◌+◌, ◌*◌, ◌≤◌, ◌&&◌, not, List, length, take, Some, None, filter, is_some, slice_get, codes, ◌↔◌}
 use Rattle.napi_types.specs.declared.call.Ask.{Ask}
 use Rattle.napi_types.specs.declared.call.Call.{Call}
 use Rattle.napi_types.specs.declared.call.Call.TheVariants.{Typeof}
@@ -7,13 +7,14 @@ use Rattle.napi_types.specs.declared.entry.Entry.{Entry}
 use Rattle.napi_types.specs.declared.entry.Out.TheVariants as out
 use Rattle.napi_types.specs.declared.entry.Phase.TheVariants as phase
 use Rattle.napi_types.specs.declared.ids.HandleId.{HandleId}
+use Rattle.napi_types.specs.declared.status.Status.{Status}
 use Rattle.napi_types.specs.declared.status.Status.TheVariants as status
-use Rattle.napi_types.specs.Calls.{answer, by_groups}
-use Rattle.napi_types.specs.Built.{is_built}
+use Rattle.napi_types.specs.Calls.{answer, at_depth_limit, by_groups}
+use Rattle.napi_types.specs.Built.{is_built, is_calling}
 use Rattle.napi_types.specs.Environment.{Environment}
 use Rattle.napi_types.specs.Replies.{plain}
 use Rattle.napi_types.specs.Machine.{Machine}
-use Rattle.napi_types.specs.Refusals.{refusal}
+use Rattle.napi_types.specs.Refusals.{early_refusal, depth_refusal, refusal}
 use Rattle.napi_types.specs.Room.{reserved_journal, reserved_history, one_if}
 use Rattle.napi_types.specs.Scopes.{gives}
 use Rattle.napi_types.specs.Whole.{Setting, RunsBy, final_of}
@@ -30,9 +31,19 @@ pub record RefusesHandle (e : Environment) (h : HandleId) : Type 0 where
 abbrev pub RefusesUnknownHandles : Type 0
 RefusesUnknownHandles = (e : Environment) (h : HandleId) → gives e.heap.scopes h.0 ≡ None → RefusesHandle e h
 
--- each call that is built has a row: exactly one group of calls answers it, and none answers another call
+-- each call that is built, but the call of a function, which enters a frame, has a row: exactly one group of calls answers it, and none answers another call
 abbrev pub EveryCallHasARow : Type 0
-EveryCallHasARow = (e : Environment) (c : Call) (n : ℕ) → length (filter is_some (by_groups e c n)) ≡ one_if (is_built c)
+EveryCallHasARow = (e : Environment) (c : Call) (n : ℕ) → length (filter is_some (by_groups e c n)) ≡ one_if (is_built c && not (is_calling c))
+
+-- a refused call answers the first refusal that applies and tells nothing; it leaves the environment as it was, but that the depth limit leaves its error
+-- pending
+pub record RefusalsChangeNothing (e : Environment) (c : Call) (n : ℕ) (s : Status) : Type 0 where
+  pub reply : refusal e c ≡ Some s → (answer e c n).reply ≡ plain s out.Nothing
+  pub after : early_refusal e c ≡ Some s → (answer e c n).after ≡ e
+  pub depth : early_refusal e c ≡ None → depth_refusal e.frames c ≡ Some s → (answer e c n).after ≡ at_depth_limit e
+
+abbrev pub RefusedCallsChangeNothing : Type 0
+RefusedCallsChangeNothing = (e : Environment) (c : Call) (n : ℕ) (s : Status) → RefusalsChangeNothing e c n s
 
 -- the texts that name an error's properties are `message` and `code`, which every table of texts begins with
 pub record ErrorNamesAreFixed : Type 0 where

@@ -1,14 +1,19 @@
 pub mod Built
+pub mod CallAndError
 pub mod Calls
 pub mod Changes
 pub mod ClosedScope
 pub mod Cuts
+pub mod Depth
 pub mod Edge
+pub mod Ends
+pub mod Entering
 pub mod Environment
 pub mod EscapeTwice
 pub mod ExceptionCalls
 pub mod FirstRun
 pub mod Frames
+pub mod FunctionCalls
 pub mod Graph
 pub mod Guards
 pub mod Heap
@@ -22,6 +27,7 @@ pub mod NamesRun
 pub mod Numbers
 pub mod OtherCalls
 pub mod PendingException
+pub mod Owners
 pub mod Phases
 pub mod Plan
 pub mod PropertyCalls

@@ -3,14 +3,21 @@ use Rattle.std.specs.Prelude.{ℕ, List, [], ◌∷◌, map, set, Option, Some, 
 use Rattle.napi_types.specs.declared.call.Ask.{Ask}
 use Rattle.napi_types.specs.declared.call.Ask.TheVariants as ask
 use Rattle.napi_types.specs.declared.op.Op.{Op}
+use Rattle.napi_types.specs.declared.call.Call.TheVariants as call
 use Rattle.napi_types.specs.declared.entry.Entry.{Entry}
+use Rattle.napi_types.specs.declared.entry.HostStep.{HostStep}
+use Rattle.napi_types.specs.declared.entry.HostStep.TheVariants as host
 use Rattle.napi_types.specs.declared.entry.Reply.{Reply}
 use Rattle.napi_types.specs.declared.entry.What.{What}
 use Rattle.napi_types.specs.declared.entry.What.TheVariants as what
-use Rattle.napi_types.specs.Frames.{Frame}
+use Rattle.napi_types.specs.Environment.{Environment}
+use Rattle.napi_types.specs.Frames.{Frame, at_last_ask}
+use Rattle.napi_types.specs.FunctionCalls.{callee_of, call_gifts}
+use Rattle.napi_types.specs.Heap.{Heap}
+use Rattle.napi_types.specs.Lists.{tail}
 use Rattle.napi_types.specs.Machine.{Machine}
 use Rattle.napi_types.specs.Run.{after}
-use Rattle.napi_types.specs.Registers.{plan_ask, kept, blank_registers}
+use Rattle.napi_types.specs.Registers.{plan_ask, kept, gifted, blank_registers}
 
 -- what an addon tells of its plan: for each entry its operations; none where it tells nothing
 abbrev pub Plan : Type 0
@@ -58,27 +65,42 @@ abbrev pub kept_in_frames : List Plan → Registers → List Frame → Reply →
 kept_in_frames ps rss [] r = rss
 kept_in_frames ps rss (f ∷ fs) r = set rss f.addon (kept_by (plan_of ps f.addon) (registers_of rss f.addon) f r)
 
--- a call's result goes to its register; an init frame is given nothing, so every other entry leaves the registers
-abbrev pub kept_at : List Plan → Registers → Machine → Reply → What → Registers
-kept_at ps rss m r (what.Call c) = kept_in_frames ps rss m.env.frames r
-kept_at ps rss m r (what.Host h) = rss
+-- the gifts of a frame go to registers 24 to 31 of its addon
+abbrev pub gifts_given : Registers → ℕ → List ℕ → Registers
+gifts_given rss addon gifts = set rss addon (gifted gifts (registers_of rss addon))
 
--- the registers after an entry
-abbrev pub registers_after : List Plan → Registers → Machine → Entry → Registers
-registers_after ps rss m x = kept_at ps rss m x.reply x.what
+-- the gifts of the frame that a call of a function enters; an init frame is given nothing, and its registers stay
+abbrev pub given_by : Registers → Heap → Ask → Registers
+given_by rss heap (ask.Do (call.CallFunction receiver f args)) = gifts_given rss (callee_of heap f).addon (call_gifts heap receiver f args)
+given_by rss heap _ = rss
+
+-- a call's result goes to its register, that of a call of a function at the end of its frame: it is then the last ask that the caller made
+abbrev pub kept_by_host : List Plan → Registers → Environment → Ask → Reply → HostStep → Registers
+kept_by_host ps rss e a r host.Begin = given_by rss e.heap a
+kept_by_host ps rss e a r host.End = kept_in_frames ps rss (at_last_ask (tail e.frames)) r
+kept_by_host ps rss e a r _ = rss
+
+-- what happened is a call, or an event of the host
+abbrev pub kept_at : List Plan → Registers → Environment → Ask → Reply → What → Registers
+kept_at ps rss e a r (what.Call c) = kept_in_frames ps rss e.frames r
+kept_at ps rss e a r (what.Host h) = kept_by_host ps rss e a r h
+
+-- the registers after an entry, at this ask
+abbrev pub registers_after : List Plan → Registers → Machine → Ask → Entry → Registers
+registers_after ps rss m a x = kept_at ps rss m.env a x.reply x.what
 
 -- the registers after entries
 abbrev pub registers_along : List Plan → Registers → Machine → List Ask → List Entry → Registers
-registers_along ps rss m (a ∷ bs) (x ∷ xs) = registers_along ps (registers_after ps rss m x) (after m a x) bs xs
+registers_along ps rss m (a ∷ bs) (x ∷ xs) = registers_along ps (registers_after ps rss m a x) (after m a x) bs xs
 registers_along ps rss m _ _ = rss
 
 -- the asks that the plans give along entries
 abbrev pub asked_along : List Plan → Registers → Machine → List Ask → List Entry → List Ask
-asked_along ps rss m (a ∷ bs) (x ∷ xs) = asked ps rss m a ∷ asked_along ps (registers_after ps rss m x) (after m a x) bs xs
+asked_along ps rss m (a ∷ bs) (x ∷ xs) = asked ps rss m a ∷ asked_along ps (registers_after ps rss m a x) (after m a x) bs xs
 asked_along ps rss m _ _ = []
 
 -- the asks themselves, where every plan is told
 abbrev pub told_asks_along : List Plan → Registers → Machine → List Entry → List Ask
 told_asks_along ps rss m [] = []
 told_asks_along ps rss m (x ∷ xs) =
-    asked ps rss m (ask.Leave None) ∷ told_asks_along ps (registers_after ps rss m x) (after m (asked ps rss m (ask.Leave None)) x) xs
+    let a : Ask = asked ps rss m (ask.Leave None) in a ∷ told_asks_along ps (registers_after ps rss m a x) (after m a x) xs

@@ -1,5 +1,5 @@
 -- The first refusal of a call that applies: a table for each point of their order.
-use Rattle.std.specs.Prelude.{ℕ, Bool, true, false, ◌&&◌, ◌||◌, List, [], ◌∷◌, ◌++◌, length, nat_lt, pos, negsuc, int_le, Option, Some, None, is_some}
+use Rattle.std.specs.Prelude.{ℕ, Bool, true, false, ◌&&◌, ◌||◌, List, [], ◌∷◌, ◌++◌, length, nat_lt, nat_le, pos, negsuc, int_le, Option, Some, None, is_some}
 use Rattle.std.specs.List.{list_all}
 use Rattle.std.specs.Option.{option_or}
 use Rattle.napi_types.specs.declared.body.Body.{Body}
@@ -13,11 +13,13 @@ use Rattle.napi_types.specs.declared.entry.Phase.TheVariants as phase
 use Rattle.napi_types.specs.declared.status.Status.{Status}
 use Rattle.napi_types.specs.declared.status.Status.TheVariants as status
 use Rattle.napi_types.specs.Environment.{Environment}
+use Rattle.napi_types.specs.Frames.{Frame, most_frames}
+use Rattle.napi_types.specs.FunctionCalls.{argument_handles}
 use Rattle.napi_types.specs.Guards.{is_guarded, is_registering}
 use Rattle.napi_types.specs.Heap.{Heap, handle_body, handle_properties}
 use Rattle.napi_types.specs.Lists.{one, when, unless}
 use Rattle.napi_types.specs.Scopes.{gives, opened_scopes, closing, escaping}
-use Rattle.napi_types.specs.Values.{is_object_like, is_string, is_number, is_bigint, is_boolean, is_array, most_names, most_index}
+use Rattle.napi_types.specs.Values.{is_object_like, is_string, is_number, is_bigint, is_boolean, is_array, is_function, most_names, most_index}
 
 -- A CALL AT A WRONG MOMENT
 -- from the start of the teardown on
@@ -68,6 +70,7 @@ handles_of (call.SetElement h _ v) = h.0 ∷ one v.0
 handles_of (call.GetElement h _) = one h.0
 handles_of (call.HasElement h _) = one h.0
 handles_of (call.EscapeHandle _ h) = one h.0
+handles_of (call.CallFunction receiver f args) = handle_if receiver ++ f.0 ∷ argument_handles args
 handles_of (call.Throw h) = one h.0
 handles_of _ = []
 
@@ -124,7 +127,7 @@ kind_refusal heap _ = None
 
 -- THE CALL'S OWN REFUSALS
 -- a number is a whole number from -(2^53-1) to 2^53-1; an object with more than 65,536 names is not listed; an element's index is at most 65,535; scopes close innermost first;
--- one handle escapes from an escapable scope
+-- one handle escapes from an escapable scope; only a function is called
 abbrev pub row_refusal : Heap → Call → Option Status
 row_refusal heap (call.CreateInt64 i) = unless (int_le (negsuc 9007199254740990) i && int_le i (pos 9007199254740991)) status.InvalidArg
 row_refusal heap (call.GetPropertyNames h) = when (nat_lt most_names (length (handle_properties heap h.0))) status.InvalidArg
@@ -132,12 +135,23 @@ row_refusal heap (call.SetElement _ at _) = when (nat_lt most_index at) status.I
 row_refusal heap (call.CloseHandleScope s) = closing s.0 scope_kind.Plain (opened_scopes heap.scopes)
 row_refusal heap (call.CloseEscapableHandleScope s) = closing s.0 scope_kind.Escapable (opened_scopes heap.scopes)
 row_refusal heap (call.EscapeHandle s _) = escaping s.0 (opened_scopes heap.scopes)
+row_refusal heap (call.CallFunction _ f _) = unless (is_function (handle_body heap f.0)) status.InvalidArg
 row_refusal heap _ = None
 
 -- the first of these three points that applies, in a heap and a table of so many texts
 abbrev pub refusal_in : ℕ → Heap → Call → Option Status
 refusal_in texts heap c = option_or (unknown_refusal texts heap c) (option_or (kind_refusal heap c) (row_refusal heap c))
 
--- the first of all points that applies: whether the call comes at a wrong moment is asked first
+-- THE DEPTH LIMIT
+-- no function is called where as many frames stand as may
+abbrev pub depth_refusal : List Frame → Call → Option Status
+depth_refusal fs (call.CallFunction _ _ _) = when (nat_le most_frames (length fs)) status.PendingException
+depth_refusal fs _ = None
+
+-- the first of the points before the depth limit that applies: whether the call comes at a wrong moment is asked first
+abbrev pub early_refusal : Environment → Call → Option Status
+early_refusal e c = option_or (moment_refusal e c) (refusal_in e.texts e.heap c)
+
+-- the first of all points that applies
 abbrev pub refusal : Environment → Call → Option Status
-refusal e c = option_or (moment_refusal e c) (refusal_in e.texts e.heap c)
+refusal e c = option_or (early_refusal e c) (depth_refusal e.frames c)

@@ -47,9 +47,10 @@ journal_room e locals limit = record { limit = limit; taken = locals + reserved_
 abbrev pub room_of : Machine → Call → Room
 room_of m c = journal_room m.env m.locals m.limits.journal
 
--- the places that a call needs, counted as if it were accepted: one for its entry, since no call that is built enters a frame or makes a duty
+-- the places that a call needs, counted as if it were accepted: one for its entry, or two for the begin and the end of the frame that it enters; no call that is built makes a duty
 abbrev pub need : Call → ℕ
-need c = 1
+need (call.CallFunction _ _ _) = 2
+need _ = 1
 
 -- how many entries a list may have at most
 abbrev pub most_entries : ℕ
@@ -75,6 +76,7 @@ is_growing (call.CreateStringUtf8 _) = true
 is_growing (call.CreateSymbol _) = true
 is_growing call.CreateObject = true
 is_growing call.CreateArray = true
+is_growing (call.CreateFunction _ _) = true
 is_growing (call.CreateError _ _) = true
 is_growing (call.SetNamedProperty _ _ _) = true
 is_growing (call.GetNamedProperty _ _) = true
@@ -83,6 +85,7 @@ is_growing (call.SetElement _ _ _) = true
 is_growing (call.GetElement _ _) = true
 is_growing call.OpenHandleScope = true
 is_growing call.OpenEscapableHandleScope = true
+is_growing (call.CallFunction _ _ _) = true
 is_growing (call.ThrowError _ _) = true
 is_growing call.GetAndClearLastException = true
 is_growing _ = false

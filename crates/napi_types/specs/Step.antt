@@ -19,7 +19,9 @@ use Rattle.napi_types.specs.Frames.{Frame}
 use Rattle.napi_types.specs.Hub.{Hub, hub_next}
 use Rattle.napi_types.specs.Machine.{Machine}
 use Rattle.napi_types.specs.Room.{room_of, is_full, may_want_memory}
-use Rattle.napi_types.specs.Changes.{Change, host_entry, opened, init_begun, asks_made, number_of, is_fresh, most_asks, may_ask, called, frame_ended, gone, in_phase}
+use Rattle.napi_types.specs.Changes.{Change, host_entry, opened, init_begun, asks_made, number_of, is_fresh, most_asks, may_ask, gone, in_phase}
+use Rattle.napi_types.specs.Ends.{frame_ended}
+use Rattle.napi_types.specs.Entering.{asked_for}
 use Rattle.napi_types.specs.Loop.{Event, Opens, Inits, Goes, EndsLoop, Drains, FinalsCome, IsGone}
 use Rattle.napi_types.specs.Teardown.{choice}
 
@@ -75,14 +77,14 @@ may_cut m (ask.Do c) why.Full = may_ask m.env && is_full (room_of m c) c
 may_cut m (ask.Do c) why.Memory = may_ask m.env && may_want_memory (room_of m c) c && not (is_full (room_of m c) c)
 may_cut m (ask.Leave v) _ = false
 
--- a call leaves its entry where there is room for it
+-- a call leaves its entry, or enters its frame, where there is room for it
 abbrev pub call_step : Machine → Call → Out → Step
-call_step m c o = locally m (called m.env c (number_of o)) (may_ask m.env && is_fresh m.env o && not (is_full (room_of m c) c))
+call_step m c o = locally m (asked_for m.env c (number_of o)) (may_ask m.env && is_fresh m.env o && not (is_full (room_of m c) c))
 
 -- the step of what a frame asks: its call, or its end
 abbrev pub asked_step : Machine → Ask → Out → Step
 asked_step m (ask.Do c) o = call_step m c o
-asked_step m (ask.Leave v) o = locally m (frame_ended None m.env) (may_ask m.env)
+asked_step m (ask.Leave v) o = locally m (frame_ended v None m.env) (may_ask m.env)
 
 -- the cut that a result tells, if it tells one
 abbrev pub cut_of : Out → Option Why
@@ -91,7 +93,7 @@ cut_of _ = None
 
 -- the step of a frame: its end where it is cut, or else what it asks
 abbrev pub frame_step : Machine → Ask → Out → Option Why → Step
-frame_step m a o (Some w) = locally m (frame_ended (Some w) m.env) (may_cut m a w)
+frame_step m a o (Some w) = locally m (frame_ended None (Some w) m.env) (may_cut m a w)
 frame_step m a o None = asked_step m a o
 
 -- the step of the environment: that of its innermost frame by what it is taken to ask, or of its next event where no frame stands

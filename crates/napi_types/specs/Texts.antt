@@ -6,12 +6,15 @@ use Rattle.std.specs.List.{position_from}
 abbrev pub fixed_texts : List (List ℕ)
 fixed_texts = codes "message" ∷ codes "code" ∷ codes "stack depth" ∷ []
 
--- their numbers in every table, of those that name the properties of an error
+-- their numbers in every table: those that name the properties of an error, and the message of the error at the depth limit
 abbrev pub message_text : ℕ
 message_text = 0
 
 abbrev pub code_text : ℕ
 code_text = 1
+
+abbrev pub depth_text : ℕ
+depth_text = 2
 
 -- each text stands once, and the fixed ones come first
 pub record IsTextTable (texts : List (List ℕ)) : Type 0 where

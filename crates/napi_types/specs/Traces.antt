@@ -13,21 +13,41 @@ use Rattle.napi_types.specs.declared.entry.Out.{Out}
 use Rattle.napi_types.specs.declared.entry.Out.TheVariants as out
 use Rattle.napi_types.specs.declared.entry.What.TheVariants as what
 use Rattle.napi_types.specs.Replies.{plain}
-use Rattle.napi_types.specs.Changes.{host_entry}
+use Rattle.napi_types.specs.Changes.{host_told, host_entry}
 use Rattle.napi_types.specs.Whole.{Setting}
 use Rattle.napi_types.specs.Room.{most_entries}
 
--- a script of one addon with one entry, with the three texts that every script has, and room for the most entries in each list
-abbrev pub script_of : List Op → Setting
-script_of operations = record {
-  plans = Some (operations ∷ []) ∷ [];
+-- a script of one addon with these entries, with the three texts that every script has, and room for the most entries in each list
+abbrev pub script_of_entries : List (List Op) → Setting
+script_of_entries entries = record {
+  plans = Some entries ∷ [];
   texts = 3;
   limits = record { journal = most_entries; history = most_entries };
 }
 
--- a call in the only frame: the number of the ask, the call, its status and its result
+-- one with one entry
+abbrev pub script_of : List Op → Setting
+script_of operations = script_of_entries (operations ∷ [])
+
+-- a call where so many frames stand: the number of the ask, the call, its status and its result
+abbrev pub call_in : ℕ → ℕ → Call → Status → Out → Entry
+call_in depth n c s o = record { actor = actor.Env; depth = depth; step = n; what = what.Call c; reply = plain s o; given = None }
+
+-- a call in the only frame
 abbrev pub call_at : ℕ → Call → Status → Out → Entry
-call_at n c s o = record { actor = actor.Env; depth = 1; step = n; what = what.Call c; reply = plain s o; given = None }
+call_at n c s o = call_in 1 n c s o
+
+-- the begin of a call's frame, of this entry of the only addon
+abbrev pub call_begins : ℕ → Entry
+call_begins entry = host_entry host.Begin (out.Begin cause.Call 0 entry None)
+
+-- its end, with the call's status and result
+abbrev pub call_ends : Status → Out → Entry
+call_ends s o = host_told host.End s o
+
+-- the end of an init frame, with its result
+abbrev pub frame_ends : Out → Entry
+frame_ends o = host_entry host.End o
 
 -- the events around the calls of one init frame: what comes before them, ..
 abbrev pub opening_entries : List Entry

@@ -102,6 +102,23 @@ abbrev pub is_array : Body → Bool
 is_array (body.Object array error) = array
 is_array _ = false
 
+abbrev pub is_function : Body → Bool
+is_function (body.Function addon entry payload) = true
+is_function _ = false
+
+-- the addon and the entry that a function runs, and its payload; a value of another kind is refused before it is read so
+abbrev pub function_addon : Body → ℕ
+function_addon (body.Function addon entry payload) = addon
+function_addon _ = 0
+
+abbrev pub function_entry : Body → ℕ
+function_entry (body.Function addon entry payload) = entry
+function_entry _ = 0
+
+abbrev pub function_payload : Body → ℕ
+function_payload (body.Function addon entry payload) = payload
+function_payload _ = 0
+
 -- an error is an object that was created as one, whatever its properties are
 abbrev pub is_error_body : Body → Bool
 is_error_body (body.Object array error) = error

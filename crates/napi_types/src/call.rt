@@ -2,6 +2,7 @@
 ghost use Rattle.std.specs.Prelude.{◌≡◌};
 ghost use Rattle.napi_types.specs.Built.{is_built, is_value_call};
 ghost use Rattle.napi_types.specs.Guards.{is_guarded, is_registering};
+ghost use Rattle.napi_types.specs.Room.{need};
 
 use crate::{HandleId, RefId, ScopeId, TextNo, TsfnId, WorkId};
 
@@ -160,6 +161,7 @@ impl Call {
             | Call::CloseHandleScope(_)
             | Call::CloseEscapableHandleScope(_)
             | Call::EscapeHandle(..)
+            | Call::CallFunction(..)
             | Call::Throw(_)
             | Call::ThrowError(..)
             | Call::IsExceptionPending
@@ -167,6 +169,16 @@ impl Call {
             | Call::GetLastErrorInfo
             | Call::GetVersion => true,
             _ => self.is_value_call(),
+        }
+    }
+
+    /// How many places the call needs in the list of its entry, counted as if it were accepted.
+    pub fn need(&self) -> u32
+        ensures { result ≡ need self.now }
+    {
+        match self {
+            Call::CallFunction(..) => 2,
+            _ => 1,
         }
     }
 
@@ -230,6 +242,7 @@ impl Call {
             | Call::CreateSymbol(_)
             | Call::CreateObject
             | Call::CreateArray
+            | Call::CreateFunction(..)
             | Call::CreateError(..)
             | Call::Typeof(_)
             | Call::IsArray(_)

@@ -5,9 +5,11 @@ ghost use Rattle.napi_types.specs.ClosedScope as closed_scope;
 ghost use Rattle.napi_types.specs.EscapeTwice as escape_twice;
 ghost use Rattle.napi_types.specs.NamesRun as names_run;
 ghost use Rattle.napi_types.specs.PendingException as pending_exception;
+ghost use Rattle.napi_types.specs.CallAndError as call_and_error;
+ghost use Rattle.napi_types.specs.Depth as depth_limit;
 ghost use Rattle.napi_types.specs.StaleHandle as stale_handle;
 ghost use Rattle.napi_types.specs.Cuts.{CutsForRoom, CutAtLastAsk, NotBeforeLastAsk};
-ghost use Rattle.napi_types.specs.Laws.{RefusesUnknownHandles, FrontsAreRuns, RoomSuffices, EveryCallHasARow, ErrorNamesAreFixed, RunsAreComputed};
+ghost use Rattle.napi_types.specs.Laws.{RefusesUnknownHandles, FrontsAreRuns, RoomSuffices, EveryCallHasARow, RefusedCallsChangeNothing, ErrorNamesAreFixed, RunsAreComputed};
 
 /// The first run: the entries are a run of its script and come to its end.
 pub fn first_run_ends()
@@ -124,12 +126,42 @@ pub fn exception_is_uncaught()
     ensures { pending_exception.IsUncaught }
 {}
 
+/// A function that is called and returns its argument, and an error that is not caught: the entries are a run of their script and come to its end.
+pub fn call_and_error_ends()
+    ensures { call_and_error.Ends }
+{}
+
+/// The text of that run, line by line.
+pub fn call_and_error_prints()
+    ensures { call_and_error.Prints }
+{}
+
+/// The call's frame is of no other entry, its end has no other status and handle, the value is what was returned, and the error is not caught.
+pub fn call_and_error_is_strict()
+    ensures { call_and_error.IsStrict }
+{}
+
+/// A function that calls itself until no further frame may stand: the entries are a run of their script and come to its end.
+pub fn depth_ends()
+    ensures { depth_limit.Ends }
+{}
+
+/// No frame begins where 64 stand, the call there has no other status, and its error stays pending until the outermost frame ends.
+pub fn depth_is_strict()
+    ensures { depth_limit.IsStrict }
+{}
+
+/// A refused call answers the first refusal that applies and changes nothing, but that the depth limit leaves its error pending.
+pub fn refused_calls_change_nothing()
+    ensures { RefusedCallsChangeNothing }
+{}
+
 /// A handle that no open scope holds is an invalid argument, and the call that names it changes nothing.
 pub fn refuses_unknown_handles()
     ensures { RefusesUnknownHandles }
 {}
 
-/// Each call is answered by exactly one group of calls.
+/// Each call but that of a function, which enters a frame, is answered by exactly one group of calls.
 pub fn every_call_has_a_row()
     ensures { EveryCallHasARow }
 {}

@@ -11,12 +11,13 @@ use Rattle.napi_types.specs.Room.{most_entries}
 use Rattle.napi_types.specs.Weave.{weave}
 use Rattle.napi_types.specs.Whole.{final_of}
 use Rattle.napi_types.proofs.Rooms.{room-suffices}
-use Rattle.script_host.specs.Recording.{IsEnded, told_plans, setting_with}
+use Rattle.env_loop.specs.Recording.{IsEnded}
+use Rattle.script_host.specs.Loading.{told_plans, setting_with}
 use Rattle.script_host.specs.declared.words.Line.{Line}
 use Rattle.script_host.specs.declared.words.Line.TheVariants as line
 use Rattle.script_host.specs.Words.{line_status}
 use Rattle.script_host.specs.Host.{IsStatus, Ran, setting_of, Causes, GaveRefused}
-use Rattle.script_host.proofs.Inits.{length-told, length-told-le}
+use Rattle.script_host.proofs.Loading.{length-told, length-told-le}
 
 -- the lists of a run with few addons are within their limits
 lists-within : (plans : List Plan) (texts : ℕ) (journal : List Local) (history : List Entry) (all : Registers) → length plans ≤ 8

@@ -1,7 +1,5 @@
 pub mod Complete
 pub mod Hosts
-pub mod Inits
+pub mod Loading
 pub mod Pieces
-pub mod Recordings
 pub mod Small
-pub mod Turns

@@ -15,7 +15,8 @@ use Rattle.napi_types.specs.Text.{text}
 use Rattle.napi_types.specs.Weave.{weave, RisesBetween, IsParted}
 use Rattle.napi_types.specs.Whole.{Setting, EndsBy, final_registers}
 use Rattle.script_host.specs.Reading.{longest_source, GaveTooMany}
-use Rattle.script_host.specs.Recording.{AgreesWhereTold, told_plans, setting_with}
+use Rattle.env_loop.specs.Recording.{AgreesWhereTold}
+use Rattle.script_host.specs.Loading.{told_plans, setting_with}
 use Rattle.script_host.specs.Words.{is_run_words}
 use Rattle.std.specs.declared.result.Result.{Result}
 use Rattle.std.specs.declared.result.Result.TheVariants.{Ok}

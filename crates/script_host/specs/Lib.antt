@@ -1,5 +1,5 @@
 pub mod Host
+pub mod Loading
 pub mod Reading
-pub mod Recording
 pub mod Standard
 pub mod Words

@@ -3,9 +3,8 @@
 //! machine's runs and the two lists that a run leaves. The program stands above it.
 #![tactic(auto)]
 
-mod history;
 mod reading;
-mod recording;
+mod running;
 mod standard;
 mod top_call;
 mod words;

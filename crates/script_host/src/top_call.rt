@@ -6,7 +6,7 @@ ghost use Rattle.script_host.specs.Host.{Ran, IsSmall, GaveScript, GaveTooMuch, 
 ghost use Rattle.script_host.specs.Words.{is_run_words, line_text, line_status};
 
 use crate::reading::{ReadError, read_all};
-use crate::recording::run;
+use crate::running::run;
 use crate::words::{Line, is_run};
 use addon_trait::Addon;
 use napi_types::{Failed, Gate, Record, Script, Sink, Source, Text};

@@ -155,7 +155,7 @@ shape addons/0/entries/0/0 | ["has_named_property",0,0,1]
 shape addons/0/entries/0/0 | ["delete_property",0,null,1]"#;
 
 // Entries of the addon, which has one.
-pub const ENTRIES: &str = r#"stage | ["create_function",0,7,1]
+pub const ENTRIES: &str = r#"ok | ["create_function",0,7,1]
 shape addons/0/entries/0/0 | ["create_function",1,7,1]
 shape addons/0/entries/0/0 | ["create_function",-1,7,1]
 shape addons/0/entries/0/0 | ["create_function",0.0,7,1]
@@ -193,12 +193,12 @@ shape addons/0/entries/0/0 | ["create_threadsafe_function",-1,-1,0,1,-2,7,0]"#;
 
 // Entries of addons with several, and with none beside them.
 pub const ENTRIES_OF_ADDONS: &str =
-    r#"stage | {"version":9,"workers":0,"addons":[{"name":"a","entries":[[["create_function",63,7,1]],<63 x []>]}],"threads":[]}
+    r#"ok | {"version":9,"workers":0,"addons":[{"name":"a","entries":[[["create_function",63,7,1]],<63 x []>]}],"threads":[]}
 shape addons/0/entries/0/0 | {"version":9,"workers":0,"addons":[{"name":"a","entries":[[["create_function",64,7,1]],<63 x []>]}],"threads":[]}
 stage | {"version":9,"workers":0,"addons":[{"name":"a","entries":[<63 x []>,[["create_external",7,63,0,1]]]}],"threads":[]}
 shape addons/0/entries/63/0 | {"version":9,"workers":0,"addons":[{"name":"a","entries":[<63 x []>,[["create_external",7,64,0,1]]]}],"threads":[]}
 shape addons/0/entries/0/0 | {"version":9,"workers":0,"addons":[{"name":"a","entries":[[["create_function",1,7,1]]]},{"name":"b","entries":[[],[]]}],"threads":[]}
-stage | {"version":9,"workers":0,"addons":[{"name":"a","entries":[[]]},{"name":"b","entries":[[["create_function",1,7,1]],[]]}],"threads":[]}
+ok | {"version":9,"workers":0,"addons":[{"name":"a","entries":[[]]},{"name":"b","entries":[[["create_function",1,7,1]],[]]}],"threads":[]}
 shape addons/1/entries/0/0 | {"version":9,"workers":0,"addons":[{"name":"a","entries":[[],[]]},{"name":"b","entries":[[["create_function",1,7,1]]]}],"threads":[]}"#;
 
 // 0 or 1.
@@ -249,12 +249,12 @@ shape addons/0/entries/0/0 | ["create_async_work",{"sum":1},0,7,1]
 shape addons/0/entries/0/0 | ["create_async_work",-1,0,7,1]"#;
 
 // Lists of registers.
-pub const LISTS_OF_REGISTERS: &str = r#"stage | ["call_function",-1,0,[],1]
-stage | ["call_function",0,0,[1,2,3,31],1]
-stage | ["call_function",-1,0,[0],1]
-stage | ["call_function",-1,0,[0,31],1]
-stage | ["call_function",-1,0,[0,0,0],1]
-stage | ["call_function",-1,0,[31,31,31,31],1]
+pub const LISTS_OF_REGISTERS: &str = r#"ok | ["call_function",-1,0,[],1]
+ok | ["call_function",0,0,[1,2,3,31],1]
+ok | ["call_function",-1,0,[0],1]
+ok | ["call_function",-1,0,[0,31],1]
+ok | ["call_function",-1,0,[0,0,0],1]
+ok | ["call_function",-1,0,[31,31,31,31],1]
 shape addons/0/entries/0/0 | ["call_function",0,0,[1,2,3,4,5],1]
 shape addons/0/entries/0/0 | ["call_function",0,0,[32],1]
 shape addons/0/entries/0/0 | ["call_function",-1,0,[0,0,0,0,0],1]
@@ -453,14 +453,14 @@ stage | ["get_threadsafe_function_context",8,2]
 stage | ["add_env_cleanup_hook",0,7]
 stage | ["remove_env_cleanup_hook",0,7]
 stage | ["release_threadsafe_function",8,0]
-stage | ["create_function",0,7,1]
+ok | ["create_function",0,7,1]
 stage | ["create_reference",1,1,6]
 stage | ["type_tag_object",1,10,20]
 stage | ["set_instance_data",7,-1,0]
 stage | ["call_threadsafe_function",8,7,0]
 stage | ["create_external",7,-1,0,1]
 stage | ["check_object_type_tag",1,10,20,2]
-stage | ["call_function",-1,1,[2,3],4]
+ok | ["call_function",-1,1,[2,3],4]
 stage | ["create_async_work",["sum",100],0,7,5]
 stage | ["wrap",1,7,0,0,-1]
 stage | ["add_finalizer",1,7,0,0,-1]

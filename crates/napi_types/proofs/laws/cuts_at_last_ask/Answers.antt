@@ -9,7 +9,7 @@ use Rattle.napi_types.proofs.laws.cuts_at_last_ask.Goals as goal
 last : CutAtLastAsk
 last m f fs a e s =
     let spent : asks_made m.env.frames ≡ 65536 = ap asks_made e ∙ s in
-    (asks-next m f fs a e spent, only-in-frame m a f fs (cut_by why.Asks) e (spent-only m (taken a) spent))
+    (asks-next m f fs a e spent, only-in-frame m a f fs (cut_by f.cause why.Asks) e (spent-only m (taken a) f fs e spent))
 
 early : NotBeforeLastAsk
 early m f fs a e s n = early-none m f fs a e s n

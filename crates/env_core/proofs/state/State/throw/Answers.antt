@@ -14,6 +14,7 @@ invariant_of-self c =
     rw c.set.ensures (record {
       live = c.self.invariant.live;
       frames = c.self.invariant.frames;
+      calls = c.self.invariant.calls;
       pending = given-live s.store s.scopes c.args.handle.0 c.in-Some.value.0 c.self.invariant.live c.in-Some.ensures;
     })
 

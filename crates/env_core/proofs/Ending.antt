@@ -1,0 +1,45 @@
+-- What stays of a state where a frame ends.
+use Rattle.std.proofs.Common.{◌≡◌, ℕ, ◌+◌, List, [], ◌∷◌, ◌++◌, length, refl, ap, sym, ◌∙◌, Option, Some, IfSome, arith}
+use Rattle.std.specs.List.{All}
+use Rattle.napi_types.specs.Frames.{Frame}
+use Rattle.napi_types.specs.Graph.{StoreState, IsLive}
+use Rattle.napi_types.specs.Lists.{tail}
+use Rattle.napi_types.specs.Scopes.{Held, FrameScopes, held_by_scopes, held_by_frames, hold_in}
+use Rattle.handle_scope.specs.HandleScopes.{HandleScopes, frame_left, call_left, handle_issued}
+use Rattle.env_values.proofs.Giving.{issued-live}
+use Rattle.env_core.specs.State.{IsState, is_by_call}
+use Rattle.env_core.proofs.Scopes.{length-changed}
+use Rattle.env_core.proofs.SeenScopes.{All-front, map-tail}
+
+length-tail : {A B : Type 0} (xs : List A) (ys : List B) → length xs ≡ length ys → length (tail xs) ≡ length (tail ys)
+length-tail [] [] e = refl
+length-tail (x ∷ xs) (y ∷ ys) e = omega (arith, e)
+length-tail [] (y ∷ ys) e = absurd (omega (arith, e))
+length-tail (x ∷ xs) [] e = absurd (omega (arith, e))
+
+-- what the frames outside hold was held before
+all-left : (P : Held → Type 0) (fs : List FrameScopes) → All P (held_by_frames fs) → All P (held_by_frames (tail fs))
+all-left P [] h = h
+all-left P (f ∷ fs) h = All-front P (held_by_frames fs) (f.own ++ held_by_scopes f.opened) h
+
+-- a frame and its scopes are gone
+pub state-left : (store : StoreState) (old new : HandleScopes) (standing left : List Frame) (thrown pending : Option ℕ) → IsState store old standing thrown
+    → new ≡ frame_left old → left ≡ tail standing → IfSome pending (IsLive store) → IsState store new left pending
+state-left store old new standing left thrown pending s scopes frames live = rw (scopes, frames) (record {
+  live = all-left (λ p. IsLive store p.value) old.frames s.live;
+  frames = length-tail old.frames standing s.frames;
+  calls = ap tail s.calls ∙ sym (map-tail (λ (f : Frame). is_by_call f.cause) standing);
+  pending = live;
+})
+
+-- and the caller holds a handle of a live value
+pub state-given : (store : StoreState) (old new : HandleScopes) (standing left : List Frame) (thrown pending : Option ℕ) (v : ℕ) → IsState store old standing thrown
+    → new ≡ call_left (Some v) old → left ≡ tail standing → IfSome pending (IsLive store) → IsLive store v → IsState store new left pending
+state-given store old new standing left thrown pending v s scopes frames live alive =
+    let mid : IsState store (frame_left old) (tail standing) thrown = state-left store old (frame_left old) standing (tail standing) thrown thrown s refl refl s.pending in
+    rw (scopes, frames) (record {
+      live = issued-live store (frame_left old) (handle_issued v (frame_left old)) v refl alive mid.live;
+      frames = length-changed (hold_in (record { handle = old.handles + 1; value = v })) (tail old.frames) ∙ mid.frames;
+      calls = mid.calls;
+      pending = live;
+    })

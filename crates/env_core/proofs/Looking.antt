@@ -1,0 +1,38 @@
+-- The values of handles.
+use Rattle.std.proofs.Common.{◌≡◌, ℕ, ap, sym, ◌∙◌, Option, Some, None, option_map, is_some, IfSome}
+use Rattle.std.specs.Option.{unwrap_or}
+use Rattle.napi_types.specs.declared.body.Body.TheVariants as body
+use Rattle.napi_types.specs.declared.ids.ValueId.{ValueId}
+use Rattle.napi_types.specs.Graph.{StoreState, IsLive, number_in, value_of, graph_of, renamed}
+use Rattle.napi_types.specs.Heap.{handle_value, handle_body}
+use Rattle.napi_types.specs.Scopes.{gives}
+use Rattle.napi_types.specs.Values.{Value, undefined_value, value_at}
+use Rattle.handle_scope.specs.HandleScopes.{HandleScopes}
+use Rattle.env_values.specs.Seen.{heap_of, HoldsLive}
+use Rattle.env_values.proofs.HandleValues.{given-live}
+use Rattle.env_values.proofs.Seen.{gives-seen}
+
+-- what a handle gives is live
+pub looked_live : (store : StoreState) (scopes : HandleScopes) (h : ℕ) (o : Option ValueId) → option_map (λ (v : ValueId). v.0) o ≡ gives scopes.frames h → HoldsLive store scopes
+    → IfSome o (λ v. IsLive store v.0)
+looked_live store scopes h None e live = tt
+looked_live store scopes h (Some v) e live = given-live store scopes h v.0 live e
+
+-- and has the number that the machine sees, that of undefined where no open scope holds the handle
+pub looked_number : (store : StoreState) (scopes : HandleScopes) (h : ℕ) (o : Option ValueId) → option_map (λ (v : ValueId). v.0) o ≡ gives scopes.frames h
+    → unwrap_or (option_map (λ (v : ValueId). number_in store v.0) o) undefined_value ≡ handle_value (heap_of store scopes) h
+looked_number store scopes h None e = ap (λ o. unwrap_or (option_map (number_in store) o) undefined_value) e ∙ ap (λ o. unwrap_or o undefined_value) (sym (gives-seen store scopes.frames h))
+looked_number store scopes h (Some v) e = ap (λ o. unwrap_or (option_map (number_in store) o) undefined_value) e ∙ ap (λ o. unwrap_or o undefined_value) (sym (gives-seen store scopes.frames h))
+
+-- what the value of a handle is
+pub looked_body : (store : StoreState) (scopes : HandleScopes) (h id : ℕ) (v : Value) → number_in store id ≡ handle_value (heap_of store scopes) h
+    → value_at (graph_of store) (number_in store id) ≡ option_map (renamed store) (value_of store id) → Some v ≡ value_of store id → v.body ≡ handle_body (heap_of store scopes) h
+looked_body store scopes h id v number seen is =
+    let at : value_at (graph_of store) (handle_value (heap_of store scopes) h) ≡ Some (renamed store v) = ap (value_at (graph_of store)) (sym number) ∙ seen ∙ ap (option_map (renamed store)) (sym is) in
+    sym (ap (λ o. unwrap_or (option_map (λ (w : Value). w.body) o) body.Undefined) at)
+
+-- a handle that an open scope holds is one for the machine
+pub held-seen : (store : StoreState) (scopes : HandleScopes) (h : ℕ) (o : Option ValueId) → option_map (λ (v : ValueId). v.0) o ≡ gives scopes.frames h
+    → is_some o ≡ is_some (gives (heap_of store scopes).scopes h)
+held-seen store scopes h None e = ap (λ (o : Option ℕ). is_some (option_map (number_in store) o)) e ∙ ap is_some (sym (gives-seen store scopes.frames h))
+held-seen store scopes h (Some v) e = ap (λ (o : Option ℕ). is_some (option_map (number_in store) o)) e ∙ ap is_some (sym (gives-seen store scopes.frames h))

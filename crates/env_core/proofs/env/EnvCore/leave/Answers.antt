@@ -1,0 +1,8 @@
+use Rattle.env_core.proofs.Cores.{core-ended}
+use Rattle.env_core.proofs.env.EnvCore.leave.Goals as goal
+
+pub invariant_of-self : goal.invariant_of-self
+invariant_of-self c =
+    let s = c.self.inside in
+    let stands = rw (← c.self.view_is) at c.requires.standing in
+    core-ended s.state c.leave-entry.new.self s.journal c.push.new.self c.leave-entry.result c.args.value c.args.cut c.self.invariant stands c.leave-entry.ensures.after c.push.ensures

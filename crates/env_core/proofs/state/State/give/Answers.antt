@@ -1,0 +1,8 @@
+use Rattle.env_core.proofs.Ending.{state-given}
+use Rattle.env_core.proofs.state.State.give.Goals as goal
+
+pub invariant_of-self : goal.invariant_of-self
+invariant_of-self c =
+    let s = c.self.inside in
+    rw c.note.ensures
+    (state-given s.store s.scopes c.leave_call.new.self s.frames c.pop.new.self s.exceptions.pending s.exceptions.pending c.left_by-left.result.0 c.self.invariant c.leave_call.ensures.left c.pop.ensures c.self.invariant.pending c.left_by-left.ensures.live)

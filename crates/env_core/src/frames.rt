@@ -1,0 +1,96 @@
+//! The frames that stand.
+ghost use Rattle.std.specs.Prelude.{◌≡◌, ◌<◌, ◌≤◌, [], ◌∷◌, length, IfOk, option_map};
+ghost use Rattle.napi_types.specs.Changes.{asks_made, most_asks};
+ghost use Rattle.napi_types.specs.Frames.{most_frames, ask_counted};
+ghost use Rattle.napi_types.specs.Lists.{head, tail};
+ghost use Rattle.env_core.specs.Standing.{frame_seen};
+
+use napi_types::{Cause, NoMemory};
+use std::alloc::Global;
+use std::marker::Model;
+
+/// How many frames may stand, the outermost counted.
+pub const MOST_FRAMES: u32 = 64;
+
+/// A frame: why it began, which entry of which addon it runs, and how many asks it made. Its scopes stand beside it.
+#[derive(Clone, Copy)]
+pub struct StandingFrame {
+    pub cause: Cause,
+    pub addon: u32,
+    pub entry: u32,
+    pub asks: u32,
+}
+
+/// The frames that stand. The memory for all that may is there, so that a frame that begins takes none.
+#[derive(Drop)]
+pub struct Frames {
+    // The innermost frame stands last.
+    frames: Vec<StandingFrame>,
+}
+
+impl Model for Frames {
+    ghost use Rattle.std.specs.Prelude.{List, map, reverse, vec_capacity};
+    ghost use Rattle.napi_types.specs.Frames.{Frame};
+    ghost use Rattle.env_core.specs.Standing.{frame_seen as seen, IsStanding};
+
+    ghost Value = { List Frame };
+
+    ghost view = { λ s. map seen (reverse s.frames.items) };
+
+    ghost invariant = { λ s. IsStanding s.frames.items (vec_capacity s.frames) };
+}
+
+impl Frames {
+    /// No frame stands.
+    pub fn new(alloc: Global) -> Result<Frames, NoMemory>
+        ensures { IfOk result (λ frames. frames ≡ []) }
+    {
+        match Vec::with_capacity(alloc, MOST_FRAMES as usize) {
+            Ok(frames) => Ok(Frames { frames }),
+            Err(_) => Err(NoMemory),
+        }
+    }
+
+    /// A frame begins inside the innermost one. It takes no memory.
+    pub fn push(&mut self, frame: StandingFrame)
+        requires { length self.old < most_frames }
+        ensures { self.new ≡ frame_seen frame ∷ self.old }
+    {
+        self.frames.push_reserved(frame);
+    }
+
+    /// The innermost frame is gone.
+    pub fn pop(&mut self)
+        ensures { self.new ≡ tail self.old }
+    {
+        let _ = self.frames.pop();
+    }
+
+    /// The innermost frame made one ask more.
+    pub fn count_ask(&mut self)
+        requires { asks_made self.old < most_asks }
+        ensures { self.new ≡ ask_counted self.old }
+    {
+        if let Some(frame) = self.frames.pop() {
+            self.frames.push_reserved(StandingFrame {
+                asks: frame.asks + 1,
+                ..frame
+            });
+        }
+    }
+
+    /// The innermost frame.
+    pub fn innermost(&self) -> Option<StandingFrame>
+        ensures { option_map frame_seen result ≡ head self.now }
+    {
+        self.frames.last().copied()
+    }
+
+    /// How many frames stand.
+    pub fn depth(&self) -> u32
+        ensures depth { result ≡ length self.now }
+        ensures few { length self.now ≤ most_frames }
+    {
+        self.frames.len() as u32
+    }
+}

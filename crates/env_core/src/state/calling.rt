@@ -1,0 +1,240 @@
+//! Calls of functions.
+ghost use Rattle.std.specs.Prelude.{◌≡◌, ◌≢◌, ◌+◌, ◌<◌, ◌≤◌, ◌^◌, ◌&&◌, [], ◌∷◌, ◌++◌, length, take, replicate, Some, None, is_some, IfOk, OnOk, OnErr, IfErr};
+ghost use Rattle.std.specs.List.{list_all};
+ghost use Rattle.napi_types.specs.declared.call.Call.TheVariants as call_of;
+ghost use Rattle.napi_types.specs.Calls.{at_depth_limit};
+ghost use Rattle.napi_types.specs.Changes.{asks_made, most_asks};
+ghost use Rattle.napi_types.specs.Frames.{most_frames};
+ghost use Rattle.napi_types.specs.FunctionCalls.{argument_handles};
+ghost use Rattle.napi_types.specs.Refusals.{is_known, handle_if, early_refusal};
+ghost use Rattle.napi_types.specs.Replies.{plain as plain_reply};
+ghost use Rattle.napi_types.specs.Scopes.{gives};
+ghost use Rattle.napi_types.specs.Values.{is_function as is_function_body, most_names};
+ghost use Rattle.napi_types.specs.Heap.{handle_body};
+ghost use Rattle.env_values.specs.Seen.{HoldsLive};
+ghost use Rattle.env_core.specs.State.{CallsFunction, EntersCall, BeginsScopes, SameScopes};
+
+use super::{State, host_entry, plain};
+use crate::frames::{MOST_FRAMES, StandingFrame};
+use crate::handles::body_of;
+use env_values::thrown_value;
+use handle_scope::Scopes;
+use napi_types::{
+    Args, Body, Call, Cause, Entry, HandleId, HostStep, NoMemory, Out, Reply, Status, Target,
+    TextNo,
+};
+use value_store::Store;
+
+/// The text of the error that is pending where no further frame may begin.
+const DEPTH_TEXT: TextNo = TextNo(2);
+
+/// What a call of a function comes to.
+pub enum Called {
+    /// It is refused: its entry.
+    Refused(Entry),
+    /// It is accepted: the entry of its frame's begin, what the frame runs, and its gifts.
+    Entered(Entry, Target, [u64; 8]),
+}
+
+impl State {
+    /// A call of a function by the innermost frame.
+    pub fn call_function(
+        &mut self,
+        step: u32,
+        receiver: Option<HandleId>,
+        function: HandleId,
+        args: &Args,
+    ) -> Result<Called, NoMemory>
+        requires standing { self.old.frames ≢ [] }
+        requires ask { step ≡ asks_made self.old.frames }
+        requires within { step < most_asks }
+        requires values { self.old.heap.made + most_names + 8 < 2 ^ 48 }
+        requires handles { self.old.heap.handles < 2 ^ 62 }
+        ensures ok { IfOk result (λ called. CallsFunction self.old receiver function args.now called self.new) }
+        ensures err { OnErr result (self.new ≡ self.old) }
+    {
+        let call = Call::CallFunction(receiver, function, *args);
+        match self.why_not_calling(receiver, function, args) {
+            Some(status) => {
+                let reply = plain(status, Out::Nothing);
+                Ok(Called::Refused(self.write_call(step, &call, reply)))
+            }
+            None => {
+                if self.frames.depth() < MOST_FRAMES {
+                    return self.enter_function(receiver, function, args);
+                }
+                let reply = self.exceed_depth()?;
+                Ok(Called::Refused(self.write_call(step, &call, reply)))
+            }
+        }
+    }
+
+    /// Why the call is refused, if it is, the depth limit left aside.
+    fn why_not_calling(
+        &self,
+        receiver: Option<HandleId>,
+        function: HandleId,
+        args: &Args,
+    ) -> Option<Status>
+        ensures { result ≡ early_refusal self.now (call_of.CallFunction receiver function args.now) }
+    {
+        let call = Call::CallFunction(receiver, function, *args);
+        if let Some(status) = self.untimely(&call) {
+            return Some(status);
+        }
+        if self.knows_all(receiver, function, args) && self.is_function(function) {
+            return None;
+        }
+        Some(Status::InvalidArg)
+    }
+
+    /// Whether open scopes hold all the handles that the call names.
+    fn knows_all(&self, receiver: Option<HandleId>, function: HandleId, args: &Args) -> bool
+        ensures { result ≡ is_known self.now.texts self.now.heap (call_of.CallFunction receiver function args.now) }
+    {
+        let count = args.count.min(4) as usize;
+        let received = self.holds_if(receiver);
+        let called = self.holds(function);
+        let given = self.holds_each(&args.handles[..count]);
+        received && called && given
+    }
+
+    /// Whether an open scope holds the handle, where there is one.
+    fn holds_if(&self, handle: Option<HandleId>) -> bool
+        ensures { result ≡ list_all (λ h. is_some (gives self.now.heap.scopes h)) (handle_if handle) }
+    {
+        match handle {
+            Some(handle) => self.holds(handle),
+            None => true,
+        }
+    }
+
+    /// Whether open scopes hold all of these handles.
+    fn holds_each(&self, handles: &[HandleId]) -> bool
+        ensures { result ≡ list_all (λ h. is_some (gives self.now.heap.scopes h.0)) handles.now }
+    {
+        for handle in handles {
+            if !self.holds(*handle) {
+                return false;
+            }
+        }
+        true
+    }
+
+    /// Whether an open scope holds the handle.
+    fn holds(&self, handle: HandleId) -> bool
+        ensures { result ≡ is_some (gives self.now.heap.scopes handle.0) }
+    {
+        self.scopes.look(handle).is_some()
+    }
+
+    /// Whether the value of a handle is a function.
+    fn is_function(&self, handle: HandleId) -> bool
+        ensures { result ≡ is_function_body (handle_body self.now.heap handle.0) }
+    {
+        matches!(
+            body_of(&self.store, &self.scopes, handle),
+            Body::Function { .. }
+        )
+    }
+
+    /// No frame may begin inside the innermost one: an error that says so is pending from now on.
+    fn exceed_depth(&mut self) -> Result<Reply, NoMemory>
+        requires { self.old.heap.made + most_names + 8 < 2 ^ 48 }
+        ensures reply { IfOk result (λ reply. reply ≡ plain_reply Status.PendingException Out.Nothing) }
+        ensures after { OnOk result (self.new ≡ at_depth_limit self.old) }
+        ensures err { OnErr result (self.new ≡ self.old) }
+    {
+        let error = thrown_value(&mut self.store, None, DEPTH_TEXT)?;
+        self.exceptions.set(error);
+        Ok(plain(Status::PendingException, Out::Nothing))
+    }
+
+    /// The frame of a function begins inside the innermost one, whose ask is counted.
+    fn enter_function(
+        &mut self,
+        receiver: Option<HandleId>,
+        function: HandleId,
+        args: &Args,
+    ) -> Result<Called, NoMemory>
+        requires standing { self.old.frames ≢ [] }
+        requires accepted { early_refusal self.old (call_of.CallFunction receiver function args.now) ≡ None }
+        requires room { length self.old.frames < most_frames }
+        requires within { asks_made self.old.frames < most_asks }
+        requires handles { self.old.heap.handles < 2 ^ 62 }
+        ensures ok { IfOk result (λ called. CallsFunction self.old receiver function args.now called self.new) }
+        ensures err { OnErr result (self.new ≡ self.old) }
+    {
+        match body_of(&self.store, &self.scopes, function) {
+            Body::Function {
+                addon,
+                entry,
+                payload,
+            } => {
+                let handle = begin_scopes(&self.store, &mut self.scopes, receiver)?;
+                self.exceptions.note(Status::Ok);
+                self.frames.count_ask();
+                self.frames.push(StandingFrame {
+                    cause: Cause::Call,
+                    addon,
+                    entry,
+                    asks: 0,
+                });
+                let begin = host_entry(
+                    HostStep::Begin,
+                    Out::Begin(Cause::Call, addon, entry, None),
+                );
+                let target = Target {
+                    addon,
+                    entry,
+                    torn_runs: false,
+                };
+                Ok(Called::Entered(begin, target, gifts_of(args, handle, payload)))
+            }
+            _ => unreachable!(),
+        }
+    }
+}
+
+/// The scopes of the frame that a call begins, with a handle of undefined in them where the call names no receiver. Answers
+/// the receiver's handle. All memory is taken first.
+fn begin_scopes(
+    store: &Store,
+    scopes: &mut Scopes,
+    receiver: Option<HandleId>,
+) -> Result<HandleId, NoMemory>
+    requires standing { scopes.old.frames ≢ [] }
+    requires live { HoldsLive store.now scopes.old }
+    requires room { length scopes.old.frames < most_frames }
+    requires handles { scopes.old.handles < 2 ^ 62 }
+    ensures ok { IfOk result (λ handle. BeginsScopes store.now scopes.old receiver handle scopes.new) }
+    ensures err { OnErr result (SameScopes scopes.old scopes.new) }
+{
+    match receiver {
+        Some(handle) => {
+            scopes.enter_call()?;
+            Ok(handle)
+        }
+        None => {
+            scopes.reserve()?;
+            scopes.enter_call()?;
+            Ok(scopes.issue_reserved(store.starting(0)))
+        }
+    }
+}
+
+/// The gifts of a function's frame: how many arguments there are, four of them, the receiver, and the function's payload.
+fn gifts_of(args: &Args, receiver: HandleId, payload: u64) -> [u64; 8]
+    ensures { result ≡ length (argument_handles args.now) ∷ take 4 (argument_handles args.now ++ replicate 4 0) ++ receiver.0 ∷ payload ∷ 0 ∷ [] }
+{
+    let [first, second, third, fourth] = args.handles;
+    match args.count {
+        0 => [0, 0, 0, 0, 0, receiver.0, payload, 0],
+        1 => [1, first.0, 0, 0, 0, receiver.0, payload, 0],
+        2 => [2, first.0, second.0, 0, 0, receiver.0, payload, 0],
+        3 => [3, first.0, second.0, third.0, 0, receiver.0, payload, 0],
+        _ => [
+            4, first.0, second.0, third.0, fourth.0, receiver.0, payload, 0,
+        ],
+    }
+}

@@ -1,0 +1,89 @@
+//! Ends of frames.
+ghost use Rattle.std.specs.Prelude.{◌≡◌, ◌≢◌, ◌<◌, ◌^◌, [], Some, None};
+ghost use Rattle.napi_types.specs.Ends.{frame_ended, call_over, call_left, call_ended, outermost_over};
+ghost use Rattle.napi_types.specs.Frames.{cause_of};
+ghost use Rattle.napi_types.specs.Heap.{frame_left};
+
+use super::{State, host_entry, host_told};
+use crate::handles::left_by;
+use napi_types::{Cause, Entry, HandleId, HostStep, Out, Status, Why};
+
+impl State {
+    /// The innermost frame ends, cut or not, and its scopes close. It leaves the value of a handle, where it names one.
+    pub fn leave(&mut self, value: Option<HandleId>, cut: Option<Why>) -> Entry
+        requires standing { self.old.frames ≢ [] }
+        requires handles { self.old.heap.handles < 2 ^ 62 }
+        ensures entry { result ≡ (frame_ended value cut self.old).entry }
+        ensures after { self.new ≡ (frame_ended value cut self.old).after }
+    {
+        let Some(frame) = self.frames.innermost() else {
+            unreachable!()
+        };
+        match frame.cause {
+            Cause::Call => self.leave_call(value, cut),
+            _ => self.leave_outermost(cut),
+        }
+    }
+
+    /// A frame that no call began ends. An exception that is pending is cleared.
+    fn leave_outermost(&mut self, cut: Option<Why>) -> Entry
+        requires { self.old.frames ≢ [] }
+        ensures entry { result ≡ (outermost_over cut self.old).entry }
+        ensures after { self.new ≡ (outermost_over cut self.old).after }
+    {
+        self.scopes.leave_frame();
+        self.frames.pop();
+        let out = match (cut, self.exceptions.clear()) {
+            (Some(why), _) => Out::Cut(why),
+            (None, Some(_)) => Out::Uncaught,
+            (None, None) => Out::Nothing,
+        };
+        host_entry(HostStep::End, out)
+    }
+
+    /// The frame of a call ends, and its end has the call's reply.
+    fn leave_call(&mut self, value: Option<HandleId>, cut: Option<Why>) -> Entry
+        requires standing { self.old.frames ≢ [] }
+        requires called { cause_of self.old.frames ≡ Cause.Call }
+        requires handles { self.old.heap.handles < 2 ^ 62 }
+        ensures entry { result ≡ (call_over value cut self.old).entry }
+        ensures after { self.new ≡ (call_over value cut self.old).after }
+    {
+        if let Some(why) = cut {
+            return self.give_nothing(Status::GenericFailure, Out::Cut(why));
+        }
+        if self.exceptions.pending().is_some() {
+            return self.give_nothing(Status::PendingException, Out::Nothing);
+        }
+        self.give(value)
+    }
+
+    /// The call of a frame gives nothing. An exception that is pending stays.
+    fn give_nothing(&mut self, status: Status, out: Out) -> Entry
+        requires { self.old.frames ≢ [] }
+        ensures entry { result ≡ (call_ended status out (frame_left self.old.heap) self.old).entry }
+        ensures after { self.new ≡ (call_ended status out (frame_left self.old.heap) self.old).after }
+    {
+        self.scopes.leave_frame();
+        self.frames.pop();
+        self.exceptions.note(status);
+        host_told(HostStep::End, status, out)
+    }
+
+    /// The call of a frame gives a new handle of the value that the frame leaves, which is read before its scopes close.
+    fn give(&mut self, value: Option<HandleId>) -> Entry
+        requires standing { self.old.frames ≢ [] }
+        requires called { cause_of self.old.frames ≡ Cause.Call }
+        requires handles { self.old.heap.handles < 2 ^ 62 }
+        ensures entry { result ≡ (call_left value self.old None).entry }
+        ensures after { self.new ≡ (call_left value self.old None).after }
+    {
+        let left = left_by(&self.store, &self.scopes, value);
+        let Some(handle) = self.scopes.leave_call(Some(left)) else {
+            unreachable!()
+        };
+        self.frames.pop();
+        self.exceptions.note(Status::Ok);
+        host_told(HostStep::End, Status::Ok, Out::Handle(handle))
+    }
+}

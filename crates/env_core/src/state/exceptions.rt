@@ -1,0 +1,80 @@
+//! Calls on exceptions and on the last status.
+ghost use Rattle.std.specs.Prelude.{◌≡◌, ◌≢◌, ◌+◌, ◌<◌, ◌^◌, [], IfOk, OnErr};
+ghost use Rattle.napi_types.specs.declared.call.Call.TheVariants as call_of;
+ghost use Rattle.napi_types.specs.Refusals.{is_known};
+ghost use Rattle.napi_types.specs.Values.{most_names};
+ghost use Rattle.env_core.specs.State.{AnswersInTime};
+
+use super::{State, plain};
+use env_values::{or_undefined, thrown_value};
+use napi_types::{HandleId, NoMemory, Out, Reply, Status, TextNo};
+
+impl State {
+    /// The value of a handle is the pending exception from now on.
+    pub(super) fn throw(&mut self, handle: HandleId) -> Reply
+        ensures { AnswersInTime self.old (call_of.Throw handle) result self.new }
+    {
+        let Some(value) = self.scopes.look(handle) else {
+            return plain(Status::InvalidArg, Out::Nothing);
+        };
+        self.exceptions.set(value);
+        plain(Status::Ok, Out::Nothing)
+    }
+
+    /// A new error of new strings of these texts is the pending exception from now on.
+    pub(super) fn throw_error(
+        &mut self,
+        code: Option<TextNo>,
+        message: TextNo,
+    ) -> Result<Reply, NoMemory>
+        requires { self.old.heap.made + most_names + 8 < 2 ^ 48 }
+        ensures ok { IfOk result (λ reply. AnswersInTime self.old (call_of.ThrowError code message) reply self.new) }
+        ensures err { OnErr result (self.new ≡ self.old) }
+    {
+        if !self.knows(code, message) {
+            return Ok(plain(Status::InvalidArg, Out::Nothing));
+        }
+        let error = thrown_value(&mut self.store, code, message)?;
+        self.exceptions.set(error);
+        Ok(plain(Status::Ok, Out::Nothing))
+    }
+
+    /// Whether the texts of an error stand in the table.
+    fn knows(&self, code: Option<TextNo>, message: TextNo) -> bool
+        ensures { result ≡ is_known self.now.texts self.now.heap (call_of.ThrowError code message) }
+    {
+        match code {
+            Some(code) => self.texts > code.0 && self.texts > message.0,
+            None => self.texts > message.0,
+        }
+    }
+
+    /// Whether an exception is pending.
+    pub(super) fn is_pending(&self) -> Reply
+        ensures { AnswersInTime self.now call_of.IsExceptionPending result self.now }
+    {
+        let pending = self.exceptions.pending().is_some();
+        plain(Status::Ok, Out::Flag(pending))
+    }
+
+    /// A new handle of the pending exception, or of undefined where none is pending; none is pending from now on.
+    pub(super) fn take_pending(&mut self) -> Result<Reply, NoMemory>
+        requires standing { self.old.frames ≢ [] }
+        requires handles { self.old.heap.handles < 2 ^ 62 }
+        ensures ok { IfOk result (λ reply. AnswersInTime self.old call_of.GetAndClearLastException reply self.new) }
+        ensures err { OnErr result (self.new ≡ self.old) }
+    {
+        let value = or_undefined(&self.store, self.exceptions.pending());
+        let handle = self.scopes.issue(value)?;
+        let _ = self.exceptions.clear();
+        Ok(plain(Status::Ok, Out::Handle(handle)))
+    }
+
+    /// The number of the last status.
+    pub(super) fn last(&self) -> Reply
+        ensures { AnswersInTime self.now call_of.GetLastErrorInfo result self.now }
+    {
+        let last = self.exceptions.last().number();
+        plain(Status::Ok, Out::Unsigned(u64::from(last)))
+    }
+}

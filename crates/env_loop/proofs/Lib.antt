@@ -1,0 +1,3 @@
+pub mod Recordings
+pub mod Runs
+pub mod Turns

@@ -1,0 +1,216 @@
+-- A recorded run goes on.
+use Rattle.std.proofs.Common.{◌≡◌, ℕ, ◌+◌, ◌<◌, true, false, IsTrue, not, List, [], ◌∷◌, ◌++◌, length, refl, ap, subst, sym, ◌∙◌, arith, nat_lt, length-append, Some, None}
+use Rattle.std.proofs.lemmas.List.{length-map, get_or-map}
+use Rattle.napi_types.specs.declared.call.Ask.{Ask}
+use Rattle.napi_types.specs.declared.entry.Entry.{Entry}
+use Rattle.napi_types.specs.declared.entry.HostStep.{HostStep}
+use Rattle.napi_types.specs.declared.entry.HostStep.TheVariants as host
+use Rattle.napi_types.specs.declared.entry.Out.{Out}
+use Rattle.napi_types.specs.declared.entry.Out.TheVariants as out
+use Rattle.napi_types.specs.declared.entry.LoopEnd.TheVariants as loop_end
+use Rattle.napi_types.specs.declared.entry.Phase.{Phase}
+use Rattle.napi_types.specs.declared.entry.Phase.TheVariants as phase
+use Rattle.napi_types.specs.declared.call.Ask.TheVariants as ask
+use Rattle.napi_types.specs.Machine.{Machine}
+use Rattle.napi_types.specs.Step.{Step, step, locally}
+use Rattle.napi_types.specs.Run.{after, IsNext}
+use Rattle.napi_types.specs.Changes.{Change, host_entry, in_phase, gone, init_begun}
+use Rattle.napi_types.specs.Registers.{blank_registers}
+use Rattle.napi_types.specs.declared.entry.Reply.{Reply}
+use Rattle.napi_types.specs.Environment.{Environment}
+use Rattle.napi_types.specs.Plan.{Plan, kept_by_host, plan_of, registers_of, asked, registers_after, Registers, loaded_registers}
+use Rattle.napi_types.specs.Weave.{weave, RisesBetween, is_shared, is_hub_event}
+use Rattle.napi_types.specs.Whole.{Setting, opening_of, RunsBy, final_of, final_registers, planned_asks}
+use Rattle.env_core.specs.Core.{Core, wrote, opened_core}
+use Rattle.napi_types.specs.Phases.{stage_of}
+use Rattle.env_loop.specs.Recording.{machine_of, AgreesWhereTold, AgreesWith, IsRecorded, IsEnded}
+use Rattle.napi_types.proofs.Runs.{run-more, final-more, asked-more, registers-more}
+use Rattle.napi_types.proofs.Weaves.{weave-local, weave-shared, rises-append, rises-more, parted-local, parted-shared}
+
+-- what one more entry makes of a run by its asks
+pub record Grown (s : Setting) (asks : List Ask) (xs : List Entry) (after : Machine) (registers : Registers) : Type 0 where
+  pub run : RunsBy s asks xs
+  pub final : final_of s asks xs ≡ after
+  pub registers_are : final_registers s asks xs ≡ registers
+
+pub grow : (s : Setting) (bs : List Ask) (xs : List Entry) (m : Machine) (rss : Registers) (a : Ask) (x : Entry) (st : Step)
+    → RunsBy s bs xs → final_of s bs xs ≡ m → final_registers s bs xs ≡ rss
+    → step m a x ≡ st → x ≡ st.entry → IsTrue st.may → a ≡ asked s.plans rss m a
+    → Grown s (bs ++ a ∷ []) (xs ++ x ∷ []) st.after (registers_after s.plans rss m a x)
+grow s bs xs m rss a x st r f g next entry may here =
+    let P : Machine → Type 0 = λ n. IsNext n a x in
+    let Q : Step → Type 0 = λ t. (x ≡ t.entry) × IsTrue t.may in
+    let is_next : IsNext (final_of s bs xs) a x = subst P (sym f) (subst Q (sym next) (entry, may)) in
+    record {
+      run = record {
+        steps = run-more (opening_of s) bs xs a x r.steps is_next;
+        asked =
+            ap (λ l. l ++ a ∷ []) r.asked
+            ∙ ap (λ b. planned_asks s bs xs ++ b ∷ []) here
+            ∙ ap (λ qs. planned_asks s bs xs ++ asked s.plans qs m a ∷ []) (sym g)
+            ∙ ap (λ n. planned_asks s bs xs ++ asked s.plans (final_registers s bs xs) n a ∷ []) (sym f)
+            ∙ sym (asked-more s.plans _ (opening_of s) bs xs a x r.steps);
+      };
+      final = final-more (opening_of s) bs xs a x r.steps ∙ ap (λ n. after n a x) f ∙ ap (λ t. t.after) next;
+      registers_are =
+          registers-more s.plans _ (opening_of s) bs xs a x r.steps
+          ∙ ap (λ qs. registers_after s.plans qs (final_of s bs xs) a x) g
+          ∙ ap (λ n. registers_after s.plans rss n a x) f;
+    }
+
+-- a local event goes into the journal
+pub local-grown : (s : Setting) (core : Core) (history : List Entry) (all : Registers) (r : IsRecorded s core history all)
+    (a : Ask) (c : Change) (own : Registers) (after_all : Registers)
+    → step (machine_of s.limits core history) a c.entry ≡ locally (machine_of s.limits core history) c true
+    → a ≡ asked s.plans r.own (machine_of s.limits core history) a
+    → registers_after s.plans r.own (machine_of s.limits core history) a c.entry ≡ own
+    → length own ≡ length s.plans
+    → AgreesWith s.plans after_all own
+    → stage_of c.after.phase ≡ stage_of core.env.phase
+    → not (is_shared c.entry.what) ≡ true
+    → IsRecorded s (wrote c core) history after_all
+local-grown s core history all r a c own after_all next here kept count agrees staged local_one =
+    let m : Machine = machine_of s.limits core history in
+    let xs : List Entry = weave core.journal history in
+    let g : Grown s (r.asks ++ a ∷ []) (xs ++ c.entry ∷ []) (locally m c true).after (registers_after s.plans r.own m a c.entry) =
+    grow s r.asks xs m r.own a c.entry (locally m c true) r.run r.final r.registers next refl refl here in
+    let woven : weave (core.journal ++ record { at = core.position; entry = c.entry } ∷ []) history ≡ xs ++ c.entry ∷ [] =
+    ap (λ n. weave (core.journal ++ record { at = n; entry = c.entry } ∷ []) history) r.position ∙ weave-local core.journal history c.entry in
+    let longer : length core.journal + 1 ≡ length (core.journal ++ record { at = core.position; entry = c.entry } ∷ []) =
+    sym (length-append core.journal (record { at = core.position; entry = c.entry } ∷ [])) in
+    let R : List Entry → Type 0 = λ ys. RunsBy s (r.asks ++ a ∷ []) ys in
+    record {
+      asks = r.asks ++ a ∷ [];
+      own = own;
+      run = subst R (sym woven) g.run;
+      final =
+          ap (λ ys. final_of s (r.asks ++ a ∷ []) ys) woven ∙ g.final
+          ∙ ap (λ n. record m { env = c.after; locals = n }) longer
+          ∙ ap (λ t. record m { env = c.after; hub = record { stage = t }; locals = length (core.journal ++ record { at = core.position; entry = c.entry } ∷ []) }) (sym staged);
+      registers = ap (λ ys. final_registers s (r.asks ++ a ∷ []) ys) woven ∙ g.registers_are ∙ kept;
+      count = count;
+      agrees = agrees;
+      limit = r.limit;
+      position = r.position;
+      rises = rises-append 0 (length history) core.journal (record { at = core.position; entry = c.entry }) r.position r.rises;
+      parted = parted-local core.journal history (record { at = core.position; entry = c.entry }) r.parted local_one;
+    }
+
+-- what an event of the hub leaves
+abbrev pub hub_left : Machine → Phase → Machine
+hub_left m p = record m { env = in_phase p m.env; hub = record { stage = stage_of p }; shareds = m.shareds + 1 }
+
+-- an event of the hub leaves the registers
+hub-leaves : (ps : List Plan) (rss : Registers) (e : Environment) (a : Ask) (r : Reply) (event : HostStep) → is_hub_event event ≡ true → kept_by_host ps rss e a r event ≡ rss
+hub-leaves ps rss e a r host.Begin h = cc
+hub-leaves ps rss e a r host.End h = cc
+hub-leaves ps rss e a r event h = refl
+
+-- an event of the hub goes into the history, and its phase starts
+pub shared-grown : (s : Setting) (core : Core) (history : List Entry) (all : Registers) (r : IsRecorded s core history all)
+    (event : HostStep) (o : Out) (p : Phase)
+    → core.env.frames ≡ []
+    → step (machine_of s.limits core history) (ask.Leave None) (host_entry event o)
+    ≡ record { entry = host_entry event o; after = hub_left (machine_of s.limits core history) p; may = true }
+    → is_hub_event event ≡ true
+    → IsRecorded s (record core { env = in_phase p core.env; position = length history + 1 }) (history ++ host_entry event o ∷ []) all
+shared-grown s core history all r event o p alone next shared_one =
+    let m : Machine = machine_of s.limits core history in
+    let xs : List Entry = weave core.journal history in
+    let x : Entry = host_entry event o in
+    let nothing : ask.Leave None ≡ asked s.plans r.own m (ask.Leave None) = rw alone refl in
+    let st : Step = record { entry = x; after = hub_left m p; may = true } in
+    let g : Grown s (r.asks ++ ask.Leave None ∷ []) (xs ++ x ∷ []) (hub_left m p) (registers_after s.plans r.own m (ask.Leave None) x) =
+    grow s r.asks xs m r.own (ask.Leave None) x st r.run r.final r.registers next refl refl nothing in
+    let woven : weave core.journal (history ++ x ∷ []) ≡ xs ++ x ∷ [] = weave-shared core.journal history x r.rises in
+    let longer : length (history ++ x ∷ []) ≡ length history + 1 = length-append history (x ∷ []) in
+    let R : List Entry → Type 0 = λ ys. RunsBy s (r.asks ++ ask.Leave None ∷ []) ys in
+    let U : ℕ → Type 0 = λ n. RisesBetween 0 n core.journal in
+    record {
+      asks = r.asks ++ ask.Leave None ∷ [];
+      own = r.own;
+      run = subst R (sym woven) g.run;
+      final =
+          ap (λ ys. final_of s (r.asks ++ ask.Leave None ∷ []) ys) woven ∙ g.final
+          ∙ ap (λ n. record m { env = in_phase p core.env; hub = record { stage = stage_of p }; shareds = n }) (sym longer);
+      registers = ap (λ ys. final_registers s (r.asks ++ ask.Leave None ∷ []) ys) woven ∙ g.registers_are ∙ hub-leaves s.plans r.own core.env (ask.Leave None) x.reply event shared_one;
+      count = r.count;
+      agrees = r.agrees;
+      limit = r.limit;
+      position = sym longer;
+      rises = subst U (sym longer) (rises-more 0 (length history) (length history + 1) core.journal (omega arith) r.rises);
+      parted = parted-shared core.journal history x r.parted shared_one;
+    }
+
+-- THE EVENTS WITH NO FRAME, one after another
+-- every init frame has begun, so the run goes live
+pub go-grown : (s : Setting) (core : Core) (history : List Entry) (all : Registers) → IsRecorded s core history all
+    → core.env.frames ≡ [] → core.env.phase ≡ phase.Init → core.env.opened ≡ true → nat_lt core.env.inits core.env.addons ≡ false
+    → IsRecorded s (record core { env = in_phase phase.Live core.env; position = length history + 1 }) (history ++ host_entry host.Go out.Nothing ∷ []) all
+go-grown s core history all r alone here opened every = shared-grown s core history all r host.Go out.Nothing phase.Live alone (rw (alone, here, opened, every) refl) refl
+
+pub loop_end-grown : (s : Setting) (core : Core) (history : List Entry) (all : Registers) → IsRecorded s core history all
+    → core.env.frames ≡ [] → core.env.phase ≡ phase.Live
+    → IsRecorded s (record core { env = in_phase phase.Hooks core.env; position = length history + 1 }) (history ++ host_entry host.LoopEnd (out.Ended loop_end.Idle) ∷ []) all
+loop_end-grown s core history all r alone here = shared-grown s core history all r host.LoopEnd (out.Ended loop_end.Idle) phase.Hooks alone (rw (alone, here) refl) refl
+
+pub drain-grown : (s : Setting) (core : Core) (history : List Entry) (all : Registers) → IsRecorded s core history all
+    → core.env.frames ≡ [] → core.env.phase ≡ phase.Hooks
+    → IsRecorded s (record core { env = in_phase phase.Drain core.env; position = length history + 1 }) (history ++ host_entry host.Drain (out.Unsigned 0) ∷ []) all
+drain-grown s core history all r alone here = shared-grown s core history all r host.Drain (out.Unsigned 0) phase.Drain alone (rw (alone, here) refl) refl
+
+pub finals-grown : (s : Setting) (core : Core) (history : List Entry) (all : Registers) → IsRecorded s core history all
+    → core.env.frames ≡ [] → core.env.phase ≡ phase.Drain
+    → IsRecorded s (record core { env = in_phase phase.Finals core.env; position = length history + 1 }) (history ++ host_entry host.Finals out.Nothing ∷ []) all
+finals-grown s core history all r alone here = shared-grown s core history all r host.Finals out.Nothing phase.Finals alone (rw (alone, here) refl) refl
+
+pub gone-grown : (s : Setting) (core : Core) (history : List Entry) (all : Registers) → IsRecorded s core history all
+    → core.env.frames ≡ [] → core.env.phase ≡ phase.Finals
+    → IsRecorded s (wrote (gone core.env) core) history all
+gone-grown s core history all r alone here =
+    local-grown s core history all r (ask.Leave None) (gone core.env) r.own all (rw (alone, here) refl) (rw alone refl) refl r.count r.agrees (rw here refl) refl
+
+-- THE INIT FRAMES
+-- blank registers are those that the run starts from
+agrees-blank : (p : Plan) (mine own : List ℕ) → mine ≡ blank_registers → own ≡ blank_registers → AgreesWhereTold p mine own
+agrees-blank None mine own e f = tt
+agrees-blank (Some p) mine own e f = e ∙ sym f
+
+-- a core that opened is a recorded run, where the addons' registers are cleared
+pub opened-recorded : (s : Setting) (all : Registers) → ((addon : ℕ) → addon < length s.plans → registers_of all addon ≡ blank_registers)
+    → IsRecorded s (opened_core (length s.plans) s.texts s.limits.journal) [] all
+opened-recorded s all blank = record {
+  asks = ask.Leave None ∷ [];
+  own = loaded_registers s.plans;
+  run = record { steps = ((refl, refl), tt); asked = refl };
+  final = refl;
+  registers = refl;
+  count = length-map s.plans (λ (p : Plan). blank_registers);
+  agrees = λ addon below. agrees-blank (plan_of s.plans addon) (registers_of all addon) (registers_of (loaded_registers s.plans) addon) (blank addon below)
+      (get_or-map (λ (p : Plan). blank_registers) s.plans addon None [] below);
+  limit = refl;
+  position = refl;
+  rises = (omega arith, omega arith);
+  parted = record { local_ones = refl; shared_ones = refl };
+}
+
+-- the next addon's init frame begins
+pub init-grown : (s : Setting) (core : Core) (history : List Entry) (all : Registers) → IsRecorded s core history all
+    → core.env.frames ≡ [] → core.env.phase ≡ phase.Init → core.env.opened ≡ true → nat_lt core.env.inits core.env.addons ≡ true
+    → IsRecorded s (wrote (init_begun core.env.inits core.env) core) history all
+init-grown s core history all r alone here opened more =
+    local-grown s core history all r (ask.Leave None) (init_begun core.env.inits core.env) r.own all (rw (alone, here, opened, more) refl) (rw alone refl) refl r.count r.agrees refl refl
+
+-- THE END
+-- a recorded run whose environment is gone came to its end
+pub gone-ended : (s : Setting) (core : Core) (history : List Entry) (all : Registers) → IsRecorded s core history all → core.env.phase ≡ phase.Gone
+    → IsEnded s core.journal history all
+gone-ended s core history all r here = record {
+  asks = r.asks;
+  ended = record { run = r.run; gone = ap (λ (m : Machine). m.env.phase) r.final ∙ here };
+  locals = ap (λ (m : Machine). m.locals) r.final;
+  shareds = ap (λ (m : Machine). m.shareds) r.final;
+  rises = r.rises;
+  parted = r.parted;
+  agrees = subst (λ (own : Registers). AgreesWith s.plans all own) (sym r.registers) r.agrees;
+}

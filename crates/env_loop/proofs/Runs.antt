@@ -1,0 +1,162 @@
+-- A run: its turns, the hub's events, and how many are left.
+use Rattle.std.proofs.Common.{◌≡◌, ◌<◌, ℕ, ◌+◌, ◌-◌, nat_lt, Bool, true, false, cond, List, [], ◌∷◌, ◌++◌, length, drop, refl, ap, subst, sym, ◌∙◌, arith, Option, Some, length-append, append_assoc, append-nil}
+use Rattle.napi_types.specs.declared.entry.Entry.{Entry}
+use Rattle.napi_types.specs.declared.entry.HostStep.{HostStep}
+use Rattle.napi_types.specs.declared.entry.HostStep.TheVariants as host
+use Rattle.napi_types.specs.declared.entry.LoopEnd.TheVariants as loop_end
+use Rattle.napi_types.specs.declared.entry.Local.{Local}
+use Rattle.napi_types.specs.declared.entry.Out.{Out}
+use Rattle.napi_types.specs.declared.entry.Out.TheVariants as out
+use Rattle.napi_types.specs.declared.entry.Phase.{Phase}
+use Rattle.napi_types.specs.declared.entry.Phase.TheVariants as phase
+use Rattle.napi_types.specs.Changes.{host_entry, in_phase}
+use Rattle.napi_types.specs.Environment.{Environment}
+use Rattle.napi_types.specs.Frames.{Frame}
+use Rattle.napi_types.specs.Loop.{Event, Opens, Inits, Goes}
+use Rattle.napi_types.specs.Phases.{stage_of}
+use Rattle.napi_types.specs.Plan.{Plan, Registers}
+use Rattle.napi_types.specs.Room.{stage_places}
+use Rattle.napi_types.specs.Teardown.{choice, choice_in}
+use Rattle.napi_types.specs.Whole.{Setting}
+use Rattle.env_core.specs.Core.{Core}
+use Rattle.env_loop.specs.declared.turn.LocalTurn.TheVariants as turn
+use Rattle.env_loop.specs.Recording.{IsOf, IsRecorded}
+use Rattle.env_loop.specs.Runs.{Run, IsSound, OneMore, Extends, GoesOn, MovesOn}
+use Rattle.env_loop.specs.Turns.{turn_at, turns_left}
+use Rattle.env_loop.proofs.Recordings.{go-grown, loop_end-grown, drain-grown, finals-grown}
+
+-- THE HUB'S EVENTS
+-- where the hub is needed no frame stands
+pub needs-alone : (fs : List Frame) (v : Option Event) → turn_at fs v ≡ turn.NeedsHub → fs ≡ []
+needs-alone [] v h = refl
+needs-alone (f ∷ fs) v h = cc
+
+-- and before `go` every init frame has begun
+record ReadyToGo (e : Environment) : Type 0 where
+  pub opened : e.opened ≡ true
+  pub begun : nat_lt e.inits e.addons ≡ false
+
+ready-in : (e : Environment) (a b : Bool) → e.opened ≡ a → nat_lt e.inits e.addons ≡ b → turn_at [] (Some (cond a (cond b (Inits e.inits) Goes) Opens)) ≡ turn.NeedsHub → ReadyToGo e
+ready-in e true false o i h = record { opened = o; begun = i }
+ready-in e true true o i h = cc
+ready-in e false b o i h = cc
+
+ready-to-go : (e : Environment) → e.phase ≡ phase.Init → turn_at e.frames (choice e) ≡ turn.NeedsHub → ReadyToGo e
+ready-to-go e here h =
+    let alone : e.frames ≡ [] = needs-alone e.frames (choice e) h in
+    let next : turn_at [] (choice_in e phase.Init) ≡ turn.NeedsHub = ap (λ p. turn_at [] (choice_in e p)) (sym here) ∙ ap (λ fs. turn_at fs (choice e)) (sym alone) ∙ h in
+    ready-in e e.opened (nat_lt e.inits e.addons) refl refl next
+
+-- the environment stays sound in the phase that starts
+moved-sound : (e : Environment) (p : Phase) → (p ≡ phase.Gone → ⊥) → IsSound e → IsSound (in_phase p e)
+moved-sound e p other s = record { opened = s.opened; owned = record { frames = s.owned.frames; functions = s.owned.functions }; asks = s.asks; gone = λ g. absurd (other g) }
+
+abbrev moved_core : Core → Phase → List Entry → Core
+moved_core core p history = record core { env = in_phase p core.env; position = length history + 1 }
+
+moves : (core new : Core) (history later : List Entry) (event : HostStep) (o : Out) (p : Phase) → later ≡ history ++ host_entry event o ∷ [] → new ≡ moved_core core p history
+    → (p ≡ phase.Gone → ⊥) → stage_places (stage_of core.env.phase) ≡ stage_places (stage_of p) + 1
+    → ((s : Setting) (all : Registers) → IsRecorded s core history all → IsRecorded s (moved_core core p history) (history ++ host_entry event o ∷ []) all)
+    → MovesOn (record { core = core; history = history }) (record { core = new; history = later })
+moves core new history later event o p written made other places grown =
+    let P : Core → Type 0 = λ c. MovesOn (record { core = core; history = history }) (record { core = c; history = later }) in
+    let Q : List Entry → Type 0 = λ h. MovesOn (record { core = core; history = history }) (record { core = moved_core core p history; history = h }) in
+    subst P (sym made) (subst Q (sym written) (record {
+      left = places;
+      event = host_entry event o;
+      last = refl;
+      addons = refl;
+      limit = refl;
+      journal = refl;
+      sound = moved-sound core.env p other;
+      recorded = λ plans all s of r. grown s all r;
+    }))
+
+pub go-moves : (core new : Core) (history later : List Entry) → core.env.phase ≡ phase.Init → turn_at core.env.frames (choice core.env) ≡ turn.NeedsHub
+    → later ≡ history ++ host_entry host.Go out.Nothing ∷ [] → new ≡ moved_core core phase.Live history
+    → MovesOn (record { core = core; history = history }) (record { core = new; history = later })
+go-moves core new history later here needs written made =
+    let ready : ReadyToGo core.env = ready-to-go core.env here needs in
+    moves core new history later host.Go out.Nothing phase.Live written made (λ g. cc) (ap (λ p. stage_places (stage_of p)) here)
+    (λ s all r. go-grown s core history all r (needs-alone core.env.frames (choice core.env) needs) here ready.opened ready.begun)
+
+pub loop_end-moves : (core new : Core) (history later : List Entry) → core.env.phase ≡ phase.Live → turn_at core.env.frames (choice core.env) ≡ turn.NeedsHub
+    → later ≡ history ++ host_entry host.LoopEnd (out.Ended loop_end.Idle) ∷ [] → new ≡ moved_core core phase.Hooks history
+    → MovesOn (record { core = core; history = history }) (record { core = new; history = later })
+loop_end-moves core new history later here needs written made =
+    moves core new history later host.LoopEnd (out.Ended loop_end.Idle) phase.Hooks written made (λ g. cc) (ap (λ p. stage_places (stage_of p)) here)
+    (λ s all r. loop_end-grown s core history all r (needs-alone core.env.frames (choice core.env) needs) here)
+
+pub drain-moves : (core new : Core) (history later : List Entry) → core.env.phase ≡ phase.Hooks → turn_at core.env.frames (choice core.env) ≡ turn.NeedsHub
+    → later ≡ history ++ host_entry host.Drain (out.Unsigned 0) ∷ [] → new ≡ moved_core core phase.Drain history
+    → MovesOn (record { core = core; history = history }) (record { core = new; history = later })
+drain-moves core new history later here needs written made =
+    moves core new history later host.Drain (out.Unsigned 0) phase.Drain written made (λ g. cc) (ap (λ p. stage_places (stage_of p)) here)
+    (λ s all r. drain-grown s core history all r (needs-alone core.env.frames (choice core.env) needs) here)
+
+pub finals-moves : (core new : Core) (history later : List Entry) → core.env.phase ≡ phase.Drain → turn_at core.env.frames (choice core.env) ≡ turn.NeedsHub
+    → later ≡ history ++ host_entry host.Finals out.Nothing ∷ [] → new ≡ moved_core core phase.Finals history
+    → MovesOn (record { core = core; history = history }) (record { core = new; history = later })
+finals-moves core new history later here needs written made =
+    moves core new history later host.Finals out.Nothing phase.Finals written made (λ g. cc) (ap (λ p. stage_places (stage_of p)) here)
+    (λ s all r. finals-grown s core history all r (needs-alone core.env.frames (choice core.env) needs) here)
+
+-- TURNS IN A ROW
+of-later : (s : Setting) (ps qs : List Plan) (a b : Core) → b.env.addons ≡ a.env.addons → qs ≡ ps → IsOf s ps a → IsOf s qs b
+of-later s ps qs a b addons same of =
+    let Q : List Plan → Type 0 = λ x. IsOf s x b in
+    subst Q (sym same) (record { count = of.count ∙ sym addons; first = of.first })
+
+pub goes-then : (ps qs : List Plan) (a b c : Run) (x y z : Registers) → GoesOn ps a x b y → b.core.env.addons ≡ a.core.env.addons → qs ≡ ps → GoesOn qs b y c z → GoesOn ps a x c z
+goes-then ps qs a b c x y z ab addons same bc = λ s of r. bc s (of-later s ps qs a.core b.core addons same of) (ab s of r)
+
+-- fewer turns are left
+fewer : (limit n m k : ℕ) → n < limit → m ≡ n + 1 → (limit - m) + k < (limit - n) + k
+fewer limit n m k below e = omega (arith, below, e)
+
+pub fewer-after : (old new : Run) → OneMore old.core.journal new.core.journal → length old.core.journal < old.core.limit → new.core.limit ≡ old.core.limit
+    → stage_of new.core.env.phase ≡ stage_of old.core.env.phase → turns_left new < turns_left old
+fewer-after old new one room limit stage =
+    let longer : length new.core.journal ≡ length old.core.journal + 1 = ap length one.last ∙ length-append old.core.journal (one.entry ∷ []) in
+    let less : (old.core.limit - length new.core.journal) + stage_places (stage_of old.core.env.phase) < turns_left old =
+    fewer old.core.limit (length old.core.journal) (length new.core.journal) (stage_places (stage_of old.core.env.phase)) room longer in
+    let L : ℕ → Type 0 = λ n. (n - length new.core.journal) + stage_places (stage_of old.core.env.phase) < turns_left old in
+    let S : ℕ → Type 0 = λ n. (new.core.limit - length new.core.journal) + n < turns_left old in
+    subst S (ap stage_places (sym stage)) (subst L (sym limit) less)
+
+pub fewer-events : (old new : Run) → MovesOn old new → turns_left new < turns_left old
+fewer-events old new m =
+    let same : new.core.limit - length new.core.journal ≡ old.core.limit - length old.core.journal =
+    ap (λ n. n - length new.core.journal) m.limit ∙ ap (λ (j : List Local). old.core.limit - length j) m.journal in
+    omega (arith, m.left, same)
+
+-- after a turn that changed nothing too
+pub fewer-turn : (old mid new : Run) → mid ≡ old → MovesOn mid new → turns_left new < turns_left old
+fewer-turn old mid new same m = let P : Run → Type 0 = λ x. turns_left new < turns_left x in subst P same (fewer-events mid new m)
+
+-- the addons that are no addons of the script keep their registers through a further turn
+pub others-then : (first mid now : Registers) (n k : ℕ) → k ≡ n → drop n mid ≡ drop n first → drop k now ≡ drop k mid → drop n now ≡ drop n first
+others-then first mid now n k same so_far next = let P : ℕ → Type 0 = λ j. drop j now ≡ drop j mid in subst P same next ∙ so_far
+
+-- what was recorded stays through a turn, and through an event of the hub
+pub extends-none : (r : Run) → Extends r r
+extends-none r = record { locals = []; shareds = []; journal = sym (append-nil r.core.journal); history = sym (append-nil r.history) }
+
+pub extends-turn : (old mid new : Run) → Extends old mid → OneMore mid.core.journal new.core.journal → new.history ≡ mid.history → Extends old new
+extends-turn old mid new e one same = record {
+  locals = e.locals ++ one.entry ∷ [];
+  shareds = e.shareds;
+  journal = one.last ∙ ap (λ l. l ++ one.entry ∷ []) e.journal ∙ append_assoc old.core.journal e.locals (one.entry ∷ []);
+  history = same ∙ e.history;
+}
+
+pub extends-event : (old mid new : Run) → Extends old mid → MovesOn mid new → Extends old new
+extends-event old mid new e m = record {
+  locals = e.locals;
+  shareds = e.shareds ++ m.event ∷ [];
+  journal = m.journal ∙ e.journal;
+  history = m.last ∙ ap (λ l. l ++ m.event ∷ []) e.history ∙ append_assoc old.history e.shareds (m.event ∷ []);
+}
+
+pub extends-same : (old mid new : Run) → Extends old mid → new ≡ mid → Extends old new
+extends-same old mid new e same = let P : Run → Type 0 = λ r. Extends old r in subst P (sym same) e

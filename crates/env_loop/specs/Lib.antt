@@ -1,0 +1,3 @@
+pub mod Recording
+pub mod Runs
+pub mod Turns

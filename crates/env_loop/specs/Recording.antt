@@ -1,0 +1,76 @@
+-- A run as it is recorded: the environment's core, the history, and the registers of the addons.
+use Rattle.std.specs.Prelude.{◌≡◌, ℕ, ◌<◌, List, length, Some, None}
+use Rattle.napi_types.specs.declared.call.Ask.{Ask}
+use Rattle.napi_types.specs.declared.entry.Entry.{Entry}
+use Rattle.napi_types.specs.declared.entry.Local.{Local}
+use Rattle.napi_types.specs.declared.entry.Limits.{Limits}
+use Rattle.napi_types.specs.declared.entry.Why.{Why}
+use Rattle.napi_types.specs.declared.entry.Why.TheVariants as why
+use Rattle.napi_types.specs.declared.status.Status.{Status}
+use Rattle.napi_types.specs.declared.status.Status.TheVariants as status
+use Rattle.napi_types.specs.Phases.{stage_of}
+use Rattle.napi_types.specs.Machine.{Machine}
+use Rattle.napi_types.specs.Plan.{Plan, plan_of, Registers, registers_of}
+use Rattle.napi_types.specs.Weave.{weave, RisesBetween, IsParted}
+use Rattle.napi_types.specs.Whole.{Setting, RunsBy, EndsBy, final_of, final_registers}
+use Rattle.env_core.specs.Core.{Core}
+
+-- the machine that a core and a history are
+abbrev pub machine_of : Limits → Core → List Entry → Machine
+machine_of limits core history = record {
+  env = core.env;
+  hub = record { stage = stage_of core.env.phase };
+  locals = length core.journal;
+  shareds = length history;
+  limits = limits;
+}
+
+-- the registers of an addon are those of the run, where it tells its plan
+abbrev pub AgreesWhereTold : Plan → List ℕ → List ℕ → Type 0
+AgreesWhereTold None mine own = Unit {0}
+AgreesWhereTold (Some plan) mine own = mine ≡ own
+
+-- the registers of each addon that tells its plan are those of the run
+abbrev pub AgreesWith : List Plan → Registers → Registers → Type 0
+AgreesWith plans all own = (addon : ℕ) → addon < length plans → AgreesWhereTold (plan_of plans addon) (registers_of all addon) (registers_of own addon)
+
+-- the weave of the journal and the history is a run of the script, it came to this machine, and the registers of its addons are the run's;
+-- `all` are the registers of every addon that was handed in, and the script's addons are the first ones
+pub record IsRecorded (s : Setting) (core : Core) (history : List Entry) (all : Registers) : Type 0 where
+  pub asks : List Ask
+  pub own : Registers
+  pub run : RunsBy s asks (weave core.journal history)
+  pub final : final_of s asks (weave core.journal history) ≡ machine_of s.limits core history
+  pub registers : final_registers s asks (weave core.journal history) ≡ own
+  pub count : length own ≡ length s.plans
+  pub agrees : AgreesWith s.plans all own
+  pub limit : core.limit ≡ s.limits.journal
+  pub position : core.position ≡ length history
+  pub rises : RisesBetween 0 (length history) core.journal
+  pub parted : IsParted core.journal history
+
+-- a run that came to its end, as it is left: the weave of the two lists is a run of the script to `gone`, the journal stands in the order of
+-- its places, each list has its own entries, and the registers of the script's addons are the run's
+pub record IsEnded (s : Setting) (journal : List Local) (history : List Entry) (all : Registers) : Type 0 where
+  pub asks : List Ask
+  pub ended : EndsBy s asks (weave journal history)
+  pub locals : (final_of s asks (weave journal history)).locals ≡ length journal
+  pub shareds : (final_of s asks (weave journal history)).shareds ≡ length history
+  pub rises : RisesBetween 0 (length history) journal
+  pub parted : IsParted journal history
+  pub agrees : AgreesWith s.plans all (final_registers s asks (weave journal history))
+
+-- why a frame is cut whose call stopped with this status
+abbrev pub why_stopped : Status → Why
+why_stopped status.TraceFull = why.Full
+why_stopped _ = why.Memory
+
+-- the script's addons are the first of those that tell these plans, as many as the core has
+pub record IsOf (s : Setting) (plans : List Plan) (core : Core) : Type 0 where
+  pub count : length s.plans ≡ core.env.addons
+  pub first : (addon : ℕ) → addon < length s.plans → plan_of s.plans addon ≡ plan_of plans addon
+
+-- whatever script of these addons it is a run of, the recorded run goes on from one core and these registers to another
+abbrev pub Continues : List Plan → Core → Registers → Core → Registers → Type 0
+Continues plans old all new now =
+    (s : Setting) (history : List Entry) → IsOf s plans old → IsRecorded s old history all → IsRecorded s new history now

@@ -1,0 +1,59 @@
+-- What a turn of the environment comes to.
+use Rattle.std.specs.Prelude.{◌≡◌, ℕ, ◌+◌, ◌-◌, Bool, true, false, cond, List, [], ◌∷◌, length, drop, Option, Some, None, IfSome}
+use Rattle.napi_types.specs.declared.call.Ask.{Ask}
+use Rattle.napi_types.specs.declared.entry.Reply.{Reply}
+use Rattle.napi_types.specs.Frames.{Frame}
+use Rattle.napi_types.specs.Loop.{Event, Opens, Inits, IsGone}
+use Rattle.napi_types.specs.Phases.{stage_of}
+use Rattle.napi_types.specs.Plan.{Plan, plan_of, Registers, registers_of}
+use Rattle.napi_types.specs.Registers.{plan_ask, kept}
+use Rattle.napi_types.specs.Room.{stage_places}
+use Rattle.addon_trait.specs.Addons.{OthersStay}
+use Rattle.env_core.specs.Core.{Core}
+use Rattle.env_loop.specs.declared.turn.LocalTurn.{LocalTurn}
+use Rattle.env_loop.specs.declared.turn.LocalTurn.TheVariants as turn
+use Rattle.env_loop.specs.Recording.{Continues}
+use Rattle.env_loop.specs.Runs.{Run, IsSound, OneMore}
+
+-- the events with no frame that stand in the journal; the others are the hub's
+abbrev pub is_local_event : Event → Bool
+is_local_event Opens = true
+is_local_event (Inits n) = true
+is_local_event IsGone = true
+is_local_event _ = false
+
+-- a turn makes an entry where a frame stands, and else where the next event is a local one; where it is one of the hub, the hub has to make its turn; where nothing is next
+-- the environment is gone
+abbrev pub turn_at : List Frame → Option Event → LocalTurn
+turn_at (f ∷ fs) next = turn.Made
+turn_at [] (Some event) = cond (is_local_event event) turn.Made turn.NeedsHub
+turn_at [] None = turn.Gone
+
+-- how many turns are left at most: one for each place that the journal has left, and one for each event of the hub to come
+abbrev pub turns_left : Run → ℕ
+turns_left run = (run.core.limit - length run.core.journal) + stage_places (stage_of run.core.env.phase)
+
+-- TURNS OF A FRAME
+-- what a frame asks by the plans, where its addon tells one, from these registers
+abbrev pub IsAsked : List Plan → Registers → Frame → Ask → Type 0
+IsAsked plans all f a = IfSome (plan_of plans f.addon) (λ p. a ≡ plan_ask p (registers_of all f.addon) f.entry f.asks)
+
+-- the registers once the addon of the innermost of these frames was told the reply to the ask that the frame made last
+abbrev pub IsTold : List Plan → Registers → List Frame → Reply → Registers → Type 0
+IsTold plans all [] r now = now ≡ all
+IsTold plans all (f ∷ fs) r now =
+    OthersStay all now f.addon × IfSome (plan_of plans f.addon) (λ p. registers_of now f.addon ≡ kept p (registers_of all f.addon) f.entry f.asks r)
+
+-- a turn keeps the addons and the journal's limit and makes no event of the hub; it leaves one entry
+pub record KeepsRun (old new : Core) : Type 0 where
+  pub addons : new.env.addons ≡ old.env.addons
+  pub stage : stage_of new.env.phase ≡ stage_of old.env.phase
+  pub limit : new.limit ≡ old.limit
+  pub one : OneMore old.journal new.journal
+
+-- a turn: the addons that are no addons of the script keep their registers, and a run that was recorded goes on
+pub record IsTurn (plans : List Plan) (old : Core) (all : Registers) (new : Core) (now : Registers) : Type 0 where
+  pub others : drop old.env.addons now ≡ drop old.env.addons all
+  pub sound : IsSound new.env
+  pub kept : KeepsRun old new
+  pub recorded : Continues plans old all new now

@@ -1,0 +1,190 @@
+//! A running environment, and a run without other actors.
+ghost use Rattle.std.specs.Prelude.{◌≡◌, ◌≢◌, ◌+◌, ◌<◌, ◌≤◌, ◌↔◌, [], ◌∷◌, ◌++◌, length, map, drop, IfOk, Some};
+ghost use Rattle.napi_types.specs.Changes.{host_entry, in_phase};
+ghost use Rattle.napi_types.specs.Phases.{next_phase, stage_of};
+ghost use Rattle.napi_types.specs.Room.{stage_places};
+ghost use Rattle.napi_types.specs.Teardown.{choice};
+ghost use Rattle.env_loop.specs.Runs.{IsOpened, opened_run, OneMore, Extends, GoesOn, MovesOn};
+ghost use Rattle.env_loop.specs.Turns.{turn_at};
+
+use crate::history::History;
+use crate::turn::{LocalTurn, turn};
+use addon_trait::Addon;
+use env_core::EnvCore;
+use napi_types::{
+    Actor, Entry, HostStep, LoopEnd, NoMemory, Out, Phase, Record, Reply, Status, What,
+};
+use std::alloc::Global;
+use std::marker::Model;
+
+/// An environment that runs, with the hub's entries. It has to be spent, by `retire` or `into_record`.
+///
+/// No other actor is there, so the hub has its four events alone.
+pub struct EnvRun {
+    core: EnvCore,
+    history: History,
+}
+
+impl Model for EnvRun {
+    ghost use Rattle.env_loop.specs.Runs.{Run, IsRunning};
+
+    ghost Value = { Run };
+
+    ghost view = { λ run. record { core = run.core; history = run.history } };
+
+    ghost invariant = { λ run. IsRunning run.core run.history };
+}
+
+impl EnvRun {
+    /// Runs an environment of which no event was made but its opening. The memory for the hub's entries is taken here.
+    pub fn new(alloc: Global, core: EnvCore) -> Result<EnvRun, NoMemory>
+        requires { IsOpened core }
+        ensures { IfOk result (λ run. run ≡ opened_run core) }
+    {
+        let history = History::new(alloc)?;
+        Ok(EnvRun { core, history })
+    }
+
+    /// Makes one turn: the next ask of the innermost frame, or the next event where no frame stands. `Made` is one entry
+    /// more in the journal. `NeedsHub` is answered where the next event is one of the hub, and again until the hub has made it;
+    /// `Gone` once the environment is gone. After those two all is as it was.
+    ///
+    /// The first addons are those of the script, at least as many as the environment has. The time is that of the call, or of
+    /// closing the scopes of the frame that ends.
+    pub fn local_turn(&mut self, addons: &mut Vec<Box<dyn Addon>>) -> LocalTurn
+        requires { self.old.core.env.addons ≤ length addons.old.items }
+        ensures count { length addons.new.items ≡ length addons.old.items }
+        ensures plans { map (λ b. plan b) addons.new.items ≡ map (λ b. plan b) addons.old.items }
+
+        // What the turn comes to is told by the frames and the next event.
+        ensures turn { result ≡ turn_at self.old.core.env.frames (choice self.old.core.env) }
+        ensures gone { (result ≡ LocalTurn.Gone) ↔ (self.old.core.env.phase ≡ Phase.Gone) }
+
+        // A turn that was made left exactly one entry in the journal, which had room for it, and none in the history.
+        ensures made { result ≡ LocalTurn.Made → OneMore self.old.core.journal self.new.core.journal }
+        ensures room { result ≡ LocalTurn.Made → length self.old.core.journal < self.old.core.limit }
+        ensures history { self.new.history ≡ self.old.history }
+
+        // Another turn changed nothing.
+        ensures stays { result ≢ LocalTurn.Made → self.new ≡ self.old }
+        ensures same { result ≢ LocalTurn.Made → map (λ b. regs b) addons.new.items ≡ map (λ b. regs b) addons.old.items }
+
+        // A run that was recorded goes on, and the addons that are no addons of the script keep their registers.
+        ensures recorded { let before = map (λ b. regs b) addons.old.items in
+            let after = map (λ b. regs b) addons.new.items in
+            GoesOn (map (λ b. plan b) addons.old.items) self.old before self.new after }
+        ensures others { let n = self.old.core.env.addons in
+            drop n (map (λ b. regs b) addons.new.items) ≡ drop n (map (λ b. regs b) addons.old.items) }
+        ensures addons { self.new.core.env.addons ≡ self.old.core.env.addons }
+        ensures limit { self.new.core.limit ≡ self.old.core.limit }
+        ensures stage { stage_of self.new.core.env.phase ≡ stage_of self.old.core.env.phase }
+    {
+        turn(&mut self.core, addons)
+    }
+
+    /// Makes the hub's next event, where one is next.
+    fn hub_turn(&mut self)
+        requires { turn_at self.old.core.env.frames (choice self.old.core.env) ≡ LocalTurn.NeedsHub }
+        ensures { MovesOn self.old self.new }
+    {
+        hub_event(&mut self.core, &mut self.history);
+    }
+
+    /// Ends the run without an event, where no frame stands. It takes no memory.
+    pub fn retire(self)
+        requires { self.core.env.frames ≡ [] }
+    {
+        let EnvRun {
+            core: _,
+            history: _,
+        } = self;
+    }
+
+    /// Hands out the journal and the history of a run that came to its end. It takes no memory.
+    pub fn into_record(self) -> Record
+        requires { self.core.env.phase ≡ Phase.Gone }
+        ensures journal { result.journal ≡ self.core.journal }
+        ensures history { result.history ≡ self.history }
+    {
+        let EnvRun { core, history } = self;
+        Record {
+            journal: core.into_journal(),
+            history: history.into_entries(),
+        }
+    }
+}
+
+/// An event of the hub, at which the next phase of the environment starts.
+fn move_on(core: &mut EnvCore, history: &mut History, event: HostStep, out: Out, phase: Phase)
+    requires alone { core.old.env.frames ≡ [] }
+    requires next { next_phase core.old.env.phase ≡ Some phase }
+    requires before { phase ≢ Phase.Gone }
+    requires room { length history.old < 4 }
+    ensures history { history.new ≡ history.old ++ host_entry event out ∷ [] }
+    ensures core { core.new ≡ record core.old { env = in_phase phase core.old.env; position = length history.old + 1 } }
+{
+    history.push(Entry {
+        actor: Actor::Env,
+        depth: 0,
+        step: 0,
+        what: What::Host(event),
+        reply: Reply {
+            status: Status::Ok,
+            out,
+            dropped: None,
+            made: None,
+        },
+        given: None,
+    });
+    core.advance(phase, history.len());
+}
+
+/// The hub's next event: `go`, then `loop_end`, since nothing is left to do, then `drain` and `finals`, which find nothing.
+fn hub_event(core: &mut EnvCore, history: &mut History)
+    requires needs { turn_at core.old.env.frames (choice core.old.env) ≡ LocalTurn.NeedsHub }
+    requires events { length history.old + stage_places (stage_of core.old.env.phase) ≡ 4 }
+    ensures { MovesOn (record { core = core.old; history = history.old }) (record { core = core.new; history = history.new }) }
+{
+    match core.phase() {
+        Phase::Init => move_on(core, history, HostStep::Go, Out::Nothing, Phase::Live),
+        Phase::Live => {
+            let idle = Out::Ended(LoopEnd::Idle);
+            move_on(core, history, HostStep::LoopEnd, idle, Phase::Hooks);
+        }
+        Phase::Hooks => move_on(
+            core,
+            history,
+            HostStep::Drain,
+            Out::Unsigned(0),
+            Phase::Drain,
+        ),
+        Phase::Drain => move_on(core, history, HostStep::Finals, Out::Nothing, Phase::Finals),
+        Phase::Finals | Phase::Gone => unreachable!(),
+    }
+}
+
+/// Runs an environment to its end, `gone`, with no other actor: one turn after another, and the hub's events where they are next.
+///
+/// The first addons are those of the script, at least as many as the environment has. It returns, since each turn fills a place of the
+/// journal or makes one of the hub's events.
+pub fn run_alone(env: &mut EnvRun, addons: &mut Vec<Box<dyn Addon>>)
+    requires { env.old.core.env.addons ≤ length addons.old.items }
+    ensures count { length addons.new.items ≡ length addons.old.items }
+    ensures plans { map (λ b. plan b) addons.new.items ≡ map (λ b. plan b) addons.old.items }
+    ensures gone { env.new.core.env.phase ≡ Phase.Gone }
+    ensures addons { env.new.core.env.addons ≡ env.old.core.env.addons }
+    ensures extends { Extends env.old env.new }
+    ensures recorded { let before = map (λ b. regs b) addons.old.items in
+        let after = map (λ b. regs b) addons.new.items in
+        GoesOn (map (λ b. plan b) addons.old.items) env.old before env.new after }
+    ensures others { let n = env.old.core.env.addons in
+        drop n (map (λ b. regs b) addons.new.items) ≡ drop n (map (λ b. regs b) addons.old.items) }
+{
+    loop {
+        match env.local_turn(addons) {
+            LocalTurn::Made => {}
+            LocalTurn::NeedsHub => env.hub_turn(),
+            LocalTurn::Gone => return,
+        }
+    }
+}

@@ -1,0 +1,139 @@
+//! A function is made and called, turn by turn.
+ghost use Rattle.std.specs.Prelude.{None};
+
+use crate::{EnvRun, LocalTurn, run_alone};
+use addon_trait::Addon;
+use env_core::EnvCore;
+use napi_types::{AddonPlan, Args, Ask, Call, HandleId, Limits, Out, Record, Reply};
+use std::alloc::Global;
+use std::test::Fail;
+
+/// An addon that heeds no plan. Its entry 0 makes a function of entry 1, calls it and asks for the kind of what the call gave;
+/// entry 1 leaves with an object. It keeps the last handle that it was told.
+#[derive(Drop)]
+struct Caller {
+    registers: [u64; 32],
+    last: HandleId,
+}
+
+impl Addon for Caller {
+    ghost plan = { λ _. None };
+
+    ghost regs = { λ addon. addon.registers };
+
+    fn load(&mut self, _given: AddonPlan) {
+        self.registers = [0; 32];
+    }
+
+    fn enter(&mut self, _entry: u32, gifts: &[u64; 8]) {
+        self.registers[24..].copy_from_slice(gifts);
+    }
+
+    fn ask(&mut self, entry: u32, step: u32) -> Ask {
+        match (entry, step) {
+            (0, 0) => Ask::Do(Call::CreateFunction(1, 7)),
+            (0, 1) => {
+                let none = Args {
+                    count: 0,
+                    handles: [HandleId(0); 4],
+                };
+                Ask::Do(Call::CallFunction(None, self.last, none))
+            }
+            (0, 2) => Ask::Do(Call::Typeof(self.last)),
+            (1, 0) => Ask::Do(Call::CreateObject),
+            (1, 1) => Ask::Leave(Some(self.last)),
+            _ => Ask::Leave(None),
+        }
+    }
+
+    fn note(&mut self, _entry: u32, _step: u32, reply: &Reply) {
+        if let Out::Handle(handle) = reply.out {
+            self.last = handle;
+        }
+    }
+}
+
+/// A turn by its first letter.
+fn letter(turn: LocalTurn) -> char {
+    match turn {
+        LocalTurn::Made => 'm',
+        LocalTurn::NeedsHub => 'n',
+        LocalTurn::Gone => 'g',
+    }
+}
+
+/// The number that a result tells: a handle's or a kind's, else 0.
+fn number(out: Out) -> u64 {
+    match out {
+        Out::Handle(handle) => handle.0,
+        Out::Kind(kind) => kind.number() as u64,
+        _ => 0,
+    }
+}
+
+/// What eight turns come to, and one more at the end; and what the run leaves.
+fn turns(alloc: Global) -> Result<([char; 8], char, Record), Fail> {
+    let caller = Caller {
+        registers: [0; 32],
+        last: HandleId(0),
+    };
+    let mut addons: Vec<Box<dyn Addon>> = Vec::new(alloc);
+    addons.push(Box::new(alloc, caller)?)?;
+    let limits = Limits {
+        journal: 100,
+        history: 100,
+    };
+    let Ok(core) = EnvCore::new(alloc, 9, 1, 0, limits) else {
+        return Err(Fail::new("the environment found no memory"));
+    };
+    let Ok(mut env) = EnvRun::new(alloc, core) else {
+        return Err(Fail::new("the history found no memory"));
+    };
+    let first = [
+        letter(env.local_turn(&mut addons)),
+        letter(env.local_turn(&mut addons)),
+        letter(env.local_turn(&mut addons)),
+        letter(env.local_turn(&mut addons)),
+        letter(env.local_turn(&mut addons)),
+        letter(env.local_turn(&mut addons)),
+        letter(env.local_turn(&mut addons)),
+        letter(env.local_turn(&mut addons)),
+    ];
+    run_alone(&mut env, &mut addons);
+    let last = letter(env.local_turn(&mut addons));
+    Ok((first, last, env.into_record()))
+}
+
+#[test]
+fn a_function_runs_in_a_frame_inside_its_callers(rt: HostRuntime) -> Result<(), Fail> {
+    let alloc = rt.alloc();
+    let (first, last, record) = turns(alloc)?;
+    // The two begins, three calls, and the two ends; then `go` is next.
+    assert_eq!(rt; first, ['m', 'm', 'm', 'm', 'm', 'm', 'm', 'n']);
+    assert_eq!(rt; last, 'g');
+    let mut told = Vec::new(alloc);
+    for local in record.journal.items() {
+        let entry = local.entry;
+        told.push((
+            entry.depth,
+            entry.reply.status.number(),
+            number(entry.reply.out),
+        ))?;
+    }
+    // Handle 1 is the function's, 2 the missing receiver's, and 3 the object's in the callee's frame. The end of that frame gives the
+    // caller handle 4, which is of an object (6).
+    let expected = [
+        (0, 0, 0),
+        (0, 0, 0),
+        (1, 0, 1),
+        (0, 0, 0),
+        (2, 0, 3),
+        (0, 0, 4),
+        (1, 0, 6),
+        (0, 0, 0),
+        (0, 0, 0),
+    ];
+    assert_eq!(rt; told.as_slice(), expected.as_slice());
+    assert_eq!(rt; record.history.items().len(), 4);
+    Ok(())
+}

@@ -1,0 +1,174 @@
+//! One turn of the environment: an ask of the innermost frame, or the next event where no frame stands.
+ghost use Rattle.std.specs.Prelude.{◌≡◌, ◌≢◌, ◌<◌, ◌≤◌, [], length, map, List, Some};
+ghost use Rattle.napi_types.specs.Built.{taken};
+ghost use Rattle.napi_types.specs.Changes.{asks_made, most_asks};
+ghost use Rattle.napi_types.specs.Lists.{head, tail};
+ghost use Rattle.napi_types.specs.Plan.{Plan, Registers};
+ghost use Rattle.napi_types.specs.Teardown.{choice};
+ghost use Rattle.env_core.specs.Standing.{frame_seen};
+ghost use Rattle.env_loop.specs.Recording.{why_stopped};
+ghost use Rattle.env_loop.specs.Runs.{IsSound};
+ghost use Rattle.napi_types.specs.Ends.{frame_ended};
+ghost use Rattle.napi_types.specs.Frames.{at_last_ask};
+ghost use Rattle.env_core.specs.Core.{wrote};
+ghost use Rattle.env_loop.specs.Turns.{turn_at, IsTold, IsTurn};
+
+use addon_trait::{Addon, ask_at, enter_at, note_at};
+use env_core::{EnvCore, StandingFrame, Stepped};
+use napi_types::{Ask, Call, HandleId, Phase, Status, Why};
+
+/// How many asks a frame may make.
+const MOST_ASKS: u32 = 65536;
+
+/// What a turn of the environment comes to.
+#[derive(Clone, Copy)]
+pub enum LocalTurn {
+    /// It made one entry of the journal.
+    Made,
+    /// The next event is one of the hub.
+    NeedsHub,
+    /// The environment is gone.
+    Gone,
+}
+
+/// Why a frame is cut whose call stopped with this status.
+fn why(status: Status) -> Why
+    ensures { result ≡ why_stopped status }
+{
+    match status {
+        Status::TraceFull => Why::Full,
+        _ => Why::Memory,
+    }
+}
+
+/// What a frame is taken to ask: a call that is not built is never made, and the addon that asks it is taken to leave.
+fn taken(ask: Ask) -> Ask
+    ensures { result ≡ taken ask }
+{
+    match ask {
+        Ask::Do(call) if !call.is_built() => Ask::Leave(None),
+        _ => ask,
+    }
+}
+
+/// Ends the innermost frame. Where a call began it, the addon of its caller is told the reply.
+fn end_frame(
+    core: &mut EnvCore,
+    addons: &mut Vec<Box<dyn Addon>>,
+    value: Option<HandleId>,
+    cut: Option<Why>,
+)
+    requires sound { IsSound core.old.env }
+    requires enough { core.old.env.addons ≤ length addons.old.items }
+    requires standing { core.old.env.frames ≢ [] }
+    requires asks { cut ≡ Some Why.Asks → asks_made core.old.env.frames ≡ most_asks }
+    ensures count { length addons.new.items ≡ length addons.old.items }
+    ensures plans { map (λ b. plan b) addons.new.items ≡ map (λ b. plan b) addons.old.items }
+    ensures ended { core.new ≡ wrote (frame_ended value cut core.old.env) core.old }
+    ensures told { let before = map (λ b. regs b) addons.old.items in
+        let after = map (λ b. regs b) addons.new.items in
+        let caller = at_last_ask (tail core.old.env.frames) in
+        IsTold (map (λ b. plan b) addons.old.items) before caller (frame_ended value cut core.old.env).entry.reply after }
+{
+    let reply = core.leave(value, cut);
+    let Some(caller) = core.frame() else {
+        return;
+    };
+    // The call is the last ask that the caller made.
+    let step = caller.asks.saturating_sub(1);
+    note_at(addons, caller.addon as usize, caller.entry, step, &reply);
+}
+
+/// What the innermost frame asks: its call, or its end. A call that stops cuts the frame.
+fn ask_turn(core: &mut EnvCore, addons: &mut Vec<Box<dyn Addon>>, frame: StandingFrame)
+    requires sound { IsSound core.old.env }
+    requires enough { core.old.env.addons ≤ length addons.old.items }
+    requires stands { head core.old.env.frames ≡ Some (frame_seen frame) }
+    requires within { frame.asks < most_asks }
+    ensures count { length addons.new.items ≡ length addons.old.items }
+    ensures plans { map (λ b. plan b) addons.new.items ≡ map (λ b. plan b) addons.old.items }
+    ensures turn { let before = map (λ b. regs b) addons.old.items in
+        let after = map (λ b. regs b) addons.new.items in
+        IsTurn (map (λ b. plan b) addons.old.items) core.old before core.new after }
+{
+    let addon = frame.addon as usize;
+    let ask = ask_at(addons, addon, frame.entry, frame.asks);
+    match taken(ask) {
+        Ask::Leave(value) => end_frame(core, addons, value, None),
+        Ask::Do(call) => match core.step(frame.asks, &call) {
+            Stepped::Reply(reply) => note_at(addons, addon, frame.entry, frame.asks, &reply),
+            Stepped::Enter(target, gifts) => {
+                enter_at(addons, target.addon as usize, target.entry, &gifts);
+            }
+            Stepped::Stop(status) => end_frame(core, addons, None, Some(why(status))),
+            Stepped::Shared(_) => unreachable!(),
+        },
+    }
+}
+
+/// A turn of the innermost frame: what it asks, or its end where it has made all its asks.
+fn frame_turn(core: &mut EnvCore, addons: &mut Vec<Box<dyn Addon>>, frame: StandingFrame)
+    requires sound { IsSound core.old.env }
+    requires enough { core.old.env.addons ≤ length addons.old.items }
+    requires stands { head core.old.env.frames ≡ Some (frame_seen frame) }
+    ensures count { length addons.new.items ≡ length addons.old.items }
+    ensures plans { map (λ b. plan b) addons.new.items ≡ map (λ b. plan b) addons.old.items }
+    ensures turn { let before = map (λ b. regs b) addons.old.items in
+        let after = map (λ b. regs b) addons.new.items in
+        IsTurn (map (λ b. plan b) addons.old.items) core.old before core.new after }
+{
+    if frame.asks >= MOST_ASKS {
+        end_frame(core, addons, None, Some(Why::Asks));
+        return;
+    }
+    ask_turn(core, addons, frame);
+}
+
+/// A turn where no frame stands: the next event, if it is one of the environment alone.
+fn event_turn(core: &mut EnvCore) -> LocalTurn
+    requires sound { IsSound core.old.env }
+    requires alone { core.old.env.frames ≡ [] }
+    ensures turn { result ≡ turn_at core.old.env.frames (choice core.old.env) }
+    ensures made { result ≡ LocalTurn.Made → (plans : List Plan) (all : Registers) → IsTurn plans core.old all core.new all }
+    ensures stays { result ≢ LocalTurn.Made → core.new ≡ core.old }
+{
+    match core.phase() {
+        Phase::Init => match core.next_init() {
+            Some(addon) => {
+                core.begin_init(addon);
+                LocalTurn::Made
+            }
+            None => LocalTurn::NeedsHub,
+        },
+        Phase::Live | Phase::Hooks | Phase::Drain => LocalTurn::NeedsHub,
+        Phase::Finals => {
+            // `Gone` is no event of the hub, so no position is noted.
+            core.advance(Phase::Gone, 0);
+            LocalTurn::Made
+        }
+        Phase::Gone => LocalTurn::Gone,
+    }
+}
+
+/// One turn, over the core of a run. See `EnvRun::local_turn`.
+pub(crate) fn turn(core: &mut EnvCore, addons: &mut Vec<Box<dyn Addon>>) -> LocalTurn
+    requires sound { IsSound core.old.env }
+    requires enough { core.old.env.addons ≤ length addons.old.items }
+    ensures count { length addons.new.items ≡ length addons.old.items }
+    ensures plans { map (λ b. plan b) addons.new.items ≡ map (λ b. plan b) addons.old.items }
+    ensures turn { result ≡ turn_at core.old.env.frames (choice core.old.env) }
+    ensures made { let before = map (λ b. regs b) addons.old.items in
+        let after = map (λ b. regs b) addons.new.items in
+        result ≡ LocalTurn.Made → IsTurn (map (λ b. plan b) addons.old.items) core.old before core.new after }
+    ensures room { result ≡ LocalTurn.Made → length core.old.journal < core.old.limit }
+    ensures stays { result ≢ LocalTurn.Made → core.new ≡ core.old }
+    ensures same { result ≢ LocalTurn.Made → map (λ b. regs b) addons.new.items ≡ map (λ b. regs b) addons.old.items }
+{
+    match core.frame() {
+        Some(frame) => {
+            frame_turn(core, addons, frame);
+            LocalTurn::Made
+        }
+        None => event_turn(core),
+    }
+}

@@ -1,0 +1,21 @@
+-- What a call comes to, of an addon.
+use Rattle.std.proofs.Common.{◌≡◌, ◌∙◌, ℕ, Option, None, ap}
+use Rattle.std.specs.Option.{unwrap_or}
+use Rattle.std.specs.declared.result.Result.{Result}
+use Rattle.std.specs.declared.result.Result.TheVariants.{Ok, Err}
+use Rattle.napi_types.specs.declared.call.Call.{Call}
+use Rattle.napi_types.specs.declared.entry.Out.{Out}
+use Rattle.napi_types.specs.Calls.{accepted}
+use Rattle.napi_types.specs.FunctionCalls.{on_functions}
+use Rattle.napi_types.specs.Heap.{Heap}
+use Rattle.napi_types.specs.Replies.{Answer}
+use Rattle.env_values.specs.declared.stop.Stop.{Stop}
+use Rattle.env_values.specs.declared.stop.Stop.TheVariants as stop
+use Rattle.env_values.specs.Steps.{Comes, ComesOf}
+
+-- a call that creates no function comes to the same, whichever addon calls
+pub comes-of-any : (texts addon : ℕ) (before : Heap) (c : Call) (r : Result Out Stop) (after : Heap) → on_functions addon before c ≡ None → Comes texts before c r after
+    → ComesOf texts addon before c r after
+comes-of-any texts addon before c (Ok o) after none (unrefused, is) = (unrefused, ap (λ (a : Option (Answer Heap)). unwrap_or a (accepted before c 0)) none ∙ is)
+comes-of-any texts addon before c (Err (stop.Refused s)) after none comes = comes
+comes-of-any texts addon before c (Err stop.NoMemory) after none comes = comes

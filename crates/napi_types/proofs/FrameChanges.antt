@@ -1,0 +1,123 @@
+-- What the begin and the end of frames keep.
+use Rattle.std.proofs.Common.{◌≡◌, ◌≤◌, ℕ, suc, ◌+◌, false, List, [], ◌∷◌, length, refl, ap, Option, Some, None, arith, is_none}
+use Rattle.napi_types.specs.declared.call.Args.{Args}
+use Rattle.napi_types.specs.declared.call.Call.{Call}
+use Rattle.napi_types.specs.declared.call.Call.TheVariants as call
+use Rattle.napi_types.specs.declared.entry.Cause.{Cause}
+use Rattle.napi_types.specs.declared.entry.Cause.TheVariants as cause
+use Rattle.napi_types.specs.declared.entry.Why.{Why}
+use Rattle.napi_types.specs.declared.ids.HandleId.{HandleId}
+use Rattle.napi_types.specs.declared.status.Status.{Status}
+use Rattle.napi_types.specs.Changes.{called}
+use Rattle.napi_types.specs.Ends.{ended_by, call_left, frame_ended}
+use Rattle.napi_types.specs.Entering.{is_entering, entered, calling, asked_for}
+use Rattle.napi_types.specs.Environment.{Environment}
+use Rattle.napi_types.specs.Frames.{cause_of, ask_counted}
+use Rattle.napi_types.specs.FunctionCalls.{callee_of}
+use Rattle.napi_types.specs.Lists.{tail, first_changed}
+use Rattle.napi_types.specs.Refusals.{refusal}
+use Rattle.napi_types.specs.Room.{need}
+use Rattle.napi_types.proofs.Answers.{KeepsButAsk, called-keeps}
+
+-- THE END OF A FRAME
+-- what the end of a frame keeps: all but its frame and its scopes, the pending exception and the last status; it issues one handle at most
+pub record KeepsButFrame (old new : Environment) : Type 0 where
+  pub addons : new.addons ≡ old.addons
+  pub opened : new.opened ≡ old.opened
+  pub inits : new.inits ≡ old.inits
+  pub phase : new.phase ≡ old.phase
+  pub frames : new.frames ≡ tail old.frames
+  pub values : new.heap.values ≡ old.heap.values
+  pub made : new.heap.made ≡ old.heap.made
+  pub handles : new.heap.handles ≤ old.heap.handles + 1
+  pub scope_numbers : new.heap.scope_numbers ≡ old.heap.scope_numbers
+
+left-keeps : (v : Option HandleId) (e : Environment) (pending : Option ℕ) → KeepsButFrame e (call_left v e pending).after
+left-keeps v e (Some p) = record { addons = refl; opened = refl; inits = refl; phase = refl; frames = refl; values = refl; made = refl; handles = omega arith; scope_numbers = refl }
+left-keeps v e None = record { addons = refl; opened = refl; inits = refl; phase = refl; frames = refl; values = refl; made = refl; handles = omega arith; scope_numbers = refl }
+
+by-cause : (v : Option HandleId) (cut : Option Why) (e : Environment) (c : Cause) → KeepsButFrame e (ended_by v cut e c).after
+by-cause v (Some w) e cause.Call = record { addons = refl; opened = refl; inits = refl; phase = refl; frames = refl; values = refl; made = refl; handles = omega arith; scope_numbers = refl }
+by-cause v None e cause.Call = left-keeps v e e.pending
+by-cause v cut e _ = record { addons = refl; opened = refl; inits = refl; phase = refl; frames = refl; values = refl; made = refl; handles = omega arith; scope_numbers = refl }
+
+pub ended-keeps : (v : Option HandleId) (cut : Option Why) (e : Environment) → KeepsButFrame e (frame_ended v cut e).after
+ended-keeps v cut e = by-cause v cut e (cause_of e.frames)
+
+-- THE BEGIN OF A CALL'S FRAME
+-- what an accepted call of a function keeps: all but its frame and its scope; it makes no value, and issues one handle at most
+pub record KeepsAndEnters (old new : Environment) (f : HandleId) : Type 0 where
+  pub addons : new.addons ≡ old.addons
+  pub opened : new.opened ≡ old.opened
+  pub inits : new.inits ≡ old.inits
+  pub phase : new.phase ≡ old.phase
+  pub frames : new.frames ≡ callee_of old.heap f ∷ ask_counted old.frames
+  pub values : new.heap.values ≡ old.heap.values
+  pub made : new.heap.made ≡ old.heap.made
+  pub handles : new.heap.handles ≤ old.heap.handles + 1
+  pub scope_numbers : new.heap.scope_numbers ≡ old.heap.scope_numbers
+
+pub entered-keeps : (receiver : Option HandleId) (f : HandleId) (args : Args) (e : Environment) → KeepsAndEnters e (entered receiver f args e).after f
+entered-keeps None f args e = record { addons = refl; opened = refl; inits = refl; phase = refl; frames = refl; values = refl; made = refl; handles = omega arith; scope_numbers = refl }
+entered-keeps (Some h) f args e = record { addons = refl; opened = refl; inits = refl; phase = refl; frames = refl; values = refl; made = refl; handles = omega arith; scope_numbers = refl }
+
+-- WHAT A CALL COMES TO
+-- a call that enters no frame answers at once
+at-once : (receiver : Option HandleId) (f : HandleId) (args : Args) (n : ℕ) (e : Environment) (s : Option Status) → is_none s ≡ false
+    → calling receiver f args n e s ≡ called e (call.CallFunction receiver f args) n
+at-once receiver f args n e (Some s) h = refl
+at-once receiver f args n e None h = cc
+
+pub asked_for-called : (e : Environment) (c : Call) (n : ℕ) → is_entering e c ≡ false → asked_for e c n ≡ called e c n
+asked_for-called e (call.CallFunction receiver f args) n h = at-once receiver f args n e (refusal e (call.CallFunction receiver f args)) h
+asked_for-called e c n h = refl
+
+-- an accepted call of a function enters its frame
+pub asked_for-entered : (e : Environment) (receiver : Option HandleId) (f : HandleId) (args : Args) (n : ℕ) → refusal e (call.CallFunction receiver f args) ≡ None
+    → asked_for e (call.CallFunction receiver f args) n ≡ entered receiver f args e
+asked_for-entered e receiver f args n h = ap (λ s. calling receiver f args n e s) h
+
+-- what a call keeps, and how many frames stand after it: it owes no more ends than it has places for
+pub record KeepsButFrames (old new : Environment) (places : ℕ) : Type 0 where
+  pub addons : new.addons ≡ old.addons
+  pub opened : new.opened ≡ old.opened
+  pub inits : new.inits ≡ old.inits
+  pub phase : new.phase ≡ old.phase
+  pub depth : length new.frames + 1 ≤ length old.frames + places
+
+length-changed : {A : Type 0} (f : A → A) (xs : List A) → length (first_changed f xs) ≡ length xs
+length-changed f [] = refl
+length-changed f (x ∷ xs) = refl
+
+counted : (a b c : ℕ) → a ≡ b → 1 ≤ c → a + 1 ≤ b + c
+counted a b c e h = omega (arith, e, h)
+
+called-fits : (e : Environment) (c : Call) (n : ℕ) → 1 ≤ need c → KeepsButFrames e (called e c n).after (need c)
+called-fits e c n one =
+    let k : KeepsButAsk e (called e c n).after = called-keeps e c n in
+    record { addons = k.addons; opened = k.opened; inits = k.inits; phase = k.phase; depth = counted (length (called e c n).after.frames) (length e.frames) (need c) k.depth one }
+
+calling-fits : (receiver : Option HandleId) (f : HandleId) (args : Args) (n : ℕ) (e : Environment) (s : Option Status)
+    → KeepsButFrames e (calling receiver f args n e s).after 2
+calling-fits receiver f args n e (Some s) = called-fits e (call.CallFunction receiver f args) n (omega arith)
+calling-fits receiver f args n e None =
+    let k : KeepsAndEnters e (entered receiver f args e).after f = entered-keeps receiver f args e in
+    record {
+      addons = k.addons;
+      opened = k.opened;
+      inits = k.inits;
+      phase = k.phase;
+      depth = two (length (entered receiver f args e).after.frames) (length e.frames) (length (ask_counted e.frames)) (ap length k.frames) (length-changed _ e.frames);
+    }
+  where
+    two : (a b c : ℕ) → a ≡ suc c → c ≡ b → a + 1 ≤ b + 2
+    two a b c h k = omega (arith, h, k)
+
+-- each call needs a place for its entry
+pub needs-place : (c : Call) → 1 ≤ need c
+needs-place (call.CallFunction receiver f args) = omega arith
+needs-place c = omega arith
+
+pub asked_for-fits : (e : Environment) (c : Call) (n : ℕ) → KeepsButFrames e (asked_for e c n).after (need c)
+asked_for-fits e (call.CallFunction receiver f args) n = calling-fits receiver f args n e (refusal e (call.CallFunction receiver f args))
+asked_for-fits e c n = called-fits e c n (needs-place c)

@@ -1,0 +1,255 @@
+-- Each frame runs an addon of the script, and each function belongs to one: every event keeps it.
+use Rattle.std.proofs.Common.{◌≡◌, ◌≢◌, ◌<◌, ◌≤◌, arith, ℕ, ◌+◌, ◌==◌, Bool, true, false, cond, List, [], ◌∷◌, ◌++◌, refl, sym, ◌∙◌, subst, Option, Some, None, option_map, not, IsTrue}
+use Rattle.std.specs.List.{All, list_all}
+use Rattle.std.specs.Option.{option_or}
+use Rattle.std.proofs.lemmas.List.Elements.{All-append, All-cons, All-nil, All-head, All-tail, All-push}
+use Rattle.napi_types.specs.declared.body.Body.{Body}
+use Rattle.napi_types.specs.declared.body.Body.TheVariants as body
+use Rattle.napi_types.specs.declared.call.Args.{Args}
+use Rattle.napi_types.specs.declared.call.Call.{Call}
+use Rattle.napi_types.specs.declared.call.Call.TheVariants as call
+use Rattle.napi_types.specs.declared.entry.Why.{Why}
+use Rattle.napi_types.specs.declared.ids.HandleId.{HandleId}
+use Rattle.napi_types.specs.declared.ids.TextNo.{TextNo}
+use Rattle.napi_types.specs.declared.status.Status.{Status}
+use Rattle.napi_types.specs.declared.status.Status.TheVariants as status
+use Rattle.napi_types.specs.Calls.{accepted_of, accepted_by, answer_given, answer_at}
+use Rattle.napi_types.specs.Changes.{called, init_begun, asks_made, most_asks}
+use Rattle.napi_types.specs.Ends.{frame_ended}
+use Rattle.napi_types.specs.Entering.{entered, calling, asked_for}
+use Rattle.napi_types.specs.Environment.{Environment}
+use Rattle.napi_types.specs.declared.entry.Cause.TheVariants as cause
+use Rattle.napi_types.specs.Frames.{Frame, frame_of, caller_of, ask_counted}
+use Rattle.napi_types.specs.FunctionCalls.{callee_of}
+use Rattle.napi_types.specs.Heap.{Heap, handle_body, handle_properties, with_thrown}
+use Rattle.napi_types.specs.Lists.{tail, unless}
+use Rattle.napi_types.specs.Owners.{BelongsTo, IsOwned, AsksWithin}
+use Rattle.napi_types.specs.PropertyCalls.{names_of}
+use Rattle.napi_types.specs.Refusals.{moment_refusal, unknown_refusal, kind_refusal, row_refusal, refusal_in, early_refusal, depth_refusal, refusal}
+use Rattle.napi_types.specs.Values.{Value, Property, fresh_value, starting_values, value_changed, made_after, list_of, thrown_strings, thrown_of, is_function, function_addon, body_of, text_of}
+use Rattle.napi_types.proofs.Answers.{answer-keeps}
+use Rattle.napi_types.proofs.Runs.{and-left, and-right}
+use Rattle.napi_types.proofs.FrameChanges.{KeepsButFrame, ended-keeps, KeepsAndEnters, entered-keeps}
+
+-- VALUES
+abbrev Ours : ℕ → Value → Type 0
+Ours n v = BelongsTo n v.body
+
+abbrev Below : ℕ → Frame → Type 0
+Below n f = f.addon < n
+
+abbrev NoFunction : Body → Type 0
+NoFunction b = is_function b ≡ false
+
+abbrev AreOwned : ℕ → List Value → Type 0
+AreOwned n vs = All (Ours n) vs
+
+-- what is no function belongs to nobody
+no-function : (n : ℕ) (b : Body) → is_function b ≡ false → BelongsTo n b
+no-function n b h = λ k. let z : true ≡ false = sym k ∙ h in cc
+
+one-more : (n m : ℕ) (b : Body) (vs : List Value) → AreOwned n vs → BelongsTo n b → AreOwned n (vs ++ fresh_value m b ∷ [])
+one-more n m b vs all here = All-push (Ours n) vs (fresh_value m b) all here
+
+made-owned : (n m : ℕ) (bs : List Body) → All NoFunction bs → AreOwned n (made_after m bs)
+made-owned n m [] none = All-nil (Ours n)
+made-owned n m (b ∷ bs) none =
+    All-cons (Ours n) (fresh_value (m + 1) b) (made_after (m + 1) bs) (no-function n b (All-head NoFunction b bs none)) (made-owned n (m + 1) bs (All-tail NoFunction b bs none))
+
+names-none : (ps : List Property) → All NoFunction (names_of ps)
+names-none [] = All-nil NoFunction
+names-none (p ∷ ps) = All-cons NoFunction (body.Str (record { 0 = p.name })) (names_of ps) refl (names-none ps)
+
+list-owned : (n m : ℕ) (bs : List Body) → All NoFunction bs → AreOwned n (list_of m bs)
+list-owned n m bs none = All-push (Ours n) (made_after m bs) _ (made-owned n m bs none) (no-function n (body.Object true false) refl)
+
+strings-none : (code : Option TextNo) (message : TextNo) → All NoFunction (thrown_strings code message)
+strings-none None message = All-cons NoFunction (body.Str message) [] refl (All-nil NoFunction)
+strings-none (Some code) message = All-cons NoFunction (body.Str message) (body.Str code ∷ []) refl (All-cons NoFunction (body.Str code) [] refl (All-nil NoFunction))
+
+thrown-owned : (n : ℕ) (heap : Heap) (code : Option TextNo) (message : TextNo) → AreOwned n heap.values → AreOwned n (with_thrown code message heap).values
+thrown-owned n heap code message all =
+    All-append (Ours n) heap.values (thrown_of heap.made code message) all
+    (All-push (Ours n) (made_after heap.made (thrown_strings code message)) _ (made-owned n heap.made (thrown_strings code message) (strings-none code message))
+    (no-function n (body.Object false true) refl))
+
+changed-owned : (n k : ℕ) (change : Value → Value) (vs : List Value) → ((v : Value) → (change v).body ≡ v.body) → AreOwned n vs → AreOwned n (value_changed k change vs)
+changed-owned n k change [] same all = All-nil (Ours n)
+changed-owned n k change (v ∷ vs) same all =
+    All-cons (Ours n) (cond (v.number == k) (change v) v) (value_changed k change vs) (here (v.number == k)) (changed-owned n k change vs same (All-tail (Ours n) v vs all))
+  where
+    here : (b : Bool) → BelongsTo n (cond b (change v) v).body
+    here true = subst (λ (x : Body). BelongsTo n x) (sym (same v)) (All-head (Ours n) v vs all)
+    here false = All-head (Ours n) v vs all
+
+-- what a value's number names belongs to one of them too
+pub body-owned : (n k : ℕ) (vs : List Value) → AreOwned n vs → BelongsTo n (body_of vs k)
+body-owned n k [] all = λ h. cc
+body-owned n k (v ∷ vs) all = here (v.number == k) refl (body-owned n k vs (All-tail (Ours n) v vs all))
+  where
+    here : (b : Bool) → (v.number == k) ≡ b → BelongsTo n (body_of vs k) → BelongsTo n (body_of (v ∷ vs) k)
+    here true h later = rw h (All-head (Ours n) v vs all)
+    here false h later = rw h later
+
+-- CALLS
+heap-owned : (n addon : ℕ) (heap : Heap) (c : Call) (k : ℕ) → addon < n → AreOwned n heap.values → AreOwned n (accepted_of addon heap c k).after.values
+heap-owned n addon heap (call.CreateFunction entry payload) k there all = one-more n _ _ heap.values all (λ h. there)
+heap-owned n addon heap (call.CreateInt64 i) k there all = one-more n _ _ heap.values all (no-function n (body.Number i) refl)
+heap-owned n addon heap (call.CreateBigintInt64 i) k there all = one-more n _ _ heap.values all (no-function n (body.Bigint i) refl)
+heap-owned n addon heap (call.CreateStringUtf8 t) k there all = one-more n _ _ heap.values all (no-function n (body.Str t) refl)
+heap-owned n addon heap (call.CreateSymbol d) k there all = one-more n _ _ heap.values all (no-function n (body.Symbol (option_map (λ h. text_of (handle_body heap h.0)) d)) refl)
+heap-owned n addon heap call.CreateObject k there all = one-more n _ _ heap.values all (no-function n (body.Object false false) refl)
+heap-owned n addon heap call.CreateArray k there all = one-more n _ _ heap.values all (no-function n (body.Object true false) refl)
+heap-owned n addon heap (call.CreateError code message) k there all = All-push (Ours n) heap.values _ all (no-function n (body.Object false true) refl)
+heap-owned n addon heap (call.SetNamedProperty o name v) k there all = changed-owned n _ _ heap.values (λ x. refl) all
+heap-owned n addon heap (call.DeleteProperty o name) k there all = changed-owned n _ _ heap.values (λ x. refl) all
+heap-owned n addon heap (call.SetElement o at v) k there all = changed-owned n _ _ heap.values (λ x. refl) all
+heap-owned n addon heap (call.GetPropertyNames o) k there all = All-append (Ours n) heap.values _ all (list-owned n heap.made (names_of (handle_properties heap o.0)) (names-none (handle_properties heap o.0)))
+heap-owned n addon heap c k there all = all
+
+by-owned : (n : ℕ) (e : Environment) (c : Call) (k : ℕ) → caller_of e.frames < n → AreOwned n e.heap.values → AreOwned n (accepted_by e c k).after.heap.values
+by-owned n e (call.Throw v) k there all = all
+by-owned n e (call.ThrowError code message) k there all = thrown-owned n e.heap code message all
+by-owned n e call.IsExceptionPending k there all = all
+by-owned n e call.GetLastErrorInfo k there all = all
+by-owned n e call.GetAndClearLastException k there all = all
+by-owned n e c k there all = heap-owned n (caller_of e.frames) e.heap c k there all
+
+given-owned : (n : ℕ) (e : Environment) (c : Call) (k : ℕ) (s : Option Status) → caller_of e.frames < n → AreOwned n e.heap.values → AreOwned n (answer_given e c k s).after.heap.values
+given-owned n e c k (Some s) there all = all
+given-owned n e c k None there all = by-owned n e c k there all
+
+at-owned : (n : ℕ) (e : Environment) (c : Call) (k : ℕ) (early deep : Option Status) → caller_of e.frames < n → AreOwned n e.heap.values
+    → AreOwned n (answer_at e c k early deep).after.heap.values
+at-owned n e c k early None there all = given-owned n e c k early there all
+at-owned n e c k (Some r) (Some s) there all = all
+at-owned n e c k None (Some s) there all = thrown-owned n e.heap None _ all
+
+-- FRAMES
+counted-owned : (n : ℕ) (fs : List Frame) → All (Below n) fs → All (Below n) (ask_counted fs)
+counted-owned n [] all = All-nil (Below n)
+counted-owned n (f ∷ fs) all = All-cons (Below n) (record f { asks = f.asks + 1 }) fs (All-head (Below n) f fs all) (All-tail (Below n) f fs all)
+
+tail-owned : (n : ℕ) (fs : List Frame) → All (Below n) fs → All (Below n) (tail fs)
+tail-owned n [] all = All-nil (Below n)
+tail-owned n (f ∷ fs) all = All-tail (Below n) f fs all
+
+pub caller-owned : (n : ℕ) (fs : List Frame) → fs ≢ [] → All (Below n) fs → caller_of fs < n
+caller-owned n [] stands all = absurd (stands refl)
+caller-owned n (f ∷ fs) stands all = All-head (Below n) f fs all
+
+called-owned : (n : ℕ) (e : Environment) (c : Call) (k : ℕ) → e.frames ≢ [] → IsOwned n e → IsOwned n (called e c k).after
+called-owned n e c k stands o =
+    let P : List Frame → Type 0 = λ fs. All (Below n) (ask_counted fs) in
+    record {
+      frames = subst P (sym (answer-keeps e c k).frames) (counted-owned n e.frames o.frames);
+      functions = at-owned n e c k (early_refusal e c) (depth_refusal e.frames c) (caller-owned n e.frames stands o.frames) o.functions;
+    }
+
+none-first : (a b : Option Status) → option_or a b ≡ None → a ≡ None
+none-first None b h = refl
+none-first (Some s) b h = h
+
+none-last : (a b : Option Status) → option_or a b ≡ None → b ≡ None
+none-last None b h = h
+none-last (Some s) b h = cc
+
+not-unless : (b : Bool) (s : Status) → unless b s ≡ None → b ≡ true
+not-unless true s h = refl
+not-unless false s h = cc
+
+-- only a function is called
+pub function-called : (e : Environment) (receiver : Option HandleId) (f : HandleId) (args : Args) → refusal e (call.CallFunction receiver f args) ≡ None
+    → is_function (handle_body e.heap f.0) ≡ true
+function-called e receiver f args h =
+    let c : Call = call.CallFunction receiver f args in
+    let early : early_refusal e c ≡ None = none-first (early_refusal e c) (depth_refusal e.frames c) h in
+    let within : refusal_in e.texts e.heap c ≡ None = none-last (moment_refusal e c) (refusal_in e.texts e.heap c) early in
+    let later : option_or (kind_refusal e.heap c) (row_refusal e.heap c) ≡ None = none-last (unknown_refusal e.texts e.heap c) _ within in
+    not-unless (is_function (handle_body e.heap f.0)) status.InvalidArg (none-last (kind_refusal e.heap c) (row_refusal e.heap c) later)
+
+-- an accepted call of a function enters a frame of an addon that is there
+pub callee-owned : (n : ℕ) (e : Environment) (receiver : Option HandleId) (f : HandleId) (args : Args) → refusal e (call.CallFunction receiver f args) ≡ None → IsOwned n e
+    → function_addon (handle_body e.heap f.0) < n
+callee-owned n e receiver f args h o = body-owned n _ e.heap.values o.functions (function-called e receiver f args h)
+
+entered-owned : (n : ℕ) (e : Environment) (receiver : Option HandleId) (f : HandleId) (args : Args) → refusal e (call.CallFunction receiver f args) ≡ None → IsOwned n e
+    → IsOwned n (entered receiver f args e).after
+entered-owned n e receiver f args h o =
+    let k : KeepsAndEnters e (entered receiver f args e).after f = entered-keeps receiver f args e in
+    let P : List Frame → Type 0 = λ fs. All (Below n) fs in
+    let Q : List Value → Type 0 = λ vs. AreOwned n vs in
+    record {
+      frames = subst P (sym k.frames) (All-cons (Below n) (callee_of e.heap f) (ask_counted e.frames) (callee-owned n e receiver f args h o) (counted-owned n e.frames o.frames));
+      functions = subst Q (sym k.values) o.functions;
+    }
+
+calling-owned : (n : ℕ) (e : Environment) (receiver : Option HandleId) (f : HandleId) (args : Args) (k : ℕ) (s : Option Status)
+    → refusal e (call.CallFunction receiver f args) ≡ s → e.frames ≢ [] → IsOwned n e → IsOwned n (calling receiver f args k e s).after
+calling-owned n e receiver f args k None h stands o = entered-owned n e receiver f args h o
+calling-owned n e receiver f args k (Some s) h stands o = called-owned n e (call.CallFunction receiver f args) k stands o
+
+-- EVERY EVENT
+pub owned-asked : (n : ℕ) (e : Environment) (c : Call) (k : ℕ) → e.frames ≢ [] → IsOwned n e → IsOwned n (asked_for e c k).after
+owned-asked n e (call.CallFunction receiver f args) k stands o = calling-owned n e receiver f args k (refusal e (call.CallFunction receiver f args)) refl stands o
+owned-asked n e c k stands o = called-owned n e c k stands o
+
+pub owned-ended : (n : ℕ) (e : Environment) (v : Option HandleId) (cut : Option Why) → IsOwned n e → IsOwned n (frame_ended v cut e).after
+owned-ended n e v cut o =
+    let k : KeepsButFrame e (frame_ended v cut e).after = ended-keeps v cut e in
+    let P : List Frame → Type 0 = λ fs. All (Below n) fs in
+    let Q : List Value → Type 0 = λ vs. AreOwned n vs in
+    record { frames = subst P (sym k.frames) (tail-owned n e.frames o.frames); functions = subst Q (sym k.values) o.functions }
+
+pub owned-init : (n : ℕ) (e : Environment) (addon : ℕ) → addon < n → IsOwned n e → IsOwned n (init_begun addon e).after
+owned-init n e addon there o = record { frames = All-cons (Below n) (frame_of cause.Init addon 0) e.frames there o.frames; functions = o.functions }
+
+-- the starting values are no functions
+none-owned : (n : ℕ) (vs : List Value) → IsTrue (list_all (λ v. not (is_function v.body)) vs) → AreOwned n vs
+none-owned n [] none = All-nil (Ours n)
+none-owned n (v ∷ vs) none =
+    All-cons (Ours n) v vs (no-function n v.body (not-true (is_function v.body) (and-left _ (list_all (λ x. not (is_function x.body)) vs) none)))
+    (none-owned n vs (and-right (not (is_function v.body)) _ none))
+  where
+    not-true : (b : Bool) → IsTrue (not b) → b ≡ false
+    not-true true h = cc
+    not-true false h = refl
+
+pub owned-opening : (n : ℕ) → AreOwned n starting_values
+owned-opening n = none-owned n starting_values refl
+
+-- ASKS
+abbrev Spare : Frame → Type 0
+Spare f = f.asks ≤ most_asks
+
+counted-within : (fs : List Frame) → asks_made fs < most_asks → All Spare fs → All Spare (ask_counted fs)
+counted-within [] below all = All-nil Spare
+counted-within (f ∷ fs) below all = All-cons Spare (record f { asks = f.asks + 1 }) fs (omega (arith, below)) (All-tail Spare f fs all)
+
+tail-within : (fs : List Frame) → All Spare fs → All Spare (tail fs)
+tail-within [] all = All-nil Spare
+tail-within (f ∷ fs) all = All-tail Spare f fs all
+
+called-within : (e : Environment) (c : Call) (k : ℕ) → asks_made e.frames < most_asks → AsksWithin e → AsksWithin (called e c k).after
+called-within e c k below all =
+    let P : List Frame → Type 0 = λ fs. All Spare (ask_counted fs) in
+    subst P (sym (answer-keeps e c k).frames) (counted-within e.frames below all)
+
+calling-within : (e : Environment) (receiver : Option HandleId) (f : HandleId) (args : Args) (k : ℕ) (s : Option Status) → asks_made e.frames < most_asks → AsksWithin e
+    → AsksWithin (calling receiver f args k e s).after
+calling-within e receiver f args k (Some s) below all = called-within e (call.CallFunction receiver f args) k below all
+calling-within e receiver f args k None below all =
+    let P : List Frame → Type 0 = λ fs. All Spare fs in
+    subst P (sym (entered-keeps receiver f args e).frames) (All-cons Spare (callee_of e.heap f) (ask_counted e.frames) (omega arith) (counted-within e.frames below all))
+
+pub within-asked : (e : Environment) (c : Call) (k : ℕ) → asks_made e.frames < most_asks → AsksWithin e → AsksWithin (asked_for e c k).after
+within-asked e (call.CallFunction receiver f args) k below all = calling-within e receiver f args k (refusal e (call.CallFunction receiver f args)) below all
+within-asked e c k below all = called-within e c k below all
+
+pub within-ended : (e : Environment) (v : Option HandleId) (cut : Option Why) → AsksWithin e → AsksWithin (frame_ended v cut e).after
+within-ended e v cut all =
+    let P : List Frame → Type 0 = λ fs. All Spare fs in
+    subst P (sym (ended-keeps v cut e).frames) (tail-within e.frames all)
+
+pub within-init : (e : Environment) (addon : ℕ) → AsksWithin e → AsksWithin (init_begun addon e).after
+within-init e addon all = All-cons Spare (frame_of cause.Init addon 0) e.frames (omega arith) all

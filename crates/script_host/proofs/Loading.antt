@@ -1,0 +1,131 @@
+-- The addons of a script are loaded, and the run comes to its end.
+use Rattle.std.proofs.Common.{◌≡◌, ◌≢◌, ◌<◌, ◌≤◌, ℕ, suc, ◌+◌, ◌++◌, List, [], ◌∷◌, length, set, drop, option_map, refl, ap, subst, sym, ◌∙◌, arith, below_more, append_assoc, length-append}
+use Rattle.std.proofs.lemmas.List.{get_or-set_same, get_or-set_other, drop-set-lt, get_or_append_left, length-set, nil_from_length, append-nil}
+use Rattle.napi_types.specs.declared.entry.Entry.{Entry}
+use Rattle.napi_types.specs.declared.entry.Local.{Local}
+use Rattle.napi_types.specs.declared.lists.AddonPlan.{AddonPlan}
+use Rattle.napi_types.specs.declared.entry.Phase.TheVariants as phase
+use Rattle.napi_types.specs.Registers.{blank_registers}
+use Rattle.napi_types.specs.Plan.{Plan, plan_of, Registers, registers_of}
+use Rattle.napi_types.specs.Room.{most_entries}
+use Rattle.napi_types.specs.Whole.{Setting}
+use Rattle.env_core.specs.Core.{Core, opened_core}
+use Rattle.addon_trait.specs.Addons.{loaded_at}
+use Rattle.env_loop.specs.Recording.{IsRecorded, IsEnded, IsOf}
+use Rattle.env_loop.specs.Runs.{Run, opened_run, GoesOn}
+use Rattle.env_loop.proofs.Recordings.{opened-recorded, gone-ended}
+use Rattle.script_host.specs.Loading.{told_plans, setting_with}
+
+-- LOADING
+-- as many plans are told as the script gives
+pub length-told : (given : List AddonPlan) (plans : List Plan) → length given ≤ length plans → length (told_plans given plans) ≡ length given
+length-told [] plans h = refl
+length-told (g ∷ given) [] h = absurd (omega arith)
+length-told (g ∷ given) (p ∷ plans) h = let shorter : length given ≤ length plans = omega arith in ap (λ n. suc n) (length-told given plans shorter)
+
+-- at most as many plans are told as the script gives
+pub length-told-le : (given : List AddonPlan) (plans : List Plan) → length (told_plans given plans) ≤ length given
+length-told-le [] plans = omega arith
+length-told-le (g ∷ given) [] = omega arith
+length-told-le (g ∷ given) (p ∷ plans) = omega (arith, length-told-le given plans)
+
+-- one addon more is loaded
+pub loaded-more : (given : List AddonPlan) (g : AddonPlan) (plans : List Plan) → length given < length plans
+    → loaded_at (told_plans given plans ++ drop (length given) plans) (length given) g.entries
+    ≡ told_plans (given ++ g ∷ []) plans ++ drop (length (given ++ g ∷ [])) plans
+loaded-more [] g [] h = absurd (omega arith)
+loaded-more [] g (p ∷ plans) h = refl
+loaded-more (x ∷ given) g [] h = absurd (omega arith)
+loaded-more (x ∷ given) g (p ∷ plans) h =
+    let shorter : length given < length plans = omega arith in
+    ap (λ l. option_map (λ _. x.entries) p ∷ l) (loaded-more given g plans shorter)
+
+-- one addon's registers more are cleared
+pub blank-more : (before after : Registers) (i : ℕ) → i < length before → after ≡ set before i blank_registers
+    → ((k : ℕ) → k < i → registers_of before k ≡ blank_registers) → (k : ℕ) → k < i + 1 → registers_of after k ≡ blank_registers
+blank-more before after i within e below =
+    below_more _ _
+    (λ k h. let ne : k ≢ i = omega arith in ap (λ l. registers_of l k) e ∙ get_or-set_other before i k blank_registers [] ne ∙ below k h)
+    (ap (λ l. registers_of l i) e ∙ get_or-set_same before i blank_registers [] within)
+
+-- the others stay as they are
+pub dropped-more : (first before after : Registers) (i n : ℕ) (x : List ℕ) → after ≡ set before i x → i < n
+    → drop n before ≡ drop n first → drop n after ≡ drop n first
+dropped-more first before after i n x e below others = ap (drop n) e ∙ drop-set-lt n before i x below ∙ others
+
+-- the addons of the plans that were taken from the list are loaded, and the others are as they were
+pub record Loaded (given done rest : List AddonPlan) (first plans : List Plan) (before registers : Registers) : Type 0 where
+  pub parted : done ++ rest ≡ given
+  pub enough : length given ≤ length first
+  pub room : length given ≤ length registers
+  pub told : plans ≡ told_plans done first ++ drop (length done) first
+  pub blank : (addon : ℕ) → addon < length done → registers_of registers addon ≡ blank_registers
+  pub others : drop (length given) registers ≡ drop (length given) before
+
+pub loaded-start : (given rest : List AddonPlan) (first : List Plan) (before : Registers) → rest ≡ given → length given ≤ length first → length given ≤ length before
+    → Loaded given [] rest first first before before
+loaded-start given rest first before all enough room =
+    record { parted = all; enough = enough; room = room; told = refl; blank = λ addon below. absurd (omega arith); others = refl }
+
+-- the number of the next addon is below the number of plans
+pub loaded-below : (given done rest later : List AddonPlan) (g : AddonPlan) → done ++ rest ≡ given → rest ≡ g ∷ later → length done < length given
+loaded-below given done rest later g parted next = let e = ap length (ap (λ l. done ++ l) (sym next) ∙ parted) in omega (arith, simp length-append at e)
+
+pub loaded-turn : (given done rest more later : List AddonPlan) (first plans loaded : List Plan) (before registers cleared : Registers) (g : AddonPlan) (i : ℕ)
+    → Loaded given done rest first plans before registers → rest ≡ g ∷ later → i ≡ length done → more ≡ done ++ g ∷ []
+    → loaded ≡ loaded_at plans i g.entries → cleared ≡ set registers i blank_registers
+    → Loaded given more later first loaded before cleared
+loaded-turn given done rest more later first plans loaded before registers cleared g i l next place grown plans_are registers_are =
+    let below : length done < length given = loaded-below given done rest later g l.parted next in
+    let within : i < length registers = omega (arith, below, l.room, place) in
+    let few : length done < length first = omega (arith, below, l.enough) in
+    let P : List AddonPlan → Type 0 = λ m. Loaded given m later first loaded before cleared in
+    let one_more : length (done ++ g ∷ []) ≡ i + 1 = length-append done (g ∷ []) ∙ ap (λ n. n + 1) (sym place) in
+    subst P (sym grown) (record {
+      parted = append_assoc done (g ∷ []) later ∙ ap (λ r. done ++ r) (sym next) ∙ l.parted;
+      enough = l.enough;
+      room = let e : length cleared ≡ length registers = ap length registers_are ∙ length-set registers i blank_registers in omega (arith, l.room, e);
+      told =
+          plans_are ∙ ap (λ ps. loaded_at ps i g.entries) l.told
+          ∙ ap (λ n. loaded_at (told_plans done first ++ drop (length done) first) n g.entries) place ∙ loaded-more done g first few;
+      blank = λ addon under.
+          blank-more registers cleared i within registers_are (λ k h. l.blank k (omega (arith, place))) addon (omega (arith, one_more));
+      others = dropped-more before registers cleared i (length given) blank_registers registers_are (omega (arith, below, place)) l.others;
+    })
+
+-- where no plan is left, all are loaded
+pub loaded-end : (given done rest : List AddonPlan) (first plans : List Plan) (before registers : Registers)
+    → Loaded given done rest first plans before registers → length rest ≡ 0 → Loaded given given [] first plans before registers
+loaded-end given done rest first plans before registers l none =
+    let empty : rest ≡ [] = nil_from_length rest none in
+    let all : done ≡ given = sym (append-nil done) ∙ ap (λ r. done ++ r) (sym empty) ∙ l.parted in
+    let P : List AddonPlan → Type 0 = λ m. Loaded given m [] first plans before registers in
+    let Q : List AddonPlan → Type 0 = λ r. Loaded given done r first plans before registers in
+    subst P all (subst Q empty l)
+
+-- THE WHOLE RUN
+-- the opening, and all that came after it
+pub whole-ended : (given : List AddonPlan) (handed loaded : List Plan) (texts count : ℕ) (core : Core) (start ran : Run) (journal : List Local) (left : List Entry) (all now : Registers)
+    → length given ≤ length handed → count ≡ length given
+    → core ≡ opened_core count texts most_entries → start ≡ opened_run core
+    → loaded ≡ told_plans given handed ++ drop (length given) handed
+    → ((addon : ℕ) → addon < length given → registers_of all addon ≡ blank_registers)
+    → GoesOn loaded start all ran now → ran.core.env.phase ≡ phase.Gone → journal ≡ ran.core.journal → left ≡ ran.history
+    → IsEnded (setting_with (told_plans given handed) texts) journal left now
+whole-ended given handed loaded texts count core start ran journal left all now enough counted opens starts plans blank goes gone_there lists history =
+    let told : List Plan = told_plans given handed in
+    let s : Setting = setting_with told texts in
+    let as_many : length told ≡ length given = length-told given handed enough in
+    let same : count ≡ length told = counted ∙ sym as_many in
+    let opened : core ≡ opened_core (length told) texts most_entries = opens ∙ ap (λ n. opened_core n texts most_entries) same in
+    let R : Run → Type 0 = λ r. GoesOn loaded r all ran now in
+    let from_core : GoesOn loaded (opened_run core) all ran now = subst R starts goes in
+    let C : Core → Type 0 = λ c. IsRecorded s c [] all in
+    let recorded : IsRecorded s core [] all = subst C (sym opened) (opened-recorded s all (λ addon below. blank addon (omega (arith, as_many, below)))) in
+    let of : IsOf s loaded core = record {
+      count = sym (ap (λ (c : Core). c.env.addons) opened);
+      first = λ addon below. sym (ap (λ l. plan_of l addon) plans ∙ get_or_append_left told (drop (length given) handed) _ addon below);
+    } in
+    let J : List Local → Type 0 = λ x. IsEnded s x left now in
+    let H : List Entry → Type 0 = λ x. IsEnded s ran.core.journal x now in
+    subst J (sym lists) (subst H (sym history) (gone-ended s ran.core ran.history now (from_core s of recorded) gone_there))

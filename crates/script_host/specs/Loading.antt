@@ -1,0 +1,15 @@
+-- The plans that the addons of a script are given.
+use Rattle.std.specs.Prelude.{ℕ, List, [], ◌∷◌, option_map}
+use Rattle.napi_types.specs.declared.lists.AddonPlan.{AddonPlan}
+use Rattle.napi_types.specs.Plan.{Plan}
+use Rattle.napi_types.specs.Room.{most_entries}
+use Rattle.napi_types.specs.Whole.{Setting}
+
+-- what the script's addons tell of their plans: the entries that the script gives them, or nothing where they told nothing before
+abbrev pub told_plans : List AddonPlan → List Plan → List Plan
+told_plans (given ∷ rest) (told ∷ others) = option_map (λ _. given.entries) told ∷ told_plans rest others
+told_plans _ _ = []
+
+-- a run of a script whose addons tell these plans, under the limits of every run
+abbrev pub setting_with : List Plan → ℕ → Setting
+setting_with plans texts = record { plans = plans; texts = texts; limits = record { journal = most_entries; history = most_entries } }

@@ -1,0 +1,68 @@
+//! A run of a script: its addons are given their plans, and the environment runs to its end.
+ghost use Rattle.std.specs.Prelude.{◌≡◌, ℕ, ◌<◌, ◌≤◌, ◌++◌, length, map, drop, IfOk, OnOk, OnErr};
+ghost use Rattle.napi_types.specs.Plan.{registers_of};
+ghost use Rattle.napi_types.specs.Registers.{blank_registers};
+ghost use Rattle.env_loop.specs.Recording.{IsEnded};
+ghost use Rattle.script_host.specs.Loading.{told_plans, setting_with};
+
+use addon_trait::{Addon, load_at};
+use env_core::EnvCore;
+use env_loop::{EnvRun, run_alone};
+use napi_types::{Limits, NoMemory, Plans, Record};
+use std::alloc::Global;
+
+/// The version of Node-API.
+const VERSION: u32 = 9;
+
+/// How many entries a journal and a history may have.
+const LIMITS: Limits = Limits {
+    journal: 4_194_304,
+    history: 4_194_304,
+};
+
+/// Gives each addon of the script its plan, and clears its registers: the first addons, in order. The others stay as they are.
+fn load_all(addons: &mut Vec<Box<dyn Addon>>, given: Plans)
+    requires enough { length given ≤ length addons.old.items }
+    ensures count { length addons.new.items ≡ length addons.old.items }
+    ensures plans { let before = map (λ b. plan b) addons.old.items in
+        map (λ b. plan b) addons.new.items ≡ told_plans given before ++ drop (length given) before }
+    ensures blank { let after = map (λ b. regs b) addons.new.items in
+        (addon : ℕ) → addon < length given → registers_of after addon ≡ blank_registers }
+    ensures others { drop (length given) (map (λ b. regs b) addons.new.items) ≡ drop (length given) (map (λ b. regs b) addons.old.items) }
+{
+    for (addon, plan) in given.into_items().into_iter().enumerate() {
+        load_at(addons, addon, plan);
+    }
+}
+
+/// Runs a script, whose addons are the first of those handed in: from the opening to `gone`.
+///
+/// `given` are the plans of its addons, eight at most, and `texts` says how many texts it has. Want of memory comes before
+/// an addon is touched.
+pub(crate) fn run(
+    alloc: Global,
+    given: Plans,
+    texts: u32,
+    addons: &mut Vec<Box<dyn Addon>>,
+) -> Result<Record, NoMemory>
+    requires few { length given ≤ 8 }
+    requires enough { length given ≤ length addons.old.items }
+    ensures ended { let told = told_plans given (map (λ b. plan b) addons.old.items) in
+        let after = map (λ b. regs b) addons.new.items in
+        IfOk result (λ left. IsEnded (setting_with told texts) left.journal left.history after) }
+    ensures plans { let before = map (λ b. plan b) addons.old.items in
+        OnOk result (map (λ b. plan b) addons.new.items ≡ told_plans given before ++ drop (length given) before) }
+    ensures others { let before = map (λ b. regs b) addons.old.items in
+        OnOk result (drop (length given) (map (λ b. regs b) addons.new.items) ≡ drop (length given) before) }
+    ensures err { OnErr result (addons.new.items ≡ addons.old.items) }
+{
+    let count = given.items().len() as u32;
+    let core = EnvCore::new(alloc, VERSION, count, texts, LIMITS)?;
+    let mut env = EnvRun::new(alloc, core)?;
+    load_all(addons, given);
+    run_alone(&mut env, addons);
+    Ok(env.into_record())
+}
+
+#[cfg(test)]
+mod tests;
