@@ -173,6 +173,7 @@ pub fn run_alone(env: &mut EnvRun, addons: &mut Vec<Box<dyn Addon>>)
     ensures plans { map (λ b. plan b) addons.new.items ≡ map (λ b. plan b) addons.old.items }
     ensures gone { env.new.core.env.phase ≡ Phase.Gone }
     ensures addons { env.new.core.env.addons ≡ env.old.core.env.addons }
+    ensures limit { env.new.core.limit ≡ env.old.core.limit }
     ensures extends { Extends env.old env.new }
     ensures recorded { let before = map (λ b. regs b) addons.old.items in
         let after = map (λ b. regs b) addons.new.items in

@@ -3,7 +3,7 @@ use Rattle.env_loop.proofs.Runs.{goes-then, fewer-after, fewer-turn, others-then
 use Rattle.env_loop.proofs.run.run_alone.Goals as goal
 
 pub loop-env-init : goal.loop-env-init
-loop-env-init g c = record { count = refl; plans = refl; addons = refl; others = refl; extends = extends-none c.args.env.now; goes = λ s of r. r }
+loop-env-init g c = record { count = refl; plans = refl; addons = refl; others = refl; limit = refl; extends = extends-none c.args.env.now; goes = λ s of r. r }
 
 pub local_turn-requires : goal.local_turn-requires
 local_turn-requires g c = omega (arith, c.requires, c.loop-env.invariant.count, c.loop-env.invariant.addons)
@@ -22,6 +22,7 @@ loop-env-preserved-in-Made g c =
       plans = k.plans ∙ i.plans;
       addons = k.addons ∙ i.addons;
       others = others-then _ _ _ _ _ i.addons i.others k.others;
+      limit = k.limit ∙ i.limit;
       extends = extends-turn c.args.env.now c.loop-env.env c.local_turn.new.self i.extends (k.made refl) k.history;
       goes = goes-then _ _ c.args.env.now c.loop-env.env c.local_turn.new.self _ _ _ i.goes i.addons i.plans k.recorded;
     }
@@ -40,6 +41,7 @@ loop-env-preserved g c =
       plans = k.plans ∙ i.plans;
       addons = m.addons ∙ k.addons ∙ i.addons;
       others = others-then _ _ _ _ _ i.addons i.others k.others;
+      limit = m.limit ∙ k.limit ∙ i.limit;
       extends =
           extends-event c.args.env.now c.local_turn.new.self c.hub_turn.new.self
           (extends-same c.args.env.now c.loop-env.env c.local_turn.new.self i.extends (k.stays (λ e. cc))) m;
@@ -64,6 +66,9 @@ returns-in-Gone-clause-others g c =
 
 pub returns-in-Gone-clause-addons : goal.returns-in-Gone-clause-addons
 returns-in-Gone-clause-addons g c = c.in-Gone.ensures.addons ∙ c.loop-env.invariant.addons
+
+pub returns-in-Gone-clause-limit : goal.returns-in-Gone-clause-limit
+returns-in-Gone-clause-limit g c = c.in-Gone.ensures.limit ∙ c.loop-env.invariant.limit
 
 pub returns-in-Gone-clause-extends : goal.returns-in-Gone-clause-extends
 returns-in-Gone-clause-extends g c =

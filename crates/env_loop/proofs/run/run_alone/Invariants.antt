@@ -16,6 +16,7 @@ invariant-loop-env g l =
       plans : plans ≡ first_plans;
       addons : l.env.core.env.addons ≡ l.fn.env.core.env.addons;
       others : drop l.fn.env.core.env.addons regs ≡ drop l.fn.env.core.env.addons first_regs;
+      limit : l.env.core.limit ≡ l.fn.env.core.limit;
       extends : Extends l.fn.env l.env;
       goes : GoesOn first_plans l.fn.env first_regs l.env regs;
     }
