@@ -57,6 +57,20 @@ is_exception_call call.GetAndClearLastException = true
 is_exception_call call.GetLastErrorInfo = true
 is_exception_call _ = false
 
+-- the calls on references
+abbrev pub is_reference_call : Call → Bool
+is_reference_call (call.CreateReference _ _) = true
+is_reference_call (call.DeleteReference _) = true
+is_reference_call (call.ReferenceRef _) = true
+is_reference_call (call.ReferenceUnref _) = true
+is_reference_call (call.GetReferenceValue _) = true
+is_reference_call _ = false
+
+-- the collection
+abbrev pub is_collecting : Call → Bool
+is_collecting call.Collect = true
+is_collecting _ = false
+
 -- the call of a function
 abbrev pub is_calling : Call → Bool
 is_calling (call.CallFunction _ _ _) = true
@@ -64,7 +78,7 @@ is_calling _ = false
 
 -- the calls that are built
 abbrev pub is_built : Call → Bool
-is_built c = is_scope_or_version c || is_exception_call c || is_calling c || is_value_call c
+is_built c = is_scope_or_version c || is_exception_call c || is_reference_call c || is_collecting c || is_calling c || is_value_call c
 
 -- what a frame is taken to ask: a call that is not built is never made, and the addon that asks it is taken to leave
 abbrev pub taken : Ask → Ask

@@ -1,25 +1,33 @@
 -- What a call of the environment answers and leaves.
-use Rattle.std.specs.Prelude.{ℕ, Option, Some, None, List, [], ◌∷◌, ◌++◌, map, option_map}
-use Rattle.std.specs.Option.{unwrap_or, option_or}
+use Rattle.std.specs.Prelude.{ℕ, Option, Some, None, List, [], ◌∷◌, map, option_map}
+use Rattle.std.specs.Option.{unwrap_or}
 use Rattle.napi_types.specs.declared.call.Call.{Call}
 use Rattle.napi_types.specs.declared.status.Status.{Status}
 use Rattle.napi_types.specs.declared.entry.Out.TheVariants as out
+use Rattle.napi_types.specs.Collection.{on_collection}
 use Rattle.napi_types.specs.Environment.{Environment, in_heap}
 use Rattle.napi_types.specs.ExceptionCalls.{on_exceptions, with_thrown_error}
 use Rattle.napi_types.specs.Frames.{caller_of}
 use Rattle.napi_types.specs.FunctionCalls.{on_functions}
 use Rattle.napi_types.specs.Heap.{Heap}
+use Rattle.napi_types.specs.Lists.{first_some}
 use Rattle.napi_types.specs.OtherCalls.{on_others}
 use Rattle.napi_types.specs.PropertyCalls.{on_properties}
+use Rattle.napi_types.specs.ReferenceCalls.{on_references}
 use Rattle.napi_types.specs.Refusals.{refusal_in, early_refusal, depth_refusal}
 use Rattle.napi_types.specs.Replies.{Answer, answered, refused}
 use Rattle.napi_types.specs.ScopeCalls.{on_scopes}
 use Rattle.napi_types.specs.Texts.{depth_text}
 use Rattle.napi_types.specs.ValueCalls.{on_values}
 
--- what an accepted call on values, properties and scopes answers and leaves, and one of no group
+-- CALLS THAT ARE TOLD OF THE HEAP
+-- what each group of calls on values, properties and scopes says of a call, and the group of the others, where n is the number that it newly gives
+abbrev pub by_heap_groups : Heap → Call → ℕ → List (Option (Answer Heap))
+by_heap_groups heap c n = on_values heap c ∷ on_properties heap c ∷ on_scopes heap c n ∷ on_others heap c ∷ []
+
+-- what an accepted call of these groups answers and leaves
 abbrev pub accepted : Heap → Call → ℕ → Answer Heap
-accepted heap c n = unwrap_or (option_or (on_values heap c) (option_or (on_properties heap c) (option_or (on_scopes heap c n) (on_others heap c)))) (answered out.Nothing heap)
+accepted heap c n = unwrap_or (first_some (by_heap_groups heap c n)) (answered out.Nothing heap)
 
 -- the same of a call of this addon: a function that it creates belongs to it
 abbrev pub accepted_of : ℕ → Heap → Call → ℕ → Answer Heap
@@ -34,17 +42,19 @@ answer_by addon heap c n None = accepted_of addon heap c n
 abbrev pub answer_in : ℕ → ℕ → Heap → Call → ℕ → Answer Heap
 answer_in texts addon heap c n = answer_by addon heap c n (refusal_in texts heap c)
 
--- what each group of calls that is told of the heap says of a call of this addon, where n is the number that it newly gives
-abbrev pub by_heap_groups : ℕ → Heap → Call → ℕ → List (Option (Answer Heap))
-by_heap_groups addon heap c n = on_functions addon heap c ∷ on_values heap c ∷ on_properties heap c ∷ on_scopes heap c n ∷ on_others heap c ∷ []
-
+-- ALL CALLS
 -- what each group of calls says
 abbrev pub by_groups : Environment → Call → ℕ → List (Option (Answer Environment))
-by_groups e c n = map (option_map (in_heap e)) (by_heap_groups (caller_of e.frames) e.heap c n) ++ on_exceptions e c ∷ []
+by_groups e c n =
+    on_exceptions e c
+    ∷ on_references e c n
+    ∷ on_collection e c
+    ∷ option_map (in_heap e) (on_functions (caller_of e.frames) e.heap c)
+    ∷ map (option_map (in_heap e)) (by_heap_groups e.heap c n)
 
--- what an accepted call answers and leaves: a call on exceptions, or else one that is told of the heap
+-- what an accepted call answers and leaves
 abbrev pub accepted_by : Environment → Call → ℕ → Answer Environment
-accepted_by e c n = unwrap_or (on_exceptions e c) (in_heap e (accepted_of (caller_of e.frames) e.heap c n))
+accepted_by e c n = unwrap_or (first_some (by_groups e c n)) (answered out.Nothing e)
 
 -- what a call of the environment answers and leaves, given the refusal that applies, if one does
 abbrev pub answer_given : Environment → Call → ℕ → Option Status → Answer Environment

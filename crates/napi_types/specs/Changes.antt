@@ -67,11 +67,13 @@ call_entry e c r = record { actor = actor.Env; depth = length e.frames; step = a
 -- the number that a result newly gives, which the environment may choose; 0 where it chooses none
 abbrev pub number_of : Out → ℕ
 number_of (out.Scope s) = s.0
+number_of (out.Ref r) = r.0
 number_of _ = 0
 
 -- a number that the environment chooses is above 0 and was never issued
 abbrev pub is_fresh : Environment → Out → Bool
 is_fresh e (out.Scope s) = not (has_number s.0 (0 ∷ e.heap.scope_numbers))
+is_fresh e (out.Ref r) = not (has_number r.0 (0 ∷ e.references.issued))
 is_fresh e _ = true
 
 -- how many asks a frame may make

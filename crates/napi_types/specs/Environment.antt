@@ -6,6 +6,7 @@ use Rattle.napi_types.specs.declared.entry.Phase.{Phase}
 use Rattle.napi_types.specs.declared.entry.Phase.TheVariants as phase
 use Rattle.napi_types.specs.Frames.{Frame}
 use Rattle.napi_types.specs.Heap.{Heap, new_heap}
+use Rattle.napi_types.specs.References.{ReferenceMap, no_references}
 use Rattle.napi_types.specs.Replies.{Answer}
 
 -- the state of the environment (`napi_env`)
@@ -21,6 +22,7 @@ pub record Environment : Type 0 where
   pub heap : Heap
   -- the frames that stand, the innermost first
   pub frames : List Frame
+  pub references : ReferenceMap
   -- the creation number of the value that is the pending exception, where one is pending
   pub pending : Option ℕ
   -- the status of the last call
@@ -36,6 +38,7 @@ new_environment addons texts = record {
   phase = phase.Init;
   heap = new_heap;
   frames = [];
+  references = no_references;
   pending = None;
   last = status.Ok;
 }

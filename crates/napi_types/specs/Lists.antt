@@ -29,6 +29,12 @@ abbrev pub head : {A : Type 0} → List A → Option A
 head [] = None
 head (x ∷ xs) = Some x
 
+-- the first of these that is there
+abbrev pub first_some : {A : Type 0} → List (Option A) → Option A
+first_some [] = None
+first_some (None ∷ xs) = first_some xs
+first_some (Some x ∷ xs) = Some x
+
 -- the list without its first element
 abbrev pub tail : {A : Type 0} → List A → List A
 tail [] = []

@@ -1,5 +1,5 @@
 -- The first refusal of a call that applies: a table for each point of their order.
-use Rattle.std.specs.Prelude.{ℕ, Bool, true, false, ◌&&◌, ◌||◌, List, [], ◌∷◌, ◌++◌, length, nat_lt, nat_le, pos, negsuc, int_le, Option, Some, None, is_some}
+use Rattle.std.specs.Prelude.{ℕ, ◌==◌, Bool, true, false, ◌&&◌, ◌||◌, List, [], ◌∷◌, ◌++◌, length, nat_lt, nat_le, pos, negsuc, int_le, Option, Some, None, is_some}
 use Rattle.std.specs.List.{list_all}
 use Rattle.std.specs.Option.{option_or}
 use Rattle.napi_types.specs.declared.body.Body.{Body}
@@ -18,8 +18,9 @@ use Rattle.napi_types.specs.FunctionCalls.{argument_handles}
 use Rattle.napi_types.specs.Guards.{is_guarded, is_registering}
 use Rattle.napi_types.specs.Heap.{Heap, handle_body, handle_properties}
 use Rattle.napi_types.specs.Lists.{one, when, unless}
+use Rattle.napi_types.specs.References.{ReferenceMap, has_reference, value_of, count_of, most_count}
 use Rattle.napi_types.specs.Scopes.{gives, opened_scopes, closing, escaping}
-use Rattle.napi_types.specs.Values.{is_object_like, is_string, is_number, is_bigint, is_boolean, is_array, is_function, most_names, most_index}
+use Rattle.napi_types.specs.Values.{is_object_like, is_string, is_number, is_bigint, is_boolean, is_array, is_function, is_referable, most_names, most_index}
 
 -- A CALL AT A WRONG MOMENT
 -- from the start of the teardown on
@@ -70,6 +71,7 @@ handles_of (call.SetElement h _ v) = h.0 ∷ one v.0
 handles_of (call.GetElement h _) = one h.0
 handles_of (call.HasElement h _) = one h.0
 handles_of (call.EscapeHandle _ h) = one h.0
+handles_of (call.CreateReference h _) = one h.0
 handles_of (call.CallFunction receiver f args) = handle_if receiver ++ f.0 ∷ argument_handles args
 handles_of (call.Throw h) = one h.0
 handles_of _ = []
@@ -127,7 +129,7 @@ kind_refusal heap _ = None
 
 -- THE CALL'S OWN REFUSALS
 -- a number is a whole number from -(2^53-1) to 2^53-1; an object with more than 65,536 names is not listed; an element's index is at most 65,535; scopes close innermost first;
--- one handle escapes from an escapable scope; only a function is called
+-- one handle escapes from an escapable scope; a reference is to an object, a function, an external or a symbol; only a function is called
 abbrev pub row_refusal : Heap → Call → Option Status
 row_refusal heap (call.CreateInt64 i) = unless (int_le (negsuc 9007199254740990) i && int_le i (pos 9007199254740991)) status.InvalidArg
 row_refusal heap (call.GetPropertyNames h) = when (nat_lt most_names (length (handle_properties heap h.0))) status.InvalidArg
@@ -135,12 +137,40 @@ row_refusal heap (call.SetElement _ at _) = when (nat_lt most_index at) status.I
 row_refusal heap (call.CloseHandleScope s) = closing s.0 scope_kind.Plain (opened_scopes heap.scopes)
 row_refusal heap (call.CloseEscapableHandleScope s) = closing s.0 scope_kind.Escapable (opened_scopes heap.scopes)
 row_refusal heap (call.EscapeHandle s _) = escaping s.0 (opened_scopes heap.scopes)
+row_refusal heap (call.CreateReference h _) = unless (is_referable (handle_body heap h.0)) status.InvalidArg
 row_refusal heap (call.CallFunction _ f _) = unless (is_function (handle_body heap f.0)) status.InvalidArg
 row_refusal heap _ = None
 
 -- the first of these three points that applies, in a heap and a table of so many texts
 abbrev pub refusal_in : ℕ → Heap → Call → Option Status
 refusal_in texts heap c = option_or (unknown_refusal texts heap c) (option_or (kind_refusal heap c) (row_refusal heap c))
+
+-- REFERENCES
+-- the references that a call names. No call names a handle or a text beside one
+abbrev pub references_of : Call → List ℕ
+references_of (call.DeleteReference r) = one r.0
+references_of (call.ReferenceRef r) = one r.0
+references_of (call.ReferenceUnref r) = one r.0
+references_of (call.GetReferenceValue r) = one r.0
+references_of _ = []
+
+-- one that was deleted, and one that was never made, is an invalid argument
+abbrev pub unknown_reference : ReferenceMap → Call → Option Status
+unknown_reference m c = unless (list_all (has_reference m) (references_of c)) status.InvalidArg
+
+-- a reference is not counted above the greatest count, where its value was not collected, nor below 0
+abbrev pub count_refusal : ReferenceMap → Call → Option Status
+count_refusal m (call.ReferenceRef r) = when (is_some (value_of m r.0) && (count_of m r.0 == most_count)) status.GenericFailure
+count_refusal m (call.ReferenceUnref r) = when (count_of m r.0 == 0) status.GenericFailure
+count_refusal m _ = None
+
+-- the first of both that applies
+abbrev pub reference_refusal : ReferenceMap → Call → Option Status
+reference_refusal m c = option_or (unknown_reference m c) (count_refusal m c)
+
+-- the first refusal that applies to a call that comes at a right moment
+abbrev pub timely_refusal : Environment → Call → Option Status
+timely_refusal e c = option_or (reference_refusal e.references c) (refusal_in e.texts e.heap c)
 
 -- THE DEPTH LIMIT
 -- no function is called where as many frames stand as may
@@ -150,7 +180,7 @@ depth_refusal fs _ = None
 
 -- the first of the points before the depth limit that applies: whether the call comes at a wrong moment is asked first
 abbrev pub early_refusal : Environment → Call → Option Status
-early_refusal e c = option_or (moment_refusal e c) (refusal_in e.texts e.heap c)
+early_refusal e c = option_or (moment_refusal e c) (timely_refusal e c)
 
 -- the first of all points that applies
 abbrev pub refusal : Environment → Call → Option Status

@@ -64,7 +64,8 @@ first_places = 65536
 abbrev pub is_full : Room → Call → Bool
 is_full r c = nat_lt r.limit (r.taken + need c)
 
--- a call that takes memory beside that of its places in the list of its entry: one whose result is a newly issued number, and one that sets a property or an element, or makes an error
+-- a call that takes memory beside that of its places in the list of its entry: one whose result is a newly issued number, `escape_handle` excepted, whose
+-- place was kept when the scope opened; one that sets a property or an element, or makes an error; and a collection
 abbrev pub is_growing : Call → Bool
 is_growing call.GetUndefined = true
 is_growing call.GetNull = true
@@ -83,6 +84,9 @@ is_growing (call.GetNamedProperty _ _) = true
 is_growing (call.GetPropertyNames _) = true
 is_growing (call.SetElement _ _ _) = true
 is_growing (call.GetElement _ _) = true
+is_growing (call.CreateReference _ _) = true
+is_growing (call.GetReferenceValue _) = true
+is_growing call.Collect = true
 is_growing call.OpenHandleScope = true
 is_growing call.OpenEscapableHandleScope = true
 is_growing (call.CallFunction _ _ _) = true

@@ -106,6 +106,14 @@ abbrev pub is_function : Body → Bool
 is_function (body.Function addon entry payload) = true
 is_function _ = false
 
+-- what a reference may be to
+abbrev pub is_referable : Body → Bool
+is_referable (body.Object array error) = true
+is_referable (body.Function addon entry payload) = true
+is_referable (body.External payload) = true
+is_referable (body.Symbol t) = true
+is_referable _ = false
+
 -- the addon and the entry that a function runs, and its payload; a value of another kind is refused before it is read so
 abbrev pub function_addon : Body → ℕ
 function_addon (body.Function addon entry payload) = addon

@@ -1,0 +1,30 @@
+-- What a collection answers and leaves.
+use Rattle.std.specs.Prelude.{ℕ, not, List, length, filter, Option, Some, None}
+use Rattle.napi_types.specs.declared.call.Call.{Call}
+use Rattle.napi_types.specs.declared.call.Call.TheVariants as call
+use Rattle.napi_types.specs.declared.entry.Out.TheVariants as out
+use Rattle.napi_types.specs.Environment.{Environment}
+use Rattle.napi_types.specs.Lists.{has_number}
+use Rattle.napi_types.specs.References.{emptied}
+use Rattle.napi_types.specs.Replies.{Answer, answered}
+use Rattle.napi_types.specs.Roots.{reach}
+use Rattle.napi_types.specs.Values.{Value}
+
+-- the values of these numbers, and the others
+abbrev pub those_of : List ℕ → List Value → List Value
+those_of ns vs = filter (λ v. has_number v.number ns) vs
+
+abbrev pub all_but : List ℕ → List Value → List Value
+all_but ns vs = filter (λ v. not (has_number v.number ns)) vs
+
+-- the values of these numbers stay; all others are gone, and the references to them name none
+abbrev pub collected : List ℕ → Environment → Environment
+collected alive e = record e {
+  heap = record (e.heap) { values = those_of alive e.heap.values };
+  references = emptied (λ v. not (has_number v alive)) e.references;
+}
+
+-- `collect` keeps what the roots reach, and tells how many values it freed
+abbrev pub on_collection : Environment → Call → Option (Answer Environment)
+on_collection e call.Collect = Some (answered (out.Unsigned (length (all_but (reach e) e.heap.values))) (collected (reach e) e))
+on_collection e _ = None
