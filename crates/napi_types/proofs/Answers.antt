@@ -12,7 +12,11 @@ use Rattle.napi_types.specs.Environment.{Environment}
 use Rattle.napi_types.specs.Frames.{caller_of}
 use Rattle.napi_types.specs.Heap.{Heap, handle_properties, with_handle, with_thrown}
 use Rattle.napi_types.specs.PropertyCalls.{names_of}
-use Rattle.napi_types.specs.Refusals.{unknown_refusal, kind_refusal, row_refusal, moment_refusal, refusal_in, early_refusal, depth_refusal}
+use Rattle.napi_types.specs.References.{ReferenceMap, value_of}
+use Rattle.napi_types.specs.ReferenceCalls.{value_told, counted_up}
+use Rattle.napi_types.specs.Collection.{collected}
+use Rattle.napi_types.specs.Roots.{reach}
+use Rattle.napi_types.specs.Refusals.{unknown_refusal, kind_refusal, row_refusal, moment_refusal, refusal_in, reference_refusal, timely_refusal, early_refusal, depth_refusal}
 use Rattle.napi_types.specs.Calls.{accepted, accepted_of, answer_by, answer_in, accepted_by, answer_given, answer_at, at_depth_limit, answer}
 use Rattle.napi_types.specs.Changes.{called}
 
@@ -101,7 +105,7 @@ by-refusal texts addon heap c n (Some s) h = same heap
 pub answer_in-keeps : (texts addon : ℕ) (heap : Heap) (c : Call) (n : ℕ) → HeapKeeps heap (answer_in texts addon heap c n).after
 answer_in-keeps texts addon heap c n = by-refusal texts addon heap c n (refusal_in texts heap c) refl
 
--- what a call keeps of the environment: all but the heap and the pending exception
+-- what a call keeps of the environment: all but the heap, the references and the pending exception. It issues one reference number at most
 pub record Keeps (old new : Environment) : Type 0 where
   pub addons : new.addons ≡ old.addons
   pub opened : new.opened ≡ old.opened
@@ -109,23 +113,45 @@ pub record Keeps (old new : Environment) : Type 0 where
   pub phase : new.phase ≡ old.phase
   pub frames : new.frames ≡ old.frames
   pub heap : HeapKeeps old.heap new.heap
+  pub references : length new.references.issued ≤ length old.references.issued + 1
 
 keeps-all : (e : Environment) → Keeps e e
-keeps-all e = record { addons = refl; opened = refl; inits = refl; phase = refl; frames = refl; heap = same e.heap }
+keeps-all e = record { addons = refl; opened = refl; inits = refl; phase = refl; frames = refl; heap = same e.heap; references = omega arith }
 
 keeps-heap : (e : Environment) (c : Call) (n : ℕ) → refusal_in e.texts e.heap c ≡ None → Keeps e (record e { heap = (accepted_of (caller_of e.frames) e.heap c n).after })
-keeps-heap e c n h = record { addons = refl; opened = refl; inits = refl; phase = refl; frames = refl; heap = accepted_of-keeps e.texts (caller_of e.frames) e.heap c n h }
+keeps-heap e c n h = record { addons = refl; opened = refl; inits = refl; phase = refl; frames = refl; heap = accepted_of-keeps e.texts (caller_of e.frames) e.heap c n h; references = omega arith }
 
 thrown-keeps : (heap : Heap) (code : Option TextNo) (message : TextNo) → HeapKeeps heap (with_thrown code message heap)
 thrown-keeps heap None message = in-scopes-made heap _ refl (omega arith) (omega arith) (omega arith)
 thrown-keeps heap (Some code) message = in-scopes-made heap _ refl (omega arith) (omega arith) (omega arith)
 
+-- the references, or the values, are others, and nothing is issued
+keeps-references : (e : Environment) (m : ReferenceMap) → length m.issued ≤ length e.references.issued + 1 → Keeps e (record e { references = m })
+keeps-references e m h = record { addons = refl; opened = refl; inits = refl; phase = refl; frames = refl; heap = same e.heap; references = h }
+
+counted-keeps : (r : ℕ) (e : Environment) (v : Option ℕ) → Keeps e (counted_up r e v).after
+counted-keeps r e None = keeps-all e
+counted-keeps r e (Some v) = keeps-references e _ (omega arith)
+
+told-keeps : (e : Environment) (v : Option ℕ) → Keeps e (value_told e v).after
+told-keeps e None = keeps-all e
+told-keeps e (Some v) = record { addons = refl; opened = refl; inits = refl; phase = refl; frames = refl; heap = handled e.heap e.heap _ refl refl refl (omega arith); references = omega arith }
+
+collected-keeps : (e : Environment) (alive : List ℕ) → Keeps e (collected alive e)
+collected-keeps e alive = record { addons = refl; opened = refl; inits = refl; phase = refl; frames = refl; heap = in-scopes e.heap _ refl (omega arith) (omega arith) refl; references = omega arith }
+
 accepted_by-keeps : (e : Environment) (c : Call) (n : ℕ) → refusal_in e.texts e.heap c ≡ None → Keeps e (accepted_by e c n).after
-accepted_by-keeps e (call.Throw v) n h = record { addons = refl; opened = refl; inits = refl; phase = refl; frames = refl; heap = same e.heap }
-accepted_by-keeps e (call.ThrowError code message) n h = record { addons = refl; opened = refl; inits = refl; phase = refl; frames = refl; heap = thrown-keeps e.heap code message }
+accepted_by-keeps e (call.Throw v) n h = record { addons = refl; opened = refl; inits = refl; phase = refl; frames = refl; heap = same e.heap; references = omega arith }
+accepted_by-keeps e (call.ThrowError code message) n h = record { addons = refl; opened = refl; inits = refl; phase = refl; frames = refl; heap = thrown-keeps e.heap code message; references = omega arith }
 accepted_by-keeps e call.IsExceptionPending n h = keeps-all e
 accepted_by-keeps e call.GetLastErrorInfo n h = keeps-all e
-accepted_by-keeps e call.GetAndClearLastException n h = record { addons = refl; opened = refl; inits = refl; phase = refl; frames = refl; heap = handled e.heap e.heap _ refl refl refl (omega arith) }
+accepted_by-keeps e call.GetAndClearLastException n h = record { addons = refl; opened = refl; inits = refl; phase = refl; frames = refl; heap = handled e.heap e.heap _ refl refl refl (omega arith); references = omega arith }
+accepted_by-keeps e (call.CreateReference v count) n h = keeps-references e _ (omega arith)
+accepted_by-keeps e (call.DeleteReference r) n h = keeps-references e _ (omega arith)
+accepted_by-keeps e (call.ReferenceRef r) n h = counted-keeps r.0 e (value_of e.references r.0)
+accepted_by-keeps e (call.ReferenceUnref r) n h = keeps-references e _ (omega arith)
+accepted_by-keeps e (call.GetReferenceValue r) n h = told-keeps e (value_of e.references r.0)
+accepted_by-keeps e call.Collect n h = collected-keeps e (reach e)
 accepted_by-keeps e c n h = keeps-heap e c n h
 
 none-right : (a b : Option Status) → option_or a b ≡ None → b ≡ None
@@ -133,11 +159,11 @@ none-right None b h = h
 none-right (Some s) b h = cc
 
 given-keeps : (e : Environment) (c : Call) (n : ℕ) (s : Option Status) → early_refusal e c ≡ s → Keeps e (answer_given e c n s).after
-given-keeps e c n None h = accepted_by-keeps e c n (none-right (moment_refusal e c) (refusal_in e.texts e.heap c) h)
+given-keeps e c n None h = accepted_by-keeps e c n (none-right (reference_refusal e.references c) (refusal_in e.texts e.heap c) (none-right (moment_refusal e c) (timely_refusal e c) h))
 given-keeps e c n (Some s) h = keeps-all e
 
 limit-keeps : (e : Environment) → Keeps e (at_depth_limit e)
-limit-keeps e = record { addons = refl; opened = refl; inits = refl; phase = refl; frames = refl; heap = thrown-keeps e.heap None _ }
+limit-keeps e = record { addons = refl; opened = refl; inits = refl; phase = refl; frames = refl; heap = thrown-keeps e.heap None _; references = omega arith }
 
 at-keeps : (e : Environment) (c : Call) (n : ℕ) (early deep : Option Status) → early_refusal e c ≡ early → Keeps e (answer_at e c n early deep).after
 at-keeps e c n early None h = given-keeps e c n early h
@@ -155,6 +181,7 @@ pub record KeepsButAsk (old new : Environment) : Type 0 where
   pub phase : new.phase ≡ old.phase
   pub depth : length new.frames ≡ length old.frames
   pub heap : HeapKeeps old.heap new.heap
+  pub references : length new.references.issued ≤ length old.references.issued + 1
 
 pub called-keeps : (e : Environment) (c : Call) (n : ℕ) → KeepsButAsk e (called e c n).after
 called-keeps e c n = record {
@@ -164,4 +191,5 @@ called-keeps e c n = record {
   phase = (answer-keeps e c n).phase;
   depth = length-changed _ (answer e c n).after.frames ∙ ap length (answer-keeps e c n).frames;
   heap = (answer-keeps e c n).heap;
+  references = (answer-keeps e c n).references;
 }

@@ -31,15 +31,16 @@ pub record KeepsButFrame (old new : Environment) : Type 0 where
   pub made : new.heap.made ≡ old.heap.made
   pub handles : new.heap.handles ≤ old.heap.handles + 1
   pub scope_numbers : new.heap.scope_numbers ≡ old.heap.scope_numbers
+  pub references : new.references ≡ old.references
 
 left-keeps : (v : Option HandleId) (e : Environment) (pending : Option ℕ) → KeepsButFrame e (call_left v e pending).after
-left-keeps v e (Some p) = record { addons = refl; opened = refl; inits = refl; phase = refl; frames = refl; values = refl; made = refl; handles = omega arith; scope_numbers = refl }
-left-keeps v e None = record { addons = refl; opened = refl; inits = refl; phase = refl; frames = refl; values = refl; made = refl; handles = omega arith; scope_numbers = refl }
+left-keeps v e (Some p) = record { addons = refl; opened = refl; inits = refl; phase = refl; frames = refl; values = refl; made = refl; handles = omega arith; scope_numbers = refl; references = refl }
+left-keeps v e None = record { addons = refl; opened = refl; inits = refl; phase = refl; frames = refl; values = refl; made = refl; handles = omega arith; scope_numbers = refl; references = refl }
 
 by-cause : (v : Option HandleId) (cut : Option Why) (e : Environment) (c : Cause) → KeepsButFrame e (ended_by v cut e c).after
-by-cause v (Some w) e cause.Call = record { addons = refl; opened = refl; inits = refl; phase = refl; frames = refl; values = refl; made = refl; handles = omega arith; scope_numbers = refl }
+by-cause v (Some w) e cause.Call = record { addons = refl; opened = refl; inits = refl; phase = refl; frames = refl; values = refl; made = refl; handles = omega arith; scope_numbers = refl; references = refl }
 by-cause v None e cause.Call = left-keeps v e e.pending
-by-cause v cut e _ = record { addons = refl; opened = refl; inits = refl; phase = refl; frames = refl; values = refl; made = refl; handles = omega arith; scope_numbers = refl }
+by-cause v cut e _ = record { addons = refl; opened = refl; inits = refl; phase = refl; frames = refl; values = refl; made = refl; handles = omega arith; scope_numbers = refl; references = refl }
 
 pub ended-keeps : (v : Option HandleId) (cut : Option Why) (e : Environment) → KeepsButFrame e (frame_ended v cut e).after
 ended-keeps v cut e = by-cause v cut e (cause_of e.frames)
@@ -56,10 +57,11 @@ pub record KeepsAndEnters (old new : Environment) (f : HandleId) : Type 0 where
   pub made : new.heap.made ≡ old.heap.made
   pub handles : new.heap.handles ≤ old.heap.handles + 1
   pub scope_numbers : new.heap.scope_numbers ≡ old.heap.scope_numbers
+  pub references : new.references ≡ old.references
 
 pub entered-keeps : (receiver : Option HandleId) (f : HandleId) (args : Args) (e : Environment) → KeepsAndEnters e (entered receiver f args e).after f
-entered-keeps None f args e = record { addons = refl; opened = refl; inits = refl; phase = refl; frames = refl; values = refl; made = refl; handles = omega arith; scope_numbers = refl }
-entered-keeps (Some h) f args e = record { addons = refl; opened = refl; inits = refl; phase = refl; frames = refl; values = refl; made = refl; handles = omega arith; scope_numbers = refl }
+entered-keeps None f args e = record { addons = refl; opened = refl; inits = refl; phase = refl; frames = refl; values = refl; made = refl; handles = omega arith; scope_numbers = refl; references = refl }
+entered-keeps (Some h) f args e = record { addons = refl; opened = refl; inits = refl; phase = refl; frames = refl; values = refl; made = refl; handles = omega arith; scope_numbers = refl; references = refl }
 
 -- WHAT A CALL COMES TO
 -- a call that enters no frame answers at once

@@ -22,10 +22,14 @@ use Rattle.napi_types.specs.declared.entry.Cause.TheVariants as cause
 use Rattle.napi_types.specs.Frames.{Frame, frame_of, caller_of, ask_counted}
 use Rattle.napi_types.specs.FunctionCalls.{callee_of}
 use Rattle.napi_types.specs.Heap.{Heap, handle_body, handle_properties, with_thrown}
-use Rattle.napi_types.specs.Lists.{tail, unless}
+use Rattle.napi_types.specs.Lists.{tail, unless, has_number}
 use Rattle.napi_types.specs.Owners.{BelongsTo, IsOwned, AsksWithin}
 use Rattle.napi_types.specs.PropertyCalls.{names_of}
-use Rattle.napi_types.specs.Refusals.{moment_refusal, unknown_refusal, kind_refusal, row_refusal, refusal_in, early_refusal, depth_refusal, refusal}
+use Rattle.napi_types.specs.Collection.{those_of}
+use Rattle.napi_types.specs.References.{value_of}
+use Rattle.napi_types.specs.ReferenceCalls.{value_told, counted_up}
+use Rattle.napi_types.specs.Roots.{reach}
+use Rattle.napi_types.specs.Refusals.{moment_refusal, reference_refusal, timely_refusal, unknown_refusal, kind_refusal, row_refusal, refusal_in, early_refusal, depth_refusal, refusal}
 use Rattle.napi_types.specs.Values.{Value, Property, fresh_value, starting_values, value_changed, made_after, list_of, thrown_strings, thrown_of, is_function, function_addon, body_of, text_of}
 use Rattle.napi_types.proofs.Answers.{answer-keeps}
 use Rattle.napi_types.proofs.Runs.{and-left, and-right}
@@ -107,12 +111,35 @@ heap-owned n addon heap (call.SetElement o at v) k there all = changed-owned n _
 heap-owned n addon heap (call.GetPropertyNames o) k there all = All-append (Ours n) heap.values _ all (list-owned n heap.made (names_of (handle_properties heap o.0)) (names-none (handle_properties heap o.0)))
 heap-owned n addon heap c k there all = all
 
+-- a collection takes values away
+kept-owned : (n : ℕ) (alive : List ℕ) (vs : List Value) → AreOwned n vs → AreOwned n (those_of alive vs)
+kept-owned n alive [] all = All-nil (Ours n)
+kept-owned n alive (v ∷ vs) all = here (has_number v.number alive) refl (kept-owned n alive vs (All-tail (Ours n) v vs all))
+  where
+    here : (b : Bool) → has_number v.number alive ≡ b → AreOwned n (those_of alive vs) → AreOwned n (those_of alive (v ∷ vs))
+    here true h later = rw h (All-cons (Ours n) v (those_of alive vs) (All-head (Ours n) v vs all) later)
+    here false h later = rw h later
+
+counted-up-owned : (n r : ℕ) (e : Environment) (v : Option ℕ) → AreOwned n e.heap.values → AreOwned n (counted_up r e v).after.heap.values
+counted-up-owned n r e None all = all
+counted-up-owned n r e (Some v) all = all
+
+told-owned : (n : ℕ) (e : Environment) (v : Option ℕ) → AreOwned n e.heap.values → AreOwned n (value_told e v).after.heap.values
+told-owned n e None all = all
+told-owned n e (Some v) all = all
+
 by-owned : (n : ℕ) (e : Environment) (c : Call) (k : ℕ) → caller_of e.frames < n → AreOwned n e.heap.values → AreOwned n (accepted_by e c k).after.heap.values
 by-owned n e (call.Throw v) k there all = all
 by-owned n e (call.ThrowError code message) k there all = thrown-owned n e.heap code message all
 by-owned n e call.IsExceptionPending k there all = all
 by-owned n e call.GetLastErrorInfo k there all = all
 by-owned n e call.GetAndClearLastException k there all = all
+by-owned n e (call.CreateReference v count) k there all = all
+by-owned n e (call.DeleteReference r) k there all = all
+by-owned n e (call.ReferenceRef r) k there all = counted-up-owned n r.0 e (value_of e.references r.0) all
+by-owned n e (call.ReferenceUnref r) k there all = all
+by-owned n e (call.GetReferenceValue r) k there all = told-owned n e (value_of e.references r.0) all
+by-owned n e call.Collect k there all = kept-owned n (reach e) e.heap.values all
 by-owned n e c k there all = heap-owned n (caller_of e.frames) e.heap c k there all
 
 given-owned : (n : ℕ) (e : Environment) (c : Call) (k : ℕ) (s : Option Status) → caller_of e.frames < n → AreOwned n e.heap.values → AreOwned n (answer_given e c k s).after.heap.values
@@ -164,7 +191,8 @@ pub function-called : (e : Environment) (receiver : Option HandleId) (f : Handle
 function-called e receiver f args h =
     let c : Call = call.CallFunction receiver f args in
     let early : early_refusal e c ≡ None = none-first (early_refusal e c) (depth_refusal e.frames c) h in
-    let within : refusal_in e.texts e.heap c ≡ None = none-last (moment_refusal e c) (refusal_in e.texts e.heap c) early in
+    let timely : timely_refusal e c ≡ None = none-last (moment_refusal e c) (timely_refusal e c) early in
+    let within : refusal_in e.texts e.heap c ≡ None = none-last (reference_refusal e.references c) (refusal_in e.texts e.heap c) timely in
     let later : option_or (kind_refusal e.heap c) (row_refusal e.heap c) ≡ None = none-last (unknown_refusal e.texts e.heap c) _ within in
     not-unless (is_function (handle_body e.heap f.0)) status.InvalidArg (none-last (kind_refusal e.heap c) (row_refusal e.heap c) later)
 

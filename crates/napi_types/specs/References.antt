@@ -48,7 +48,7 @@ without_reference n m = record m { rows = filter (λ r. not (r.number == n)) m.r
 
 -- the reference of this number has another count
 abbrev pub with_count : ℕ → ℕ → ReferenceMap → ReferenceMap
-with_count n count m = record m { rows = map (λ r. cond (r.number == n) (record r { count = count }) r) m.rows }
+with_count n count m = record m { rows = map (λ (r : Reference). cond (r.number == n) (record r { count = count }) r) m.rows }
 
 -- while its count is above 0 a reference is strong, and keeps its value from being collected
 abbrev pub strong_value : Reference → Option ℕ
@@ -65,4 +65,4 @@ value_left collected (Some v) = cond (collected v) None (Some v)
 
 -- the references to the values that are collected name none
 abbrev pub emptied : (ℕ → Bool) → ReferenceMap → ReferenceMap
-emptied collected m = record m { rows = map (λ r. record r { value = value_left collected r.value }) m.rows }
+emptied collected m = record m { rows = map (λ (r : Reference). record r { value = value_left collected r.value }) m.rows }

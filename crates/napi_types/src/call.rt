@@ -2,7 +2,6 @@
 ghost use Rattle.std.specs.Prelude.{◌≡◌};
 ghost use Rattle.napi_types.specs.Built.{is_built, is_value_call};
 ghost use Rattle.napi_types.specs.Guards.{is_guarded, is_registering};
-ghost use Rattle.napi_types.specs.Room.{need};
 
 use crate::{HandleId, RefId, ScopeId, TextNo, TsfnId, WorkId};
 
@@ -167,18 +166,14 @@ impl Call {
             | Call::IsExceptionPending
             | Call::GetAndClearLastException
             | Call::GetLastErrorInfo
+            | Call::CreateReference(..)
+            | Call::DeleteReference(_)
+            | Call::ReferenceRef(_)
+            | Call::ReferenceUnref(_)
+            | Call::GetReferenceValue(_)
+            | Call::Collect
             | Call::GetVersion => true,
             _ => self.is_value_call(),
-        }
-    }
-
-    /// How many places the call needs in the list of its entry, counted as if it were accepted.
-    pub fn need(&self) -> u32
-        ensures { result ≡ need self.now }
-    {
-        match self {
-            Call::CallFunction(..) => 2,
-            _ => 1,
         }
     }
 
