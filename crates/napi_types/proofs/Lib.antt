@@ -6,6 +6,7 @@ pub mod Fronts
 pub mod Issued
 pub mod Misses
 pub mod Owners
+pub mod Reaching
 pub mod Rooms
 pub mod Rows
 pub mod Runs

@@ -1,5 +1,5 @@
 -- Laws over all environments and all runs.
-use Rattle.std.specs.Prelude.{◌≡◌, ℕ, ◌+◌, ◌*◌, ◌≤◌, ◌&&◌, not, List, length, take, Some, None, filter, is_some, slice_get, codes, ◌↔◌}
+use Rattle.std.specs.Prelude.{◌≡◌, ℕ, Bool, true, ◌+◌, ◌*◌, ◌≤◌, ◌&&◌, not, List, length, take, Some, None, filter, is_some, slice_get, codes, ◌↔◌}
 use Rattle.napi_types.specs.declared.call.Ask.{Ask}
 use Rattle.napi_types.specs.declared.call.Call.{Call}
 use Rattle.napi_types.specs.declared.call.Call.TheVariants.{Typeof}
@@ -13,13 +13,16 @@ use Rattle.napi_types.specs.Calls.{answer, at_depth_limit, by_groups}
 use Rattle.napi_types.specs.Built.{is_built, is_calling}
 use Rattle.napi_types.specs.Environment.{Environment}
 use Rattle.napi_types.specs.Replies.{plain}
+use Rattle.napi_types.specs.Lists.{has_number}
 use Rattle.napi_types.specs.Machine.{Machine}
+use Rattle.napi_types.specs.Reach.{numbers, children_at, reach_from}
 use Rattle.napi_types.specs.Refusals.{early_refusal, depth_refusal, refusal}
 use Rattle.napi_types.specs.Room.{reserved_journal, reserved_history, one_if}
 use Rattle.napi_types.specs.Scopes.{gives}
 use Rattle.napi_types.specs.Whole.{Setting, RunsBy, final_of}
 use Rattle.napi_types.specs.Run.{IsRunBy, ComputesBy}
 use Rattle.napi_types.specs.Texts.{fixed_texts, message_text, code_text}
+use Rattle.napi_types.specs.Values.{Value}
 
 -- `typeof` refuses the handle as an invalid argument, tells nothing, and leaves the environment as it was
 pub record RefusesHandle (e : Environment) (h : HandleId) : Type 0 where
@@ -69,3 +72,15 @@ pub record HasRoom (s : Setting) (xs : List Entry) (m : Machine) : Type 0 where
 abbrev pub RoomSuffices : Type 0
 RoomSuffices = (s : Setting) (bs : List Ask) (xs : List Entry)
     → 2 + 2 * length s.plans ≤ s.limits.journal → 4 ≤ s.limits.history → RunsBy s bs xs → HasRoom s xs (final_of s bs xs)
+
+-- what roots reach: each root that a value has, each child of what is reached that a value has, and no more, since every set of numbers that has both has it
+pub record IsLeastReach (vs : List Value) (roots : List ℕ) : Type 0 where
+  pub rooted : (n : ℕ) → has_number n (numbers vs) ≡ true → has_number n roots ≡ true → has_number n (reach_from vs roots) ≡ true
+  pub closed : (n m : ℕ) → has_number n (reach_from vs roots) ≡ true → has_number m (children_at vs n) ≡ true → has_number m (numbers vs) ≡ true
+      → has_number m (reach_from vs roots) ≡ true
+  pub least : (p : ℕ → Bool) → ((n : ℕ) → has_number n (numbers vs) ≡ true → has_number n roots ≡ true → p n ≡ true)
+      → ((n m : ℕ) → p n ≡ true → has_number m (children_at vs n) ≡ true → has_number m (numbers vs) ≡ true → p m ≡ true)
+      → (n : ℕ) → has_number n (reach_from vs roots) ≡ true → p n ≡ true
+
+abbrev pub ReachIsLeast : Type 0
+ReachIsLeast = (vs : List Value) (roots : List ℕ) → IsLeastReach vs roots

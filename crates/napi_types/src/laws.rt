@@ -9,7 +9,7 @@ ghost use Rattle.napi_types.specs.CallAndError as call_and_error;
 ghost use Rattle.napi_types.specs.Depth as depth_limit;
 ghost use Rattle.napi_types.specs.StaleHandle as stale_handle;
 ghost use Rattle.napi_types.specs.Cuts.{CutsForRoom, CutAtLastAsk, NotBeforeLastAsk};
-ghost use Rattle.napi_types.specs.Laws.{RefusesUnknownHandles, FrontsAreRuns, RoomSuffices, EveryCallHasARow, RefusedCallsChangeNothing, ErrorNamesAreFixed, RunsAreComputed};
+ghost use Rattle.napi_types.specs.Laws.{RefusesUnknownHandles, FrontsAreRuns, RoomSuffices, EveryCallHasARow, RefusedCallsChangeNothing, ErrorNamesAreFixed, RunsAreComputed, ReachIsLeast};
 
 /// The first run: the entries are a run of its script and come to its end.
 pub fn first_run_ends()
@@ -196,4 +196,9 @@ pub fn fronts_are_runs()
 /// of every run, and so at every moment; once the environment is gone no place is left reserved.
 pub fn room_suffices()
     ensures { RoomSuffices }
+{}
+
+/// What roots reach is the least set of the numbers of values that has each root and each child of its members.
+pub fn reach_is_least()
+    ensures { ReachIsLeast }
 {}
