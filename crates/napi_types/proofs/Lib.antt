@@ -4,6 +4,7 @@ pub mod Cutting
 pub mod FrameChanges
 pub mod Fronts
 pub mod Issued
+pub mod Keeping
 pub mod Misses
 pub mod Owners
 pub mod Reaching

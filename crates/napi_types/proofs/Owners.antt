@@ -13,6 +13,7 @@ use Rattle.napi_types.specs.declared.ids.HandleId.{HandleId}
 use Rattle.napi_types.specs.declared.ids.TextNo.{TextNo}
 use Rattle.napi_types.specs.declared.status.Status.{Status}
 use Rattle.napi_types.specs.declared.status.Status.TheVariants as status
+use Rattle.napi_types.specs.Asks.{AsksWithin}
 use Rattle.napi_types.specs.Calls.{accepted_of, accepted_by, answer_given, answer_at}
 use Rattle.napi_types.specs.Changes.{called, init_begun, asks_made, most_asks}
 use Rattle.napi_types.specs.Ends.{frame_ended}
@@ -23,7 +24,7 @@ use Rattle.napi_types.specs.Frames.{Frame, frame_of, caller_of, ask_counted}
 use Rattle.napi_types.specs.FunctionCalls.{callee_of}
 use Rattle.napi_types.specs.Heap.{Heap, handle_body, handle_properties, with_thrown}
 use Rattle.napi_types.specs.Lists.{tail, unless, has_number}
-use Rattle.napi_types.specs.Owners.{BelongsTo, IsOwned, AsksWithin}
+use Rattle.napi_types.specs.Owners.{BelongsTo, IsOwned}
 use Rattle.napi_types.specs.PropertyCalls.{names_of}
 use Rattle.napi_types.specs.Collection.{those_of}
 use Rattle.napi_types.specs.References.{value_of}

@@ -47,7 +47,7 @@ read h n = call_at 3 (call.GetValueInt64 (handle h)) status.Ok (out.Signed (pos 
 abbrev pub last_told : ℕ → Entry
 last_told n = call_at 5 call.GetLastErrorInfo status.Ok (out.Unsigned n)
 
--- the whole run, from the first call on with this begin of the call's frame
+-- the whole run
 abbrev pub trace : List Entry
 trace =
     opening_entries

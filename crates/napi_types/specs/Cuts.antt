@@ -65,7 +65,7 @@ pub record CutsForRoom : Type 0 where
   pub room : (c : Call) → need c ≡ 1 → IsNext begun (ask.Do c) (cut_by cause.Init why.Full) → ⊥
   -- a call of a function needs two, so there it is cut as full, and nothing else may come
   pub calls : (receiver : Option HandleId) (f : HandleId) (args : Args) → IsOnlyNext begun (ask.Do (call.CallFunction receiver f args)) (cut_by cause.Init why.Full)
-  -- for want of memory it may be cut at a call that grows, and at no other
+  -- for want of memory it may be cut at a call that grows, and not at `typeof`, which does not
   pub grows : IsNext begun create (cut_by cause.Init why.Memory)
   pub stays : (h : HandleId) → IsNext begun (ask.Do (call.Typeof h)) (cut_by cause.Init why.Memory) → ⊥
   -- at the second call, whichever of those built it is, the frame is cut as full, and nothing else may come

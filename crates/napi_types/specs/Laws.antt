@@ -1,5 +1,6 @@
 -- Laws over all environments and all runs.
-use Rattle.std.specs.Prelude.{◌≡◌, ℕ, Bool, true, ◌+◌, ◌*◌, ◌≤◌, ◌&&◌, not, List, length, take, Some, None, filter, is_some, slice_get, codes, ◌↔◌}
+use Rattle.std.specs.Option.{option_or}
+use Rattle.std.specs.Prelude.{◌≡◌, ℕ, Bool, true, ◌+◌, ◌*◌, ◌≤◌, ◌&&◌, not, List, [], length, take, Some, None, filter, is_some, slice_get, codes, ◌↔◌, ◌⊎◌}
 use Rattle.napi_types.specs.declared.call.Ask.{Ask}
 use Rattle.napi_types.specs.declared.call.Call.{Call}
 use Rattle.napi_types.specs.declared.call.Call.TheVariants.{Typeof}
@@ -13,10 +14,11 @@ use Rattle.napi_types.specs.Calls.{answer, at_depth_limit, by_groups}
 use Rattle.napi_types.specs.Built.{is_built, is_calling}
 use Rattle.napi_types.specs.Environment.{Environment}
 use Rattle.napi_types.specs.Replies.{plain}
+use Rattle.napi_types.specs.Kept.{KeepsReached}
 use Rattle.napi_types.specs.Lists.{has_number}
 use Rattle.napi_types.specs.Machine.{Machine}
 use Rattle.napi_types.specs.Reach.{numbers, children_at, reach_from}
-use Rattle.napi_types.specs.Refusals.{early_refusal, depth_refusal, refusal}
+use Rattle.napi_types.specs.Refusals.{references_of, handles_of, texts_of, reference_refusal, refusal_in, early_refusal, depth_refusal, refusal}
 use Rattle.napi_types.specs.Room.{reserved_journal, reserved_history, one_if}
 use Rattle.napi_types.specs.Scopes.{gives}
 use Rattle.napi_types.specs.Whole.{Setting, RunsBy, final_of}
@@ -84,3 +86,15 @@ pub record IsLeastReach (vs : List Value) (roots : List ℕ) : Type 0 where
 
 abbrev pub ReachIsLeast : Type 0
 ReachIsLeast = (vs : List Value) (roots : List ℕ) → IsLeastReach vs roots
+
+-- every collection of a run keeps exactly what the roots reach, and empties the references to all else
+abbrev pub CollectionsKeepWhatIsReached : Type 0
+CollectionsKeepWhatIsReached = (m : Machine) (bs : List Ask) (xs : List Entry) → IsRunBy m bs xs → KeepsReached m bs xs
+
+-- a call that names a reference names no handle and no text, so which of the two tables is asked first shows nowhere
+pub record NamesReferencesAlone (e : Environment) (c : Call) : Type 0 where
+  pub alone : (references_of c ≡ []) ⊎ ((handles_of c ≡ []) × (texts_of c ≡ []))
+  pub order : option_or (reference_refusal e.references c) (refusal_in e.texts e.heap c) ≡ option_or (refusal_in e.texts e.heap c) (reference_refusal e.references c)
+
+abbrev pub ReferencesAreNamedAlone : Type 0
+ReferencesAreNamedAlone = (e : Environment) (c : Call) → NamesReferencesAlone e c

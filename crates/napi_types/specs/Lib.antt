@@ -1,3 +1,4 @@
+pub mod Asks
 pub mod Built
 pub mod CallAndError
 pub mod Calls
@@ -19,6 +20,7 @@ pub mod Graph
 pub mod Guards
 pub mod Heap
 pub mod Hub
+pub mod Kept
 pub mod Laws
 pub mod Lists
 pub mod Loop
@@ -34,6 +36,7 @@ pub mod Plan
 pub mod PropertyCalls
 pub mod Reach
 pub mod ReferenceCalls
+pub mod ReferenceCounts
 pub mod References
 pub mod Refusals
 pub mod Registers
@@ -51,6 +54,7 @@ pub mod ScriptPaths
 pub mod ScriptSchedule
 pub mod StaleHandle
 pub mod Step
+pub mod StrongAndWeak
 pub mod Teardown
 pub mod Text
 pub mod Texts

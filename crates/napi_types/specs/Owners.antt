@@ -1,8 +1,7 @@
 -- Each frame that stands runs an addon of the script, and each function belongs to one.
-use Rattle.std.specs.Prelude.{◌≡◌, ◌<◌, ◌≤◌, ℕ, true}
+use Rattle.std.specs.Prelude.{◌≡◌, ◌<◌, ℕ, true}
 use Rattle.std.specs.List.{All}
 use Rattle.napi_types.specs.declared.body.Body.{Body}
-use Rattle.napi_types.specs.Changes.{most_asks}
 use Rattle.napi_types.specs.Environment.{Environment}
 use Rattle.napi_types.specs.Values.{is_function, function_addon}
 
@@ -14,7 +13,3 @@ BelongsTo addons b = is_function b ≡ true → function_addon b < addons
 pub record IsOwned (addons : ℕ) (e : Environment) : Type 0 where
   pub frames : All (λ f. f.addon < addons) e.frames
   pub functions : All (λ v. BelongsTo addons v.body) e.heap.values
-
--- no frame made more asks than it may
-abbrev pub AsksWithin : Environment → Type 0
-AsksWithin e = All (λ f. f.asks ≤ most_asks) e.frames

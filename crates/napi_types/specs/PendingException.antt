@@ -1,4 +1,4 @@
--- An object is thrown: what is refused while it is pending, and what is not; and a frame that ends while one is pending.
+-- An object is thrown: what is refused while it is pending, and what is not; and an init frame that ends uncut while one is pending.
 use Rattle.std.specs.Prelude.{◌≡◌, ℕ, Bool, true, List, [], ◌∷◌, ◌++◌, set, codes}
 use Rattle.napi_types.specs.declared.call.Call.TheVariants as call
 use Rattle.napi_types.specs.declared.op.Op.TheVariants as op
@@ -108,12 +108,12 @@ pub record IsStrict : Type 0 where
   pub taken : (b : Bool) → IsRun setting (set trace 9 (same_told b)) → b ≡ true
   pub none : (k : Kind) → IsRun setting (set trace 11 (none_kind k)) → k ≡ kind.Undefined
 
--- A FRAME THAT ENDS WITH ONE PENDING
+-- AN INIT FRAME THAT ENDS UNCUT WITH ONE PENDING
 -- the script throws an object and leaves
 abbrev pub uncaught_setting : Setting
 uncaught_setting = script_of (op.CreateObject 1 ∷ op.Throw 1 ∷ [])
 
--- the end of its frame, with this result
+-- the end of its init frame, with this result
 abbrev pub end_told : Out → Entry
 end_told o = host_entry host.End o
 
@@ -128,7 +128,7 @@ uncaught_trace =
     ++ gone_entry
     ∷ []
 
--- the frame's end says that the exception was not caught, and nothing else
+-- the end tells that the exception was not caught, and nothing else
 pub record IsUncaught : Type 0 where
   pub ends : EndsBy uncaught_setting (told_asks uncaught_setting uncaught_trace) uncaught_trace
   pub told : IsRun uncaught_setting (set uncaught_trace 4 (end_told out.Nothing)) → ⊥

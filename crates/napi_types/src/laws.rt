@@ -8,8 +8,10 @@ ghost use Rattle.napi_types.specs.PendingException as pending_exception;
 ghost use Rattle.napi_types.specs.CallAndError as call_and_error;
 ghost use Rattle.napi_types.specs.Depth as depth_limit;
 ghost use Rattle.napi_types.specs.StaleHandle as stale_handle;
+ghost use Rattle.napi_types.specs.StrongAndWeak as strong_and_weak;
+ghost use Rattle.napi_types.specs.ReferenceCounts as reference_counts;
 ghost use Rattle.napi_types.specs.Cuts.{CutsForRoom, CutAtLastAsk, NotBeforeLastAsk};
-ghost use Rattle.napi_types.specs.Laws.{RefusesUnknownHandles, FrontsAreRuns, RoomSuffices, EveryCallHasARow, RefusedCallsChangeNothing, ErrorNamesAreFixed, RunsAreComputed, ReachIsLeast};
+ghost use Rattle.napi_types.specs.Laws.{RefusesUnknownHandles, FrontsAreRuns, RoomSuffices, EveryCallHasARow, RefusedCallsChangeNothing, ErrorNamesAreFixed, RunsAreComputed, ReachIsLeast, CollectionsKeepWhatIsReached, ReferencesAreNamedAlone};
 
 /// The first run: the entries are a run of its script and come to its end.
 pub fn first_run_ends()
@@ -121,7 +123,7 @@ pub fn pending_exception_is_strict()
     ensures { pending_exception.IsStrict }
 {}
 
-/// A frame that ends while an exception is pending says that it was not caught, and nothing else.
+/// An init frame that ends uncut while an exception is pending tells that it was not caught, and nothing else.
 pub fn exception_is_uncaught()
     ensures { pending_exception.IsUncaught }
 {}
@@ -151,6 +153,36 @@ pub fn depth_is_strict()
     ensures { depth_limit.IsStrict }
 {}
 
+/// A value that a reference alone keeps, and collections before and after the reference is weak: the entries are a run of their script and come to its end.
+pub fn strong_and_weak_ends()
+    ensures { strong_and_weak.Ends }
+{}
+
+/// The text of that run, line by line.
+pub fn strong_and_weak_prints()
+    ensures { strong_and_weak.Prints }
+{}
+
+/// A strong reference keeps its value and a weak one does not; without a value the reference gives no handle and is not counted up, and none is counted below 0.
+pub fn strong_and_weak_is_strict()
+    ensures { strong_and_weak.IsStrict }
+{}
+
+/// The greatest count, a reference that is deleted twice, and a reference to a number: the entries are a run of their script and come to its end.
+pub fn reference_counts_ends()
+    ensures { reference_counts.Ends }
+{}
+
+/// The text of that run, line by line.
+pub fn reference_counts_prints()
+    ensures { reference_counts.Prints }
+{}
+
+/// The greatest count is not passed, what was deleted is deleted once, and no reference is to a number.
+pub fn reference_counts_is_strict()
+    ensures { reference_counts.IsStrict }
+{}
+
 /// A refused call answers the first refusal that applies and changes nothing, but that the depth limit leaves its error pending.
 pub fn refused_calls_change_nothing()
     ensures { RefusedCallsChangeNothing }
@@ -171,7 +203,7 @@ pub fn error_names_are_fixed()
     ensures { ErrorNamesAreFixed }
 {}
 
-/// A frame is cut at a call that has no place in the journal, and for want of memory at a call that grows.
+/// A frame is cut at a call that has no place in the journal, and may be cut for want of memory at a call that grows, but not at `typeof`, which does not.
 pub fn cuts_for_room()
     ensures { CutsForRoom }
 {}
@@ -201,4 +233,14 @@ pub fn room_suffices()
 /// What roots reach is the least set of the numbers of values that has each root and each child of its members.
 pub fn reach_is_least()
     ensures { ReachIsLeast }
+{}
+
+/// Each collection of a run keeps exactly the values that the roots reach, empties the references to the others, and tells how many it freed.
+pub fn collections_keep_what_is_reached()
+    ensures { CollectionsKeepWhatIsReached }
+{}
+
+/// A call that names a reference names no handle and no text, so that the order of their refusals shows nowhere.
+pub fn references_are_named_alone()
+    ensures { ReferencesAreNamedAlone }
 {}

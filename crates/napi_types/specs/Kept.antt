@@ -1,0 +1,31 @@
+-- What each collection of a run keeps.
+use Rattle.std.specs.Prelude.{◌≡◌, not, List, ◌∷◌, length}
+use Rattle.napi_types.specs.declared.call.Ask.{Ask}
+use Rattle.napi_types.specs.declared.call.Call.TheVariants as call
+use Rattle.napi_types.specs.declared.entry.Entry.{Entry}
+use Rattle.napi_types.specs.declared.entry.Out.TheVariants as out
+use Rattle.napi_types.specs.declared.entry.What.TheVariants as what
+use Rattle.napi_types.specs.declared.status.Status.TheVariants as status
+use Rattle.napi_types.specs.Collection.{all_but}
+use Rattle.napi_types.specs.Environment.{Environment}
+use Rattle.napi_types.specs.Lists.{has_number}
+use Rattle.napi_types.specs.Machine.{Machine}
+use Rattle.napi_types.specs.Reach.{numbers}
+use Rattle.napi_types.specs.References.{emptied}
+use Rattle.napi_types.specs.Replies.{plain}
+use Rattle.napi_types.specs.Roots.{reach}
+use Rattle.napi_types.specs.Run.{after}
+
+-- a collection, of this entry, leads from one environment to the other
+pub record Collects (old new : Environment) (x : Entry) : Type 0 where
+  -- the values that live after it are exactly those that the roots reach
+  pub values : numbers new.heap.values ≡ reach old
+  -- the references to the others name none, and all others stay as they were
+  pub references : new.references ≡ emptied (λ v. not (has_number v (reach old))) old.references
+  -- it is accepted, and tells how many values it freed
+  pub told : x.reply ≡ plain status.Ok (out.Unsigned (length (all_but (reach old) old.heap.values)))
+
+-- at these entries, by these asks, each `collect` of the environment is such a collection
+abbrev pub KeepsReached : Machine → List Ask → List Entry → Type 0
+KeepsReached m (a ∷ bs) (x ∷ xs) = (x.what ≡ what.Call call.Collect → Collects m.env (after m a x).env x) × KeepsReached (after m a x) bs xs
+KeepsReached m _ _ = Unit {0}
