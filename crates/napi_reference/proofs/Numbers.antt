@@ -1,0 +1,89 @@
+-- The reference of a number stands at its place.
+use Rattle.std.proofs.Common.{◌≡◌, ◌∙◌, ℕ, zero, suc, ◌+◌, ◌<◌, ◌==◌, ◌||◌, ◌∷◌, Bool, true, false, cond, List, [], length, Option, Some, None, IsSome, is_some, option_map, slice_index_or, refl, ap, sym, arith}
+use Rattle.std.specs.List.{filter_map, find, list_any}
+use Rattle.napi_types.specs.declared.ids.ValueId.{ValueId}
+use Rattle.napi_types.specs.Lists.{found, has}
+use Rattle.napi_types.specs.References.{Reference, ReferenceMap, reference_at, has_reference, value_of, count_of}
+use Rattle.napi_reference.specs.declared.rows.Row.{Row}
+use Rattle.napi_reference.specs.Places.{ReferencePlaces, map_of}
+use Rattle.napi_reference.specs.Rows.{reference_of, references_from, places_of, row_of}
+
+pub apart-above : (a n : ℕ) → n < a → (a == n) ≡ false
+apart-above a n h = grind arith
+
+pub apart-below : (a n : ℕ) → a < n → (a == n) ≡ false
+apart-below a n h = grind arith
+
+pub same-number : (a n : ℕ) → a ≡ n → (a == n) ≡ true
+same-number a n h = grind arith
+
+-- the references of rows whose numbers count up from this one
+abbrev pub listed_from : ℕ → List (Option Row) → List Reference
+listed_from k rows = filter_map (λ place. place) (references_from k rows)
+
+pub length-references_from : (k : ℕ) (rows : List (Option Row)) → length (references_from k rows) ≡ length rows
+length-references_from k [] = refl
+length-references_from k (row ∷ rows) = ap suc (length-references_from (suc k) rows)
+
+found-below : (k : ℕ) (rows : List (Option Row)) (n : ℕ) → n < k → found (λ r. r.number) n (listed_from k rows) ≡ None
+found-below k [] n h = refl
+found-below k (None ∷ rows) n h = found-below (suc k) rows n (omega arith)
+found-below k (Some row ∷ rows) n h = rw (apart-above k n h) (found-below (suc k) rows n (omega arith))
+
+found-at : (k : ℕ) (rows : List (Option Row)) (p n : ℕ) → n ≡ k + p → found (λ r. r.number) n (listed_from k rows) ≡ option_map (reference_of n) (slice_index_or rows p None)
+found-at k [] p n e = refl
+found-at k (None ∷ rows) zero n e = found-below (suc k) rows n (omega arith)
+found-at k (Some row ∷ rows) zero n e =
+    let same : k ≡ n = omega arith in
+    rw (same-number k n same) (ap (λ m. Some (reference_of m row)) same)
+found-at k (None ∷ rows) (suc p) n e = found-at (suc k) rows p n (omega arith)
+found-at k (Some row ∷ rows) (suc p) n e = rw (apart-below k n (omega arith)) (found-at (suc k) rows p n (omega arith))
+
+-- the map from numbers to references is the list's
+pub reference_at-row : (rows : List (Option Row)) (n : ℕ) → reference_at (map_of (places_of rows)) n ≡ option_map (reference_of n) (row_of rows n)
+reference_at-row rows zero = found-below 1 rows zero (omega arith)
+reference_at-row rows (suc p) = found-at 1 rows p (suc p) (omega arith)
+
+has-found : {A : Type 0} (number : A → ℕ) (n : ℕ) (xs : List A) → has number n xs ≡ is_some (found number n xs)
+has-found number n [] = refl
+has-found number n (x ∷ xs) = by (number x == n) (has-found number n xs)
+  where
+    by : (b : Bool) → has number n xs ≡ is_some (found number n xs) → (b || has number n xs) ≡ is_some (cond b (Some x) (found number n xs))
+    by true rest = refl
+    by false rest = rest
+
+-- what is told of a reference by its row
+pub record IsRow (m : ReferenceMap) (n : ℕ) (row : Row) : Type 0 where
+  pub there : has_reference m n ≡ true
+  pub value : value_of m n ≡ option_map (λ v. v.0) row.value
+  pub count : count_of m n ≡ row.count
+
+pub row-is : (rows : List (Option Row)) (p : ReferencePlaces) → places_of rows ≡ p → (n : ℕ) (row : Row) → row_of rows n ≡ Some row → IsRow (map_of p) n row
+row-is rows p view n row is =
+    let at : reference_at (map_of (places_of rows)) n ≡ Some (reference_of n row) = reference_at-row rows n ∙ ap (option_map (reference_of n)) is in
+    let here : reference_at (map_of p) n ≡ Some (reference_of n row) = ap (λ q. reference_at (map_of q) n) (sym view) ∙ at in
+    record {
+      there = has-found (λ r. r.number) n (map_of p).rows ∙ ap is_some here;
+      value = rw here refl;
+      count = rw here refl;
+    }
+
+pub no-row : (rows : List (Option Row)) (p : ReferencePlaces) → places_of rows ≡ p → (n : ℕ) → row_of rows n ≡ None → has_reference (map_of p) n ≡ false
+no-row rows p view n is =
+    let at : reference_at (map_of (places_of rows)) n ≡ None = reference_at-row rows n ∙ ap (option_map (reference_of n)) is in
+    let here : reference_at (map_of p) n ≡ None = ap (λ q. reference_at (map_of q) n) (sym view) ∙ at in
+    has-found (λ r. r.number) n (map_of p).rows ∙ ap is_some here
+
+not_gone : (o : Option ℕ) → o ≡ None → IsSome o → ⊥
+not_gone None gone some = let no : ⊥ = cc in no
+not_gone (Some v) gone some = let no : ⊥ = cc in no
+
+not_there : (o : Option ℕ) (v : ℕ) → o ≡ Some v → o ≡ None → ⊥
+not_there o v there none = let no : ⊥ = cc in no
+
+-- the map says whether the row has a value
+pub value-gone : (m : ReferenceMap) (n : ℕ) (row : Row) → IsRow m n row → row.value ≡ None → IsSome (value_of m n) → ⊥
+value-gone m n row is gone = not_gone (value_of m n) (is.value ∙ ap (option_map (λ v. v.0)) gone)
+
+pub value-there : (m : ReferenceMap) (n : ℕ) (row : Row) (v : ValueId) → IsRow m n row → row.value ≡ Some v → value_of m n ≡ None → ⊥
+value-there m n row v is here = not_there (value_of m n) v.0 (is.value ∙ ap (option_map (λ v. v.0)) here)

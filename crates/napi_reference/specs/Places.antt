@@ -1,0 +1,18 @@
+-- The places where references stand, as their callers go over them, and the map that they stand for.
+use Rattle.std.specs.Prelude.{ℕ, List, Option, Some, None}
+use Rattle.std.specs.List.{filter_map}
+use Rattle.napi_types.specs.References.{Reference, ReferenceMap, strong_value}
+
+-- each place, with the reference that stands there, if one does, and the numbers that were issued
+pub record ReferencePlaces : Type 0 where
+  pub places : List (Option Reference)
+  pub issued : List ℕ
+
+-- the map from numbers to references
+abbrev pub map_of : ReferencePlaces → ReferenceMap
+map_of p = record { rows = filter_map (λ place. place) p.places; issued = p.issued }
+
+-- the value that a strong reference at a place keeps
+abbrev pub strong_in : Option Reference → Option ℕ
+strong_in None = None
+strong_in (Some r) = strong_value r

@@ -1,0 +1,85 @@
+//! The list of references, read and changed by number.
+ghost use Rattle.std.specs.Prelude.{◌≡◌, ◌-◌, ◌++◌, [], ◌∷◌, IsSome, OnOk, OnErr, Some, map, option_map, slice_set};
+ghost use Rattle.napi_types.specs.Lists.{has_number};
+ghost use Rattle.napi_reference.specs.Freed.{IsInOrder};
+ghost use Rattle.napi_reference.specs.Places.{strong_in};
+ghost use Rattle.napi_reference.specs.Rows.{reference_of, row_of, weak_emptied};
+
+use crate::freed::{self, Order};
+use napi_types::{NoMemory, ValueId};
+
+/// A reference: its value, none where that was collected, and its count.
+#[derive(Clone, Copy)]
+pub(crate) struct Row {
+    pub(crate) value: Option<ValueId>,
+    pub(crate) count: u32,
+}
+
+/// The row of a number.
+pub(crate) fn row_at(rows: &[Option<Row>], number: u64) -> Option<Row>
+    ensures { result ≡ row_of rows.now number }
+{
+    match number.checked_sub(1) {
+        Some(place) => match rows.get(place as usize) {
+            Some(row) => *row,
+            None => None,
+        },
+        None => None,
+    }
+}
+
+/// The value that the row at a place keeps, where its count is above 0.
+pub(crate) fn strong_value(place: Option<Row>) -> Option<ValueId>
+    ensures { option_map (λ v. v.0) result ≡ strong_in (option_map (reference_of 1) place) }
+{
+    match place {
+        Some(row) => {
+            if row.count == 0 {
+                None
+            } else {
+                row.value
+            }
+        }
+        None => None,
+    }
+}
+
+/// Adds a row at a new place.
+pub(crate) fn push(rows: &mut Vec<Option<Row>>, row: Row) -> Result<(), NoMemory>
+    ensures pushed { OnOk result (rows.new.items ≡ rows.old.items ++ Some row ∷ []) }
+    ensures err { OnErr result (rows.new.items ≡ rows.old.items) }
+{
+    match rows.push(Some(row)) {
+        Ok(()) => Ok(()),
+        Err(_) => Err(NoMemory),
+    }
+}
+
+/// Puts a row, or none, in the place of the row of a number.
+pub(crate) fn put(rows: &mut Vec<Option<Row>>, number: u64, row: Option<Row>)
+    requires { IsSome (row_of rows.old.items number) }
+    ensures { rows.new.items ≡ slice_set rows.old.items (number - 1) row }
+{
+    rows[(number - 1) as usize] = row;
+}
+
+/// Takes its value from each row that has the count 0 and one of these values.
+pub(crate) fn empty_weak(rows: &mut Vec<Option<Row>>, values: &[ValueId])
+    ensures { rows.new.items ≡ map (option_map (weak_emptied (λ v. has_number v (map (λ v. v.0) values.now)))) rows.old.items }
+{
+    let order = freed::order_of(values);
+    for place in rows.iter_mut() {
+        empty(place, values, order);
+    }
+}
+
+fn empty(place: &mut Option<Row>, values: &[ValueId], order: Order)
+    requires { IsInOrder order values.now }
+    ensures { place.new ≡ option_map (weak_emptied (λ v. has_number v (map (λ v. v.0) values.now))) place.old }
+{
+    if let Some(row) = place {
+        if row.count == 0 && row.value.is_some_and(|value| freed::is_among(values, order, value)) {
+            row.value = None;
+        }
+    }
+}
