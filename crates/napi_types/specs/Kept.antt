@@ -6,7 +6,7 @@ use Rattle.napi_types.specs.declared.entry.Entry.{Entry}
 use Rattle.napi_types.specs.declared.entry.Out.TheVariants as out
 use Rattle.napi_types.specs.declared.entry.What.TheVariants as what
 use Rattle.napi_types.specs.declared.status.Status.TheVariants as status
-use Rattle.napi_types.specs.Collection.{all_but}
+use Rattle.napi_types.specs.Collection.{those_of, all_but}
 use Rattle.napi_types.specs.Environment.{Environment}
 use Rattle.napi_types.specs.Lists.{has_number}
 use Rattle.napi_types.specs.Machine.{Machine}
@@ -20,6 +20,8 @@ use Rattle.napi_types.specs.Run.{after}
 pub record Collects (old new : Environment) (x : Entry) : Type 0 where
   -- the values that live after it are exactly those that the roots reach
   pub values : numbers new.heap.values ≡ reach old
+  -- each of them as it was
+  pub unchanged : new.heap.values ≡ those_of (reach old) old.heap.values
   -- the references to the others name none, and all others stay as they were
   pub references : new.references ≡ emptied (λ v. not (has_number v (reach old))) old.references
   -- it is accepted, and tells how many values it freed
