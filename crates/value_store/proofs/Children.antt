@@ -1,9 +1,20 @@
 -- What a changed value names.
-use Rattle.std.proofs.Common.{ℕ, zero, suc, ◌+◌, ◌-◌, ◌==◌, Bool, true, false, cond, not, List, [], ◌∷◌, ◌++◌, map, length, replicate, Option, Some, None, IfSome, option_map}
+use Rattle.std.proofs.Common.{◌≡◌, ℕ, zero, suc, ◌+◌, ◌-◌, ◌==◌, Bool, true, false, cond, not, List, [], ◌∷◌, ◌++◌, map, length, replicate, Option, Some, None, IfSome, option_map, slice_index_or, refl, ap, ◌∙◌, sym, subst}
 use Rattle.std.specs.List.{All, filter_map}
-use Rattle.std.proofs.lemmas.List.Elements.{All-nil, All-cons, All-head, All-tail, All-append, All-set, All-replicate}
+use Rattle.std.proofs.lemmas.List.Elements.{filter_map-append, All-nil, All-cons, All-head, All-tail, All-append, All-set, All-replicate}
 use Rattle.napi_types.specs.Lists.{found}
 use Rattle.napi_types.specs.Values.{Value, Property, property_set, property_removed, property_at, element_at, element_set, children, with_property, without_property, with_element}
+use Rattle.value_store.specs.Changes.{child_places}
+
+-- the children are what stands at their places
+pub children-places : (v : Value) → children v ≡ filter_map (λ e. e) (child_places v)
+children-places v =
+    ap (λ ns. ns ++ filter_map (λ e. e) v.elements) (named v.properties)
+    ∙ sym (filter_map-append (λ (e : Option ℕ). e) (map (λ (p : Property). Some p.value) v.properties) v.elements)
+  where
+    named : (ps : List Property) → map (λ (p : Property). p.value) ps ≡ filter_map (λ e. e) (map (λ (p : Property). Some p.value) ps)
+    named [] = refl
+    named (p ∷ ps) = ap (λ l. p.value ∷ l) (named ps)
 
 module _ (P : ℕ → Type 0) where
   pub left : (xs ys : List ℕ) → All P (xs ++ ys) → All P xs
@@ -79,6 +90,14 @@ module _ (P : ℕ → Type 0) where
   element-named at v h = among v.elements at (to_options v.elements (right (map (λ p. p.value) v.properties) (filter_map (λ e. e) v.elements) h))
     where
       among : (es : List (Option ℕ)) (at : ℕ) → All (λ e. IfSome e P) es → IfSome (element_at at es) P
+      among [] at h = tt
+      among (e ∷ es) zero h = All-head (λ e. IfSome e P) e es h
+      among (e ∷ es) (suc at) h = among es at (All-tail (λ e. IfSome e P) e es h)
+
+  pub child-named : (at : ℕ) (v : Value) → All P (children v) → IfSome (slice_index_or (child_places v) at None) P
+  child-named at v h = among (child_places v) at (to_options (child_places v) (let Q : List ℕ → Type 0 = λ ns. All P ns in subst Q (children-places v) h))
+    where
+      among : (es : List (Option ℕ)) (at : ℕ) → All (λ e. IfSome e P) es → IfSome (slice_index_or es at None) P
       among [] at h = tt
       among (e ∷ es) zero h = All-head (λ e. IfSome e P) e es h
       among (e ∷ es) (suc at) h = among es at (All-tail (λ e. IfSome e P) e es h)

@@ -6,11 +6,11 @@ use Rattle.std.proofs.lemmas.List.{length-map}
 use Rattle.napi_types.specs.declared.ids.ValueId.{ValueId}
 use Rattle.napi_types.specs.Values.{Value, children, property_at, element_at, is_object_like, value_at, starting_values}
 use Rattle.napi_types.specs.Graph.{StoreState, Stored, IsSound, IsLive, value_of}
-use Rattle.value_store.specs.Places.{state_of, stored_as, at_number, properties_at, elements_at, IsNumbered}
-use Rattle.value_store.specs.Changes.{properties_in, elements_in, id_at, IsObject, IsStarting, StandsAt}
+use Rattle.value_store.specs.Places.{state_of, stored_as, at_number, properties_at, elements_at, child_places_at, IsNumbered}
+use Rattle.value_store.specs.Changes.{properties_in, elements_in, child_places, child_places_in, id_at, EachStandsOnce, IsObject, IsStarting, StandsAt}
 use Rattle.value_store.proofs.Lookup.{value_of-state_of, number-within}
 use Rattle.value_store.proofs.States.{sound}
-use Rattle.value_store.proofs.Children.{property-named, element-named}
+use Rattle.value_store.proofs.Children.{property-named, element-named, child-named}
 
 pub some-is : (o : Option Value) → IsSome o → (v : Value) × (o ≡ Some v)
 some-is None h = let no : ⊥ = cc in absurd no
@@ -59,6 +59,9 @@ module _ (ps : List (Option Value)) (s : StoreState) (view : state_of ps ≡ s) 
   pub elements_in-view : (n : ℕ) → elements_in s n ≡ elements_at n ps
   elements_in-view n = ap (λ (o : Option Value). unwrap_or (option_map (λ v. v.elements) o) []) (value_of-view n)
 
+  pub child_places-view : (n : ℕ) → child_places_in s n ≡ child_places_at n ps
+  child_places-view n = ap (λ (o : Option Value). unwrap_or (option_map child_places o) []) (value_of-view n)
+
   pub live-there : (n : ℕ) → IsLive s n → IsSome (at_number ps n)
   live-there n h = subst (λ (o : Option Value). IsSome o) (value_of-view n) h
 
@@ -87,6 +90,14 @@ module _ (ps : List (Option Value)) (s : StoreState) (view : state_of ps ≡ s) 
       by o None closed h = tt
       by None (Some v) closed h = let no : ⊥ = cc in absurd no
       by (Some w) (Some v) closed h = there-live v.0 (subst (λ (o : Option ℕ). IfSome o (λ m. IsSome (at_number ps m))) (sym h) (element-named (λ m. IsSome (at_number ps m)) at w (closed w refl)))
+
+  pub child-live : (n at : ℕ) (r : Option ValueId) → option_map (λ v. v.0) r ≡ slice_index_or (child_places_at n ps) at None → IfSome r (λ v. IsLive s v.0)
+  child-live n at r h = by (at_number ps n) r (all.closed n) h
+    where
+      by : (o : Option Value) (r : Option ValueId) → ((v : Value) → o ≡ Some v → All (λ m. IsSome (at_number ps m)) (children v)) → option_map (λ v. v.0) r ≡ slice_index_or (unwrap_or (option_map child_places o) []) at None → IfSome r (λ v. IsLive s v.0)
+      by o None closed h = tt
+      by None (Some v) closed h = let no : ⊥ = cc in absurd no
+      by (Some w) (Some v) closed h = there-live v.0 (subst (λ (o : Option ℕ). IfSome o (λ m. IsSome (at_number ps m))) (sym h) (child-named (λ m. IsSome (at_number ps m)) at w (closed w refl)))
 
   pub is-starting : (which : ℕ) → which < 5 → IsStarting s which (which + 1)
   is-starting which less = record {
@@ -126,3 +137,14 @@ module _ (ps : List (Option Value)) (s : StoreState) (view : state_of ps ≡ s) 
       one : (other : ℕ) (o : Option Value) → ((v : Value) → o ≡ Some v → v.number ≡ suc other) → option_map (λ (v : Value). v.number) o ≡ Some n → other ≡ n - 1
       one other None numbered is = let no : ⊥ = cc in absurd no
       one other (Some v) numbered is = let number : v.number ≡ suc other = numbered v refl in let same : v.number ≡ n = cc in omega arith
+
+  -- and no other place has its number
+  pub stands-once : EachStandsOnce s
+  stands-once id first second here there =
+      let one : suc first ≡ id = stood first (slice_index_or ps first None) (all.numbered (suc first)) (sym (id_at-view first) ∙ here) in
+      let two : suc second ≡ id = stood second (slice_index_or ps second None) (all.numbered (suc second)) (sym (id_at-view second) ∙ there) in
+      omega arith
+    where
+      stood : (place : ℕ) (o : Option Value) → ((v : Value) → o ≡ Some v → v.number ≡ suc place) → option_map (λ (v : Value). v.number) o ≡ Some id → suc place ≡ id
+      stood place None numbered is = let no : ⊥ = cc in absurd no
+      stood place (Some v) numbered is = let number : v.number ≡ suc place = numbered v refl in let same : v.number ≡ id = cc in omega arith

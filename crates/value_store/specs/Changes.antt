@@ -1,5 +1,5 @@
 -- What the calls of a store change of its map from numbers to values.
-use Rattle.std.specs.Prelude.{◌≡◌, ◌≢◌, ℕ, ◌+◌, ◌<◌, ◌==◌, ◌||◌, nat_eq, true, false, List, [], ◌∷◌, length, map, Option, Some, None, option_map, IfSome, IsSomeAnd, IsTrue, slice_index_or}
+use Rattle.std.specs.Prelude.{◌≡◌, ◌≢◌, ℕ, ◌+◌, ◌<◌, ◌==◌, ◌||◌, nat_eq, true, false, List, [], ◌∷◌, ◌++◌, length, map, Option, Some, None, option_map, IfSome, IsSomeAnd, IsTrue, slice_index_or}
 use Rattle.std.specs.List.{All, IsDistinct}
 use Rattle.napi_types.specs.declared.body.Body.{Body}
 use Rattle.napi_types.specs.declared.ids.ValueId.{ValueId}
@@ -15,6 +15,14 @@ properties_in s id = unwrap_or (option_map (λ v. v.properties) (value_of s id))
 -- the elements of the value that a number names, none where no live value has the number
 abbrev pub elements_in : StoreState → ℕ → List (Option ℕ)
 elements_in s id = unwrap_or (option_map (λ v. v.elements) (value_of s id)) []
+
+-- the children of a value by place: the values of its properties in their order, then its elements, none at a hole
+abbrev pub child_places : Value → List (Option ℕ)
+child_places v = map (λ p. Some p.value) v.properties ++ v.elements
+
+-- the same of the value that a number names, none where no live value has the number
+abbrev pub child_places_in : StoreState → ℕ → List (Option ℕ)
+child_places_in s id = unwrap_or (option_map child_places (value_of s id)) []
 
 -- the number names a live object or function
 abbrev pub IsObject : StoreState → ℕ → Type 0
@@ -75,6 +83,10 @@ pub record CanFree (s : StoreState) (ids : List ℕ) : Type 0 where
 -- the number of the value that stands at a place
 abbrev pub id_at : StoreState → ℕ → Option ℕ
 id_at s place = option_map (λ x. x.id) (slice_index_or s.places place None)
+
+-- no number stands at two places
+abbrev pub EachStandsOnce : StoreState → Type 0
+EachStandsOnce s = (id first second : ℕ) → id_at s first ≡ Some id → id_at s second ≡ Some id → first ≡ second
 
 -- a new store has the five starting values and nothing else
 pub record IsNew (s : StoreState) : Type 0 where

@@ -1,6 +1,7 @@
 //! One value: what it is, its properties and its elements.
-ghost use Rattle.std.specs.Prelude.{◌≡◌, ◌-◌, ◌<◌, ◌≤◌, ◌++◌, length, replicate, IfOk, OnOk, OnErr, option_map, slice_get, is_some, Some, None, true, false};
+ghost use Rattle.std.specs.Prelude.{◌≡◌, ◌-◌, ◌<◌, ◌≤◌, ◌++◌, length, replicate, IfOk, OnOk, OnErr, option_map, slice_get, slice_index_or, is_some, Some, None, true, false};
 ghost use Rattle.napi_types.specs.Values.{fresh_value, error_of, property_at, element_at, with_property, without_property, with_element};
+ghost use Rattle.value_store.specs.Changes.{child_places};
 ghost use Rattle.value_store.specs.Properties.{elements_of};
 
 use indexmap::IndexMap;
@@ -179,6 +180,24 @@ impl ValueInfo {
         ensures { result ≡ length self.now.elements }
     {
         self.elements.len() as u32
+    }
+
+    /// How many places the children have: one for each property, and one for each element, holes counted.
+    pub(crate) fn child_count(&self) -> usize
+        ensures { result ≡ length (child_places self.now) }
+    {
+        self.properties.len() + self.elements.len()
+    }
+
+    /// The child at a place: first the values of the properties, in their order, then the elements. `None` exactly at a hole.
+    pub(crate) fn child_at(&self, at: usize) -> Option<ValueId>
+        requires { at < length (child_places self.now) }
+        ensures { option_map (λ v. v.0) result ≡ slice_index_or (child_places self.now) at None }
+    {
+        match self.properties.get_index(at) {
+            Some((_, value)) => Some(*value),
+            None => self.elements[at - self.properties.len()],
+        }
     }
 }
 

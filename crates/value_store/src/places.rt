@@ -4,7 +4,7 @@ ghost use Rattle.std.specs.List.{All, range_with_len};
 ghost use Rattle.napi_types.specs.Lists.{has_number};
 ghost use Rattle.napi_types.specs.Values.{property_at, element_at, with_property, without_property, with_element, made_after, list_of, error_of, thrown_of};
 ghost use Rattle.value_store.specs.Changes.{numbers_of};
-ghost use Rattle.value_store.specs.Places.{at_number, changed_at, properties_at, elements_at, starting_list, IsCleared};
+ghost use Rattle.value_store.specs.Places.{at_number, changed_at, properties_at, elements_at, child_places_at, starting_list, IsCleared};
 ghost use Rattle.value_store.specs.Properties.{elements_named};
 
 use crate::ValueInfo;
@@ -283,6 +283,25 @@ pub(crate) fn element_count(values: &[Option<ValueInfo>], number: u64) -> u32
     match value_at(values, number) {
         Some(value) => value.element_count(),
         None => 0,
+    }
+}
+
+pub(crate) fn child_count(values: &[Option<ValueInfo>], number: u64) -> usize
+    ensures { result ≡ length (child_places_at number values.now) }
+{
+    match value_at(values, number) {
+        Some(value) => value.child_count(),
+        None => 0,
+    }
+}
+
+pub(crate) fn child_at(values: &[Option<ValueInfo>], number: u64, at: usize) -> Option<ValueId>
+    requires { at < length (child_places_at number values.now) }
+    ensures { option_map (λ v. v.0) result ≡ slice_index_or (child_places_at number values.now) at None }
+{
+    match value_at(values, number) {
+        Some(value) => value.child_at(at),
+        None => unreachable!(),
     }
 }
 

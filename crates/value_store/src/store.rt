@@ -1,9 +1,9 @@
 //! The store: the values that were made and not freed, each under a number.
-ghost use Rattle.std.specs.Prelude.{◌≡◌, ◌+◌, ◌-◌, ◌<◌, ◌≤◌, ◌^◌, ◌++◌, [], ◌∷◌, not, filter, map, length, slice_get, is_some, option_map, option_copied, IfSome, IfOk, OnOk, OnErr, Some};
+ghost use Rattle.std.specs.Prelude.{◌≡◌, ◌+◌, ◌-◌, ◌<◌, ◌≤◌, ◌^◌, ◌++◌, [], ◌∷◌, not, filter, map, length, slice_get, slice_index_or, is_some, option_map, option_copied, IfSome, IfOk, OnOk, OnErr, Some, None};
 ghost use Rattle.napi_types.specs.Lists.{has_number};
 ghost use Rattle.napi_types.specs.Values.{value_at, value_changed, fresh_value, error_of, list_of, thrown_strings, thrown_of, property_at, element_at, with_property, without_property, with_element};
 ghost use Rattle.napi_types.specs.Graph.{value_of, number_in, renamed, graph_of, IsLive, IsSound};
-ghost use Rattle.value_store.specs.Changes.{properties_in, elements_in, id_at, numbers_of, IsNew, IsStarting, IsObject, StandsAt, ChangesOnly, Makes, MakesValue, MakesList, Frees, CanFree};
+ghost use Rattle.value_store.specs.Changes.{properties_in, elements_in, child_places_in, id_at, EachStandsOnce, numbers_of, IsNew, IsStarting, IsObject, StandsAt, ChangesOnly, Makes, MakesValue, MakesList, Frees, CanFree};
 
 use crate::{ValueInfo, places};
 use napi_types::{Body, NoMemory, TextNo, ValueId};
@@ -207,6 +207,23 @@ impl Store {
         places::element_count(&self.values, id.0)
     }
 
+    /// How many places a value's children have: one for each property, and one for each element, holes counted. Constant time.
+    pub fn child_places(&self, id: ValueId) -> usize
+        ensures { result ≡ length (child_places_in self.now id.0) }
+    {
+        places::child_count(&self.values, id.0)
+    }
+
+    /// The child at a place: first the values of the properties, in the order in which their names were first set, then the
+    /// elements. `None` exactly at a hole. Constant time.
+    pub fn child_at(&self, id: ValueId, at: usize) -> Option<ValueId>
+        requires { at < length (child_places_in self.now id.0) }
+        ensures value { option_map (λ v. v.0) result ≡ slice_index_or (child_places_in self.now id.0) at None }
+        ensures live { IfSome result (λ v. IsLive self.now v.0) }
+    {
+        places::child_at(&self.values, id.0, at)
+    }
+
     /// Frees values. They are distinct and live, none is a starting value, and no other value names one of them.
     ///
     /// The time grows with the list and with what the freed values hold. It takes no memory.
@@ -220,7 +237,8 @@ impl Store {
 
     /// How many places there are. Each live value stands at one.
     pub fn places(&self) -> usize
-        ensures { result ≡ length self.now.places }
+        ensures count { result ≡ length self.now.places }
+        ensures once { EachStandsOnce self.now }
     {
         self.values.len()
     }

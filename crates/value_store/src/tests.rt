@@ -99,6 +99,24 @@ fn elements_have_holes(rt: HostRuntime) -> Result<(), Fail> {
 }
 
 #[test]
+fn children_stand_in_order(rt: HostRuntime) -> Result<(), Fail> {
+    let mut store = ample(Store::new(rt.alloc()))?;
+    let object = ample(store.make(PLAIN))?;
+    let [undefined, null, global] = [store.starting(0), store.starting(1), store.starting(4)];
+    set(&rt, &mut store, object, 9, global)?;
+    set(&rt, &mut store, object, 2, undefined)?;
+    set_at(&rt, &mut store, object, 1, null)?;
+    let expected = [Some(global.0), Some(undefined.0), None, Some(null.0)];
+    assert_eq!(rt; store.child_places(object), expected.len());
+    for (at, child) in expected.into_iter().enumerate() {
+        assert!(rt; at < store.child_places(object));
+        assert_eq!(rt; store.child_at(object, at).map(|child| child.0), child);
+    }
+    assert_eq!(rt; store.child_places(global), 0);
+    Ok(())
+}
+
+#[test]
 fn a_number_is_never_given_again(rt: HostRuntime) -> Result<(), Fail> {
     let mut store = ample(Store::new(rt.alloc()))?;
     assert!(rt; store.get(store.starting(0)).is_some());
