@@ -7,6 +7,7 @@ pub mod Errors
 pub mod GraphCalls
 pub mod Graphs
 pub mod Listing
+pub mod LiveValues
 pub mod Lookup
 pub mod Names
 pub mod Properties

@@ -239,6 +239,7 @@ impl Store {
     pub fn places(&self) -> usize
         ensures count { result ≡ length self.now.places }
         ensures once { EachStandsOnce self.now }
+        ensures sound { IsSound self.now }
     {
         self.values.len()
     }
