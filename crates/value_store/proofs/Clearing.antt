@@ -28,7 +28,7 @@ has-more n k (x ∷ ids) = ap (λ b. (x == n) || b) (has-more n k ids) ∙ turn 
     turn false true c = refl
     turn false false c = refl
 
-numbers_of-more : (list : List ValueId) (i : ℕ) (d : ValueId) → i < length list → numbers_of (take (i + 1) list) ≡ numbers_of (take i list) ++ (get_or list i d).0 ∷ []
+pub numbers_of-more : (list : List ValueId) (i : ℕ) (d : ValueId) → i < length list → numbers_of (take (i + 1) list) ≡ numbers_of (take i list) ++ (get_or list i d).0 ∷ []
 numbers_of-more list i d less = ap numbers_of (take_more list i d less) ∙ map-append (λ (v : ValueId). v.0) (take i list) (get_or list i d ∷ [])
 
 -- one place more is emptied

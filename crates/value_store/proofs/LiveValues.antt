@@ -108,7 +108,7 @@ value_at-numbered f numbered (m ∷ ns) n = by (value_at-numbered f numbered ns 
         let other : (v.number == n) ≡ false = ap (λ k. k == n) (numbered m v is) ∙ e in
         ap (λ b. cond b (Some v) (value_at (filter_map f ns) n)) other ∙ rest
 
-in-range : (n from many : ℕ) → from ≤ n → n < from + many → has_number n (range_with_len from many) ≡ true
+pub in-range : (n from many : ℕ) → from ≤ n → n < from + many → has_number n (range_with_len from many) ≡ true
 in-range n from zero low high = absurd (omega arith)
 in-range n from (suc many) low high = by (λ above. in-range n (from + 1) many above (omega arith)) (from == n) refl
   where

@@ -1,0 +1,99 @@
+-- Marks that are set one after another.
+use Rattle.std.proofs.Common.{◌≡◌, ℕ, zero, suc, ◌+◌, ◌*◌, ◌<◌, ◌≤◌, ◌⊎◌, inl, inr, Bool, true, false, cond, not, List, [], ◌∷◌, ◌++◌, map, length, take, get_or, count_by, replicate, Option, Some, None, option_map, slice_index_or, refl, ap, sym, subst, ◌∙◌, arith}
+use Rattle.std.specs.List.{All, filter_map}
+use Rattle.std.specs.Option.{option_to_list}
+use Rattle.std.proofs.lemmas.List.{get_or-map, length-map, take_more}
+use Rattle.std.proofs.lemmas.List.Elements.{All-nil, All-append, All-weaker, filter_map-append}
+use Rattle.std.proofs.lemmas.List.Folds.{sum_by-replicate}
+use Rattle.napi_types.specs.declared.ids.ValueId.{ValueId}
+use Rattle.napi_types.specs.Lists.{has_number}
+use Rattle.napi_types.specs.Graph.{StoreState, IsLive}
+use Rattle.value_store.specs.Changes.{id_at, numbers_of}
+use Rattle.value_store.proofs.Clearing.{numbers_of-more}
+use Rattle.trace_collect.specs.Marks.{is_marked, IsMarked, Marks}
+use Rattle.trace_collect.proofs.Members.{has-left, has-right, has-cases}
+
+-- more marks keep what is marked
+pub marked-kept : (s : StoreState) (old new : List Bool) → ((place : ℕ) → is_marked old place ≡ true → is_marked new place ≡ true) → (id : ℕ) → IsMarked s old id → IsMarked s new id
+marked-kept s old new kept id h place at = kept place (h place at)
+
+pub marks-none : (s : StoreState) (marks : List Bool) (left : List ℕ) → Marks s [] marks left marks left
+marks-none s marks left = record {
+  marked = All-nil (IsMarked s marks);
+  kept = λ place h. h;
+  added = λ place id at h. inl h;
+  waits = λ id h. h;
+  left = λ id h. inl h;
+  room = refl;
+}
+
+pub marks-then : (s : StoreState) (xs ys : List ℕ) (a b c : List Bool) (k l m : List ℕ) → Marks s xs a k b l → Marks s ys b l c m → Marks s (xs ++ ys) a k c m
+marks-then s xs ys a b c k l m one two = record {
+  marked = All-append (IsMarked s c) xs ys (All-weaker (IsMarked s b) (IsMarked s c) (marked-kept s b c two.kept) xs one.marked) two.marked;
+  kept = λ place h. two.kept place (one.kept place h);
+  added = λ place id at h. earlier place id at (two.added place id at h);
+  waits = λ id h. two.waits id (one.waits id h);
+  left = λ id h. from id (two.left id h);
+  room = two.room ∙ one.room;
+}
+  where
+    first : (place id : ℕ) → (is_marked a place ≡ true) ⊎ ((has_number id xs ≡ true) × (has_number id l ≡ true)) → (is_marked a place ≡ true) ⊎ ((has_number id (xs ++ ys) ≡ true) × (has_number id m ≡ true))
+    first place id (inl h) = inl h
+    first place id (inr h) = inr (has-left id xs ys h.0, two.waits id h.1)
+
+    earlier : (place id : ℕ) → id_at s place ≡ Some id → (is_marked b place ≡ true) ⊎ ((has_number id ys ≡ true) × (has_number id m ≡ true)) → (is_marked a place ≡ true) ⊎ ((has_number id (xs ++ ys) ≡ true) × (has_number id m ≡ true))
+    earlier place id at (inl h) = first place id (one.added place id at h)
+    earlier place id at (inr h) = inr (has-right id xs ys h.0, h.1)
+
+    start : (id : ℕ) → (has_number id k ≡ true) ⊎ (has_number id xs ≡ true) → (has_number id k ≡ true) ⊎ (has_number id (xs ++ ys) ≡ true)
+    start id (inl h) = inl h
+    start id (inr h) = inr (has-left id xs ys h)
+
+    from : (id : ℕ) → (has_number id l ≡ true) ⊎ (has_number id ys ≡ true) → (has_number id k ≡ true) ⊎ (has_number id (xs ++ ys) ≡ true)
+    from id (inl h) = start id (one.left id h)
+    from id (inr h) = inr (has-right id xs ys h)
+
+-- what holds of the numbers of a list holds of each
+pub listed : (P : ℕ → Type 0) (ids : List ValueId) (i : ℕ) (d : ValueId) → i < length ids → All P (numbers_of ids) → P (get_or ids i d).0
+listed P ids i d less all =
+    let many : length (numbers_of ids) ≡ length ids = length-map ids (λ (v : ValueId). v.0) in
+    let there : P (get_or (numbers_of ids) i d.0) = all i d.0 (omega arith) in
+    let same : get_or (numbers_of ids) i d.0 ≡ (get_or ids i d).0 = get_or-map (λ (v : ValueId). v.0) ids i d d.0 less in
+    subst P same there
+
+-- one value of a list more
+pub marks-next : (s : StoreState) (ids : List ValueId) (i : ℕ) (d : ValueId) (a b c : List Bool) (k l m : List ℕ) → i < length ids
+    → Marks s (numbers_of (take i ids)) a k b l → Marks s ((get_or ids i d).0 ∷ []) b l c m → Marks s (numbers_of (take (i + 1) ids)) a k c m
+marks-next s ids i d a b c k l m less before more =
+    subst (λ ns. Marks s ns a k c m) (sym (numbers_of-more ids i d less)) (marks-then s (numbers_of (take i ids)) ((get_or ids i d).0 ∷ []) a b c k l m before more)
+
+-- one child more
+pub children-next : (s : StoreState) (es : List (Option ℕ)) (at : ℕ) (e : Option ℕ) (a b c : List Bool) (k l m : List ℕ) → at < length es → e ≡ slice_index_or es at None
+    → Marks s (filter_map (λ child. child) (take at es)) a k b l → Marks s (option_to_list e) b l c m → Marks s (filter_map (λ child. child) (take (at + 1) es)) a k c m
+children-next s es at e a b c k l m less is before more =
+    subst (λ ns. Marks s ns a k c m) (sym (more-places es at e less is)) (marks-then s (filter_map (λ child. child) (take at es)) (option_to_list e) a b c k l m before more)
+  where
+    one : (e : Option ℕ) → filter_map (λ (child : Option ℕ). child) (e ∷ []) ≡ option_to_list e
+    one None = refl
+    one (Some n) = refl
+
+    more-places : (es : List (Option ℕ)) (at : ℕ) (e : Option ℕ) → at < length es → e ≡ slice_index_or es at None → filter_map (λ child. child) (take (at + 1) es) ≡ filter_map (λ child. child) (take at es) ++ option_to_list e
+    more-places es at e less is =
+        ap (filter_map (λ (child : Option ℕ). child)) (take_more es at None less)
+        ∙ filter_map-append (λ (child : Option ℕ). child) (take at es) (get_or es at None ∷ [])
+        ∙ ap (λ o. filter_map (λ (child : Option ℕ). child) (take at es) ++ filter_map (λ (child : Option ℕ). child) (o ∷ [])) (sym is)
+        ∙ ap (λ l. filter_map (λ (child : Option ℕ). child) (take at es) ++ l) (one e)
+
+-- where nothing is marked, all places are unmarked
+pub count-none : (many : ℕ) → count_by not (replicate many false) ≡ many
+count-none many = sum_by-replicate (λ b. cond (not b) 1 0) many false ∙ times-one many
+  where
+    times-one : (many : ℕ) → many * 1 ≡ many
+    times-one many = omega arith
+
+-- each mark takes one place of those that are not marked, and leaves one value to follow
+pub room-kept : (s : StoreState) (ids : List ℕ) (old new : List Bool) (left next : List ValueId) → Marks s ids old (numbers_of left) new (numbers_of next) → length next + count_by not new ≡ length left + count_by not old
+room-kept s ids old new left next more =
+    let one : length (numbers_of left) ≡ length left = length-map left (λ (v : ValueId). v.0) in
+    let two : length (numbers_of next) ≡ length next = length-map next (λ (v : ValueId). v.0) in
+    omega (arith, more.room)

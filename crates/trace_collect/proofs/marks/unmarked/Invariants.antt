@@ -1,0 +1,7 @@
+use Rattle.std.proofs.Common.{◌≡◌}
+use Rattle.value_store.specs.Changes.{numbers_of}
+use Rattle.trace_collect.specs.Marks.{unmarked_ids}
+use Rattle.trace_collect.proofs.marks.unmarked.Given as goal
+
+abbrev pub invariant-loop-place : goal.invariant-loop-place
+invariant-loop-place l = numbers_of l.list.items ≡ unmarked_ids l.store l.marks l.place

@@ -1,0 +1,133 @@
+//! The places of a store, marked where the roots reach the value that stands there.
+ghost use Rattle.std.specs.Prelude.{◌≡◌, ◌+◌, ◌≤◌, ◌++◌, [], ◌∷◌, not, count_by, length, replicate, false, vec_capacity, IfOk, OnOk, option_to_list};
+ghost use Rattle.std.specs.List.{All};
+ghost use Rattle.napi_types.specs.Graph.{IsLive, IsSound};
+ghost use Rattle.value_store.specs.Changes.{numbers_of, EachStandsOnce};
+ghost use Rattle.trace_collect.specs.Marks.{unmarked_ids, children_in, AreMarked, Marks, Follows};
+
+use napi_types::{NoMemory, ValueId};
+use std::alloc::Global;
+use value_store::Store;
+
+/// A mark for each place of the store: whether the roots reach the value there.
+pub(crate) fn reached(
+    alloc: Global,
+    store: &Store,
+    roots: &[ValueId],
+) -> Result<Vec<bool>, NoMemory>
+    requires { All (IsLive store.now) (numbers_of roots.now) }
+    ensures size { IfOk result (λ marks. length marks.items ≡ length store.now.places) }
+    ensures marked { IfOk result (λ marks. AreMarked store.now (numbers_of roots.now) marks.items) }
+    ensures once { OnOk result (EachStandsOnce store.now) }
+    ensures sound { OnOk result (IsSound store.now) }
+{
+    let places = store.places();
+    let mut marks = match Vec::from_elem(alloc, false, places) {
+        Ok(marks) => marks,
+        Err(_) => return Err(NoMemory),
+    };
+    let mut left = match Vec::with_capacity(alloc, places) {
+        Ok(left) => left,
+        Err(_) => return Err(NoMemory),
+    };
+    mark_reached(store, roots, &mut marks, &mut left);
+    Ok(marks)
+}
+
+/// Marks what the roots reach, where nothing is marked and no value is left to follow.
+fn mark_reached(store: &Store, roots: &[ValueId], marks: &mut [bool], left: &mut Vec<ValueId>)
+    requires once { EachStandsOnce store.now }
+    requires sound { IsSound store.now }
+    requires live { All (IsLive store.now) (numbers_of roots.now) }
+    requires unmarked { marks.old ≡ replicate (length store.now.places) false }
+    requires empty { left.old.items ≡ [] }
+    requires room { length store.now.places ≤ vec_capacity left.old }
+    ensures { AreMarked store.now (numbers_of roots.now) marks.new }
+{
+    mark_each(store, roots, marks, left);
+    follow(store, marks, left);
+}
+
+/// The numbers of the values at places that are not marked.
+pub(crate) fn unmarked(
+    alloc: Global,
+    store: &Store,
+    marks: &[bool],
+) -> Result<Vec<ValueId>, NoMemory>
+    requires { length marks.now ≡ length store.now.places }
+    ensures { IfOk result (λ list. numbers_of list.items ≡ unmarked_ids store.now marks.now (length marks.now)) }
+{
+    let mut list = Vec::new(alloc);
+    for (place, is_marked) in marks.iter().enumerate() {
+        if !*is_marked {
+            add(&mut list, store.at_place(place))?;
+        }
+    }
+    Ok(list)
+}
+
+/// Adds a number, where there is one.
+fn add(list: &mut Vec<ValueId>, id: Option<ValueId>) -> Result<(), NoMemory>
+    ensures { OnOk result (list.new.items ≡ list.old.items ++ option_to_list id) }
+{
+    if let Some(id) = id && list.push(id).is_err() {
+        return Err(NoMemory);
+    }
+    Ok(())
+}
+
+/// Marks these values. Those that were not marked are added to the ones that are left to follow.
+fn mark_each(store: &Store, ids: &[ValueId], marks: &mut [bool], left: &mut Vec<ValueId>)
+    requires live { All (IsLive store.now) (numbers_of ids.now) }
+    requires size { length marks.old ≡ length store.now.places }
+    requires room { length left.old.items + count_by not marks.old ≤ vec_capacity left.old }
+    ensures marked { Marks store.now (numbers_of ids.now) marks.old (numbers_of left.old.items) marks.new (numbers_of left.new.items) }
+    ensures capacity { vec_capacity left.new ≡ vec_capacity left.old }
+{
+    for id in ids {
+        mark(store, *id, marks, left);
+    }
+}
+
+/// Follows the values that are left, and all that are marked on the way, until none is left.
+fn follow(store: &Store, marks: &mut [bool], left: &mut Vec<ValueId>)
+    requires once { EachStandsOnce store.now }
+    requires sound { IsSound store.now }
+    requires size { length marks.old ≡ length store.now.places }
+    requires room { length left.old.items + count_by not marks.old ≤ vec_capacity left.old }
+    ensures { Follows store.now marks.old (numbers_of left.old.items) marks.new }
+{
+    while let Some(id) = left.pop() {
+        mark_children(store, id, marks, left);
+    }
+}
+
+/// Marks the children of a value. Those that were not marked are added to the values that are left to follow.
+fn mark_children(store: &Store, id: ValueId, marks: &mut [bool], left: &mut Vec<ValueId>)
+    requires size { length marks.old ≡ length store.now.places }
+    requires room { length left.old.items + count_by not marks.old ≤ vec_capacity left.old }
+    ensures marked { Marks store.now (children_in store.now id.0) marks.old (numbers_of left.old.items) marks.new (numbers_of left.new.items) }
+    ensures capacity { vec_capacity left.new ≡ vec_capacity left.old }
+{
+    for at in 0..store.child_places(id) {
+        if let Some(child) = store.child_at(id, at) {
+            mark(store, child, marks, left);
+        }
+    }
+}
+
+/// Marks a value. If it was not marked, it is added to the values that are left to follow.
+fn mark(store: &Store, id: ValueId, marks: &mut [bool], left: &mut Vec<ValueId>)
+    requires live { IsLive store.now id.0 }
+    requires size { length marks.old ≡ length store.now.places }
+    requires room { length left.old.items + count_by not marks.old ≤ vec_capacity left.old }
+    ensures marked { Marks store.now (id.0 ∷ []) marks.old (numbers_of left.old.items) marks.new (numbers_of left.new.items) }
+    ensures capacity { vec_capacity left.new ≡ vec_capacity left.old }
+{
+    let place = store.place_of(id);
+    if marks[place] {
+        return;
+    }
+    marks[place] = true;
+    left.push_reserved(id);
+}
