@@ -60,7 +60,7 @@ counted-at : (rows : List (Option Row)) (p count : ℕ) (row : Row) → slice_in
 counted-at rows p count row is =
     let put : option_map (recounted count) (slice_index_or rows p None) ≡ Some (recounted count row) = ap (option_map (recounted count)) is in
     let changed : listed_from 1 (set rows p (Some (recounted count row))) ≡ (with_count (suc p) count (map_of (places_of rows))).rows =
-        ap (λ o. listed_from 1 (set rows p o)) (sym put) ∙ sym (count-at 1 rows p (suc p) count (omega arith)) in
+    ap (λ o. listed_from 1 (set rows p o)) (sym put) ∙ sym (count-at 1 rows p (suc p) count (omega arith)) in
     same-map _ _ _ _ changed (ap down_from (length-set rows p (Some (recounted count row))))
 
 pub counted : (rows : List (Option Row)) (p : ReferencePlaces) → places_of rows ≡ p → (n count : ℕ) (row : Row) → row_of rows n ≡ Some row

@@ -33,13 +33,7 @@ pub(crate) fn strong_value(place: Option<Row>) -> Option<ValueId>
     ensures { option_map (λ v. v.0) result ≡ strong_in (option_map (reference_of 1) place) }
 {
     match place {
-        Some(row) => {
-            if row.count == 0 {
-                None
-            } else {
-                row.value
-            }
-        }
+        Some(row) => { if row.count == 0 { None } else { row.value } }
         None => None,
     }
 }
@@ -78,7 +72,11 @@ fn empty(place: &mut Option<Row>, values: &[ValueId], order: Order)
     ensures { place.new ≡ option_map (weak_emptied (λ v. has_number v (map (λ v. v.0) values.now))) place.old }
 {
     if let Some(row) = place {
-        if row.count == 0 && row.value.is_some_and(|value| freed::is_among(values, order, value)) {
+        if row.count == 0
+            && row
+                .value
+                .is_some_and(|value| freed::is_among(values, order, value))
+        {
             row.value = None;
         }
     }

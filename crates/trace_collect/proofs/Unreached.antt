@@ -112,6 +112,18 @@ module _ (s : StoreState) (once : EachStandsOnce s) (sound : IsSound s) (roots :
   pub ids-live : All (IsLive s) ids
   ids-live = All-from_has (IsLive s) ids (λ id h. ((all id).0 h).0)
 
+  -- no root is one of them
+  pub roots-kept : All (λ r. has_number r ids ≡ false) roots
+  roots-kept = All-from_has (λ r. has_number r ids ≡ false) roots (λ r h. by r h (has_number r ids) refl)
+    where
+      by : (r : ℕ) → has_number r roots ≡ true → (b : Bool) → has_number r ids ≡ b → has_number r ids ≡ false
+      by r h false e = e
+      by r h true e =
+          let there : has_number (number_in s r) (reached s roots) ≡ true =
+          reach-roots (graph_of s) (map (number_in s) roots) (number_in s r) (live-graph s once sound r ((all r).0 e).0) (has-map (number_in s) roots r h) in
+          let none : ⊥ = cc (there, ((all r).0 e).1) in
+          absurd none
+
   -- a number of the graph is one of theirs where the roots do not reach it
   freed-number : (n : ℕ) → has_number n (numbers (graph_of s)) ≡ true → has_number n (map (number_in s) ids) ≡ not (has_number n (reached s roots))
   freed-number n there = by (has_number n (map (number_in s) ids)) refl (has_number n (reached s roots)) refl

@@ -1,9 +1,10 @@
 //! What the roots do not reach is found, and then freed.
-ghost use Rattle.std.specs.Prelude.{◌≡◌, map, length, IfOk, OnOk, OnErr};
+ghost use Rattle.std.specs.Prelude.{◌≡◌, false, map, length, IfOk, OnOk, OnErr};
 ghost use Rattle.std.specs.List.{All};
 ghost use Rattle.std.specs.List.Sorted.{IsStrictlyIncreasing};
 ghost use Rattle.napi_types.specs.Collection.{those_of, all_but};
 ghost use Rattle.napi_types.specs.Graph.{graph_of, number_in, IsLive};
+ghost use Rattle.napi_types.specs.Lists.{has_number};
 ghost use Rattle.value_store.specs.Changes.{numbers_of, Frees, CanFree};
 ghost use Rattle.trace_collect.specs.Collects.{reached, HoldsStarting, AreUnreached};
 
@@ -27,6 +28,7 @@ pub fn collect(
     requires starting { HoldsStarting store.old (numbers_of roots.now) }
     ensures rising { IfOk result (λ list. IsStrictlyIncreasing (numbers_of list.items)) }
     ensures freed { IfOk result (λ list. AreUnreached store.old (numbers_of roots.now) (numbers_of list.items)) }
+    ensures roots { IfOk result (λ list. All (λ root. has_number root (numbers_of list.items) ≡ false) (numbers_of roots.now)) }
     ensures frees { IfOk result (λ list. Frees store.old store.new (numbers_of list.items)) }
     ensures graph { OnOk result (graph_of store.new ≡ those_of (reached store.old (numbers_of roots.now)) (graph_of store.old)) }
     ensures count { IfOk result (λ list. length list.items ≡ length (all_but (reached store.old (numbers_of roots.now)) (graph_of store.old))) }
@@ -43,6 +45,7 @@ fn unreached(alloc: Global, store: &Store, roots: &[ValueId]) -> Result<Vec<Valu
     requires starting { HoldsStarting store.now (numbers_of roots.now) }
     ensures rising { IfOk result (λ list. IsStrictlyIncreasing (numbers_of list.items)) }
     ensures unreached { IfOk result (λ list. AreUnreached store.now (numbers_of roots.now) (numbers_of list.items)) }
+    ensures roots { IfOk result (λ list. All (λ root. has_number root (numbers_of list.items) ≡ false) (numbers_of roots.now)) }
     ensures can_free { IfOk result (λ list. CanFree store.now (numbers_of list.items)) }
     ensures kept { IfOk result (λ list. all_but (map (number_in store.now) (numbers_of list.items)) (graph_of store.now) ≡ those_of (reached store.now (numbers_of roots.now)) (graph_of store.now)) }
     ensures count { IfOk result (λ list. length list.items ≡ length (all_but (reached store.now (numbers_of roots.now)) (graph_of store.now))) }

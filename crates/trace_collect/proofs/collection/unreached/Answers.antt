@@ -3,7 +3,7 @@ use Rattle.std.proofs.lemmas.List.{length-map}
 use Rattle.std.proofs.lemmas.List.Sorted.{IsNonDecreasingBy-from_sort_by_key}
 use Rattle.napi_types.specs.declared.ids.ValueId.{ValueId}
 use Rattle.value_store.specs.Changes.{numbers_of}
-use Rattle.trace_collect.proofs.Unreached.{sorted-distinct, sorted-unreached, sorted-rising, kept-graph, freed-count, unreached-can-free}
+use Rattle.trace_collect.proofs.Unreached.{sorted-distinct, sorted-unreached, sorted-rising, roots-kept, kept-graph, freed-count, unreached-can-free}
 use Rattle.trace_collect.proofs.collection.unreached.Goals as goal
 
 pub returns-clause-rising : goal.returns-clause-rising
@@ -15,6 +15,9 @@ pub returns-clause-unreached : goal.returns-clause-unreached
 returns-clause-unreached c =
     sorted-unreached c.args.store.now c.in_ok-marks.ensures.once (numbers_of c.args.roots.now) c.in_ok-marks.marks.items c.in_ok-list.list.items c.sort_unstable_by_key.new.self.items (rw c.deref.ensures.value at c.in_ok-list.ensures) c.sort_unstable_by_key.ensures.permutation
     c.in_ok-marks.ensures.size c.in_ok-marks.ensures.marked
+
+pub returns-clause-roots : goal.returns-clause-roots
+returns-clause-roots c = roots-kept c.args.store.now c.in_ok-marks.ensures.once c.in_ok-marks.ensures.sound (numbers_of c.args.roots.now) (numbers_of c.sort_unstable_by_key.new.self.items) (returns-clause-unreached c)
 
 pub returns-clause-can_free : goal.returns-clause-can_free
 returns-clause-can_free c =
