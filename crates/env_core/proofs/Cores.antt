@@ -33,9 +33,9 @@ written x promised pages = record pages { entries = pages.entries ++ record { at
 -- WHAT A CORE KEEPS
 core-pushed : (old new : Environment) (pages after : Pages) (x : Entry) (k : ℕ) → IsCore old pages → after ≡ written x k pages
     → k ≡ reserved_journal new → length pages.entries + 1 + k ≤ pages.limit
-    → new.heap.handles ≤ old.heap.handles + 1 → length new.heap.scope_numbers ≤ length old.heap.scope_numbers + 1 → new.heap.made ≤ old.heap.made + 65537
+    → new.heap.handles ≤ old.heap.handles + 1 → length new.heap.scope_numbers ≤ length old.heap.scope_numbers + 1 → length new.references.issued ≤ length old.references.issued + 1 → new.heap.made ≤ old.heap.made + 65537
     → IsCore new after
-core-pushed old new pages after x k c e promised room handles scopes made =
+core-pushed old new pages after x k c e promised room handles scopes references made =
     let P : Pages → Type 0 = λ p. IsCore new p in
     let l : Local = record { at = pages.position; entry = x } in
     let grown : length (pages.entries ++ l ∷ []) ≡ length pages.entries + 1 = length-append pages.entries (l ∷ []) in
@@ -45,6 +45,7 @@ core-pushed old new pages after x k c e promised room handles scopes made =
       small = c.small;
       handles = omega (arith, c.handles, handles, grown);
       scopes = omega (arith, c.scopes, scopes, grown);
+      references = omega (arith, c.references, references, grown);
       values = omega (arith, c.values, made, grown);
     })
 
@@ -56,7 +57,7 @@ pub core-called : (old new : Environment) (pages after : Pages) (x : Entry) (n :
     → length pages.entries + pages.promised + 1 ≤ pages.limit → n ≡ pages.promised → after ≡ written x n pages → IsCore new after
 core-called old new pages after x n c k room same e =
     let kept : reserved_journal new ≡ reserved_journal old = reserved-kept old new k in
-    core-pushed old new pages after x n c e (same ∙ c.reserved ∙ sym kept) (omega (arith, same, room)) k.heap.handles k.heap.scopes k.heap.made
+    core-pushed old new pages after x n c e (same ∙ c.reserved ∙ sym kept) (omega (arith, same, room)) k.heap.handles k.heap.scopes k.references k.heap.made
 
 length-left : (fs : List Frame) → fs ≢ [] → length (tail fs) + 1 ≡ length fs
 length-left [] h = absurd (h refl)
@@ -75,7 +76,7 @@ core-ended old new pages after x v cut c stands h e =
     let k : KeepsButFrame old new = subst K (sym h) (ended-keeps v cut old) in
     let fewer : reserved_journal new + 1 ≡ reserved_journal old = reserved-ended old new stands k in
     core-pushed old new pages after x (pages.promised - 1) c e (omega (arith, fewer, c.reserved)) (omega (arith, fewer, c.reserved, c.within))
-    k.handles (omega (arith, ap length k.scope_numbers)) (omega (arith, k.made))
+    k.handles (omega (arith, ap length k.scope_numbers)) (omega (arith, ap (λ m. length m.issued) k.references)) (omega (arith, k.made))
 
 -- WHAT A STEP TELLS
 pub other-at-once : (e : Environment) (c : Call) → is_calling c ≡ false → is_entering e c ≡ false

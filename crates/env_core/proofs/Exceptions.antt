@@ -19,7 +19,8 @@ use Rattle.napi_types.specs.Frames.{Frame}
 use Rattle.napi_types.specs.Graph.{StoreState, IsLive, number_in}
 use Rattle.napi_types.specs.Heap.{Heap, handle_value, with_handle, with_thrown, thrown_number}
 use Rattle.napi_types.specs.Lists.{unless}
-use Rattle.napi_types.specs.Refusals.{is_known, moment_refusal, refusal_in, early_refusal, depth_refusal}
+use Rattle.napi_types.specs.References.{ReferenceMap}
+use Rattle.napi_types.specs.Refusals.{is_known, moment_refusal, refusal_in, timely_refusal, early_refusal, depth_refusal}
 use Rattle.napi_types.specs.Replies.{Answer, answered, plain}
 use Rattle.napi_types.specs.Scopes.{gives, hold_in}
 use Rattle.napi_types.specs.Values.{undefined_value}
@@ -43,8 +44,8 @@ given-answer e c n h = ap (answer_at e c n (early_refusal e c)) (sym (no-depth e
 -- a call at a right moment answers what the other refusals give
 answers-in-time : (e new : Environment) (c : Call) (r : Reply) → is_calling c ≡ false → None ≡ moment_refusal e c → AnswersInTime e c r new → Answers e c r new
 answers-in-time e new c r other h a =
-    let same : answer_given e c (number_of r.out) (refusal_in e.texts e.heap c) ≡ answer e c (number_of r.out) =
-    ap (λ o. answer_given e c (number_of r.out) (option_or o (refusal_in e.texts e.heap c))) h ∙ given-answer e c (number_of r.out) other in
+    let same : answer_given e c (number_of r.out) (timely_refusal e c) ≡ answer e c (number_of r.out) =
+    ap (λ o. answer_given e c (number_of r.out) (option_or o (timely_refusal e c))) h ∙ given-answer e c (number_of r.out) other in
     record {
       fresh = a.fresh;
       reply = a.reply ∙ ap (λ (x : Answer Environment). x.reply) same;
@@ -58,7 +59,7 @@ in-time e new c (Err x) other h a = tt
 -- one at a wrong moment is refused, and changes nothing
 pub out-of-time : (e : Environment) (c : Call) (s : Status) → is_calling c ≡ false → Some s ≡ moment_refusal e c → Answers e c (plain s out.Nothing) e
 out-of-time e c s other h =
-    let why : Some s ≡ early_refusal e c = ap (λ o. option_or o (refusal_in e.texts e.heap c)) h in
+    let why : Some s ≡ early_refusal e c = ap (λ o. option_or o (timely_refusal e c)) h in
     let same : answer_given e c 0 (Some s) ≡ answer e c 0 = ap (answer_given e c 0) why ∙ given-answer e c 0 other in
     record {
       fresh = refl;
@@ -79,7 +80,7 @@ throw-refusal texts heap h false known = rw known refl
 pub unknown-throw : (e : Environment) (store : StoreState) (scopes : HandleScopes) (h : HandleId)
     → None ≡ gives scopes.frames h.0 → AnswersInTime (with_parts e store scopes) (call.Throw h) (plain status.InvalidArg out.Nothing) (with_parts e store scopes)
 unknown-throw e store scopes h none =
-    by-refusal e store scopes scopes (call.Throw h) status.InvalidArg (throw-refusal e.texts (heap_of store scopes) h false (unknown-handle store scopes.frames h.0 none)) refl
+    by-refusal e store scopes scopes (call.Throw h) status.InvalidArg refl (throw-refusal e.texts (heap_of store scopes) h false (unknown-handle store scopes.frames h.0 none)) refl
 
 pub accepted-throw : (e : Environment) (store : StoreState) (scopes : HandleScopes) (h : HandleId) (v : ℕ) → Some v ≡ gives scopes.frames h.0
     → AnswersInTime (with_parts e store scopes) (call.Throw h) (plain status.Ok out.Nothing) (with_pending (Some (number_in store v)) (with_parts e store scopes))
@@ -102,7 +103,7 @@ pub unknown-thrown : (e : Environment) (store : StoreState) (scopes : HandleScop
     → is_known e.texts (heap_of store scopes) (call.ThrowError code message) ≡ false
     → AnswersInTime (with_parts e store scopes) (call.ThrowError code message) (plain status.InvalidArg out.Nothing) (with_parts e store scopes)
 unknown-thrown e store scopes code message known =
-    by-refusal e store scopes scopes (call.ThrowError code message) status.InvalidArg (thrown-refusal e.texts (heap_of store scopes) code message false known) refl
+    by-refusal e store scopes scopes (call.ThrowError code message) status.InvalidArg refl (thrown-refusal e.texts (heap_of store scopes) code message false known) refl
 
 pub accepted-thrown : (e : Environment) (s t : StoreState) (scopes : HandleScopes) (code : Option TextNo) (message : TextNo) (id : ℕ)
     → is_known e.texts (heap_of s scopes) (call.ThrowError code message) ≡ true
@@ -153,12 +154,20 @@ taken-pending e store old new n h value next heap = record {
       ∙ ap (λ k. with_pending None (with_heap e (with_handle k (heap_of store old)))) value;
 }
 
--- the scopes hold one handle more, and no exception is pending
-pub state-taken : (store : StoreState) (old new : HandleScopes) (frame : List Frame) (thrown : Option ℕ) (v : ℕ)
-    → IsState store old frame thrown → IsLive store v → new ≡ handle_issued v old → IsState store new frame None
-state-taken store old new frame thrown v s live is = record {
+-- the scopes hold one handle more
+pub state-issued : {m : ReferenceMap} (store : StoreState) (old new : HandleScopes) (frame : List Frame) (thrown : Option ℕ) (v : ℕ)
+    → IsState store old frame thrown m → IsLive store v → new ≡ handle_issued v old → IsState store new frame thrown m
+state-issued store old new frame thrown v s live is = record {
   live = issued-live store old new v is live s.live;
   frames = ap (λ (x : HandleScopes). length x.frames) is ∙ length-changed (hold_in (record { handle = old.handles + 1; value = v })) old.frames ∙ s.frames;
   calls = ap (λ (x : HandleScopes). x.by_call) is ∙ s.calls;
-  pending = tt;
+  pending = s.pending;
+  referred = s.referred;
 }
+
+-- and no exception is pending
+pub state-taken : {m : ReferenceMap} (store : StoreState) (old new : HandleScopes) (frame : List Frame) (thrown : Option ℕ) (v : ℕ)
+    → IsState store old frame thrown m → IsLive store v → new ≡ handle_issued v old → IsState store new frame None m
+state-taken {m = m} store old new frame thrown v s live is =
+    let i : IsState store new frame thrown m = state-issued store old new frame thrown v s live is in
+    record { live = i.live; frames = i.frames; calls = i.calls; pending = tt; referred = i.referred }

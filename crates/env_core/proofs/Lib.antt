@@ -1,9 +1,12 @@
 pub mod Called
+pub mod Collecting
 pub mod Cores
 pub mod Ending
 pub mod Exceptions
 pub mod Knowing
 pub mod Looking
+pub mod Referring
+pub mod Rooting
 pub mod Scopes
 pub mod SeenScopes
 pub mod ValueAnswers

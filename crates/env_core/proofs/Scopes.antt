@@ -16,7 +16,8 @@ use Rattle.napi_types.specs.Frames.{Frame}
 use Rattle.napi_types.specs.Graph.{StoreState, IsLive, number_in}
 use Rattle.napi_types.specs.Heap.{Heap, handle_value, in_scopes}
 use Rattle.napi_types.specs.Lists.{first_changed, unless}
-use Rattle.napi_types.specs.Refusals.{refusal_in}
+use Rattle.napi_types.specs.References.{ReferenceMap}
+use Rattle.napi_types.specs.Refusals.{refusal_in, reference_refusal, timely_refusal}
 use Rattle.napi_types.specs.Replies.{Answer, answered, plain}
 use Rattle.napi_types.specs.ScopeCalls.{with_escaped}
 use Rattle.napi_types.specs.Scopes.{Held, FrameScopes, gives, open_in, close_in, escape_in, opened_scopes, closing, escaping}
@@ -62,30 +63,33 @@ accepted-open e store old new scope_kind.Escapable scope fresh opened = record {
 
 -- what a call on scopes answers whose first refusal is known
 pub by-refusal : (e : Environment) (store : StoreState) (old new : HandleScopes) (c : Call) (s : Status)
-    → refusal_in e.texts (heap_of store old) c ≡ Some s → new ≡ old → AnswersInTime (with_parts e store old) c (plain s out.Nothing) (with_parts e store new)
-by-refusal e store old new c s why same = record {
-  fresh = refl;
-  reply = ap (λ (o : Option Status). (answer_given (with_parts e store old) c 0 o).reply) (sym why);
-  after = ap (λ k. with_parts e store k) same ∙ ap (λ (o : Option Status). (answer_given (with_parts e store old) c 0 o).after) (sym why);
-}
+    → reference_refusal e.references c ≡ None → refusal_in e.texts (heap_of store old) c ≡ Some s → new ≡ old → AnswersInTime (with_parts e store old) c (plain s out.Nothing) (with_parts e store new)
+by-refusal e store old new c s none why same =
+    let first : Some s ≡ timely_refusal (with_parts e store old) c = sym why ∙ ap (λ o. option_or o (refusal_in e.texts (heap_of store old) c)) (sym none) in
+    record {
+      fresh = refl;
+      reply = ap (λ (o : Option Status). (answer_given (with_parts e store old) c 0 o).reply) first;
+      after = ap (λ k. with_parts e store k) same ∙ ap (λ (o : Option Status). (answer_given (with_parts e store old) c 0 o).after) first;
+    }
 
 -- a close that is refused answers why, and leaves all as it was
 pub refused-close : (e : Environment) (store : StoreState) (old new : HandleScopes) (kind : ScopeKind) (scope : ScopeId) (s : Status)
     → Some s ≡ closing scope.0 kind (opened_scopes old.frames) → new ≡ old
     → AnswersInTime (with_parts e store old) (closing_call kind scope) (plain s out.Nothing) (with_parts e store new)
 refused-close e store old new scope_kind.Plain scope s h same =
-    by-refusal e store old new (call.CloseHandleScope scope) s (closing-seen store scope.0 scope_kind.Plain old.frames ∙ sym h) same
+    by-refusal e store old new (call.CloseHandleScope scope) s refl (closing-seen store scope.0 scope_kind.Plain old.frames ∙ sym h) same
 refused-close e store old new scope_kind.Escapable scope s h same =
-    by-refusal e store old new (call.CloseEscapableHandleScope scope) s (closing-seen store scope.0 scope_kind.Escapable old.frames ∙ sym h) same
+    by-refusal e store old new (call.CloseEscapableHandleScope scope) s refl (closing-seen store scope.0 scope_kind.Escapable old.frames ∙ sym h) same
 
 -- what a close answers that nothing refuses
 by-close : (e : Environment) (store : StoreState) (old new : HandleScopes) (c : Call)
-    → refusal_in e.texts (heap_of store old) c ≡ None → accepted_by (with_parts e store old) c 0 ≡ in_heap (with_parts e store old) (answered out.Nothing (in_scopes close_in (heap_of store old))) → new ≡ scope_closed old
+    → reference_refusal e.references c ≡ None → refusal_in e.texts (heap_of store old) c ≡ None → accepted_by (with_parts e store old) c 0 ≡ in_heap (with_parts e store old) (answered out.Nothing (in_scopes close_in (heap_of store old))) → new ≡ scope_closed old
     → AnswersInTime (with_parts e store old) c (plain status.Ok out.Nothing) (with_parts e store new)
-by-close e store old new c why is closed =
+by-close e store old new c none why is closed =
     let env : Environment = with_parts e store old in
-    let answer : answer_given env c 0 (refusal_in e.texts (heap_of store old) c) ≡ in_heap env (answered out.Nothing (in_scopes close_in (heap_of store old))) =
-    ap (answer_given env c 0) why ∙ is in
+    let first : timely_refusal env c ≡ None = ap (λ o. option_or o (refusal_in e.texts (heap_of store old) c)) none ∙ why in
+    let answer : answer_given env c 0 (timely_refusal env c) ≡ in_heap env (answered out.Nothing (in_scopes close_in (heap_of store old))) =
+    ap (answer_given env c 0) first ∙ is in
     record {
       fresh = refl;
       reply = ap (λ (a : Answer Environment). a.reply) (sym answer);
@@ -100,9 +104,9 @@ pub accepted-close : (e : Environment) (store : StoreState) (old new : HandleSco
     → None ≡ closing scope.0 kind (opened_scopes old.frames) → new ≡ scope_closed old
     → AnswersInTime (with_parts e store old) (closing_call kind scope) (plain status.Ok out.Nothing) (with_parts e store new)
 accepted-close e store old new scope_kind.Plain scope h closed =
-    by-close e store old new (call.CloseHandleScope scope) (closing-seen store scope.0 scope_kind.Plain old.frames ∙ sym h) refl closed
+    by-close e store old new (call.CloseHandleScope scope) refl (closing-seen store scope.0 scope_kind.Plain old.frames ∙ sym h) refl closed
 accepted-close e store old new scope_kind.Escapable scope h closed =
-    by-close e store old new (call.CloseEscapableHandleScope scope) (closing-seen store scope.0 scope_kind.Escapable old.frames ∙ sym h) refl closed
+    by-close e store old new (call.CloseEscapableHandleScope scope) refl (closing-seen store scope.0 scope_kind.Escapable old.frames ∙ sym h) refl closed
 
 -- the refusals of an escape: an unknown handle, and then those of its row
 escape-refusal : (texts : ℕ) (heap : Heap) (scope : ScopeId) (h : HandleId) (b : Bool) → is_some (gives heap.scopes h.0) ≡ b
@@ -114,7 +118,7 @@ escape-refusal texts heap scope h false known = rw known refl
 pub unknown-escape : (e : Environment) (store : StoreState) (scopes : HandleScopes) (scope : ScopeId) (h : HandleId)
     → None ≡ gives scopes.frames h.0 → AnswersInTime (with_parts e store scopes) (call.EscapeHandle scope h) (plain status.InvalidArg out.Nothing) (with_parts e store scopes)
 unknown-escape e store scopes scope h none =
-    by-refusal e store scopes scopes (call.EscapeHandle scope h) status.InvalidArg
+    by-refusal e store scopes scopes (call.EscapeHandle scope h) status.InvalidArg refl
     (escape-refusal e.texts (heap_of store scopes) scope h false (unknown-handle store scopes.frames h.0 none)) refl
 
 -- a known one is given by its value's creation number
@@ -126,7 +130,7 @@ pub refused-escape : (e : Environment) (store : StoreState) (old new : HandleSco
     → Some v ≡ gives old.frames h.0 → Some s ≡ escaping scope.0 (opened_scopes old.frames) → new ≡ old
     → AnswersInTime (with_parts e store old) (call.EscapeHandle scope h) (plain s out.Nothing) (with_parts e store new)
 refused-escape e store old new scope h v s given why same =
-    by-refusal e store old new (call.EscapeHandle scope h) s
+    by-refusal e store old new (call.EscapeHandle scope h) s refl
     (escape-refusal e.texts (heap_of store old) scope h true (ap is_some (known-handle store old h.0 v given)) ∙ escaping-seen store scope.0 old.frames ∙ sym why) same
 
 -- one that is accepted gives the next handle to the scope outside
@@ -153,16 +157,17 @@ accepted-escape e store old new scope h made v given why next escaped =
     }
 
 -- a scope that opens leaves each frame its scopes, and what they hold live
-pub state-opened : (store : StoreState) (old new : HandleScopes) (frame : List Frame) (pending : Option ℕ) (kind : ScopeKind) (n : ℕ) → IsState store old frame pending → new ≡ scope_opened kind n old → IsState store new frame pending
+pub state-opened : {m : ReferenceMap} (store : StoreState) (old new : HandleScopes) (frame : List Frame) (pending : Option ℕ) (kind : ScopeKind) (n : ℕ) → IsState store old frame pending m → new ≡ scope_opened kind n old → IsState store new frame pending m
 state-opened store old new frame pending kind n s opened = rw opened (record {
   live = all-opened (λ p. IsLive store p.value) kind n old.frames s.live;
   frames = length-changed (open_in kind n) old.frames ∙ s.frames;
   calls = s.calls;
   pending = s.pending;
+  referred = s.referred;
 })
 
 -- so does a handle that escapes
-pub state-escaped : (store : StoreState) (old new : HandleScopes) (frame : List Frame) (pending : Option ℕ) (n h v : ℕ) → IsState store old frame pending → Some v ≡ gives old.frames h → new ≡ handle_escaped n v old → IsState store new frame pending
+pub state-escaped : {m : ReferenceMap} (store : StoreState) (old new : HandleScopes) (frame : List Frame) (pending : Option ℕ) (n h v : ℕ) → IsState store old frame pending m → Some v ≡ gives old.frames h → new ≡ handle_escaped n v old → IsState store new frame pending m
 state-escaped store old new frame pending n h v s given escaped =
     let p : Held = record { handle = old.handles + 1; value = v } in
     rw escaped (record {
@@ -170,19 +175,21 @@ state-escaped store old new frame pending n h v s given escaped =
       frames = length-changed (escape_in n p) old.frames ∙ s.frames;
       calls = s.calls;
       pending = s.pending;
+      referred = s.referred;
     })
 
 -- also where it may be refused
-pub state-escaped-or-not : {A E : Type 0} (store : StoreState) (old new : HandleScopes) (frame : List Frame) (pending : Option ℕ) (n h v : ℕ) (r : Result A E)
-    → IsState store old frame pending → Some v ≡ gives old.frames h → OnOk r (new ≡ handle_escaped n v old) → OnErr r (new ≡ old) → IsState store new frame pending
+pub state-escaped-or-not : {A E : Type 0} {m : ReferenceMap} (store : StoreState) (old new : HandleScopes) (frame : List Frame) (pending : Option ℕ) (n h v : ℕ) (r : Result A E)
+    → IsState store old frame pending m → Some v ≡ gives old.frames h → OnOk r (new ≡ handle_escaped n v old) → OnErr r (new ≡ old) → IsState store new frame pending m
 state-escaped-or-not store old new frame pending n h v (Ok x) s given ok err = state-escaped store old new frame pending n h v s given ok
 state-escaped-or-not store old new frame pending n h v (Err x) s given ok err = rw err s
 
 -- a close leaves each frame its scopes, and what they hold live
-pub state-closed : (store : StoreState) (old new : HandleScopes) (frame : List Frame) (pending : Option ℕ) → IsState store old frame pending → new ≡ scope_closed old → IsState store new frame pending
+pub state-closed : {m : ReferenceMap} (store : StoreState) (old new : HandleScopes) (frame : List Frame) (pending : Option ℕ) → IsState store old frame pending m → new ≡ scope_closed old → IsState store new frame pending m
 state-closed store old new frame pending s closed = rw closed (record {
   live = all-closed (λ p. IsLive store p.value) old.frames s.live;
   frames = length-changed close_in old.frames ∙ s.frames;
   calls = s.calls;
   pending = s.pending;
+  referred = s.referred;
 })

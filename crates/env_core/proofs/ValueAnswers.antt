@@ -1,6 +1,8 @@
 -- A call on values, properties or elements gives no number of its own choice.
-use Rattle.std.proofs.Common.{◌≡◌, ℕ, true, length, map, refl, ap, sym, ◌∙◌, Option, Some, None, Result, Ok, Err, IfOk, OnOk, OnErr, IfSome}
+use Rattle.std.proofs.Common.{◌≡◌, ℕ, true, List, [], ◌∷◌, length, map, refl, ap, sym, ◌∙◌, Option, Some, None, Result, Ok, Err, IfOk, OnOk, OnErr, IfSome}
+use Rattle.std.specs.List.{All}
 use Rattle.std.proofs.lemmas.List.{length-map}
+use Rattle.std.proofs.lemmas.List.Elements.{All-nil, All-cons, All-head, All-tail}
 use Rattle.napi_types.specs.declared.call.Call.{Call}
 use Rattle.napi_types.specs.declared.call.Call.TheVariants as call
 use Rattle.napi_types.specs.declared.status.Status.{Status}
@@ -12,10 +14,13 @@ use Rattle.napi_types.specs.Graph.{StoreState, IsLive}
 use Rattle.napi_types.specs.Replies.{Answer}
 use Rattle.napi_types.specs.Environment.{Environment, with_heap, in_heap}
 use Rattle.napi_types.specs.Calls.{accepted_of, answer_by, answer_in, accepted_by, answer_given}
-use Rattle.napi_types.specs.Refusals.{refusal_in}
+use Rattle.napi_types.specs.References.{Reference, ReferenceMap}
+use Rattle.napi_types.specs.Refusals.{refusal_in, reference_refusal, timely_refusal}
 use Rattle.napi_types.specs.Changes.{is_fresh, number_of}
+use Rattle.std.specs.Option.{option_or}
 use Rattle.handle_scope.specs.HandleScopes.{HandleScopes}
 use Rattle.env_values.specs.Seen.{seen_frame, heap_of, KeepsValues}
+use Rattle.env_core.specs.Referring.{seen_reference, references_seen, RefersToLive}
 use Rattle.env_core.specs.State.{pending_seen, AnswersInTime}
 use Rattle.napi_types.proofs.Answers.{answer_in-keeps}
 
@@ -52,11 +57,28 @@ accepted-in_heap e (call.ThrowError code message) n v = cc
 accepted-in_heap e call.IsExceptionPending n v = cc
 accepted-in_heap e call.GetAndClearLastException n v = cc
 accepted-in_heap e call.GetLastErrorInfo n v = cc
+accepted-in_heap e (call.CreateReference h count) n v = cc
+accepted-in_heap e (call.DeleteReference r) n v = cc
+accepted-in_heap e (call.ReferenceRef r) n v = cc
+accepted-in_heap e (call.ReferenceUnref r) n v = cc
+accepted-in_heap e (call.GetReferenceValue r) n v = cc
+accepted-in_heap e call.Collect n v = cc
 accepted-in_heap e _ n v = refl
 
 given-in_heap : (e : Environment) (c : Call) (n : ℕ) (s : Option Status) → is_value_call c ≡ true → answer_given e c n s ≡ in_heap e (answer_by (caller_of e.frames) e.heap c n s)
 given-in_heap e c n None v = accepted-in_heap e c n v
 given-in_heap e c n (Some s) v = refl
+
+-- it names no reference, so none of these refusals applies
+no-reference : (m : ReferenceMap) (c : Call) → is_value_call c ≡ true → reference_refusal m c ≡ None
+no-reference m (call.DeleteReference r) h = cc
+no-reference m (call.ReferenceRef r) h = cc
+no-reference m (call.ReferenceUnref r) h = cc
+no-reference m (call.GetReferenceValue r) h = cc
+no-reference m _ h = refl
+
+timely-value : (e : Environment) (c : Call) → is_value_call c ≡ true → timely_refusal e c ≡ refusal_in e.texts e.heap c
+timely-value e c h = ap (λ o. option_or o (refusal_in e.texts e.heap c)) (no-reference e.references c h)
 
 -- the reply of such a call, and the heap that it leaves, are the machine's answer in the environment
 pub value-answers : {E : Type 0} (e : Environment) (addon : ℕ) (c : Call) (heap : Heap) (result : Result Reply E) → is_value_call c ≡ true → addon ≡ caller_of e.frames
@@ -67,7 +89,8 @@ value-answers e addon c heap (Ok r) h caller replies leaves =
     let n = number_of r.out in
     let any : answer_in e.texts addon e.heap c 0 ≡ answer_in e.texts (caller_of e.frames) e.heap c n =
     answer-any e.texts addon e.heap c n h ∙ ap (λ a. answer_in e.texts a e.heap c n) caller in
-    let given : answer_given e c n (refusal_in e.texts e.heap c) ≡ in_heap e (answer_in e.texts (caller_of e.frames) e.heap c n) = given-in_heap e c n (refusal_in e.texts e.heap c) h in
+    let given : answer_given e c n (timely_refusal e c) ≡ in_heap e (answer_in e.texts (caller_of e.frames) e.heap c n) =
+    ap (answer_given e c n) (timely-value e c h) ∙ given-in_heap e c n (refusal_in e.texts e.heap c) h in
     record {
       fresh = ap (λ (q : Reply). is_fresh e q.out) replies ∙ answer-fresh e e.texts addon e.heap c 0 h;
       reply = replies ∙ ap (λ (a : Answer Heap). a.reply) any ∙ ap (λ (a : Answer Environment). a.reply) (sym given);
@@ -96,3 +119,35 @@ pending-live s t (Some v) kept live = kept.live v live
 pub pending-kept : (s t : StoreState) (p : Option ℕ) → KeepsValues s t → IfSome p (IsLive s) → pending_seen t p ≡ pending_seen s p
 pending-kept s t None kept live = refl
 pending-kept s t (Some v) kept live = ap Some (kept.numbers v live)
+
+-- REFERENCES
+rows-live : (s t : StoreState) (rs : List Reference) → KeepsValues s t → All (λ r. IfSome r.value (IsLive s)) rs → All (λ r. IfSome r.value (IsLive t)) rs
+rows-live s t [] kept live = All-nil (λ (r : Reference). IfSome r.value (IsLive t))
+rows-live s t (r ∷ rs) kept live =
+    let P : Reference → Type 0 = λ r. IfSome r.value (IsLive s) in
+    let Q : Reference → Type 0 = λ r. IfSome r.value (IsLive t) in
+    All-cons Q r rs (pending-live s t r.value kept (All-head P r rs live)) (rows-live s t rs kept (All-tail P r rs live))
+
+-- the values to which references are stay live, under their numbers
+pub referred-live : (s t : StoreState) (m : ReferenceMap) → KeepsValues s t → RefersToLive s m → RefersToLive t m
+referred-live s t m kept live = rows-live s t m.rows kept live
+
+rows-kept : (s t : StoreState) (rs : List Reference) → KeepsValues s t → All (λ r. IfSome r.value (IsLive s)) rs → map (seen_reference t) rs ≡ map (seen_reference s) rs
+rows-kept s t [] kept live = refl
+rows-kept s t (r ∷ rs) kept live =
+    let P : Reference → Type 0 = λ r. IfSome r.value (IsLive s) in
+    let first : seen_reference t r ≡ seen_reference s r = ap (λ v. record r { value = v }) (pending-kept s t r.value kept (All-head P r rs live)) in
+    ap (λ x. x ∷ map (seen_reference t) rs) first ∙ ap (λ l. seen_reference s r ∷ l) (rows-kept s t rs kept (All-tail P r rs live))
+
+pub references-kept : (s t : StoreState) (m : ReferenceMap) → KeepsValues s t → RefersToLive s m → references_seen t m ≡ references_seen s m
+references-kept s t m kept live = ap (λ l. record m { rows = l }) (rows-kept s t m.rows kept live)
+
+-- a call that finds no memory leaves what the machine sees
+pub stopped-same : {A E : Type 0} (e : Environment) (s t : StoreState) (old new : HandleScopes) (m : ReferenceMap) (p : Option ℕ) (r : Result A E) → KeepsValues s t → RefersToLive s m → IfSome p (IsLive s)
+    → OnErr r (heap_of t new ≡ heap_of s old)
+    → OnErr r (record e { heap = heap_of t new; references = references_seen t m; pending = pending_seen t p } ≡ record e { heap = heap_of s old; references = references_seen s m; pending = pending_seen s p })
+stopped-same e s t old new m p (Ok x) kept live alive same = tt
+stopped-same e s t old new m p (Err x) kept live alive same =
+    ap (λ (h : Heap). record e { heap = h; references = references_seen t m; pending = pending_seen t p }) same
+    ∙ ap (λ l. record e { heap = heap_of s old; references = l; pending = pending_seen t p }) (references-kept s t m kept live)
+    ∙ ap (λ q. record e { heap = heap_of s old; references = references_seen s m; pending = q }) (pending-kept s t p kept alive)

@@ -44,4 +44,5 @@ pub record IsCore (e : Environment) (pages : Pages) : Type 0 where
   pub small : pages.limit ≤ most_entries
   pub handles : e.heap.handles ≤ length pages.entries
   pub scopes : length e.heap.scope_numbers ≤ length pages.entries
+  pub references : length e.references.issued ≤ length pages.entries
   pub values : e.heap.made ≤ 65537 * length pages.entries + 5

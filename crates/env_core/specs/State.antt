@@ -20,11 +20,13 @@ use Rattle.napi_types.specs.Graph.{StoreState, IsLive, number_in}
 use Rattle.napi_types.specs.Entering.{is_entering, entered}
 use Rattle.napi_types.specs.FunctionCalls.{callee_of, call_gifts, receiver_handle, with_receiver}
 use Rattle.napi_types.specs.Heap.{frame_entered}
-use Rattle.napi_types.specs.Refusals.{refusal_in, refusal}
+use Rattle.napi_types.specs.References.{ReferenceMap}
+use Rattle.napi_types.specs.Refusals.{timely_refusal, refusal}
 use Rattle.handle_scope.specs.HandleScopes.{HandleScopes}
 use Rattle.env_core.specs.declared.state.calling.Called.{Called}
 use Rattle.env_core.specs.declared.state.calling.Called.TheVariants as called_of
 use Rattle.env_values.specs.Seen.{heap_of, HoldsLive}
+use Rattle.env_core.specs.Referring.{RefersToLive}
 
 -- whether a call of the frame around it began a frame
 abbrev pub is_by_call : Cause → Bool
@@ -35,12 +37,14 @@ is_by_call _ = false
 abbrev pub pending_seen : StoreState → Option ℕ → Option ℕ
 pending_seen store pending = option_map (number_in store) pending
 
--- each frame that stands has its scopes, which know what frames a call began; what they hold is live, and so is the pending exception
-pub record IsState (store : StoreState) (scopes : HandleScopes) (standing : List Frame) (thrown : Option ℕ) : Type 0 where
+-- each frame that stands has its scopes, which know what frames a call began; what they hold is live, and so are the pending exception and the values of
+-- references
+pub record IsState (store : StoreState) (scopes : HandleScopes) (standing : List Frame) (thrown : Option ℕ) (references : ReferenceMap) : Type 0 where
   pub live : HoldsLive store scopes
   pub frames : length scopes.frames ≡ length standing
   pub calls : scopes.by_call ≡ map (λ f. is_by_call f.cause) standing
   pub pending : IfSome thrown (IsLive store)
+  pub referred : RefersToLive store references
 
 -- the call that opens a scope of a kind, and the one that closes it
 abbrev pub opening_call : ScopeKind → Call
@@ -66,8 +70,8 @@ pub record Answers (old : Environment) (c : Call) (r : Reply) (new : Environment
 -- the same where the call comes at a right moment, so that it is not asked whether it is guarded or registers
 pub record AnswersInTime (old : Environment) (c : Call) (r : Reply) (new : Environment) : Type 0 where
   pub fresh : IsTrue (is_fresh old r.out)
-  pub reply : r ≡ (answer_given old c (number_of r.out) (refusal_in old.texts old.heap c)).reply
-  pub after : new ≡ (answer_given old c (number_of r.out) (refusal_in old.texts old.heap c)).after
+  pub reply : r ≡ (answer_given old c (number_of r.out) (timely_refusal old c)).reply
+  pub after : new ≡ (answer_given old c (number_of r.out) (timely_refusal old c)).after
 
 -- CALLS OF FUNCTIONS
 -- a call that is refused answers at once, as every other call does

@@ -15,14 +15,17 @@ ghost use Rattle.env_core.specs.Core.{next_init};
 ghost use Rattle.env_core.specs.State.{Calls, Answers, AnswersInTime, opening_call, closing_call};
 
 mod calling;
+mod collection;
 mod ends;
 mod exceptions;
+mod references;
 
 use crate::frames::{Frames, StandingFrame};
 pub use calling::Called;
 use env_values::value_step;
 use exception_state::Exceptions;
 use handle_scope::{ScopeKind, Scopes};
+use napi_reference::Refs;
 use napi_types::{
     Actor, Call, Cause, Entry, HandleId, HostStep, NoMemory, Out, Phase, Reply, ScopeId, Status,
     TextNo, What,
@@ -46,6 +49,7 @@ pub struct State {
     store: Store,
     scopes: Scopes,
     frames: Frames,
+    references: Refs,
     exceptions: Exceptions,
 }
 
@@ -55,6 +59,8 @@ impl Model for State {
     ghost Value = { Environment };
 
     ghost use Rattle.env_values.specs.Seen.{heap_of};
+    ghost use Rattle.napi_reference.specs.Places.{map_of};
+    ghost use Rattle.env_core.specs.Referring.{references_seen};
     ghost use Rattle.env_core.specs.State.{pending_seen, IsState};
 
     ghost view = { λ state. record {
@@ -65,11 +71,12 @@ impl Model for State {
       phase = state.phase;
       heap = heap_of state.store state.scopes;
       frames = state.frames;
+      references = references_seen state.store (map_of state.references);
       pending = pending_seen state.store state.exceptions.pending;
       last = state.exceptions.last;
     } };
 
-    ghost invariant = { λ state. IsState state.store state.scopes state.frames state.exceptions.pending };
+    ghost invariant = { λ state. IsState state.store state.scopes state.frames state.exceptions.pending (map_of state.references) };
 }
 
 impl State {
@@ -80,6 +87,7 @@ impl State {
         let store = Store::new(alloc)?;
         let scopes = Scopes::new(alloc)?;
         let frames = Frames::new(alloc)?;
+        let references = Refs::new(alloc)?;
         Ok(State {
             alloc,
             addons,
@@ -90,6 +98,7 @@ impl State {
             store,
             scopes,
             frames,
+            references,
             exceptions: Exceptions::new(),
         })
     }
@@ -134,6 +143,7 @@ impl State {
         requires values { self.old.heap.made + most_names + 8 < 2 ^ 48 }
         requires handles { self.old.heap.handles < 2 ^ 62 }
         requires scopes { length self.old.heap.scope_numbers < 2 ^ 62 }
+        requires references { length self.old.references.issued + 2 < 2 ^ 48 }
         ensures ok { IfOk result (λ entry. Calls self.old call.now entry self.new) }
         ensures err { OnErr result (self.new ≡ self.old) }
         ensures growing { OnErr result (IsTrue (is_growing call.now)) }
@@ -194,6 +204,7 @@ impl State {
         requires values { self.old.heap.made + most_names + 8 < 2 ^ 48 }
         requires handles { self.old.heap.handles < 2 ^ 62 }
         requires scopes { length self.old.heap.scope_numbers < 2 ^ 62 }
+        requires references { length self.old.references.issued + 2 < 2 ^ 48 }
         ensures ok { IfOk result (λ reply. Answers self.old call.now reply self.new) }
         ensures err { OnErr result (self.new ≡ self.old) }
         ensures growing { OnErr result (IsTrue (is_growing call.now)) }
@@ -234,6 +245,7 @@ impl State {
         requires values { self.old.heap.made + most_names + 8 < 2 ^ 48 }
         requires handles { self.old.heap.handles < 2 ^ 62 }
         requires scopes { length self.old.heap.scope_numbers < 2 ^ 62 }
+        requires references { length self.old.references.issued + 2 < 2 ^ 48 }
         ensures ok { IfOk result (λ reply. AnswersInTime self.old call.now reply self.new) }
         ensures err { OnErr result (self.new ≡ self.old) }
         ensures growing { OnErr result (IsTrue (is_growing call.now)) }
@@ -249,6 +261,12 @@ impl State {
                 Ok(self.close_scope(*scope, ScopeKind::Escapable))
             }
             Call::EscapeHandle(scope, handle) => Ok(self.escape(*scope, *handle)),
+            Call::CreateReference(handle, count) => self.create_reference(*handle, *count),
+            Call::DeleteReference(reference) => Ok(self.delete_reference(*reference)),
+            Call::ReferenceRef(reference) => Ok(self.reference_ref(*reference)),
+            Call::ReferenceUnref(reference) => Ok(self.reference_unref(*reference)),
+            Call::GetReferenceValue(reference) => self.get_reference_value(*reference),
+            Call::Collect => self.collect(),
             Call::Throw(handle) => Ok(self.throw(*handle)),
             Call::ThrowError(code, message) => self.throw_error(*code, *message),
             Call::IsExceptionPending => Ok(self.is_pending()),

@@ -122,7 +122,7 @@ impl State {
     }
 
     /// Whether an open scope holds the handle.
-    fn holds(&self, handle: HandleId) -> bool
+    pub(super) fn holds(&self, handle: HandleId) -> bool
         ensures { result ≡ is_some (gives self.now.heap.scopes handle.0) }
     {
         self.scopes.look(handle).is_some()

@@ -16,6 +16,7 @@ invariant_of-self c =
       frames = c.self.invariant.frames;
       calls = c.self.invariant.calls;
       pending = given-live s.store s.scopes c.args.handle.0 c.in-Some.value.0 c.self.invariant.live c.in-Some.ensures;
+      referred = c.self.invariant.referred;
     })
 
 pub returns : goal.returns

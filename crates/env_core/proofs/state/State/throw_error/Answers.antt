@@ -2,10 +2,12 @@ use Rattle.std.proofs.Common.{◌≡◌, true, subst, sym}
 use Rattle.napi_types.specs.declared.call.Call.TheVariants as call_of
 use Rattle.napi_types.specs.Environment.{Environment}
 use Rattle.napi_types.specs.Refusals.{is_known}
+use Rattle.napi_reference.specs.Places.{map_of}
 use Rattle.env_core.specs.contracts.state.State.{the_view}
 use Rattle.env_values.specs.Seen.{heap_of}
 use Rattle.env_values.proofs.Giving.{thrown-heap}
 use Rattle.env_core.proofs.Exceptions.{accepted-thrown}
+use Rattle.env_core.proofs.ValueAnswers.{references-kept}
 use Rattle.env_core.proofs.state.State.throw_error.Goals as goal
 
 pub returns-clause-ok : goal.returns-clause-ok
@@ -16,6 +18,6 @@ returns-clause-ok c =
     let P : Environment → Type 0 = λ e. true ≡ is_known e.texts e.heap (call_of.ThrowError c.args.code c.args.message) in
     let known : is_known s.texts (heap_of s.store s.scopes) (call_of.ThrowError c.args.code c.args.message) ≡ true = sym (subst P (sym c.self.view_is) c.if-not-knows.ensures) in
     rw (← c.self.view_is)
-    (rw (c.plain-2.ensures, c.set.ensures)
+    (rw (c.plain-2.ensures, c.set.ensures, references-kept s.store t (map_of s.references) k.kept c.self.invariant.referred)
     (accepted-thrown (the_view s) s.store t s.scopes c.args.code c.args.message c.in_ok-error.error.0 known
     (thrown-heap s.store t s.scopes c.args.code c.args.message k.kept.numbers c.self.invariant.live k.made k.graph) k.number))

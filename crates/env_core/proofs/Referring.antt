@@ -1,0 +1,226 @@
+-- References as the machine sees them, and what the calls on them answer.
+use Rattle.std.proofs.Common.{◌≡◌, ℕ, ◌+◌, ◌-◌, ◌==◌, ◌||◌, Bool, true, false, cond, not, IsTrue, List, [], ◌∷◌, ◌++◌, map, filter, Option, Some, None, is_some, IsSome, IfSome, option_map, refl, ap, sym, subst, ◌∙◌}
+use Rattle.std.specs.List.{All, list_all}
+use Rattle.std.proofs.lemmas.List.Elements.{All-head, All-tail}
+use Rattle.std.specs.Option.{unwrap_or, option_or}
+use Rattle.std.proofs.lemmas.List.{map-append}
+use Rattle.napi_types.specs.declared.call.Call.{Call}
+use Rattle.napi_types.specs.declared.call.Call.TheVariants as call
+use Rattle.napi_types.specs.declared.entry.Out.{Out}
+use Rattle.napi_types.specs.declared.entry.Out.TheVariants as out
+use Rattle.napi_types.specs.declared.ids.HandleId.{HandleId}
+use Rattle.napi_types.specs.declared.ids.RefId.{RefId}
+use Rattle.napi_types.specs.declared.status.Status.{Status}
+use Rattle.napi_types.specs.declared.status.Status.TheVariants as status
+use Rattle.napi_types.specs.Calls.{accepted_by, answer_given}
+use Rattle.napi_types.specs.Changes.{number_of, is_fresh}
+use Rattle.napi_types.specs.Environment.{Environment, in_heap}
+use Rattle.napi_types.specs.Graph.{StoreState, IsLive, number_in}
+use Rattle.napi_types.specs.Heap.{Heap, with_handle, handle_of}
+use Rattle.napi_types.specs.Lists.{found, has, when, unless}
+use Rattle.napi_types.specs.ReferenceCalls.{counted_up, value_told}
+use Rattle.napi_types.specs.References.{Reference, ReferenceMap, has_reference, reference_at, value_of, count_of, most_count, with_reference, without_reference, with_count}
+use Rattle.napi_types.specs.Refusals.{references_of, count_refusal, reference_refusal, refusal_in, timely_refusal}
+use Rattle.napi_types.specs.Replies.{Answer, answered, plain}
+use Rattle.handle_scope.specs.HandleScopes.{HandleScopes}
+use Rattle.env_values.specs.Seen.{heap_of}
+use Rattle.env_values.proofs.Giving.{given-answer}
+use Rattle.napi_reference.proofs.Keeping.{AllValues-with_count}
+use Rattle.env_core.specs.Referring.{seen_reference, references_seen, RefersToLive}
+use Rattle.env_core.specs.State.{AnswersInTime}
+
+-- WHAT IS SEEN
+module _ (s : StoreState) where
+  rows-has : (rs : List Reference) (n : ℕ) → has (λ r. r.number) n (map (seen_reference s) rs) ≡ has (λ r. r.number) n rs
+  rows-has [] n = refl
+  rows-has (r ∷ rs) n = ap (λ b. (r.number == n) || b) (rows-has rs n)
+
+  pub seen-has : (m : ReferenceMap) (n : ℕ) → has_reference (references_seen s m) n ≡ has_reference m n
+  seen-has m n = rows-has m.rows n
+
+  rows-found : (rs : List Reference) (n : ℕ) → found (λ r. r.number) n (map (seen_reference s) rs) ≡ option_map (seen_reference s) (found (λ r. r.number) n rs)
+  rows-found [] n = refl
+  rows-found (r ∷ rs) n = by (rows-found rs n) (r.number == n)
+    where
+      by : found (λ x. x.number) n (map (seen_reference s) rs) ≡ option_map (seen_reference s) (found (λ x. x.number) n rs) → (b : Bool)
+          → cond b (Some (seen_reference s r)) (found (λ x. x.number) n (map (seen_reference s) rs)) ≡ option_map (seen_reference s) (cond b (Some r) (found (λ x. x.number) n rs))
+      by rest true = refl
+      by rest false = rest
+
+  value-at : (o : Option Reference) → unwrap_or (option_map (λ (r : Reference). r.value) (option_map (seen_reference s) o)) None ≡ option_map (number_in s) (unwrap_or (option_map (λ (r : Reference). r.value) o) None)
+  value-at None = refl
+  value-at (Some r) = refl
+
+  pub seen-value : (m : ReferenceMap) (n : ℕ) → value_of (references_seen s m) n ≡ option_map (number_in s) (value_of m n)
+  seen-value m n = ap (λ o. unwrap_or (option_map (λ (r : Reference). r.value) o) None) (rows-found m.rows n) ∙ value-at (reference_at m n)
+
+  count-at : (o : Option Reference) → unwrap_or (option_map (λ (r : Reference). r.count) (option_map (seen_reference s) o)) 0 ≡ unwrap_or (option_map (λ (r : Reference). r.count) o) 0
+  count-at None = refl
+  count-at (Some r) = refl
+
+  pub seen-count : (m : ReferenceMap) (n : ℕ) → count_of (references_seen s m) n ≡ count_of m n
+  seen-count m n = ap (λ o. unwrap_or (option_map (λ (r : Reference). r.count) o) 0) (rows-found m.rows n) ∙ count-at (reference_at m n)
+
+  is_some-map : (o : Option ℕ) → is_some (option_map (number_in s) o) ≡ is_some o
+  is_some-map None = refl
+  is_some-map (Some v) = refl
+
+  all-has : (m : ReferenceMap) (ns : List ℕ) → list_all (has_reference (references_seen s m)) ns ≡ list_all (has_reference m) ns
+  all-has m [] = refl
+  all-has m (n ∷ ns) = rw (seen-has m n, all-has m ns) refl
+
+  counts-seen : (m : ReferenceMap) (c : Call) → count_refusal (references_seen s m) c ≡ count_refusal m c
+  counts-seen m (call.ReferenceRef r) = rw (seen-value m r.0, seen-count m r.0, is_some-map (value_of m r.0)) refl
+  counts-seen m (call.ReferenceUnref r) = rw (seen-count m r.0) refl
+  counts-seen m _ = refl
+
+  -- why a call on a reference is refused reads numbers and counts, and whether there is a value
+  pub seen-refusal : (m : ReferenceMap) (c : Call) → reference_refusal (references_seen s m) c ≡ reference_refusal m c
+  seen-refusal m c = rw (all-has m (references_of c), counts-seen m c) refl
+
+  pub seen-with : (n v count : ℕ) (m : ReferenceMap) → references_seen s (with_reference n v count m) ≡ with_reference n (number_in s v) count (references_seen s m)
+  seen-with n v count m = ap (λ l. record { rows = l; issued = n ∷ m.issued }) (map-append (seen_reference s) m.rows _)
+
+  rows-without : (n : ℕ) (rs : List Reference) → map (seen_reference s) (filter (λ r. not (r.number == n)) rs) ≡ filter (λ r. not (r.number == n)) (map (seen_reference s) rs)
+  rows-without n [] = refl
+  rows-without n (r ∷ rs) = by _ _ (rows-without n rs) (not (r.number == n))
+    where
+      by : (xs ys : List Reference) → map (seen_reference s) xs ≡ ys → (b : Bool) → map (seen_reference s) (cond b (r ∷ xs) xs) ≡ cond b (seen_reference s r ∷ ys) ys
+      by xs ys rest true = ap (λ l. seen_reference s r ∷ l) rest
+      by xs ys rest false = rest
+
+  pub seen-without : (n : ℕ) (m : ReferenceMap) → references_seen s (without_reference n m) ≡ without_reference n (references_seen s m)
+  seen-without n m = ap (λ l. record { rows = l; issued = m.issued }) (rows-without n m.rows)
+
+  abbrev recounted : ℕ → ℕ → Reference → Reference
+  recounted n count r = cond (r.number == n) (record r { count = count }) r
+
+  rows-counted : (n count : ℕ) (rs : List Reference) → map (seen_reference s) (map (recounted n count) rs) ≡ map (recounted n count) (map (seen_reference s) rs)
+  rows-counted n count [] = refl
+  rows-counted n count (r ∷ rs) = by _ _ (rows-counted n count rs) (r.number == n)
+    where
+      by : (xs ys : List Reference) → xs ≡ ys → (b : Bool)
+          → seen_reference s (cond b (record r { count = count }) r) ∷ xs ≡ cond b (record (seen_reference s r) { count = count }) (seen_reference s r) ∷ ys
+      by xs ys rest true = ap (λ l. seen_reference s (record r { count = count }) ∷ l) rest
+      by xs ys rest false = ap (λ l. seen_reference s r ∷ l) rest
+
+  pub seen-counted : (n count : ℕ) (m : ReferenceMap) → references_seen s (with_count n count m) ≡ with_count n count (references_seen s m)
+  seen-counted n count m = ap (λ l. record { rows = l; issued = m.issued }) (rows-counted n count m.rows)
+
+-- WHAT A CALL ANSWERS
+-- one that is refused
+pub refused-timely : (e : Environment) (c : Call) (s : Status) → timely_refusal e c ≡ Some s → AnswersInTime e c (plain s out.Nothing) e
+refused-timely e c s why = record {
+  fresh = refl;
+  reply = ap (λ (o : Option Status). (answer_given e c 0 o).reply) (sym why);
+  after = ap (λ (o : Option Status). (answer_given e c 0 o).after) (sym why);
+}
+
+-- one that is accepted
+pub accepted-timely : (e new : Environment) (c : Call) (o : Out) → timely_refusal e c ≡ None → is_fresh e o ≡ true → accepted_by e c (number_of o) ≡ answered o new → AnswersInTime e c (plain status.Ok o) new
+accepted-timely e new c o none fresh is =
+    let answer : answer_given e c (number_of o) (timely_refusal e c) ≡ answered o new = ap (answer_given e c (number_of o)) none ∙ is in
+    record {
+      fresh = fresh;
+      reply = ap (λ (a : Answer Environment). a.reply) (sym answer);
+      after = ap (λ (a : Answer Environment). a.after) (sym answer);
+    }
+
+or-none : (o : Option Status) → option_or o None ≡ o
+or-none None = refl
+or-none (Some s) = refl
+
+-- a call that nothing in the heap refuses is refused for its reference alone
+pub by-reference : (e : Environment) (c : Call) (o : Option Status) → reference_refusal e.references c ≡ o → refusal_in e.texts e.heap c ≡ None → timely_refusal e c ≡ o
+by-reference e c o h k = ap (λ x. option_or x (refusal_in e.texts e.heap c)) h ∙ ap (λ x. option_or o x) k ∙ or-none o
+
+-- A CALL ON A REFERENCE
+-- the environment with these references
+abbrev pub referring : Environment → StoreState → ReferenceMap → Environment
+referring e s m = record e { references = references_seen s m }
+
+-- it is refused, and changes nothing
+pub refused-answers : (e : Environment) (s : StoreState) (m n : ReferenceMap) (c : Call) (st : Status) → Some st ≡ reference_refusal m c → refusal_in e.texts e.heap c ≡ None → n ≡ m
+    → AnswersInTime (referring e s m) c (plain st out.Nothing) (referring e s n)
+refused-answers e s m n c st h k same =
+    let P : ReferenceMap → Type 0 = λ x. AnswersInTime (referring e s m) c (plain st out.Nothing) (referring e s x) in
+    subst P (sym same) (refused-timely (referring e s m) c st (by-reference (referring e s m) c (Some st) (seen-refusal s m c ∙ sym h) k))
+
+accepted-answers : (e : Environment) (s : StoreState) (m n : ReferenceMap) (c : Call) (o : Out) → None ≡ reference_refusal m c → refusal_in e.texts e.heap c ≡ None → is_fresh (referring e s m) o ≡ true
+    → accepted_by (referring e s m) c (number_of o) ≡ answered o (referring e s n) → AnswersInTime (referring e s m) c (plain status.Ok o) (referring e s n)
+accepted-answers e s m n c o h k fresh is =
+    accepted-timely (referring e s m) (referring e s n) c o (by-reference (referring e s m) c None (seen-refusal s m c ∙ sym h) k) fresh is
+
+pub deleted-answers : (e : Environment) (s : StoreState) (m n : ReferenceMap) (r : RefId) → None ≡ reference_refusal m (call.DeleteReference r) → n ≡ without_reference r.0 m
+    → AnswersInTime (referring e s m) (call.DeleteReference r) (plain status.Ok out.Nothing) (referring e s n)
+deleted-answers e s m n r h is =
+    accepted-answers e s m n (call.DeleteReference r) out.Nothing h refl refl
+    (ap (λ (x : ReferenceMap). answered out.Nothing (record e { references = x })) (sym (ap (references_seen s) is ∙ seen-without s r.0 m)))
+
+pub lowered-answers : (e : Environment) (s : StoreState) (m n : ReferenceMap) (r : RefId) (count : ℕ) → None ≡ reference_refusal m (call.ReferenceUnref r)
+    → count ≡ count_of m r.0 - 1 → n ≡ with_count r.0 count m
+    → AnswersInTime (referring e s m) (call.ReferenceUnref r) (plain status.Ok (out.Unsigned count)) (referring e s n)
+lowered-answers e s m n r count h counted is =
+    accepted-answers e s m n (call.ReferenceUnref r) (out.Unsigned count) h refl refl
+    (ap (λ k. answered (out.Unsigned (k - 1)) (record e { references = with_count r.0 (k - 1) (references_seen s m) })) (seen-count s m r.0)
+    ∙ ap (λ k. answered (out.Unsigned k) (record e { references = with_count r.0 k (references_seen s m) })) (sym counted)
+    ∙ ap (λ (x : ReferenceMap). answered (out.Unsigned count) (record e { references = x })) (sym (ap (references_seen s) is ∙ seen-counted s r.0 count m)))
+
+pub raised-answers : (e : Environment) (s : StoreState) (m n : ReferenceMap) (r : RefId) (count : ℕ) → None ≡ reference_refusal m (call.ReferenceRef r)
+    → (IsSome (value_of m r.0) → count ≡ count_of m r.0 + 1) → (IsSome (value_of m r.0) → n ≡ with_count r.0 count m)
+    → (value_of m r.0 ≡ None → count ≡ 0) → (value_of m r.0 ≡ None → n ≡ m)
+    → AnswersInTime (referring e s m) (call.ReferenceRef r) (plain status.Ok (out.Unsigned count)) (referring e s n)
+raised-answers e s m n r count h counted is none same = accepted-answers e s m n (call.ReferenceRef r) (out.Unsigned count) h refl refl (ap (counted_up r.0 (referring e s m)) (seen-value s m r.0) ∙ by (value_of m r.0) refl)
+  where
+    by : (v : Option ℕ) → value_of m r.0 ≡ v → counted_up r.0 (referring e s m) (option_map (number_in s) v) ≡ answered (out.Unsigned count) (referring e s n)
+    by None e1 =
+        ap (λ k. answered (out.Unsigned k) (referring e s m)) (sym (none e1)) ∙ ap (λ x. answered (out.Unsigned count) (referring e s x)) (sym (same e1))
+    by (Some v) e1 =
+        let there : IsSome (value_of m r.0) = subst (λ (o : Option ℕ). IsSome o) (sym e1) refl in
+        ap (λ k. answered (out.Unsigned (k + 1)) (record e { references = with_count r.0 (k + 1) (references_seen s m) })) (seen-count s m r.0)
+        ∙ ap (λ k. answered (out.Unsigned k) (record e { references = with_count r.0 k (references_seen s m) })) (sym (counted there))
+        ∙ ap (λ (x : ReferenceMap). answered (out.Unsigned count) (record e { references = x })) (sym (ap (references_seen s) (is there) ∙ seen-counted s r.0 count m))
+
+-- the value of a reference was collected
+pub gone-answers : (e : Environment) (s : StoreState) (m : ReferenceMap) (r : RefId) → None ≡ reference_refusal m (call.GetReferenceValue r) → None ≡ value_of m r.0
+    → AnswersInTime (referring e s m) (call.GetReferenceValue r) (plain status.Ok out.NoHandle) (referring e s m)
+gone-answers e s m r h none =
+    accepted-answers e s m m (call.GetReferenceValue r) out.NoHandle h refl refl (ap (value_told (referring e s m)) (seen-value s m r.0 ∙ ap (option_map (number_in s)) (sym none)))
+
+-- or it is there, and gets a handle
+pub told-answers : (e : Environment) (s : StoreState) (m : ReferenceMap) (old new : HandleScopes) (r : RefId) (h : HandleId) (v : ℕ)
+    → e.heap ≡ heap_of s old → None ≡ reference_refusal m (call.GetReferenceValue r) → Some v ≡ value_of m r.0
+    → h.0 ≡ old.handles + 1 → heap_of s new ≡ with_handle (number_in s v) (heap_of s old)
+    → AnswersInTime (referring e s m) (call.GetReferenceValue r) (plain status.Ok (out.Handle h)) (record (referring e s m) { heap = heap_of s new })
+told-answers e s m old new r h v heap none some next held =
+    accepted-timely (referring e s m) (record (referring e s m) { heap = heap_of s new }) (call.GetReferenceValue r) (out.Handle h)
+    (by-reference (referring e s m) (call.GetReferenceValue r) None (seen-refusal s m (call.GetReferenceValue r) ∙ sym none) refl) refl
+    (ap (value_told (referring e s m)) (seen-value s m r.0 ∙ ap (option_map (number_in s)) (sym some))
+    ∙ ap (λ (x : Heap). in_heap (referring e s m) (handle_of (number_in s v) x)) heap
+    ∙ ap (λ (a : Answer Heap). in_heap (referring e s m) a) (given-answer (heap_of s old) (heap_of s new) (number_in s v) h next held))
+
+-- WHAT STAYS LIVE
+pub raised-live : (s : StoreState) (m n : ReferenceMap) (r count : ℕ) → RefersToLive s m → (IsSome (value_of m r) → n ≡ with_count r count m) → (value_of m r ≡ None → n ≡ m) → RefersToLive s n
+raised-live s m n r count live counted same = by (value_of m r) refl
+  where
+    by : (v : Option ℕ) → value_of m r ≡ v → RefersToLive s n
+    by None h = subst (RefersToLive s) (sym (same h)) live
+    by (Some v) h =
+        let there : IsSome (value_of m r) = subst (λ (o : Option ℕ). IsSome o) (sym h) refl in
+        subst (RefersToLive s) (sym (counted there)) (AllValues-with_count (IsLive s) r count m live)
+
+-- the value that a reference has is live
+rows-value : (s : StoreState) (rs : List Reference) (r v : ℕ) → Some v ≡ unwrap_or (option_map (λ (x : Reference). x.value) (found (λ x. x.number) r rs)) None
+    → All (λ x. IfSome x.value (IsLive s)) rs → IsLive s v
+rows-value s [] r v h live = cc
+rows-value s (x ∷ rs) r v h live =
+    let P : Reference → Type 0 = λ y. IfSome y.value (IsLive s) in
+    by (All-head P x rs live) (λ e. rows-value s rs r v e (All-tail P x rs live)) (x.number == r) h
+  where
+    by : IfSome x.value (IsLive s) → (Some v ≡ unwrap_or (option_map (λ (y : Reference). y.value) (found (λ y. y.number) r rs)) None → IsLive s v)
+        → (b : Bool) → Some v ≡ unwrap_or (option_map (λ (y : Reference). y.value) (cond b (Some x) (found (λ y. y.number) r rs))) None → IsLive s v
+    by first later true e = subst (λ (o : Option ℕ). IfSome o (IsLive s)) (sym e) first
+    by first later false e = later e
+
+pub value-live : (s : StoreState) (m : ReferenceMap) (r v : ℕ) → Some v ≡ value_of m r → RefersToLive s m → IsLive s v
+value-live s m r v h live = rows-value s m.rows r v h live

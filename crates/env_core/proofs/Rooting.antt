@@ -1,0 +1,131 @@
+-- The roots of the store's state are the machine's.
+use Rattle.std.proofs.Common.{◌≡◌, ℕ, ◌+◌, ◌<◌, arith, append_assoc, ◌==◌, Bool, true, false, cond, List, [], ◌∷◌, ◌++◌, map, filter_map, Option, Some, None, option_map, refl, ap, sym, ◌∙◌}
+use Rattle.std.proofs.lemmas.List.{map-append, append-nil}
+use Rattle.std.proofs.lemmas.List.Elements.{filter_map-append}
+use Rattle.napi_types.specs.Environment.{Environment}
+use Rattle.napi_types.specs.Graph.{StoreState, number_in}
+use Rattle.napi_types.specs.Lists.{has_number}
+use Rattle.napi_types.specs.Reach.{numbers}
+use Rattle.napi_types.specs.References.{Reference, ReferenceMap, strong_value, strong_values}
+use Rattle.napi_types.specs.Roots.{pending_value, roots}
+use Rattle.napi_types.specs.Scopes.{Held, Scope, FrameScopes, held_by_scopes, held_by_frame, held_by_frames}
+use Rattle.napi_types.specs.Values.{starting_values}
+use Rattle.handle_scope.specs.HandleScopes.{HandleScopes, filled, free_place, frame_places, handle_places}
+use Rattle.env_values.specs.Seen.{seen_held, seen_scope, seen_frame, heap_of}
+use Rattle.trace_collect.specs.Collects.{HoldsStarting}
+use Rattle.env_core.specs.Referring.{seen_reference, references_seen}
+use Rattle.env_core.specs.Rooting.{AreStarting, AreRoots, held_values}
+use Rattle.env_core.specs.State.{pending_seen}
+
+-- the environment with these values, scopes, references and pending exception
+abbrev pub whole : Environment → StoreState → HandleScopes → ReferenceMap → Option ℕ → Environment
+whole e s scopes m p = record e { heap = heap_of s scopes; references = references_seen s m; pending = pending_seen s p }
+
+abbrev values_of : List Held → List ℕ
+values_of hs = map (λ h. h.value) hs
+
+module _ (s : StoreState) where
+  held-seen : (hs : List Held) → values_of (map (seen_held s) hs) ≡ map (number_in s) (values_of hs)
+  held-seen [] = refl
+  held-seen (h ∷ hs) = ap (λ l. number_in s h.value ∷ l) (held-seen hs)
+
+  -- two lists of handles that are seen so are seen so together
+  joined : (hs ks xs ys : List Held) → values_of hs ≡ map (number_in s) (values_of xs) → values_of ks ≡ map (number_in s) (values_of ys)
+      → values_of (hs ++ ks) ≡ map (number_in s) (values_of (xs ++ ys))
+  joined hs ks xs ys e f =
+      map-append (λ (h : Held). h.value) hs ks ∙ ap (λ l. l ++ values_of ks) e ∙ ap (λ l. map (number_in s) (values_of xs) ++ l) f
+      ∙ sym (map-append (number_in s) (values_of xs) (values_of ys)) ∙ ap (map (number_in s)) (sym (map-append (λ (h : Held). h.value) xs ys))
+
+  scopes-seen : (ss : List Scope) → values_of (held_by_scopes (map (seen_scope s) ss)) ≡ map (number_in s) (values_of (held_by_scopes ss))
+  scopes-seen [] = refl
+  scopes-seen (x ∷ ss) = joined (held_by_scopes (map (seen_scope s) ss)) (map (seen_held s) x.held) (held_by_scopes ss) x.held (scopes-seen ss) (held-seen x.held)
+
+  frame-seen : (f : FrameScopes) → values_of (held_by_frame (seen_frame s f)) ≡ map (number_in s) (values_of (held_by_frame f))
+  frame-seen f = joined (map (seen_held s) f.own) (held_by_scopes (map (seen_scope s) f.opened)) f.own (held_by_scopes f.opened) (held-seen f.own) (scopes-seen f.opened)
+
+  frames-seen : (fs : List FrameScopes) → values_of (held_by_frames (map (seen_frame s) fs)) ≡ map (number_in s) (values_of (held_by_frames fs))
+  frames-seen [] = refl
+  frames-seen (f ∷ fs) = joined (held_by_frames (map (seen_frame s) fs)) (held_by_frame (seen_frame s f)) (held_by_frames fs) (held_by_frame f) (frames-seen fs) (frame-seen f)
+
+  strong-seen : (r : Reference) → strong_value (seen_reference s r) ≡ option_map (number_in s) (strong_value r)
+  strong-seen r = by (r.count == 0)
+    where
+      by : (b : Bool) → cond b None (option_map (number_in s) r.value) ≡ option_map (number_in s) (cond b None r.value)
+      by true = refl
+      by false = refl
+
+  rows-strong : (rs : List Reference) → filter_map strong_value (map (seen_reference s) rs) ≡ map (number_in s) (filter_map strong_value rs)
+  rows-strong [] = refl
+  rows-strong (r ∷ rs) = by (strong_value (seen_reference s r)) (strong_value r) (strong-seen r) (rows-strong rs) refl refl
+    where
+      by : (a b : Option ℕ) → a ≡ option_map (number_in s) b → filter_map strong_value (map (seen_reference s) rs) ≡ map (number_in s) (filter_map strong_value rs)
+          → strong_value (seen_reference s r) ≡ a → strong_value r ≡ b
+          → filter_map strong_value (map (seen_reference s) (r ∷ rs)) ≡ map (number_in s) (filter_map strong_value (r ∷ rs))
+      by a None e rest f g = rw (f ∙ e, g) rest
+      by a (Some v) e rest f g = rw (f ∙ e, g) (ap (λ l. number_in s v ∷ l) rest)
+
+  pending-at : (p : Option ℕ) → pending_value (pending_seen s p) ≡ map (number_in s) (pending_value p)
+  pending-at None = refl
+  pending-at (Some v) = refl
+
+  pub roots-seen : (e : Environment) (scopes : HandleScopes) (m : ReferenceMap) (p : Option ℕ) (ids : List ℕ) → AreRoots s scopes m p ids → map (number_in s) ids ≡ roots (whole e s scopes m p)
+  roots-seen e scopes m p ids r =
+      let n : List ℕ → List ℕ = map (number_in s) in
+      let held : List ℕ = held_values scopes in
+      let seen : List ℕ = values_of (held_by_frames (map (seen_frame s) scopes.frames)) in
+      let first : n ids ≡ n (r.starting ++ held ++ strong_values m ++ pending_value p) = ap n r.are in
+      first
+      ∙ map-append (number_in s) (r.starting ++ held ++ strong_values m) (pending_value p)
+      ∙ ap (λ l. l ++ n (pending_value p)) (map-append (number_in s) (r.starting ++ held) (strong_values m))
+      ∙ ap (λ l. l ++ n (strong_values m) ++ n (pending_value p)) (map-append (number_in s) r.starting held)
+      ∙ ap (λ l. l ++ n held ++ n (strong_values m) ++ n (pending_value p)) r.are_starting.numbers_are
+      ∙ ap (λ l. numbers starting_values ++ l ++ n (strong_values m) ++ n (pending_value p)) (sym (frames-seen scopes.frames))
+      ∙ ap (λ l. numbers starting_values ++ seen ++ l ++ n (pending_value p)) (sym (rows-strong m.rows))
+      ∙ ap (λ l. numbers starting_values ++ seen ++ strong_values (references_seen s m) ++ l) (sym (pending-at p))
+
+-- the starting values are among them
+starts-with : (which : ℕ) (ns : List ℕ) → which < 5 → has_number (which + 1) (numbers starting_values ++ ns) ≡ true
+starts-with 0 ns h = refl
+starts-with 1 ns h = refl
+starts-with 2 ns h = refl
+starts-with 3 ns h = refl
+starts-with 4 ns h = refl
+starts-with which ns h = absurd (omega (arith, h))
+
+pub roots-start : (s : StoreState) (scopes : HandleScopes) (m : ReferenceMap) (p : Option ℕ) (ids : List ℕ) → AreRoots s scopes m p ids → HoldsStarting s ids
+roots-start s scopes m p ids r which h =
+    let n : List ℕ → List ℕ = map (number_in s) in
+    let rest : List ℕ = held_values scopes ++ (strong_values m ++ pending_value p) in
+    let are : ids ≡ r.starting ++ rest = r.are ∙ simp append_assoc in
+    let seen : n ids ≡ numbers starting_values ++ n rest = ap n are ∙ map-append (number_in s) r.starting rest ∙ ap (λ l. l ++ n rest) r.are_starting.numbers_are in
+    ap (has_number (which + 1)) seen ∙ starts-with which (n rest) h
+
+-- WHAT IS PUSHED
+-- the places of handles that are filled have the values that scopes hold
+filled-values : (hs : List Held) → filter_map (λ place. place) (filled hs) ≡ values_of hs
+filled-values [] = refl
+filled-values (h ∷ hs) = ap (λ l. h.value ∷ l) (filled-values hs)
+
+free-none : (x : Scope) → filter_map (λ place. place) (free_place x) ≡ []
+free-none x = by x.used
+  where
+    by : (b : Bool) → filter_map (λ (place : Option ℕ). place) (cond b [] (None ∷ [])) ≡ []
+    by true = refl
+    by false = refl
+
+frame-values : (own : List Held) (ss : List Scope) → filter_map (λ place. place) (frame_places own ss) ≡ values_of (own ++ held_by_scopes ss)
+frame-values own [] = filled-values own ∙ ap values_of (sym (append-nil own))
+frame-values own (x ∷ ss) =
+    let f : List (Option ℕ) → List ℕ = filter_map (λ place. place) in
+    let split : f ((frame_places own ss ++ free_place x) ++ filled x.held) ≡ f (frame_places own ss ++ free_place x) ++ f (filled x.held) = filter_map-append (λ place. place) (frame_places own ss ++ free_place x) (filled x.held) in
+    let inner : f (frame_places own ss ++ free_place x) ≡ f (frame_places own ss) = filter_map-append (λ place. place) (frame_places own ss) (free_place x) ∙ ap (λ l. f (frame_places own ss) ++ l) (free-none x) ∙ append-nil (f (frame_places own ss)) in
+    split ∙ ap (λ l. l ++ f (filled x.held)) (inner ∙ frame-values own ss) ∙ ap (λ l. values_of (own ++ held_by_scopes ss) ++ l) (filled-values x.held)
+    ∙ sym (map-append (λ (h : Held). h.value) (own ++ held_by_scopes ss) x.held) ∙ ap values_of (append_assoc own (held_by_scopes ss) x.held)
+
+pub places-values : (fs : List FrameScopes) → filter_map (λ place. place) (handle_places fs) ≡ values_of (held_by_frames fs)
+places-values [] = refl
+places-values (f ∷ fs) =
+    let g : List (Option ℕ) → List ℕ = filter_map (λ place. place) in
+    let split : g (handle_places fs ++ frame_places f.own f.opened) ≡ g (handle_places fs) ++ g (frame_places f.own f.opened) = filter_map-append (λ place. place) (handle_places fs) (frame_places f.own f.opened) in
+    split ∙ ap (λ l. l ++ g (frame_places f.own f.opened)) (places-values fs) ∙ ap (λ l. values_of (held_by_frames fs) ++ l) (frame-values f.own f.opened)
+    ∙ sym (map-append (λ (h : Held). h.value) (held_by_frames fs) (f.own ++ held_by_scopes f.opened))

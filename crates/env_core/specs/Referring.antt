@@ -1,0 +1,17 @@
+-- References as the machine sees them.
+use Rattle.std.specs.Prelude.{ℕ, map, option_map, IfSome}
+use Rattle.std.specs.List.{All}
+use Rattle.napi_types.specs.Graph.{StoreState, IsLive, number_in}
+use Rattle.napi_types.specs.References.{Reference, ReferenceMap}
+
+-- a reference has the creation number of its value, where the crate below has the store's number
+abbrev pub seen_reference : StoreState → Reference → Reference
+seen_reference store r = record r { value = option_map (number_in store) r.value }
+
+-- all references
+abbrev pub references_seen : StoreState → ReferenceMap → ReferenceMap
+references_seen store m = record m { rows = map (seen_reference store) m.rows }
+
+-- the value of each reference is live, where it was not collected
+abbrev pub RefersToLive : StoreState → ReferenceMap → Type 0
+RefersToLive store m = All (λ r. IfSome r.value (IsLive store)) m.rows

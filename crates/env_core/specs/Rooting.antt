@@ -1,0 +1,27 @@
+-- The roots of a collection, by the numbers of the store.
+use Rattle.std.specs.Prelude.{◌≡◌, ℕ, List, ◌++◌, map, Option}
+use Rattle.std.specs.List.{All}
+use Rattle.napi_types.specs.Graph.{StoreState, IsLive, number_in}
+use Rattle.napi_types.specs.Reach.{numbers}
+use Rattle.napi_types.specs.References.{ReferenceMap, strong_values}
+use Rattle.napi_types.specs.Roots.{pending_value}
+use Rattle.napi_types.specs.Scopes.{held_by_frames}
+use Rattle.napi_types.specs.Values.{starting_values}
+use Rattle.handle_scope.specs.HandleScopes.{HandleScopes}
+
+-- these name the starting values, in their order
+pub record AreStarting (store : StoreState) (ids : List ℕ) : Type 0 where
+  pub numbers_are : map (number_in store) ids ≡ numbers starting_values
+  pub live : All (IsLive store) ids
+
+-- the values of the handles in open scopes, those of an outer scope first
+abbrev pub held_values : HandleScopes → List ℕ
+held_values scopes = map (λ h. h.value) (held_by_frames scopes.frames)
+
+-- these are the roots: the starting values, the values of the handles in open scopes, those of strong references, and the pending exception
+pub record AreRoots (store : StoreState) (scopes : HandleScopes) (references : ReferenceMap) (pending : Option ℕ) (ids : List ℕ) : Type 0 where
+  pub starting : List ℕ
+  pub are_starting : AreStarting store starting
+  pub are : ids ≡ starting ++ held_values scopes ++ strong_values references ++ pending_value pending
+  -- all of them name live values
+  pub live : All (IsLive store) ids

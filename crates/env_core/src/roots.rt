@@ -1,0 +1,88 @@
+//! The roots of a collection.
+ghost use Rattle.std.specs.Prelude.{◌≡◌, ◌++◌, option_map, IfOk, OnOk, IfSome};
+ghost use Rattle.napi_types.specs.Graph.{IsLive};
+ghost use Rattle.napi_types.specs.References.{strong_values};
+ghost use Rattle.napi_types.specs.Roots.{pending_value};
+ghost use Rattle.value_store.specs.Changes.{numbers_of};
+ghost use Rattle.napi_reference.specs.Places.{map_of};
+ghost use Rattle.env_values.specs.Seen.{HoldsLive};
+ghost use Rattle.env_core.specs.Referring.{RefersToLive};
+ghost use Rattle.env_core.specs.Rooting.{AreRoots, AreStarting, held_values};
+
+use handle_scope::Scopes;
+use napi_reference::Refs;
+use napi_types::{NoMemory, ValueId};
+use std::alloc::Global;
+use value_store::Store;
+
+/// The roots: the starting values, the values of handles in open scopes, those of strong references, and the pending exception.
+///
+/// It takes time linear in the handle places and references, for each place logarithmic in the open scopes.
+pub fn roots_of(
+    alloc: Global,
+    store: &Store,
+    scopes: &Scopes,
+    references: &Refs,
+    pending: Option<ValueId>,
+) -> Result<Vec<ValueId>, NoMemory>
+    requires held { HoldsLive store.now scopes.now }
+    requires referred { RefersToLive store.now (map_of references.now) }
+    requires pending { IfSome pending (λ v. IsLive store.now v.0) }
+    ensures { IfOk result (λ roots. AreRoots store.now scopes.now (map_of references.now) (option_map (λ v. v.0) pending) (numbers_of roots.items)) }
+{
+    let mut roots = starting(alloc, store)?;
+    push_held(&mut roots, scopes)?;
+    push_strong(&mut roots, references)?;
+    push(&mut roots, pending)?;
+    Ok(roots)
+}
+
+/// The starting values.
+fn starting(alloc: Global, store: &Store) -> Result<Vec<ValueId>, NoMemory>
+    ensures { IfOk result (λ roots. AreStarting store.now (numbers_of roots.items)) }
+{
+    let values = [
+        store.starting(0),
+        store.starting(1),
+        store.starting(2),
+        store.starting(3),
+        store.starting(4),
+    ];
+    match Vec::from_array(alloc, values) {
+        Ok(roots) => Ok(roots),
+        Err(_) => Err(NoMemory),
+    }
+}
+
+/// Adds the values of the handles in open scopes.
+fn push_held(roots: &mut Vec<ValueId>, scopes: &Scopes) -> Result<(), NoMemory>
+    ensures { OnOk result (numbers_of roots.new.items ≡ numbers_of roots.old.items ++ held_values scopes.now) }
+{
+    for at in 0..scopes.held() {
+        push(roots, scopes.held_at(at))?;
+    }
+    Ok(())
+}
+
+/// Adds the values that strong references keep.
+fn push_strong(roots: &mut Vec<ValueId>, references: &Refs) -> Result<(), NoMemory>
+    ensures { OnOk result (numbers_of roots.new.items ≡ numbers_of roots.old.items ++ strong_values (map_of references.now)) }
+{
+    for at in 0..references.rows() {
+        push(roots, references.strong_at(at))?;
+    }
+    Ok(())
+}
+
+/// Adds a value, where there is one.
+fn push(roots: &mut Vec<ValueId>, value: Option<ValueId>) -> Result<(), NoMemory>
+    ensures { OnOk result (numbers_of roots.new.items ≡ numbers_of roots.old.items ++ pending_value (option_map (λ v. v.0) value)) }
+{
+    if let Some(value) = value {
+        return match roots.push(value) {
+            Ok(()) => Ok(()),
+            Err(_) => Err(NoMemory),
+        };
+    }
+    Ok(())
+}

@@ -1,0 +1,28 @@
+//! The collection.
+ghost use Rattle.std.specs.Prelude.{◌≡◌, IfOk, OnErr};
+ghost use Rattle.napi_types.specs.declared.call.Call.TheVariants as call_of;
+ghost use Rattle.env_core.specs.State.{AnswersInTime};
+
+use super::{State, plain};
+use crate::roots::roots_of;
+use napi_types::{NoMemory, Out, Reply, Status};
+
+impl State {
+    /// Frees the values that the roots do not reach, empties the references to them, and tells how many there were. All
+    /// memory is taken before the first change.
+    pub(super) fn collect(&mut self) -> Result<Reply, NoMemory>
+        ensures ok { IfOk result (λ reply. AnswersInTime self.old call_of.Collect reply self.new) }
+        ensures err { OnErr result (self.new ≡ self.old) }
+    {
+        let roots = roots_of(
+            self.alloc,
+            &self.store,
+            &self.scopes,
+            &self.references,
+            self.exceptions.pending(),
+        )?;
+        let freed = trace_collect::collect(self.alloc, &mut self.store, &roots)?;
+        self.references.empty_of(&freed);
+        Ok(plain(Status::Ok, Out::Unsigned(freed.len() as u64)))
+    }
+}

@@ -1,0 +1,98 @@
+//! Calls on references.
+ghost use Rattle.std.specs.Prelude.{◌≡◌, ◌≢◌, ◌+◌, ◌<◌, ◌^◌, [], length, IfOk, OnErr};
+ghost use Rattle.napi_types.specs.declared.call.Call.TheVariants as call_of;
+ghost use Rattle.napi_types.specs.Heap.{handle_body};
+ghost use Rattle.napi_types.specs.Lists.{unless};
+ghost use Rattle.napi_types.specs.Refusals.{refusal_in};
+ghost use Rattle.napi_types.specs.Values.{is_referable as is_referable_body};
+ghost use Rattle.env_core.specs.State.{AnswersInTime};
+
+use super::{State, plain};
+use crate::handles::{body_of, value_of};
+use napi_types::{Body, HandleId, NoMemory, Out, RefId, Reply, Status};
+
+impl State {
+    /// A new reference to the value of a handle.
+    pub(super) fn create_reference(
+        &mut self,
+        handle: HandleId,
+        count: u32,
+    ) -> Result<Reply, NoMemory>
+        requires references { length self.old.references.issued + 2 < 2 ^ 48 }
+        ensures ok { IfOk result (λ reply. AnswersInTime self.old (call_of.CreateReference handle count) reply self.new) }
+        ensures err { OnErr result (self.new ≡ self.old) }
+    {
+        if !self.may_refer_to(handle, count) {
+            return Ok(plain(Status::InvalidArg, Out::Nothing));
+        }
+        let value = value_of(&self.store, &self.scopes, handle);
+        let reference = self.references.make(value, count)?;
+        Ok(plain(Status::Ok, Out::Ref(reference)))
+    }
+
+    /// Whether a reference may be made to the value of a handle: an open scope holds it, and the value is of a kind for that.
+    fn may_refer_to(&self, handle: HandleId, count: u32) -> bool
+        ensures { unless result Status.InvalidArg ≡ refusal_in self.now.texts self.now.heap (call_of.CreateReference handle count) }
+    {
+        let known = self.holds(handle);
+        let referable = self.is_referable(handle);
+        known && referable
+    }
+
+    /// Whether the value of a handle is of a kind to which references are made.
+    fn is_referable(&self, handle: HandleId) -> bool
+        ensures { result ≡ is_referable_body (handle_body self.now.heap handle.0) }
+    {
+        matches!(
+            body_of(&self.store, &self.scopes, handle),
+            Body::Object { .. } | Body::Function { .. } | Body::External(_) | Body::Symbol(_)
+        )
+    }
+
+    /// A reference ends.
+    pub(super) fn delete_reference(&mut self, reference: RefId) -> Reply
+        ensures { AnswersInTime self.old (call_of.DeleteReference reference) result self.new }
+    {
+        match self.references.delete(reference) {
+            Ok(()) => plain(Status::Ok, Out::Nothing),
+            Err(status) => plain(status, Out::Nothing),
+        }
+    }
+
+    /// A reference is counted up.
+    pub(super) fn reference_ref(&mut self, reference: RefId) -> Reply
+        ensures { AnswersInTime self.old (call_of.ReferenceRef reference) result self.new }
+    {
+        match self.references.add(reference) {
+            Ok(count) => plain(Status::Ok, Out::Unsigned(u64::from(count))),
+            Err(status) => plain(status, Out::Nothing),
+        }
+    }
+
+    /// A reference is counted down.
+    pub(super) fn reference_unref(&mut self, reference: RefId) -> Reply
+        ensures { AnswersInTime self.old (call_of.ReferenceUnref reference) result self.new }
+    {
+        match self.references.take(reference) {
+            Ok(count) => plain(Status::Ok, Out::Unsigned(u64::from(count))),
+            Err(status) => plain(status, Out::Nothing),
+        }
+    }
+
+    /// A new handle of the value of a reference, none where it was collected.
+    pub(super) fn get_reference_value(&mut self, reference: RefId) -> Result<Reply, NoMemory>
+        requires standing { self.old.frames ≢ [] }
+        requires handles { self.old.heap.handles < 2 ^ 62 }
+        ensures ok { IfOk result (λ reply. AnswersInTime self.old (call_of.GetReferenceValue reference) reply self.new) }
+        ensures err { OnErr result (self.new ≡ self.old) }
+    {
+        match self.references.value(reference) {
+            Ok(Some(value)) => {
+                let handle = self.scopes.issue(value)?;
+                Ok(plain(Status::Ok, Out::Handle(handle)))
+            }
+            Ok(None) => Ok(plain(Status::Ok, Out::NoHandle)),
+            Err(status) => Ok(plain(status, Out::Nothing)),
+        }
+    }
+}
