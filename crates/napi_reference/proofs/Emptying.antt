@@ -48,7 +48,7 @@ value_left-kept collected (Some v) kept = rw kept refl
 -- a row loses its value as its reference does, where a strong one keeps it
 row-emptied : (collected : ℕ → Bool) (n : ℕ) (row : Row) (weak : Bool) → (row.count == 0) ≡ weak → IfSome (cond weak None (option_map (λ v. v.0) row.value)) (λ v. collected v ≡ false)
     → let r : Reference = record { number = n; value = value_left collected (option_map (λ v. v.0) row.value); count = row.count } in
-      r ≡ reference_of n (cond weak (record row { value = id_left collected row.value }) row)
+    r ≡ reference_of n (cond weak (record row { value = id_left collected row.value }) row)
 row-emptied collected n row true e kept = ap (λ v. record { number = n; value = v; count = row.count }) (value_left-id collected row.value)
 row-emptied collected n row false e kept = ap (λ v. record { number = n; value = v; count = row.count }) (value_left-kept collected (option_map (λ v. v.0) row.value) kept)
 

@@ -3,10 +3,7 @@ use Rattle.std.proofs.Common.{◌≡◌, ℕ, ◌==◌, ◌∷◌, ◌++◌, not
 use Rattle.std.specs.List.{All, filter}
 use Rattle.std.proofs.lemmas.List.Elements.{All-nil, All-cons, All-head, All-tail, All-append, All-filter}
 use Rattle.napi_types.specs.References.{Reference, ReferenceMap, no_references, with_reference, without_reference, with_count, value_left, emptied}
-
--- each reference that has a value has one of which P holds
-abbrev pub AllValues : (ℕ → Type 0) → ReferenceMap → Type 0
-AllValues P m = All (λ r. IfSome r.value P) m.rows
+use Rattle.napi_reference.specs.Places.{AllValues}
 
 pub AllValues-no_references : (P : ℕ → Type 0) → AllValues P no_references
 AllValues-no_references P = All-nil (λ (r : Reference). IfSome r.value P)

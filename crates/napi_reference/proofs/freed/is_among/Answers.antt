@@ -9,5 +9,5 @@ use Rattle.napi_reference.proofs.freed.is_among.Goals as goal
 pub returns-in-Any : goal.returns-in-Any
 returns-in-Any c =
     let any : c.any.result ≡ list_any (λ (v : ValueId). v.0 == c.args.value.0) c.args.values.now =
-        any_from_yields_List (λ (v : ValueId). v.0 == c.args.value.0) _ _ c.any.result c.any.ensures.ran (YieldsList-from_slice c.args.values.now cc) (λ x b q k. search (rules, tests)) in
+    any_from_yields_List (λ (v : ValueId). v.0 == c.args.value.0) _ _ c.any.result c.any.ensures.ran (YieldsList-from_slice c.args.values.now cc) (λ x b q k. search (rules, tests)) in
     any ∙ among-any c.args.values.now c.args.value.0
