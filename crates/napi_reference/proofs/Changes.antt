@@ -1,5 +1,5 @@
 -- What a write at a place changes of the map.
-use Rattle.std.proofs.Common.{◌≡◌, ◌∙◌, ℕ, zero, suc, ◌+◌, ◌-◌, ◌<◌, ◌==◌, ◌∷◌, ◌++◌, not, Bool, true, false, cond, List, [], length, map, set, Option, Some, None, option_map, slice_index_or, refl, ap, sym, arith}
+use Rattle.std.proofs.Common.{◌≡◌, ◌∙◌, ℕ, zero, suc, ◌+◌, ◌-◌, ◌<◌, ◌==◌, ◌∷◌, ◌++◌, not, false, cond, List, [], length, map, set, Option, Some, None, option_map, slice_index_or, refl, ap, sym, arith}
 use Rattle.std.specs.List.{filter, filter_map}
 use Rattle.std.proofs.lemmas.List.{length-set, length-append}
 use Rattle.std.proofs.lemmas.List.Elements.{filter_map-append}

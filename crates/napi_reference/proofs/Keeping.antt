@@ -1,6 +1,6 @@
 -- What holds of the value of each reference, wherever a call leaves it.
-use Rattle.std.proofs.Common.{◌≡◌, ℕ, ◌==◌, ◌∷◌, ◌++◌, not, Bool, true, false, cond, List, [], map, Option, Some, None, IfSome, refl}
-use Rattle.std.specs.List.{All, filter}
+use Rattle.std.proofs.Common.{ℕ, ◌==◌, ◌∷◌, not, Bool, true, false, cond, List, [], map, Option, Some, None, IfSome}
+use Rattle.std.specs.List.{All}
 use Rattle.std.proofs.lemmas.List.Elements.{All-nil, All-cons, All-head, All-tail, All-append, All-filter}
 use Rattle.napi_types.specs.References.{Reference, ReferenceMap, no_references, with_reference, without_reference, with_count, value_left, emptied}
 use Rattle.napi_reference.specs.Places.{AllValues}

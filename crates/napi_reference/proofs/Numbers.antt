@@ -1,6 +1,6 @@
 -- The reference of a number stands at its place.
 use Rattle.std.proofs.Common.{◌≡◌, ◌∙◌, ℕ, zero, suc, ◌+◌, ◌<◌, ◌==◌, ◌||◌, ◌∷◌, Bool, true, false, cond, List, [], length, Option, Some, None, IsSome, is_some, option_map, slice_index_or, refl, ap, sym, arith}
-use Rattle.std.specs.List.{filter_map, find, list_any}
+use Rattle.std.specs.List.{filter_map}
 use Rattle.napi_types.specs.declared.ids.ValueId.{ValueId}
 use Rattle.napi_types.specs.Lists.{found, has}
 use Rattle.napi_types.specs.References.{Reference, ReferenceMap, reference_at, has_reference, value_of, count_of}

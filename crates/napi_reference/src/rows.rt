@@ -1,5 +1,5 @@
 //! The list of references, read and changed by number.
-ghost use Rattle.std.specs.Prelude.{◌≡◌, ◌-◌, ◌++◌, [], ◌∷◌, IsSome, OnOk, OnErr, Some, map, option_map, slice_set};
+ghost use Rattle.std.specs.Prelude.{◌≡◌, ℕ, ◌-◌, ◌++◌, [], ◌∷◌, IsSome, OnOk, OnErr, Some, map, option_map, slice_set};
 ghost use Rattle.napi_types.specs.Lists.{has_number};
 ghost use Rattle.napi_reference.specs.Freed.{IsInOrder};
 ghost use Rattle.napi_reference.specs.Places.{strong_in};
@@ -30,7 +30,7 @@ pub(crate) fn row_at(rows: &[Option<Row>], number: u64) -> Option<Row>
 
 /// The value that the row at a place keeps, where its count is above 0.
 pub(crate) fn strong_value(place: Option<Row>) -> Option<ValueId>
-    ensures { option_map (λ v. v.0) result ≡ strong_in (option_map (reference_of 1) place) }
+    ensures { (n : ℕ) → option_map (λ v. v.0) result ≡ strong_in (option_map (reference_of n) place) }
 {
     match place {
         Some(row) => { if row.count == 0 { None } else { row.value } }

@@ -1,4 +1,4 @@
-use Rattle.std.proofs.Common.{◌∙◌, ◌-◌, ◌<◌, refl, sym, ap, arith}
+use Rattle.std.proofs.Common.{◌∙◌, ◌-◌, refl, sym, ap, arith}
 use Rattle.napi_types.specs.declared.call.Call.TheVariants as call
 use Rattle.napi_reference.specs.Places.{map_of}
 use Rattle.napi_reference.proofs.Changes.{counted}
