@@ -1,5 +1,5 @@
 -- What a write at a place changes of the map.
-use Rattle.std.proofs.Common.{◌≡◌, ◌∙◌, ℕ, zero, suc, ◌+◌, ◌-◌, ◌<◌, ◌==◌, ◌∷◌, ◌++◌, not, Bool, true, false, cond, List, [], length, map, set, Option, Some, None, option_map, slice_index_or, refl, ap, sym, arith}
+use Rattle.std.proofs.Common.{◌≡◌, ◌∙◌, ℕ, zero, suc, ◌+◌, ◌-◌, ◌<◌, ◌==◌, ◌∷◌, ◌++◌, not, false, cond, List, [], length, map, set, Option, Some, None, option_map, slice_index_or, refl, ap, sym, arith}
 use Rattle.std.specs.List.{filter, filter_map}
 use Rattle.std.proofs.lemmas.List.{length-set, length-append}
 use Rattle.std.proofs.lemmas.List.Elements.{filter_map-append}
@@ -31,10 +31,11 @@ same-map rs qs is js e f = cc
 deleted-at : (rows : List (Option Row)) (p : ℕ) → map_of (places_of (set rows p None)) ≡ without_reference (suc p) (map_of (places_of rows))
 deleted-at rows p = same-map _ _ _ _ (sym (filter-at 1 rows p (suc p) (omega arith))) (ap down_from (length-set rows p None))
 
-pub deleted : (rows : List (Option Row)) (p : ReferencePlaces) → places_of rows ≡ p → (n : ℕ) (row : Row) → row_of rows n ≡ Some row
+-- xs are the rows as they were read
+pub deleted : (rows xs : List (Option Row)) (p : ReferencePlaces) → places_of rows ≡ p → xs ≡ rows → (n : ℕ) (row : Row) → Some row ≡ row_of xs n
     → map_of (places_of (set rows (n - 1) None)) ≡ without_reference n (map_of p)
-deleted rows p view zero row is = let no : ⊥ = cc in absurd no
-deleted rows p view (suc at) row is =
+deleted rows xs p view same zero row is = let no : ⊥ = cc in absurd no
+deleted rows xs p view same (suc at) row is =
     let place : suc at - 1 ≡ at = omega arith in
     rw (place, ← view) (deleted-at rows at)
 
@@ -63,12 +64,12 @@ counted-at rows p count row is =
     ap (λ o. listed_from 1 (set rows p o)) (sym put) ∙ sym (count-at 1 rows p (suc p) count (omega arith)) in
     same-map _ _ _ _ changed (ap down_from (length-set rows p (Some (recounted count row))))
 
-pub counted : (rows : List (Option Row)) (p : ReferencePlaces) → places_of rows ≡ p → (n count : ℕ) (row : Row) → row_of rows n ≡ Some row
+pub counted : (rows xs : List (Option Row)) (p : ReferencePlaces) → places_of rows ≡ p → xs ≡ rows → (n count : ℕ) (row : Row) → Some row ≡ row_of xs n
     → map_of (places_of (set rows (n - 1) (Some (recounted count row)))) ≡ with_count n count (map_of p)
-counted rows p view zero count row is = let no : ⊥ = cc in absurd no
-counted rows p view (suc at) count row is =
+counted rows xs p view same zero count row is = let no : ⊥ = cc in absurd no
+counted rows xs p view same (suc at) count row is =
     let place : suc at - 1 ≡ at = omega arith in
-    rw (place, ← view) (counted-at rows at count row is)
+    rw (place, ← view) (counted-at rows at count row (sym (rw same at is)))
 
 -- A REFERENCE IS MADE
 from-push : (k : ℕ) (rows : List (Option Row)) (row : Option Row) → references_from k (rows ++ row ∷ []) ≡ references_from k rows ++ option_map (reference_of (k + length rows)) row ∷ []

@@ -1,12 +1,9 @@
 -- Which calls are refused, by the row of the reference that they name.
-use Rattle.std.proofs.Common.{◌≡◌, ◌∙◌, ℕ, ◌<◌, ◌==◌, Bool, true, false, cond, Option, Some, None, is_some, option_map, refl, ap, sym, arith}
-use Rattle.std.specs.List.{list_all}
-use Rattle.std.specs.Option.{option_or}
+use Rattle.std.proofs.Common.{◌≡◌, ◌∙◌, ℕ, ◌<◌, true, false, Some, None, refl, sym}
 use Rattle.napi_types.specs.declared.call.Call.{Call}
 use Rattle.napi_types.specs.declared.call.Call.TheVariants as call
 use Rattle.napi_types.specs.declared.ids.RefId.{RefId}
 use Rattle.napi_types.specs.declared.ids.ValueId.{ValueId}
-use Rattle.napi_types.specs.declared.status.Status.{Status}
 use Rattle.napi_types.specs.declared.status.Status.TheVariants as status
 use Rattle.napi_types.specs.Lists.{one}
 use Rattle.napi_types.specs.References.{ReferenceMap, has_reference, most_count}

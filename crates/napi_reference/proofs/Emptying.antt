@@ -5,10 +5,10 @@ use Rattle.std.proofs.lemmas.List.{length-map}
 use Rattle.std.proofs.lemmas.List.Elements.{All-head, All-tail}
 use Rattle.napi_types.specs.Lists.{down_from}
 use Rattle.napi_types.specs.declared.ids.ValueId.{ValueId}
-use Rattle.napi_types.specs.References.{Reference, ReferenceMap, strong_value, strong_values, value_left, emptied}
+use Rattle.napi_types.specs.References.{Reference, strong_value, strong_values, value_left, emptied}
 use Rattle.napi_reference.specs.declared.rows.Row.{Row}
 use Rattle.napi_reference.specs.Places.{ReferencePlaces, map_of}
-use Rattle.napi_reference.specs.Rows.{reference_of, references_from, places_of, id_left, weak_emptied}
+use Rattle.napi_reference.specs.Rows.{reference_of, places_of, id_left, weak_emptied}
 use Rattle.napi_reference.proofs.Numbers.{listed_from, length-references_from}
 use Rattle.napi_reference.proofs.Changes.{same-map}
 
@@ -46,11 +46,16 @@ value_left-kept collected None kept = refl
 value_left-kept collected (Some v) kept = rw kept refl
 
 -- a row loses its value as its reference does, where a strong one keeps it
-row-emptied : (collected : ℕ → Bool) (n : ℕ) (row : Row) (weak : Bool) → (row.count == 0) ≡ weak → IfSome (cond weak None (option_map (λ v. v.0) row.value)) (λ v. collected v ≡ false)
+row-emptied : (collected : ℕ → Bool) (n : ℕ) (row : Row) (weak : Bool) → IfSome (cond weak None (option_map (λ v. v.0) row.value)) (λ v. collected v ≡ false)
     → let r : Reference = record { number = n; value = value_left collected (option_map (λ v. v.0) row.value); count = row.count } in
     r ≡ reference_of n (cond weak (record row { value = id_left collected row.value }) row)
+<<<<<<< HEAD
 row-emptied collected n row true e kept = ap (λ v. record { number = n; value = v; count = row.count }) (value_left-id collected row.value)
 row-emptied collected n row false e kept = ap (λ v. record { number = n; value = v; count = row.count }) (value_left-kept collected (option_map (λ v. v.0) row.value) kept)
+=======
+row-emptied collected n row true kept = ap (λ v. record { number = n; value = v; count = row.count }) (value_left-id collected row.value)
+row-emptied collected n row false kept = ap (λ v. record { number = n; value = v; count = row.count }) (value_left-kept collected (option_map (λ v. v.0) row.value) kept)
+>>>>>>> 5f3a0c9c6adcfcf22920eaa4f013473341fcf387
 
 listed-emptied : (collected : ℕ → Bool) (k : ℕ) (rows : List (Option Row)) → All (λ v. collected v ≡ false) (filter_map strong_value (listed_from k rows))
     → map (λ (r : Reference). record r { value = value_left collected r.value }) (listed_from k rows) ≡ listed_from k (map (option_map (weak_emptied collected)) rows)
@@ -59,7 +64,7 @@ listed-emptied collected k (None ∷ rows) kept = listed-emptied collected (suc 
 listed-emptied collected k (Some row ∷ rows) kept =
     let first : IfSome (strong_value (reference_of k row)) (λ v. collected v ≡ false) = first_given (λ v. collected v ≡ false) (strong_value (reference_of k row)) (filter_map strong_value (listed_from (suc k) rows)) kept in
     let others : All (λ v. collected v ≡ false) (filter_map strong_value (listed_from (suc k) rows)) = others_given (λ v. collected v ≡ false) (strong_value (reference_of k row)) (filter_map strong_value (listed_from (suc k) rows)) kept in
-    ap (λ r. r ∷ map (λ (q : Reference). record q { value = value_left collected q.value }) (listed_from (suc k) rows)) (row-emptied collected k row (row.count == 0) refl first)
+    ap (λ r. r ∷ map (λ (q : Reference). record q { value = value_left collected q.value }) (listed_from (suc k) rows)) (row-emptied collected k row (row.count == 0) first)
     ∙ ap (λ rs. reference_of k (weak_emptied collected row) ∷ rs) (listed-emptied collected (suc k) rows others)
 
 pub rows-emptied : (collected : ℕ → Bool) (rows : List (Option Row)) (p : ReferencePlaces) → places_of rows ≡ p → All (λ v. collected v ≡ false) (strong_values (map_of p))

@@ -1,12 +1,11 @@
--- What holds of the value of each reference, wherever a call leaves it.
-use Rattle.std.proofs.Common.{◌≡◌, ℕ, ◌==◌, ◌∷◌, ◌++◌, not, Bool, true, false, cond, List, [], map, Option, Some, None, IfSome, refl}
-use Rattle.std.specs.List.{All, filter}
+-- What holds of the value of each reference holds wherever a call leaves it, and of what is told.
+use Rattle.std.proofs.Common.{ℕ, ◌==◌, ◌∷◌, not, Bool, true, false, cond, List, [], map, Option, Some, None, IfSome, option_map}
+use Rattle.std.specs.List.{All, filter_map, cons_option}
+use Rattle.std.specs.Option.{unwrap_or}
 use Rattle.std.proofs.lemmas.List.Elements.{All-nil, All-cons, All-head, All-tail, All-append, All-filter}
-use Rattle.napi_types.specs.References.{Reference, ReferenceMap, no_references, with_reference, without_reference, with_count, value_left, emptied}
-
--- each reference that has a value has one of which P holds
-abbrev pub AllValues : (ℕ → Type 0) → ReferenceMap → Type 0
-AllValues P m = All (λ r. IfSome r.value P) m.rows
+use Rattle.napi_types.specs.Lists.{found}
+use Rattle.napi_types.specs.References.{Reference, ReferenceMap, no_references, with_reference, without_reference, with_count, value_of, value_left, emptied, strong_value, strong_values}
+use Rattle.napi_reference.specs.Places.{AllValues}
 
 pub AllValues-no_references : (P : ℕ → Type 0) → AllValues P no_references
 AllValues-no_references P = All-nil (λ (r : Reference). IfSome r.value P)
@@ -44,3 +43,37 @@ value_left-keeps P collected (Some v) here = by (collected v)
 
 pub AllValues-emptied : (P : ℕ → Type 0) (collected : ℕ → Bool) (m : ReferenceMap) → AllValues P m → AllValues P (emptied collected m)
 AllValues-emptied P collected m all = each-changed P (λ r. record r { value = value_left collected r.value }) (λ r here. value_left-keeps P collected r.value here) m.rows all
+
+-- WHAT IS TOLD
+value-found : (P : ℕ → Type 0) (n : ℕ) (rs : List Reference) → All (λ r. IfSome r.value P) rs → IfSome (unwrap_or (option_map (λ r. r.value) (found (λ r. r.number) n rs)) None) P
+value-found P n [] all = tt
+value-found P n (r ∷ rs) all = by (r.number == n) (value-found P n rs (All-tail (λ (q : Reference). IfSome q.value P) r rs all))
+  where
+    by : (b : Bool) → IfSome (unwrap_or (option_map (λ (q : Reference). q.value) (found (λ q. q.number) n rs)) None) P → IfSome (unwrap_or (option_map (λ (q : Reference). q.value) (cond b (Some r) (found (λ q. q.number) n rs))) None) P
+    by true rest = All-head (λ (q : Reference). IfSome q.value P) r rs all
+    by false rest = rest
+
+-- the value of a reference is one of which P holds
+pub value_of-AllValues : (P : ℕ → Type 0) (m : ReferenceMap) (n : ℕ) → AllValues P m → IfSome (value_of m n) P
+value_of-AllValues P m n all = value-found P n m.rows all
+
+strong-holds : (P : ℕ → Type 0) (r : Reference) → IfSome r.value P → IfSome (strong_value r) P
+strong-holds P r here = by (r.count == 0)
+  where
+    by : (b : Bool) → IfSome (cond b None r.value) P
+    by true = tt
+    by false = here
+
+one_more : (P : ℕ → Type 0) (o : Option ℕ) (vs : List ℕ) → IfSome o P → All P vs → All P (cons_option o vs)
+one_more P None vs here all = all
+one_more P (Some v) vs here all = All-cons P v vs here all
+
+strong-listed : (P : ℕ → Type 0) (rs : List Reference) → All (λ r. IfSome r.value P) rs → All P (filter_map strong_value rs)
+strong-listed P [] all = All-nil P
+strong-listed P (r ∷ rs) all =
+    one_more P (strong_value r) (filter_map strong_value rs) (strong-holds P r (All-head (λ (q : Reference). IfSome q.value P) r rs all))
+    (strong-listed P rs (All-tail (λ (q : Reference). IfSome q.value P) r rs all))
+
+-- and so is each value that a strong reference keeps
+pub strong_values-AllValues : (P : ℕ → Type 0) (m : ReferenceMap) → AllValues P m → All P (strong_values m)
+strong_values-AllValues P m all = strong-listed P m.rows all

@@ -1,6 +1,6 @@
 -- The reference of a number stands at its place.
 use Rattle.std.proofs.Common.{◌≡◌, ◌∙◌, ℕ, zero, suc, ◌+◌, ◌<◌, ◌==◌, ◌||◌, ◌∷◌, Bool, true, false, cond, List, [], length, Option, Some, None, IsSome, is_some, option_map, slice_index_or, refl, ap, sym, arith}
-use Rattle.std.specs.List.{filter_map, find, list_any}
+use Rattle.std.specs.List.{filter_map}
 use Rattle.napi_types.specs.declared.ids.ValueId.{ValueId}
 use Rattle.napi_types.specs.Lists.{found, has}
 use Rattle.napi_types.specs.References.{Reference, ReferenceMap, reference_at, has_reference, value_of, count_of}
@@ -58,9 +58,10 @@ pub record IsRow (m : ReferenceMap) (n : ℕ) (row : Row) : Type 0 where
   pub value : value_of m n ≡ option_map (λ v. v.0) row.value
   pub count : count_of m n ≡ row.count
 
-pub row-is : (rows : List (Option Row)) (p : ReferencePlaces) → places_of rows ≡ p → (n : ℕ) (row : Row) → row_of rows n ≡ Some row → IsRow (map_of p) n row
-row-is rows p view n row is =
-    let at : reference_at (map_of (places_of rows)) n ≡ Some (reference_of n row) = reference_at-row rows n ∙ ap (option_map (reference_of n)) is in
+-- xs are the rows as they were read
+pub row-read : (rows xs : List (Option Row)) (p : ReferencePlaces) → places_of rows ≡ p → xs ≡ rows → (n : ℕ) (row : Row) → Some row ≡ row_of xs n → IsRow (map_of p) n row
+row-read rows xs p view same n row is =
+    let at : reference_at (map_of (places_of rows)) n ≡ Some (reference_of n row) = reference_at-row rows n ∙ ap (option_map (reference_of n)) (sym (rw same at is)) in
     let here : reference_at (map_of p) n ≡ Some (reference_of n row) = ap (λ q. reference_at (map_of q) n) (sym view) ∙ at in
     record {
       there = has-found (λ r. r.number) n (map_of p).rows ∙ ap is_some here;
@@ -68,9 +69,9 @@ row-is rows p view n row is =
       count = rw here refl;
     }
 
-pub no-row : (rows : List (Option Row)) (p : ReferencePlaces) → places_of rows ≡ p → (n : ℕ) → row_of rows n ≡ None → has_reference (map_of p) n ≡ false
-no-row rows p view n is =
-    let at : reference_at (map_of (places_of rows)) n ≡ None = reference_at-row rows n ∙ ap (option_map (reference_of n)) is in
+pub none-read : (rows xs : List (Option Row)) (p : ReferencePlaces) → places_of rows ≡ p → xs ≡ rows → (n : ℕ) → None ≡ row_of xs n → has_reference (map_of p) n ≡ false
+none-read rows xs p view same n is =
+    let at : reference_at (map_of (places_of rows)) n ≡ None = reference_at-row rows n ∙ ap (option_map (reference_of n)) (sym (rw same at is)) in
     let here : reference_at (map_of p) n ≡ None = ap (λ q. reference_at (map_of q) n) (sym view) ∙ at in
     has-found (λ r. r.number) n (map_of p).rows ∙ ap is_some here
 

@@ -1,5 +1,5 @@
 -- Whether a value is among others, as it is looked for.
-use Rattle.std.proofs.Common.{◌≡◌, ◌≢◌, ◌∙◌, ℕ, zero, suc, ◌+◌, ◌<◌, ◌≤◌, ◌==◌, ◌||◌, ◌∷◌, Bool, true, false, cond, List, [], length, map, get_or, Result, Ok, Err, is_ok, refl, ap, sym, arith, inl, inr}
+use Rattle.std.proofs.Common.{◌≡◌, ◌∙◌, ℕ, ◌≤◌, ◌==◌, ◌||◌, ◌∷◌, true, List, [], length, map, get_or, Result, Ok, Err, is_ok, refl, ap, sym, arith, inl, inr}
 use Rattle.std.specs.List.{list_any, AllAdjacentBelow}
 use Rattle.std.specs.List.Sorted.{IsNonDecreasingBy, IsSearchInRange, IsBinarySearchResult}
 use Rattle.std.specs.Ordering.{nat_cmp, ordering_index, is_le}

@@ -1,6 +1,6 @@
 -- The places where references stand, as their callers go over them, and the map that they stand for.
-use Rattle.std.specs.Prelude.{ℕ, List, Option, Some, None}
-use Rattle.std.specs.List.{filter_map}
+use Rattle.std.specs.Prelude.{ℕ, List, Option, Some, None, IfSome}
+use Rattle.std.specs.List.{All, filter_map}
 use Rattle.napi_types.specs.References.{Reference, ReferenceMap, strong_value}
 
 -- each place, with the reference that stands there, if one does, and the numbers that were issued
@@ -16,3 +16,7 @@ map_of p = record { rows = filter_map (λ place. place) p.places; issued = p.iss
 abbrev pub strong_in : Option Reference → Option ℕ
 strong_in None = None
 strong_in (Some r) = strong_value r
+
+-- of each value that a reference has, P holds
+abbrev pub AllValues : (ℕ → Type 0) → ReferenceMap → Type 0
+AllValues P m = All (λ r. IfSome r.value P) m.rows

@@ -2,7 +2,6 @@
 ghost use Rattle.std.specs.Prelude.{◌≡◌, map};
 ghost use Rattle.napi_types.specs.Lists.{has_number};
 ghost use Rattle.napi_reference.specs.Freed.{IsInOrder};
-ghost use Rattle.napi_reference.specs.declared.freed.Order.TheVariants as order;
 
 use napi_types::ValueId;
 
@@ -33,16 +32,9 @@ pub(crate) fn is_among(values: &[ValueId], order: Order, value: ValueId) -> bool
     ensures { result ≡ has_number value.0 (map (λ v. v.0) values.now) }
 {
     match order {
-        Order::Rising => is_among_rising(values, value),
+        Order::Rising => values
+            .binary_search_by_key(&value.0, |other| other.0)
+            .is_ok(),
         Order::Any => values.iter().any(|other| other.0 == value.0),
     }
-}
-
-fn is_among_rising(values: &[ValueId], value: ValueId) -> bool
-    requires { IsInOrder order.Rising values.now }
-    ensures { result ≡ has_number value.0 (map (λ v. v.0) values.now) }
-{
-    values
-        .binary_search_by_key(&value.0, |other| other.0)
-        .is_ok()
 }

@@ -143,8 +143,8 @@ impl Refs {
 
     /// Takes their value from the references to these values, which are collected. No strong reference names one of them.
     ///
-    /// It takes time linear in the number of places, for each of them logarithmic in the number of values where their numbers
-    /// rise, and else linear in it. It takes no memory.
+    /// It looks once whether the numbers of the values rise, and then at each place: in time logarithmic in how many values
+    /// there are where they rise, else linear. It takes no memory.
     pub fn empty_of(&mut self, freed: &[ValueId])
         requires { All (λ v. has_number v (map (λ f. f.0) freed.now) ≡ false) (strong_values (map_of self.old)) }
         ensures emptied { map_of self.new ≡ emptied (λ v. has_number v (map (λ f. f.0) freed.now)) (map_of self.old) }

@@ -1,11 +1,11 @@
 //! The list of references, read and changed by number.
-ghost use Rattle.std.specs.Prelude.{◌≡◌, ◌-◌, ◌++◌, [], ◌∷◌, IsSome, OnOk, OnErr, Some, map, option_map, slice_set};
+ghost use Rattle.std.specs.Prelude.{◌≡◌, ℕ, ◌-◌, ◌++◌, [], ◌∷◌, IsSome, OnOk, OnErr, Some, map, option_map, slice_set};
 ghost use Rattle.napi_types.specs.Lists.{has_number};
 ghost use Rattle.napi_reference.specs.Freed.{IsInOrder};
 ghost use Rattle.napi_reference.specs.Places.{strong_in};
 ghost use Rattle.napi_reference.specs.Rows.{reference_of, row_of, weak_emptied};
 
-use crate::freed::{self, Order};
+use crate::freed::{Order, is_among, order_of};
 use napi_types::{NoMemory, ValueId};
 
 /// A reference: its value, none where that was collected, and its count.
@@ -30,7 +30,7 @@ pub(crate) fn row_at(rows: &[Option<Row>], number: u64) -> Option<Row>
 
 /// The value that the row at a place keeps, where its count is above 0.
 pub(crate) fn strong_value(place: Option<Row>) -> Option<ValueId>
-    ensures { option_map (λ v. v.0) result ≡ strong_in (option_map (reference_of 1) place) }
+    ensures { (n : ℕ) → option_map (λ v. v.0) result ≡ strong_in (option_map (reference_of n) place) }
 {
     match place {
         Some(row) => { if row.count == 0 { None } else { row.value } }
@@ -61,7 +61,7 @@ pub(crate) fn put(rows: &mut Vec<Option<Row>>, number: u64, row: Option<Row>)
 pub(crate) fn empty_weak(rows: &mut Vec<Option<Row>>, values: &[ValueId])
     ensures { rows.new.items ≡ map (option_map (weak_emptied (λ v. has_number v (map (λ v. v.0) values.now)))) rows.old.items }
 {
-    let order = freed::order_of(values);
+    let order = order_of(values);
     for place in rows.iter_mut() {
         empty(place, values, order);
     }
@@ -75,7 +75,7 @@ fn empty(place: &mut Option<Row>, values: &[ValueId], order: Order)
         if row.count == 0
             && row
                 .value
-                .is_some_and(|value| freed::is_among(values, order, value))
+                .is_some_and(|value| is_among(values, order, value))
         {
             row.value = None;
         }

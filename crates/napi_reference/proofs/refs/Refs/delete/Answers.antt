@@ -1,25 +1,20 @@
-use Rattle.std.proofs.Common.{◌≡◌, Some, None, refl, sym}
+use Rattle.std.proofs.Common.{refl, sym}
 use Rattle.napi_types.specs.declared.call.Call.TheVariants as call
-use Rattle.napi_types.specs.References.{has_reference}
 use Rattle.napi_reference.specs.Places.{map_of}
-use Rattle.napi_reference.specs.Rows.{row_of}
 use Rattle.napi_reference.proofs.Changes.{deleted}
 use Rattle.napi_reference.proofs.Counting.{refused_unknown, refused_known}
-use Rattle.napi_reference.proofs.Numbers.{IsRow, row-is, no-row}
+use Rattle.napi_reference.proofs.Numbers.{row-read, none-read}
 use Rattle.napi_reference.proofs.refs.Refs.delete.Goals as goal
 
 pub returns-in-Some-clause-refusal : goal.returns-in-Some-clause-refusal
 returns-in-Some-clause-refusal c =
-    let there : row_of c.self.inside.rows.items c.args.id.0 ≡ Some c.in-Some.field-0 = sym (rw c.deref.ensures.value at c.in-Some.ensures) in
-    let is : IsRow (map_of c.args.self.now) c.args.id.0 c.in-Some.field-0 = row-is c.self.inside.rows.items c.args.self.now c.self.view_is c.args.id.0 c.in-Some.field-0 there in
+    let is = row-read c.self.inside.rows.items c.deref.result.now c.args.self.now c.self.view_is c.deref.ensures.value c.args.id.0 c.in-Some.field-0 c.in-Some.ensures in
     sym (refused_known (map_of c.args.self.now) c.args.id.0 (call.DeleteReference c.args.id) refl is.there)
 
 pub returns-in-Some-clause-deleted : goal.returns-in-Some-clause-deleted
 returns-in-Some-clause-deleted c =
-    let there : row_of c.self.inside.rows.items c.args.id.0 ≡ Some c.in-Some.field-0 = sym (rw c.deref.ensures.value at c.in-Some.ensures) in
-    rw c.put.ensures (deleted c.self.inside.rows.items c.args.self.now c.self.view_is c.args.id.0 c.in-Some.field-0 there)
+    rw c.put.ensures (deleted c.self.inside.rows.items c.deref.result.now c.args.self.now c.self.view_is c.deref.ensures.value c.args.id.0 c.in-Some.field-0 c.in-Some.ensures)
 
 pub returns-in-None-clause-refusal : goal.returns-in-None-clause-refusal
 returns-in-None-clause-refusal c =
-    let absent : row_of c.self.inside.rows.items c.args.id.0 ≡ None = sym (rw c.deref.ensures.value at c.in-None.ensures) in
-    sym (refused_unknown (map_of c.args.self.now) c.args.id.0 (call.DeleteReference c.args.id) refl (no-row c.self.inside.rows.items c.args.self.now c.self.view_is c.args.id.0 absent))
+    sym (refused_unknown (map_of c.args.self.now) c.args.id.0 (call.DeleteReference c.args.id) refl (none-read c.self.inside.rows.items c.deref.result.now c.args.self.now c.self.view_is c.deref.ensures.value c.args.id.0 c.in-None.ensures))
