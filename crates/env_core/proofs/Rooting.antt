@@ -1,9 +1,10 @@
 -- The roots of the store's state are the machine's.
-use Rattle.std.proofs.Common.{◌≡◌, ℕ, ◌+◌, ◌<◌, arith, append_assoc, ◌==◌, Bool, true, false, cond, List, [], ◌∷◌, ◌++◌, map, filter_map, Option, Some, None, option_map, refl, ap, sym, ◌∙◌}
-use Rattle.std.proofs.lemmas.List.{map-append, append-nil}
-use Rattle.std.proofs.lemmas.List.Elements.{filter_map-append}
+use Rattle.std.proofs.Common.{◌≡◌, ℕ, zero, suc, ◌+◌, ◌<◌, arith, append_assoc, length, take, get_or, slice_index_or, ◌==◌, Bool, true, false, cond, List, [], ◌∷◌, ◌++◌, map, filter_map, Option, Some, None, option_map, IfSome, refl, ap, sym, subst, ◌∙◌}
+use Rattle.std.specs.List.{All, cons_option}
+use Rattle.std.proofs.lemmas.List.{map-append, append-nil, take_more}
+use Rattle.std.proofs.lemmas.List.Elements.{filter_map-append, All-nil, All-cons, All-head, All-tail, All-append, All-map}
 use Rattle.napi_types.specs.Environment.{Environment}
-use Rattle.napi_types.specs.Graph.{StoreState, number_in}
+use Rattle.napi_types.specs.Graph.{StoreState, IsLive, number_in}
 use Rattle.napi_types.specs.Lists.{has_number}
 use Rattle.napi_types.specs.Reach.{numbers}
 use Rattle.napi_types.specs.References.{Reference, ReferenceMap, strong_value, strong_values}
@@ -11,9 +12,10 @@ use Rattle.napi_types.specs.Roots.{pending_value, roots}
 use Rattle.napi_types.specs.Scopes.{Held, Scope, FrameScopes, held_by_scopes, held_by_frame, held_by_frames}
 use Rattle.napi_types.specs.Values.{starting_values}
 use Rattle.handle_scope.specs.HandleScopes.{HandleScopes, filled, free_place, frame_places, handle_places}
-use Rattle.env_values.specs.Seen.{seen_held, seen_scope, seen_frame, heap_of}
+use Rattle.env_values.specs.Seen.{seen_held, seen_scope, seen_frame, heap_of, HoldsLive}
+use Rattle.napi_reference.specs.Places.{strong_in}
 use Rattle.trace_collect.specs.Collects.{HoldsStarting}
-use Rattle.env_core.specs.Referring.{seen_reference, references_seen}
+use Rattle.env_core.specs.Referring.{seen_reference, references_seen, RefersToLive}
 use Rattle.env_core.specs.Rooting.{AreStarting, AreRoots, held_values}
 use Rattle.env_core.specs.State.{pending_seen}
 
@@ -85,12 +87,12 @@ module _ (s : StoreState) where
 
 -- the starting values are among them
 starts-with : (which : ℕ) (ns : List ℕ) → which < 5 → has_number (which + 1) (numbers starting_values ++ ns) ≡ true
-starts-with 0 ns h = refl
-starts-with 1 ns h = refl
-starts-with 2 ns h = refl
-starts-with 3 ns h = refl
-starts-with 4 ns h = refl
-starts-with which ns h = absurd (omega (arith, h))
+starts-with zero ns h = refl
+starts-with (suc zero) ns h = refl
+starts-with (suc (suc zero)) ns h = refl
+starts-with (suc (suc (suc zero))) ns h = refl
+starts-with (suc (suc (suc (suc zero)))) ns h = refl
+starts-with (suc (suc (suc (suc (suc which))))) ns h = absurd (omega (arith, h))
 
 pub roots-start : (s : StoreState) (scopes : HandleScopes) (m : ReferenceMap) (p : Option ℕ) (ids : List ℕ) → AreRoots s scopes m p ids → HoldsStarting s ids
 roots-start s scopes m p ids r which h =
@@ -129,3 +131,66 @@ places-values (f ∷ fs) =
     let split : g (handle_places fs ++ frame_places f.own f.opened) ≡ g (handle_places fs) ++ g (frame_places f.own f.opened) = filter_map-append (λ place. place) (handle_places fs) (frame_places f.own f.opened) in
     split ∙ ap (λ l. l ++ g (frame_places f.own f.opened)) (places-values fs) ∙ ap (λ l. values_of (held_by_frames fs) ++ l) (frame-values f.own f.opened)
     ∙ sym (map-append (λ (h : Held). h.value) (held_by_frames fs) (f.own ++ held_by_scopes f.opened))
+
+-- one place more
+pub place-more : (es : List (Option ℕ)) (at : ℕ) (e : Option ℕ) → at < length es → e ≡ slice_index_or es at None
+    → filter_map (λ place. place) (take (at + 1) es) ≡ filter_map (λ place. place) (take at es) ++ pending_value e
+place-more es at e less is =
+    ap (filter_map (λ (place : Option ℕ). place)) (take_more es at None less)
+    ∙ filter_map-append (λ (place : Option ℕ). place) (take at es) (get_or es at None ∷ [])
+    ∙ ap (λ o. filter_map (λ (place : Option ℕ). place) (take at es) ++ filter_map (λ (place : Option ℕ). place) (o ∷ [])) (sym is)
+    ∙ ap (λ l. filter_map (λ (place : Option ℕ). place) (take at es) ++ l) (one e)
+  where
+    one : (e : Option ℕ) → filter_map (λ (place : Option ℕ). place) (e ∷ []) ≡ pending_value e
+    one None = refl
+    one (Some n) = refl
+
+-- what was pushed, with one place more
+pub pushed-more : (olds now next : List ℕ) (es : List (Option ℕ)) (at : ℕ) (e : Option ℕ) → at < length es → e ≡ slice_index_or es at None
+    → now ≡ olds ++ filter_map (λ place. place) (take at es) → next ≡ now ++ pending_value e → next ≡ olds ++ filter_map (λ place. place) (take (at + 1) es)
+pushed-more olds now next es at e less is before more =
+    more ∙ ap (λ l. l ++ pending_value e) before ∙ append_assoc olds (filter_map (λ place. place) (take at es)) (pending_value e)
+    ∙ ap (λ l. olds ++ l) (sym (place-more es at e less is))
+
+-- the values at the places of strong references
+pub strong-places : (ps : List (Option Reference)) → filter_map (λ place. place) (map strong_in ps) ≡ filter_map strong_in ps
+strong-places [] = refl
+strong-places (p ∷ ps) = by (strong_in p) (strong-places ps)
+  where
+    by : (o : Option ℕ) → filter_map (λ (place : Option ℕ). place) (map strong_in ps) ≡ filter_map strong_in ps
+        → filter_map (λ (place : Option ℕ). place) (o ∷ map strong_in ps) ≡ cons_option o (filter_map strong_in ps)
+    by None rest = rest
+    by (Some n) rest = ap (λ l. n ∷ l) rest
+
+pub strong-at : (ps : List (Option Reference)) (at : ℕ) → slice_index_or (map strong_in ps) at None ≡ strong_in (slice_index_or ps at None)
+strong-at [] at = refl
+strong-at (p ∷ ps) zero = refl
+strong-at (p ∷ ps) (suc at) = strong-at ps at
+
+-- WHAT THE ROOTS ARE
+-- the values of strong references are live, as those of all references are
+rows-live : (s : StoreState) (rs : List Reference) → All (λ r. IfSome r.value (IsLive s)) rs → All (IsLive s) (filter_map strong_value rs)
+rows-live s [] live = All-nil (IsLive s)
+rows-live s (r ∷ rs) live = let P : Reference → Type 0 = λ x. IfSome x.value (IsLive s) in by (r.count == 0) r.value (All-head P r rs live) (rows-live s rs (All-tail P r rs live))
+  where
+    by : (b : Bool) (v : Option ℕ) → IfSome v (IsLive s) → All (IsLive s) (filter_map strong_value rs) → All (IsLive s) (cons_option (cond b None v) (filter_map strong_value rs))
+    by true v first later = later
+    by false None first later = later
+    by false (Some v) first later = All-cons (IsLive s) v (filter_map strong_value rs) first later
+
+pending-live : (s : StoreState) (p : Option ℕ) → IfSome p (IsLive s) → All (IsLive s) (pending_value p)
+pending-live s None live = All-nil (IsLive s)
+pending-live s (Some v) live = All-cons (IsLive s) v [] live (All-nil (IsLive s))
+
+-- what was gathered are the roots
+pub gathered : (s : StoreState) (scopes : HandleScopes) (m : ReferenceMap) (p : Option ℕ) (first second third ids : List ℕ) → HoldsLive s scopes → RefersToLive s m → IfSome p (IsLive s)
+    → AreStarting s first → second ≡ first ++ held_values scopes → third ≡ second ++ strong_values m → ids ≡ third ++ pending_value p → AreRoots s scopes m p ids
+gathered s scopes m p first second third ids held referred pending start a b c =
+    let L : ℕ → Type 0 = IsLive s in
+    let are : ids ≡ first ++ held_values scopes ++ strong_values m ++ pending_value p = c ∙ ap (λ l. l ++ pending_value p) (b ∙ ap (λ l. l ++ strong_values m) a) in
+    let live : All L (first ++ held_values scopes ++ strong_values m ++ pending_value p) =
+    All-append L (first ++ held_values scopes ++ strong_values m) (pending_value p)
+    (All-append L (first ++ held_values scopes) (strong_values m)
+    (All-append L first (held_values scopes) start.live (All-map L (λ (h : Held). h.value) (held_by_frames scopes.frames) held))
+    (rows-live s m.rows referred)) (pending-live s p pending) in
+    record { starting = first; are_starting = start; are = are; live = subst (λ (l : List ℕ). All L l) (sym are) live }

@@ -1,0 +1,48 @@
+use Rattle.std.proofs.Common.{ℕ, List, Option, map, ap, sym, subst, refl, ◌∙◌}
+use Rattle.napi_types.specs.Graph.{number_in, graph_of}
+use Rattle.napi_types.specs.Reach.{reach_from}
+use Rattle.napi_types.specs.declared.ids.ValueId.{ValueId}
+use Rattle.value_store.specs.Changes.{numbers_of}
+use Rattle.napi_reference.specs.Places.{map_of}
+use Rattle.trace_collect.specs.Collects.{reached, AreUnreached}
+use Rattle.env_core.specs.Rooting.{AreRoots}
+use Rattle.env_core.specs.contracts.state.State.{the_view}
+use Rattle.env_core.proofs.Collecting.{FreesOthers, frees-others, strong-kept, state-collected, collected-answers}
+use Rattle.env_core.proofs.state.State.collect.Goals as goal
+
+pub empty_of-requires : goal.empty_of-requires
+empty_of-requires c =
+    let s = c.self.inside in
+    let k = c.in_ok-freed.ensures in
+    let roots = numbers_of c.deref.result.now in
+    let P : Option ℕ → Type 0 = λ p. AreRoots s.store s.scopes (map_of s.references) p roots in
+    let are = subst P c.pending.ensures (rw c.deref.ensures.value c.in_ok-roots.ensures) in
+    let freed = numbers_of c.in_ok-freed.freed.items in
+    let others = frees-others s.store c.collect.new.store roots freed k.freed k.frees k.roots in
+    rw c.deref-2.ensures.value (strong-kept s.store c.collect.new.store s.scopes (map_of s.references) s.exceptions.pending roots freed (reached s.store roots) are others)
+
+pub invariant_of-self-2 : goal.invariant_of-self-2
+invariant_of-self-2 c =
+    let s = c.self.inside in
+    let k = c.in_ok-freed.ensures in
+    let roots = numbers_of c.deref.result.now in
+    let P : Option ℕ → Type 0 = λ p. AreRoots s.store s.scopes (map_of s.references) p roots in
+    let are = subst P c.pending.ensures (rw c.deref.ensures.value c.in_ok-roots.ensures) in
+    let freed = numbers_of c.in_ok-freed.freed.items in
+    let others = frees-others s.store c.collect.new.store roots freed k.freed k.frees k.roots in
+    state-collected s.store c.collect.new.store s.scopes s.frames (map_of s.references) (map_of c.empty_of.new.self) s.exceptions.pending roots freed (reached s.store roots)
+    c.self.invariant are others (rw c.deref-2.ensures.value at c.empty_of.ensures.emptied)
+
+pub returns-clause-ok : goal.returns-clause-ok
+returns-clause-ok c =
+    let s = c.self.inside in
+    let k = c.in_ok-freed.ensures in
+    let roots = numbers_of c.deref.result.now in
+    let P : Option ℕ → Type 0 = λ p. AreRoots s.store s.scopes (map_of s.references) p roots in
+    let are = subst P c.pending.ensures (rw c.deref.ensures.value c.in_ok-roots.ensures) in
+    let freed = numbers_of c.in_ok-freed.freed.items in
+    let others = frees-others s.store c.collect.new.store roots freed k.freed k.frees k.roots in
+    rw (← c.self.view_is)
+    (rw (c.plain.ensures, c.len.ensures)
+    (collected-answers (the_view s) s.store c.collect.new.store s.scopes s.frames (map_of s.references) (map_of c.empty_of.new.self) s.exceptions.pending roots freed (reached s.store roots) c.in_ok-freed.freed.len
+    c.self.invariant are refl others k.graph (c.in_ok-freed.freed.ok.0 ∙ k.count) (rw c.deref-2.ensures.value at c.empty_of.ensures.emptied)))
