@@ -49,13 +49,8 @@ value_left-kept collected (Some v) kept = rw kept refl
 row-emptied : (collected : ℕ → Bool) (n : ℕ) (row : Row) (weak : Bool) → IfSome (cond weak None (option_map (λ v. v.0) row.value)) (λ v. collected v ≡ false)
     → let r : Reference = record { number = n; value = value_left collected (option_map (λ v. v.0) row.value); count = row.count } in
     r ≡ reference_of n (cond weak (record row { value = id_left collected row.value }) row)
-<<<<<<< HEAD
-row-emptied collected n row true e kept = ap (λ v. record { number = n; value = v; count = row.count }) (value_left-id collected row.value)
-row-emptied collected n row false e kept = ap (λ v. record { number = n; value = v; count = row.count }) (value_left-kept collected (option_map (λ v. v.0) row.value) kept)
-=======
 row-emptied collected n row true kept = ap (λ v. record { number = n; value = v; count = row.count }) (value_left-id collected row.value)
 row-emptied collected n row false kept = ap (λ v. record { number = n; value = v; count = row.count }) (value_left-kept collected (option_map (λ v. v.0) row.value) kept)
->>>>>>> 5f3a0c9c6adcfcf22920eaa4f013473341fcf387
 
 listed-emptied : (collected : ℕ → Bool) (k : ℕ) (rows : List (Option Row)) → All (λ v. collected v ≡ false) (filter_map strong_value (listed_from k rows))
     → map (λ (r : Reference). record r { value = value_left collected r.value }) (listed_from k rows) ≡ listed_from k (map (option_map (weak_emptied collected)) rows)
