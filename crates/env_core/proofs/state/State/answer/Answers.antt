@@ -1,0 +1,6 @@
+use Rattle.env_core.proofs.Exceptions.{in-time}
+use Rattle.env_core.proofs.state.State.answer.Goals as goal
+
+pub returns-in-None-clause-ok : goal.returns-in-None-clause-ok
+returns-in-None-clause-ok c =
+    in-time c.args.self.now c.answer_in_time.new.self c.args.call.now c.answer_in_time.result c.requires.at_once c.in-None.ensures c.answer_in_time.ensures.ok
