@@ -1,3 +1,4 @@
+pub mod Callers
 pub mod Distinct
 pub mod Marking
 pub mod Members

@@ -1,5 +1,5 @@
 -- Marks that are set one after another.
-use Rattle.std.proofs.Common.{◌≡◌, ℕ, zero, suc, ◌+◌, ◌*◌, ◌<◌, ◌≤◌, ◌⊎◌, inl, inr, Bool, true, false, cond, not, List, [], ◌∷◌, ◌++◌, map, length, take, get_or, count_by, replicate, Option, Some, None, option_map, slice_index_or, refl, ap, sym, subst, ◌∙◌, arith}
+use Rattle.std.proofs.Common.{◌≡◌, ℕ, ◌+◌, ◌*◌, ◌<◌, ◌⊎◌, inl, inr, Bool, true, false, cond, not, List, [], ◌∷◌, ◌++◌, length, take, get_or, count_by, replicate, Option, Some, None, slice_index_or, refl, ap, sym, subst, ◌∙◌, arith}
 use Rattle.std.specs.List.{All, filter_map}
 use Rattle.std.specs.Option.{option_to_list}
 use Rattle.std.proofs.lemmas.List.{get_or-map, length-map, take_more}
@@ -7,11 +7,11 @@ use Rattle.std.proofs.lemmas.List.Elements.{All-nil, All-append, All-weaker, fil
 use Rattle.std.proofs.lemmas.List.Folds.{sum_by-replicate}
 use Rattle.napi_types.specs.declared.ids.ValueId.{ValueId}
 use Rattle.napi_types.specs.Lists.{has_number}
-use Rattle.napi_types.specs.Graph.{StoreState, IsLive}
+use Rattle.napi_types.specs.Graph.{StoreState}
 use Rattle.value_store.specs.Changes.{id_at, numbers_of}
 use Rattle.value_store.proofs.Clearing.{numbers_of-more}
 use Rattle.trace_collect.specs.Marks.{is_marked, IsMarked, Marks}
-use Rattle.trace_collect.proofs.Members.{has-left, has-right, has-cases}
+use Rattle.trace_collect.proofs.Members.{has-left, has-right}
 
 -- more marks keep what is marked
 pub marked-kept : (s : StoreState) (old new : List Bool) → ((place : ℕ) → is_marked old place ≡ true → is_marked new place ≡ true) → (id : ℕ) → IsMarked s old id → IsMarked s new id

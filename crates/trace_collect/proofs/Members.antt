@@ -1,5 +1,5 @@
 -- Which numbers stand in a list.
-use Rattle.std.proofs.Common.{◌≡◌, ℕ, ◌+◌, ◌<◌, ◌≤◌, ◌==◌, ◌||◌, ◌⊎◌, inl, inr, Bool, true, false, List, [], ◌∷◌, ◌++◌, map, Option, Some, None, refl, ap, sym, subst, ◌∙◌, arith}
+use Rattle.std.proofs.Common.{◌≡◌, ℕ, ◌==◌, ◌⊎◌, inl, inr, true, false, List, [], ◌∷◌, ◌++◌, map, Option, Some, None, refl, ap, sym, subst, ◌∙◌}
 use Rattle.std.specs.List.{All, filter_map, cons_option}
 use Rattle.std.proofs.lemmas.Bool.{eqb-true, eq-eqb, or_cases, or_left, or_right}
 use Rattle.std.proofs.lemmas.List.Elements.{All-nil, All-cons, All-head, All-tail}
@@ -17,7 +17,7 @@ pub has-cases : (n : ℕ) (xs ys : List ℕ) → has_number n (xs ++ ys) ≡ tru
 has-cases n xs ys h = or_cases (has_number n xs) (has_number n ys) (sym (list_any-append (λ m. m == n) xs ys) ∙ h)
 
 pub has-one : (n m : ℕ) → has_number n (m ∷ []) ≡ true → m ≡ n
-has-one n m h = elim (or_cases (m == n) false h) [ | inl same ↦ eqb-true m n same | inr none ↦ let z : ⊥ = cc in absurd z ]
+has-one n m h = elim (or_cases (m == n) false h) [ inl same ↦ eqb-true m n same | inr none ↦ let z : ⊥ = cc in absurd z ]
 
 -- what holds of all numbers of a list holds of each
 pub All-has : (P : ℕ → Type 0) (xs : List ℕ) (n : ℕ) → All P xs → has_number n xs ≡ true → P n

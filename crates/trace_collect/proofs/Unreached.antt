@@ -1,9 +1,9 @@
 -- The values that the roots do not reach: which they are, that they may be freed, and what stays.
-use Rattle.std.proofs.Common.{◌≡◌, ◌↔◌, ℕ, zero, suc, ◌+◌, ◌-◌, ◌<◌, ◌≤◌, ◌==◌, ◌&&◌, nat_eq, Bool, true, false, cond, not, List, [], ◌∷◌, map, filter, length, get_or, Option, Some, None, IsSome, IfSome, option_map, slice_index_or, if◌then◌else◌, refl, ap, sym, subst, ◌∙◌, arith}
-use Rattle.std.specs.List.{All, IsDistinct, filter_map, range_with_len}
+use Rattle.std.proofs.Common.{◌≡◌, ℕ, zero, suc, ◌+◌, ◌-◌, ◌<◌, ◌≤◌, ◌==◌, ◌&&◌, nat_eq, Bool, true, false, cond, not, List, [], ◌∷◌, map, filter, length, get_or, Option, Some, None, IsSome, IfSome, option_map, slice_index_or, if◌then◌else◌, refl, ap, sym, subst, ◌∙◌, arith}
+use Rattle.std.specs.List.{All, IsDistinct, range_with_len}
 use Rattle.std.specs.List.Sorted.{IsPermutation, IsNonDecreasingBy, IsNonDecreasing, IsStrictlyIncreasing}
 use Rattle.std.proofs.Math.Bool.{and-true}
-use Rattle.std.proofs.lemmas.Bool.{eqb-true, or_left, or_right, eq-eqb}
+use Rattle.std.proofs.lemmas.Bool.{or_left, or_right, eq-eqb}
 use Rattle.std.proofs.lemmas.List.{length-map, get_or-map}
 use Rattle.std.proofs.lemmas.List.Sorted.{IsPermutation-map, list_any-IsPermutation}
 use Rattle.std.proofs.lemmas.Map.Keys.{IsDistinct-IsPermutation, IsStrictlyIncreasing-from_distinct}
@@ -11,7 +11,7 @@ use Rattle.napi_types.specs.declared.ids.ValueId.{ValueId}
 use Rattle.napi_types.specs.Collection.{those_of, all_but}
 use Rattle.napi_types.specs.Lists.{has_number}
 use Rattle.napi_types.specs.Reach.{numbers, children_at}
-use Rattle.napi_types.specs.Values.{Value, children, value_at}
+use Rattle.napi_types.specs.Values.{Value, children}
 use Rattle.napi_types.specs.Graph.{Stored, StoreState, IsLive, IsSound, value_of, creation_number, number_in, graph_of}
 use Rattle.napi_types.proofs.Reaching.{reach-roots, reach-closed, has_number-filter}
 use Rattle.value_store.specs.Changes.{id_at, numbers_of, EachStandsOnce, CanFree}
@@ -156,8 +156,8 @@ module _ (s : StoreState) (once : EachStandsOnce s) (sound : IsSound s) (roots :
   freed-count apart =
       sym (length-map ids (number_in s))
       ∙ same-length (map (number_in s) ids) (filter (λ n. not (has_number n (reached s roots))) (numbers (graph_of s)))
-          (distinct-map (IsLive s) (number_in s) (number-apart s once sound) ids ids-live apart)
-          (distinct-filter (λ n. not (has_number n (reached s roots))) (numbers (graph_of s)) (graph-distinct s)) same
+      (distinct-map (IsLive s) (number_in s) (number-apart s once sound) ids ids-live apart)
+      (distinct-filter (λ n. not (has_number n (reached s roots))) (numbers (graph_of s)) (graph-distinct s)) same
       ∙ ap length (sym (numbers-filter (λ n. not (has_number n (reached s roots))) (graph_of s)))
       ∙ length-map (all_but (reached s roots) (graph_of s)) (λ (v : Value). v.number)
     where

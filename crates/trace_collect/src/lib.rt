@@ -5,5 +5,7 @@
 
 mod collection;
 mod marks;
+#[cfg(test)]
+mod tests;
 
 pub use collection::collect;

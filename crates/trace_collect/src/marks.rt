@@ -70,7 +70,9 @@ pub(crate) fn unmarked(
 fn add(list: &mut Vec<ValueId>, id: Option<ValueId>) -> Result<(), NoMemory>
     ensures { OnOk result (list.new.items ≡ list.old.items ++ option_to_list id) }
 {
-    if let Some(id) = id && list.push(id).is_err() {
+    if let Some(id) = id
+        && list.push(id).is_err()
+    {
         return Err(NoMemory);
     }
     Ok(())

@@ -1,4 +1,4 @@
-use Rattle.std.proofs.Common.{◌∙◌, Some, None, length, arith}
+use Rattle.std.proofs.Common.{◌∙◌, Some, None, arith}
 use Rattle.value_store.specs.Changes.{child_places_in}
 use Rattle.trace_collect.proofs.Marking.{children-next, marks-none}
 use Rattle.trace_collect.proofs.marks.mark_children.Goals as goal
@@ -6,7 +6,7 @@ use Rattle.trace_collect.proofs.marks.mark_children.Goals.{in-Some, in_default}
 
 pub loop-at-preserved : goal.loop-at-preserved
 loop-at-preserved c = elim c.match-child_at.branch [
-  in-Some w ↦ rw (w.marks-is, w.left-is) (record {
+  | in-Some w ↦ rw (w.marks-is, w.left-is) (record {
     marked = children-next c.args.store.now (child_places_in c.args.store.now c.args.id.0) c.loop-at.at (Some w.in-Some.child.0) _ _ _ _ _ _ (omega arith) w.in-Some.ensures.value c.loop-at.invariant.marked w.mark.ensures.marked;
     capacity = w.mark.ensures.capacity ∙ c.loop-at.invariant.capacity;
   })
