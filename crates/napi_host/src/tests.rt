@@ -8,6 +8,7 @@ use napi_types::{
 use std::test::Fail;
 
 mod calls;
+mod collections;
 
 const FIRST_RUN: &[u8] =
     br#"{"version":9,"workers":0,"addons":[{"name":"a","entries":[[["open_handle_scope",0],["create_object",1],["typeof",1,2],["close_handle_scope",0]]]}],"threads":[]}"#;

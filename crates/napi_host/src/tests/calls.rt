@@ -6,7 +6,7 @@ use napi_types::{Args, HandleId};
 use std::test::Fail;
 
 /// A line of a trace without its number and actor, and how many times it comes in a row.
-type Line = (u32, &'static str);
+pub(super) type Line = (u32, &'static str);
 
 /// What comes after the last frame.
 const ENDING: [Line; 5] = [
@@ -32,7 +32,7 @@ fn trace_of(alloc: Global, lines: &[Line]) -> Result<String, Fail> {
 }
 
 /// Whether a script, run with eight addons that follow it, prints the trace.
-fn prints<R: Threads + Wait + Sync>(
+pub(super) fn prints<R: Threads + Wait + Sync>(
     rt: &R,
     alloc: Global,
     script: &[u8],
