@@ -61,6 +61,8 @@ fn told(out: Out) -> (&'static str, u64) {
         Out::Flag(flag) => ("flag", flag as u64),
         Out::Text(text) => ("text", text.0 as u64),
         Out::Kind(kind) => (kind.name(), 0),
+        Out::Ref(reference) => ("reference", reference.0),
+        Out::NoHandle => ("none", 0),
         _ => ("other", 0),
     }
 }
@@ -104,6 +106,7 @@ mod functions;
 mod many_names;
 mod properties;
 mod reads;
+mod references;
 
 #[test]
 fn scopes_and_the_version(rt: HostRuntime) -> Result<(), Fail> {

@@ -49,6 +49,8 @@ use Rattle.env_core.specs.Core.{Core, wrote, next_init, room_in}
 use Rattle.env_core.specs.Steps.{Replies, EntersBy, Enters, StopsBy}
 use Rattle.env_loop.specs.Recording.{IsOf, machine_of, AgreesWhereTold, AgreesWith, IsRecorded, why_stopped}
 use Rattle.env_loop.specs.Runs.{IsSound}
+use Rattle.napi_types.specs.ReferenceCalls.{counted_up, value_told}
+use Rattle.napi_types.specs.References.{value_of}
 use Rattle.env_loop.specs.Turns.{IsAsked, IsTold, KeepsRun, IsTurn}
 use Rattle.napi_types.proofs.Answers.{called-keeps}
 use Rattle.napi_types.proofs.FrameChanges.{KeepsButFrame, ended-keeps, entered-keeps, asked_for-called, asked_for-entered}
@@ -61,8 +63,17 @@ heap-uncut : (addon : ℕ) (heap : Heap) (c : Call) (n : ℕ) → cut_of (accept
 heap-uncut addon heap call.OpenHandleScope n = refl
 heap-uncut addon heap _ n = refl
 
+raised-uncut : (r : ℕ) (e : Environment) (v : Option ℕ) → cut_of (counted_up r e v).reply.out ≡ None
+raised-uncut r e None = refl
+raised-uncut r e (Some v) = refl
+
+told-uncut : (e : Environment) (v : Option ℕ) → cut_of (value_told e v).reply.out ≡ None
+told-uncut e None = refl
+told-uncut e (Some v) = refl
+
 by-uncut : (e : Environment) (c : Call) (n : ℕ) → cut_of (accepted_by e c n).reply.out ≡ None
-by-uncut e call.IsExceptionPending n = refl
+by-uncut e (call.ReferenceRef r) n = raised-uncut r.0 e (value_of e.references r.0)
+by-uncut e (call.GetReferenceValue r) n = told-uncut e (value_of e.references r.0)
 by-uncut e c n = refl
 
 given-uncut : (e : Environment) (c : Call) (n : ℕ) (x : Option Status) → cut_of (answer_given e c n x).reply.out ≡ None

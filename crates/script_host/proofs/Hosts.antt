@@ -9,7 +9,8 @@ use Rattle.napi_types.specs.Laws.{HasRoom}
 use Rattle.napi_types.specs.Plan.{Plan, Registers}
 use Rattle.napi_types.specs.Room.{most_entries}
 use Rattle.napi_types.specs.Weave.{weave}
-use Rattle.napi_types.specs.Whole.{final_of}
+use Rattle.napi_types.specs.Whole.{opening_of, final_of}
+use Rattle.napi_types.proofs.Keeping.{kept-run}
 use Rattle.napi_types.proofs.Rooms.{room-suffices}
 use Rattle.env_loop.specs.Recording.{IsEnded}
 use Rattle.script_host.specs.Loading.{told_plans, setting_with}
@@ -56,6 +57,7 @@ ran-of script texts handed after registers registers_after left counted enough e
       run = record {
         asks = e.asks;
         ended = e.ended;
+        collected = kept-run (opening_of (setting_of script handed)) e.asks (weave left.journal left.history) e.ended.run.steps;
         rises = e.rises;
         parted = e.parted;
         agrees = λ addon below. e.agrees addon (omega (arith, length-told script.addons handed enough));

@@ -9,11 +9,12 @@ use Rattle.napi_types.specs.declared.script.Script.{Script}
 use Rattle.napi_types.specs.declared.script.Wrong.{Wrong}
 use Rattle.napi_types.specs.declared.script.Wrong.TheVariants as wrong
 use Rattle.napi_types.specs.Edge.{HasRisen, TookFront}
+use Rattle.napi_types.specs.Kept.{KeepsReached}
 use Rattle.napi_types.specs.Plan.{Plan, plan_of, registers_of}
 use Rattle.napi_types.specs.Script.{IsNoJson, IsScript, IsWrong, HasWrongShape}
 use Rattle.napi_types.specs.Text.{text}
 use Rattle.napi_types.specs.Weave.{weave, RisesBetween, IsParted}
-use Rattle.napi_types.specs.Whole.{Setting, EndsBy, final_registers}
+use Rattle.napi_types.specs.Whole.{Setting, EndsBy, opening_of, final_registers}
 use Rattle.script_host.specs.Reading.{longest_source, GaveTooMany}
 use Rattle.env_loop.specs.Recording.{AgreesWhereTold}
 use Rattle.script_host.specs.Loading.{told_plans, setting_with}
@@ -30,11 +31,12 @@ use Rattle.script_host.specs.declared.words.Line.TheVariants as line
 abbrev pub setting_of : Script → List Plan → Setting
 setting_of script handed = setting_with (told_plans script.addons handed) (length script.texts)
 
--- the two lists are the journal and the history of a run of the script that ends in `gone`, the journal in the order of its places, and the registers of
--- each addon that tells its plan are the run's
+-- the two lists are the journal and the history of a run of the script that ends in `gone`, the journal in the order of its places; each collection of the
+-- run keeps exactly what its roots reach; and the registers of each addon that tells its plan are the run's
 pub record IsRunOf (script : Script) (handed : List Plan) (left : Record) (registers : List (List ℕ)) : Type 0 where
   pub asks : List Ask
   pub ended : EndsBy (setting_of script handed) asks (weave left.journal left.history)
+  pub collected : KeepsReached (opening_of (setting_of script handed)) asks (weave left.journal left.history)
   pub rises : RisesBetween 0 (length left.history) left.journal
   pub parted : IsParted left.journal left.history
   pub agrees : (addon : ℕ) → addon < length script.addons → AgreesWhereTold (plan_of (setting_of script handed).plans addon)

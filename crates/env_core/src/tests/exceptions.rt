@@ -4,7 +4,7 @@ ghost use Rattle.napi_types.specs.Changes.{asks_made};
 
 use super::{Row, compare, compare_in, in_frame, reply_to};
 use crate::EnvCore;
-use napi_types::{Call, HandleId, Limits, Out, Reply, ScopeId, TextNo, Why};
+use napi_types::{Call, HandleId, Limits, Out, RefId, Reply, ScopeId, TextNo, Why};
 use std::alloc::Global;
 use std::process::Abort;
 use std::test::Fail;
@@ -23,6 +23,9 @@ const NAME: TextNo = TextNo(0);
 /// The escapable scope that is open.
 const SCOPE: ScopeId = ScopeId(1);
 
+/// A reference that was never made.
+const REFERENCE: RefId = RefId(1);
+
 /// Each call that is guarded.
 const GUARDED: [Call; 11] = [
     Call::StrictEquals(OBJECT, OBJECT),
@@ -39,7 +42,7 @@ const GUARDED: [Call; 11] = [
 ];
 
 /// Each other call, with its status and its result. After the first ones the exception is pending still.
-const UNGUARDED: [Row; 27] = [
+const UNGUARDED: [Row; 33] = [
     (Call::GetUndefined, 0, ("handle", 3)),
     (Call::GetNull, 0, ("handle", 3)),
     (Call::GetGlobal, 0, ("handle", 3)),
@@ -64,6 +67,12 @@ const UNGUARDED: [Row; 27] = [
     (Call::CloseHandleScope(SCOPE), 13, NOTHING),
     (Call::CloseEscapableHandleScope(SCOPE), 0, NOTHING),
     (Call::EscapeHandle(SCOPE, OBJECT), 0, ("handle", 3)),
+    (Call::CreateReference(OBJECT, 1), 0, ("reference", 1)),
+    (Call::DeleteReference(REFERENCE), 1, NOTHING),
+    (Call::ReferenceRef(REFERENCE), 1, NOTHING),
+    (Call::ReferenceUnref(REFERENCE), 1, NOTHING),
+    (Call::GetReferenceValue(REFERENCE), 1, NOTHING),
+    (Call::Collect, 0, ("number", 0)),
     (Call::IsExceptionPending, 0, ("flag", 1)),
     (Call::GetVersion, 0, ("number", 9)),
     // The last status is that of `throw`.
