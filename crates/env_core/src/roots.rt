@@ -17,7 +17,8 @@ use value_store::Store;
 
 /// The roots: the starting values, the values of handles in open scopes, those of strong references, and the pending exception.
 ///
-/// It takes time linear in the handle places and references, for each place logarithmic in the open scopes.
+/// It takes time linear in the handle places, for each of them logarithmic in the open scopes, and in the references that were
+/// ever made.
 pub fn roots_of(
     alloc: Global,
     store: &Store,

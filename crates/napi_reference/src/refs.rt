@@ -161,7 +161,7 @@ impl Refs {
     }
 
     /// The value of the strong reference at a place, `None` exactly where no reference stands there, or none with a value and a
-    /// count above 0. Constant time.
+    /// count above 0. `at` is below `rows`. Constant time.
     pub fn strong_at(&self, at: usize) -> Option<ValueId>
         requires { at < length self.now.places }
         ensures { option_map (λ v. v.0) result ≡ strong_in (slice_index_or self.now.places at None) }

@@ -8,7 +8,7 @@ use Rattle.napi_types.specs.Values.{Value, value_at, children}
 abbrev pub numbers : List Value → List ℕ
 numbers vs = map (λ v. v.number) vs
 
--- the numbers among these that values have
+-- the numbers among these that values have, in the order of the values
 abbrev pub among : List Value → List ℕ → List ℕ
 among vs ns = filter (λ n. has_number n ns) (numbers vs)
 
@@ -25,6 +25,6 @@ abbrev pub spread_for : List Value → List Value → List ℕ → List ℕ
 spread_for [] vs there = there
 spread_for (round ∷ rounds) vs there = spread_for rounds vs (spread vs there)
 
--- what the roots reach: start with them, and add all children of what is there, as many times as there are values
+-- what the roots reach: start with those of them that values have, and add all children of what is there, as many times as there are values
 abbrev pub reach_from : List Value → List ℕ → List ℕ
 reach_from vs roots = spread_for vs vs (among vs roots)

@@ -48,9 +48,9 @@ then_freed n = call_at 6 call.Collect status.Ok (out.Unsigned n)
 abbrev pub value_given : Out → Entry
 value_given o = call_at 7 (call.GetReferenceValue (reference 1)) status.Ok o
 
--- the counting down from 0, with this status
-abbrev pub down_refused : Status → Entry
-down_refused s = call_at 8 (call.ReferenceUnref (reference 1)) s out.Nothing
+-- the counting down from 0, with this status and this result
+abbrev pub counted_down : Status → Out → Entry
+counted_down s o = call_at 8 (call.ReferenceUnref (reference 1)) s o
 
 -- the counting up of the reference whose value is gone, which tells this count
 abbrev pub up_told : ℕ → Entry
@@ -67,7 +67,7 @@ trace = run_of_calls (
     ∷ call_at 5 (call.ReferenceUnref (reference 1)) status.Ok (out.Unsigned 0)
     ∷ then_freed 1
     ∷ value_given out.NoHandle
-    ∷ down_refused status.GenericFailure
+    ∷ counted_down status.GenericFailure out.Nothing
     ∷ up_told 0
     ∷ []
     )
@@ -105,6 +105,7 @@ pub record IsStrict : Type 0 where
   pub weak : (n : ℕ) → IsRun setting (set trace 8 (then_freed n)) → n ≡ 1
   -- then the reference gives no handle, ..
   pub gone : (n : ℕ) → IsRun setting (set trace 9 (value_given (out.Handle (handle n)))) → ⊥
-  -- .. is not counted below 0, and its count is told as 0
-  pub lowest : (s : Status) → IsRun setting (set trace 10 (down_refused s)) → s ≡ status.GenericFailure
+  -- .. is not counted below 0, with no other status and no count, and counted up its count is told as 0
+  pub lowest : (s : Status) → IsRun setting (set trace 10 (counted_down s out.Nothing)) → s ≡ status.GenericFailure
+  pub untold : (s : Status) (n : ℕ) → IsRun setting (set trace 10 (counted_down s (out.Unsigned n))) → ⊥
   pub uncounted : (n : ℕ) → IsRun setting (set trace 11 (up_told n)) → n ≡ 0

@@ -170,7 +170,8 @@ pub fn host<R: Threads + Wait + Sync, S: Source, K: Sink, G: Gate>(
     // The status is one of these.
     ensures known { IsStatus result }
 
-    // At 0 and 5 the source gave a script, the two lists of `left` are a run of it to its end, and the sink took the run's text.
+    // At 0 and 5 the source gave a script, the two lists of `left` are a run of it to its end, each collection of which kept
+    // exactly what its roots reached, and the sink took the run's text.
     ensures ran { let plans = map (λ b. plan b) addons.old.items in
         let registers = map (λ b. regs b) addons.old.items in
         IsRunStatus result → (script : Script) × GaveScript (S.left source.old) (S.left source.new) script

@@ -215,7 +215,7 @@ impl Store {
     }
 
     /// The child at a place: first the values of the properties, in the order in which their names were first set, then the
-    /// elements. `None` exactly at a hole. Constant time.
+    /// elements. `None` exactly at a hole. `at` is below `child_places`. Constant time.
     pub fn child_at(&self, id: ValueId, at: usize) -> Option<ValueId>
         requires { at < length (child_places_in self.now id.0) }
         ensures value { option_map (λ v. v.0) result ≡ slice_index_or (child_places_in self.now id.0) at None }
@@ -235,7 +235,7 @@ impl Store {
         places::clear(&mut self.values, list)
     }
 
-    /// How many places there are. Each live value stands at one.
+    /// How many places there are. Each live value stands at exactly one, and no number stands at two. Constant time.
     pub fn places(&self) -> usize
         ensures count { result ≡ length self.now.places }
         ensures once { EachStandsOnce self.now }

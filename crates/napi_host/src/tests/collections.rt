@@ -4,7 +4,8 @@ use super::*;
 use std::test::Fail;
 
 // Rows of small graphs: what the collections of a run tell, in their order; why; and the entries of the one addon. Each `create_*`
-// makes one value, and the five starting values are never freed.
+// but `create_reference` makes one value, `throw_error` its strings too, and `get_property_names` a string for each name and an
+// array. The five starting values are never freed.
 
 /// What handles keep.
 const HANDLES: &str =
@@ -314,8 +315,8 @@ const WHILE_PENDING_LINES: &[Line] = &[
     (1, "end 0 uncaught"),
 ];
 
-/// The scripts with their traces.
-const REFUSED: &[(&[u8], &[Line])] = &[
+/// The scripts with their traces: what is refused, and what is accepted while an exception is pending.
+const CALLS_ON_REFERENCES: &[(&[u8], &[Line])] = &[
     (UNKNOWN, UNKNOWN_LINES),
     (DELETED, DELETED_LINES),
     (KINDS, KINDS_LINES),
@@ -324,9 +325,9 @@ const REFUSED: &[(&[u8], &[Line])] = &[
 ];
 
 #[test]
-fn refuses_unknown_references_and_counts_past_the_ends(rt: HostRuntime) -> Result<(), Fail> {
+fn answers_the_calls_on_references(rt: HostRuntime) -> Result<(), Fail> {
     let alloc = rt.alloc();
-    for (at, (script, lines)) in REFUSED.iter().enumerate() {
+    for (at, (script, lines)) in CALLS_ON_REFERENCES.iter().enumerate() {
         assert!(rt; prints(&rt, alloc, script, lines)?, "at row {at}");
     }
     Ok(())
