@@ -1,5 +1,5 @@
 -- A call's entry, and the environment after it, from their parts.
-use Rattle.std.proofs.Common.{◌≡◌, ◌∙◌, ℕ, length, refl, ap, sym, subst, None, ◌≢◌, ◌+◌, List, [], ◌∷◌, arith}
+use Rattle.std.proofs.Common.{◌≡◌, ◌∙◌, ℕ, length, ap, sym, subst, None, List}
 use Rattle.napi_types.specs.declared.call.Call.{Call}
 use Rattle.napi_types.specs.declared.entry.Reply.{Reply}
 use Rattle.napi_types.specs.declared.entry.Actor.TheVariants as actor
@@ -7,11 +7,10 @@ use Rattle.napi_types.specs.declared.entry.What.TheVariants as what
 use Rattle.napi_types.specs.declared.entry.Entry.{Entry}
 use Rattle.napi_types.specs.Environment.{Environment}
 use Rattle.napi_types.specs.Calls.{answer}
-use Rattle.napi_types.specs.Changes.{asks_made, noted, called, call_entry, number_of}
-use Rattle.napi_types.specs.Frames.{Frame}
-use Rattle.napi_types.specs.Lists.{first_changed, tail}
+use Rattle.napi_types.specs.Changes.{noted, called, call_entry, number_of}
+use Rattle.napi_types.specs.Frames.{Frame, asks_made}
 use Rattle.env_core.specs.State.{Answers, Calls}
-use Rattle.napi_types.proofs.Answers.{answer-keeps, called-keeps}
+use Rattle.napi_types.proofs.Answers.{answer-keeps}
 
 abbrev pub told_entry : ℕ → ℕ → Call → Reply → Entry
 told_entry depth step c r = record { actor = actor.Env; depth = depth; step = step; what = what.Call c; reply = r; given = None }
@@ -19,30 +18,6 @@ told_entry depth step c r = record { actor = actor.Env; depth = depth; step = st
 pub after-called : (e mid new : Environment) (c : Call) (n : ℕ) (r : Reply)
     → r ≡ (answer e c n).reply → mid ≡ (answer e c n).after → new ≡ noted c r.status mid → new ≡ (called e c n).after
 after-called e mid new c n r q m h = h ∙ ap (λ x. noted c x.status mid) q ∙ ap (λ x. noted c (answer e c n).reply.status x) m
-
--- one frame stands
-pub stands-alone : (fs : List Frame) → length fs ≡ 1 → fs ≢ []
-stands-alone [] alone = absurd (omega arith)
-stands-alone (f ∷ fs) alone = λ none. cc
-
--- it ends, and none stands
-pub none-left : (fs : List Frame) → length fs ≡ 1 → tail fs ≡ []
-none-left [] alone = refl
-none-left (f ∷ []) alone = refl
-none-left (f ∷ g ∷ fs) alone = absurd (omega arith)
-
--- a call leaves its frame, with one ask more
-asks-counted : (fs : List Frame) → fs ≢ [] → asks_made (first_changed (λ f. record f { asks = f.asks + 1 }) fs) ≡ asks_made fs + 1
-asks-counted [] stands = absurd (stands refl)
-asks-counted (f ∷ fs) stands = refl
-
-pub depth-called : (e : Environment) (c : Call) (n : ℕ) → length (called e c n).after.frames ≡ length e.frames
-depth-called e c n = (called-keeps e c n).depth
-
-pub asks-called : (e : Environment) (c : Call) (n : ℕ) → e.frames ≢ [] → asks_made (called e c n).after.frames ≡ asks_made e.frames + 1
-asks-called e c n stands =
-    let same : (answer e c n).after.frames ≡ e.frames = (answer-keeps e c n).frames in
-    ap (λ fs. asks_made (first_changed (λ f. record f { asks = f.asks + 1 }) fs)) same ∙ asks-counted e.frames stands
 
 -- the call was answered, and then its entry was written
 pub calls-told : (old mid new : Environment) (c : Call) (r : Reply) (x : Entry) → Answers old c r mid → x ≡ call_entry mid c r → new ≡ noted c r.status mid → Calls old c x new

@@ -1,26 +1,26 @@
 -- What a collection leaves, and what it answers.
-use Rattle.std.proofs.Common.{◌≡◌, ℕ, ◌==◌, Bool, true, false, cond, not, List, [], ◌∷◌, ◌++◌, length, map, Option, Some, None, IfSome, IsSome, option_map, refl, ap, sym, subst, ◌∙◌}
+use Rattle.std.proofs.Common.{◌≡◌, ℕ, Bool, true, false, cond, not, List, [], ◌∷◌, ◌++◌, length, map, Option, Some, None, IfSome, IsSome, option_map, refl, ap, sym, subst, ◌∙◌}
 use Rattle.std.specs.List.{All}
-use Rattle.std.specs.Option.{unwrap_or}
-use Rattle.std.proofs.lemmas.List.Elements.{All-nil, All-cons, All-head, All-tail, All-map}
+use Rattle.std.specs.Option.{unwrap_or, option_to_list}
+use Rattle.std.proofs.lemmas.List.Elements.{All-nil, All-cons, All-head, All-tail}
 use Rattle.napi_types.specs.declared.call.Call.TheVariants as call
 use Rattle.napi_types.specs.declared.entry.Out.TheVariants as out
 use Rattle.napi_types.specs.declared.status.Status.TheVariants as status
 use Rattle.napi_types.specs.Collection.{those_of, all_but, collected}
 use Rattle.napi_types.specs.Environment.{Environment}
 use Rattle.napi_types.specs.Frames.{Frame}
-use Rattle.napi_types.specs.Graph.{StoreState, value_of as store_value, IsLive, number_in, graph_of}
+use Rattle.napi_types.specs.Graph.{StoreState, IsLive, number_in, graph_of}
 use Rattle.napi_types.specs.Heap.{Heap}
 use Rattle.napi_types.specs.Lists.{has_number}
 use Rattle.napi_types.specs.Reach.{reach_from}
 use Rattle.napi_types.specs.References.{Reference, ReferenceMap, strong_values, value_left, emptied}
 use Rattle.napi_types.specs.Replies.{plain}
-use Rattle.napi_types.specs.Roots.{pending_value, reach}
+use Rattle.napi_types.specs.Roots.{reach}
 use Rattle.napi_types.specs.Scopes.{Held, held_by_frames}
 use Rattle.napi_types.specs.Values.{Value}
 use Rattle.value_store.specs.Changes.{Frees}
 use Rattle.handle_scope.specs.HandleScopes.{HandleScopes}
-use Rattle.env_values.specs.Seen.{seen_frame, heap_of, HoldsLive}
+use Rattle.env_values.specs.Seen.{seen_frame, heap_of}
 use Rattle.env_values.proofs.Held.{All-left, All-right}
 use Rattle.env_values.proofs.Seen.{IsSame, seen-same}
 use Rattle.trace_collect.specs.Collects.{reached, AreUnreached}
@@ -110,11 +110,11 @@ module _ (s t : StoreState) (ids freed alive : List ℕ) (c : FreesOthers s t id
       All-cons (IsSame s t) h hs (stays-number h.value (All-head K h.value _ kept)) (held-same hs (All-tail K h.value _ kept))
 
   -- THE PENDING EXCEPTION
-  thrown-kept : (p : Option ℕ) → All (λ r. has_number r freed ≡ false) (pending_value p) → pending_seen t p ≡ pending_seen s p
+  thrown-kept : (p : Option ℕ) → All (λ r. has_number r freed ≡ false) (option_to_list p) → pending_seen t p ≡ pending_seen s p
   thrown-kept None kept = refl
   thrown-kept (Some v) kept = ap Some (stays-number v (All-head (λ (r : ℕ). has_number r freed ≡ false) v [] kept))
 
-  thrown-live : (p : Option ℕ) → All (λ r. has_number r freed ≡ false) (pending_value p) → IfSome p (IsLive s) → IfSome p (IsLive t)
+  thrown-live : (p : Option ℕ) → All (λ r. has_number r freed ≡ false) (option_to_list p) → IfSome p (IsLive s) → IfSome p (IsLive t)
   thrown-live None kept live = tt
   thrown-live (Some v) kept live = stays-live v (All-head (λ (r : ℕ). has_number r freed ≡ false) v [] kept) live
 
@@ -122,18 +122,18 @@ module _ (s t : StoreState) (ids freed alive : List ℕ) (c : FreesOthers s t id
 record KeepsRoots (freed : List ℕ) (scopes : HandleScopes) (m : ReferenceMap) (p : Option ℕ) : Type 0 where
   pub held : All (λ r. has_number r freed ≡ false) (map (λ h. h.value) (held_by_frames scopes.frames))
   pub strong : All (λ r. has_number r freed ≡ false) (strong_values m)
-  pub pending : All (λ r. has_number r freed ≡ false) (pending_value p)
+  pub pending : All (λ r. has_number r freed ≡ false) (option_to_list p)
 
 keeps-roots : (s t : StoreState) (scopes : HandleScopes) (m : ReferenceMap) (p : Option ℕ) (ids freed alive : List ℕ) → AreRoots s scopes m p ids → FreesOthers s t ids freed alive → KeepsRoots freed scopes m p
 keeps-roots s t scopes m p ids freed alive r c =
     let K : ℕ → Type 0 = λ id. has_number id freed ≡ false in
     let held : List ℕ = held_values scopes in
-    let all : All K (r.starting ++ held ++ strong_values m ++ pending_value p) = subst (λ (l : List ℕ). All K l) r.are c.kept in
-    let outer : All K (r.starting ++ held ++ strong_values m) = All-left K (r.starting ++ held ++ strong_values m) (pending_value p) all in
+    let all : All K (r.starting ++ held ++ strong_values m ++ option_to_list p) = subst (λ (l : List ℕ). All K l) r.are c.kept in
+    let outer : All K (r.starting ++ held ++ strong_values m) = All-left K (r.starting ++ held ++ strong_values m) (option_to_list p) all in
     record {
       held = All-right K r.starting held (All-left K (r.starting ++ held) (strong_values m) outer);
       strong = All-right K (r.starting ++ held) (strong_values m) outer;
-      pending = All-right K (r.starting ++ held ++ strong_values m) (pending_value p) all;
+      pending = All-right K (r.starting ++ held ++ strong_values m) (option_to_list p) all;
     }
 
 -- no strong reference names a value that is freed

@@ -1,13 +1,14 @@
 -- References as the machine sees them, and what the calls on them answer.
-use Rattle.std.proofs.Common.{◌≡◌, ℕ, ◌+◌, ◌-◌, ◌==◌, ◌||◌, Bool, true, false, cond, not, IsTrue, List, [], ◌∷◌, ◌++◌, map, filter, Option, Some, None, is_some, IsSome, IfSome, option_map, refl, ap, sym, subst, ◌∙◌}
-use Rattle.std.specs.List.{All, list_all}
-use Rattle.std.proofs.lemmas.List.Elements.{All-head, All-tail}
+use Rattle.std.proofs.Common.{◌≡◌, ℕ, ◌+◌, ◌-◌, ◌==◌, ◌||◌, Bool, true, false, cond, not, List, [], ◌∷◌, map, filter, Option, Some, None, is_some, IsSome, IfSome, option_map, Result, Ok, Err, IfOk, IfErr, OnErr, refl, ap, sym, subst, ◌∙◌}
+use Rattle.std.specs.List.{list_all}
 use Rattle.std.specs.Option.{unwrap_or, option_or}
+use Rattle.std.specs.Result.{result_err}
 use Rattle.std.proofs.lemmas.List.{map-append}
 use Rattle.napi_types.specs.declared.call.Call.{Call}
 use Rattle.napi_types.specs.declared.call.Call.TheVariants as call
 use Rattle.napi_types.specs.declared.entry.Out.{Out}
 use Rattle.napi_types.specs.declared.entry.Out.TheVariants as out
+use Rattle.napi_types.specs.declared.entry.Reply.{Reply}
 use Rattle.napi_types.specs.declared.ids.HandleId.{HandleId}
 use Rattle.napi_types.specs.declared.ids.RefId.{RefId}
 use Rattle.napi_types.specs.declared.status.Status.{Status}
@@ -17,15 +18,16 @@ use Rattle.napi_types.specs.Changes.{number_of, is_fresh}
 use Rattle.napi_types.specs.Environment.{Environment, in_heap}
 use Rattle.napi_types.specs.Graph.{StoreState, IsLive, number_in}
 use Rattle.napi_types.specs.Heap.{Heap, with_handle, handle_of}
-use Rattle.napi_types.specs.Lists.{found, has, when, unless}
+use Rattle.napi_types.specs.Lists.{found, has}
 use Rattle.napi_types.specs.ReferenceCalls.{counted_up, value_told}
-use Rattle.napi_types.specs.References.{Reference, ReferenceMap, has_reference, reference_at, value_of, count_of, most_count, with_reference, without_reference, with_count}
+use Rattle.napi_types.specs.References.{Reference, ReferenceMap, has_reference, reference_at, value_of, count_of, with_reference, without_reference, with_count}
 use Rattle.napi_types.specs.Refusals.{references_of, count_refusal, reference_refusal, refusal_in, timely_refusal}
 use Rattle.napi_types.specs.Replies.{Answer, answered, plain}
 use Rattle.handle_scope.specs.HandleScopes.{HandleScopes}
 use Rattle.env_values.specs.Seen.{heap_of}
 use Rattle.env_values.proofs.Giving.{given-answer}
-use Rattle.napi_reference.proofs.Keeping.{AllValues-with_count}
+use Rattle.napi_reference.specs.Places.{ReferencePlaces, map_of}
+use Rattle.napi_reference.proofs.Keeping.{AllValues-with_count, value_of-AllValues}
 use Rattle.env_core.specs.Referring.{seen_reference, references_seen, RefersToLive}
 use Rattle.env_core.specs.State.{AnswersInTime}
 
@@ -199,6 +201,26 @@ told-answers e s m old new r h v heap none some next held =
     ∙ ap (λ (x : Heap). in_heap (referring e s m) (handle_of (number_in s v) x)) heap
     ∙ ap (λ (a : Answer Heap). in_heap (referring e s m) a) (given-answer (heap_of s old) (heap_of s new) (number_in s v) h next held))
 
+-- the same of a count that is told or refused
+pub lowered-told : (e : Environment) (s : StoreState) (m n : ReferenceMap) (r : RefId) (o : Result ℕ Status) (reply : Reply) → result_err o ≡ reference_refusal m (call.ReferenceUnref r)
+    → IfOk o (λ count. count ≡ count_of m r.0 - 1) → IfOk o (λ count. n ≡ with_count r.0 count m) → OnErr o (n ≡ m)
+    → IfOk o (λ count. reply ≡ plain status.Ok (out.Unsigned count)) → IfErr o (λ st. reply ≡ plain st out.Nothing)
+    → AnswersInTime (referring e s m) (call.ReferenceUnref r) reply (referring e s n)
+lowered-told e s m n r (Ok count) reply h counted is err ok why =
+    subst (λ (x : Reply). AnswersInTime (referring e s m) (call.ReferenceUnref r) x (referring e s n)) (sym ok) (lowered-answers e s m n r count h counted is)
+lowered-told e s m n r (Err st) reply h counted is err ok why =
+    subst (λ (x : Reply). AnswersInTime (referring e s m) (call.ReferenceUnref r) x (referring e s n)) (sym why) (refused-answers e s m n (call.ReferenceUnref r) st h refl err)
+
+pub raised-told : (e : Environment) (s : StoreState) (m n : ReferenceMap) (r : RefId) (o : Result ℕ Status) (reply : Reply) → result_err o ≡ reference_refusal m (call.ReferenceRef r)
+    → (IsSome (value_of m r.0) → IfOk o (λ count. count ≡ count_of m r.0 + 1)) → (IsSome (value_of m r.0) → IfOk o (λ count. n ≡ with_count r.0 count m))
+    → (value_of m r.0 ≡ None → IfOk o (λ count. count ≡ 0)) → (value_of m r.0 ≡ None → n ≡ m) → OnErr o (n ≡ m)
+    → IfOk o (λ count. reply ≡ plain status.Ok (out.Unsigned count)) → IfErr o (λ st. reply ≡ plain st out.Nothing)
+    → AnswersInTime (referring e s m) (call.ReferenceRef r) reply (referring e s n)
+raised-told e s m n r (Ok count) reply h counted is none same err ok why =
+    subst (λ (x : Reply). AnswersInTime (referring e s m) (call.ReferenceRef r) x (referring e s n)) (sym ok) (raised-answers e s m n r count h counted is none same)
+raised-told e s m n r (Err st) reply h counted is none same err ok why =
+    subst (λ (x : Reply). AnswersInTime (referring e s m) (call.ReferenceRef r) x (referring e s n)) (sym why) (refused-answers e s m n (call.ReferenceRef r) st h refl err)
+
 -- WHAT STAYS LIVE
 pub raised-live : (s : StoreState) (m n : ReferenceMap) (r count : ℕ) → RefersToLive s m → (IsSome (value_of m r) → n ≡ with_count r count m) → (value_of m r ≡ None → n ≡ m) → RefersToLive s n
 raised-live s m n r count live counted same = by (value_of m r) refl
@@ -209,18 +231,21 @@ raised-live s m n r count live counted same = by (value_of m r) refl
         let there : IsSome (value_of m r) = subst (λ (o : Option ℕ). IsSome o) (sym h) refl in
         subst (RefersToLive s) (sym (counted there)) (AllValues-with_count (IsLive s) r count m live)
 
--- the value that a reference has is live
-rows-value : (s : StoreState) (rs : List Reference) (r v : ℕ) → Some v ≡ unwrap_or (option_map (λ (x : Reference). x.value) (found (λ x. x.number) r rs)) None
-    → All (λ x. IfSome x.value (IsLive s)) rs → IsLive s v
-rows-value s [] r v h live = cc
-rows-value s (x ∷ rs) r v h live =
-    let P : Reference → Type 0 = λ y. IfSome y.value (IsLive s) in
-    by (All-head P x rs live) (λ e. rows-value s rs r v e (All-tail P x rs live)) (x.number == r) h
-  where
-    by : IfSome x.value (IsLive s) → (Some v ≡ unwrap_or (option_map (λ (y : Reference). y.value) (found (λ y. y.number) r rs)) None → IsLive s v)
-        → (b : Bool) → Some v ≡ unwrap_or (option_map (λ (y : Reference). y.value) (cond b (Some x) (found (λ y. y.number) r rs))) None → IsLive s v
-    by first later true e = subst (λ (o : Option ℕ). IfSome o (IsLive s)) (sym e) first
-    by first later false e = later e
+-- what an error leaves as it was, the map of it too
+pub err-mapped : (o : Result ℕ Status) (old new : ReferencePlaces) → OnErr o (new ≡ old) → OnErr o (map_of new ≡ map_of old)
+err-mapped (Ok count) old new err = tt
+err-mapped (Err st) old new err = ap map_of err
 
+-- the same of a count that is told or refused
+pub lowered-told-live : (s : StoreState) (m n : ReferenceMap) (r : ℕ) (o : Result ℕ Status) → RefersToLive s m → IfOk o (λ count. n ≡ with_count r count m) → OnErr o (n ≡ m) → RefersToLive s n
+lowered-told-live s m n r (Ok count) live is err = subst (RefersToLive s) (sym is) (AllValues-with_count (IsLive s) r count m live)
+lowered-told-live s m n r (Err st) live is err = subst (RefersToLive s) (sym err) live
+
+pub raised-told-live : (s : StoreState) (m n : ReferenceMap) (r : ℕ) (o : Result ℕ Status) → RefersToLive s m → (IsSome (value_of m r) → IfOk o (λ count. n ≡ with_count r count m))
+    → (value_of m r ≡ None → n ≡ m) → OnErr o (n ≡ m) → RefersToLive s n
+raised-told-live s m n r (Ok count) live counted same err = raised-live s m n r count live counted same
+raised-told-live s m n r (Err st) live counted same err = subst (RefersToLive s) (sym err) live
+
+-- the value that a reference has is live
 pub value-live : (s : StoreState) (m : ReferenceMap) (r v : ℕ) → Some v ≡ value_of m r → RefersToLive s m → IsLive s v
-value-live s m r v h live = rows-value s m.rows r v h live
+value-live s m r v h live = subst (λ (o : Option ℕ). IfSome o (IsLive s)) (sym h) (value_of-AllValues (IsLive s) m r live)

@@ -2,18 +2,20 @@
 use Rattle.std.proofs.Common.{◌≡◌, ℕ, zero, suc, ◌+◌, ◌<◌, arith, append_assoc, length, take, get_or, slice_index_or, ◌==◌, Bool, true, false, cond, List, [], ◌∷◌, ◌++◌, map, filter_map, Option, Some, None, option_map, IfSome, refl, ap, sym, subst, ◌∙◌}
 use Rattle.std.specs.List.{All, cons_option}
 use Rattle.std.proofs.lemmas.List.{map-append, append-nil, take_more}
-use Rattle.std.proofs.lemmas.List.Elements.{filter_map-append, All-nil, All-cons, All-head, All-tail, All-append, All-map}
+use Rattle.std.proofs.lemmas.List.Elements.{filter_map-append, All-nil, All-cons, All-append, All-map}
+use Rattle.std.specs.Option.{option_to_list}
 use Rattle.napi_types.specs.Environment.{Environment}
 use Rattle.napi_types.specs.Graph.{StoreState, IsLive, number_in}
 use Rattle.napi_types.specs.Lists.{has_number}
 use Rattle.napi_types.specs.Reach.{numbers}
 use Rattle.napi_types.specs.References.{Reference, ReferenceMap, strong_value, strong_values}
-use Rattle.napi_types.specs.Roots.{pending_value, roots}
+use Rattle.napi_types.specs.Roots.{roots}
 use Rattle.napi_types.specs.Scopes.{Held, Scope, FrameScopes, held_by_scopes, held_by_frame, held_by_frames}
 use Rattle.napi_types.specs.Values.{starting_values}
 use Rattle.handle_scope.specs.HandleScopes.{HandleScopes, filled, free_place, frame_places, handle_places}
 use Rattle.env_values.specs.Seen.{seen_held, seen_scope, seen_frame, heap_of, HoldsLive}
 use Rattle.napi_reference.specs.Places.{strong_in}
+use Rattle.napi_reference.proofs.Keeping.{strong_values-AllValues}
 use Rattle.trace_collect.specs.Collects.{HoldsStarting}
 use Rattle.env_core.specs.Referring.{seen_reference, references_seen, RefersToLive}
 use Rattle.env_core.specs.Rooting.{AreStarting, AreRoots, held_values}
@@ -66,7 +68,7 @@ module _ (s : StoreState) where
       by a None e rest f g = rw (f ∙ e, g) rest
       by a (Some v) e rest f g = rw (f ∙ e, g) (ap (λ l. number_in s v ∷ l) rest)
 
-  pending-at : (p : Option ℕ) → pending_value (pending_seen s p) ≡ map (number_in s) (pending_value p)
+  pending-at : (p : Option ℕ) → option_to_list (pending_seen s p) ≡ map (number_in s) (option_to_list p)
   pending-at None = refl
   pending-at (Some v) = refl
 
@@ -75,14 +77,14 @@ module _ (s : StoreState) where
       let n : List ℕ → List ℕ = map (number_in s) in
       let held : List ℕ = held_values scopes in
       let seen : List ℕ = values_of (held_by_frames (map (seen_frame s) scopes.frames)) in
-      let first : n ids ≡ n (r.starting ++ held ++ strong_values m ++ pending_value p) = ap n r.are in
+      let first : n ids ≡ n (r.starting ++ held ++ strong_values m ++ option_to_list p) = ap n r.are in
       first
-      ∙ map-append (number_in s) (r.starting ++ held ++ strong_values m) (pending_value p)
-      ∙ ap (λ l. l ++ n (pending_value p)) (map-append (number_in s) (r.starting ++ held) (strong_values m))
-      ∙ ap (λ l. l ++ n (strong_values m) ++ n (pending_value p)) (map-append (number_in s) r.starting held)
-      ∙ ap (λ l. l ++ n held ++ n (strong_values m) ++ n (pending_value p)) r.are_starting.numbers_are
-      ∙ ap (λ l. numbers starting_values ++ l ++ n (strong_values m) ++ n (pending_value p)) (sym (frames-seen scopes.frames))
-      ∙ ap (λ l. numbers starting_values ++ seen ++ l ++ n (pending_value p)) (sym (rows-strong m.rows))
+      ∙ map-append (number_in s) (r.starting ++ held ++ strong_values m) (option_to_list p)
+      ∙ ap (λ l. l ++ n (option_to_list p)) (map-append (number_in s) (r.starting ++ held) (strong_values m))
+      ∙ ap (λ l. l ++ n (strong_values m) ++ n (option_to_list p)) (map-append (number_in s) r.starting held)
+      ∙ ap (λ l. l ++ n held ++ n (strong_values m) ++ n (option_to_list p)) r.are_starting.numbers_are
+      ∙ ap (λ l. numbers starting_values ++ l ++ n (strong_values m) ++ n (option_to_list p)) (sym (frames-seen scopes.frames))
+      ∙ ap (λ l. numbers starting_values ++ seen ++ l ++ n (option_to_list p)) (sym (rows-strong m.rows))
       ∙ ap (λ l. numbers starting_values ++ seen ++ strong_values (references_seen s m) ++ l) (sym (pending-at p))
 
 -- the starting values are among them
@@ -97,7 +99,7 @@ starts-with (suc (suc (suc (suc (suc which))))) ns h = absurd (omega (arith, h))
 pub roots-start : (s : StoreState) (scopes : HandleScopes) (m : ReferenceMap) (p : Option ℕ) (ids : List ℕ) → AreRoots s scopes m p ids → HoldsStarting s ids
 roots-start s scopes m p ids r which h =
     let n : List ℕ → List ℕ = map (number_in s) in
-    let rest : List ℕ = held_values scopes ++ (strong_values m ++ pending_value p) in
+    let rest : List ℕ = held_values scopes ++ (strong_values m ++ option_to_list p) in
     let are : ids ≡ r.starting ++ rest = r.are ∙ simp append_assoc in
     let seen : n ids ≡ numbers starting_values ++ n rest = ap n are ∙ map-append (number_in s) r.starting rest ∙ ap (λ l. l ++ n rest) r.are_starting.numbers_are in
     ap (has_number (which + 1)) seen ∙ starts-with which (n rest) h
@@ -134,22 +136,22 @@ places-values (f ∷ fs) =
 
 -- one place more
 pub place-more : (es : List (Option ℕ)) (at : ℕ) (e : Option ℕ) → at < length es → e ≡ slice_index_or es at None
-    → filter_map (λ place. place) (take (at + 1) es) ≡ filter_map (λ place. place) (take at es) ++ pending_value e
+    → filter_map (λ place. place) (take (at + 1) es) ≡ filter_map (λ place. place) (take at es) ++ option_to_list e
 place-more es at e less is =
     ap (filter_map (λ (place : Option ℕ). place)) (take_more es at None less)
     ∙ filter_map-append (λ (place : Option ℕ). place) (take at es) (get_or es at None ∷ [])
     ∙ ap (λ o. filter_map (λ (place : Option ℕ). place) (take at es) ++ filter_map (λ (place : Option ℕ). place) (o ∷ [])) (sym is)
     ∙ ap (λ l. filter_map (λ (place : Option ℕ). place) (take at es) ++ l) (one e)
   where
-    one : (e : Option ℕ) → filter_map (λ (place : Option ℕ). place) (e ∷ []) ≡ pending_value e
+    one : (e : Option ℕ) → filter_map (λ (place : Option ℕ). place) (e ∷ []) ≡ option_to_list e
     one None = refl
     one (Some n) = refl
 
 -- what was pushed, with one place more
 pub pushed-more : (olds now next : List ℕ) (es : List (Option ℕ)) (at : ℕ) (e : Option ℕ) → at < length es → e ≡ slice_index_or es at None
-    → now ≡ olds ++ filter_map (λ place. place) (take at es) → next ≡ now ++ pending_value e → next ≡ olds ++ filter_map (λ place. place) (take (at + 1) es)
+    → now ≡ olds ++ filter_map (λ place. place) (take at es) → next ≡ now ++ option_to_list e → next ≡ olds ++ filter_map (λ place. place) (take (at + 1) es)
 pushed-more olds now next es at e less is before more =
-    more ∙ ap (λ l. l ++ pending_value e) before ∙ append_assoc olds (filter_map (λ place. place) (take at es)) (pending_value e)
+    more ∙ ap (λ l. l ++ option_to_list e) before ∙ append_assoc olds (filter_map (λ place. place) (take at es)) (option_to_list e)
     ∙ ap (λ l. olds ++ l) (sym (place-more es at e less is))
 
 -- the values at the places of strong references
@@ -168,29 +170,19 @@ strong-at (p ∷ ps) zero = refl
 strong-at (p ∷ ps) (suc at) = strong-at ps at
 
 -- WHAT THE ROOTS ARE
--- the values of strong references are live, as those of all references are
-rows-live : (s : StoreState) (rs : List Reference) → All (λ r. IfSome r.value (IsLive s)) rs → All (IsLive s) (filter_map strong_value rs)
-rows-live s [] live = All-nil (IsLive s)
-rows-live s (r ∷ rs) live = let P : Reference → Type 0 = λ x. IfSome x.value (IsLive s) in by (r.count == 0) r.value (All-head P r rs live) (rows-live s rs (All-tail P r rs live))
-  where
-    by : (b : Bool) (v : Option ℕ) → IfSome v (IsLive s) → All (IsLive s) (filter_map strong_value rs) → All (IsLive s) (cons_option (cond b None v) (filter_map strong_value rs))
-    by true v first later = later
-    by false None first later = later
-    by false (Some v) first later = All-cons (IsLive s) v (filter_map strong_value rs) first later
-
-pending-live : (s : StoreState) (p : Option ℕ) → IfSome p (IsLive s) → All (IsLive s) (pending_value p)
+pending-live : (s : StoreState) (p : Option ℕ) → IfSome p (IsLive s) → All (IsLive s) (option_to_list p)
 pending-live s None live = All-nil (IsLive s)
 pending-live s (Some v) live = All-cons (IsLive s) v [] live (All-nil (IsLive s))
 
 -- what was gathered are the roots
 pub gathered : (s : StoreState) (scopes : HandleScopes) (m : ReferenceMap) (p : Option ℕ) (first second third ids : List ℕ) → HoldsLive s scopes → RefersToLive s m → IfSome p (IsLive s)
-    → AreStarting s first → second ≡ first ++ held_values scopes → third ≡ second ++ strong_values m → ids ≡ third ++ pending_value p → AreRoots s scopes m p ids
+    → AreStarting s first → second ≡ first ++ held_values scopes → third ≡ second ++ strong_values m → ids ≡ third ++ option_to_list p → AreRoots s scopes m p ids
 gathered s scopes m p first second third ids held referred pending start a b c =
     let L : ℕ → Type 0 = IsLive s in
-    let are : ids ≡ first ++ held_values scopes ++ strong_values m ++ pending_value p = c ∙ ap (λ l. l ++ pending_value p) (b ∙ ap (λ l. l ++ strong_values m) a) in
-    let live : All L (first ++ held_values scopes ++ strong_values m ++ pending_value p) =
-    All-append L (first ++ held_values scopes ++ strong_values m) (pending_value p)
+    let are : ids ≡ first ++ held_values scopes ++ strong_values m ++ option_to_list p = c ∙ ap (λ l. l ++ option_to_list p) (b ∙ ap (λ l. l ++ strong_values m) a) in
+    let live : All L (first ++ held_values scopes ++ strong_values m ++ option_to_list p) =
+    All-append L (first ++ held_values scopes ++ strong_values m) (option_to_list p)
     (All-append L (first ++ held_values scopes) (strong_values m)
     (All-append L first (held_values scopes) start.live (All-map L (λ (h : Held). h.value) (held_by_frames scopes.frames) held))
-    (rows-live s m.rows referred)) (pending-live s p pending) in
+    (strong_values-AllValues L m referred)) (pending-live s p pending) in
     record { starting = first; are_starting = start; are = are; live = subst (λ (l : List ℕ). All L l) (sym are) live }

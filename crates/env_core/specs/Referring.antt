@@ -1,8 +1,8 @@
 -- References as the machine sees them.
-use Rattle.std.specs.Prelude.{ℕ, map, option_map, IfSome}
-use Rattle.std.specs.List.{All}
+use Rattle.std.specs.Prelude.{map, option_map}
 use Rattle.napi_types.specs.Graph.{StoreState, IsLive, number_in}
 use Rattle.napi_types.specs.References.{Reference, ReferenceMap}
+use Rattle.napi_reference.specs.Places.{AllValues}
 
 -- a reference has the creation number of its value, where the crate below has the store's number
 abbrev pub seen_reference : StoreState → Reference → Reference
@@ -14,4 +14,4 @@ references_seen store m = record m { rows = map (seen_reference store) m.rows }
 
 -- the value of each reference is live, where it was not collected
 abbrev pub RefersToLive : StoreState → ReferenceMap → Type 0
-RefersToLive store m = All (λ r. IfSome r.value (IsLive store)) m.rows
+RefersToLive store m = AllValues (IsLive store) m

@@ -1,10 +1,10 @@
 -- The roots of a collection, by the numbers of the store.
 use Rattle.std.specs.Prelude.{◌≡◌, ℕ, List, ◌++◌, map, Option}
 use Rattle.std.specs.List.{All}
+use Rattle.std.specs.Option.{option_to_list}
 use Rattle.napi_types.specs.Graph.{StoreState, IsLive, number_in}
 use Rattle.napi_types.specs.Reach.{numbers}
 use Rattle.napi_types.specs.References.{ReferenceMap, strong_values}
-use Rattle.napi_types.specs.Roots.{pending_value}
 use Rattle.napi_types.specs.Scopes.{held_by_frames}
 use Rattle.napi_types.specs.Values.{starting_values}
 use Rattle.handle_scope.specs.HandleScopes.{HandleScopes}
@@ -22,6 +22,6 @@ held_values scopes = map (λ h. h.value) (held_by_frames scopes.frames)
 pub record AreRoots (store : StoreState) (scopes : HandleScopes) (references : ReferenceMap) (pending : Option ℕ) (ids : List ℕ) : Type 0 where
   pub starting : List ℕ
   pub are_starting : AreStarting store starting
-  pub are : ids ≡ starting ++ held_values scopes ++ strong_values references ++ pending_value pending
+  pub are : ids ≡ starting ++ held_values scopes ++ strong_values references ++ option_to_list pending
   -- all of them name live values
   pub live : All (IsLive store) ids

@@ -79,13 +79,17 @@ pub record RefusesCall (old : Environment) (c : Call) (x : Entry) (new : Environ
   pub at_once : is_entering old c ≡ false
   pub calls : Calls old c x new
 
--- one that nothing refuses enters the frame of the function, which is given its gifts
-pub record EntersCall (old : Environment) (receiver : Option HandleId) (f : HandleId) (args : Args) (x : Entry) (target : Target) (gifts : List ℕ) (new : Environment) : Type 0 where
-  pub accepted : refusal old (call.CallFunction receiver f args) ≡ None
-  pub addon : target.addon ≡ (callee_of old.heap f).addon
-  pub entry : target.entry ≡ (callee_of old.heap f).entry
+-- nothing refuses it, this is the entry that the function's frame runs, and these are the frame's gifts
+pub record IsAccepted (e : Environment) (receiver : Option HandleId) (f : HandleId) (args : Args) (target : Target) (gifts : List ℕ) : Type 0 where
+  pub accepted : refusal e (call.CallFunction receiver f args) ≡ None
+  pub addon : target.addon ≡ (callee_of e.heap f).addon
+  pub entry : target.entry ≡ (callee_of e.heap f).entry
   pub runs : target.torn_runs ≡ false
-  pub gifts_are : gifts ≡ call_gifts old.heap receiver f args
+  pub gifts_are : gifts ≡ call_gifts e.heap receiver f args
+
+-- one that is accepted enters the frame of the function
+pub record EntersCall (old : Environment) (receiver : Option HandleId) (f : HandleId) (args : Args) (x : Entry) (target : Target) (gifts : List ℕ) (new : Environment) : Type 0 where
+  pub called : IsAccepted old receiver f args target gifts
   pub begun : x ≡ (entered receiver f args old).entry
   pub after : new ≡ (entered receiver f args old).after
 

@@ -1,5 +1,5 @@
 -- What a step of a frame comes to.
-use Rattle.std.specs.Prelude.{◌≡◌, ℕ, false, IsTrue, List, Option, None}
+use Rattle.std.specs.Prelude.{◌≡◌, ℕ, false, IsTrue, List, Option}
 use Rattle.napi_types.specs.declared.call.Args.{Args}
 use Rattle.napi_types.specs.declared.call.Call.{Call}
 use Rattle.napi_types.specs.declared.call.Call.TheVariants as call
@@ -13,12 +13,11 @@ use Rattle.napi_types.specs.Room.{Room, is_full, may_want_memory}
 use Rattle.napi_types.specs.Changes.{Change, called, call_entry, noted, number_of, is_fresh}
 use Rattle.napi_types.specs.Entering.{is_entering, entered}
 use Rattle.napi_types.specs.Environment.{Environment}
-use Rattle.napi_types.specs.FunctionCalls.{callee_of, call_gifts}
-use Rattle.napi_types.specs.Refusals.{refusal}
 use Rattle.napi_types.specs.Replies.{plain}
 use Rattle.env_core.specs.declared.env.Stepped.{Stepped}
 use Rattle.env_core.specs.declared.env.Stepped.TheVariants as stepped
 use Rattle.env_core.specs.Core.{Core, wrote, room_in}
+use Rattle.env_core.specs.State.{IsAccepted}
 
 -- a fact of the reply, where the step is one
 abbrev pub IfReply : Stepped → (Reply → Type 0) → Type 0
@@ -60,14 +59,10 @@ pub record Replies (old : Core) (c : Call) (r : Reply) (new : Core) : Type 0 whe
   pub answer : r ≡ (called old.env c (number_of r.out)).entry.reply
   pub after : new ≡ wrote (called old.env c (number_of r.out)) old
 
--- a call of a function fits, nothing refuses it, and the core wrote the begin of the frame that it enters: this entry of this addon, which is given these gifts
+-- a call of a function is accepted and fits, and the core wrote the begin of the frame that it enters: this entry of this addon, which is given these gifts
 pub record EntersBy (old : Core) (receiver : Option HandleId) (f : HandleId) (args : Args) (target : Target) (gifts : List ℕ) (new : Core) : Type 0 where
-  pub accepted : refusal old.env (call.CallFunction receiver f args) ≡ None
+  pub called : IsAccepted old.env receiver f args target gifts
   pub fits : is_full (room_in old) (call.CallFunction receiver f args) ≡ false
-  pub addon : target.addon ≡ (callee_of old.env.heap f).addon
-  pub entry : target.entry ≡ (callee_of old.env.heap f).entry
-  pub runs : target.torn_runs ≡ false
-  pub gifts_are : gifts ≡ call_gifts old.env.heap receiver f args
   pub after : new ≡ wrote (entered receiver f args old.env) old
 
 -- no other call enters a frame

@@ -4,9 +4,11 @@ ghost use Rattle.napi_types.specs.Room.{is_full, most_entries};
 ghost use Rattle.napi_types.specs.declared.call.Call.TheVariants as call_of;
 ghost use Rattle.napi_types.specs.Built.{is_built, is_calling};
 ghost use Rattle.napi_types.specs.Calls.{at_depth_limit};
-ghost use Rattle.napi_types.specs.Changes.{asks_made, most_asks, called, init_begun};
+ghost use Rattle.napi_types.specs.Changes.{called, init_begun};
+ghost use Rattle.napi_types.specs.Frames.{asks_made, most_asks};
 ghost use Rattle.napi_types.specs.Ends.{frame_ended};
 ghost use Rattle.napi_types.specs.Lists.{head};
+ghost use Rattle.napi_types.specs.Numbers.{napi_version};
 ghost use Rattle.napi_types.specs.Refusals.{early_refusal, depth_refusal};
 ghost use Rattle.napi_types.specs.Phases.{next_phase};
 ghost use Rattle.env_core.specs.Standing.{frame_seen};
@@ -61,7 +63,9 @@ impl Model for EnvCore {
 impl EnvCore {
     /// Opens an environment and writes the entry `opened`.
     ///
-    /// `addons` and `texts` say how many the script has. The memory of the journal's first places is taken here.
+    /// `version` is `NAPI_VERSION`. `addons` and `texts` say how many the script has. `limits.journal` is from 2 + 2 · `addons`,
+    /// the places of the events that every run has, to 4,194,304; `limits.history` is not read. The memory of the journal's
+    /// first places is taken here.
     pub fn new(
         alloc: Global,
         version: u32,
@@ -69,7 +73,7 @@ impl EnvCore {
         texts: u32,
         limits: Limits,
     ) -> Result<EnvCore, NoMemory>
-        requires version { version ≡ 9 }
+        requires version { version ≡ napi_version }
         requires room { 2 + 2 * addons ≤ limits.journal }
         requires most { limits.journal ≤ most_entries }
         ensures { IfOk result (λ core. core ≡ opened_core addons texts limits.journal) }
@@ -80,7 +84,8 @@ impl EnvCore {
         Ok(EnvCore { state, journal })
     }
 
-    /// Makes a call of the innermost frame. `step` is the number of the ask in its frame, from 0.
+    /// Makes a call, one that is built, of the innermost frame, which stands. `step` is the number of the ask in its frame, from 0
+    /// to 65,535.
     ///
     /// An accepted call of a function enters the function's frame, whose `end` will have the call's reply. Every other call
     /// answers at once.

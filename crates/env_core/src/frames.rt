@@ -1,7 +1,6 @@
 //! The frames that stand.
 ghost use Rattle.std.specs.Prelude.{◌≡◌, ◌<◌, ◌≤◌, [], ◌∷◌, length, IfOk, option_map};
-ghost use Rattle.napi_types.specs.Changes.{asks_made, most_asks};
-ghost use Rattle.napi_types.specs.Frames.{most_frames, ask_counted};
+ghost use Rattle.napi_types.specs.Frames.{most_frames, ask_counted, asks_made, most_asks};
 ghost use Rattle.napi_types.specs.Lists.{head, tail};
 ghost use Rattle.env_core.specs.Standing.{frame_seen};
 
@@ -45,10 +44,8 @@ impl Frames {
     pub fn new(alloc: Global) -> Result<Frames, NoMemory>
         ensures { IfOk result (λ frames. frames ≡ []) }
     {
-        match Vec::with_capacity(alloc, MOST_FRAMES as usize) {
-            Ok(frames) => Ok(Frames { frames }),
-            Err(_) => Err(NoMemory),
-        }
+        let frames = Vec::with_capacity(alloc, MOST_FRAMES as usize)?;
+        Ok(Frames { frames })
     }
 
     /// A frame begins inside the innermost one. It takes no memory.

@@ -43,15 +43,13 @@ impl Journal {
         ensures { IfOk result (λ journal. journal ≡ record { entries = []; promised = promised; limit = limit; position = 0 }) }
     {
         let first = FIRST_PLACES.min(limit as usize).max(promised as usize);
-        match Vec::with_capacity(alloc, first) {
-            Ok(entries) => Ok(Journal {
-                entries,
-                promised,
-                limit,
-                position: 0,
-            }),
-            Err(_) => Err(NoMemory),
-        }
+        let entries = Vec::with_capacity(alloc, first)?;
+        Ok(Journal {
+            entries,
+            promised,
+            limit,
+            position: 0,
+        })
     }
 
     /// Promises so many places more: `TraceFull` exactly where that passes the limit, `NoMemory` only where it passes the first

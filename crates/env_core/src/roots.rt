@@ -2,7 +2,7 @@
 ghost use Rattle.std.specs.Prelude.{◌≡◌, ◌++◌, option_map, IfOk, OnOk, IfSome};
 ghost use Rattle.napi_types.specs.Graph.{IsLive};
 ghost use Rattle.napi_types.specs.References.{strong_values};
-ghost use Rattle.napi_types.specs.Roots.{pending_value};
+ghost use Rattle.std.specs.Option.{option_to_list};
 ghost use Rattle.value_store.specs.Changes.{numbers_of};
 ghost use Rattle.napi_reference.specs.Places.{map_of};
 ghost use Rattle.env_values.specs.Seen.{HoldsLive};
@@ -49,10 +49,7 @@ fn starting(alloc: Global, store: &Store) -> Result<Vec<ValueId>, NoMemory>
         store.starting(3),
         store.starting(4),
     ];
-    match Vec::from_array(alloc, values) {
-        Ok(roots) => Ok(roots),
-        Err(_) => Err(NoMemory),
-    }
+    Ok(Vec::from_array(alloc, values)?)
 }
 
 /// Adds the values of the handles in open scopes.
@@ -77,13 +74,10 @@ fn push_strong(roots: &mut Vec<ValueId>, references: &Refs) -> Result<(), NoMemo
 
 /// Adds a value, where there is one.
 fn push(roots: &mut Vec<ValueId>, value: Option<ValueId>) -> Result<(), NoMemory>
-    ensures { OnOk result (numbers_of roots.new.items ≡ numbers_of roots.old.items ++ pending_value (option_map (λ v. v.0) value)) }
+    ensures { OnOk result (numbers_of roots.new.items ≡ numbers_of roots.old.items ++ option_to_list (option_map (λ v. v.0) value)) }
 {
     if let Some(value) = value {
-        return match roots.push(value) {
-            Ok(()) => Ok(()),
-            Err(_) => Err(NoMemory),
-        };
+        roots.push(value)?;
     }
     Ok(())
 }

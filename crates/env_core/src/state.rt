@@ -2,13 +2,13 @@
 ghost use Rattle.std.specs.Prelude.{◌≡◌, ◌≢◌, ◌+◌, ◌<◌, ◌^◌, [], length, true, false, option_map, Some, None, IfOk, OnErr, IsTrue};
 ghost use Rattle.napi_types.specs.declared.call.Call.TheVariants as call_of;
 ghost use Rattle.napi_types.specs.Built.{is_built, is_calling, is_value_call};
-ghost use Rattle.napi_types.specs.Changes.{opened, init_begun, asks_made, most_asks, gone, in_phase, noted, call_entry, host_entry as entry_of, host_told as told_of};
+ghost use Rattle.napi_types.specs.Changes.{opened, init_begun, gone, in_phase, noted, call_entry, host_entry as entry_of, host_told as told_of};
 ghost use Rattle.napi_types.specs.Environment.{new_environment};
-ghost use Rattle.napi_types.specs.Frames.{caller_of};
+ghost use Rattle.napi_types.specs.Frames.{caller_of, asks_made, most_asks};
 ghost use Rattle.napi_types.specs.Lists.{head};
+ghost use Rattle.napi_types.specs.Numbers.{napi_version};
 ghost use Rattle.env_core.specs.Standing.{frame_seen};
 ghost use Rattle.napi_types.specs.Refusals.{is_known, is_tearing, moment_refusal};
-ghost use Rattle.napi_types.specs.Replies.{plain as plain_reply};
 ghost use Rattle.napi_types.specs.Room.{is_growing};
 ghost use Rattle.napi_types.specs.Values.{most_names};
 ghost use Rattle.env_core.specs.Core.{next_init};
@@ -27,15 +27,12 @@ use exception_state::Exceptions;
 use handle_scope::{ScopeKind, Scopes};
 use napi_reference::Refs;
 use napi_types::{
-    Actor, Call, Cause, Entry, HandleId, HostStep, NoMemory, Out, Phase, Reply, ScopeId, Status,
-    TextNo, What,
+    Actor, Call, Cause, Entry, HandleId, HostStep, NAPI_VERSION, NoMemory, Out, Phase, Reply,
+    ScopeId, Status, TextNo, What,
 };
 use std::alloc::Global;
 use std::marker::Model;
 use value_store::Store;
-
-/// The version of Node-API.
-const VERSION: u64 = 9;
 
 /// The environment's state.
 #[derive(Drop)]
@@ -105,7 +102,7 @@ impl State {
 
     /// The opening, which tells the version.
     pub fn open(&mut self, version: u32) -> Entry
-        requires { version ≡ 9 }
+        requires { version ≡ napi_version }
         ensures entry { result ≡ (opened self.old).entry }
         ensures after { self.new ≡ (opened self.old).after }
     {
@@ -210,7 +207,7 @@ impl State {
         ensures growing { OnErr result (IsTrue (is_growing call.now)) }
     {
         match self.untimely(call) {
-            Some(status) => Ok(plain(status, Out::Nothing)),
+            Some(status) => Ok(Reply::plain(status, Out::Nothing)),
             None => self.answer_in_time(call),
         }
     }
@@ -272,7 +269,10 @@ impl State {
             Call::IsExceptionPending => Ok(self.is_pending()),
             Call::GetAndClearLastException => self.take_pending(),
             Call::GetLastErrorInfo => Ok(self.last()),
-            Call::GetVersion => Ok(plain(Status::Ok, Out::Unsigned(VERSION))),
+            Call::GetVersion => Ok(Reply::plain(
+                Status::Ok,
+                Out::Unsigned(u64::from(NAPI_VERSION)),
+            )),
             _ => unreachable!(),
         }
     }
@@ -317,7 +317,7 @@ impl State {
         ensures err { OnErr result (self.new ≡ self.old) }
     {
         let scope = self.scopes.open_scope(kind)?;
-        Ok(plain(Status::Ok, Out::Scope(scope)))
+        Ok(Reply::plain(Status::Ok, Out::Scope(scope)))
     }
 
     /// The innermost scope closes, if it is the one that the call names, and of the kind that the call closes.
@@ -325,9 +325,9 @@ impl State {
         ensures { AnswersInTime self.old (closing_call kind scope) result self.new }
     {
         if let Err(status) = self.scopes.close_scope(scope, kind) {
-            return plain(status, Out::Nothing);
+            return Reply::plain(status, Out::Nothing);
         }
-        plain(Status::Ok, Out::Nothing)
+        Reply::plain(Status::Ok, Out::Nothing)
     }
 
     /// The value of a handle escapes from the scope that the call names, into the one that encloses it.
@@ -336,15 +336,15 @@ impl State {
         ensures { AnswersInTime self.old (call_of.EscapeHandle scope handle) result self.new }
     {
         let Some(value) = self.scopes.look(handle) else {
-            return plain(Status::InvalidArg, Out::Nothing);
+            return Reply::plain(Status::InvalidArg, Out::Nothing);
         };
         match self.scopes.escape(scope, value) {
-            Ok(escaped) => plain(Status::Ok, Out::Handle(escaped)),
-            Err(status) => plain(status, Out::Nothing),
+            Ok(escaped) => Reply::plain(Status::Ok, Out::Handle(escaped)),
+            Err(status) => Reply::plain(status, Out::Nothing),
         }
     }
 
-    /// Notes a call's status, which the asking for the last one leaves, and counts its ask.
+    /// Notes a call's status as the last one, unless the call asks for the last one, and counts its ask.
     fn note(&mut self, call: &Call, status: Status)
         requires { asks_made self.old.frames < most_asks }
         ensures { self.new ≡ noted call.now status self.old }
@@ -395,19 +395,7 @@ fn host_told(event: HostStep, status: Status, out: Out) -> Entry
         depth: 0,
         step: 0,
         what: What::Host(event),
-        reply: plain(status, out),
+        reply: Reply::plain(status, out),
         given: None,
-    }
-}
-
-/// A reply that makes and withdraws no duty.
-fn plain(status: Status, out: Out) -> Reply
-    ensures { result ≡ plain_reply status out }
-{
-    Reply {
-        status,
-        out,
-        dropped: None,
-        made: None,
     }
 }

@@ -26,11 +26,11 @@ use Rattle.napi_types.specs.declared.status.Status.TheVariants as status
 use Rattle.napi_types.specs.declared.ids.HandleId.{HandleId}
 use Rattle.napi_types.specs.Built.{is_built, taken}
 use Rattle.napi_types.specs.Calls.{accepted, accepted_of, accepted_by, answer_given, answer_at, answer}
-use Rattle.napi_types.specs.Changes.{Change, asks_made, number_of, is_fresh, most_asks, may_ask, called, init_begun, gone}
+use Rattle.napi_types.specs.Changes.{Change, number_of, is_fresh, may_ask, called, init_begun, gone}
 use Rattle.napi_types.specs.Ends.{end_out, call_left, ended_by, frame_ended}
 use Rattle.napi_types.specs.Entering.{is_entering, entered, asked_for}
 use Rattle.napi_types.specs.Environment.{Environment}
-use Rattle.napi_types.specs.Frames.{Frame, cause_of, at_last_ask}
+use Rattle.napi_types.specs.Frames.{Frame, cause_of, at_last_ask, asks_made, most_asks}
 use Rattle.napi_types.specs.FunctionCalls.{callee_of, call_gifts}
 use Rattle.napi_types.specs.Heap.{Heap}
 use Rattle.napi_types.specs.Lists.{head, tail}
@@ -520,10 +520,10 @@ entering-turn ps core new all now f a receiver g args target gifts sound enough 
     let change : Change = entered receiver g args core.env in
     let stands : core.env.frames ≡ f ∷ tail core.env.frames = head-stands core.env.frames f top in
     let i : ℕ = (callee_of core.env.heap g).addon in
-    let callee : i < core.env.addons = callee-owned core.env.addons core.env receiver g args enters.accepted sound.owned in
-    let given_there : now ≡ gifts_given all i (call_gifts core.env.heap receiver g args) = given ∙ ap (λ n. gifts_given all n gifts) enters.addon ∙ ap (λ l. gifts_given all i l) enters.gifts_are in
+    let callee : i < core.env.addons = callee-owned core.env.addons core.env receiver g args enters.called.accepted sound.owned in
+    let given_there : now ≡ gifts_given all i (call_gifts core.env.heap receiver g args) = given ∙ ap (λ n. gifts_given all n gifts) enters.called.addon ∙ ap (λ l. gifts_given all i l) enters.called.gifts_are in
     let e : Environment = (asked_for core.env c 0).after in
-    let same : e ≡ change.after = ap (λ (x : Change). x.after) (asked_for-entered core.env receiver g args 0 enters.accepted) in
+    let same : e ≡ change.after = ap (λ (x : Change). x.after) (asked_for-entered core.env receiver g args 0 enters.called.accepted) in
     let spare : asks_made core.env.frames < most_asks = subst (λ (n : ℕ). n < most_asks) (asks-told core.env.frames f top) below in
     let kept = entered-keeps receiver g args core.env in
     let P : Core → Type 0 = λ x. IsSound x.env in
@@ -535,7 +535,7 @@ entering-turn ps core new all now f a receiver g args target gifts sound enough 
           (subst (λ (x : Environment). All (λ y. y.asks ≤ most_asks) x.frames) same (within-asked core.env c 0 spare sound.asks)));
       kept = wrote-keeps change core new enters.after kept.addons (ap stage_of kept.phase);
       recorded = subst Q (sym enters.after) (λ s history of rec.
-          entered-grown s core history all ps f (tail core.env.frames) a receiver g args now of sound stands below asked made enters.accepted enters.fits enough given_there rec);
+          entered-grown s core history all ps f (tail core.env.frames) a receiver g args now of sound stands below asked made enters.called.accepted enters.fits enough given_there rec);
     }
 
 pub entered-turn : (ps : List Plan) (core new : Core) (all now : Registers) (f : Frame) (a : Ask) (c : Call) (target : Target) (gifts : List ℕ)
@@ -548,8 +548,8 @@ entered-turn ps core new all now f a c target gifts sound enough top below asked
 -- the addon whose frame a call enters is there
 pub target-there : (core : Core) (c : Call) (target : Target) (gifts : List ℕ) (new : Core) → IsSound core.env → Enters core c target gifts new → target.addon < core.env.addons
 target-there core (call.CallFunction receiver g args) target gifts new sound enters =
-    let callee : (callee_of core.env.heap g).addon < core.env.addons = callee-owned core.env.addons core.env receiver g args enters.accepted sound.owned in
-    omega (arith, callee, enters.addon)
+    let callee : (callee_of core.env.heap g).addon < core.env.addons = callee-owned core.env.addons core.env receiver g args enters.called.accepted sound.owned in
+    omega (arith, callee, enters.called.addon)
 target-there core c target gifts new sound enters = absurd enters
 
 -- THE CALLER IS TOLD

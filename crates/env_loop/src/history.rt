@@ -30,10 +30,8 @@ impl History {
     pub(crate) fn new(alloc: Global) -> Result<History, NoMemory>
         ensures { IfOk result (λ history. history ≡ []) }
     {
-        match Vec::with_capacity(alloc, HUB_EVENTS) {
-            Ok(entries) => Ok(History { entries }),
-            Err(_) => Err(NoMemory),
-        }
+        let entries = Vec::with_capacity(alloc, HUB_EVENTS)?;
+        Ok(History { entries })
     }
 
     /// Adds an entry.

@@ -1,7 +1,6 @@
 //! One turn of the environment: an ask of the innermost frame, or the next event where no frame stands.
 ghost use Rattle.std.specs.Prelude.{◌≡◌, ◌≢◌, ◌<◌, ◌≤◌, [], length, map, List, Some};
 ghost use Rattle.napi_types.specs.Built.{taken};
-ghost use Rattle.napi_types.specs.Changes.{asks_made, most_asks};
 ghost use Rattle.napi_types.specs.Lists.{head, tail};
 ghost use Rattle.napi_types.specs.Plan.{Plan, Registers};
 ghost use Rattle.napi_types.specs.Teardown.{choice};
@@ -9,7 +8,7 @@ ghost use Rattle.env_core.specs.Standing.{frame_seen};
 ghost use Rattle.env_loop.specs.Recording.{why_stopped};
 ghost use Rattle.env_loop.specs.Runs.{IsSound};
 ghost use Rattle.napi_types.specs.Ends.{frame_ended};
-ghost use Rattle.napi_types.specs.Frames.{at_last_ask};
+ghost use Rattle.napi_types.specs.Frames.{at_last_ask, asks_made, most_asks};
 ghost use Rattle.env_core.specs.Core.{wrote};
 ghost use Rattle.env_loop.specs.Turns.{turn_at, IsTold, IsTurn};
 

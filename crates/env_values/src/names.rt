@@ -24,9 +24,7 @@ fn names(alloc: Global, store: &Store, id: ValueId) -> Result<Vec<Body>, NoMemor
 {
     let mut names = Vec::new(alloc);
     for at in 0..store.name_count(id) {
-        let Ok(()) = names.push(Body::Str(store.name_at(id, at))) else {
-            return Err(NoMemory);
-        };
+        names.push(Body::Str(store.name_at(id, at)))?;
     }
     Ok(names)
 }

@@ -3,7 +3,6 @@ ghost use Rattle.std.specs.Prelude.{◌≡◌, ◌≢◌, ◌+◌, ◌<◌, ◌^
 ghost use Rattle.napi_types.specs.Built.{is_value_call};
 ghost use Rattle.napi_types.specs.Calls.{answer_in};
 ghost use Rattle.napi_types.specs.Room.{is_growing};
-ghost use Rattle.napi_types.specs.Replies.{plain as plain_reply};
 ghost use Rattle.napi_types.specs.Values.{true_value, false_value};
 ghost use Rattle.env_values.specs.Numbering.{HasNumbersLeft};
 ghost use Rattle.env_values.specs.Seen.{heap_of, HoldsLive, KeepsValues};
@@ -113,23 +112,14 @@ fn outcome(
     }
 }
 
-/// A reply that neither withdraws nor makes a duty.
-fn plain(status: Status, out: Out) -> Reply
-    ensures { result ≡ plain_reply status out }
-{
-    Reply {
-        status,
-        out,
-        dropped: None,
-        made: None,
-    }
-}
-
 /// Makes a call on values, properties or elements in the innermost frame: the machine's step, without guard and phase.
 ///
-/// `texts` says how many texts there are, and `addon` which addon calls: a function that it creates belongs to it. Which frames
-/// a call entered stays as it was. After `NoMemory` the scopes and the value graph are as they were too: all memory is taken
-/// before the first change.
+/// `texts` says how many texts there are, and `addon` which addon calls: a function that it creates belongs to it. A frame stands,
+/// what the scopes hold is live, fewer than 2^62 handles were given, and numbers for new values are left: the values made so far
+/// and the names of any one object, of which 65,536 count at most, are together below 2^48 - 8.
+///
+/// Which frames a call entered stays as it was. After `NoMemory` the scopes and the value graph are as they were too: all memory
+/// is taken before the first change.
 ///
 /// Near constant time and logarithmic in the open handles, beside `delete_property` and `get_property_names`, whose time grows
 /// with the number of the object's properties, and `set_element`, whose time grows with the holes that it fills.
@@ -157,8 +147,8 @@ pub fn value_step(
     ensures growing { OnErr result (IsTrue (is_growing call.now)) }
 {
     match outcome(alloc, store, scopes, texts, addon, call) {
-        Ok(out) => Ok(plain(Status::Ok, out)),
-        Err(Stop::Refused(status)) => Ok(plain(status, Out::Nothing)),
+        Ok(out) => Ok(Reply::plain(Status::Ok, out)),
+        Err(Stop::Refused(status)) => Ok(Reply::plain(status, Out::Nothing)),
         Err(Stop::NoMemory) => Err(NoMemory),
     }
 }

@@ -1,4 +1,4 @@
-//! What no call of a frame can show: an object with more names than a frame makes asks.
+//! The calls as a caller makes them: the most names that are listed and one more, and the addon that a function belongs to.
 ghost use Rattle.std.specs.Prelude.{◌≡◌, ◌≢◌, ◌+◌, ◌≤◌, ◌<◌, ◌^◌, true, [], length, IfOk, Ok};
 ghost use Rattle.napi_types.specs.Built.{is_value_call};
 ghost use Rattle.napi_types.specs.Graph.{IsLive};

@@ -55,9 +55,7 @@ impl Exceptions {
         ensures was { option_map (λ value. value.0) result ≡ self.old.pending }
         ensures cleared { self.new ≡ record self.old { pending = None } }
     {
-        let pending = self.pending;
-        self.pending = None;
-        pending
+        self.pending.take()
     }
 
     /// The status of the last call.

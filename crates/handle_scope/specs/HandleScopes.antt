@@ -20,10 +20,6 @@ pub record HandleScopes : Type 0 where
 abbrev pub no_scopes : HandleScopes
 no_scopes = record { frames = []; by_call = []; handles = 0; scope_numbers = []; spare = 0 }
 
--- how many frames may stand
-abbrev pub most_frames : ℕ
-most_frames = 64
-
 -- a frame begins inside the innermost one
 abbrev pub frame_entered : HandleScopes → HandleScopes
 frame_entered s = record s { frames = no_handles ∷ s.frames; by_call = false ∷ s.by_call }

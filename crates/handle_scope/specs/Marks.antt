@@ -2,8 +2,9 @@
 use Rattle.std.specs.Prelude.{◌≡◌, ◌≢◌, ℕ, ◌+◌, ◌<◌, ◌≤◌, ◌==◌, ◌&&◌, Bool, true, cond, List, [], ◌∷◌, ◌++◌, length, map, reverse, take, drop, slice_index_or, slice_get, sum_by, Option, Some, None, option_map, option_and_then}
 use Rattle.std.specs.Option.{is_some, option_to_list}
 use Rattle.std.specs.List.{list_any}
+use Rattle.napi_types.specs.Frames.{most_frames}
 use Rattle.napi_types.specs.Scopes.{Held, FrameScopes, inside, value_in}
-use Rattle.handle_scope.specs.HandleScopes.{HandleScopes, most_frames, filled}
+use Rattle.handle_scope.specs.HandleScopes.{HandleScopes, filled}
 use Rattle.handle_scope.specs.declared.scopes.HeldHandle.{HeldHandle}
 use Rattle.handle_scope.specs.declared.scopes.ScopeMark.{ScopeMark}
 use Rattle.handle_scope.specs.declared.scopes.FrameMark.{FrameMark}

@@ -3,9 +3,10 @@ ghost use Rattle.std.specs.Prelude.{ℕ, ◌≡◌, ◌≢◌, ◌+◌, ◌<◌,
 ghost use Rattle.std.specs.Option.{is_some, option_to_list};
 ghost use Rattle.std.specs.Result.{result_err};
 ghost use Rattle.std.specs.List.{list_any};
+ghost use Rattle.napi_types.specs.Frames.{most_frames};
 ghost use Rattle.napi_types.specs.Lists.{head};
 ghost use Rattle.napi_types.specs.Scopes.{gives, value_in, opened_scopes, is_kind, closing, escaping};
-ghost use Rattle.handle_scope.specs.HandleScopes.{no_scopes, most_frames, frame_entered, call_entered, frame_left, call_left, scope_opened, scope_closed, place_reserved, handle_issued, handle_escaped, handle_places, is_fresh};
+ghost use Rattle.handle_scope.specs.HandleScopes.{no_scopes, frame_entered, call_entered, frame_left, call_left, scope_opened, scope_closed, place_reserved, handle_issued, handle_escaped, handle_places, is_fresh};
 ghost use Rattle.handle_scope.specs.Marks.{Rises, AreAtMost, AreStartsWithin, ArePlaced, IsTracked, IsEscapable, held_of, scopes_above, places_marked, all_waiting, waiting_value, place_left, with_spare};
 
 use napi_types::{HandleId, NoMemory, ScopeId, ScopeKind, Status, ValueId};
@@ -96,19 +97,17 @@ impl Scopes {
     pub fn new(alloc: Global) -> Result<Scopes, NoMemory>
         ensures { IfOk result (λ scopes. scopes ≡ no_scopes) }
     {
-        match Vec::with_capacity(alloc, MOST_FRAMES) {
-            Ok(frames) => Ok(Scopes {
-                held: Vec::new(alloc),
-                scopes: Vec::new(alloc),
-                frames,
-                escapes: Vec::new(alloc),
-                handles: 0,
-                numbers: 0,
-                spare: 0,
-                calls: 0,
-            }),
-            Err(_) => Err(NoMemory),
-        }
+        let frames = Vec::with_capacity(alloc, MOST_FRAMES)?;
+        Ok(Scopes {
+            held: Vec::new(alloc),
+            scopes: Vec::new(alloc),
+            frames,
+            escapes: Vec::new(alloc),
+            handles: 0,
+            numbers: 0,
+            spare: 0,
+            calls: 0,
+        })
     }
 
     /// A frame begins, inside those that stand, with a scope of its own. It takes no memory, and constant time.
@@ -142,18 +141,14 @@ impl Scopes {
         ensures err { OnErr result (self.new ≡ self.old) }
     {
         let more = self.scopes.len() + self.calls + self.spare + 1;
-        match self.held.reserve(more) {
-            Ok(()) => {
-                self.frames.push_reserved(FrameMark {
-                    start: self.held.len(),
-                    scopes: self.scopes.len(),
-                    by_call: true,
-                });
-                self.calls += 1;
-                Ok(())
-            }
-            Err(_) => Err(NoMemory),
-        }
+        self.held.reserve(more)?;
+        self.frames.push_reserved(FrameMark {
+            start: self.held.len(),
+            scopes: self.scopes.len(),
+            by_call: true,
+        });
+        self.calls += 1;
+        Ok(())
     }
 
     /// The innermost frame, which a call entered, ends as by `leave_frame`. Where the call gives a value, the caller's
@@ -273,13 +268,9 @@ impl Scopes {
             return Ok(());
         }
         let more = self.scopes.len() + self.calls + 1;
-        match self.held.reserve(more) {
-            Ok(()) => {
-                self.spare = 1;
-                Ok(())
-            }
-            Err(_) => Err(NoMemory),
-        }
+        self.held.reserve(more)?;
+        self.spare = 1;
+        Ok(())
     }
 
     /// As `issue`, at a place that was reserved before. It takes no memory, and constant time.
@@ -508,15 +499,9 @@ fn make_room(
     ensures scopes_fit { OnOk result (length scopes.new.items < vec_capacity scopes.new) }
     ensures escapes_fit { OnOk result (length escapes.new.items + (length scopes.new.items + 1) ≤ vec_capacity escapes.new) }
 {
-    if held.reserve(more).is_err() {
-        return Err(NoMemory);
-    }
-    if escapes.reserve(scopes.len() + 1).is_err() {
-        return Err(NoMemory);
-    }
-    if scopes.reserve(1).is_err() {
-        return Err(NoMemory);
-    }
+    held.reserve(more)?;
+    escapes.reserve(scopes.len() + 1)?;
+    scopes.reserve(1)?;
     Ok(())
 }
 

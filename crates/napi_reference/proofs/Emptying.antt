@@ -9,7 +9,7 @@ use Rattle.napi_types.specs.References.{Reference, strong_value, strong_values, 
 use Rattle.napi_reference.specs.declared.rows.Row.{Row}
 use Rattle.napi_reference.specs.Places.{ReferencePlaces, map_of}
 use Rattle.napi_reference.specs.Rows.{reference_of, places_of, id_left, weak_emptied}
-use Rattle.napi_reference.proofs.Numbers.{listed_from, length-references_from}
+use Rattle.napi_reference.proofs.Numbers.{listed_from}
 use Rattle.napi_reference.proofs.Changes.{same-map}
 
 -- one element more of a list is changed in its place
@@ -67,8 +67,3 @@ pub rows-emptied : (collected : ℕ → Bool) (rows : List (Option Row)) (p : Re
 rows-emptied collected rows p view kept =
     let here : All (λ v. collected v ≡ false) (strong_values (map_of (places_of rows))) = subst (λ (q : ReferencePlaces). All (λ v. collected v ≡ false) (strong_values (map_of q))) (sym view) kept in
     rw (← view) (same-map _ _ _ _ (sym (listed-emptied collected 1 rows here)) (ap down_from (length-map rows (option_map (weak_emptied collected)))))
-
-pub places-emptied : (collected : ℕ → Bool) (rows : List (Option Row)) (p : ReferencePlaces) → places_of rows ≡ p
-    → length (places_of (map (option_map (weak_emptied collected)) rows)).places ≡ length p.places
-places-emptied collected rows p view =
-    rw (← view) (length-references_from 1 (map (option_map (weak_emptied collected)) rows) ∙ length-map rows (option_map (weak_emptied collected)) ∙ sym (length-references_from 1 rows))

@@ -75,16 +75,16 @@ none-read rows xs p view same n is =
     let here : reference_at (map_of p) n ≡ None = ap (λ q. reference_at (map_of q) n) (sym view) ∙ at in
     has-found (λ r. r.number) n (map_of p).rows ∙ ap is_some here
 
-not_gone : (o : Option ℕ) → o ≡ None → IsSome o → ⊥
-not_gone None gone some = let no : ⊥ = cc in no
-not_gone (Some v) gone some = let no : ⊥ = cc in no
-
-not_there : (o : Option ℕ) (v : ℕ) → o ≡ Some v → o ≡ None → ⊥
-not_there o v there none = let no : ⊥ = cc in no
+some-numbered : (o : Option ValueId) → is_some (option_map (λ v. v.0) o) ≡ is_some o
+some-numbered None = refl
+some-numbered (Some v) = refl
 
 -- the map says whether the row has a value
-pub value-gone : (m : ReferenceMap) (n : ℕ) (row : Row) → IsRow m n row → row.value ≡ None → IsSome (value_of m n) → ⊥
-value-gone m n row is gone = not_gone (value_of m n) (is.value ∙ ap (option_map (λ v. v.0)) gone)
+pub valued : (m : ReferenceMap) (n : ℕ) (row : Row) → IsRow m n row → is_some (value_of m n) ≡ is_some row.value
+valued m n row is = ap is_some is.value ∙ some-numbered row.value
 
-pub value-there : (m : ReferenceMap) (n : ℕ) (row : Row) (v : ValueId) → IsRow m n row → row.value ≡ Some v → value_of m n ≡ None → ⊥
-value-there m n row v is here = not_there (value_of m n) v.0 (is.value ∙ ap (option_map (λ v. v.0)) here)
+pub value-gone : (m : ReferenceMap) (n : ℕ) (row : Row) → IsRow m n row → is_some row.value ≡ false → IsSome (value_of m n) → ⊥
+value-gone m n row is gone some = let has = valued m n row is in cc
+
+pub value-there : (m : ReferenceMap) (n : ℕ) (row : Row) → IsRow m n row → is_some row.value ≡ true → value_of m n ≡ None → ⊥
+value-there m n row is here none = let has = valued m n row is in let no = ap is_some none in cc

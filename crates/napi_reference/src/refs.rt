@@ -42,7 +42,7 @@ impl Refs {
     }
 
     /// Makes a reference to a value: the manual's `napi_create_reference`. With the count 0 it is weak. Its number was never
-    /// issued before, and is not 0.
+    /// issued before, and is not 0. Fewer than 2^48 - 2 references were made before.
     ///
     /// Near constant time: now and then the list of references grows.
     pub fn make(&mut self, value: ValueId, count: u32) -> Result<RefId, NoMemory>
@@ -68,13 +68,9 @@ impl Refs {
         ensures deleted { OnOk result (map_of self.new ≡ without_reference id.0 (map_of self.old)) }
         ensures err { OnErr result (self.new ≡ self.old) }
     {
-        match rows::row_at(&self.rows, id.0) {
-            Some(_) => {
-                rows::put(&mut self.rows, id.0, None);
-                Ok(())
-            }
-            None => Err(Status::InvalidArg),
-        }
+        rows::row_at(&self.rows, id.0).ok_or(Status::InvalidArg)?;
+        rows::put(&mut self.rows, id.0, None);
+        Ok(())
     }
 
     /// Counts a reference up, and answers with its new count: the manual's `napi_reference_ref`. Where its value was
@@ -90,19 +86,13 @@ impl Refs {
         ensures gone_stays { value_of (map_of self.old) id.0 ≡ None → self.new ≡ self.old }
         ensures err { OnErr result (self.new ≡ self.old) }
     {
-        match rows::row_at(&self.rows, id.0) {
-            None => Err(Status::InvalidArg),
-            Some(row) => match row.value {
-                None => Ok(0),
-                Some(_) => match row.count.checked_add(1) {
-                    None => Err(Status::GenericFailure),
-                    Some(count) => {
-                        rows::put(&mut self.rows, id.0, Some(Row { count, ..row }));
-                        Ok(count)
-                    }
-                },
-            },
+        let row = rows::row_at(&self.rows, id.0).ok_or(Status::InvalidArg)?;
+        if row.value.is_none() {
+            return Ok(0);
         }
+        let count = row.count.checked_add(1).ok_or(Status::GenericFailure)?;
+        rows::put(&mut self.rows, id.0, Some(Row { count, ..row }));
+        Ok(count)
     }
 
     /// Counts a reference down, and answers with its new count: the manual's `napi_reference_unref`. Refused with 1 where no
@@ -115,16 +105,10 @@ impl Refs {
         ensures counted { IfOk result (λ count. map_of self.new ≡ with_count id.0 count (map_of self.old)) }
         ensures err { OnErr result (self.new ≡ self.old) }
     {
-        match rows::row_at(&self.rows, id.0) {
-            None => Err(Status::InvalidArg),
-            Some(row) => match row.count.checked_sub(1) {
-                None => Err(Status::GenericFailure),
-                Some(count) => {
-                    rows::put(&mut self.rows, id.0, Some(Row { count, ..row }));
-                    Ok(count)
-                }
-            },
-        }
+        let row = rows::row_at(&self.rows, id.0).ok_or(Status::InvalidArg)?;
+        let count = row.count.checked_sub(1).ok_or(Status::GenericFailure)?;
+        rows::put(&mut self.rows, id.0, Some(Row { count, ..row }));
+        Ok(count)
     }
 
     /// The value of a reference, `None` exactly where it was collected: the manual's `napi_get_reference_value`, before its
@@ -135,10 +119,8 @@ impl Refs {
         ensures refusal { result_err result ≡ reference_refusal (map_of self.now) (call.GetReferenceValue id) }
         ensures value { IfOk result (λ value. option_map (λ v. v.0) value ≡ value_of (map_of self.now) id.0) }
     {
-        match rows::row_at(&self.rows, id.0) {
-            Some(row) => Ok(row.value),
-            None => Err(Status::InvalidArg),
-        }
+        let row = rows::row_at(&self.rows, id.0).ok_or(Status::InvalidArg)?;
+        Ok(row.value)
     }
 
     /// Takes their value from the references to these values, which are collected. No strong reference names one of them.
@@ -148,7 +130,6 @@ impl Refs {
     pub fn empty_of(&mut self, freed: &[ValueId])
         requires { All (λ v. has_number v (map (λ f. f.0) freed.now) ≡ false) (strong_values (map_of self.old)) }
         ensures emptied { map_of self.new ≡ emptied (λ v. has_number v (map (λ f. f.0) freed.now)) (map_of self.old) }
-        ensures places { length self.new.places ≡ length self.old.places }
     {
         rows::empty_weak(&mut self.rows, freed);
     }

@@ -19,13 +19,7 @@ pub(crate) struct Row {
 pub(crate) fn row_at(rows: &[Option<Row>], number: u64) -> Option<Row>
     ensures { result ≡ row_of rows.now number }
 {
-    match number.checked_sub(1) {
-        Some(place) => match rows.get(place as usize) {
-            Some(row) => *row,
-            None => None,
-        },
-        None => None,
-    }
+    rows.get(number.checked_sub(1)? as usize).copied().flatten()
 }
 
 /// The value that the row at a place keeps, where its count is above 0.
@@ -43,10 +37,8 @@ pub(crate) fn push(rows: &mut Vec<Option<Row>>, row: Row) -> Result<(), NoMemory
     ensures pushed { OnOk result (rows.new.items ≡ rows.old.items ++ Some row ∷ []) }
     ensures err { OnErr result (rows.new.items ≡ rows.old.items) }
 {
-    match rows.push(Some(row)) {
-        Ok(()) => Ok(()),
-        Err(_) => Err(NoMemory),
-    }
+    rows.push(Some(row))?;
+    Ok(())
 }
 
 /// Puts a row, or none, in the place of the row of a number.

@@ -10,7 +10,7 @@ use Rattle.napi_types.specs.declared.entry.Out.{Out}
 use Rattle.napi_types.specs.declared.entry.Why.{Why}
 use Rattle.napi_types.specs.declared.entry.Why.TheVariants as why
 use Rattle.napi_types.specs.Built.{taken}
-use Rattle.napi_types.specs.Changes.{asks_made, is_fresh, may_ask}
+use Rattle.napi_types.specs.Changes.{is_fresh, may_ask}
 use Rattle.napi_types.specs.Cuts.{cut_by, first_called}
 use Rattle.napi_types.specs.declared.entry.Cause.{Cause}
 use Rattle.napi_types.specs.declared.entry.Cause.TheVariants as cause
@@ -19,7 +19,7 @@ use Rattle.napi_types.specs.Environment.{Environment}
 use Rattle.napi_types.specs.Machine.{Machine}
 use Rattle.napi_types.specs.Room.{room_of, may_want_memory, need, is_full}
 use Rattle.napi_types.specs.Run.{IsNext}
-use Rattle.napi_types.specs.Frames.{Frame, cause_of}
+use Rattle.napi_types.specs.Frames.{Frame, cause_of, asks_made}
 use Rattle.napi_types.specs.Step.{Step, env_step, step_of, frame_step, cut_of}
 use Rattle.napi_types.proofs.FrameChanges.{needs-place}
 use Rattle.napi_types.proofs.Runs.{and-left, and-right}

@@ -15,12 +15,12 @@ use Rattle.napi_types.specs.declared.status.Status.{Status}
 use Rattle.napi_types.specs.declared.status.Status.TheVariants as status
 use Rattle.napi_types.specs.Asks.{AsksWithin}
 use Rattle.napi_types.specs.Calls.{accepted_of, accepted_by, answer_given, answer_at}
-use Rattle.napi_types.specs.Changes.{called, init_begun, asks_made, most_asks}
+use Rattle.napi_types.specs.Changes.{called, init_begun}
 use Rattle.napi_types.specs.Ends.{frame_ended}
 use Rattle.napi_types.specs.Entering.{entered, calling, asked_for}
 use Rattle.napi_types.specs.Environment.{Environment}
 use Rattle.napi_types.specs.declared.entry.Cause.TheVariants as cause
-use Rattle.napi_types.specs.Frames.{Frame, frame_of, caller_of, ask_counted}
+use Rattle.napi_types.specs.Frames.{Frame, frame_of, caller_of, ask_counted, asks_made, most_asks}
 use Rattle.napi_types.specs.FunctionCalls.{callee_of}
 use Rattle.napi_types.specs.Heap.{Heap, handle_body, handle_properties, with_thrown}
 use Rattle.napi_types.specs.Lists.{tail, unless, has_number}

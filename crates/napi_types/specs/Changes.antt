@@ -1,5 +1,5 @@
 -- What each local event of the environment writes, and the environment that it leaves.
-use Rattle.std.specs.Prelude.{ℕ, ◌+◌, Bool, true, not, nat_lt, List, [], ◌∷◌, length, None}
+use Rattle.std.specs.Prelude.{ℕ, ◌+◌, Bool, true, not, nat_lt, ◌∷◌, length, None}
 use Rattle.napi_types.specs.declared.call.Call.{Call}
 use Rattle.napi_types.specs.declared.call.Call.TheVariants as call
 use Rattle.napi_types.specs.declared.status.Status.{Status}
@@ -16,7 +16,8 @@ use Rattle.napi_types.specs.declared.entry.Actor.TheVariants as actor
 use Rattle.napi_types.specs.declared.entry.Phase.{Phase}
 use Rattle.napi_types.specs.declared.entry.Phase.TheVariants as phase
 use Rattle.napi_types.specs.Lists.{has_number}
-use Rattle.napi_types.specs.Frames.{Frame, frame_of, ask_counted}
+use Rattle.napi_types.specs.Numbers.{napi_version}
+use Rattle.napi_types.specs.Frames.{frame_of, ask_counted, asks_made, most_asks}
 use Rattle.napi_types.specs.Heap.{frame_entered}
 use Rattle.napi_types.specs.Environment.{Environment}
 use Rattle.napi_types.specs.Replies.{plain}
@@ -37,7 +38,7 @@ host_entry h o = host_told h status.Ok o
 
 -- `opened` tells the version
 abbrev pub opened : Environment → Change
-opened e = record { entry = host_entry host.Opened (out.Unsigned 9); after = record e { opened = true } }
+opened e = record { entry = host_entry host.Opened (out.Unsigned napi_version); after = record e { opened = true } }
 
 -- the init frame of an addon begins at the addon's entry 0, with a scope of its own
 abbrev pub init_begun : ℕ → Environment → Change
@@ -45,11 +46,6 @@ init_begun n e = record {
   entry = host_entry host.Begin (out.Begin cause.Init n 0 None);
   after = record e { inits = e.inits + 1; heap = frame_entered e.heap; frames = frame_of cause.Init n 0 ∷ e.frames };
 }
-
--- how many asks the innermost frame made
-abbrev pub asks_made : List Frame → ℕ
-asks_made [] = 0
-asks_made (f ∷ fs) = f.asks
 
 -- the last status after a call: the call's own, but that `get_last_error_info` leaves the one that it tells
 abbrev pub last_after : Call → Status → Status → Status
@@ -75,10 +71,6 @@ abbrev pub is_fresh : Environment → Out → Bool
 is_fresh e (out.Scope s) = not (has_number s.0 (0 ∷ e.heap.scope_numbers))
 is_fresh e (out.Ref r) = not (has_number r.0 (0 ∷ e.references.issued))
 is_fresh e _ = true
-
--- how many asks a frame may make
-abbrev pub most_asks : ℕ
-most_asks = 65536
 
 -- whether the innermost frame may make a further ask
 abbrev pub may_ask : Environment → Bool

@@ -19,6 +19,10 @@ frame_of c addon entry = record { cause = c; addon = addon; entry = entry; asks 
 abbrev pub most_frames : ℕ
 most_frames = 64
 
+-- how many asks a frame may make
+abbrev pub most_asks : ℕ
+most_asks = 65536
+
 -- the addon of the innermost frame, which makes the calls
 abbrev pub caller_of : List Frame → ℕ
 caller_of [] = 0
@@ -28,6 +32,11 @@ caller_of (f ∷ fs) = f.addon
 abbrev pub cause_of : List Frame → Cause
 cause_of [] = cause.Init
 cause_of (f ∷ fs) = f.cause
+
+-- how many asks the innermost frame made
+abbrev pub asks_made : List Frame → ℕ
+asks_made [] = 0
+asks_made (f ∷ fs) = f.asks
 
 -- the innermost frame made one ask more
 abbrev pub ask_counted : List Frame → List Frame

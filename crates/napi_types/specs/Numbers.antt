@@ -1,9 +1,13 @@
--- The numbers of statuses and value kinds. The manual gives all but 1000 and 1001, which are this project's own.
+-- The version of Node-API, and the numbers of statuses and value kinds. The manual gives all but 1000 and 1001, which are this project's own.
 use Rattle.std.specs.Prelude.{ℕ}
 use Rattle.napi_types.specs.declared.status.Status.{Status}
 use Rattle.napi_types.specs.declared.status.Status.TheVariants as status
 use Rattle.napi_types.specs.declared.status.Kind.{Kind}
 use Rattle.napi_types.specs.declared.status.Kind.TheVariants as kind
+
+-- the version that is spoken: the manual's `NAPI_VERSION`
+abbrev pub napi_version : ℕ
+napi_version = 9
 
 -- a status's number: the manual's `napi_status`
 abbrev pub status_number : Status → ℕ

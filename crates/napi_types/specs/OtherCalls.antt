@@ -4,9 +4,10 @@ use Rattle.napi_types.specs.declared.call.Call.{Call}
 use Rattle.napi_types.specs.declared.call.Call.TheVariants as call
 use Rattle.napi_types.specs.declared.entry.Out.TheVariants as out
 use Rattle.napi_types.specs.Heap.{Heap}
+use Rattle.napi_types.specs.Numbers.{napi_version}
 use Rattle.napi_types.specs.Replies.{Answer, answered}
 
 -- `get_version` tells the version of Node-API
 abbrev pub on_others : Heap → Call → Option (Answer Heap)
-on_others heap call.GetVersion = Some (answered (out.Unsigned 9) heap)
+on_others heap call.GetVersion = Some (answered (out.Unsigned napi_version) heap)
 on_others heap _ = None

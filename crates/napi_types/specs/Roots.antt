@@ -1,20 +1,15 @@
 -- What a collection starts from, and what it keeps.
-use Rattle.std.specs.Prelude.{ℕ, List, [], ◌++◌, map, Option, Some, None}
+use Rattle.std.specs.Prelude.{ℕ, List, ◌++◌, map}
+use Rattle.std.specs.Option.{option_to_list}
 use Rattle.napi_types.specs.Environment.{Environment}
-use Rattle.napi_types.specs.Lists.{one}
 use Rattle.napi_types.specs.Reach.{numbers, reach_from}
 use Rattle.napi_types.specs.References.{strong_values}
 use Rattle.napi_types.specs.Scopes.{held_by_frames}
 use Rattle.napi_types.specs.Values.{starting_values}
 
--- the value that is pending, where one is
-abbrev pub pending_value : Option ℕ → List ℕ
-pending_value None = []
-pending_value (Some v) = one v
-
 -- the roots: the starting values, those of the handles in open scopes of all frames, those of strong references, and the pending exception
 abbrev pub roots : Environment → List ℕ
-roots e = numbers starting_values ++ map (λ h. h.value) (held_by_frames e.heap.scopes) ++ strong_values e.references ++ pending_value e.pending
+roots e = numbers starting_values ++ map (λ h. h.value) (held_by_frames e.heap.scopes) ++ strong_values e.references ++ option_to_list e.pending
 
 -- what the roots reach
 abbrev pub reach : Environment → List ℕ

@@ -18,6 +18,7 @@ use Rattle.napi_types.specs.declared.script.LimitName.{LimitName}
 use Rattle.napi_types.specs.declared.script.LimitName.TheVariants as limit
 use Rattle.napi_types.specs.declared.script.Wrong.{Wrong}
 use Rattle.napi_types.specs.declared.script.Wrong.TheVariants as wrong
+use Rattle.napi_types.specs.Numbers.{napi_version}
 use Rattle.napi_types.specs.ScriptArguments.{whole}
 use Rattle.napi_types.specs.ScriptOperations.{operation_in, thread_operation, is_built_operation}
 use Rattle.napi_types.specs.ScriptPaths.{path}
@@ -157,9 +158,9 @@ unfoldable pub is_root : Data → Bool
 is_root d = has_members (count_of (codes "version") d + count_of (codes "workers") d + count_of (codes "addons") d
     + count_of (codes "threads") d + count_of (codes "schedule") d) d
 
--- the version, which is 9
+-- the version of Node-API
 unfoldable pub version_in : Option Data → Reading (Unit {0})
-version_in found = when_formed place.Version (unwrap_or (option_map (λ n. n == 9) (option_and_then whole found)) false)
+version_in found = when_formed place.Version (unwrap_or (option_map (λ n. n == napi_version) (option_and_then whole found)) false)
 
 -- the number of workers, at most 8
 unfoldable pub workers_in : Option Data → Reading ℕ
@@ -189,7 +190,7 @@ script_in d = do
   addons ← addons_in (get (codes "addons") d)
   threads ← threads_in (get (codes "threads") d)
   schedule ← schedule_in (length threads) workers (get (codes "schedule") d)
-  Ok (record { version = 9; workers = workers; addons = addons.found; threads = threads; schedule = schedule; texts = addons.texts })
+  Ok (record { version = napi_version; workers = workers; addons = addons.found; threads = threads; schedule = schedule; texts = addons.texts })
 
 -- whether each operation of an addon is built
 abbrev pub is_built_plan : AddonPlan → Bool

@@ -1,5 +1,9 @@
 //! Entries of the trace.
+ghost use Rattle.std.specs.Prelude.{◌≡◌};
+ghost use Rattle.napi_types.specs.Replies.{plain as plain_reply};
+
 use crate::{Call, HandleId, Kind, RefId, ScopeId, Status, TextNo, Ticket, TsfnId, WorkId};
+use std::alloc::{AllocError, AllocFailed};
 
 /// Who made an entry.
 #[derive(Clone, Copy)]
@@ -105,6 +109,20 @@ pub struct Reply {
     pub made: Option<Duty>,
 }
 
+impl Reply {
+    /// A reply that neither withdraws nor makes a duty.
+    pub fn plain(status: Status, out: Out) -> Reply
+        ensures { result ≡ plain_reply status out }
+    {
+        Reply {
+            status,
+            out,
+            dropped: None,
+            made: None,
+        }
+    }
+}
+
 /// Where the items of a thread-safe function are delivered, and whether a torn item's frame makes asks.
 #[derive(Clone, Copy)]
 pub struct Target {
@@ -175,6 +193,18 @@ pub struct Limits {
 /// A part found no memory. It means that and nothing else.
 #[derive(Clone, Copy)]
 pub struct NoMemory;
+
+impl From<AllocError> for NoMemory {
+    fn from(_: AllocError) -> NoMemory {
+        NoMemory
+    }
+}
+
+impl<T: Drop> From<AllocFailed<T>> for NoMemory {
+    fn from(_: AllocFailed<T>) -> NoMemory {
+        NoMemory
+    }
+}
 
 /// A fault of the outside: its count of faults rose.
 #[derive(Clone, Copy)]

@@ -5,10 +5,13 @@ ghost use Rattle.napi_types.specs.ScriptPaths.{path};
 use crate::{Actors, NoMemory, OpLists, Plans, Text, Texts};
 use std::alloc::{AllocError, Global};
 
+/// The version of Node-API that a script asks for and the environment speaks.
+pub const NAPI_VERSION: u32 = 9;
+
 /// A script, as it was read.
 #[derive(Drop)]
 pub struct Script {
-    /// The Node-API version, 9.
+    /// The Node-API version, `NAPI_VERSION`.
     pub version: u32,
     /// How many workers the run has.
     pub workers: u32,
@@ -76,10 +79,8 @@ impl Place {
     pub fn path(self, alloc: Global) -> Result<Text, NoMemory>
         ensures { IfOk result (λ text. text ≡ path self) }
     {
-        match self.written(alloc) {
-            Ok(text) => Text::of(alloc, text.as_str()),
-            Err(_) => Err(NoMemory),
-        }
+        let text = self.written(alloc)?;
+        Text::of(alloc, text.as_str())
     }
 
     fn written(self, alloc: Global) -> Result<String, AllocError>

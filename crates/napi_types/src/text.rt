@@ -25,10 +25,8 @@ impl Text {
     pub fn of(alloc: Global, from: &str) -> Result<Text, NoMemory>
         ensures { IfOk result (λ text. text ≡ from.now) }
     {
-        match Vec::from_slice(alloc, from.as_bytes()) {
-            Ok(letters) => Ok(Text { letters }),
-            Err(_) => Err(NoMemory),
-        }
+        let letters = Vec::from_slice(alloc, from.as_bytes())?;
+        Ok(Text { letters })
     }
 
     /// The bytes of the text.

@@ -104,24 +104,24 @@ pub record GaveTooMuch (before after : Option (List ℕ)) : Type 0 where
 -- THE REFUSALS
 -- why a line stands in place of a trace
 abbrev pub Causes : Line → List (List ℕ) → Option (List ℕ) → Option (List ℕ) → ℕ → ℕ → ℕ → Type 0
-Causes line.Usage words before after faults risen handed = is_run_words words ≡ false
-Causes line.NotJson words before after faults risen handed = (is_run_words words ≡ true) × GaveNoJson before after
-Causes (line.Shape path) words before after faults risen handed = (is_run_words words ≡ true) × GaveWrongShape before after path
-Causes (line.Limit which) words before after faults risen handed = (is_run_words words ≡ true) × GaveWrong before after (wrong.Limit which)
-Causes line.Stage words before after faults risen handed = (is_run_words words ≡ true) × GaveWrong before after wrong.Stage
-Causes line.TooManyAddons words before after faults risen handed = (is_run_words words ≡ true) × GaveTooManyAddons before after handed
-Causes line.NoMemory words before after faults risen handed = is_run_words words ≡ true
-Causes line.ReadFault words before after faults risen handed = (is_run_words words ≡ true) × HasRisen faults risen
-Causes line.TooLong words before after faults risen handed = (is_run_words words ≡ true) × GaveTooMuch before after
+Causes line.Usage words before after faults faults_after handed = is_run_words words ≡ false
+Causes line.NotJson words before after faults faults_after handed = (is_run_words words ≡ true) × GaveNoJson before after
+Causes (line.Shape path) words before after faults faults_after handed = (is_run_words words ≡ true) × GaveWrongShape before after path
+Causes (line.Limit which) words before after faults faults_after handed = (is_run_words words ≡ true) × GaveWrong before after (wrong.Limit which)
+Causes line.Stage words before after faults faults_after handed = (is_run_words words ≡ true) × GaveWrong before after wrong.Stage
+Causes line.TooManyAddons words before after faults faults_after handed = (is_run_words words ≡ true) × GaveTooManyAddons before after handed
+Causes line.NoMemory words before after faults faults_after handed = is_run_words words ≡ true
+Causes line.ReadFault words before after faults faults_after handed = (is_run_words words ≡ true) × HasRisen faults faults_after
+Causes line.TooLong words before after faults faults_after handed = (is_run_words words ≡ true) × GaveTooMuch before after
 
 -- the sink took the whole line, or its faults rose and it took a front of it
 abbrev pub WroteLine : Option (List ℕ) → ℕ → List ℕ → Option (List ℕ) → ℕ → Type 0
-WroteLine had faults line has risen = (has ≡ append_known had line) ⊎ (HasRisen faults risen × TookFront had line has)
+WroteLine had faults line has faults_after = (has ≡ append_known had line) ⊎ (HasRisen faults faults_after × TookFront had line has)
 
 -- the sink took the whole trace; or, where the trace was cut off, its faults rose and it took a front of the trace
 abbrev pub WroteTrace : Bool → Option (List ℕ) → ℕ → List ℕ → Option (List ℕ) → ℕ → Type 0
-WroteTrace true had faults trace has risen = has ≡ append_known had trace
-WroteTrace false had faults trace has risen = HasRisen faults risen × TookFront had trace has
+WroteTrace true had faults trace has faults_after = has ≡ append_known had trace
+WroteTrace false had faults trace has faults_after = HasRisen faults faults_after × TookFront had trace has
 
 -- whether a trace was written whole
 abbrev pub is_whole : {E : Type 0} → Result Written E → Bool
@@ -148,7 +148,7 @@ GaveRefused before after handed = GaveNoJson before after ⊎ (GaveNoScript befo
 -- COMPLETENESS
 -- nothing but want of memory is in the way of a run: the words are the command line, the source's bytes are known to be a script that is built
 -- and has no more addons than were handed in, and neither the reading nor the writing failed
-pub record IsRunnable (words : List (List ℕ)) (before : Option (List ℕ)) (faults risen sink_faults sink_risen handed : ℕ) : Type 0 where
+pub record IsRunnable (words : List (List ℕ)) (before : Option (List ℕ)) (faults faults_after sink_faults sink_faults_after handed : ℕ) : Type 0 where
   pub command : is_run_words words ≡ true
   pub bytes : List ℕ
   pub told : before ≡ Some bytes
@@ -156,8 +156,8 @@ pub record IsRunnable (words : List (List ℕ)) (before : Option (List ℕ)) (fa
   pub script : Script
   pub is_script : IsScript bytes script
   pub enough : length script.addons ≤ handed
-  pub readable : HasRisen faults risen → ⊥
-  pub writable : HasRisen sink_faults sink_risen → ⊥
+  pub readable : ¬ HasRisen faults faults_after
+  pub writable : ¬ HasRisen sink_faults sink_faults_after
 
 -- the run was made and written, or there was no memory
 abbrev pub IsRunOrNoMemory : ℕ → Type 0

@@ -8,11 +8,8 @@ ghost use Rattle.script_host.specs.Loading.{told_plans, setting_with};
 use addon_trait::{Addon, load_at};
 use env_core::EnvCore;
 use env_loop::{EnvRun, run_alone};
-use napi_types::{Limits, NoMemory, Plans, Record};
+use napi_types::{Limits, NAPI_VERSION, NoMemory, Plans, Record};
 use std::alloc::Global;
-
-/// The version of Node-API.
-const VERSION: u32 = 9;
 
 /// How many entries a journal and a history may have.
 const LIMITS: Limits = Limits {
@@ -57,7 +54,7 @@ pub(crate) fn run(
     ensures err { OnErr result (addons.new.items ≡ addons.old.items) }
 {
     let count = given.items().len() as u32;
-    let core = EnvCore::new(alloc, VERSION, count, texts, LIMITS)?;
+    let core = EnvCore::new(alloc, NAPI_VERSION, count, texts, LIMITS)?;
     let mut env = EnvRun::new(alloc, core)?;
     load_all(addons, given);
     run_alone(&mut env, addons);

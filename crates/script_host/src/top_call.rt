@@ -179,11 +179,11 @@ pub fn host<R: Threads + Wait + Sync, S: Source, K: Sink, G: Gate>(
         × WroteTrace (result == 0) (K.taken sink.old) (K.faults sink.old) (trace_of script left.new) (K.taken sink.new) (K.faults sink.new) }
 
     // At every other status a line has its cause, and stands in place of the trace.
-    ensures refused { (IsRunStatus result → ⊥) → (line : Line) × (result ≡ line_status line)
+    ensures refused { ¬ IsRunStatus result → (line : Line) × (result ≡ line_status line)
         × Causes line words.now (S.left source.old) (S.left source.new) (S.faults source.old) (S.faults source.new) (length addons.old.items)
         × WroteLine (K.taken sink.old) (K.faults sink.old) (line_text line) (K.taken sink.new) (K.faults sink.new) }
-    ensures left { (IsRunStatus result → ⊥) → left.new ≡ left.old }
-    ensures addons { (IsRunStatus result → ⊥) → addons.new.items ≡ addons.old.items }
+    ensures left { ¬ IsRunStatus result → left.new ≡ left.old }
+    ensures addons { ¬ IsRunStatus result → addons.new.items ≡ addons.old.items }
 
     // The same, status by status.
     ensures usage { (result ≡ 2) ↔ (is_run_words words.now ≡ false) }

@@ -12,7 +12,9 @@ use crate::json::{Stop, has_members, list_at};
 use crate::schedule::schedule_in;
 use crate::texts::Table;
 use crate::threads::each_thread;
-use napi_types::{AddonPlan, LimitName, NoMemory, OpList, OpLists, Place, Plans, Script, Wrong};
+use napi_types::{
+    AddonPlan, LimitName, NAPI_VERSION, NoMemory, OpList, OpLists, Place, Plans, Script, Wrong,
+};
 use serde_json::Value;
 use std::alloc::Global;
 
@@ -43,7 +45,7 @@ fn is_root(value: &Value) -> bool
     has_members(value, count)
 }
 
-/// The version, which is 9.
+/// The version of Node-API.
 #[tactic(auto, unfolding(napi_types::specs::Script::version_in))]
 fn version_in(found: Option<&Value>) -> Result<(), Stop>
     ensures ok { result ≡ Ok tt → version_in (option_map (λ v. view v.now) found.entry) ≡ Ok tt }
@@ -51,7 +53,7 @@ fn version_in(found: Option<&Value>) -> Result<(), Stop>
     ensures json { ¬ (result ≡ Err Stop.NotJson) }
 {
     match found.and_then(whole) {
-        Some(9) => Ok(()),
+        Some(version) if version == u64::from(NAPI_VERSION) => Ok(()),
         _ => Err(Stop::Wrong(Wrong::Shape(Place::Version))),
     }
 }
@@ -126,7 +128,7 @@ fn script_in(alloc: Global, value: &Value) -> Result<Script, Stop>
     let count = threads.items().len();
     let schedule = schedule_in(alloc, count, workers as usize, value.get("schedule"))?;
     Ok(Script {
-        version: 9,
+        version: NAPI_VERSION,
         workers,
         addons,
         threads,

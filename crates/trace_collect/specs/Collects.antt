@@ -1,16 +1,17 @@
 -- What a collection frees of a store, and what it leaves.
-use Rattle.std.specs.Prelude.{◌≡◌, ◌↔◌, ℕ, ◌+◌, ◌<◌, true, false, List, map}
+use Rattle.std.specs.Prelude.{◌≡◌, ◌↔◌, ℕ, ◌+◌, ◌<◌, true, false, List, map, length}
 use Rattle.napi_types.specs.Graph.{StoreState, IsLive, number_in, graph_of}
 use Rattle.napi_types.specs.Lists.{has_number}
 use Rattle.napi_types.specs.Reach.{reach_from}
+use Rattle.napi_types.specs.Values.{starting_values}
 
 -- what the values of these numbers reach, by creation numbers
 abbrev pub reached : StoreState → List ℕ → List ℕ
 reached s roots = reach_from (graph_of s) (map (number_in s) roots)
 
--- the five starting values are among those of these numbers
+-- the starting values, whose creation numbers count from 1, are among those of these numbers
 abbrev pub HoldsStarting : StoreState → List ℕ → Type 0
-HoldsStarting s ids = (which : ℕ) → which < 5 → has_number (which + 1) (map (number_in s) ids) ≡ true
+HoldsStarting s ids = (which : ℕ) → which < length starting_values → has_number (which + 1) (map (number_in s) ids) ≡ true
 
 -- the number names a live value that the roots do not reach
 abbrev pub IsUnreached : StoreState → List ℕ → ℕ → Type 0

@@ -22,14 +22,8 @@ pub(crate) fn reached(
     ensures sound { OnOk result (IsSound store.now) }
 {
     let places = store.places();
-    let mut marks = match Vec::from_elem(alloc, false, places) {
-        Ok(marks) => marks,
-        Err(_) => return Err(NoMemory),
-    };
-    let mut left = match Vec::with_capacity(alloc, places) {
-        Ok(left) => left,
-        Err(_) => return Err(NoMemory),
-    };
+    let mut marks = Vec::from_elem(alloc, false, places)?;
+    let mut left = Vec::with_capacity(alloc, places)?;
     mark_reached(store, roots, &mut marks, &mut left);
     Ok(marks)
 }
@@ -70,10 +64,8 @@ pub(crate) fn unmarked(
 fn add(list: &mut Vec<ValueId>, id: Option<ValueId>) -> Result<(), NoMemory>
     ensures { OnOk result (list.new.items ≡ list.old.items ++ option_to_list id) }
 {
-    if let Some(id) = id
-        && list.push(id).is_err()
-    {
-        return Err(NoMemory);
+    if let Some(id) = id {
+        list.push(id)?;
     }
     Ok(())
 }

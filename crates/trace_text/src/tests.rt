@@ -57,10 +57,8 @@ fn odd_texts(alloc: Global) -> Result<Texts, NoMemory> {
     let code = Text::of(alloc, "code")?;
     let stack_depth = Text::of(alloc, "stack depth")?;
     let odd = Text::of(alloc, "\"\\\n\u{1f}aé")?;
-    match vec![in alloc; message, code, stack_depth, odd] {
-        Ok(texts) => Ok(Texts::of(texts)),
-        Err(_) => Err(NoMemory),
-    }
+    let texts = vec![in alloc; message, code, stack_depth, odd]?;
+    Ok(Texts::of(texts))
 }
 
 /// The same, in a test.

@@ -1,9 +1,9 @@
 -- How a value's lists stand for its properties and elements.
-use Rattle.std.specs.Prelude.{ℕ, ◌≤◌, nat_eq, List, length, map, Option, Some, option_map}
+use Rattle.std.specs.Prelude.{ℕ, ◌+◌, ◌≤◌, nat_eq, List, length, map, Option, Some, option_map}
 use Rattle.std.specs.List.{IsDistinct}
 use Rattle.std.specs.Map.{keys_of}
 use Rattle.napi_types.specs.declared.ids.ValueId.{ValueId}
-use Rattle.napi_types.specs.Values.{Property}
+use Rattle.napi_types.specs.Values.{Property, most_index}
 
 -- an entry of the map from names to values is a property
 abbrev pub property_of : ℕ × ValueId → Property
@@ -24,4 +24,4 @@ elements_named ns = map (λ n. Some (record { 0 = n })) ns
 -- no name stands twice, and no index is above 65,535
 pub record AreLists (es : List (ℕ × ValueId)) (elements : List (Option ValueId)) : Type 0 where
   pub distinct : IsDistinct nat_eq (keys_of es)
-  pub short : length elements ≤ 65536
+  pub short : length elements ≤ most_index + 1

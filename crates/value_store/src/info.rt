@@ -1,6 +1,6 @@
 //! One value: what it is, its properties and its elements.
-ghost use Rattle.std.specs.Prelude.{◌≡◌, ◌-◌, ◌<◌, ◌≤◌, ◌++◌, length, replicate, IfOk, OnOk, OnErr, option_map, slice_get, slice_index_or, is_some, Some, None, true, false};
-ghost use Rattle.napi_types.specs.Values.{fresh_value, error_of, property_at, element_at, with_property, without_property, with_element};
+ghost use Rattle.std.specs.Prelude.{◌≡◌, ◌+◌, ◌-◌, ◌<◌, ◌≤◌, ◌++◌, length, replicate, IfOk, OnOk, OnErr, option_map, slice_get, slice_index_or, is_some, Some, None, true, false};
+ghost use Rattle.napi_types.specs.Values.{fresh_value, error_of, most_index, property_at, element_at, with_property, without_property, with_element};
 ghost use Rattle.value_store.specs.Changes.{child_places};
 ghost use Rattle.value_store.specs.Properties.{elements_of};
 
@@ -64,7 +64,7 @@ impl ValueInfo {
 
     /// An array of these elements, at most 65,536.
     pub(crate) fn array(alloc: Global, number: u64, elements: Vec<Option<ValueId>>) -> ValueInfo
-        requires { length elements.items ≤ 65536 }
+        requires { length elements.items ≤ most_index + 1 }
         ensures { result ≡ record (fresh_value number (Body.Object true false)) { elements = elements_of elements.items } }
     {
         ValueInfo {
@@ -114,10 +114,8 @@ impl ValueInfo {
         ensures set { OnOk result (self.new ≡ with_property name.0 to.0 self.old) }
         ensures err { OnErr result (self.new ≡ self.old) }
     {
-        match self.properties.insert(name.0, to) {
-            Ok(_) => Ok(()),
-            Err(_) => Err(NoMemory),
-        }
+        self.properties.insert(name.0, to)?;
+        Ok(())
     }
 
     /// The value of a property, `None` exactly where the name is absent.
@@ -155,7 +153,7 @@ impl ValueInfo {
 
     /// Sets an element, and fills holes up to it.
     pub(crate) fn set_element(&mut self, at: u32, to: ValueId) -> Result<(), NoMemory>
-        requires { at ≤ 65535 }
+        requires { at ≤ most_index }
         ensures set { OnOk result (self.new ≡ with_element at to.0 self.old) }
         ensures err { OnErr result (self.new ≡ self.old) }
     {
@@ -209,8 +207,6 @@ fn reach_to(elements: &mut Vec<Option<ValueId>>, count: usize) -> Result<(), NoM
     if count <= elements.len() {
         return Ok(());
     }
-    match elements.resize(count, None) {
-        Ok(()) => Ok(()),
-        Err(_) => Err(NoMemory),
-    }
+    elements.resize(count, None)?;
+    Ok(())
 }

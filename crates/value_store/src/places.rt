@@ -2,7 +2,7 @@
 ghost use Rattle.std.specs.Prelude.{◌≡◌, ℕ, ◌+◌, ◌-◌, ◌<◌, ◌≤◌, ◌^◌, ◌++◌, [], ◌∷◌, true, length, map, vec_capacity, slice_get, slice_index_or, slice_set, is_some, cond, option_map, option_copied, IsSome, OnOk, OnErr, IfOk, Some, None};
 ghost use Rattle.std.specs.List.{All, range_with_len};
 ghost use Rattle.napi_types.specs.Lists.{has_number};
-ghost use Rattle.napi_types.specs.Values.{property_at, element_at, with_property, without_property, with_element, made_after, list_of, error_of, thrown_of};
+ghost use Rattle.napi_types.specs.Values.{most_index, property_at, element_at, with_property, without_property, with_element, made_after, list_of, error_of, thrown_of};
 ghost use Rattle.value_store.specs.Changes.{numbers_of};
 ghost use Rattle.value_store.specs.Places.{at_number, changed_at, properties_at, elements_at, child_places_at, starting_list, IsCleared};
 ghost use Rattle.value_store.specs.Properties.{elements_named};
@@ -29,10 +29,7 @@ pub(crate) fn starting(alloc: Global) -> Result<Vec<Option<ValueInfo>>, NoMemory
             },
         )),
     ];
-    match Vec::from_array(alloc, values) {
-        Ok(values) => Ok(values),
-        Err(_) => Err(NoMemory),
-    }
+    Ok(Vec::from_array(alloc, values)?)
 }
 
 /// Adds a value at a new place.
@@ -40,10 +37,8 @@ pub(crate) fn push(values: &mut Vec<Option<ValueInfo>>, value: ValueInfo) -> Res
     ensures pushed { OnOk result (values.new.items ≡ values.old.items ++ Some value ∷ []) }
     ensures err { OnErr result (values.new.items ≡ values.old.items) }
 {
-    match values.push(Some(value)) {
-        Ok(()) => Ok(()),
-        Err(_) => Err(NoMemory),
-    }
+    values.push(Some(value))?;
+    Ok(())
 }
 
 /// Adds a value of each of these bodies, in their order, and then an array of them. All memory is taken before the first.
@@ -52,7 +47,7 @@ pub(crate) fn push_list(
     values: &mut Vec<Option<ValueInfo>>,
     bodies: &[Body],
 ) -> Result<(), NoMemory>
-    requires count { length bodies.now ≤ 65536 }
+    requires count { length bodies.now ≤ most_index + 1 }
     requires room { length values.old.items + length bodies.now + 2 < 2 ^ 48 }
     ensures listed { OnOk result (values.new.items ≡ values.old.items ++ map Some (list_of (length values.old.items) bodies.now)) }
     ensures err { OnErr result (values.new.items ≡ values.old.items) }
@@ -127,10 +122,7 @@ fn counting_from(alloc: Global, first: u64, count: usize) -> Result<Vec<Option<V
     ensures { IfOk result (λ elements. elements.items ≡ elements_named (range_with_len first count)) }
 {
     let numbers = first..first + count as u64;
-    match numbers.map(|number| Some(ValueId(number))).collect(alloc) {
-        Ok(elements) => Ok(elements),
-        Err(_) => Err(NoMemory),
-    }
+    Ok(numbers.map(|number| Some(ValueId(number))).collect(alloc)?)
 }
 
 /// Takes the memory for so many values more.
@@ -138,9 +130,7 @@ fn reserve(values: &mut Vec<Option<ValueInfo>>, count: usize) -> Result<(), NoMe
     ensures items { values.new.items ≡ values.old.items }
     ensures reserved { OnOk result (length values.old.items + count ≤ vec_capacity values.new) }
 {
-    if values.reserve(count).is_err() {
-        return Err(NoMemory);
-    }
+    values.reserve(count)?;
     Ok(())
 }
 
@@ -258,7 +248,7 @@ pub(crate) fn set_element(
     to: ValueId,
 ) -> Result<(), NoMemory>
     requires there { IsSome (at_number values.old.items number) }
-    requires index { at ≤ 65535 }
+    requires index { at ≤ most_index }
     ensures set { OnOk result (values.new.items ≡ changed_at number (with_element at to.0) values.old.items) }
     ensures err { OnErr result (values.new.items ≡ values.old.items) }
 {

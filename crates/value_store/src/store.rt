@@ -1,7 +1,7 @@
 //! The store: the values that were made and not freed, each under a number.
 ghost use Rattle.std.specs.Prelude.{◌≡◌, ◌+◌, ◌-◌, ◌<◌, ◌≤◌, ◌^◌, ◌++◌, [], ◌∷◌, not, filter, map, length, slice_get, slice_index_or, is_some, option_map, option_copied, IfSome, IfOk, OnOk, OnErr, Some, None};
 ghost use Rattle.napi_types.specs.Lists.{has_number};
-ghost use Rattle.napi_types.specs.Values.{value_at, value_changed, fresh_value, error_of, list_of, thrown_strings, thrown_of, property_at, element_at, with_property, without_property, with_element};
+ghost use Rattle.napi_types.specs.Values.{value_at, value_changed, fresh_value, error_of, list_of, thrown_strings, thrown_of, most_index, property_at, element_at, with_property, without_property, with_element};
 ghost use Rattle.napi_types.specs.Graph.{value_of, number_in, renamed, graph_of, IsLive, IsSound};
 ghost use Rattle.value_store.specs.Changes.{properties_in, elements_in, child_places_in, id_at, EachStandsOnce, numbers_of, IsNew, IsStarting, IsObject, StandsAt, ChangesOnly, Makes, MakesValue, MakesList, Frees, CanFree};
 
@@ -57,6 +57,7 @@ impl Store {
         ensures made { IfOk result (λ id. Makes self.old self.new id.0 body) }
         ensures graph { OnOk result (graph_of self.new ≡ graph_of self.old ++ fresh_value (self.old.made + 1) body ∷ []) }
         ensures err { OnErr result (self.new ≡ self.old) }
+        ensures sound { IsSound self.old }
     {
         let number = self.values.len() as u64 + 1;
         let value = ValueInfo::new(self.alloc, number, body);
@@ -81,6 +82,7 @@ impl Store {
         ensures graph { let error = error_of (self.old.made + 1) (option_map (λ c. number_in self.old c.0) code) (number_in self.old message.0) in
             OnOk result (graph_of self.new ≡ graph_of self.old ++ error ∷ []) }
         ensures err { OnErr result (self.new ≡ self.old) }
+        ensures sound { IsSound self.old }
     {
         let number = self.values.len() as u64 + 1;
         let value = ValueInfo::error(self.alloc, number, code, message)?;
@@ -93,11 +95,12 @@ impl Store {
     ///
     /// The time grows with the list; now and then the list of values grows.
     pub fn make_list(&mut self, bodies: &[Body]) -> Result<ValueId, NoMemory>
-        requires count { length bodies.now ≤ 65536 }
+        requires count { length bodies.now ≤ most_index + 1 }
         requires room { self.old.made + length bodies.now + 2 < 2 ^ 48 }
         ensures listed { IfOk result (λ id. MakesList self.old self.new id.0 (length bodies.now)) }
         ensures graph { OnOk result (graph_of self.new ≡ graph_of self.old ++ list_of self.old.made bodies.now) }
         ensures err { OnErr result (self.new ≡ self.old) }
+        ensures sound { IsSound self.old }
     {
         places::push_list(self.alloc, &mut self.values, bodies)?;
         Ok(ValueId(self.values.len() as u64))
@@ -116,6 +119,7 @@ impl Store {
         ensures listed { IfOk result (λ id. MakesList self.old self.new id.0 (length (thrown_strings code message))) }
         ensures graph { OnOk result (graph_of self.new ≡ graph_of self.old ++ thrown_of self.old.made code message) }
         ensures err { OnErr result (self.new ≡ self.old) }
+        ensures sound { IsSound self.old }
     {
         places::push_thrown(self.alloc, &mut self.values, code, message)?;
         let error = self.values.len() as u64;
@@ -184,7 +188,7 @@ impl Store {
     pub fn set_element(&mut self, id: ValueId, at: u32, to: ValueId) -> Result<(), NoMemory>
         requires named { IsLive self.old id.0 }
         requires value { IsLive self.old to.0 }
-        requires index { at ≤ 65535 }
+        requires index { at ≤ most_index }
         ensures set { OnOk result (ChangesOnly self.old self.new id.0 (with_element at to.0)) }
         ensures graph { OnOk result (graph_of self.new ≡ value_changed (number_in self.old id.0) (with_element at (number_in self.old to.0)) (graph_of self.old)) }
         ensures err { OnErr result (self.new ≡ self.old) }

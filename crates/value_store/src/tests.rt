@@ -1,6 +1,6 @@
 //! Each call where there is memory, which no contract can promise.
 ghost use Rattle.std.specs.Prelude.{◌≡◌, ◌≤◌, IfOk, Ok};
-ghost use Rattle.napi_types.specs.Values.{is_object_like as has_properties};
+ghost use Rattle.napi_types.specs.Values.{is_object_like as has_properties, most_index};
 
 use super::{Body, Store};
 use napi_types::{NoMemory, TextNo, ValueId};
@@ -55,7 +55,7 @@ fn set_at(
     at: u32,
     to: ValueId,
 ) -> Result<(), Fail>
-    requires { at ≤ 65535 }
+    requires { at ≤ most_index }
 {
     assert!(rt; store.get(object).is_some());
     assert!(rt; store.get(to).is_some());

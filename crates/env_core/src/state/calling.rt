@@ -3,8 +3,7 @@ ghost use Rattle.std.specs.Prelude.{◌≡◌, ◌≢◌, ◌+◌, ◌<◌, ◌�
 ghost use Rattle.std.specs.List.{list_all};
 ghost use Rattle.napi_types.specs.declared.call.Call.TheVariants as call_of;
 ghost use Rattle.napi_types.specs.Calls.{at_depth_limit};
-ghost use Rattle.napi_types.specs.Changes.{asks_made, most_asks};
-ghost use Rattle.napi_types.specs.Frames.{most_frames};
+ghost use Rattle.napi_types.specs.Frames.{most_frames, asks_made, most_asks};
 ghost use Rattle.napi_types.specs.FunctionCalls.{argument_handles};
 ghost use Rattle.napi_types.specs.Refusals.{is_known, handle_if, early_refusal};
 ghost use Rattle.napi_types.specs.Replies.{plain as plain_reply};
@@ -14,7 +13,7 @@ ghost use Rattle.napi_types.specs.Heap.{handle_body};
 ghost use Rattle.env_values.specs.Seen.{HoldsLive};
 ghost use Rattle.env_core.specs.State.{CallsFunction, EntersCall, BeginsScopes, SameScopes};
 
-use super::{State, host_entry, plain};
+use super::{State, host_entry};
 use crate::frames::{MOST_FRAMES, StandingFrame};
 use crate::handles::body_of;
 use env_values::thrown_value;
@@ -53,20 +52,15 @@ impl State {
         ensures ok { IfOk result (λ called. CallsFunction self.old receiver function args.now called self.new) }
         ensures err { OnErr result (self.new ≡ self.old) }
     {
+        let reply = match self.why_not_calling(receiver, function, args) {
+            Some(status) => Reply::plain(status, Out::Nothing),
+            None if self.frames.depth() < MOST_FRAMES => {
+                return self.enter_function(receiver, function, args);
+            }
+            None => self.exceed_depth()?,
+        };
         let call = Call::CallFunction(receiver, function, *args);
-        match self.why_not_calling(receiver, function, args) {
-            Some(status) => {
-                let reply = plain(status, Out::Nothing);
-                Ok(Called::Refused(self.write_call(step, &call, reply)))
-            }
-            None => {
-                if self.frames.depth() < MOST_FRAMES {
-                    return self.enter_function(receiver, function, args);
-                }
-                let reply = self.exceed_depth()?;
-                Ok(Called::Refused(self.write_call(step, &call, reply)))
-            }
-        }
+        Ok(Called::Refused(self.write_call(step, &call, reply)))
     }
 
     /// Why the call is refused, if it is, the depth limit left aside.
@@ -113,12 +107,7 @@ impl State {
     fn holds_each(&self, handles: &[HandleId]) -> bool
         ensures { result ≡ list_all (λ h. is_some (gives self.now.heap.scopes h.0)) handles.now }
     {
-        for handle in handles {
-            if !self.holds(*handle) {
-                return false;
-            }
-        }
-        true
+        handles.iter().all(|handle| self.holds(*handle))
     }
 
     /// Whether an open scope holds the handle.
@@ -147,7 +136,7 @@ impl State {
     {
         let error = thrown_value(&mut self.store, None, DEPTH_TEXT)?;
         self.exceptions.set(error);
-        Ok(plain(Status::PendingException, Out::Nothing))
+        Ok(Reply::plain(Status::PendingException, Out::Nothing))
     }
 
     /// The frame of a function begins inside the innermost one, whose ask is counted.

@@ -3,7 +3,7 @@ ghost use Rattle.std.specs.Prelude.{◌≡◌, IfOk, OnErr};
 ghost use Rattle.napi_types.specs.declared.call.Call.TheVariants as call_of;
 ghost use Rattle.env_core.specs.State.{AnswersInTime};
 
-use super::{State, plain};
+use super::State;
 use crate::roots::roots_of;
 use napi_types::{NoMemory, Out, Reply, Status};
 
@@ -23,6 +23,6 @@ impl State {
         )?;
         let freed = trace_collect::collect(self.alloc, &mut self.store, &roots)?;
         self.references.empty_of(&freed);
-        Ok(plain(Status::Ok, Out::Unsigned(freed.len() as u64)))
+        Ok(Reply::plain(Status::Ok, Out::Unsigned(freed.len() as u64)))
     }
 }

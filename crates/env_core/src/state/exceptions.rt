@@ -5,7 +5,7 @@ ghost use Rattle.napi_types.specs.Refusals.{is_known};
 ghost use Rattle.napi_types.specs.Values.{most_names};
 ghost use Rattle.env_core.specs.State.{AnswersInTime};
 
-use super::{State, plain};
+use super::State;
 use env_values::{or_undefined, thrown_value};
 use napi_types::{HandleId, NoMemory, Out, Reply, Status, TextNo};
 
@@ -15,10 +15,10 @@ impl State {
         ensures { AnswersInTime self.old (call_of.Throw handle) result self.new }
     {
         let Some(value) = self.scopes.look(handle) else {
-            return plain(Status::InvalidArg, Out::Nothing);
+            return Reply::plain(Status::InvalidArg, Out::Nothing);
         };
         self.exceptions.set(value);
-        plain(Status::Ok, Out::Nothing)
+        Reply::plain(Status::Ok, Out::Nothing)
     }
 
     /// A new error of new strings of these texts is the pending exception from now on.
@@ -32,11 +32,11 @@ impl State {
         ensures err { OnErr result (self.new ≡ self.old) }
     {
         if !self.knows(code, message) {
-            return Ok(plain(Status::InvalidArg, Out::Nothing));
+            return Ok(Reply::plain(Status::InvalidArg, Out::Nothing));
         }
         let error = thrown_value(&mut self.store, code, message)?;
         self.exceptions.set(error);
-        Ok(plain(Status::Ok, Out::Nothing))
+        Ok(Reply::plain(Status::Ok, Out::Nothing))
     }
 
     /// Whether the texts of an error stand in the table.
@@ -54,7 +54,7 @@ impl State {
         ensures { AnswersInTime self.now call_of.IsExceptionPending result self.now }
     {
         let pending = self.exceptions.pending().is_some();
-        plain(Status::Ok, Out::Flag(pending))
+        Reply::plain(Status::Ok, Out::Flag(pending))
     }
 
     /// A new handle of the pending exception, or of undefined where none is pending; none is pending from now on.
@@ -67,7 +67,7 @@ impl State {
         let value = or_undefined(&self.store, self.exceptions.pending());
         let handle = self.scopes.issue(value)?;
         let _ = self.exceptions.clear();
-        Ok(plain(Status::Ok, Out::Handle(handle)))
+        Ok(Reply::plain(Status::Ok, Out::Handle(handle)))
     }
 
     /// The number of the last status.
@@ -75,6 +75,6 @@ impl State {
         ensures { AnswersInTime self.now call_of.GetLastErrorInfo result self.now }
     {
         let last = self.exceptions.last().number();
-        plain(Status::Ok, Out::Unsigned(u64::from(last)))
+        Reply::plain(Status::Ok, Out::Unsigned(u64::from(last)))
     }
 }

@@ -1,13 +1,14 @@
 //! Calls on references.
-ghost use Rattle.std.specs.Prelude.{◌≡◌, ◌≢◌, ◌+◌, ◌<◌, ◌^◌, [], length, IfOk, OnErr};
+ghost use Rattle.std.specs.Prelude.{◌≡◌, ◌≢◌, ◌+◌, ◌<◌, ◌^◌, [], length, IfOk, IfErr, OnErr};
 ghost use Rattle.napi_types.specs.declared.call.Call.TheVariants as call_of;
 ghost use Rattle.napi_types.specs.Heap.{handle_body};
 ghost use Rattle.napi_types.specs.Lists.{unless};
 ghost use Rattle.napi_types.specs.Refusals.{refusal_in};
+ghost use Rattle.napi_types.specs.Replies.{plain};
 ghost use Rattle.napi_types.specs.Values.{is_referable as is_referable_body};
 ghost use Rattle.env_core.specs.State.{AnswersInTime};
 
-use super::{State, plain};
+use super::State;
 use crate::handles::{body_of, value_of};
 use napi_types::{Body, HandleId, NoMemory, Out, RefId, Reply, Status};
 
@@ -23,20 +24,18 @@ impl State {
         ensures err { OnErr result (self.new ≡ self.old) }
     {
         if !self.may_refer_to(handle, count) {
-            return Ok(plain(Status::InvalidArg, Out::Nothing));
+            return Ok(Reply::plain(Status::InvalidArg, Out::Nothing));
         }
         let value = value_of(&self.store, &self.scopes, handle);
         let reference = self.references.make(value, count)?;
-        Ok(plain(Status::Ok, Out::Ref(reference)))
+        Ok(Reply::plain(Status::Ok, Out::Ref(reference)))
     }
 
     /// Whether a reference may be made to the value of a handle: an open scope holds it, and the value is of a kind for that.
     fn may_refer_to(&self, handle: HandleId, count: u32) -> bool
         ensures { unless result Status.InvalidArg ≡ refusal_in self.now.texts self.now.heap (call_of.CreateReference handle count) }
     {
-        let known = self.holds(handle);
-        let referable = self.is_referable(handle);
-        known && referable
+        self.holds(handle) && self.is_referable(handle)
     }
 
     /// Whether the value of a handle is of a kind to which references are made.
@@ -54,8 +53,8 @@ impl State {
         ensures { AnswersInTime self.old (call_of.DeleteReference reference) result self.new }
     {
         match self.references.delete(reference) {
-            Ok(()) => plain(Status::Ok, Out::Nothing),
-            Err(status) => plain(status, Out::Nothing),
+            Ok(()) => Reply::plain(Status::Ok, Out::Nothing),
+            Err(status) => Reply::plain(status, Out::Nothing),
         }
     }
 
@@ -63,20 +62,14 @@ impl State {
     pub(super) fn reference_ref(&mut self, reference: RefId) -> Reply
         ensures { AnswersInTime self.old (call_of.ReferenceRef reference) result self.new }
     {
-        match self.references.add(reference) {
-            Ok(count) => plain(Status::Ok, Out::Unsigned(u64::from(count))),
-            Err(status) => plain(status, Out::Nothing),
-        }
+        counted(self.references.add(reference))
     }
 
     /// A reference is counted down.
     pub(super) fn reference_unref(&mut self, reference: RefId) -> Reply
         ensures { AnswersInTime self.old (call_of.ReferenceUnref reference) result self.new }
     {
-        match self.references.take(reference) {
-            Ok(count) => plain(Status::Ok, Out::Unsigned(u64::from(count))),
-            Err(status) => plain(status, Out::Nothing),
-        }
+        counted(self.references.take(reference))
     }
 
     /// A new handle of the value of a reference, none where it was collected.
@@ -89,10 +82,21 @@ impl State {
         match self.references.value(reference) {
             Ok(Some(value)) => {
                 let handle = self.scopes.issue(value)?;
-                Ok(plain(Status::Ok, Out::Handle(handle)))
+                Ok(Reply::plain(Status::Ok, Out::Handle(handle)))
             }
-            Ok(None) => Ok(plain(Status::Ok, Out::NoHandle)),
-            Err(status) => Ok(plain(status, Out::Nothing)),
+            Ok(None) => Ok(Reply::plain(Status::Ok, Out::NoHandle)),
+            Err(status) => Ok(Reply::plain(status, Out::Nothing)),
         }
+    }
+}
+
+/// The reply that tells a count, or why there is none.
+fn counted(count: Result<u32, Status>) -> Reply
+    ensures ok { IfOk count (λ n. result ≡ plain Status.Ok (Out.Unsigned n)) }
+    ensures err { IfErr count (λ s. result ≡ plain s Out.Nothing) }
+{
+    match count {
+        Ok(count) => Reply::plain(Status::Ok, Out::Unsigned(u64::from(count))),
+        Err(status) => Reply::plain(status, Out::Nothing),
     }
 }

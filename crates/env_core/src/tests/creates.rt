@@ -1,9 +1,7 @@
 //! The calls that give handles. Handles count from 1 in the order of their issue; the texts are 0, 1 and 2.
-use super::{Row, compare};
+use super::{NOTHING, Row, compare};
 use napi_types::{Call, HandleId, TextNo};
 use std::test::Fail;
-
-const NOTHING: (&'static str, u64) = ("nothing", 0);
 
 fn handle(number: u64) -> (&'static str, u64) {
     ("handle", number)

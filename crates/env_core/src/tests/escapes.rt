@@ -1,10 +1,9 @@
 //! The calls on scopes of both kinds: every order of closing two of them, and handles that escape.
-use super::{Row, compare, in_frame, reply_to};
+use super::{NOTHING, Row, compare, in_frame, reply_of};
+use crate::EnvCore;
 use napi_types::{Call, HandleId, Limits, ScopeId, ScopeKind};
 use std::alloc::Global;
 use std::test::Fail;
-
-const NOTHING: (&'static str, u64) = ("nothing", 0);
 
 const UNKNOWN: HandleId = HandleId(99);
 
@@ -70,7 +69,22 @@ fn opens(kind: ScopeKind) -> Call {
     }
 }
 
-/// The statuses of two closes in a frame that opened two scopes of these kinds, the second inside the first.
+/// The statuses of two closes, after two scopes of these kinds were opened, the second inside the first.
+fn close_two(
+    core: &mut EnvCore,
+    outer: ScopeKind,
+    inner: ScopeKind,
+    first: Call,
+    second: Call,
+) -> Result<(u16, u16), Fail> {
+    reply_of(core, opens(outer))?;
+    reply_of(core, opens(inner))?;
+    let first = reply_of(core, first)?;
+    let second = reply_of(core, second)?;
+    Ok((first.status.number(), second.status.number()))
+}
+
+/// The same in a new frame.
 fn closed(
     alloc: Global,
     outer: ScopeKind,
@@ -83,11 +97,7 @@ fn closed(
         history: 16,
     };
     let mut core = in_frame(alloc, 1, 3, limits)?;
-    reply_to(&mut core, 0, opens(outer))?;
-    reply_to(&mut core, 1, opens(inner))?;
-    let first = reply_to(&mut core, 2, first)?;
-    let second = reply_to(&mut core, 3, second)?;
-    Ok((first.status.number(), second.status.number()))
+    close_two(&mut core, outer, inner, first, second)
 }
 
 #[test]

@@ -1,15 +1,10 @@
 //! The calls on exceptions, every call while an exception is pending, and the end of a frame with one pending.
-ghost use Rattle.std.specs.Prelude.{◌≡◌, ◌≢◌, length, Some};
-ghost use Rattle.napi_types.specs.Changes.{asks_made};
-
-use super::{Row, compare, compare_in, in_frame, reply_to};
+use super::{NOTHING, Row, begin_next, compare, compare_in, end, in_frame, reply_of};
 use crate::EnvCore;
-use napi_types::{Call, HandleId, Limits, Out, RefId, Reply, ScopeId, TextNo, Why};
+use napi_types::{Call, HandleId, Limits, Out, RefId, ScopeId, TextNo, Why};
 use std::alloc::Global;
 use std::process::Abort;
 use std::test::Fail;
-
-const NOTHING: (&'static str, u64) = ("nothing", 0);
 
 /// An object, a string, and a handle that no scope holds.
 const OBJECT: HandleId = HandleId(1);
@@ -205,33 +200,13 @@ fn a_thrown_error_without_a_code_has_a_message_alone(rt: HostRuntime) -> Result<
     compare(&rt, rt.alloc(), &rows)
 }
 
-/// The end of the first addon's frame, after which the second one's begins.
-fn next_frame(core: &mut EnvCore, cut: Option<Why>) -> Reply
-    requires depth { length core.old.env.frames ≡ 1 }
-    requires inits { core.old.env.inits ≡ 1 }
-    requires addons { core.old.env.addons ≡ 2 }
-    requires cut { cut ≢ Some Why.Asks }
-    ensures depth { length core.new.env.frames ≡ 1 }
-    ensures asks { asks_made core.new.env.frames ≡ 0 }
-{
-    let end = core.leave(None, cut);
-    core.begin_init(1);
-    end
-}
-
-/// The end of a frame that threw an object, after which the next addon's frame finds no exception.
-fn ends(rt: &impl Abort, alloc: Global, cut: Option<Why>) -> Result<Out, Fail>
-    requires { cut ≢ Some Why.Asks }
-{
-    let limits = Limits {
-        journal: 64,
-        history: 16,
-    };
-    let mut core = in_frame(alloc, 2, 3, limits)?;
-    reply_to(&mut core, 0, Call::CreateObject)?;
-    reply_to(&mut core, 1, Call::Throw(OBJECT))?;
-    let end = next_frame(&mut core, cut);
+/// The end of the first addon's frame, after it threw an object. The next addon's frame finds no exception.
+fn thrown_and_ended(rt: &impl Abort, core: &mut EnvCore, cut: bool) -> Result<Out, Fail> {
+    reply_of(core, Call::CreateObject)?;
+    reply_of(core, Call::Throw(OBJECT))?;
+    let end = end(core, None, cut)?;
     assert_eq!(rt; end.status.number(), 0);
+    begin_next(core)?;
     let rows = [
         (Call::IsExceptionPending, 0, ("flag", 0)),
         (Call::CreateObject, 0, ("handle", 2)),
@@ -241,16 +216,26 @@ fn ends(rt: &impl Abort, alloc: Global, cut: Option<Why>) -> Result<Out, Fail>
     Ok(end.out)
 }
 
+/// What the end tells of a frame that threw an object.
+fn ends(rt: &impl Abort, alloc: Global, cut: bool) -> Result<Out, Fail> {
+    let limits = Limits {
+        journal: 64,
+        history: 16,
+    };
+    let mut core = in_frame(alloc, 2, 3, limits)?;
+    thrown_and_ended(rt, &mut core, cut)
+}
+
 #[test]
 fn an_exception_ends_with_its_frame(rt: HostRuntime) -> Result<(), Fail> {
-    let told = ends(&rt, rt.alloc(), None)?;
+    let told = ends(&rt, rt.alloc(), false)?;
     assert!(rt; matches!(told, Out::Uncaught));
     Ok(())
 }
 
 #[test]
 fn a_frame_that_is_cut_tells_the_cut(rt: HostRuntime) -> Result<(), Fail> {
-    let told = ends(&rt, rt.alloc(), Some(Why::Memory))?;
+    let told = ends(&rt, rt.alloc(), true)?;
     assert!(rt; matches!(told, Out::Cut(Why::Memory)));
     Ok(())
 }

@@ -1,10 +1,8 @@
 //! The calls on properties and elements: accepted, and refused for an unknown handle or text, a value that is no object, and an
 //! index too great. The texts 0, 1 and 2 are names; 3 is past the table. An object with too many names is a row of `many_names`.
-use super::compare;
+use super::{NOTHING, compare};
 use napi_types::{Call, HandleId, TextNo};
 use std::test::Fail;
-
-const NOTHING: (&'static str, u64) = ("nothing", 0);
 
 const UNKNOWN: HandleId = HandleId(99);
 

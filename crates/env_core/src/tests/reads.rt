@@ -1,9 +1,7 @@
 //! The calls that tell what a value is: accepted, and refused for an unknown handle and for another kind.
-use super::{Row, compare};
+use super::{NOTHING, Row, compare};
 use napi_types::{Call, HandleId, TextNo};
 use std::test::Fail;
-
-const NOTHING: (&'static str, u64) = ("nothing", 0);
 
 const UNKNOWN: HandleId = HandleId(99);
 

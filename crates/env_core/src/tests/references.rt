@@ -1,10 +1,8 @@
 //! The calls on references, and collections.
 
-use super::{Row, close, compare};
+use super::{NOTHING, Row, close, compare};
 use napi_types::{Call, HandleId, RefId, TextNo};
 use std::test::Fail;
-
-const NOTHING: (&'static str, u64) = ("nothing", 0);
 
 const fn create(handle: u64, count: u32) -> Call {
     Call::CreateReference(HandleId(handle), count)

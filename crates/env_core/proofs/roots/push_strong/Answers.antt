@@ -1,4 +1,4 @@
-use Rattle.std.proofs.Common.{◌∙◌, ◌++◌, ap, sym, map, length, arith}
+use Rattle.std.proofs.Common.{◌∙◌, ◌++◌, ap, sym, map, arith}
 use Rattle.std.specs.List.{filter_map}
 use Rattle.std.proofs.lemmas.List.{length-map, take_all}
 use Rattle.value_store.specs.Changes.{numbers_of}

@@ -6,7 +6,7 @@ use Rattle.env_values.proofs.names.names.Goals as goal
 
 pub loop-at-preserved : goal.loop-at-preserved
 loop-at-preserved c =
-    c.in-Ok.ensures.items ∙ ap (λ bs. bs ++ body.Str c.name_at.result ∷ []) c.loop-at.invariant
+    c.in_ok-push.ensures.items ∙ ap (λ bs. bs ++ body.Str c.name_at.result ∷ []) c.loop-at.invariant
     ∙ sym (name-more (properties_in c.args.store.now c.args.id.0) c.loop-at.at c.name_at.result c.name_at.ensures)
 
 pub returns : goal.returns

@@ -1,7 +1,7 @@
 use Rattle.std.proofs.Common.{◌≡◌, ap, ◌∙◌}
 use Rattle.napi_types.specs.declared.entry.Why.TheVariants as why
 use Rattle.napi_types.specs.Built.{taken}
-use Rattle.napi_types.specs.Changes.{asks_made}
+use Rattle.napi_types.specs.Frames.{asks_made}
 use Rattle.napi_types.specs.Cuts.{cut_by, CutAtLastAsk, NotBeforeLastAsk}
 use Rattle.napi_types.proofs.Cutting.{only-in-frame, spent-only, asks-next, early-none}
 use Rattle.napi_types.proofs.laws.cuts_at_last_ask.Goals as goal

@@ -1,13 +1,10 @@
-use Rattle.std.proofs.Common.{ℕ, List, Option, map, ap, sym, subst, refl, ◌∙◌}
-use Rattle.napi_types.specs.Graph.{number_in, graph_of}
-use Rattle.napi_types.specs.Reach.{reach_from}
-use Rattle.napi_types.specs.declared.ids.ValueId.{ValueId}
+use Rattle.std.proofs.Common.{ℕ, Option, subst, refl, ◌∙◌}
 use Rattle.value_store.specs.Changes.{numbers_of}
 use Rattle.napi_reference.specs.Places.{map_of}
-use Rattle.trace_collect.specs.Collects.{reached, AreUnreached}
+use Rattle.trace_collect.specs.Collects.{reached}
 use Rattle.env_core.specs.Rooting.{AreRoots}
 use Rattle.env_core.specs.contracts.state.State.{the_view}
-use Rattle.env_core.proofs.Collecting.{FreesOthers, frees-others, strong-kept, state-collected, collected-answers}
+use Rattle.env_core.proofs.Collecting.{frees-others, strong-kept, state-collected, collected-answers}
 use Rattle.env_core.proofs.state.State.collect.Goals as goal
 
 pub empty_of-requires : goal.empty_of-requires

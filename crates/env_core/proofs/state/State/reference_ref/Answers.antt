@@ -1,41 +1,24 @@
-use Rattle.std.proofs.Common.{◌≡◌, ℕ, Option, Some, None, ap, subst, sym, refl}
-use Rattle.napi_types.specs.declared.call.Call.TheVariants as call
-use Rattle.napi_types.specs.Graph.{IsLive}
-use Rattle.napi_types.specs.References.{ReferenceMap, value_of}
+use Rattle.std.proofs.Common.{ap}
 use Rattle.napi_reference.specs.Places.{map_of}
-use Rattle.env_core.specs.Referring.{RefersToLive}
 use Rattle.env_core.specs.contracts.state.State.{the_view}
-use Rattle.env_core.proofs.Referring.{refused-answers, raised-answers, raised-live}
-use Rattle.env_core.proofs.state.State.reference_ref.Goals.{in-Ok, in-Err}
+use Rattle.env_core.proofs.Referring.{raised-told, raised-told-live, err-mapped}
 use Rattle.env_core.proofs.state.State.reference_ref.Goals as goal
 
 pub invariant_of-self : goal.invariant_of-self
 invariant_of-self c =
     let s = c.self.inside in
     let i = c.self.invariant in
-    let P : ReferenceMap → Type 0 = λ m. RefersToLive s.store m in
     record {
       live = i.live;
       frames = i.frames;
       calls = i.calls;
       pending = i.pending;
-      referred = elim c.match-add.branch [
-        | in-Ok w ↦ raised-live s.store (map_of s.references) (map_of c.add.new.self) c.args.reference.0 w.in-Ok.count i.referred w.in-Ok.ensures.counted (λ none. ap map_of (w.in-Ok.ensures.gone_stays none))
-        | in-Err w ↦ subst P (sym (ap map_of w.in-Err.ensures.err)) i.referred
-      ];
+      referred = raised-told-live s.store (map_of s.references) (map_of c.add.new.self) c.args.reference.0 c.add.result i.referred c.add.ensures.counted (λ none. ap map_of (c.add.ensures.gone_stays none)) (err-mapped c.add.result s.references c.add.new.self c.add.ensures.err);
     }
 
 pub returns : goal.returns
 returns c =
     let s = c.self.inside in
-    let m = map_of s.references in
-    let n = map_of c.add.new.self in
-    elim c.match-add.branch [
-      | in-Ok w ↦ rw (← c.self.view_is)
-          (rw (w.result-is, w.plain.ensures, w.from.ensures)
-          (raised-answers (the_view s) s.store m n c.args.reference w.in-Ok.count w.in-Ok.ensures.refusal w.in-Ok.ensures.count w.in-Ok.ensures.counted w.in-Ok.ensures.gone
-          (λ none. ap map_of (w.in-Ok.ensures.gone_stays none))))
-      | in-Err w ↦ rw (← c.self.view_is)
-          (rw (w.result-is, w.plain-in-Err.ensures)
-          (refused-answers (the_view s) s.store m n (call.ReferenceRef c.args.reference) w.in-Err.status w.in-Err.ensures.refusal refl (ap map_of w.in-Err.ensures.err)))
-    ]
+    rw (← c.self.view_is)
+    (raised-told (the_view s) s.store (map_of s.references) (map_of c.add.new.self) c.args.reference c.add.result _ c.add.ensures.refusal c.add.ensures.count c.add.ensures.counted
+    c.add.ensures.gone (λ none. ap map_of (c.add.ensures.gone_stays none)) (err-mapped c.add.result s.references c.add.new.self c.add.ensures.err) c.counted.ensures.ok c.counted.ensures.err)

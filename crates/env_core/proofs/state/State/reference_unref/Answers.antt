@@ -1,40 +1,23 @@
-use Rattle.std.proofs.Common.{ap, subst, sym, refl}
-use Rattle.napi_types.specs.declared.call.Call.TheVariants as call
-use Rattle.napi_types.specs.Graph.{IsLive}
-use Rattle.napi_types.specs.References.{ReferenceMap}
 use Rattle.napi_reference.specs.Places.{map_of}
-use Rattle.napi_reference.proofs.Keeping.{AllValues-with_count}
-use Rattle.env_core.specs.Referring.{RefersToLive}
 use Rattle.env_core.specs.contracts.state.State.{the_view}
-use Rattle.env_core.proofs.Referring.{refused-answers, lowered-answers}
-use Rattle.env_core.proofs.state.State.reference_unref.Goals.{in-Ok, in-Err}
+use Rattle.env_core.proofs.Referring.{lowered-told, lowered-told-live, err-mapped}
 use Rattle.env_core.proofs.state.State.reference_unref.Goals as goal
 
 pub invariant_of-self : goal.invariant_of-self
 invariant_of-self c =
     let s = c.self.inside in
     let i = c.self.invariant in
-    let P : ReferenceMap → Type 0 = λ m. RefersToLive s.store m in
     record {
       live = i.live;
       frames = i.frames;
       calls = i.calls;
       pending = i.pending;
-      referred = elim c.match-take.branch [
-        | in-Ok w ↦ subst P (sym w.in-Ok.ensures.counted) (AllValues-with_count (IsLive s.store) c.args.reference.0 w.in-Ok.count (map_of s.references) i.referred)
-        | in-Err w ↦ subst P (sym (ap map_of w.in-Err.ensures.err)) i.referred
-      ];
+      referred = lowered-told-live s.store (map_of s.references) (map_of c.take.new.self) c.args.reference.0 c.take.result i.referred c.take.ensures.counted (err-mapped c.take.result s.references c.take.new.self c.take.ensures.err);
     }
 
 pub returns : goal.returns
 returns c =
     let s = c.self.inside in
-    let m = map_of s.references in
-    let n = map_of c.take.new.self in
-    elim c.match-take.branch [
-      | in-Ok w ↦ rw (← c.self.view_is)
-          (rw (w.result-is, w.plain.ensures, w.from.ensures) (lowered-answers (the_view s) s.store m n c.args.reference w.in-Ok.count w.in-Ok.ensures.refusal w.in-Ok.ensures.count w.in-Ok.ensures.counted))
-      | in-Err w ↦ rw (← c.self.view_is)
-          (rw (w.result-is, w.plain-in-Err.ensures)
-          (refused-answers (the_view s) s.store m n (call.ReferenceUnref c.args.reference) w.in-Err.status w.in-Err.ensures.refusal refl (ap map_of w.in-Err.ensures.err)))
-    ]
+    rw (← c.self.view_is)
+    (lowered-told (the_view s) s.store (map_of s.references) (map_of c.take.new.self) c.args.reference c.take.result _ c.take.ensures.refusal c.take.ensures.count c.take.ensures.counted
+    (err-mapped c.take.result s.references c.take.new.self c.take.ensures.err) c.counted.ensures.ok c.counted.ensures.err)

@@ -8,10 +8,10 @@ push_reserved-requires c =
     let stand : length c.args.self.now.frames ≡ length c.self.inside.frames.items = rw (← c.self.view_is) (length-frames c.self.inside.frames.items c.self.inside.scopes.items c.self.inside.held.items) in
     omega (arith, stand, c.requires.room, c.self.invariant.frames_fit)
 
-pub invariant_of-self : goal.invariant_of-self
-invariant_of-self c =
+pub invariant_of-self-2 : goal.invariant_of-self-2
+invariant_of-self-2 c =
     let P : HandleScopes → Type 0 = λ s. s.frames ≢ [] in
-    rw (c.push_reserved.ensures.items, c.push_reserved.ensures.capacity, c.in-Ok.ensures.items)
-    (kept-called _ _ _ _ _ _ _ _ _ _ _ c.self.invariant c.len-in-Ok.result c.len-in-Ok-2.result _
-    (omega (arith, c.len-in-Ok.ensures, c.in-Ok.ensures.len)) (omega (arith, c.len-in-Ok-2.ensures)) (subst P (sym c.self.view_is) c.requires.standing)
-    (omega (arith, c.in-Ok.ensures.ok, c.in-Ok.ensures.len, c.len.ensures)))
+    rw (c.push_reserved.ensures.items, c.push_reserved.ensures.capacity, c.in_ok-reserve.ensures.items)
+    (kept-called _ _ _ _ _ _ _ _ _ _ _ c.self.invariant c.len-2.result c.len-3.result _
+    (omega (arith, c.len-2.ensures, c.in_ok-reserve.ensures.len)) (omega (arith, c.len-3.ensures)) (subst P (sym c.self.view_is) c.requires.standing)
+    (omega (arith, c.in_ok-reserve.ensures.ok, c.in_ok-reserve.ensures.len, c.len.ensures)))

@@ -1,4 +1,4 @@
-use Rattle.std.proofs.Common.{refl, sym}
+use Rattle.std.proofs.Common.{◌∙◌, refl, sym, arith}
 use Rattle.napi_types.specs.declared.call.Call.TheVariants as call
 use Rattle.napi_reference.specs.Places.{map_of}
 use Rattle.napi_reference.proofs.Changes.{deleted}
@@ -6,15 +6,17 @@ use Rattle.napi_reference.proofs.Counting.{refused_unknown, refused_known}
 use Rattle.napi_reference.proofs.Numbers.{row-read, none-read}
 use Rattle.napi_reference.proofs.refs.Refs.delete.Goals as goal
 
-pub returns-in-Some-clause-refusal : goal.returns-in-Some-clause-refusal
-returns-in-Some-clause-refusal c =
-    let is = row-read c.self.inside.rows.items c.deref.result.now c.args.self.now c.self.view_is c.deref.ensures.value c.args.id.0 c.in-Some.field-0 c.in-Some.ensures in
+pub returns-in_err-ok_or-clause-refusal : goal.returns-in_err-ok_or-clause-refusal
+returns-in_err-ok_or-clause-refusal c =
+    let none = none-read c.self.inside.rows.items c.deref.result.now c.args.self.now c.self.view_is c.deref.ensures.value c.args.id.0 (sym c.in_err-ok_or.ensures.ok_part ∙ c.row_at.ensures) in
+    let refused = refused_unknown (map_of c.args.self.now) c.args.id.0 (call.DeleteReference c.args.id) refl none in
+    grind (arith, refused)
+
+pub returns-clause-refusal : goal.returns-clause-refusal
+returns-clause-refusal c =
+    let is = row-read c.self.inside.rows.items c.deref.result.now c.args.self.now c.self.view_is c.deref.ensures.value c.args.id.0 c.in_ok-ok_or.field-0 (sym c.in_ok-ok_or.ensures.ok_part ∙ c.row_at.ensures) in
     sym (refused_known (map_of c.args.self.now) c.args.id.0 (call.DeleteReference c.args.id) refl is.there)
 
-pub returns-in-Some-clause-deleted : goal.returns-in-Some-clause-deleted
-returns-in-Some-clause-deleted c =
-    rw c.put.ensures (deleted c.self.inside.rows.items c.deref.result.now c.args.self.now c.self.view_is c.deref.ensures.value c.args.id.0 c.in-Some.field-0 c.in-Some.ensures)
-
-pub returns-in-None-clause-refusal : goal.returns-in-None-clause-refusal
-returns-in-None-clause-refusal c =
-    sym (refused_unknown (map_of c.args.self.now) c.args.id.0 (call.DeleteReference c.args.id) refl (none-read c.self.inside.rows.items c.deref.result.now c.args.self.now c.self.view_is c.deref.ensures.value c.args.id.0 c.in-None.ensures))
+pub returns-clause-deleted : goal.returns-clause-deleted
+returns-clause-deleted c =
+    rw c.put.ensures (deleted c.self.inside.rows.items c.deref.result.now c.args.self.now c.self.view_is c.deref.ensures.value c.args.id.0 c.in_ok-ok_or.field-0 (sym c.in_ok-ok_or.ensures.ok_part ∙ c.row_at.ensures))

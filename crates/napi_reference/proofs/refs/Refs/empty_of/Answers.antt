@@ -1,12 +1,9 @@
 use Rattle.std.proofs.Common.{map}
 use Rattle.napi_types.specs.Lists.{has_number}
-use Rattle.napi_reference.proofs.Emptying.{rows-emptied, places-emptied}
+use Rattle.napi_reference.proofs.Emptying.{rows-emptied}
 use Rattle.napi_reference.proofs.refs.Refs.empty_of.Goals as goal
 
-pub returns-clause-emptied : goal.returns-clause-emptied
-returns-clause-emptied c =
-    rw c.empty_weak.ensures (rows-emptied (λ v. has_number v (map (λ f. f.0) c.args.freed.now)) c.self.inside.rows.items c.args.self.now c.self.view_is c.requires)
-
-pub returns-clause-places : goal.returns-clause-places
-returns-clause-places c =
-    rw c.empty_weak.ensures (places-emptied (λ v. has_number v (map (λ f. f.0) c.args.freed.now)) c.self.inside.rows.items c.args.self.now c.self.view_is)
+pub returns : goal.returns
+returns c = record {
+  emptied = rw c.empty_weak.ensures (rows-emptied (λ v. has_number v (map (λ f. f.0) c.args.freed.now)) c.self.inside.rows.items c.args.self.now c.self.view_is c.requires);
+}

@@ -2,6 +2,7 @@ use Rattle.std.proofs.Common.{rules, ◌≡◌, ◌+◌, ◌++◌, ◌∷◌, []
 use Rattle.napi_types.specs.Values.{fresh_value}
 use Rattle.value_store.proofs.Calls.{made-numbered, makes}
 use Rattle.value_store.proofs.GraphCalls.{made-graph}
+use Rattle.value_store.proofs.Reading.{sound-view}
 use Rattle.value_store.proofs.store.Store.make.Goals as goal
 
 pub invariant_of-self-2 : goal.invariant_of-self-2
@@ -24,3 +25,9 @@ returns-clause-graph c =
     let value : c.new-value.result ≡ fresh_value (length c.self.inside.values.items + 1) c.args.body = c.new-value.ensures ∙ ap (λ n. fresh_value (n + 1) c.args.body) many in
     let pushed : c.push.new.values.items ≡ c.self.inside.values.items ++ Some c.new-value.result ∷ [] = c.in_ok-push.ensures.pushed in
     made-graph c.self.inside.values.items c.push.new.values.items c.args.self.now c.self.view_is c.self.invariant c.args.body (pushed ∙ ap (λ v. c.self.inside.values.items ++ Some v ∷ []) value)
+
+pub returns-clause-sound : goal.returns-clause-sound
+returns-clause-sound c = sound-view c.self.inside.values.items c.args.self.now c.self.view_is c.self.invariant
+
+pub returns-in_err-push-clause-sound : goal.returns-in_err-push-clause-sound
+returns-in_err-push-clause-sound c = sound-view c.self.inside.values.items c.args.self.now c.self.view_is c.self.invariant

@@ -2,6 +2,7 @@ use Rattle.std.proofs.Common.{rules, ◌≡◌, ◌+◌, ◌++◌, ◌∷◌, []
 use Rattle.napi_types.specs.declared.ids.ValueId.{ValueId}
 use Rattle.napi_types.specs.Values.{error_of}
 use Rattle.value_store.proofs.Errors.{errors-numbered, errors-made, errors-graph}
+use Rattle.value_store.proofs.Reading.{sound-view}
 use Rattle.value_store.proofs.store.Store.make_error.Goals as goal
 
 pub invariant_of-self-2 : goal.invariant_of-self-2
@@ -31,3 +32,12 @@ returns-clause-graph c =
     c.in_ok-value.ensures ∙ ap (λ n. error_of (n + 1) (option_map (λ (v : ValueId). v.0) c.args.code) c.args.message.0) many in
     errors-graph ps c.args.self.now c.self.view_is c.self.invariant c.args.code c.args.message c.requires.code c.requires.message c.push.new.values.items
     (c.in_ok-push.ensures.pushed ∙ ap (λ v. ps ++ Some v ∷ []) value)
+
+pub returns-clause-sound : goal.returns-clause-sound
+returns-clause-sound c = sound-view c.self.inside.values.items c.args.self.now c.self.view_is c.self.invariant
+
+pub returns-in_err-value-clause-sound : goal.returns-in_err-value-clause-sound
+returns-in_err-value-clause-sound c = sound-view c.self.inside.values.items c.args.self.now c.self.view_is c.self.invariant
+
+pub returns-in_err-push-clause-sound : goal.returns-in_err-push-clause-sound
+returns-in_err-push-clause-sound c = sound-view c.self.inside.values.items c.args.self.now c.self.view_is c.self.invariant

@@ -1,5 +1,6 @@
 use Rattle.std.proofs.Common.{rules, ◌≡◌, length}
 use Rattle.value_store.proofs.Thrown.{thrown-makes, thrown-graph, thrown-numbered}
+use Rattle.value_store.proofs.Reading.{sound-view}
 use Rattle.value_store.proofs.store.Store.make_thrown.Goals as goal
 
 pub invariant_of-self-2 : goal.invariant_of-self-2
@@ -12,3 +13,9 @@ returns-clause-listed c =
 
 pub returns-clause-graph : goal.returns-clause-graph
 returns-clause-graph c = thrown-graph c.self.inside.values.items c.push_thrown.new.values.items c.args.self.now c.self.view_is c.self.invariant c.args.code c.args.message c.in_ok-push_thrown.ensures.thrown
+
+pub returns-clause-sound : goal.returns-clause-sound
+returns-clause-sound c = sound-view c.self.inside.values.items c.args.self.now c.self.view_is c.self.invariant
+
+pub returns-in_err-push_thrown-clause-sound : goal.returns-in_err-push_thrown-clause-sound
+returns-in_err-push_thrown-clause-sound c = sound-view c.self.inside.values.items c.args.self.now c.self.view_is c.self.invariant
