@@ -1,14 +1,9 @@
 pub mod Answers
-pub mod Asks
-pub mod Cutting
 pub mod FrameChanges
-pub mod Fronts
 pub mod Issued
 pub mod Keeping
-pub mod Misses
 pub mod Owners
 pub mod Reaching
 pub mod Rooms
-pub mod Rows
 pub mod Runs
 pub mod Weaves

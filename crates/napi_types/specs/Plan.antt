@@ -98,9 +98,3 @@ registers_along ps rss m _ _ = rss
 abbrev pub asked_along : List Plan → Registers → Machine → List Ask → List Entry → List Ask
 asked_along ps rss m (a ∷ bs) (x ∷ xs) = asked ps rss m a ∷ asked_along ps (registers_after ps rss m a x) (after m a x) bs xs
 asked_along ps rss m _ _ = []
-
--- the asks themselves, where every plan is told
-abbrev pub told_asks_along : List Plan → Registers → Machine → List Entry → List Ask
-told_asks_along ps rss m [] = []
-told_asks_along ps rss m (x ∷ xs) =
-    let a : Ask = asked ps rss m (ask.Leave None) in a ∷ told_asks_along ps (registers_after ps rss m a x) (after m a x) xs

@@ -1,9 +1,9 @@
 -- Runs of the machine.
-use Rattle.std.specs.Prelude.{◌≡◌, Bool, true, false, ◌&&◌, List, [], ◌∷◌, IsTrue}
+use Rattle.std.specs.Prelude.{◌≡◌, List, [], ◌∷◌, IsTrue}
 use Rattle.napi_types.specs.declared.entry.Entry.{Entry}
 use Rattle.napi_types.specs.declared.call.Ask.{Ask}
 use Rattle.napi_types.specs.Machine.{Machine}
-use Rattle.napi_types.specs.Step.{Step, step}
+use Rattle.napi_types.specs.Step.{step}
 
 -- the machine after an entry
 abbrev pub after : Machine → Ask → Entry → Machine
@@ -23,29 +23,3 @@ abbrev pub IsRunBy : Machine → List Ask → List Entry → Type 0
 IsRunBy m (a ∷ bs) (x ∷ xs) = IsNext m a x × IsRunBy (after m a x) bs xs
 IsRunBy m [] [] = Unit {0}
 IsRunBy m _ _ = ⊥
-
--- THE SAME AS A COMPUTATION, as a law says
--- the steps of whole lists
-abbrev pub steps : Machine → List Ask → List Entry → List Step
-steps m (a ∷ bs) (x ∷ xs) = step m a x ∷ steps (after m a x) bs xs
-steps m _ _ = []
-
--- each step may stand where it stands
-abbrev pub all_may : List Step → Bool
-all_may [] = true
-all_may (s ∷ ss) = s.may && all_may ss
-
--- the entries that must stand there
-abbrev pub entries_of : List Step → List Entry
-entries_of [] = []
-entries_of (s ∷ ss) = s.entry ∷ entries_of ss
-
--- as many asks as entries
-abbrev pub is_paired : List Ask → List Entry → Bool
-is_paired (a ∷ bs) (x ∷ xs) = is_paired bs xs
-is_paired [] [] = true
-is_paired _ _ = false
-
--- the entries are those that the steps give, each at an ask of its own, and each may stand
-abbrev pub ComputesBy : Machine → List Ask → List Entry → Type 0
-ComputesBy m bs xs = (xs ≡ entries_of (steps m bs xs)) × IsTrue (is_paired bs xs && all_may (steps m bs xs))

@@ -1,13 +1,12 @@
 -- Runs of a script.
-use Rattle.std.specs.Prelude.{◌≡◌, ℕ, Bool, List, length, is_some}
-use Rattle.std.specs.List.{list_all}
+use Rattle.std.specs.Prelude.{◌≡◌, ℕ, List, length}
 use Rattle.napi_types.specs.declared.entry.Entry.{Entry}
 use Rattle.napi_types.specs.declared.entry.Limits.{Limits}
 use Rattle.napi_types.specs.declared.entry.Phase.TheVariants as phase
 use Rattle.napi_types.specs.declared.call.Ask.{Ask}
 use Rattle.napi_types.specs.Machine.{Machine, opening}
 use Rattle.napi_types.specs.Run.{IsRunBy, final}
-use Rattle.napi_types.specs.Plan.{Plan, Registers, loaded_registers, asked_along, told_asks_along, registers_along}
+use Rattle.napi_types.specs.Plan.{Plan, Registers, loaded_registers, asked_along, registers_along}
 
 -- what a run is a run of: what each addon of the script tells of its plan, how many texts there are, and the limits
 pub record Setting : Type 0 where
@@ -18,10 +17,6 @@ pub record Setting : Type 0 where
 -- the machine at the start of a run
 abbrev pub opening_of : Setting → Machine
 opening_of s = opening (length s.plans) s.texts s.limits
-
--- every addon tells its plan
-abbrev pub all_told : Setting → Bool
-all_told s = list_all is_some s.plans
 
 -- the machine after a run by these asks
 abbrev pub final_of : Setting → List Ask → List Entry → Machine
@@ -35,18 +30,10 @@ final_registers s bs xs = registers_along s.plans (loaded_registers s.plans) (op
 abbrev pub planned_asks : Setting → List Ask → List Entry → List Ask
 planned_asks s bs xs = asked_along s.plans (loaded_registers s.plans) (opening_of s) bs xs
 
--- the asks that it has where every plan is told
-abbrev pub told_asks : Setting → List Entry → List Ask
-told_asks s xs = told_asks_along s.plans (loaded_registers s.plans) (opening_of s) xs
-
 -- the entries are a run at these asks, and the asks are those of the plans
 pub record RunsBy (s : Setting) (bs : List Ask) (xs : List Entry) : Type 0 where
   pub steps : IsRunBy (opening_of s) bs xs
   pub asked : bs ≡ planned_asks s bs xs
-
--- a run of the script, by some asks
-abbrev pub IsRun : Setting → List Entry → Type 0
-IsRun s xs = (bs : List Ask) × RunsBy s bs xs
 
 -- a run that came to its end: the environment is gone
 pub record EndsBy (s : Setting) (bs : List Ask) (xs : List Entry) : Type 0 where

@@ -1,0 +1,52 @@
+-- Where every plan is told, the asks of a run are those of the plans.
+use Rattle.std.proofs.Common.{◌≡◌, ℕ, zero, suc, true, List, [], ◌∷◌, IsTrue, refl, ap, subst, ◌∙◌, Some, None, is_some}
+use Rattle.std.specs.Option.{unwrap_or}
+use Rattle.std.specs.List.{list_all}
+use Rattle.napi_types.specs.declared.entry.Entry.{Entry}
+use Rattle.napi_types.specs.declared.call.Ask.{Ask}
+use Rattle.napi_types.specs.declared.call.Ask.TheVariants as ask
+use Rattle.napi_types.specs.Lists.{head, tail}
+use Rattle.napi_types.specs.Frames.{Frame}
+use Rattle.napi_types.specs.Machine.{Machine}
+use Rattle.napi_types.specs.Run.{after, IsRunBy}
+use Rattle.machine_laws.specs.Computing.{steps, entries_of}
+use Rattle.napi_types.specs.Plan.{Plan, plan_of, Registers, registers_of, frame_ask, frames_ask, asked, asked_along, registers_after, loaded_registers}
+use Rattle.machine_laws.specs.Told.{told_asks_along}
+use Rattle.napi_types.specs.Whole.{Setting, opening_of}
+use Rattle.machine_laws.specs.Told.{IsRun, all_told, told_asks}
+use Rattle.napi_types.proofs.Runs.{and-left, and-right}
+use Rattle.machine_laws.proofs.Computing.{entries-of}
+
+all-of-at : (ps : List Plan) (a : ℕ) → IsTrue (list_all is_some ps) → is_some (plan_of ps a) ≡ true
+all-of-at [] a h = refl
+all-of-at (p ∷ ps) zero h = and-left (is_some p) (list_all is_some ps) h
+all-of-at (p ∷ ps) (suc a) h = all-of-at ps a (and-right (is_some p) (list_all is_some ps) h)
+
+told-ask : (p : Plan) (rs : List ℕ) (f : Frame) (a b : Ask) → is_some p ≡ true → frame_ask p rs f a ≡ frame_ask p rs f b
+told-ask (Some p) rs f a b h = refl
+told-ask None rs f a b h = cc
+
+told-frames : (ps : List Plan) (rss : Registers) (fs : List Frame) (a b : Ask) → IsTrue (list_all is_some ps)
+    → frames_ask ps rss fs a ≡ frames_ask ps rss fs b
+told-frames ps rss [] a b h = refl
+told-frames ps rss (f ∷ fs) a b h = told-ask (plan_of ps f.addon) (registers_of rss f.addon) f a b (all-of-at ps f.addon h)
+
+-- the asks of a run by told plans are those that the entries give
+pub asks-unique : (ps : List Plan) (rss : Registers) (m : Machine) (bs : List Ask) (xs : List Entry) → IsTrue (list_all is_some ps)
+    → IsRunBy m bs xs → bs ≡ asked_along ps rss m bs xs → bs ≡ told_asks_along ps rss m xs
+asks-unique ps rss m [] [] h r e = refl
+asks-unique ps rss m (b ∷ bs) (x ∷ xs) h r e =
+    let here : b ≡ asked ps rss m (ask.Leave None) = ap (λ l. unwrap_or (head l) b) e ∙ told-frames ps rss m.env.frames b (ask.Leave None) h in
+    let later : bs ≡ told_asks_along ps (registers_after ps rss m b x) (after m b x) xs =
+    asks-unique ps (registers_after ps rss m b x) (after m b x) bs xs h r.1 (ap tail e) in
+    let P : Ask → Type 0 = λ a. b ∷ bs ≡ a ∷ told_asks_along ps (registers_after ps rss m a x) (after m a x) xs in
+    subst P here (ap (λ l. b ∷ l) later)
+asks-unique ps rss m [] (x ∷ xs) h r e = absurd r
+asks-unique ps rss m (b ∷ bs) [] h r e = absurd r
+
+-- a run of a script whose plans are all told has the entries that its told asks compute
+pub told-run : (s : Setting) (xs : List Entry) → IsTrue (all_told s) → IsRun s xs → xs ≡ entries_of (steps (opening_of s) (told_asks s xs) xs)
+told-run s xs h r =
+    let same : r.0 ≡ told_asks s xs = asks-unique s.plans (loaded_registers s.plans) (opening_of s) r.0 xs h r.1.steps r.1.asked in
+    let P : List Ask → Type 0 = λ bs. xs ≡ entries_of (steps (opening_of s) bs xs) in
+    subst P same (entries-of (opening_of s) r.0 xs r.1.steps)

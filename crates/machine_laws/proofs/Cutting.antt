@@ -1,0 +1,126 @@
+-- Where a frame stands: what may come next.
+use Rattle.std.proofs.Common.{◌≡◌, ◌<◌, ℕ, ◌==◌, ◌&&◌, false, List, ◌∷◌, IsTrue, refl, ap, sym, ◌∙◌, subst, Option, Some, None, arith, ◌≤◌, ◌+◌, Bool, true, not, nat_lt}
+use Rattle.napi_types.specs.declared.call.Ask.{Ask}
+use Rattle.napi_types.specs.declared.call.Ask.TheVariants as ask
+use Rattle.napi_types.specs.declared.call.Call.{Call}
+use Rattle.napi_types.specs.declared.entry.Actor.{Actor}
+use Rattle.napi_types.specs.declared.entry.Actor.TheVariants as actor
+use Rattle.napi_types.specs.declared.entry.Entry.{Entry}
+use Rattle.napi_types.specs.declared.entry.Out.{Out}
+use Rattle.napi_types.specs.declared.entry.Why.{Why}
+use Rattle.napi_types.specs.declared.entry.Why.TheVariants as why
+use Rattle.napi_types.specs.Built.{taken}
+use Rattle.napi_types.specs.Changes.{is_fresh, may_ask}
+use Rattle.machine_laws.specs.Cuts.{cut_by, first_called}
+use Rattle.napi_types.specs.declared.entry.Cause.{Cause}
+use Rattle.napi_types.specs.declared.entry.Cause.TheVariants as cause
+use Rattle.napi_types.specs.Ends.{ended_by, frame_ended}
+use Rattle.napi_types.specs.Environment.{Environment}
+use Rattle.napi_types.specs.Machine.{Machine}
+use Rattle.napi_types.specs.Room.{room_of, may_want_memory, need, is_full}
+use Rattle.napi_types.specs.Run.{IsNext}
+use Rattle.napi_types.specs.Frames.{Frame, cause_of, asks_made}
+use Rattle.napi_types.specs.Step.{Step, env_step, step_of, frame_step, cut_of}
+use Rattle.napi_types.proofs.FrameChanges.{needs-place}
+use Rattle.napi_types.proofs.Runs.{and-left, and-right}
+
+-- the step is that of the frame
+frame-step : (m : Machine) (a : Ask) (x : Entry) (who : Actor) (f : Frame) (fs : List Frame) → m.env.frames ≡ f ∷ fs
+    → IsTrue (step_of m a x who).may → step_of m a x who ≡ frame_step m (taken a) x.reply.out (cut_of x.reply.out)
+frame-step m a x actor.Env f fs e h = ap (λ l. env_step m a x.reply.out l) e
+frame-step m a x (actor.Thread n) f fs e h = cc
+frame-step m a x (actor.Worker n) f fs e h = cc
+
+-- whatever a frame may leave is one entry: so it is the only one that may come
+pub only-in-frame : (m : Machine) (a : Ask) (f : Frame) (fs : List Frame) (y : Entry) → m.env.frames ≡ f ∷ fs
+    → ((o : Out) (w : Option Why) → IsTrue (frame_step m (taken a) o w).may → (frame_step m (taken a) o w).entry ≡ y)
+    → (x : Entry) → IsNext m a x → x ≡ y
+only-in-frame m a f fs y e k x n =
+    let s : step_of m a x x.actor ≡ frame_step m (taken a) x.reply.out (cut_of x.reply.out) = frame-step m a x x.actor f fs e n.1 in
+    let P : Step → Type 0 = λ t. IsTrue t.may in
+    n.0 ∙ ap (λ t. t.entry) s ∙ k x.reply.out (cut_of x.reply.out) (subst P s n.1)
+
+-- a frame that made its last ask may not ask
+spent-asks : (e : Environment) → asks_made e.frames ≡ 65536 → IsTrue (may_ask e) → ⊥
+spent-asks e s h = let k : IsTrue false = rw s at h in cc
+
+-- a frame that is cut ends so
+ended-cut : (e : Environment) (w : Why) (c : Cause) → (ended_by None (Some w) e c).entry ≡ cut_by c w
+ended-cut e w cause.Call = refl
+ended-cut e w c = refl
+
+pub cut-entry : (e : Environment) (w : Why) (f : Frame) (fs : List Frame) → e.frames ≡ f ∷ fs → (frame_ended None (Some w) e).entry ≡ cut_by f.cause w
+cut-entry e w f fs s = ended-cut e w (cause_of e.frames) ∙ ap (λ l. cut_by (cause_of l) w) s
+
+pub spent-only : (m : Machine) (a : Ask) (f : Frame) (fs : List Frame) → m.env.frames ≡ f ∷ fs → asks_made m.env.frames ≡ 65536 → (o : Out) (w : Option Why)
+    → IsTrue (frame_step m a o w).may → (frame_step m a o w).entry ≡ cut_by f.cause why.Asks
+spent-only m a f fs e s o (Some why.Asks) h = cut-entry m.env why.Asks f fs e
+spent-only m (ask.Do c) f fs e s o (Some why.Full) h = absurd (spent-asks m.env s (and-left (may_ask m.env) _ h))
+spent-only m (ask.Do c) f fs e s o (Some why.Memory) h =
+    absurd (spent-asks m.env s (and-left (may_ask m.env) (may_want_memory (room_of m c) c) (and-left (may_ask m.env && may_want_memory (room_of m c) c) _ h)))
+spent-only m (ask.Do c) f fs e s o None h =
+    absurd (spent-asks m.env s (and-left (may_ask m.env) (is_fresh m.env o) (and-left (may_ask m.env && is_fresh m.env o) _ h)))
+spent-only m (ask.Leave v) f fs e s o (Some why.Full) h = cc
+spent-only m (ask.Leave v) f fs e s o (Some why.Memory) h = cc
+spent-only m (ask.Leave v) f fs e s o None h = absurd (spent-asks m.env s h)
+
+-- where the journal's places are taken, every call is full; and where one is left, a call of a function is
+past : (n : ℕ) → 1 ≤ n → nat_lt 5 (5 + n) ≡ true
+past n h = grind arith
+
+pub full-there : (c : Call) → is_full (room_of first_called c) c ≡ true
+full-there c = past (need c) (needs-place c)
+
+-- where a call is full its frame is cut so
+pub full-only : (m : Machine) (c : Call) (f : Frame) (fs : List Frame) → m.env.frames ≡ f ∷ fs → is_full (room_of m c) c ≡ true → IsTrue (not (asks_made m.env.frames == 65536))
+    → (o : Out) (w : Option Why) → IsTrue (frame_step m (ask.Do c) o w).may → (frame_step m (ask.Do c) o w).entry ≡ cut_by f.cause why.Full
+full-only m c f fs e full early o (Some why.Full) h = cut-entry m.env why.Full f fs e
+full-only m c f fs e full early o (Some why.Asks) h = absurd (not-both (asks_made m.env.frames == 65536) h early)
+  where
+    not-both : (b : Bool) → IsTrue b → IsTrue (not b) → ⊥
+    not-both true h k = cc
+    not-both false h k = cc
+full-only m c f fs e full early o (Some why.Memory) h =
+    let P : Bool → Type 0 = λ b. IsTrue (may_ask m.env && may_want_memory (room_of m c) c && not b) in
+    let k : IsTrue false = and-right (may_ask m.env && may_want_memory (room_of m c) c) false (subst P full h) in cc
+full-only m c f fs e full early o None h =
+    let P : Bool → Type 0 = λ b. IsTrue (may_ask m.env && is_fresh m.env o && not b) in
+    let k : IsTrue false = and-right (may_ask m.env && is_fresh m.env o) false (subst P full h) in cc
+
+-- at this ask, after the first call in the tight journal: whatever may come is the entry, ..
+abbrev pub Steps : Entry → Ask → Type 0
+Steps y a = (o : Out) (w : Option Why) → IsTrue (frame_step first_called a o w).may → (frame_step first_called a o w).entry ≡ y
+
+-- .. and it may come
+abbrev pub MayStand : Out → Option Why → Entry → Ask → Type 0
+MayStand o w y a = (y ≡ (frame_step first_called a o w).entry) × IsTrue (frame_step first_called a o w).may
+
+-- the cut after the last ask may come there, and not before
+told-cut : (c : Cause) (w : Why) → cut_of (cut_by c w).reply.out ≡ Some w
+told-cut cause.Call w = refl
+told-cut c w = refl
+
+told-actor : (c : Cause) (w : Why) → (cut_by c w).actor ≡ actor.Env
+told-actor cause.Call w = refl
+told-actor c w = refl
+
+asks-step : (m : Machine) (a : Ask) (f : Frame) (fs : List Frame) (c : Cause) → m.env.frames ≡ f ∷ fs
+    → step_of m a (cut_by c why.Asks) (cut_by c why.Asks).actor ≡ frame_step m (taken a) (cut_by c why.Asks).reply.out (Some why.Asks)
+asks-step m a f fs c e =
+    ap (λ who. step_of m a (cut_by c why.Asks) who) (told-actor c why.Asks)
+    ∙ ap (λ l. env_step m a (cut_by c why.Asks).reply.out l) e
+    ∙ ap (λ w. frame_step m (taken a) (cut_by c why.Asks).reply.out w) (told-cut c why.Asks)
+
+pub asks-next : (m : Machine) (f : Frame) (fs : List Frame) (a : Ask) → m.env.frames ≡ f ∷ fs → asks_made m.env.frames ≡ 65536 → IsNext m a (cut_by f.cause why.Asks)
+asks-next m f fs a e s =
+    let P : Step → Type 0 = λ t. (cut_by f.cause why.Asks ≡ t.entry) × IsTrue t.may in
+    subst P (sym (asks-step m a f fs f.cause e)) (sym (cut-entry m.env why.Asks f fs e), rw s refl)
+
+not-last : (n : ℕ) → n < 65536 → IsTrue (n == 65536) → ⊥
+not-last n h k = grind arith
+
+pub early-none : (m : Machine) (f : Frame) (fs : List Frame) (a : Ask) → m.env.frames ≡ f ∷ fs → f.asks < 65536 → IsNext m a (cut_by f.cause why.Asks) → ⊥
+early-none m f fs a e h n =
+    let P : Step → Type 0 = λ t. IsTrue t.may in
+    let k : IsTrue (asks_made m.env.frames == 65536) = subst P (asks-step m a f fs f.cause e) n.1 in
+    not-last f.asks h (rw e at k)

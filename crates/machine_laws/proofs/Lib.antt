@@ -1,0 +1,6 @@
+mod Asks
+mod Computing
+mod Cutting
+mod Fronts
+mod Misses
+mod Rows

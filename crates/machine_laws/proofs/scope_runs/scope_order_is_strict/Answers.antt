@@ -1,0 +1,17 @@
+use Rattle.std.proofs.Common.{◌≡◌, ap, set, refl}
+use Rattle.napi_types.specs.declared.status.Status.{Status}
+use Rattle.napi_types.specs.declared.status.Status.TheVariants as status
+use Rattle.machine_laws.specs.ScopeOrder.{setting, trace, too_early, too_late}
+use Rattle.machine_laws.specs.Told.{IsRun}
+use Rattle.machine_laws.proofs.Asks.{told-run}
+use Rattle.machine_laws.proofs.Misses.{entry_at}
+use Rattle.machine_laws.proofs.scope_runs.scope_order_is_strict.Goals as goal
+
+no-other-early : (s : Status) → IsRun setting (set trace 4 (too_early s)) → s ≡ status.HandleScopeMismatch
+no-other-early s r = ap (λ xs. (entry_at 4 xs).reply.status) (told-run setting (set trace 4 (too_early s)) refl r)
+
+no-other-late : (s : Status) → IsRun setting (set trace 7 (too_late s)) → s ≡ status.HandleScopeMismatch
+no-other-late s r = ap (λ xs. (entry_at 7 xs).reply.status) (told-run setting (set trace 7 (too_late s)) refl r)
+
+pub returns : goal.returns
+returns c = record { early = no-other-early; late = no-other-late }

@@ -1,0 +1,87 @@
+-- Where a frame is cut.
+use Rattle.std.specs.Prelude.{◌≡◌, ◌<◌, true, false, List, [], ◌∷◌, ◌++◌, Option, None}
+use Rattle.napi_types.specs.declared.call.Ask.{Ask}
+use Rattle.napi_types.specs.declared.call.Ask.TheVariants as ask
+use Rattle.napi_types.specs.declared.call.Call.{Call}
+use Rattle.napi_types.specs.declared.call.Call.TheVariants as call
+use Rattle.napi_types.specs.declared.call.Args.{Args}
+use Rattle.napi_types.specs.declared.entry.Cause.{Cause}
+use Rattle.napi_types.specs.declared.entry.Cause.TheVariants as cause
+use Rattle.napi_types.specs.declared.entry.Entry.{Entry}
+use Rattle.napi_types.specs.declared.entry.HostStep.TheVariants as host
+use Rattle.napi_types.specs.declared.entry.Out.TheVariants as out
+use Rattle.napi_types.specs.declared.entry.Why.{Why}
+use Rattle.napi_types.specs.declared.entry.Why.TheVariants as why
+use Rattle.napi_types.specs.declared.ids.HandleId.{HandleId}
+use Rattle.napi_types.specs.declared.status.Status.TheVariants as status
+use Rattle.napi_types.specs.Built.{is_built}
+use Rattle.napi_types.specs.Changes.{host_told, host_entry}
+use Rattle.napi_types.specs.Machine.{Machine}
+use Rattle.napi_types.specs.Room.{need}
+use Rattle.napi_types.specs.Run.{IsNext}
+use Rattle.napi_types.specs.Frames.{Frame}
+use Rattle.machine_laws.specs.Traces.{call_at, opening_entries}
+use Rattle.napi_types.specs.Whole.{Setting, RunsBy, final_of}
+
+-- the end by a cut of a frame that began for this reason: that of a call's frame says that the call failed
+abbrev pub cut_by : Cause → Why → Entry
+cut_by cause.Call w = host_told host.End status.GenericFailure (out.Cut w)
+cut_by _ w = host_entry host.End (out.Cut w)
+
+-- at this ask the entry may come next, and no other
+abbrev pub IsOnlyNext : Machine → Ask → Entry → Type 0
+IsOnlyNext m a x = IsNext m a x × ((y : Entry) → IsNext m a y → y ≡ x)
+
+-- A TIGHT JOURNAL
+-- a script of one addon that tells no plan, with room for five entries in the journal: four are needed without any call
+abbrev pub tight : Setting
+tight = record { plans = None ∷ []; texts = 3; limits = record { journal = 5; history = 4 } }
+
+-- what is asked until the addon's frame has begun: nothing
+abbrev pub opening_asks : List Ask
+opening_asks = ask.Leave None ∷ ask.Leave None ∷ []
+
+-- the frame asks to make an object
+abbrev pub create : Ask
+create = ask.Do call.CreateObject
+
+-- the entry of its first call, an object and its handle
+abbrev pub object_made : Entry
+object_made = call_at 0 call.CreateObject status.Ok (out.Handle (record { 0 = 1 }))
+
+-- the machine as the frame has begun
+abbrev pub begun : Machine
+begun = final_of tight opening_asks opening_entries
+
+-- the machine after the first call of the frame
+abbrev pub first_called : Machine
+first_called = final_of tight (opening_asks ++ create ∷ []) (opening_entries ++ object_made ∷ [])
+
+-- at the first call: where the frame is cut, and where it is not
+pub record CutsAtFirstCall : Type 0 where
+  -- the first call has its place
+  pub first : RunsBy tight (opening_asks ++ create ∷ []) (opening_entries ++ object_made ∷ [])
+  -- so its frame is not cut there as full, at no call that needs one place
+  pub room : (c : Call) → need c ≡ 1 → IsNext begun (ask.Do c) (cut_by cause.Init why.Full) → ⊥
+  -- a call of a function needs two, so there it is cut as full, and nothing else may come
+  pub calls : (receiver : Option HandleId) (f : HandleId) (args : Args) → IsOnlyNext begun (ask.Do (call.CallFunction receiver f args)) (cut_by cause.Init why.Full)
+  -- for want of memory it may be cut at a call that grows, and not at `typeof`, which does not
+  pub grows : IsNext begun create (cut_by cause.Init why.Memory)
+  pub stays : (h : HandleId) → IsNext begun (ask.Do (call.Typeof h)) (cut_by cause.Init why.Memory) → ⊥
+
+-- at the second call, whichever of those built it is, the frame is cut as full, and nothing else may come
+abbrev pub FullAtSecondCall : Type 0
+FullAtSecondCall = (c : Call) → is_built c ≡ true → IsOnlyNext first_called (ask.Do c) (cut_by cause.Init why.Full)
+
+-- an addon that asks another call is taken to leave
+abbrev pub LeavesAtUnbuiltCall : Type 0
+LeavesAtUnbuiltCall = (c : Call) → is_built c ≡ false → IsOnlyNext first_called (ask.Do c) (host_entry host.End out.Nothing)
+
+-- THE LAST ASK
+-- a frame that has made 65,536 asks is cut for that whatever it would ask, and nothing else may come
+abbrev pub CutAtLastAsk : Type 0
+CutAtLastAsk = (m : Machine) (f : Frame) (fs : List Frame) (a : Ask) → m.env.frames ≡ f ∷ fs → f.asks ≡ 65536 → IsOnlyNext m a (cut_by f.cause why.Asks)
+
+-- before that no frame is
+abbrev pub NotBeforeLastAsk : Type 0
+NotBeforeLastAsk = (m : Machine) (f : Frame) (fs : List Frame) (a : Ask) → m.env.frames ≡ f ∷ fs → f.asks < 65536 → IsNext m a (cut_by f.cause why.Asks) → ⊥

@@ -1,0 +1,92 @@
+-- The first run: an addon opens a scope, makes an object in it, asks for its kind and closes the scope.
+use Rattle.std.specs.Prelude.{◌≡◌, ℕ, List, [], ◌∷◌, ◌++◌, map, set, replicate, codes}
+use Rattle.napi_types.specs.declared.call.Ask.{Ask}
+use Rattle.napi_types.specs.declared.call.Call.TheVariants as call
+use Rattle.napi_types.specs.declared.op.Op.TheVariants as op
+use Rattle.napi_types.specs.declared.entry.Entry.{Entry}
+use Rattle.napi_types.specs.declared.entry.Local.{Local}
+use Rattle.napi_types.specs.declared.entry.LoopEnd.{LoopEnd}
+use Rattle.napi_types.specs.declared.entry.LoopEnd.TheVariants as loop_end
+use Rattle.napi_types.specs.declared.entry.Out.TheVariants as out
+use Rattle.napi_types.specs.declared.status.Kind.{Kind}
+use Rattle.napi_types.specs.declared.status.Kind.TheVariants as kind
+use Rattle.napi_types.specs.declared.status.Status.TheVariants as status
+use Rattle.napi_types.specs.Plan.{registers_of}
+use Rattle.napi_types.specs.Text.{text}
+use Rattle.napi_types.specs.Texts.{fixed_texts}
+use Rattle.machine_laws.specs.Traces.{script_of, call_at, opening_entries, frame_end, great_events, gone_entry, loop_ended, left_out}
+use Rattle.napi_types.specs.Weave.{weave}
+use Rattle.napi_types.specs.Whole.{Setting, EndsBy, final_registers}
+use Rattle.machine_laws.specs.Told.{IsRun, told_asks}
+
+-- the script: the scope's number goes to register 0, the handle's to register 1, the kind's to register 2
+abbrev pub setting : Setting
+setting = script_of (op.OpenHandleScope 0 ∷ op.CreateObject 1 ∷ op.Typeof 1 2 ∷ op.CloseHandleScope 0 ∷ [])
+
+-- the call of `typeof`, with this kind as its result
+abbrev pub typeof_entry : Kind → Entry
+typeof_entry k = call_at 2 (call.Typeof (record { 0 = 1 })) status.Ok (out.Kind k)
+
+-- the four calls
+abbrev pub calls : List Entry
+calls =
+    call_at 0 call.OpenHandleScope status.Ok (out.Scope (record { 0 = 1 }))
+    ∷ call_at 1 call.CreateObject status.Ok (out.Handle (record { 0 = 1 }))
+    ∷ typeof_entry kind.Object
+    ∷ call_at 3 (call.CloseHandleScope (record { 0 = 1 })) status.Ok out.Nothing
+    ∷ []
+
+-- an entry of the journal at this length of the history
+abbrev pub local_entry : ℕ → Entry → Local
+local_entry n x = record { at = n; entry = x }
+
+-- the journal: all entries up to the frame's end stand before the history's first, and the end of the run behind its last
+abbrev pub journal : List Local
+journal = map (λ x. local_entry 0 x) (opening_entries ++ calls ++ frame_end ∷ []) ++ local_entry 4 gone_entry ∷ []
+
+-- the history: the four events of the hub
+abbrev pub history : List Entry
+history = great_events
+
+-- the whole run
+abbrev pub trace : List Entry
+trace = weave journal history
+
+-- what the script asks along it
+abbrev pub asks : List Ask
+asks = told_asks setting trace
+
+-- the weave of the two lists is a run of the script that comes to its end
+abbrev pub Ends : Type 0
+Ends = EndsBy setting asks trace
+
+-- its text is these twelve lines
+abbrev pub Prints : Type 0
+Prints = text fixed_texts trace ≡
+    codes "1 env opened 0 9\n"
+    ++ codes "2 env begin 0 init:0.0\n"
+    ++ codes "3 env open_handle_scope 0 scope\n"
+    ++ codes "4 env create_object 0 handle\n"
+    ++ codes "5 env typeof 0 object\n"
+    ++ codes "6 env close_handle_scope 0 -\n"
+    ++ codes "7 env end 0 -\n"
+    ++ codes "8 env go 0 -\n"
+    ++ codes "9 env loop_end 0 idle\n"
+    ++ codes "10 env drain 0 0\n"
+    ++ codes "11 env finals 0 -\n"
+    ++ codes "12 env gone 0 -\n"
+
+-- the addon keeps the scope's number, the handle's, and 6, the number of the kind of an object; its other registers stay 0
+abbrev pub Keeps : Type 0
+Keeps = registers_of (final_registers setting asks trace) 0 ≡ 1 ∷ 1 ∷ 6 ∷ replicate 29 0
+
+-- NEAR MISSES, whatever is asked along them
+pub record IsStrict : Type 0 where
+  -- `typeof` can tell no kind but that of an object
+  pub kind : (k : Kind) → IsRun setting (set trace 4 (typeof_entry k)) → k ≡ kind.Object
+  -- no call is left out
+  pub close : IsRun setting (left_out 5 trace) → ⊥
+  -- the loop ends for no other reason
+  pub reason : (e : LoopEnd) → IsRun setting (set trace 8 (loop_ended e)) → e ≡ loop_end.Idle
+  -- nothing comes after the end of the run
+  pub last : (x : Entry) → IsRun setting (trace ++ x ∷ []) → ⊥

@@ -1,0 +1,17 @@
+pub mod CallAndError
+pub mod CallLaws
+pub mod ClosedScope
+pub mod Computing
+pub mod Cuts
+pub mod Depth
+pub mod EscapeTwice
+pub mod FirstRun
+pub mod NamesRun
+pub mod PendingException
+pub mod ReferenceCounts
+pub mod RunLaws
+pub mod ScopeOrder
+pub mod StaleHandle
+pub mod StrongAndWeak
+pub mod Told
+pub mod Traces

@@ -1,0 +1,31 @@
+-- Laws over all runs, and over all stores.
+use Rattle.std.specs.Prelude.{◌≡◌, ℕ, Bool, true, List, take, ◌↔◌}
+use Rattle.napi_types.specs.declared.call.Ask.{Ask}
+use Rattle.napi_types.specs.declared.entry.Entry.{Entry}
+use Rattle.napi_types.specs.Lists.{has_number}
+use Rattle.napi_types.specs.Machine.{Machine}
+use Rattle.napi_types.specs.Reach.{numbers, children_at, reach_from}
+use Rattle.napi_types.specs.Whole.{Setting, RunsBy}
+use Rattle.napi_types.specs.Run.{IsRunBy}
+use Rattle.machine_laws.specs.Computing.{ComputesBy}
+use Rattle.napi_types.specs.Values.{Value}
+
+-- a run, and what computes to be one, are the same
+abbrev pub RunsAreComputed : Type 0
+RunsAreComputed = (m : Machine) (bs : List Ask) (xs : List Entry) → (IsRunBy m bs xs ↔ ComputesBy m bs xs)
+
+-- what came of a run up to any moment is a run
+abbrev pub FrontsAreRuns : Type 0
+FrontsAreRuns = (s : Setting) (bs : List Ask) (xs : List Entry) (n : ℕ) → RunsBy s bs xs → RunsBy s (take n bs) (take n xs)
+
+-- what roots reach: each root that a value has, each child of what is reached that a value has, and no more, since every set of numbers that has both has it
+pub record IsLeastReach (vs : List Value) (roots : List ℕ) : Type 0 where
+  pub rooted : (n : ℕ) → has_number n (numbers vs) ≡ true → has_number n roots ≡ true → has_number n (reach_from vs roots) ≡ true
+  pub closed : (n m : ℕ) → has_number n (reach_from vs roots) ≡ true → has_number m (children_at vs n) ≡ true → has_number m (numbers vs) ≡ true
+      → has_number m (reach_from vs roots) ≡ true
+  pub least : (p : ℕ → Bool) → ((n : ℕ) → has_number n (numbers vs) ≡ true → has_number n roots ≡ true → p n ≡ true)
+      → ((n m : ℕ) → p n ≡ true → has_number m (children_at vs n) ≡ true → has_number m (numbers vs) ≡ true → p m ≡ true)
+      → (n : ℕ) → has_number n (reach_from vs roots) ≡ true → p n ≡ true
+
+abbrev pub ReachIsLeast : Type 0
+ReachIsLeast = (vs : List Value) (roots : List ℕ) → IsLeastReach vs roots

@@ -1,0 +1,27 @@
+//! Laws over all calls in all environments.
+ghost use Rattle.machine_laws.specs.CallLaws.{RefusesUnknownHandles, EveryCallHasARow, RefusedCallsChangeNothing, ErrorNamesAreFixed, ReferencesAreNamedAlone};
+
+/// A refused call answers the first refusal that applies and changes nothing, but that the depth limit leaves its error pending.
+pub fn refused_calls_change_nothing()
+    ensures { RefusedCallsChangeNothing }
+{}
+
+/// A handle that no open scope holds is an invalid argument, and the call that names it changes nothing.
+pub fn refuses_unknown_handles()
+    ensures { RefusesUnknownHandles }
+{}
+
+/// Each call but that of a function, which enters a frame, is answered by exactly one group of calls.
+pub fn every_call_has_a_row()
+    ensures { EveryCallHasARow }
+{}
+
+/// An error's properties are named by the texts `message` and `code`.
+pub fn error_names_are_fixed()
+    ensures { ErrorNamesAreFixed }
+{}
+
+/// A call that names a reference names no handle and no text, so that the order of their refusals shows nowhere.
+pub fn references_are_named_alone()
+    ensures { ReferencesAreNamedAlone }
+{}

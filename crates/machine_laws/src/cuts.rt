@@ -1,0 +1,23 @@
+//! Laws of where a frame is cut.
+ghost use Rattle.machine_laws.specs.Cuts.{CutsAtFirstCall, FullAtSecondCall, LeavesAtUnbuiltCall, CutAtLastAsk, NotBeforeLastAsk};
+
+/// A frame's first call has its place in a tight journal, a call of a function has not and is cut; for want of memory it may be cut at a call that grows, but not at `typeof`.
+pub fn cuts_at_first_call()
+    ensures { CutsAtFirstCall }
+{}
+
+/// At the second call, whichever it is, the frame is cut as full.
+pub fn cuts_at_second_call()
+    ensures { FullAtSecondCall }
+{}
+
+/// A call that is not built is never made: an addon that asks it is taken to leave its frame.
+pub fn leaves_at_unbuilt_call()
+    ensures { LeavesAtUnbuiltCall }
+{}
+
+/// A frame that has made 65,536 asks is cut for that, and none is before.
+pub fn cuts_at_last_ask()
+    ensures last { CutAtLastAsk }
+    ensures early { NotBeforeLastAsk }
+{}

@@ -1,0 +1,11 @@
+//! What the machine's definitions come to, as laws: each function does nothing, and its contract states a law.
+//! Worked runs of scripts are such laws, and so is what holds over all calls and all runs. No crate stands on this one,
+//! so that a definition's change proves no more than the laws of it. The laws that proofs above cite stand in `napi_types`.
+#![tactic(auto)]
+
+pub mod calls;
+pub mod cuts;
+pub mod function_runs;
+pub mod runs;
+pub mod scope_runs;
+pub mod value_runs;

@@ -1,0 +1,17 @@
+//! Laws over all runs, and over all stores.
+ghost use Rattle.machine_laws.specs.RunLaws.{FrontsAreRuns, RunsAreComputed, ReachIsLeast};
+
+/// A run, and what computes to be one, are the same.
+pub fn runs_are_computed()
+    ensures { RunsAreComputed }
+{}
+
+/// What came of a run up to any moment is a run.
+pub fn fronts_are_runs()
+    ensures { FrontsAreRuns }
+{}
+
+/// What roots reach is the least set of the numbers of values that has each root and each child of its members.
+pub fn reach_is_least()
+    ensures { ReachIsLeast }
+{}

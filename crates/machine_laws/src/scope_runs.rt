@@ -1,0 +1,86 @@
+//! Worked runs of handles and scopes, each as laws: that it is a run to its end, its text, and that near misses are no run.
+ghost use Rattle.machine_laws.specs.FirstRun as first_run;
+ghost use Rattle.machine_laws.specs.ScopeOrder as scope_order;
+ghost use Rattle.machine_laws.specs.ClosedScope as closed_scope;
+ghost use Rattle.machine_laws.specs.EscapeTwice as escape_twice;
+ghost use Rattle.machine_laws.specs.StaleHandle as stale_handle;
+
+/// The first run: the entries are a run of its script and come to its end.
+pub fn first_run_ends()
+    ensures { first_run.Ends }
+{}
+
+/// The text of the first run, line by line.
+pub fn first_run_prints()
+    ensures { first_run.Prints }
+{}
+
+/// What the addon of the first run keeps in its registers.
+pub fn first_run_registers()
+    ensures { first_run.Keeps }
+{}
+
+/// Entries that differ from the first run in one place are no run of its script.
+pub fn first_run_is_strict()
+    ensures { first_run.IsStrict }
+{}
+
+/// The order of scopes: the entries are a run of its script and come to its end.
+pub fn scope_order_ends()
+    ensures { scope_order.Ends }
+{}
+
+/// The text of the order of scopes, line by line.
+pub fn scope_order_prints()
+    ensures { scope_order.Prints }
+{}
+
+/// A refused close has no other status.
+pub fn scope_order_is_strict()
+    ensures { scope_order.IsStrict }
+{}
+
+/// A handle used after its scope closed: the entries are a run of its script and come to its end.
+pub fn closed_scope_ends()
+    ensures { closed_scope.Ends }
+{}
+
+/// The text of that run, line by line.
+pub fn closed_scope_prints()
+    ensures { closed_scope.Prints }
+{}
+
+/// The call with that handle has no other status, and tells no kind.
+pub fn closed_scope_is_strict()
+    ensures { closed_scope.IsStrict }
+{}
+
+/// A handle that escapes twice: the entries are a run of its script and come to its end.
+pub fn escape_twice_ends()
+    ensures { escape_twice.Ends }
+{}
+
+/// The text of that run, line by line.
+pub fn escape_twice_prints()
+    ensures { escape_twice.Prints }
+{}
+
+/// The first escape gives the next handle and the second none, and after the close the handle that escaped alone is good.
+pub fn escape_twice_is_strict()
+    ensures { escape_twice.IsStrict }
+{}
+
+/// A handle that is read after its scope closed, and the last status after that: the entries are a run of its script and come to its end.
+pub fn stale_handle_ends()
+    ensures { stale_handle.Ends }
+{}
+
+/// The text of that run, line by line.
+pub fn stale_handle_prints()
+    ensures { stale_handle.Prints }
+{}
+
+/// The refused call has no other status, and it is the last one, also after it was asked for.
+pub fn stale_handle_is_strict()
+    ensures { stale_handle.IsStrict }
+{}

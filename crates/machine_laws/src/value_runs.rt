@@ -1,0 +1,49 @@
+//! Worked runs of properties, elements, references and collections, each as laws.
+ghost use Rattle.machine_laws.specs.NamesRun as names_run;
+ghost use Rattle.machine_laws.specs.StrongAndWeak as strong_and_weak;
+ghost use Rattle.machine_laws.specs.ReferenceCounts as reference_counts;
+
+/// Properties and elements: the entries are a run of their script and come to its end.
+pub fn names_run_ends()
+    ensures { names_run.Ends }
+{}
+
+/// The text of that run, line by line.
+pub fn names_run_prints()
+    ensures { names_run.Prints }
+{}
+
+/// No other name is listed first, an absent name gives no other kind, and the refused calls have no other status.
+pub fn names_run_is_strict()
+    ensures { names_run.IsStrict }
+{}
+
+/// A value that a reference alone keeps, and collections before and after the reference is weak: the entries are a run of their script and come to its end.
+pub fn strong_and_weak_ends()
+    ensures { strong_and_weak.Ends }
+{}
+
+/// The text of that run, line by line.
+pub fn strong_and_weak_prints()
+    ensures { strong_and_weak.Prints }
+{}
+
+/// A strong reference keeps its value and a weak one does not; without a value the reference gives no handle and is not counted up, and none is counted below 0.
+pub fn strong_and_weak_is_strict()
+    ensures { strong_and_weak.IsStrict }
+{}
+
+/// The greatest count, a reference that is deleted twice, and a reference to a number: the entries are a run of their script and come to its end.
+pub fn reference_counts_ends()
+    ensures { reference_counts.Ends }
+{}
+
+/// The text of that run, line by line.
+pub fn reference_counts_prints()
+    ensures { reference_counts.Prints }
+{}
+
+/// The greatest count is not passed, what was deleted is deleted once, and no reference is to a number.
+pub fn reference_counts_is_strict()
+    ensures { reference_counts.IsStrict }
+{}
