@@ -1,7 +1,8 @@
 //! Laws of where a frame is cut.
 ghost use Rattle.machine_laws.specs.Cuts.{CutsAtFirstCall, FullAtSecondCall, LeavesAtUnbuiltCall, CutAtLastAsk, NotBeforeLastAsk};
 
-/// A frame's first call has its place in a tight journal, a call of a function has not and is cut; for want of memory it may be cut at a call that grows, but not at `typeof`.
+/// In a tight journal a frame's first call has its place, and a call of a function has not and is cut.
+/// For want of memory the frame may be cut at a call that grows, but not at `typeof`, which does not.
 pub fn cuts_at_first_call()
     ensures { CutsAtFirstCall }
 {}

@@ -28,7 +28,8 @@ pub fn strong_and_weak_prints()
     ensures { strong_and_weak.Prints }
 {}
 
-/// A strong reference keeps its value and a weak one does not; without a value the reference gives no handle and is not counted up, and none is counted below 0.
+/// A strong reference keeps its value and a weak one does not; without a value the reference gives no handle and is not counted up,
+/// and none is counted below 0.
 pub fn strong_and_weak_is_strict()
     ensures { strong_and_weak.IsStrict }
 {}
