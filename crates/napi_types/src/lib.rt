@@ -1,6 +1,7 @@
 //! What every crate of the environment speaks of: numbers, calls, entries, lists, texts, and the ends of the outside.
 //! Its `specs/` hold the definitions of the machine that the contracts of all crates cite, a file for each subject;
-//! `laws` states what holds of all runs and is cited above; more stand in `machine_laws`. Lists and texts are seen as lists. Every other crate stands on this one.
+//! `laws` states what holds of all runs and is cited above; other laws stand in `machine_laws`.
+//! Lists and texts are seen as lists. Every other crate stands on this one.
 #![tactic(auto)]
 
 mod body;
