@@ -6,9 +6,6 @@ ghost use Rattle.std.specs.Prelude.{◌≡◌, ◌≢◌, IfOk, map, drop, strin
 ghost use Rattle.std.specs.IoError.{error_kind};
 ghost use Rattle.std.specs.Vec.Iter.{into_iter_items};
 
-#[cfg(test)]
-mod tests;
-
 use addon_trait::Addon;
 use napi_types::{NoMemory, OpenGate, Record, Text};
 use script_addon::ScriptAddon;

@@ -58,33 +58,3 @@ pub(crate) fn read_all<S: Source>(alloc: Global, source: &mut S) -> Result<Vec<u
     }
     Err(ReadError::Long)
 }
-
-#[cfg(test)]
-mod tests {
-    use super::*;
-    use napi_types::MemSource;
-    use std::test::Fail;
-
-    // A source of two pieces and a half, whole and with a fault at the third read.
-    #[test]
-    fn reads_to_the_end_or_to_a_fault(rt: HostRuntime) -> Result<(), Fail> {
-        let mut whole = MemSource::of(vec![in rt.alloc(); 7; 10_240]?, Vec::new(rt.alloc()));
-        let Ok(bytes) = read_all(rt.alloc(), &mut whole) else {
-            assert!(rt; false, "it has an end");
-            return Ok(());
-        };
-        assert_eq!(rt; bytes.len(), 10_240);
-        let mut failing = MemSource::of(vec![in rt.alloc(); 7; 10_240]?, vec![in rt.alloc(); 2]?);
-        assert!(rt; matches!(read_all(rt.alloc(), &mut failing), Err(ReadError::Fault)));
-        Ok(())
-    }
-
-    #[test]
-    fn refuses_one_byte_too_many(rt: HostRuntime) -> Result<(), Fail> {
-        let mut longest = MemSource::of(vec![in rt.alloc(); 7; 4_194_304]?, Vec::new(rt.alloc()));
-        assert!(rt; read_all(rt.alloc(), &mut longest).is_ok());
-        let mut longer = MemSource::of(vec![in rt.alloc(); 7; 4_194_305]?, Vec::new(rt.alloc()));
-        assert!(rt; matches!(read_all(rt.alloc(), &mut longer), Err(ReadError::Long)));
-        Ok(())
-    }
-}

@@ -60,6 +60,3 @@ pub(crate) fn run(
     run_alone(&mut env, addons);
     Ok(env.into_record())
 }
-
-#[cfg(test)]
-mod tests;

@@ -119,28 +119,3 @@ fn put_path<K: Sink>(sink: &mut K, path: &Text) -> Result<(), Failed>
     put_text(sink, "\n")?;
     Ok(())
 }
-
-#[cfg(test)]
-mod tests {
-    use super::*;
-    use std::alloc::Global;
-
-    /// The answer at these words, `None` where there was no memory for them.
-    fn answer(alloc: Global, words: &[&str]) -> Option<bool> {
-        let mut texts = Vec::new(alloc);
-        for word in words {
-            texts.push(Text::of(alloc, word).ok()?).ok()?;
-        }
-        Some(is_run(&texts))
-    }
-
-    #[test]
-    fn only_the_word_run_is_a_command_line(rt: HostRuntime) {
-        let alloc = rt.alloc();
-        assert_eq!(rt; answer(alloc, &["run"]), Some(true));
-        assert_eq!(rt; answer(alloc, &[]), Some(false));
-        assert_eq!(rt; answer(alloc, &["run", "x"]), Some(false));
-        assert_eq!(rt; answer(alloc, &["Run"]), Some(false));
-        assert_eq!(rt; answer(alloc, &["-h"]), Some(false));
-    }
-}
