@@ -71,12 +71,10 @@ fn texts_of(alloc: Global, words: &[&str]) -> Result<Vec<Text>, Fail> {
     Ok(texts)
 }
 
-/// A text followed by spaces, up to so many bytes.
+/// A text followed by spaces, so many bytes in all where the text has no more.
 fn padded(alloc: Global, text: &[u8], length: usize) -> Result<Vec<u8>, Fail> {
-    let mut bytes = Vec::from_slice(alloc, text)?;
-    for _ in text.len()..length {
-        bytes.push(b' ')?;
-    }
+    let mut bytes = vec![in alloc; b' '; length.max(text.len())]?;
+    bytes[..text.len()].copy_from_slice(text);
     Ok(bytes)
 }
 

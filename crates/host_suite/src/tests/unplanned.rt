@@ -56,7 +56,7 @@ impl Addon for Unplanned {
 }
 
 /// The status of a run of a script with three addons of this kind, whose text the sink takes.
-fn unplanned<R: Threads + Wait + Sync>(
+fn status_without_plan<R: Threads + Wait + Sync>(
     rt: &R,
     alloc: Global,
     way: Way,
@@ -111,7 +111,7 @@ fn prints<R: Threads + Wait + Sync>(
     let trace = trace_of(alloc, lines)?;
     let mut sink = MemSink::new(alloc, LONGEST, Vec::new(alloc));
     let mut left = Record::blank(alloc);
-    let status = unplanned(rt, alloc, way, FIRST_RUN, &mut sink, &mut left)?;
+    let status = status_without_plan(rt, alloc, way, FIRST_RUN, &mut sink, &mut left)?;
     Ok(status == 0 && sink.bytes() == trace.as_bytes())
 }
 
@@ -165,7 +165,7 @@ fn lengths<R: Threads + Wait + Sync>(
 ) -> Result<(u8, usize, usize), Fail> {
     let mut sink = MemSink::new(alloc, LONGEST, Vec::new(alloc));
     let mut left = Record::blank(alloc);
-    let status = unplanned(rt, alloc, Way::Brief, script, &mut sink, &mut left)?;
+    let status = status_without_plan(rt, alloc, Way::Brief, script, &mut sink, &mut left)?;
     Ok((
         status,
         left.journal.items().len(),
