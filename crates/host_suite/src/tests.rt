@@ -130,3 +130,17 @@ fn holds<R: Threads + Wait + Sync>(rt: &R, alloc: Global, case: &Case) -> Result
     let status = status_of(rt, alloc, case, &mut sink)?;
     Ok(status == case.status && sink.bytes() == case.written)
 }
+
+/// The first of these cases that does not hold.
+fn first_wrong<R: Threads + Wait + Sync>(
+    rt: &R,
+    alloc: Global,
+    cases: &[Case],
+) -> Result<Option<usize>, Fail> {
+    for (at, case) in cases.iter().enumerate() {
+        if !holds(rt, alloc, case)? {
+            return Ok(Some(at));
+        }
+    }
+    Ok(None)
+}

@@ -1,66 +1,65 @@
 //! Faults at each call of a source and of a sink.
 use super::*;
 
-#[test]
-fn ends_at_each_fault_of_the_source(rt: HostRuntime) -> Result<(), Fail> {
+/// A case of a source that fails.
+const READ_FAULT: Case = Case {
+    status: 4,
+    written: b"read fault\n",
+    ..PLAIN
+};
+
+const FAULTS: &[Case] = &[
     // One read gives the script, the next one its end.
-    for (reads, status, written) in [
-        ([0].as_slice(), 4, b"read fault\n".as_slice()),
-        ([1].as_slice(), 4, b"read fault\n".as_slice()),
-        ([2].as_slice(), 0, FIRST_TRACE),
-    ] {
-        let case = Case {
-            reads,
-            status,
-            written,
-            ..PLAIN
-        };
-        assert!(rt; holds(&rt, rt.alloc(), &case)?, "at {reads:?}");
-    }
-    Ok(())
-}
-
-#[test]
-fn reads_piece_after_piece(rt: HostRuntime) -> Result<(), Fail> {
-    // Three reads give its bytes, at most 4,096 in one, and the next one its end.
-    for (reads, status, written) in [
-        ([].as_slice(), 0, FIRST_TRACE),
-        ([2].as_slice(), 4, b"read fault\n".as_slice()),
-        ([3].as_slice(), 4, b"read fault\n".as_slice()),
-        ([4].as_slice(), 0, FIRST_TRACE),
-    ] {
-        let case = Case {
-            length: 10_240,
-            reads,
-            status,
-            written,
-            ..PLAIN
-        };
-        assert!(rt; holds(&rt, rt.alloc(), &case)?, "at {reads:?}");
-    }
-    Ok(())
-}
-
-#[test]
-fn a_sink_may_take_one_byte_at_a_time(rt: HostRuntime) -> Result<(), Fail> {
-    let case = Case {
+    Case {
+        reads: &[0],
+        ..READ_FAULT
+    },
+    Case {
+        reads: &[1],
+        ..READ_FAULT
+    },
+    Case {
+        reads: &[2],
+        ..PLAIN
+    },
+    // Three reads give the source's bytes, at most 4,096 in one, and the next one its end.
+    Case {
+        length: 10_240,
+        ..PLAIN
+    },
+    Case {
+        length: 10_240,
+        reads: &[2],
+        ..READ_FAULT
+    },
+    Case {
+        length: 10_240,
+        reads: &[3],
+        ..READ_FAULT
+    },
+    Case {
+        length: 10_240,
+        reads: &[4],
+        ..PLAIN
+    },
+    // A sink that takes one byte at a time.
+    Case {
         greatest: 1,
         ..PLAIN
-    };
-    assert!(rt; holds(&rt, rt.alloc(), &case)?);
-    Ok(())
-}
-
-#[test]
-fn a_fault_at_a_refusal_line_keeps_the_status(rt: HostRuntime) -> Result<(), Fail> {
-    let case = Case {
+    },
+    // A fault at a refusal's line keeps the status.
+    Case {
         words: &[],
         writes: &[1],
         status: 2,
         written: b"usage: napi_host",
         ..PLAIN
-    };
-    assert!(rt; holds(&rt, rt.alloc(), &case)?);
+    },
+];
+
+#[test]
+fn ends_at_each_fault(rt: HostRuntime) -> Result<(), Fail> {
+    assert_eq!(rt; first_wrong(&rt, rt.alloc(), FAULTS)?, None);
     Ok(())
 }
 

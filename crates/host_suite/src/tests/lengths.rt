@@ -4,68 +4,94 @@ ghost use Rattle.std.specs.Prelude.{Some};
 use super::*;
 use napi_types::{Failed, SafeSource};
 
+/// A case of a source that is too long.
+const TOO_LONG: Case = Case {
+    length: LONGEST + 1,
+    status: 7,
+    written: b"refused length\n",
+    ..PLAIN
+};
+
+const LENGTHS: &[Case] = &[
+    Case {
+        length: LONGEST,
+        ..PLAIN
+    },
+    TOO_LONG,
+    Case {
+        length: LONGEST,
+        script: EMPTY,
+        written: EMPTY_TRACE,
+        ..PLAIN
+    },
+    Case {
+        script: EMPTY,
+        ..TOO_LONG
+    },
+];
+
 #[test]
 fn reads_the_longest_source_and_no_longer(rt: HostRuntime) -> Result<(), Fail> {
-    let long = b"refused length\n".as_slice();
-    for (script, length, status, written) in [
-        (FIRST_RUN, LONGEST, 0, FIRST_TRACE),
-        (FIRST_RUN, LONGEST + 1, 7, long),
-        (EMPTY, LONGEST, 0, EMPTY_TRACE),
-        (EMPTY, LONGEST + 1, 7, long),
-    ] {
-        let case = Case {
-            script,
-            length,
-            status,
-            written,
-            ..PLAIN
-        };
-        assert!(rt; holds(&rt, rt.alloc(), &case)?, "at {length}");
-    }
+    assert_eq!(rt; first_wrong(&rt, rt.alloc(), LENGTHS)?, None);
     Ok(())
 }
 
+/// A case of a source that fails, and gives no JSON text.
+const FAILS: Case = Case {
+    script: b"{",
+    status: 4,
+    written: b"read fault\n",
+    ..PLAIN
+};
+
+/// Sources that give no JSON text: of several causes the first is told.
+const CAUSES: &[Case] = &[
+    Case {
+        length: LONGEST,
+        status: 3,
+        written: b"refused json\n",
+        ..FAILS
+    },
+    // It is too long as well.
+    Case {
+        script: b"{",
+        ..TOO_LONG
+    },
+    // It fails before its end.
+    Case {
+        reads: &[1],
+        ..FAILS
+    },
+    Case {
+        length: LONGEST,
+        reads: &[1],
+        ..FAILS
+    },
+    // It would be too long, but fails before.
+    Case {
+        length: LONGEST + 1,
+        reads: &[0],
+        ..FAILS
+    },
+    Case {
+        length: LONGEST + 1,
+        reads: &[1],
+        ..FAILS
+    },
+    // The words are no command line, so nothing of it is read.
+    Case {
+        words: &["load"],
+        length: LONGEST + 1,
+        reads: &[0],
+        status: 2,
+        written: b"usage: napi_host run\n",
+        ..FAILS
+    },
+];
+
 #[test]
 fn answers_the_first_of_causes_that_stand_together(rt: HostRuntime) -> Result<(), Fail> {
-    let run = ["run"].as_slice();
-    let fault = b"read fault\n".as_slice();
-    // The source gives no JSON text, of so many bytes, and these of its calls fail.
-    for (words, length, reads, status, written) in [
-        (run, LONGEST, [].as_slice(), 3, b"refused json\n".as_slice()),
-        // It is too long as well.
-        (
-            run,
-            LONGEST + 1,
-            [].as_slice(),
-            7,
-            b"refused length\n".as_slice(),
-        ),
-        // It fails before its end.
-        (run, 1, [1].as_slice(), 4, fault),
-        (run, LONGEST, [1].as_slice(), 4, fault),
-        // It would be too long, but fails before.
-        (run, LONGEST + 1, [0].as_slice(), 4, fault),
-        (run, LONGEST + 1, [1].as_slice(), 4, fault),
-        // The words are no command line, so nothing of it is read.
-        (
-            ["load"].as_slice(),
-            LONGEST + 1,
-            [0].as_slice(),
-            2,
-            b"usage: napi_host run\n".as_slice(),
-        ),
-    ] {
-        let case = Case {
-            words,
-            script: b"{",
-            length,
-            reads,
-            status,
-            written,
-            ..PLAIN
-        };
-        assert!(rt; holds(&rt, rt.alloc(), &case)?, "at {length}, {status}");
-    }
+    assert_eq!(rt; first_wrong(&rt, rt.alloc(), CAUSES)?, None);
     Ok(())
 }
 

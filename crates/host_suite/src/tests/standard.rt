@@ -69,35 +69,3 @@ fn a_write_of_no_bytes_is_a_fault(rt: HostRuntime) {
     assert!(rt; idle.write(b"abc").is_err());
     assert!(rt; matches!(idle.write(b""), Ok(0)));
 }
-
-/// The status of the first run with a broken reader or a broken writer: a fault of an end is the program's.
-fn broken_status<R: Threads + Wait + Sync, S: Source, K: Sink>(
-    rt: &R,
-    alloc: Global,
-    source: &mut S,
-    sink: &mut K,
-) -> Result<u8, Fail> {
-    let words = texts_of(alloc, &["run"])?;
-    ended(rt, alloc, &words, source, sink, 1)
-}
-
-#[test]
-fn a_broken_end_ends_the_run(rt: HostRuntime) -> Result<(), Fail> {
-    let alloc = rt.alloc();
-    let mut sink = MemSink::new(alloc, 16, Vec::new(alloc));
-    assert_eq!(rt;
-        broken_status(&rt, alloc, &mut StdSource::new(Broken), &mut sink)?,
-        4
-    );
-    let mut source = StdSource::new(FIRST_RUN);
-    assert_eq!(rt;
-        broken_status(&rt, alloc, &mut source, &mut StdSink::new(Broken))?,
-        5
-    );
-    let mut source = StdSource::new(FIRST_RUN);
-    assert_eq!(rt;
-        broken_status(&rt, alloc, &mut source, &mut StdSink::new(Idle))?,
-        5
-    );
-    Ok(())
-}
