@@ -10,8 +10,6 @@ mod handles;
 mod journal;
 mod roots;
 mod state;
-#[cfg(test)]
-mod tests;
 
 pub use env::{EnvCore, Stepped};
 pub use frames::StandingFrame;

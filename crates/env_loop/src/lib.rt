@@ -5,8 +5,6 @@
 
 mod history;
 mod run;
-#[cfg(test)]
-mod tests;
 mod turn;
 
 pub use run::{EnvRun, run_alone};

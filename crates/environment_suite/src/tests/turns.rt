@@ -1,9 +1,9 @@
 //! A function is made and called, turn by turn.
 ghost use Rattle.std.specs.Prelude.{None};
 
-use crate::{EnvRun, LocalTurn, run_alone};
 use addon_trait::Addon;
 use env_core::EnvCore;
+use env_loop::{EnvRun, LocalTurn, run_alone};
 use napi_types::{AddonPlan, Args, Ask, Call, HandleId, Limits, Out, Record, Reply};
 use std::alloc::Global;
 use std::test::Fail;
