@@ -91,6 +91,3 @@ pub fn read_script(alloc: Global, bytes: &[u8]) -> Result<Script, Refusal>
         Err(stop) => Err(told(alloc, stop)),
     }
 }
-
-#[cfg(test)]
-mod tests;

@@ -8,8 +8,6 @@ mod merge;
 mod pending;
 mod put;
 mod scan;
-#[cfg(test)]
-mod tests;
 mod write;
 
 pub use laws::examples;

@@ -1,0 +1,7 @@
+//! Tests by their subjects.
+mod asks;
+mod events;
+mod limits;
+mod results;
+mod sinks;
+mod traces;
