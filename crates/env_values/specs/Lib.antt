@@ -1,3 +1,4 @@
+pub mod Creating
 pub mod Numbering
 pub mod Seen
 pub mod Steps

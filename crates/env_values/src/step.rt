@@ -4,6 +4,7 @@ ghost use Rattle.napi_types.specs.Built.{is_value_call};
 ghost use Rattle.napi_types.specs.Calls.{answer_in};
 ghost use Rattle.napi_types.specs.Room.{is_growing};
 ghost use Rattle.napi_types.specs.Values.{true_value, false_value};
+ghost use Rattle.env_values.specs.Creating.{is_creating};
 ghost use Rattle.env_values.specs.Numbering.{HasNumbersLeft};
 ghost use Rattle.env_values.specs.Seen.{heap_of, HoldsLive, KeepsValues};
 ghost use Rattle.env_values.specs.Steps.{ComesOf};
@@ -45,17 +46,16 @@ fn place_of(flag: bool) -> u32
     if flag { 2 } else { 3 }
 }
 
-/// What a call comes to.
+/// What a call comes to that creates a value, or gives a handle of a starting value.
 #[tactic(auto, using(crate::proofs::Numbering::number_left))]
-fn outcome(
-    alloc: Global,
+fn creation(
     store: &mut Store,
     scopes: &mut Scopes,
     texts: u32,
     addon: u32,
     call: &Call,
 ) -> Result<Out, Stop>
-    requires value_call { is_value_call call.now ≡ true }
+    requires creating { is_creating call.now ≡ true }
     requires standing { scopes.old.frames ≢ [] }
     requires live { HoldsLive store.old scopes.old }
     requires values { HasNumbersLeft store.old }
@@ -81,6 +81,32 @@ fn outcome(
             Ok(create_function(store, scopes, addon, entry, payload)?)
         }
         Call::CreateError(code, message) => create_error(store, scopes, texts, code, message),
+        _ => unreachable!(),
+    }
+}
+
+/// What a call comes to.
+#[tactic(auto, using(crate::proofs::Numbering::number_left))]
+fn outcome(
+    alloc: Global,
+    store: &mut Store,
+    scopes: &mut Scopes,
+    texts: u32,
+    addon: u32,
+    call: &Call,
+) -> Result<Out, Stop>
+    requires value_call { is_value_call call.now ≡ true }
+    requires standing { scopes.old.frames ≢ [] }
+    requires live { HoldsLive store.old scopes.old }
+    requires values { HasNumbersLeft store.old }
+    requires handles { scopes.old.handles < 2 ^ 62 }
+    ensures comes { let before = heap_of store.old scopes.old in
+        ComesOf texts addon before call.now result (heap_of store.new scopes.new) }
+    ensures live { HoldsLive store.new scopes.new }
+    ensures calls { scopes.new.by_call ≡ scopes.old.by_call }
+    ensures kept { KeepsValues store.old store.new }
+{
+    match *call {
         Call::Typeof(value) => Ok(type_of(store, scopes, texts, value)?),
         Call::IsArray(value) => Ok(is_array(store, scopes, texts, value)?),
         Call::IsError(value) => Ok(is_error(store, scopes, texts, value)?),
@@ -108,7 +134,7 @@ fn outcome(
         }
         Call::GetElement(object, index) => get_element(store, scopes, texts, object, index),
         Call::HasElement(object, index) => Ok(has_element(store, scopes, texts, object, index)?),
-        _ => unreachable!(),
+        _ => creation(store, scopes, texts, addon, call),
     }
 }
 
