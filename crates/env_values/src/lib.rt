@@ -11,8 +11,6 @@ mod properties;
 mod reads;
 mod step;
 mod stop;
-#[cfg(test)]
-mod tests;
 mod values;
 
 pub use errors::{error_value, thrown_value};

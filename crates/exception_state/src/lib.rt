@@ -4,7 +4,5 @@
 #![tactic(auto)]
 
 mod exceptions;
-#[cfg(test)]
-mod tests;
 
 pub use exceptions::Exceptions;

@@ -4,8 +4,6 @@
 #![tactic(auto)]
 
 mod scopes;
-#[cfg(test)]
-mod tests;
 
 pub use napi_types::ScopeKind;
 pub use scopes::Scopes;

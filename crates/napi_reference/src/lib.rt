@@ -7,7 +7,5 @@
 mod freed;
 mod refs;
 mod rows;
-#[cfg(test)]
-mod tests;
 
 pub use refs::Refs;

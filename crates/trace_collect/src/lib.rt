@@ -5,7 +5,5 @@
 
 mod collection;
 mod marks;
-#[cfg(test)]
-mod tests;
 
 pub use collection::collect;

@@ -7,8 +7,6 @@
 mod info;
 mod places;
 mod store;
-#[cfg(test)]
-mod tests;
 
 pub use info::ValueInfo;
 pub use napi_types::Body;

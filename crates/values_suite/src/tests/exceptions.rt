@@ -1,5 +1,5 @@
 //! Each call once.
-use crate::Exceptions;
+use exception_state::Exceptions;
 use napi_types::{Status, ValueId};
 
 #[test]

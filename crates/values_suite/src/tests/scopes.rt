@@ -1,0 +1,370 @@
+//! Each call of the handle scopes, with its refusals, where there is memory.
+ghost use Rattle.std.specs.Prelude.{◌≡◌};
+ghost use Rattle.handle_scope.specs.HandleScopes.{no_scopes, frame_entered};
+
+use super::ample;
+use handle_scope::Scopes;
+use napi_types::{HandleId, ScopeId, ScopeKind, Status, ValueId};
+use std::alloc::Global;
+use std::process::Abort;
+
+const PLAIN: ScopeKind = ScopeKind::Plain;
+
+const ESCAPABLE: ScopeKind = ScopeKind::Escapable;
+
+/// The handle scopes of one frame.
+fn in_frame(rt: &impl Abort, alloc: Global) -> Scopes
+    ensures { result ≡ frame_entered no_scopes }
+{
+    let mut scopes = ample(rt, Scopes::new(alloc));
+    scopes.enter_frame();
+    scopes
+}
+
+fn number(answer: Result<(), Status>) -> u16 {
+    match answer {
+        Ok(()) => 0,
+        Err(status) => status.number(),
+    }
+}
+
+/// One close: whether it names the inner scope, and the kind as which it closes it.
+type Close = (bool, ScopeKind);
+
+fn close(scopes: &mut Scopes, outer: ScopeId, inner: ScopeId, which: Close) -> u16 {
+    number(scopes.close_scope(if which.0 { inner } else { outer }, which.1))
+}
+
+/// What two closes answer where a scope of the second kind stands inside one of the first.
+fn closes(
+    rt: &impl Abort,
+    alloc: Global,
+    kinds: (ScopeKind, ScopeKind),
+    first: Close,
+    second: Close,
+) -> (u16, u16) {
+    let mut scopes = in_frame(rt, alloc);
+    let outer = ample(rt, scopes.open_scope(kinds.0));
+    let inner = ample(rt, scopes.open_scope(kinds.1));
+    let one = close(&mut scopes, outer, inner, first);
+    (one, close(&mut scopes, outer, inner, second))
+}
+
+#[test]
+fn only_the_innermost_scope_closes(rt: HostRuntime) {
+    let rows = [
+        (false, false, (13, 13)),
+        (false, true, (13, 0)),
+        (true, false, (0, 0)),
+        (true, true, (0, 1)),
+    ];
+    for (first, second, want) in rows {
+        for kind in [PLAIN, ESCAPABLE] {
+            let answers = closes(&rt, rt.alloc(), (kind, kind), (first, kind), (second, kind));
+            assert_eq!(rt; answers, want);
+        }
+    }
+}
+
+#[test]
+fn a_scope_closes_as_its_own_kind(rt: HostRuntime) {
+    let mixed = (PLAIN, ESCAPABLE);
+    let swapped = (ESCAPABLE, PLAIN);
+    let rows = [
+        (mixed, (true, PLAIN), (true, ESCAPABLE), (13, 0)),
+        (mixed, (true, ESCAPABLE), (false, ESCAPABLE), (0, 13)),
+        (mixed, (true, ESCAPABLE), (false, PLAIN), (0, 0)),
+        (mixed, (true, ESCAPABLE), (true, PLAIN), (0, 1)),
+        (swapped, (true, ESCAPABLE), (false, ESCAPABLE), (13, 13)),
+        (swapped, (true, PLAIN), (false, PLAIN), (0, 13)),
+        (swapped, (true, PLAIN), (false, ESCAPABLE), (0, 0)),
+        (
+            (ESCAPABLE, ESCAPABLE),
+            (false, PLAIN),
+            (true, PLAIN),
+            (13, 13),
+        ),
+        ((PLAIN, PLAIN), (true, ESCAPABLE), (true, PLAIN), (13, 0)),
+    ];
+    for (kinds, first, second, want) in rows {
+        assert_eq!(rt; closes(&rt, rt.alloc(), kinds, first, second), want);
+    }
+}
+
+/// The number of a handle's value, 0 where no open scope holds the handle.
+fn value(scopes: &Scopes, handle: HandleId) -> u64 {
+    match scopes.look(handle) {
+        Some(value) => value.0,
+        None => 0,
+    }
+}
+
+fn values(scopes: &Scopes, handles: [HandleId; 3]) -> [u64; 3] {
+    let [first, second, third] = handles;
+    [
+        value(scopes, first),
+        value(scopes, second),
+        value(scopes, third),
+    ]
+}
+
+fn value_at(scopes: &Scopes, at: usize) -> u64 {
+    if at < scopes.held() {
+        scopes.held_at(at).map_or(0, |value| value.0)
+    } else {
+        0
+    }
+}
+
+/// The values of three handles, of the values 7, 8 and 9, the third in a scope of the second's frame, and how many are
+/// held: at first, and after that scope is closed or its frame is left.
+fn looks(rt: &impl Abort, alloc: Global, leaves: bool) -> [([u64; 3], usize); 2] {
+    let mut scopes = in_frame(rt, alloc);
+    let first = ample(rt, scopes.issue(ValueId(7)));
+    scopes.enter_frame();
+    let second = ample(rt, scopes.issue(ValueId(8)));
+    let scope = ample(rt, scopes.open_scope(PLAIN));
+    let third = ample(rt, scopes.issue(ValueId(9)));
+    let handles = [first, second, third];
+    let before = (values(&scopes, handles), scopes.held());
+    if leaves {
+        scopes.leave_frame();
+    } else {
+        let _ = scopes.close_scope(scope, PLAIN);
+    }
+    [before, (values(&scopes, handles), scopes.held())]
+}
+
+#[test]
+fn handles_are_good_while_their_scope_is_open(rt: HostRuntime) {
+    let before = ([7, 8, 9], 4);
+    for (leaves, after) in [(false, ([7, 8, 0], 2)), (true, ([7, 0, 0], 1))] {
+        assert_eq!(rt; looks(&rt, rt.alloc(), leaves), [before, after]);
+    }
+}
+
+/// Two handles, of the values 7 and 8, each in a scope of its own, the first of which is closed: their numbers, the
+/// values of both, what closing the first scope and closing it again answer, and the values at the two places.
+fn reissues(rt: &impl Abort, alloc: Global) -> [(u64, u64); 4] {
+    let mut scopes = in_frame(rt, alloc);
+    let stale = ample(rt, scopes.open_scope(PLAIN));
+    let first = ample(rt, scopes.issue(ValueId(7)));
+    let closes = number(scopes.close_scope(stale, PLAIN));
+    ample(rt, scopes.open_scope(PLAIN));
+    let second = ample(rt, scopes.issue(ValueId(8)));
+    let values = (value(&scopes, first), value(&scopes, second));
+    let again = number(scopes.close_scope(stale, PLAIN));
+    [
+        (first.0, second.0),
+        values,
+        (u64::from(closes), u64::from(again)),
+        (value_at(&scopes, 0), value_at(&scopes, 1)),
+    ]
+}
+
+#[test]
+fn no_number_is_given_out_again(rt: HostRuntime) {
+    let want = [(1, 2), (0, 8), (0, 1), (0, 8)];
+    assert_eq!(rt; reissues(&rt, rt.alloc()), want);
+}
+
+/// Two handles in a frame, of the values 7 and 8, the first at a place that was reserved twice: their numbers, the values
+/// of both, and how many are held.
+fn issues(rt: &impl Abort, alloc: Global) -> ((u64, u64), (u64, u64), usize) {
+    let mut scopes = in_frame(rt, alloc);
+    ample(rt, scopes.reserve());
+    ample(rt, scopes.reserve());
+    let first = scopes.issue_reserved(ValueId(7));
+    let second = ample(rt, scopes.issue(ValueId(8)));
+    (
+        (first.0, second.0),
+        (value(&scopes, first), value(&scopes, second)),
+        scopes.held(),
+    )
+}
+
+#[test]
+fn a_reserved_place_takes_a_handle(rt: HostRuntime) {
+    assert_eq!(rt; issues(&rt, rt.alloc()), ((1, 2), (7, 8), 2));
+}
+
+/// The status of a refused escape, 0 where the handle escapes.
+fn refusal(answer: Result<HandleId, Status>) -> u16 {
+    match answer {
+        Ok(_) => 0,
+        Err(status) => status.number(),
+    }
+}
+
+/// What an escape answers out of a plain scope, out of an escapable one around that, out of the same again, out of the
+/// same inside a frame that a call entered, and out of the same once it is closed.
+fn escapes(rt: &impl Abort, alloc: Global) -> [u16; 5] {
+    let mut scopes = in_frame(rt, alloc);
+    let outer = ample(rt, scopes.open_scope(ESCAPABLE));
+    let inner = ample(rt, scopes.open_scope(PLAIN));
+    let plain = refusal(scopes.escape(inner, ValueId(7)));
+    let first = refusal(scopes.escape(outer, ValueId(8)));
+    let twice = refusal(scopes.escape(outer, ValueId(9)));
+    ample(rt, scopes.enter_call());
+    let inside = refusal(scopes.escape(outer, ValueId(9)));
+    let _ = scopes.leave_call(None);
+    let _ = scopes.close_scope(inner, PLAIN);
+    let _ = scopes.close_scope(outer, ESCAPABLE);
+    let closed = refusal(scopes.escape(outer, ValueId(9)));
+    [plain, first, twice, inside, closed]
+}
+
+#[test]
+fn one_handle_escapes_from_an_escapable_scope(rt: HostRuntime) {
+    assert_eq!(rt; escapes(&rt, rt.alloc()), [1, 0, 12, 1, 1]);
+}
+
+/// How many places the scopes have, and the values at the first six of them, 0 where a place is not filled or is none.
+fn places(scopes: &Scopes) -> (usize, [u64; 6]) {
+    (
+        scopes.held(),
+        [
+            value_at(scopes, 0),
+            value_at(scopes, 1),
+            value_at(scopes, 2),
+            value_at(scopes, 3),
+            value_at(scopes, 4),
+            value_at(scopes, 5),
+        ],
+    )
+}
+
+/// The places with the values 7, 8 and 9 in a frame, in an escapable scope of it and in a plain scope of that: at first,
+/// after the value 6 escaped from the escapable scope, after the plain one is closed, and after both are; and the value of
+/// the handle that escaped after each of these.
+fn steps(rt: &impl Abort, alloc: Global) -> ([(usize, [u64; 6]); 4], [u64; 3]) {
+    let mut scopes = in_frame(rt, alloc);
+    ample(rt, scopes.issue(ValueId(7)));
+    let outer = ample(rt, scopes.open_scope(ESCAPABLE));
+    ample(rt, scopes.issue(ValueId(8)));
+    let inner = ample(rt, scopes.open_scope(PLAIN));
+    ample(rt, scopes.issue(ValueId(9)));
+    let before = places(&scopes);
+    let handle = scopes.escape(outer, ValueId(6)).unwrap_or(HandleId(0));
+    let escaped = (places(&scopes), value(&scopes, handle));
+    let _ = scopes.close_scope(inner, PLAIN);
+    let closed = (places(&scopes), value(&scopes, handle));
+    let _ = scopes.close_scope(outer, ESCAPABLE);
+    let left = (places(&scopes), value(&scopes, handle));
+    (
+        [before, escaped.0, closed.0, left.0],
+        [escaped.1, closed.1, left.1],
+    )
+}
+
+#[test]
+fn an_escaped_handle_takes_its_place_around_the_scope(rt: HostRuntime) {
+    let want = [
+        (5, [7, 0, 8, 0, 9, 0]),
+        (5, [7, 6, 8, 0, 9, 0]),
+        (3, [7, 6, 8, 0, 0, 0]),
+        (2, [7, 6, 0, 0, 0, 0]),
+    ];
+    assert_eq!(rt; steps(&rt, rt.alloc()), (want, [6, 6, 6]));
+}
+
+/// The places of calls inside each other: the value 7 in the outermost frame, 8 in the frame of a call, 9 in that of a
+/// call of it; then, after that one gave the value 5, after another one gave nothing, and after the outer one gave this.
+fn calls(rt: &impl Abort, alloc: Global, outer: Option<ValueId>) -> [(usize, [u64; 6]); 4] {
+    let mut scopes = in_frame(rt, alloc);
+    ample(rt, scopes.issue(ValueId(7)));
+    ample(rt, scopes.enter_call());
+    ample(rt, scopes.issue(ValueId(8)));
+    ample(rt, scopes.open_scope(PLAIN));
+    ample(rt, scopes.enter_call());
+    ample(rt, scopes.issue(ValueId(9)));
+    ample(rt, scopes.open_scope(ESCAPABLE));
+    let all = places(&scopes);
+    let _ = scopes.leave_call(Some(ValueId(5)));
+    let one = places(&scopes);
+    ample(rt, scopes.enter_call());
+    ample(rt, scopes.issue(ValueId(9)));
+    let _ = scopes.leave_call(None);
+    let none = places(&scopes);
+    let _ = scopes.leave_call(outer);
+    [all, one, none, places(&scopes)]
+}
+
+#[test]
+fn the_caller_holds_what_a_call_gives(rt: HostRuntime) {
+    let all = (5, [7, 8, 0, 9, 0, 0]);
+    let one = (4, [7, 8, 0, 5, 0, 0]);
+    for (outer, last) in [
+        (Some(ValueId(4)), (2, [7, 4, 0, 0, 0, 0])),
+        (None, (1, [7, 0, 0, 0, 0, 0])),
+    ] {
+        assert_eq!(rt; calls(&rt, rt.alloc(), outer), [all, one, one, last]);
+    }
+}
+
+/// The handle that a call gives, 0 where it gives none.
+fn given(rt: &impl Abort, alloc: Global, value: Option<ValueId>) -> u64 {
+    let mut scopes = in_frame(rt, alloc);
+    ample(rt, scopes.enter_call());
+    ample(rt, scopes.issue(ValueId(7)));
+    scopes.leave_call(value).map_or(0, |handle| handle.0)
+}
+
+#[test]
+fn a_call_gives_a_handle_for_a_value(rt: HostRuntime) {
+    for (value, handle) in [(Some(ValueId(8)), 2), (None, 0)] {
+        assert_eq!(rt; given(&rt, rt.alloc(), value), handle);
+    }
+}
+
+/// The values of three handles that escaped one after the other: out of the innermost of three scopes, out of the
+/// outermost, and out of one that stands where the first was: at the end, and once that one is closed.
+fn replaced(rt: &impl Abort, alloc: Global) -> [[u64; 3]; 2] {
+    let mut scopes = in_frame(rt, alloc);
+    let outer = ample(rt, scopes.open_scope(ESCAPABLE));
+    let middle = ample(rt, scopes.open_scope(PLAIN));
+    let inner = ample(rt, scopes.open_scope(ESCAPABLE));
+    let first = scopes.escape(inner, ValueId(7)).unwrap_or(HandleId(0));
+    let second = scopes.escape(outer, ValueId(8)).unwrap_or(HandleId(0));
+    let _ = scopes.close_scope(inner, ESCAPABLE);
+    let _ = scopes.close_scope(middle, PLAIN);
+    ample(rt, scopes.open_scope(PLAIN));
+    let inner = ample(rt, scopes.open_scope(ESCAPABLE));
+    let third = scopes.escape(inner, ValueId(9)).unwrap_or(HandleId(0));
+    let before = values(&scopes, [first, second, third]);
+    let _ = scopes.close_scope(inner, ESCAPABLE);
+    [before, values(&scopes, [first, second, third])]
+}
+
+#[test]
+fn a_handle_is_no_other_that_escaped_in_its_place(rt: HostRuntime) {
+    assert_eq!(rt; replaced(&rt, rt.alloc()), [[0, 8, 9], [0, 8, 9]]);
+}
+
+/// The values of four handles that escaped from scopes inside each other, out of the innermost first: at once, after all
+/// scopes but the outermost are closed, and after that one is closed too.
+fn nested(rt: &impl Abort, alloc: Global) -> [(u64, [u64; 3]); 3] {
+    let mut scopes = in_frame(rt, alloc);
+    let one = ample(rt, scopes.open_scope(ESCAPABLE));
+    let two = ample(rt, scopes.open_scope(ESCAPABLE));
+    let three = ample(rt, scopes.open_scope(ESCAPABLE));
+    let four = ample(rt, scopes.open_scope(ESCAPABLE));
+    let first = scopes.escape(four, ValueId(7)).unwrap_or(HandleId(0));
+    let second = scopes.escape(three, ValueId(8)).unwrap_or(HandleId(0));
+    let third = scopes.escape(two, ValueId(9)).unwrap_or(HandleId(0));
+    let fourth = scopes.escape(one, ValueId(10)).unwrap_or(HandleId(0));
+    let rest = [second, third, fourth];
+    let all = (value(&scopes, first), values(&scopes, rest));
+    for scope in [four, three, two] {
+        let _ = scopes.close_scope(scope, ESCAPABLE);
+    }
+    let some = (value(&scopes, first), values(&scopes, rest));
+    let _ = scopes.close_scope(one, ESCAPABLE);
+    [all, some, (value(&scopes, first), values(&scopes, rest))]
+}
+
+#[test]
+fn a_handle_stays_found_as_others_are_forgotten(rt: HostRuntime) {
+    let want = [(7, [8, 9, 10]), (0, [0, 9, 10]), (0, [0, 0, 10])];
+    assert_eq!(rt; nested(&rt, rt.alloc()), want);
+}
