@@ -2,9 +2,10 @@
 use Rattle.std.proofs.Common.{◌≡◌, ◌<◌, ◌≤◌, ℕ, List, [], ◌∷◌, length, refl, arith, None}
 use Rattle.serde_json.specs.View.{items_view}
 use Rattle.serde_json.specs.declared.value.Value.{Value}
+use Rattle.napi_types.specs.declared.op.Op.{Op}
 use Rattle.napi_types.specs.ScriptArguments.{registers_among, job_of}
 use Rattle.serde_json.specs.Data.{Data}
-use Rattle.napi_types.specs.ScriptOperations.{of_many, text_operation, thread_operation_named}
+use Rattle.napi_types.specs.ScriptOperations.{with_more_arguments, text_operation, thread_operation_named}
 
 pub job-few : (vs : List Value) → length vs < 2 → job_of (items_view vs) ≡ None
 unfolding job_of
@@ -29,32 +30,32 @@ registers-many (a ∷ b ∷ c ∷ []) many = absurd (omega arith)
 registers-many (a ∷ b ∷ c ∷ d ∷ []) many = absurd (omega arith)
 registers-many (a ∷ b ∷ c ∷ d ∷ e ∷ vs) many = refl
 
-pub of_many-one : (k : ℕ) (name : List ℕ) (a b c d e : Data) (vs : List Value) → 1 ≤ length vs → length vs < 2 → of_many k name a b c d e (items_view vs) ≡ None
-unfolding of_many
-of_many-one k name a b c d e [] some few = absurd (omega arith)
-of_many-one k name a b c d e (f ∷ []) some few = refl
-of_many-one k name a b c d e (f ∷ g ∷ vs) some few = absurd (omega arith)
+pub more-one : (k : ℕ) (kind : Op) (a b c d e : Data) (vs : List Value) → 1 ≤ length vs → length vs < 2 → with_more_arguments k kind a b c d e (items_view vs) ≡ None
+unfolding with_more_arguments
+more-one k kind a b c d e [] some few = absurd (omega arith)
+more-one k kind a b c d e (f ∷ []) some few = refl
+more-one k kind a b c d e (f ∷ g ∷ vs) some few = absurd (omega arith)
 
-pub of_many-many : (k : ℕ) (name : List ℕ) (a b c d e : Data) (vs : List Value) → 3 ≤ length vs → of_many k name a b c d e (items_view vs) ≡ None
-unfolding of_many
-of_many-many k name a b c d e [] many = absurd (omega arith)
-of_many-many k name a b c d e (f ∷ []) many = absurd (omega arith)
-of_many-many k name a b c d e (f ∷ g ∷ []) many = absurd (omega arith)
-of_many-many k name a b c d e (f ∷ g ∷ h ∷ vs) many = refl
+pub more-many : (k : ℕ) (kind : Op) (a b c d e : Data) (vs : List Value) → 3 ≤ length vs → with_more_arguments k kind a b c d e (items_view vs) ≡ None
+unfolding with_more_arguments
+more-many k kind a b c d e [] many = absurd (omega arith)
+more-many k kind a b c d e (f ∷ []) many = absurd (omega arith)
+more-many k kind a b c d e (f ∷ g ∷ []) many = absurd (omega arith)
+more-many k kind a b c d e (f ∷ g ∷ h ∷ vs) many = refl
 
-pub text-few : (table : List (List ℕ)) (name : List ℕ) (vs : List Value) → length vs < 2 → text_operation table name (items_view vs) ≡ None
+pub text-few : (table : List (List ℕ)) (kind : Op) (vs : List Value) → length vs < 2 → text_operation table kind (items_view vs) ≡ None
 unfolding text_operation
-text-few table name [] few = refl
-text-few table name (a ∷ []) few = refl
-text-few table name (a ∷ b ∷ vs) few = absurd (omega arith)
+text-few table kind [] few = refl
+text-few table kind (a ∷ []) few = refl
+text-few table kind (a ∷ b ∷ vs) few = absurd (omega arith)
 
-pub text-many : (table : List (List ℕ)) (name : List ℕ) (vs : List Value) → 4 ≤ length vs → text_operation table name (items_view vs) ≡ None
+pub text-many : (table : List (List ℕ)) (kind : Op) (vs : List Value) → 4 ≤ length vs → text_operation table kind (items_view vs) ≡ None
 unfolding text_operation
-text-many table name [] many = absurd (omega arith)
-text-many table name (a ∷ []) many = absurd (omega arith)
-text-many table name (a ∷ b ∷ []) many = absurd (omega arith)
-text-many table name (a ∷ b ∷ c ∷ []) many = absurd (omega arith)
-text-many table name (a ∷ b ∷ c ∷ d ∷ vs) many = refl
+text-many table kind [] many = absurd (omega arith)
+text-many table kind (a ∷ []) many = absurd (omega arith)
+text-many table kind (a ∷ b ∷ []) many = absurd (omega arith)
+text-many table kind (a ∷ b ∷ c ∷ []) many = absurd (omega arith)
+text-many table kind (a ∷ b ∷ c ∷ d ∷ vs) many = refl
 
 pub thread-none : (name : List ℕ) (vs : List Value) → length vs < 1 → thread_operation_named name (items_view vs) ≡ None
 unfolding thread_operation_named

@@ -11,17 +11,14 @@ ghost use Rattle.napi_types.specs.declared.script.Wrong.TheVariants as wrong;
 mod addon;
 mod arguments;
 mod entry;
+mod forms;
 mod json;
-mod more;
 mod named;
-mod one;
 mod operation;
 mod root;
 mod schedule;
 mod texts;
 mod threads;
-mod three;
-mod two;
 
 use json::{Stop, json_of};
 pub use napi_types::{LimitName, Script};
