@@ -9,6 +9,9 @@ use Rattle.serde_json.proofs.Views.{items_len-items_view, members_len-members_vi
 use Rattle.napi_types.specs.declared.script.Wrong.{Wrong}
 use Rattle.napi_types.specs.Script.{Table, Reading, Read, read_with, each, every, ◌>>=◌}
 use Rattle.script_read.specs.Lists.{onto, before}
+use Rattle.script_read.specs.Reads.{Stops}
+use Rattle.script_read.specs.declared.json.Stop.{Stop}
+use Rattle.script_read.specs.declared.json.Stop.TheVariants as stop
 
 pub items_len_of : (vs : List Value) → items_len (items_view vs) ≡ length vs
 items_len_of vs = items_len-items_view vs
@@ -56,12 +59,18 @@ each-next {A} f xs ys t u vs n v a whole within here e grown h =
     let Q : List A → Type 0 = λ l. onto l (each f (n + 1) u (items_view (drop (n + 1) vs))) ≡ whole in
     subst Q (sym grown) (onto-more xs a _ whole (ap (onto xs) (sym (each-more f n t u v (drop (n + 1) vs) a e)) ∙ subst P (from-here vs n v within here) h))
 
-pub each-stops : {A : Type 0} (f : ℕ → Table → Data → Reading (Read A)) (xs : List A) (t : Table) (vs : List Value) (n : ℕ) (v : Value) (w : Wrong) (whole : Reading (Read (List A)))
+each-stops : {A : Type 0} (f : ℕ → Table → Data → Reading (Read A)) (xs : List A) (t : Table) (vs : List Value) (n : ℕ) (v : Value) (w : Wrong) (whole : Reading (Read (List A)))
     → n < length vs → v ≡ get_or vs n v → f n t (view v) ≡ Err w
     → onto xs (each f n t (items_view (drop n vs))) ≡ whole → whole ≡ Err w
 each-stops f xs t vs n v w whole within here e h =
     let P : List Value → Type 0 = λ l. onto xs (each f n t (items_view l)) ≡ whole in
     sym (subst P (from-here vs n v within here) h) ∙ ap (onto xs) (each-wrong f n t v (drop (n + 1) vs) w e)
+
+pub each-stopped : {A : Type 0} (f : ℕ → Table → Data → Reading (Read A)) (xs : List A) (t : Table) (vs : List Value) (n : ℕ) (v : Value) (s : Stop) (whole : Reading (Read (List A)))
+    → n < length vs → v ≡ get_or vs n v → Stops s (f n t (view v)) → onto xs (each f n t (items_view (drop n vs))) ≡ whole → Stops s whole
+each-stopped f xs t vs n v (stop.Wrong w) whole within here e h = each-stops f xs t vs n v w whole within here e h
+each-stopped f xs t vs n v stop.NoMemory whole within here e h = tt
+each-stopped f xs t vs n v stop.NotJson whole within here e h = absurd e
 
 pub each-ends : {A : Type 0} (f : ℕ → Table → Data → Reading (Read A)) (xs : List A) (t : Table) (vs : List Value) (n : ℕ) (whole : Reading (Read (List A)))
     → length vs ≤ n → onto xs (each f n t (items_view (drop n vs))) ≡ whole → whole ≡ Ok (read_with t xs)
@@ -102,11 +111,17 @@ every-next {A} f xs ys vs n v a whole within here e grown h =
     let Q : List A → Type 0 = λ l. before l (every f (n + 1) (items_view (drop (n + 1) vs))) ≡ whole in
     subst Q (sym grown) (before-more xs a _ whole (ap (before xs) (sym (every-more f n v (drop (n + 1) vs) a e)) ∙ subst P (from-here vs n v within here) h))
 
-pub every-stops : {A : Type 0} (f : ℕ → Data → Reading A) (xs : List A) (vs : List Value) (n : ℕ) (v : Value) (w : Wrong) (whole : Reading (List A))
+every-stops : {A : Type 0} (f : ℕ → Data → Reading A) (xs : List A) (vs : List Value) (n : ℕ) (v : Value) (w : Wrong) (whole : Reading (List A))
     → n < length vs → v ≡ get_or vs n v → f n (view v) ≡ Err w → before xs (every f n (items_view (drop n vs))) ≡ whole → whole ≡ Err w
 every-stops f xs vs n v w whole within here e h =
     let P : List Value → Type 0 = λ l. before xs (every f n (items_view l)) ≡ whole in
     sym (subst P (from-here vs n v within here) h) ∙ ap (before xs) (every-wrong f n v (drop (n + 1) vs) w e)
+
+pub every-stopped : {A : Type 0} (f : ℕ → Data → Reading A) (xs : List A) (vs : List Value) (n : ℕ) (v : Value) (s : Stop) (whole : Reading (List A))
+    → n < length vs → v ≡ get_or vs n v → Stops s (f n (view v)) → before xs (every f n (items_view (drop n vs))) ≡ whole → Stops s whole
+every-stopped f xs vs n v (stop.Wrong w) whole within here e h = every-stops f xs vs n v w whole within here e h
+every-stopped f xs vs n v stop.NoMemory whole within here e h = tt
+every-stopped f xs vs n v stop.NotJson whole within here e h = absurd e
 
 pub every-ends : {A : Type 0} (f : ℕ → Data → Reading A) (xs : List A) (vs : List Value) (n : ℕ) (whole : Reading (List A))
     → length vs ≤ n → before xs (every f n (items_view (drop n vs))) ≡ whole → whole ≡ Ok xs

@@ -1,7 +1,8 @@
 //! The addons of a script.
-ghost use Rattle.std.specs.Prelude.{◌≡◌, IfOk};
+ghost use Rattle.std.specs.Prelude.{◌≡◌};
 ghost use Rattle.serde_json.specs.View.{view, items_view};
 ghost use Rattle.napi_types.specs.Script.{read_with, each, entry_at, is_addon, addon_at};
+ghost use Rattle.script_read.specs.Reads.{ReadsAs};
 
 use crate::entry::entry_at;
 use crate::json::{Stop, has_members, list_at};
@@ -21,9 +22,7 @@ fn each_entry(
     table: &mut Table,
     items: &[Value],
 ) -> Result<OpLists, Stop>
-    ensures ok { IfOk result (λ found. each (entry_at entries a) 0 table.old (items_view items.now) ≡ Ok (read_with table.new found)) }
-    ensures wrong { (w : Wrong) → result ≡ Err (Stop.Wrong w) → each (entry_at entries a) 0 table.old (items_view items.now) ≡ Err w }
-    ensures json { ¬ (result ≡ Err Stop.NotJson) }
+    ensures { ReadsAs (read_with table.new) result (each (entry_at entries a) 0 table.old (items_view items.now)) }
 {
     let mut list = Vec::new(alloc);
     for (e, item) in items.iter().enumerate() {
@@ -46,9 +45,7 @@ fn is_addon(value: &Value) -> bool
 /// An addon: its name, which is a text, and its entries.
 #[tactic(auto, using(crate::proofs::Lists::items_len_of), unfolding(napi_types::specs::Script::addon_at))]
 fn addon_at(alloc: Global, a: usize, table: &mut Table, value: &Value) -> Result<AddonPlan, Stop>
-    ensures ok { IfOk result (λ found. addon_at a table.old (view value.now) ≡ Ok (read_with table.new found)) }
-    ensures wrong { (w : Wrong) → result ≡ Err (Stop.Wrong w) → addon_at a table.old (view value.now) ≡ Err w }
-    ensures json { ¬ (result ≡ Err Stop.NotJson) }
+    ensures { ReadsAs (read_with table.new) result (addon_at a table.old (view value.now)) }
 {
     if !is_addon(value) {
         return Err(Stop::Wrong(Wrong::Shape(Place::Addon(a))));
@@ -69,9 +66,7 @@ fn addon_at(alloc: Global, a: usize, table: &mut Table, value: &Value) -> Result
 
 /// The addons that items are.
 pub(crate) fn each_addon(alloc: Global, table: &mut Table, items: &[Value]) -> Result<Plans, Stop>
-    ensures ok { IfOk result (λ found. each addon_at 0 table.old (items_view items.now) ≡ Ok (read_with table.new found)) }
-    ensures wrong { (w : Wrong) → result ≡ Err (Stop.Wrong w) → each addon_at 0 table.old (items_view items.now) ≡ Err w }
-    ensures json { ¬ (result ≡ Err Stop.NotJson) }
+    ensures { ReadsAs (read_with table.new) result (each addon_at 0 table.old (items_view items.now)) }
 {
     let mut list = Vec::new(alloc);
     for (a, item) in items.iter().enumerate() {

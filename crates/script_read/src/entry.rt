@@ -1,7 +1,7 @@
 //! The entries of an addon and their operations.
-ghost use Rattle.std.specs.Prelude.{◌≡◌, IfOk, Some};
 ghost use Rattle.serde_json.specs.View.{view, items_view};
 ghost use Rattle.napi_types.specs.Script.{read_with, each, operation_at, entry_at};
+ghost use Rattle.script_read.specs.Reads.{ReadsAs};
 
 use crate::json::{Stop, list_at};
 use crate::operation::operation_in;
@@ -24,9 +24,7 @@ fn operation_at(
     table: &mut Table,
     value: &Value,
 ) -> Result<Op, Stop>
-    ensures ok { IfOk result (λ found. operation_at entries a e o table.old (view value.now) ≡ Ok (read_with table.new found)) }
-    ensures wrong { (w : Wrong) → result ≡ Err (Stop.Wrong w) → operation_at entries a e o table.old (view value.now) ≡ Err w }
-    ensures json { ¬ (result ≡ Err Stop.NotJson) }
+    ensures { ReadsAs (read_with table.new) result (operation_at entries a e o table.old (view value.now)) }
 {
     match operation_in(alloc, entries, table, value) {
         Ok(Some(operation)) => Ok(operation),
@@ -44,9 +42,7 @@ fn each_operation(
     table: &mut Table,
     items: &[Value],
 ) -> Result<OpList, Stop>
-    ensures ok { IfOk result (λ found. each (operation_at entries a e) 0 table.old (items_view items.now) ≡ Ok (read_with table.new found)) }
-    ensures wrong { (w : Wrong) → result ≡ Err (Stop.Wrong w) → each (operation_at entries a e) 0 table.old (items_view items.now) ≡ Err w }
-    ensures json { ¬ (result ≡ Err Stop.NotJson) }
+    ensures { ReadsAs (read_with table.new) result (each (operation_at entries a e) 0 table.old (items_view items.now)) }
 {
     let mut list = Vec::new(alloc);
     for (o, item) in items.iter().enumerate() {
@@ -68,9 +64,7 @@ pub(crate) fn entry_at(
     table: &mut Table,
     value: &Value,
 ) -> Result<OpList, Stop>
-    ensures ok { IfOk result (λ found. entry_at entries a e table.old (view value.now) ≡ Ok (read_with table.new found)) }
-    ensures wrong { (w : Wrong) → result ≡ Err (Stop.Wrong w) → entry_at entries a e table.old (view value.now) ≡ Err w }
-    ensures json { ¬ (result ≡ Err Stop.NotJson) }
+    ensures { ReadsAs (read_with table.new) result (entry_at entries a e table.old (view value.now)) }
 {
     let place = Place::Entry(a, e);
     let items = list_at(place, LimitName::Operations, MOST_OPERATIONS, Some(value))?;

@@ -3,6 +3,7 @@ ghost use Rattle.std.specs.Prelude.{◌≡◌, ◌≤◌, IfOk, length, option_m
 ghost use Rattle.serde_json.specs.Find.{as_array};
 ghost use Rattle.serde_json.specs.View.{view, items_view};
 ghost use Rattle.napi_types.specs.Script.{IsJson, IsNoJson, list_at, has_members};
+ghost use Rattle.script_read.specs.Reads.{ReadsAs};
 
 use napi_types::{LimitName, Place, Wrong};
 use serde_json::Value;
@@ -53,9 +54,7 @@ pub(crate) fn list_at<'v>(
     most: usize,
     found: Option<&'v Value>,
 ) -> Result<&'v [Value], Stop>
-    ensures ok { IfOk result (λ items. list_at place which most (option_map (λ v. view v.now) found.entry) ≡ Ok (items_view items.now)) }
-    ensures wrong { (w : Wrong) → result ≡ Err (Stop.Wrong w) → list_at place which most (option_map (λ v. view v.now) found.entry) ≡ Err w }
-    ensures json { ¬ (result ≡ Err Stop.NotJson) }
+    ensures reads { ReadsAs (λ items. items_view items.now) result (list_at place which most (option_map (λ v. view v.now) found.entry)) }
     ensures few { IfOk result (λ items. length items.now ≤ most) }
 {
     let Some(items) = found.and_then(items) else {

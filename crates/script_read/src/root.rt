@@ -5,6 +5,7 @@ ghost use Rattle.napi_types.specs.Script.{read_with, is_root, version_in, worker
 ghost use Rattle.napi_types.specs.Texts.{fixed_texts};
 ghost use Rattle.std.specs.List.{list_all};
 ghost use Rattle.napi_types.specs.ScriptOperations.{is_built_operation};
+ghost use Rattle.script_read.specs.Reads.{Reads, ReadsAs};
 
 use crate::addon::each_addon;
 use crate::arguments::whole;
@@ -48,9 +49,7 @@ fn is_root(value: &Value) -> bool
 /// The version of Node-API.
 #[tactic(auto, unfolding(napi_types::specs::Script::version_in))]
 fn version_in(found: Option<&Value>) -> Result<(), Stop>
-    ensures ok { result ≡ Ok tt → version_in (option_map (λ v. view v.now) found.entry) ≡ Ok tt }
-    ensures wrong { (w : Wrong) → result ≡ Err (Stop.Wrong w) → version_in (option_map (λ v. view v.now) found.entry) ≡ Err w }
-    ensures json { ¬ (result ≡ Err Stop.NotJson) }
+    ensures { Reads result (version_in (option_map (λ v. view v.now) found.entry)) }
 {
     match found.and_then(whole) {
         Some(version) if version == u64::from(NAPI_VERSION) => Ok(()),
@@ -61,9 +60,7 @@ fn version_in(found: Option<&Value>) -> Result<(), Stop>
 /// The number of workers.
 #[tactic(auto, unfolding(napi_types::specs::Script::workers_in))]
 fn workers_in(found: Option<&Value>) -> Result<u32, Stop>
-    ensures ok { IfOk result (λ n. workers_in (option_map (λ v. view v.now) found.entry) ≡ Ok n) }
-    ensures wrong { (w : Wrong) → result ≡ Err (Stop.Wrong w) → workers_in (option_map (λ v. view v.now) found.entry) ≡ Err w }
-    ensures json { ¬ (result ≡ Err Stop.NotJson) }
+    ensures { Reads result (workers_in (option_map (λ v. view v.now) found.entry)) }
 {
     let Some(number) = found.and_then(whole) else {
         return Err(Stop::Wrong(Wrong::Shape(Place::Workers)));
@@ -90,9 +87,7 @@ fn first_texts(alloc: Global) -> Result<Table, Stop>
 /// The addons, with the table of their texts.
 #[tactic(auto, unfolding(napi_types::specs::Script::addons_in))]
 fn addons_in(alloc: Global, found: Option<&Value>) -> Result<(Plans, Table), Stop>
-    ensures ok { IfOk result (λ p. addons_in (option_map (λ v. view v.now) found.entry) ≡ Ok (read_with p.1 p.0)) }
-    ensures wrong { (w : Wrong) → result ≡ Err (Stop.Wrong w) → addons_in (option_map (λ v. view v.now) found.entry) ≡ Err w }
-    ensures json { ¬ (result ≡ Err Stop.NotJson) }
+    ensures { ReadsAs (λ p. read_with p.1 p.0) result (addons_in (option_map (λ v. view v.now) found.entry)) }
 {
     let items = list_at(Place::Addons, LimitName::Addons, MOST_ADDONS, found)?;
     let mut table = first_texts(alloc)?;
@@ -103,9 +98,7 @@ fn addons_in(alloc: Global, found: Option<&Value>) -> Result<(Plans, Table), Sto
 /// The threads.
 #[tactic(auto, unfolding(napi_types::specs::Script::threads_in))]
 fn threads_in(alloc: Global, found: Option<&Value>) -> Result<OpLists, Stop>
-    ensures ok { IfOk result (λ threads. threads_in (option_map (λ v. view v.now) found.entry) ≡ Ok threads) }
-    ensures wrong { (w : Wrong) → result ≡ Err (Stop.Wrong w) → threads_in (option_map (λ v. view v.now) found.entry) ≡ Err w }
-    ensures json { ¬ (result ≡ Err Stop.NotJson) }
+    ensures { Reads result (threads_in (option_map (λ v. view v.now) found.entry)) }
 {
     let items = list_at(Place::Threads, LimitName::Threads, MOST_THREADS, found)?;
     each_thread(alloc, items)
@@ -114,9 +107,7 @@ fn threads_in(alloc: Global, found: Option<&Value>) -> Result<OpLists, Stop>
 /// The script that a value is, whether or not all of it is built.
 #[tactic(auto, unfolding(napi_types::specs::Script::script_in))]
 fn script_in(alloc: Global, value: &Value) -> Result<Script, Stop>
-    ensures ok { IfOk result (λ read. script_in (view value.now) ≡ Ok read) }
-    ensures wrong { (w : Wrong) → result ≡ Err (Stop.Wrong w) → script_in (view value.now) ≡ Err w }
-    ensures json { ¬ (result ≡ Err Stop.NotJson) }
+    ensures { Reads result (script_in (view value.now)) }
 {
     if !is_root(value) {
         return Err(Stop::Wrong(Wrong::Shape(Place::Root)));
@@ -181,9 +172,7 @@ fn is_built_script(script: &Script) -> bool
 /// The script that a value is, where all of it is built.
 #[tactic(auto, unfolding(napi_types::specs::Script::script))]
 pub(crate) fn script(alloc: Global, value: &Value) -> Result<Script, Stop>
-    ensures ok { IfOk result (λ read. script (view value.now) ≡ Ok read) }
-    ensures wrong { (w : Wrong) → result ≡ Err (Stop.Wrong w) → script (view value.now) ≡ Err w }
-    ensures json { ¬ (result ≡ Err Stop.NotJson) }
+    ensures { Reads result (script (view value.now)) }
 {
     let read = script_in(alloc, value)?;
     if is_built_script(&read) {

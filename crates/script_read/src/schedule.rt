@@ -1,8 +1,9 @@
 //! The schedule of a script.
-ghost use Rattle.std.specs.Prelude.{◌≡◌, ◌<◌, IfOk, IfSome, option_map};
+ghost use Rattle.std.specs.Prelude.{◌≡◌, ◌<◌, IfSome, option_map};
 ghost use Rattle.serde_json.specs.View.{view, items_view};
 ghost use Rattle.napi_types.specs.Script.{every, word_at, schedule_in};
 ghost use Rattle.napi_types.specs.ScriptSchedule.{digit, small_number, number_below, lettered, actor_named, actor_in};
+ghost use Rattle.script_read.specs.Reads.{Reads};
 
 use crate::arguments::text;
 use crate::json::{Stop, list_at};
@@ -99,9 +100,7 @@ fn actor_in(threads: usize, workers: usize, value: &Value) -> Option<Actor>
 /// A word of the schedule.
 #[tactic(auto, unfolding(napi_types::specs::Script::word_at))]
 fn word_at(threads: usize, workers: usize, s: usize, value: &Value) -> Result<Actor, Stop>
-    ensures ok { IfOk result (λ found. word_at threads workers s (view value.now) ≡ Ok found) }
-    ensures wrong { (w : Wrong) → result ≡ Err (Stop.Wrong w) → word_at threads workers s (view value.now) ≡ Err w }
-    ensures json { ¬ (result ≡ Err Stop.NotJson) }
+    ensures { Reads result (word_at threads workers s (view value.now)) }
 {
     match actor_in(threads, workers, value) {
         Some(actor) => Ok(actor),
@@ -111,9 +110,7 @@ fn word_at(threads: usize, workers: usize, s: usize, value: &Value) -> Result<Ac
 
 /// The words that items are.
 fn each_word(alloc: Global, threads: usize, workers: usize, items: &[Value]) -> Result<Actors, Stop>
-    ensures ok { IfOk result (λ found. every (word_at threads workers) 0 (items_view items.now) ≡ Ok found) }
-    ensures wrong { (w : Wrong) → result ≡ Err (Stop.Wrong w) → every (word_at threads workers) 0 (items_view items.now) ≡ Err w }
-    ensures json { ¬ (result ≡ Err Stop.NotJson) }
+    ensures { Reads result (every (word_at threads workers) 0 (items_view items.now)) }
 {
     let mut list = Vec::new(alloc);
     for (s, item) in items.iter().enumerate() {
@@ -133,9 +130,7 @@ pub(crate) fn schedule_in(
     workers: usize,
     found: Option<&Value>,
 ) -> Result<Option<Actors>, Stop>
-    ensures ok { IfOk result (λ words. schedule_in threads workers (option_map (λ v. view v.now) found.entry) ≡ Ok words) }
-    ensures wrong { (w : Wrong) → result ≡ Err (Stop.Wrong w) → schedule_in threads workers (option_map (λ v. view v.now) found.entry) ≡ Err w }
-    ensures json { ¬ (result ≡ Err Stop.NotJson) }
+    ensures { Reads result (schedule_in threads workers (option_map (λ v. view v.now) found.entry)) }
 {
     let Some(value) = found else {
         return Ok(None);

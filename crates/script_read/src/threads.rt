@@ -1,8 +1,9 @@
 //! The threads of a script and their operations.
-ghost use Rattle.std.specs.Prelude.{◌≡◌, IfOk};
+ghost use Rattle.std.specs.Prelude.{◌≡◌};
 ghost use Rattle.serde_json.specs.View.{view, items_view};
 ghost use Rattle.napi_types.specs.Script.{every, thread_operation_at, thread_at};
 ghost use Rattle.napi_types.specs.ScriptOperations.{thread_acquire, thread_release, thread_call, thread_operation_named, thread_operation};
+ghost use Rattle.script_read.specs.Reads.{Reads};
 
 use crate::arguments::{mode, release, whole};
 use crate::json::{Stop, list_at};
@@ -74,9 +75,7 @@ fn thread_operation(value: &Value) -> Option<Op>
 /// An operation of a thread.
 #[tactic(auto, unfolding(napi_types::specs::Script::thread_operation_at))]
 fn thread_operation_at(t: usize, o: usize, value: &Value) -> Result<Op, Stop>
-    ensures ok { IfOk result (λ found. thread_operation_at t o (view value.now) ≡ Ok found) }
-    ensures wrong { (w : Wrong) → result ≡ Err (Stop.Wrong w) → thread_operation_at t o (view value.now) ≡ Err w }
-    ensures json { ¬ (result ≡ Err Stop.NotJson) }
+    ensures { Reads result (thread_operation_at t o (view value.now)) }
 {
     match thread_operation(value) {
         Some(operation) => Ok(operation),
@@ -86,9 +85,7 @@ fn thread_operation_at(t: usize, o: usize, value: &Value) -> Result<Op, Stop>
 
 /// The operations that items are.
 fn each_operation(alloc: Global, t: usize, items: &[Value]) -> Result<OpList, Stop>
-    ensures ok { IfOk result (λ found. every (thread_operation_at t) 0 (items_view items.now) ≡ Ok found) }
-    ensures wrong { (w : Wrong) → result ≡ Err (Stop.Wrong w) → every (thread_operation_at t) 0 (items_view items.now) ≡ Err w }
-    ensures json { ¬ (result ≡ Err Stop.NotJson) }
+    ensures { Reads result (every (thread_operation_at t) 0 (items_view items.now)) }
 {
     let mut list = Vec::new(alloc);
     for (o, item) in items.iter().enumerate() {
@@ -103,9 +100,7 @@ fn each_operation(alloc: Global, t: usize, items: &[Value]) -> Result<OpList, St
 /// A thread.
 #[tactic(auto, unfolding(napi_types::specs::Script::thread_at))]
 fn thread_at(alloc: Global, t: usize, value: &Value) -> Result<OpList, Stop>
-    ensures ok { IfOk result (λ found. thread_at t (view value.now) ≡ Ok found) }
-    ensures wrong { (w : Wrong) → result ≡ Err (Stop.Wrong w) → thread_at t (view value.now) ≡ Err w }
-    ensures json { ¬ (result ≡ Err Stop.NotJson) }
+    ensures { Reads result (thread_at t (view value.now)) }
 {
     let place = Place::Thread(t);
     let items = list_at(place, LimitName::Operations, MOST_OPERATIONS, Some(value))?;
@@ -114,9 +109,7 @@ fn thread_at(alloc: Global, t: usize, value: &Value) -> Result<OpList, Stop>
 
 /// The threads that items are.
 pub(crate) fn each_thread(alloc: Global, items: &[Value]) -> Result<OpLists, Stop>
-    ensures ok { IfOk result (λ found. every thread_at 0 (items_view items.now) ≡ Ok found) }
-    ensures wrong { (w : Wrong) → result ≡ Err (Stop.Wrong w) → every thread_at 0 (items_view items.now) ≡ Err w }
-    ensures json { ¬ (result ≡ Err Stop.NotJson) }
+    ensures { Reads result (every thread_at 0 (items_view items.now)) }
 {
     let mut list = Vec::new(alloc);
     for (t, item) in items.iter().enumerate() {
