@@ -15,7 +15,7 @@ use Rattle.napi_types.specs.Lists.{has_number}
 use Rattle.napi_types.specs.Reach.{reach_from}
 use Rattle.napi_types.specs.References.{Reference, ReferenceMap, strong_values, value_left, emptied}
 use Rattle.napi_types.specs.Replies.{plain}
-use Rattle.napi_types.specs.Roots.{reach}
+use Rattle.napi_types.specs.Roots.{roots, reach}
 use Rattle.napi_types.specs.Scopes.{Held, held_by_frames}
 use Rattle.napi_types.specs.Values.{Value}
 use Rattle.value_store.specs.Changes.{Frees}
@@ -27,7 +27,8 @@ use Rattle.trace_collect.specs.Collects.{reached, AreUnreached}
 use Rattle.env_core.specs.Referring.{seen_reference, references_seen, RefersToLive}
 use Rattle.env_core.specs.Rooting.{AreRoots, held_values}
 use Rattle.env_core.specs.State.{pending_seen, IsState, AnswersInTime}
-use Rattle.env_core.proofs.Rooting.{whole, roots-seen}
+use Rattle.env_core.proofs.Rooting.{whole, roots-seen, same-holds}
+use Rattle.napi_types.proofs.Reaching.{reach_from-same}
 
 -- the store freed exactly the live values that are not alive, and the roots are not among them
 pub record FreesOthers (s t : StoreState) (roots freed alive : List ℕ) : Type 0 where
@@ -128,7 +129,8 @@ keeps-roots : (s t : StoreState) (scopes : HandleScopes) (m : ReferenceMap) (p :
 keeps-roots s t scopes m p ids freed alive r c =
     let K : ℕ → Type 0 = λ id. has_number id freed ≡ false in
     let held : List ℕ = held_values scopes in
-    let all : All K (r.starting ++ held ++ strong_values m ++ option_to_list p) = subst (λ (l : List ℕ). All K l) r.are c.kept in
+    let all : All K (r.starting ++ held ++ strong_values m ++ option_to_list p) =
+    same-holds K ids (r.starting ++ held ++ strong_values m ++ option_to_list p) r.are c.kept in
     let outer : All K (r.starting ++ held ++ strong_values m) = All-left K (r.starting ++ held ++ strong_values m) (option_to_list p) all in
     record {
       held = All-right K r.starting held (All-left K (r.starting ++ held) (strong_values m) outer);
@@ -162,7 +164,7 @@ pub collected-answers : (e : Environment) (s t : StoreState) (scopes : HandleSco
 collected-answers e s t scopes frames m n p ids freed alive count i r are c graph counted empty =
     let before : Environment = whole e s scopes m p in
     let k : KeepsRoots freed scopes m p = keeps-roots s t scopes m p ids freed alive r c in
-    let reached : alive ≡ reach before = are ∙ ap (reach_from (graph_of s)) (roots-seen s e scopes m p ids r) in
+    let reached : alive ≡ reach before = are ∙ reach_from-same (graph_of s) (map (number_in s) ids) (roots before) (roots-seen s e scopes m p ids r) in
     let values : graph_of t ≡ those_of (reach before) (graph_of s) = graph ∙ ap (λ a. those_of a (graph_of s)) reached in
     let seen : map (seen_frame t) scopes.frames ≡ map (seen_frame s) scopes.frames = seen-same s t scopes.frames (held-same s t ids freed alive c (held_by_frames scopes.frames) k.held) in
     let heap : heap_of t scopes ≡ record (heap_of s scopes) { values = those_of (reach before) (graph_of s) } =

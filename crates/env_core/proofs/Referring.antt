@@ -1,9 +1,8 @@
 -- References as the machine sees them, and what the calls on them answer.
-use Rattle.std.proofs.Common.{◌≡◌, ℕ, ◌+◌, ◌-◌, ◌==◌, ◌||◌, Bool, true, false, cond, not, List, [], ◌∷◌, map, filter, Option, Some, None, is_some, IsSome, IfSome, option_map, Result, Ok, Err, IfOk, IfErr, OnErr, refl, ap, sym, subst, ◌∙◌}
+use Rattle.std.proofs.Common.{◌≡◌, ℕ, ◌+◌, ◌-◌, ◌==◌, ◌||◌, Bool, true, false, cond, not, List, [], ◌∷◌, map, Option, Some, None, is_some, IsSome, IfSome, option_map, Result, Ok, Err, IfOk, IfErr, OnErr, refl, ap, sym, subst, ◌∙◌}
 use Rattle.std.specs.List.{list_all}
 use Rattle.std.specs.Option.{unwrap_or, option_or}
 use Rattle.std.specs.Result.{result_err}
-use Rattle.std.proofs.lemmas.List.{map-append}
 use Rattle.napi_types.specs.declared.call.Call.{Call}
 use Rattle.napi_types.specs.declared.call.Call.TheVariants as call
 use Rattle.napi_types.specs.declared.entry.Out.{Out}
@@ -17,12 +16,13 @@ use Rattle.napi_types.specs.Calls.{accepted_by, answer_given}
 use Rattle.napi_types.specs.Changes.{number_of, is_fresh}
 use Rattle.napi_types.specs.Environment.{Environment, in_heap}
 use Rattle.napi_types.specs.Graph.{StoreState, IsLive, number_in}
-use Rattle.napi_types.specs.Heap.{Heap, with_handle, handle_of}
-use Rattle.napi_types.specs.Lists.{found, has}
+use Rattle.napi_types.specs.Heap.{Heap, handle_value, with_handle, handle_of}
+use Rattle.napi_types.specs.Lists.{found, has, has_number, with_number}
 use Rattle.napi_types.specs.ReferenceCalls.{counted_up, value_told}
 use Rattle.napi_types.specs.References.{Reference, ReferenceMap, has_reference, reference_at, value_of, count_of, with_reference, without_reference, with_count}
 use Rattle.napi_types.specs.Refusals.{references_of, count_refusal, reference_refusal, refusal_in, timely_refusal}
 use Rattle.napi_types.specs.Replies.{Answer, answered, plain}
+use Rattle.napi_types.proofs.Maps.{map-filter, map-with_record}
 use Rattle.handle_scope.specs.HandleScopes.{HandleScopes}
 use Rattle.env_values.specs.Seen.{heap_of}
 use Rattle.env_values.proofs.Giving.{given-answer}
@@ -81,18 +81,12 @@ module _ (s : StoreState) where
   seen-refusal m c = rw (all-has m (references_of c), counts-seen m c) refl
 
   pub seen-with : (n v count : ℕ) (m : ReferenceMap) → references_seen s (with_reference n v count m) ≡ with_reference n (number_in s v) count (references_seen s m)
-  seen-with n v count m = ap (λ l. record { rows = l; issued = n ∷ m.issued }) (map-append (seen_reference s) m.rows _)
-
-  rows-without : (n : ℕ) (rs : List Reference) → map (seen_reference s) (filter (λ r. not (r.number == n)) rs) ≡ filter (λ r. not (r.number == n)) (map (seen_reference s) rs)
-  rows-without n [] = refl
-  rows-without n (r ∷ rs) = by _ _ (rows-without n rs) (not (r.number == n))
-    where
-      by : (xs ys : List Reference) → map (seen_reference s) xs ≡ ys → (b : Bool) → map (seen_reference s) (cond b (r ∷ xs) xs) ≡ cond b (seen_reference s r ∷ ys) ys
-      by xs ys rest true = ap (λ l. seen_reference s r ∷ l) rest
-      by xs ys rest false = rest
+  seen-with n v count m =
+      ap (λ l. record { rows = l; issued = with_number n m.issued }) (map-with_record (λ (r : Reference). r.number) (seen_reference s) (λ r. refl) _ m.rows)
 
   pub seen-without : (n : ℕ) (m : ReferenceMap) → references_seen s (without_reference n m) ≡ without_reference n (references_seen s m)
-  seen-without n m = ap (λ l. record { rows = l; issued = m.issued }) (rows-without n m.rows)
+  seen-without n m =
+      ap (λ l. record { rows = l; issued = m.issued }) (map-filter (seen_reference s) (λ r. not (r.number == n)) (λ r. not (r.number == n)) (λ r. refl) m.rows)
 
   abbrev recounted : ℕ → ℕ → Reference → Reference
   recounted n count r = cond (r.number == n) (record r { count = count }) r
@@ -152,6 +146,14 @@ accepted-answers : (e : Environment) (s : StoreState) (m n : ReferenceMap) (c : 
     → accepted_by (referring e s m) c (number_of o) ≡ answered o (referring e s n) → AnswersInTime (referring e s m) c (plain status.Ok o) (referring e s n)
 accepted-answers e s m n c o h k fresh is =
     accepted-timely (referring e s m) (referring e s n) c o (by-reference (referring e s m) c None (seen-refusal s m c ∙ sym h) k) fresh is
+
+pub made-answers : (e : Environment) (s : StoreState) (m n : ReferenceMap) (h : HandleId) (v count : ℕ) (r : RefId) → refusal_in e.texts e.heap (call.CreateReference h count) ≡ None
+    → has_number r.0 (0 ∷ m.issued) ≡ false → number_in s v ≡ handle_value e.heap h.0 → n ≡ with_reference r.0 v count m
+    → AnswersInTime (referring e s m) (call.CreateReference h count) (plain status.Ok (out.Ref r)) (referring e s n)
+made-answers e s m n h v count r none fresh is made =
+    accepted-answers e s m n (call.CreateReference h count) (out.Ref r) refl none (ap not fresh)
+    (ap (λ w. answered (out.Ref r) (record e { references = with_reference r.0 w count (references_seen s m) })) (sym is)
+    ∙ ap (λ (x : ReferenceMap). answered (out.Ref r) (record e { references = x })) (sym (ap (references_seen s) made ∙ seen-with s r.0 v count m)))
 
 pub deleted-answers : (e : Environment) (s : StoreState) (m n : ReferenceMap) (r : RefId) → None ≡ reference_refusal m (call.DeleteReference r) → n ≡ without_reference r.0 m
     → AnswersInTime (referring e s m) (call.DeleteReference r) (plain status.Ok out.Nothing) (referring e s n)

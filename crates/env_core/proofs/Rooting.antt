@@ -1,12 +1,14 @@
 -- The roots of the store's state are the machine's.
-use Rattle.std.proofs.Common.{◌≡◌, ℕ, zero, suc, ◌+◌, ◌<◌, arith, append_assoc, length, take, get_or, slice_index_or, ◌==◌, Bool, true, false, cond, List, [], ◌∷◌, ◌++◌, map, filter_map, Option, Some, None, option_map, IfSome, refl, ap, sym, subst, ◌∙◌}
+use Rattle.std.proofs.Common.{◌≡◌, ℕ, zero, suc, ◌+◌, ◌<◌, arith, append_assoc, length, take, get_or, slice_index_or, ◌==◌, ◌||◌, Bool, true, false, cond, inl, inr, List, [], ◌∷◌, ◌++◌, map, filter_map, Option, Some, None, option_map, IfSome, refl, ap, sym, subst, ◌∙◌}
 use Rattle.std.specs.List.{All, cons_option}
 use Rattle.std.proofs.lemmas.List.{map-append, append-nil, take_more}
-use Rattle.std.proofs.lemmas.List.Elements.{filter_map-append, All-nil, All-cons, All-append, All-map}
+use Rattle.std.proofs.lemmas.List.Elements.{filter_map-append, All-nil, All-cons, All-head, All-tail, All-append, All-map}
+use Rattle.std.proofs.lemmas.List.Folds.{list_any-append}
+use Rattle.std.proofs.lemmas.Bool.{or_cases, or_left, or_right, eqb-true, eq-eqb}
 use Rattle.std.specs.Option.{option_to_list}
 use Rattle.napi_types.specs.Environment.{Environment}
 use Rattle.napi_types.specs.Graph.{StoreState, IsLive, number_in}
-use Rattle.napi_types.specs.Lists.{has_number}
+use Rattle.napi_types.specs.Lists.{has_number, HaveSameNumbers}
 use Rattle.napi_types.specs.Reach.{numbers}
 use Rattle.napi_types.specs.References.{Reference, ReferenceMap, strong_value, strong_values}
 use Rattle.napi_types.specs.Roots.{roots}
@@ -21,6 +23,59 @@ use Rattle.env_core.specs.Referring.{seen_reference, references_seen, RefersToLi
 use Rattle.env_core.specs.Rooting.{AreStarting, AreRoots, held_values}
 use Rattle.env_core.specs.State.{pending_seen}
 
+-- THE SAME NUMBERS
+-- what some of these numbers give, the others give
+mapped-among : (f : ℕ → ℕ) (m k : ℕ) (ns : List ℕ) → has_number m ns ≡ true → f m ≡ k → has_number k (map f ns) ≡ true
+mapped-among f m k [] h e = cc
+mapped-among f m k (n ∷ ns) h e =
+    elim (or_cases (n == m) (has_number m ns) h) [
+      | inl same ↦ or_left (f n == k) (has_number k (map f ns)) (eq-eqb (f n) k (ap f (eqb-true n m same) ∙ e))
+      | inr later ↦ or_right (f n == k) (has_number k (map f ns)) (mapped-among f m k ns later e)
+    ]
+
+mapped-within : (f : ℕ → ℕ) (ms ns : List ℕ) → ((n : ℕ) → has_number n ms ≡ true → has_number n ns ≡ true) → (k : ℕ) → has_number k (map f ms) ≡ true → has_number k (map f ns) ≡ true
+mapped-within f [] ns within k h = cc
+mapped-within f (m ∷ ms) ns within k h =
+    elim (or_cases (f m == k) (has_number k (map f ms)) h) [
+      | inl same ↦ mapped-among f m k ns (within m (or_left (m == m) (has_number m ms) (eq-eqb m m refl))) (eqb-true (f m) k same)
+      | inr later ↦ mapped-within f ms ns (λ n here. within n (or_right (m == n) (has_number n ms) here)) k later
+    ]
+
+both_ways : (a b : Bool) → (a ≡ true → b ≡ true) → (b ≡ true → a ≡ true) → a ≡ b
+both_ways true b to from = sym (to refl)
+both_ways false true to from = from refl
+both_ways false false to from = refl
+
+pub same-mapped : (f : ℕ → ℕ) (ms ns : List ℕ) → HaveSameNumbers ms ns → HaveSameNumbers (map f ms) (map f ns)
+same-mapped f ms ns same =
+    λ k. both_ways (has_number k (map f ms)) (has_number k (map f ns)) (mapped-within f ms ns (λ n h. sym (same n) ∙ h) k) (mapped-within f ns ms (λ n h. same n ∙ h) k)
+
+pub same-after : (ls ms ns : List ℕ) → HaveSameNumbers ms ns → HaveSameNumbers (ls ++ ms) (ls ++ ns)
+same-after ls ms ns same =
+    λ n. list_any-append (λ m. m == n) ls ms ∙ ap (λ b. has_number n ls || b) (same n) ∙ sym (list_any-append (λ m. m == n) ls ns)
+
+pub same-before : (ls ms ns : List ℕ) → HaveSameNumbers ms ns → HaveSameNumbers (ms ++ ls) (ns ++ ls)
+same-before ls ms ns same =
+    λ n. list_any-append (λ m. m == n) ms ls ∙ ap (λ b. b || has_number n ls) (same n) ∙ sym (list_any-append (λ m. m == n) ns ls)
+
+-- what holds of all of these numbers holds of all of the others
+among-holds : (P : ℕ → Type 0) (ns : List ℕ) (n : ℕ) → All P ns → has_number n ns ≡ true → P n
+among-holds P [] n all h = cc
+among-holds P (m ∷ ms) n all h =
+    elim (or_cases (m == n) (has_number n ms) h) [
+      | inl same ↦ subst P (eqb-true m n same) (All-head P m ms all)
+      | inr later ↦ among-holds P ms n (All-tail P m ms all) later
+    ]
+
+all-among : (P : ℕ → Type 0) (ns : List ℕ) → ((n : ℕ) → has_number n ns ≡ true → P n) → All P ns
+all-among P [] holds = All-nil P
+all-among P (n ∷ ns) holds =
+    All-cons P n ns (holds n (or_left (n == n) (has_number n ns) (eq-eqb n n refl))) (all-among P ns (λ m here. holds m (or_right (n == m) (has_number m ns) here)))
+
+pub same-holds : (P : ℕ → Type 0) (ms ns : List ℕ) → HaveSameNumbers ms ns → All P ms → All P ns
+same-holds P ms ns same all = all-among P ns (λ n here. among-holds P ms n all (same n ∙ here))
+
+-- THE MACHINE'S ROOTS
 -- the environment with these values, scopes, references and pending exception
 abbrev pub whole : Environment → StoreState → HandleScopes → ReferenceMap → Option ℕ → Environment
 whole e s scopes m p = record e { heap = heap_of s scopes; references = references_seen s m; pending = pending_seen s p }
@@ -72,20 +127,26 @@ module _ (s : StoreState) where
   pending-at None = refl
   pending-at (Some v) = refl
 
-  pub roots-seen : (e : Environment) (scopes : HandleScopes) (m : ReferenceMap) (p : Option ℕ) (ids : List ℕ) → AreRoots s scopes m p ids → map (number_in s) ids ≡ roots (whole e s scopes m p)
-  roots-seen e scopes m p ids r =
+  -- the roots in the order of the machine
+  in-order : (e : Environment) (scopes : HandleScopes) (m : ReferenceMap) (p : Option ℕ) (starting : List ℕ) → AreStarting s starting
+      → map (number_in s) (starting ++ held_values scopes ++ strong_values m ++ option_to_list p) ≡ roots (whole e s scopes m p)
+  in-order e scopes m p starting are =
       let n : List ℕ → List ℕ = map (number_in s) in
       let held : List ℕ = held_values scopes in
       let seen : List ℕ = values_of (held_by_frames (map (seen_frame s) scopes.frames)) in
-      let first : n ids ≡ n (r.starting ++ held ++ strong_values m ++ option_to_list p) = ap n r.are in
-      first
-      ∙ map-append (number_in s) (r.starting ++ held ++ strong_values m) (option_to_list p)
-      ∙ ap (λ l. l ++ n (option_to_list p)) (map-append (number_in s) (r.starting ++ held) (strong_values m))
-      ∙ ap (λ l. l ++ n (strong_values m) ++ n (option_to_list p)) (map-append (number_in s) r.starting held)
-      ∙ ap (λ l. l ++ n held ++ n (strong_values m) ++ n (option_to_list p)) r.are_starting.numbers_are
+      map-append (number_in s) (starting ++ held ++ strong_values m) (option_to_list p)
+      ∙ ap (λ l. l ++ n (option_to_list p)) (map-append (number_in s) (starting ++ held) (strong_values m))
+      ∙ ap (λ l. l ++ n (strong_values m) ++ n (option_to_list p)) (map-append (number_in s) starting held)
+      ∙ ap (λ l. l ++ n held ++ n (strong_values m) ++ n (option_to_list p)) are.numbers_are
       ∙ ap (λ l. numbers starting_values ++ l ++ n (strong_values m) ++ n (option_to_list p)) (sym (frames-seen scopes.frames))
       ∙ ap (λ l. numbers starting_values ++ seen ++ l ++ n (option_to_list p)) (sym (rows-strong m.rows))
       ∙ ap (λ l. numbers starting_values ++ seen ++ strong_values (references_seen s m) ++ l) (sym (pending-at p))
+
+  -- and in any order
+  pub roots-seen : (e : Environment) (scopes : HandleScopes) (m : ReferenceMap) (p : Option ℕ) (ids : List ℕ) → AreRoots s scopes m p ids
+      → HaveSameNumbers (map (number_in s) ids) (roots (whole e s scopes m p))
+  roots-seen e scopes m p ids r =
+      λ n. same-mapped (number_in s) ids (r.starting ++ held_values scopes ++ strong_values m ++ option_to_list p) r.are n ∙ ap (has_number n) (in-order e scopes m p r.starting r.are_starting)
 
 -- the starting values are among them
 starts-with : (which : ℕ) (ns : List ℕ) → which < 5 → has_number (which + 1) (numbers starting_values ++ ns) ≡ true
@@ -100,9 +161,10 @@ pub roots-start : (s : StoreState) (scopes : HandleScopes) (m : ReferenceMap) (p
 roots-start s scopes m p ids r which h =
     let n : List ℕ → List ℕ = map (number_in s) in
     let rest : List ℕ = held_values scopes ++ (strong_values m ++ option_to_list p) in
-    let are : ids ≡ r.starting ++ rest = r.are ∙ simp append_assoc in
-    let seen : n ids ≡ numbers starting_values ++ n rest = ap n are ∙ map-append (number_in s) r.starting rest ∙ ap (λ l. l ++ n rest) r.are_starting.numbers_are in
-    ap (has_number (which + 1)) seen ∙ starts-with which (n rest) h
+    let all : List ℕ = r.starting ++ held_values scopes ++ strong_values m ++ option_to_list p in
+    let are : all ≡ r.starting ++ rest = simp append_assoc in
+    let seen : n all ≡ numbers starting_values ++ n rest = ap n are ∙ map-append (number_in s) r.starting rest ∙ ap (λ l. l ++ n rest) r.are_starting.numbers_are in
+    same-mapped (number_in s) ids all r.are (which + 1) ∙ ap (has_number (which + 1)) seen ∙ starts-with which (n rest) h
 
 -- WHAT IS PUSHED
 -- the places of handles that are filled have the values that scopes hold
@@ -176,13 +238,15 @@ pending-live s (Some v) live = All-cons (IsLive s) v [] live (All-nil (IsLive s)
 
 -- what was gathered are the roots
 pub gathered : (s : StoreState) (scopes : HandleScopes) (m : ReferenceMap) (p : Option ℕ) (first second third ids : List ℕ) → HoldsLive s scopes → RefersToLive s m → IfSome p (IsLive s)
-    → AreStarting s first → second ≡ first ++ held_values scopes → third ≡ second ++ strong_values m → ids ≡ third ++ option_to_list p → AreRoots s scopes m p ids
+    → AreStarting s first → second ≡ first ++ held_values scopes → HaveSameNumbers third (second ++ strong_values m) → ids ≡ third ++ option_to_list p → AreRoots s scopes m p ids
 gathered s scopes m p first second third ids held referred pending start a b c =
     let L : ℕ → Type 0 = IsLive s in
-    let are : ids ≡ first ++ held_values scopes ++ strong_values m ++ option_to_list p = c ∙ ap (λ l. l ++ option_to_list p) (b ∙ ap (λ l. l ++ strong_values m) a) in
-    let live : All L (first ++ held_values scopes ++ strong_values m ++ option_to_list p) =
+    let all : List ℕ = first ++ held_values scopes ++ strong_values m ++ option_to_list p in
+    let are : HaveSameNumbers ids all =
+    λ n. ap (has_number n) c ∙ same-before (option_to_list p) third (second ++ strong_values m) b n ∙ ap (λ l. has_number n (l ++ strong_values m ++ option_to_list p)) a in
+    let live : All L all =
     All-append L (first ++ held_values scopes ++ strong_values m) (option_to_list p)
     (All-append L (first ++ held_values scopes) (strong_values m)
     (All-append L first (held_values scopes) start.live (All-map L (λ (h : Held). h.value) (held_by_frames scopes.frames) held))
     (strong_values-AllValues L m referred)) (pending-live s p pending) in
-    record { starting = first; are_starting = start; are = are; live = subst (λ (l : List ℕ). All L l) (sym are) live }
+    record { starting = first; are_starting = start; are = are; live = same-holds L all ids (λ n. sym (are n)) live }

@@ -3,6 +3,7 @@ use Rattle.std.specs.Prelude.{◌≡◌, ℕ, List, ◌++◌, map, Option}
 use Rattle.std.specs.List.{All}
 use Rattle.std.specs.Option.{option_to_list}
 use Rattle.napi_types.specs.Graph.{StoreState, IsLive, number_in}
+use Rattle.napi_types.specs.Lists.{HaveSameNumbers}
 use Rattle.napi_types.specs.Reach.{numbers}
 use Rattle.napi_types.specs.References.{ReferenceMap, strong_values}
 use Rattle.napi_types.specs.Scopes.{held_by_frames}
@@ -18,10 +19,10 @@ pub record AreStarting (store : StoreState) (ids : List ℕ) : Type 0 where
 abbrev pub held_values : HandleScopes → List ℕ
 held_values scopes = map (λ h. h.value) (held_by_frames scopes.frames)
 
--- these are the roots: the starting values, the values of the handles in open scopes, those of strong references, and the pending exception
+-- these are the roots, in any order: the starting values, the values of the handles in open scopes, those of strong references, and the pending exception
 pub record AreRoots (store : StoreState) (scopes : HandleScopes) (references : ReferenceMap) (pending : Option ℕ) (ids : List ℕ) : Type 0 where
   pub starting : List ℕ
   pub are_starting : AreStarting store starting
-  pub are : ids ≡ starting ++ held_values scopes ++ strong_values references ++ option_to_list pending
+  pub are : HaveSameNumbers ids (starting ++ held_values scopes ++ strong_values references ++ option_to_list pending)
   -- all of them name live values
   pub live : All (IsLive store) ids

@@ -1,6 +1,7 @@
 //! The roots of a collection.
 ghost use Rattle.std.specs.Prelude.{◌≡◌, ◌++◌, option_map, IfOk, OnOk, IfSome};
 ghost use Rattle.napi_types.specs.Graph.{IsLive};
+ghost use Rattle.napi_types.specs.Lists.{HaveSameNumbers};
 ghost use Rattle.napi_types.specs.References.{strong_values};
 ghost use Rattle.std.specs.Option.{option_to_list};
 ghost use Rattle.value_store.specs.Changes.{numbers_of};
@@ -62,9 +63,9 @@ fn push_held(roots: &mut Vec<ValueId>, scopes: &Scopes) -> Result<(), NoMemory>
     Ok(())
 }
 
-/// Adds the values that strong references keep.
+/// Adds the values that strong references keep, in the order of their places.
 fn push_strong(roots: &mut Vec<ValueId>, references: &Refs) -> Result<(), NoMemory>
-    ensures { OnOk result (numbers_of roots.new.items ≡ numbers_of roots.old.items ++ strong_values (map_of references.now)) }
+    ensures { OnOk result (HaveSameNumbers (numbers_of roots.new.items) (numbers_of roots.old.items ++ strong_values (map_of references.now))) }
 {
     for at in 0..references.rows() {
         push(roots, references.strong_at(at))?;

@@ -1,7 +1,7 @@
 -- The handle scopes as the machine sees them, and what each call makes of them.
 use Rattle.std.specs.Prelude.{ℕ, ◌+◌, ◌-◌, max, Bool, true, false, not, cond, List, [], ◌∷◌, ◌++◌, map, Option, Some, None}
 use Rattle.napi_types.specs.declared.ids.ScopeKind.{ScopeKind}
-use Rattle.napi_types.specs.Lists.{has_number, first_changed, tail}
+use Rattle.napi_types.specs.Lists.{has_number, first_changed, tail, with_number}
 use Rattle.napi_types.specs.Scopes.{Held, Scope, FrameScopes, no_handles, hold_in, open_in, close_in, escape_in}
 
 -- all handle scopes of an environment, and the numbers that were issued
@@ -34,7 +34,7 @@ frame_left s = record s { frames = tail s.frames; by_call = tail s.by_call }
 
 -- a scope of this kind and that number is open inside the innermost one
 abbrev pub scope_opened : ScopeKind → ℕ → HandleScopes → HandleScopes
-scope_opened kind n s = record s { frames = first_changed (open_in kind n) s.frames; scope_numbers = n ∷ s.scope_numbers }
+scope_opened kind n s = record s { frames = first_changed (open_in kind n) s.frames; scope_numbers = with_number n s.scope_numbers }
 
 -- the innermost scope of the innermost frame is gone, with the handles in it
 abbrev pub scope_closed : HandleScopes → HandleScopes

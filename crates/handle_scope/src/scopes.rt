@@ -78,14 +78,14 @@ impl Model for Scopes {
     ghost Value = { HandleScopes };
 
     ghost use Rattle.std.specs.Prelude.{map, reverse, vec_capacity};
-    ghost use Rattle.napi_types.specs.Lists.{down_from};
+    ghost use Rattle.napi_types.specs.Lists.{up_to};
     ghost use Rattle.handle_scope.specs.Marks.{frames_of, IsKept};
 
     ghost view = { λ s. record {
       frames = frames_of s.frames.items s.scopes.items s.held.items;
       by_call = map (λ f. f.by_call) (reverse s.frames.items);
       handles = s.handles;
-      scope_numbers = down_from s.numbers;
+      scope_numbers = up_to s.numbers;
       spare = s.spare;
     } };
 

@@ -3,14 +3,15 @@ use Rattle.std.proofs.Common.{◌≡◌, ◌∙◌, ℕ, zero, suc, ◌+◌, ◌
 use Rattle.std.specs.List.{filter, filter_map}
 use Rattle.std.proofs.lemmas.List.{length-set, length-append}
 use Rattle.std.proofs.lemmas.List.Elements.{filter_map-append}
-use Rattle.napi_types.specs.Lists.{has_number, down_from}
+use Rattle.napi_types.specs.Lists.{has_number, with_record, as_map, with_number, up_to}
 use Rattle.napi_types.specs.declared.ids.ValueId.{ValueId}
 use Rattle.napi_types.specs.References.{Reference, ReferenceMap, with_reference, without_reference, with_count}
-use Rattle.napi_types.proofs.Issued.{above-down_from, down_from-more}
+use Rattle.napi_types.proofs.Issued.{above-up_to, up_to-more}
+use Rattle.napi_types.proofs.Maps.{with_record-last}
 use Rattle.napi_reference.specs.declared.rows.Row.{Row}
 use Rattle.napi_reference.specs.Places.{ReferencePlaces, map_of}
 use Rattle.napi_reference.specs.Rows.{reference_of, references_from, places_of, row_of}
-use Rattle.napi_reference.proofs.Numbers.{apart-above, apart-below, same-number, listed_from}
+use Rattle.napi_reference.proofs.Numbers.{apart-above, apart-below, same-number, listed_from, listed-below, listed-map}
 
 -- A REFERENCE IS DELETED
 filter-below : (k : ℕ) (rows : List (Option Row)) (n : ℕ) → n < k → filter (λ r. not (r.number == n)) (listed_from k rows) ≡ listed_from k rows
@@ -29,7 +30,10 @@ pub same-map : (rs qs : List Reference) (is js : List ℕ) → rs ≡ qs → is 
 same-map rs qs is js e f = cc
 
 deleted-at : (rows : List (Option Row)) (p : ℕ) → map_of (places_of (set rows p None)) ≡ without_reference (suc p) (map_of (places_of rows))
-deleted-at rows p = same-map _ _ _ _ (sym (filter-at 1 rows p (suc p) (omega arith))) (ap down_from (length-set rows p None))
+deleted-at rows p =
+    same-map _ _ _ _
+    (listed-map 1 (set rows p None) ∙ sym (filter-at 1 rows p (suc p) (omega arith)) ∙ ap (filter (λ r. not (r.number == suc p))) (sym (listed-map 1 rows)))
+    (ap up_to (length-set rows p None))
 
 -- xs are the rows as they were read
 pub deleted : (rows xs : List (Option Row)) (p : ReferencePlaces) → places_of rows ≡ p → xs ≡ rows → (n : ℕ) (row : Row) → Some row ≡ row_of xs n
@@ -60,9 +64,10 @@ counted-at : (rows : List (Option Row)) (p count : ℕ) (row : Row) → slice_in
     → map_of (places_of (set rows p (Some (recounted count row)))) ≡ with_count (suc p) count (map_of (places_of rows))
 counted-at rows p count row is =
     let put : option_map (recounted count) (slice_index_or rows p None) ≡ Some (recounted count row) = ap (option_map (recounted count)) is in
-    let changed : listed_from 1 (set rows p (Some (recounted count row))) ≡ (with_count (suc p) count (map_of (places_of rows))).rows =
+    let counts : Reference → Reference = λ r. cond (r.number == suc p) (record r { count = count }) r in
+    let changed : listed_from 1 (set rows p (Some (recounted count row))) ≡ map counts (listed_from 1 rows) =
     ap (λ o. listed_from 1 (set rows p o)) (sym put) ∙ sym (count-at 1 rows p (suc p) count (omega arith)) in
-    same-map _ _ _ _ changed (ap down_from (length-set rows p (Some (recounted count row))))
+    same-map _ _ _ _ (listed-map 1 (set rows p (Some (recounted count row))) ∙ changed ∙ ap (map counts) (sym (listed-map 1 rows))) (ap up_to (length-set rows p (Some (recounted count row))))
 
 pub counted : (rows xs : List (Option Row)) (p : ReferencePlaces) → places_of rows ≡ p → xs ≡ rows → (n count : ℕ) (row : Row) → Some row ≡ row_of xs n
     → map_of (places_of (set rows (n - 1) (Some (recounted count row)))) ≡ with_count n count (map_of p)
@@ -87,13 +92,21 @@ made-rows rows row =
     let number : 1 + length rows ≡ length rows + 1 = omega arith in
     ap (filter_map (λ place. place)) (from-push 1 rows (Some row)) ∙ filter_map-append (λ place. place) (references_from 1 rows) (Some (reference_of (1 + length rows) row) ∷ []) ∙ ap (λ n. listed_from 1 rows ++ reference_of n row ∷ []) number
 
-made-issued : (rows : List (Option Row)) (row : Row) → down_from (length (rows ++ Some row ∷ [])) ≡ (length rows + 1) ∷ down_from (length rows)
-made-issued rows row = ap down_from (length-append rows (Some row ∷ [])) ∙ down_from-more (length rows)
+made-map : (rows : List (Option Row)) (row : Row)
+    → as_map (λ r. r.number) (listed_from 1 (rows ++ Some row ∷ [])) ≡ with_record (λ r. r.number) (reference_of (length rows + 1) row) (as_map (λ r. r.number) (listed_from 1 rows))
+made-map rows row =
+    let last : Reference = reference_of (length rows + 1) row in
+    listed-map 1 (rows ++ Some row ∷ []) ∙ made-rows rows row
+    ∙ sym (with_record-last (λ (r : Reference). r.number) last (listed_from 1 rows) (λ i d inside. omega (arith, listed-below 1 rows i d inside)))
+    ∙ ap (with_record (λ r. r.number) last) (sym (listed-map 1 rows))
+
+made-issued : (rows : List (Option Row)) (row : Row) → up_to (length (rows ++ Some row ∷ [])) ≡ with_number (length rows + 1) (up_to (length rows))
+made-issued rows row = ap up_to (length-append rows (Some row ∷ [])) ∙ sym (up_to-more (length rows))
 
 pub made : (rows : List (Option Row)) (p : ReferencePlaces) → places_of rows ≡ p → (n : ℕ) → n ≡ length rows + 1 → (value : ValueId) (count : ℕ)
     → map_of (places_of (rows ++ Some (record { value = Some value; count = count }) ∷ [])) ≡ with_reference n value.0 count (map_of p)
 made rows p view n is value count =
-    rw (is, ← view) (same-map _ _ _ _ (made-rows rows (record { value = Some value; count = count })) (made-issued rows (record { value = Some value; count = count })))
+    rw (is, ← view) (same-map _ _ _ _ (made-map rows (record { value = Some value; count = count })) (made-issued rows (record { value = Some value; count = count })))
 
 pub fresh : (rows : List (Option Row)) (p : ReferencePlaces) → places_of rows ≡ p → (n : ℕ) → n ≡ length rows + 1 → has_number n (0 ∷ p.issued) ≡ false
-fresh rows p view n is = rw (← view, apart-below 0 n (omega arith)) (above-down_from n (length rows) (omega arith))
+fresh rows p view n is = rw (← view, apart-below 0 n (omega arith)) (above-up_to n (length rows) (omega arith))

@@ -2,9 +2,10 @@
 use Rattle.std.proofs.Common.{ℕ, ◌==◌, ◌∷◌, not, Bool, true, false, cond, List, [], map, Option, Some, None, IfSome, option_map}
 use Rattle.std.specs.List.{All, filter_map, cons_option}
 use Rattle.std.specs.Option.{unwrap_or}
-use Rattle.std.proofs.lemmas.List.Elements.{All-nil, All-cons, All-head, All-tail, All-append, All-filter}
+use Rattle.std.proofs.lemmas.List.Elements.{All-nil, All-cons, All-head, All-tail, All-filter}
 use Rattle.napi_types.specs.Lists.{found}
 use Rattle.napi_types.specs.References.{Reference, ReferenceMap, no_references, with_reference, without_reference, with_count, value_of, value_left, emptied, strong_value, strong_values}
+use Rattle.napi_types.proofs.Maps.{All-with_record}
 use Rattle.napi_reference.specs.Places.{AllValues}
 
 pub AllValues-no_references : (P : ℕ → Type 0) → AllValues P no_references
@@ -13,7 +14,7 @@ AllValues-no_references P = All-nil (λ (r : Reference). IfSome r.value P)
 pub AllValues-with_reference : (P : ℕ → Type 0) (n value count : ℕ) (m : ReferenceMap) → P value → AllValues P m → AllValues P (with_reference n value count m)
 AllValues-with_reference P n value count m one all =
     let r : Reference = record { number = n; value = Some value; count = count } in
-    All-append (λ (r : Reference). IfSome r.value P) m.rows (r ∷ []) all (All-cons (λ (r : Reference). IfSome r.value P) r [] one (All-nil (λ (r : Reference). IfSome r.value P)))
+    All-with_record (λ (q : Reference). q.number) r (λ (q : Reference). IfSome q.value P) m.rows one all
 
 pub AllValues-without_reference : (P : ℕ → Type 0) (n : ℕ) (m : ReferenceMap) → AllValues P m → AllValues P (without_reference n m)
 AllValues-without_reference P n m all = All-filter (λ r. not (r.number == n)) (λ (r : Reference). IfSome r.value P) m.rows all

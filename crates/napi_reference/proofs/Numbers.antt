@@ -1,9 +1,12 @@
 -- The reference of a number stands at its place.
-use Rattle.std.proofs.Common.{◌≡◌, ◌∙◌, ℕ, zero, suc, ◌+◌, ◌<◌, ◌==◌, ◌||◌, ◌∷◌, Bool, true, false, cond, List, [], length, Option, Some, None, IsSome, is_some, option_map, slice_index_or, refl, ap, sym, arith}
-use Rattle.std.specs.List.{filter_map}
+use Rattle.std.proofs.Common.{◌≡◌, ◌∙◌, ℕ, zero, suc, ◌+◌, ◌<◌, ◌==◌, nat_eq, ◌||◌, ◌∷◌, Bool, true, false, cond, List, [], length, map, Option, Some, None, IsSome, is_some, option_map, slice_index_or, refl, ap, sym, arith}
+use Rattle.std.specs.List.{All, AllByRecursion, IsDistinct, filter_map}
+use Rattle.std.proofs.lemmas.List.Elements.{All-nil, All-cons}
+use Rattle.std.proofs.lemmas.Map.Keys.{IsDistinct-cons}
 use Rattle.napi_types.specs.declared.ids.ValueId.{ValueId}
-use Rattle.napi_types.specs.Lists.{found, has}
+use Rattle.napi_types.specs.Lists.{found, has, with_record, as_map}
 use Rattle.napi_types.specs.References.{Reference, ReferenceMap, reference_at, has_reference, value_of, count_of}
+use Rattle.napi_types.proofs.Maps.{with_record-first}
 use Rattle.napi_reference.specs.declared.rows.Row.{Row}
 use Rattle.napi_reference.specs.Places.{ReferencePlaces, map_of}
 use Rattle.napi_reference.specs.Rows.{reference_of, references_from, places_of, row_of}
@@ -20,6 +23,38 @@ same-number a n h = grind arith
 -- the references of rows whose numbers count up from this one
 abbrev pub listed_from : ℕ → List (Option Row) → List Reference
 listed_from k rows = filter_map (λ place. place) (references_from k rows)
+
+-- their numbers rise, so that they are a finite map as they lie
+listed-above : (n k : ℕ) (rows : List (Option Row)) → n < k → All (λ r. n < r.number) (listed_from k rows)
+listed-above n k [] h = All-nil (λ (r : Reference). n < r.number)
+listed-above n k (None ∷ rows) h = listed-above n (suc k) rows (omega arith)
+listed-above n k (Some row ∷ rows) h = All-cons (λ (r : Reference). n < r.number) (reference_of k row) (listed_from (suc k) rows) h (listed-above n (suc k) rows (omega arith))
+
+pub listed-below : (k : ℕ) (rows : List (Option Row)) → All (λ r. r.number < k + length rows) (listed_from k rows)
+listed-below k [] = All-nil (λ (r : Reference). r.number < k + 0)
+listed-below k (None ∷ rows) = λ i d inside. omega (arith, listed-below (suc k) rows i d inside)
+listed-below k (Some row ∷ rows) =
+    All-cons (λ (r : Reference). r.number < k + suc (length rows)) (reference_of k row) (listed_from (suc k) rows) (omega arith)
+    (λ i d inside. omega (arith, listed-below (suc k) rows i d inside))
+
+pub listed-map : (k : ℕ) (rows : List (Option Row)) → as_map (λ r. r.number) (listed_from k rows) ≡ listed_from k rows
+listed-map k [] = refl
+listed-map k (None ∷ rows) = listed-map (suc k) rows
+listed-map k (Some row ∷ rows) =
+    ap (with_record (λ r. r.number) (reference_of k row)) (listed-map (suc k) rows)
+    ∙ with_record-first (λ (r : Reference). r.number) (reference_of k row) (listed_from (suc k) rows) (listed-above k (suc k) rows (omega arith))
+
+apart-listed : (n k : ℕ) (rows : List (Option Row)) → n < k → AllByRecursion (λ m. nat_eq n m ≡ false) (map (λ r. r.number) (listed_from k rows))
+apart-listed n k [] h = tt
+apart-listed n k (None ∷ rows) h = apart-listed n (suc k) rows (omega arith)
+apart-listed n k (Some row ∷ rows) h = (apart-below n k h, apart-listed n (suc k) rows (omega arith))
+
+pub listed-once : (k : ℕ) (rows : List (Option Row)) → IsDistinct nat_eq (map (λ r. r.number) (listed_from k rows))
+unfolding IsDistinct
+listed-once k [] = tt
+listed-once k (None ∷ rows) = listed-once (suc k) rows
+listed-once k (Some row ∷ rows) =
+    IsDistinct-cons nat_eq k (map (λ (r : Reference). r.number) (listed_from (suc k) rows)) (apart-listed k (suc k) rows (omega arith)) (listed-once (suc k) rows)
 
 pub length-references_from : (k : ℕ) (rows : List (Option Row)) → length (references_from k rows) ≡ length rows
 length-references_from k [] = refl
@@ -41,8 +76,11 @@ found-at k (Some row ∷ rows) (suc p) n e = rw (apart-below k n (omega arith)) 
 
 -- the map from numbers to references is the list's
 pub reference_at-row : (rows : List (Option Row)) (n : ℕ) → reference_at (map_of (places_of rows)) n ≡ option_map (reference_of n) (row_of rows n)
-reference_at-row rows zero = found-below 1 rows zero (omega arith)
-reference_at-row rows (suc p) = found-at 1 rows p (suc p) (omega arith)
+reference_at-row rows n = ap (found (λ r. r.number) n) (listed-map 1 rows) ∙ at n
+  where
+    at : (n : ℕ) → found (λ r. r.number) n (listed_from 1 rows) ≡ option_map (reference_of n) (row_of rows n)
+    at zero = found-below 1 rows zero (omega arith)
+    at (suc p) = found-at 1 rows p (suc p) (omega arith)
 
 has-found : {A : Type 0} (number : A → ℕ) (n : ℕ) (xs : List A) → has number n xs ≡ is_some (found number n xs)
 has-found number n [] = refl

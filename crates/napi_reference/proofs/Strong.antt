@@ -1,19 +1,39 @@
 -- The values that strong references keep, place by place.
-use Rattle.std.proofs.Common.{◌≡◌, ◌∙◌, ℕ, zero, suc, ◌+◌, ◌∷◌, List, [], Option, Some, None, option_map, slice_index_or, refl, ap, arith}
-use Rattle.std.specs.List.{filter_map, cons_option}
+use Rattle.std.proofs.Common.{◌≡◌, ◌∙◌, ℕ, zero, suc, ◌+◌, ◌==◌, ◌||◌, Bool, ◌∷◌, ◌++◌, List, [], Option, Some, None, option_map, slice_index_or, refl, ap, sym, arith}
+use Rattle.std.specs.List.{filter_map, cons_option, list_any}
+use Rattle.std.specs.Option.{option_to_list}
+use Rattle.std.proofs.lemmas.List.Folds.{list_any-append}
+use Rattle.napi_types.specs.Lists.{has_number, HaveSameNumbers, as_map}
 use Rattle.napi_types.specs.References.{Reference, strong_value, strong_values}
+use Rattle.napi_types.proofs.Maps.{list_any-as_map}
 use Rattle.napi_reference.specs.declared.rows.Row.{Row}
-use Rattle.napi_reference.specs.Places.{ReferencePlaces, map_of, strong_in}
+use Rattle.napi_reference.specs.Places.{ReferencePlaces, map_of, standing, EachStandsOnce, strong_in}
 use Rattle.napi_reference.specs.Rows.{reference_of, references_from}
 
-strong-listed : (places : List (Option Reference)) → filter_map strong_value (filter_map (λ place. place) places) ≡ filter_map strong_in places
+strong-listed : (places : List (Option Reference)) → filter_map strong_value (standing places) ≡ filter_map strong_in places
 strong-listed [] = refl
 strong-listed (None ∷ places) = strong-listed places
 strong-listed (Some r ∷ places) = ap (cons_option (strong_value r)) (strong-listed places)
 
--- going over the places gives the values that strong references keep
-pub strong_values-places : (p : ReferencePlaces) → strong_values (map_of p) ≡ filter_map strong_in p.places
-strong_values-places p = strong-listed p.places
+-- a number is that of a value which a strong reference keeps
+abbrev keeps : ℕ → Reference → Bool
+keeps n r = has_number n (option_to_list (strong_value r))
+
+led : {A : Type 0} (o : Option A) (xs : List A) → cons_option o xs ≡ option_to_list o ++ xs
+led None xs = refl
+led (Some x) xs = refl
+
+any-keeps : (n : ℕ) (rs : List Reference) → has_number n (filter_map strong_value rs) ≡ list_any (keeps n) rs
+any-keeps n [] = refl
+any-keeps n (r ∷ rs) =
+    ap (has_number n) (led (strong_value r) (filter_map strong_value rs)) ∙ list_any-append (λ m. m == n) (option_to_list (strong_value r)) (filter_map strong_value rs)
+    ∙ ap (λ b. keeps n r || b) (any-keeps n rs)
+
+-- going over the places gives the values that strong references keep, in any order
+pub strong_values-places : (p : ReferencePlaces) → EachStandsOnce p → HaveSameNumbers (strong_values (map_of p)) (filter_map strong_in p.places)
+strong_values-places p once = λ n.
+    any-keeps n (as_map (λ r. r.number) (standing p.places)) ∙ list_any-as_map (λ (r : Reference). r.number) (keeps n) (standing p.places) once
+    ∙ sym (any-keeps n (standing p.places)) ∙ ap (has_number n) (strong-listed p.places)
 
 pub references_from-at : (k : ℕ) (rows : List (Option Row)) (at : ℕ) → slice_index_or (references_from k rows) at None ≡ option_map (reference_of (k + at)) (slice_index_or rows at None)
 references_from-at k [] at = refl

@@ -1,6 +1,7 @@
 -- The places where references stand, as their callers go over them, and the map that they stand for.
-use Rattle.std.specs.Prelude.{ℕ, List, Option, Some, None, IfSome}
-use Rattle.std.specs.List.{All, filter_map}
+use Rattle.std.specs.Prelude.{ℕ, nat_eq, List, map, Option, Some, None, IfSome}
+use Rattle.std.specs.List.{All, IsDistinct, filter_map}
+use Rattle.napi_types.specs.Lists.{as_map}
 use Rattle.napi_types.specs.References.{Reference, ReferenceMap, strong_value}
 
 -- each place, with the reference that stands there, if one does, and the numbers that were issued
@@ -8,9 +9,17 @@ pub record ReferencePlaces : Type 0 where
   pub places : List (Option Reference)
   pub issued : List ℕ
 
--- the map from numbers to references
+-- the references that stand at places
+abbrev pub standing : List (Option Reference) → List Reference
+standing places = filter_map (λ place. place) places
+
+-- the map from numbers to references, at whatever place each stands
 abbrev pub map_of : ReferencePlaces → ReferenceMap
-map_of p = record { rows = filter_map (λ place. place) p.places; issued = p.issued }
+map_of p = record { rows = as_map (λ r. r.number) (standing p.places); issued = p.issued }
+
+-- no two references stand at places under one number
+abbrev pub EachStandsOnce : ReferencePlaces → Type 0
+EachStandsOnce p = IsDistinct nat_eq (map (λ r. r.number) (standing p.places))
 
 -- the value that a strong reference at a place keeps
 abbrev pub strong_in : Option Reference → Option ℕ

@@ -1,7 +1,7 @@
 -- How the list of rows stands for the places of the references.
 use Rattle.std.specs.Prelude.{ℕ, zero, suc, ◌==◌, Bool, cond, List, [], ◌∷◌, length, Option, Some, None, option_map, slice_index_or}
 use Rattle.napi_types.specs.declared.ids.ValueId.{ValueId}
-use Rattle.napi_types.specs.Lists.{down_from}
+use Rattle.napi_types.specs.Lists.{up_to}
 use Rattle.napi_types.specs.References.{Reference}
 use Rattle.napi_reference.specs.declared.rows.Row.{Row}
 use Rattle.napi_reference.specs.Places.{ReferencePlaces}
@@ -17,7 +17,7 @@ references_from n (row ∷ rows) = option_map (reference_of n) row ∷ reference
 
 -- the reference of the number n stands at place n - 1, and each place has issued its number
 abbrev pub places_of : List (Option Row) → ReferencePlaces
-places_of rows = record { places = references_from 1 rows; issued = down_from (length rows) }
+places_of rows = record { places = references_from 1 rows; issued = up_to (length rows) }
 
 -- the row of a number
 abbrev pub row_of : List (Option Row) → ℕ → Option Row

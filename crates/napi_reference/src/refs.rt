@@ -6,7 +6,7 @@ ghost use Rattle.napi_types.specs.Lists.{has_number};
 ghost use Rattle.napi_types.specs.References.{no_references, with_reference, without_reference, with_count, value_of, count_of, strong_values, emptied};
 ghost use Rattle.napi_types.specs.Refusals.{reference_refusal};
 ghost use Rattle.napi_types.specs.declared.call.Call.TheVariants as call;
-ghost use Rattle.napi_reference.specs.Places.{map_of, strong_in};
+ghost use Rattle.napi_reference.specs.Places.{map_of, EachStandsOnce, strong_in};
 
 use crate::rows::{self, Row};
 use napi_types::{NoMemory, RefId, Status, ValueId};
@@ -134,9 +134,10 @@ impl Refs {
         rows::empty_weak(&mut self.rows, freed);
     }
 
-    /// How many places there are. Each reference stands at exactly one. Constant time.
+    /// How many places there are. Each reference stands at exactly one, whichever that is. Constant time.
     pub fn rows(&self) -> usize
-        ensures { result ≡ length self.now.places }
+        ensures places { result ≡ length self.now.places }
+        ensures once { EachStandsOnce self.now }
     {
         self.rows.len()
     }

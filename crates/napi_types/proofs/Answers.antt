@@ -19,6 +19,7 @@ use Rattle.napi_types.specs.Roots.{reach}
 use Rattle.napi_types.specs.Refusals.{unknown_refusal, kind_refusal, row_refusal, moment_refusal, refusal_in, reference_refusal, timely_refusal, early_refusal, depth_refusal}
 use Rattle.napi_types.specs.Calls.{accepted, accepted_of, answer_by, answer_in, accepted_by, answer_given, answer_at, at_depth_limit, answer}
 use Rattle.napi_types.specs.Changes.{called}
+use Rattle.napi_types.proofs.Maps.{length-with_record}
 
 length-changed : {A : Type 0} (f : A → A) (xs : List A) → length (first_changed f xs) ≡ length xs
 length-changed f [] = refl
@@ -84,8 +85,8 @@ accepted-keeps texts heap (call.GetPropertyNames o) n h =
     let c : Call = call.GetPropertyNames o in
     let row : row_refusal heap c ≡ None = none-last (unknown_refusal texts heap c) (kind_refusal heap c) (row_refusal heap c) h in
     handled heap _ _ refl refl refl (named heap (length (names_of ps)) (length ps) (length-map ps _) (few (length ps) (not-when (nat_lt 65536 (length ps)) status.InvalidArg row)))
-accepted-keeps texts heap call.OpenHandleScope n h = in-scopes heap _ (length-changed _ heap.scopes) (omega arith) (omega arith) refl
-accepted-keeps texts heap call.OpenEscapableHandleScope n h = in-scopes heap _ (length-changed _ heap.scopes) (omega arith) (omega arith) refl
+accepted-keeps texts heap call.OpenHandleScope n h = in-scopes heap _ (length-changed _ heap.scopes) (omega arith) (length-with_record (λ m. m) n heap.scope_numbers) refl
+accepted-keeps texts heap call.OpenEscapableHandleScope n h = in-scopes heap _ (length-changed _ heap.scopes) (omega arith) (length-with_record (λ m. m) n heap.scope_numbers) refl
 accepted-keeps texts heap (call.CloseHandleScope s) n h = in-scopes heap _ (length-changed _ heap.scopes) (omega arith) (omega arith) refl
 accepted-keeps texts heap (call.CloseEscapableHandleScope s) n h = in-scopes heap _ (length-changed _ heap.scopes) (omega arith) (omega arith) refl
 accepted-keeps texts heap (call.EscapeHandle s v) n h = in-scopes heap _ (length-changed _ heap.scopes) (omega arith) (omega arith) refl
@@ -146,7 +147,7 @@ accepted_by-keeps e (call.ThrowError code message) n h = record { addons = refl;
 accepted_by-keeps e call.IsExceptionPending n h = keeps-all e
 accepted_by-keeps e call.GetLastErrorInfo n h = keeps-all e
 accepted_by-keeps e call.GetAndClearLastException n h = record { addons = refl; opened = refl; inits = refl; phase = refl; frames = refl; heap = handled e.heap e.heap _ refl refl refl (omega arith); references = omega arith }
-accepted_by-keeps e (call.CreateReference v count) n h = keeps-references e _ (omega arith)
+accepted_by-keeps e (call.CreateReference v count) n h = keeps-references e _ (length-with_record (λ m. m) n e.references.issued)
 accepted_by-keeps e (call.DeleteReference r) n h = keeps-references e _ (omega arith)
 accepted_by-keeps e (call.ReferenceRef r) n h = counted-keeps r.0 e (value_of e.references r.0)
 accepted_by-keeps e (call.ReferenceUnref r) n h = keeps-references e _ (omega arith)

@@ -1,25 +1,57 @@
 -- Numbers that count up from 1, as they are issued.
-use Rattle.std.proofs.Common.{◌≡◌, ◌<◌, ℕ, zero, suc, ◌+◌, ◌==◌, true, false, ◌∷◌, length, refl, ap, arith, not, add-one}
-use Rattle.napi_types.specs.Lists.{has_number, down_from}
+use Rattle.std.proofs.Common.{◌≡◌, ◌∙◌, ◌<◌, ◌≤◌, ℕ, zero, suc, ◌+◌, ◌==◌, true, false, [], ◌∷◌, ◌++◌, length, refl, ap, sym, arith, not, add-one}
+use Rattle.std.specs.List.{All, range_with_len}
+use Rattle.std.proofs.lemmas.List.FromFn.{get_or-range_with_len, length-range_with_len}
+use Rattle.std.proofs.lemmas.List.Folds.{list_any_none}
+use Rattle.napi_types.specs.Lists.{has_number, with_number, up_to, down_from}
+use Rattle.napi_types.proofs.Maps.{with_record-last}
 
-pub length-down_from : (n : ℕ) → length (down_from n) ≡ n
-length-down_from zero = refl
-length-down_from (suc n) = ap suc (length-down_from n)
+pub length-up_to : (n : ℕ) → length (up_to n) ≡ n
+length-up_to n = length-range_with_len 1 n
 
--- a number above those that were issued is none of them
+-- none of them is above the last
+up_to-within : (n : ℕ) → All (λ m. m ≤ n) (up_to n)
+up_to-within n k d inside =
+    let small : k < n = omega (arith, inside, length-up_to n) in
+    let is = get_or-range_with_len 1 n k d small in
+    omega (arith, is, small)
+
+range-more : (a n : ℕ) → range_with_len a (suc n) ≡ range_with_len a n ++ (a + n) ∷ []
+range-more a zero = ap (λ m. m ∷ []) (last a)
+  where
+    last : (a : ℕ) → a ≡ a + 0
+    last a = omega arith
+range-more a (suc n) = ap (λ ms. a ∷ ms) (range-more (a + 1) n ∙ ap (λ m. range_with_len (a + 1) n ++ m ∷ []) (next a n))
+  where
+    next : (a n : ℕ) → (a + 1) + n ≡ a + suc n
+    next a n = omega arith
+
+-- the number after them makes one more of them
+pub up_to-more : (n : ℕ) → with_number (n + 1) (up_to n) ≡ up_to (n + 1)
+up_to-more n =
+    with_record-last (λ m. m) (n + 1) (up_to n) (λ k d inside. omega (arith, up_to-within n k d inside))
+    ∙ ap (λ m. up_to n ++ m ∷ []) (next n) ∙ sym (range-more 1 n) ∙ ap up_to (sym (add-one n))
+  where
+    next : (n : ℕ) → n + 1 ≡ 1 + n
+    next n = omega arith
+
+-- and is none of them, nor 0
+pub above-up_to : (m n : ℕ) → n < m → has_number m (up_to n) ≡ false
+above-up_to m n h = list_any_none (λ k. k == m) (up_to n) (λ k d inside. apart _ m (omega (arith, h, up_to-within n k d inside)))
+  where
+    apart : (k m : ℕ) → k < m → (k == m) ≡ false
+    apart k m h = grind arith
+
+pub fresh_number : (n : ℕ) → not (has_number (n + 1) (0 ∷ up_to n)) ≡ true
+fresh_number n = rw (apart n, above-up_to (n + 1) n (omega arith)) refl
+  where
+    apart : (n : ℕ) → (0 == n + 1) ≡ false
+    apart n = grind arith
+
+-- a number above those that count down is none of them
 pub above-down_from : (m n : ℕ) → n < m → has_number m (down_from n) ≡ false
 above-down_from m zero h = refl
 above-down_from m (suc n) h = rw (different m n h) (above-down_from m n (omega arith))
   where
     different : (m n : ℕ) → suc n < m → (suc n == m) ≡ false
     different m n h = grind arith
-
--- the number after those that were issued is fresh
-pub fresh_number : (n : ℕ) → not (has_number (n + 1) (0 ∷ down_from n)) ≡ true
-fresh_number n = rw (apart n, above-down_from (n + 1) n (omega arith)) refl
-  where
-    apart : (n : ℕ) → (0 == n + 1) ≡ false
-    apart n = grind arith
-
-pub down_from-more : (n : ℕ) → down_from (n + 1) ≡ (n + 1) ∷ down_from n
-down_from-more n = rw add-one refl

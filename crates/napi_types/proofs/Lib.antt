@@ -2,6 +2,7 @@ pub mod Answers
 pub mod FrameChanges
 pub mod Issued
 pub mod Keeping
+pub mod Maps
 pub mod Owners
 pub mod Reaching
 pub mod Rooms

@@ -7,7 +7,7 @@ use Rattle.std.proofs.lemmas.List.Sums.{length-filter, count_by-le-length}
 use Rattle.std.proofs.lemmas.List.{length-map}
 use Rattle.std.proofs.lemmas.Map.Views.{any-filter_same}
 use Rattle.napi_types.specs.Collection.{those_of}
-use Rattle.napi_types.specs.Lists.{has_number}
+use Rattle.napi_types.specs.Lists.{has_number, HaveSameNumbers}
 use Rattle.napi_types.specs.Reach.{numbers, among, children_at, spread, spread_for, reach_from}
 use Rattle.napi_types.specs.Values.{Value}
 
@@ -44,6 +44,10 @@ filter_agree p q (x ∷ xs) agree =
     let rest : filter p xs ≡ filter q xs = filter_agree p q xs (λ y h. agree y (or_right (x == y) (has_number y xs) h)) in
     ap (λ b. cond b (x ∷ filter p xs) (filter p xs)) (agree x (or_left (x == x) (has_number x xs) (eq-eqb x x refl)))
     ∙ ap (λ ys. cond (q x) (x ∷ ys) ys) rest
+
+-- what is reached depends on which numbers are the roots, and not on their order
+pub reach_from-same : (vs : List Value) (ms ns : List ℕ) → HaveSameNumbers ms ns → reach_from vs ms ≡ reach_from vs ns
+reach_from-same vs ms ns same = ap (spread_for vs vs) (filter_agree (λ n. has_number n ms) (λ n. has_number n ns) (numbers vs) (λ n _. same n))
 
 -- those that pass are those that are among those that pass
 filter-filter : (p : ℕ → Bool) (ns : List ℕ) → filter (λ n. has_number n (filter p ns)) ns ≡ filter p ns

@@ -1,7 +1,7 @@
 -- References (the manual's `napi_ref`): a finite map from their numbers to a value, or to none where it was collected, and a count.
-use Rattle.std.specs.Prelude.{ℕ, ◌==◌, Bool, not, cond, List, [], ◌∷◌, ◌++◌, map, filter, filter_map, Option, Some, None, option_map}
+use Rattle.std.specs.Prelude.{ℕ, ◌==◌, Bool, not, cond, List, [], map, filter, filter_map, Option, Some, None, option_map}
 use Rattle.std.specs.Option.{unwrap_or}
-use Rattle.napi_types.specs.Lists.{found, has}
+use Rattle.napi_types.specs.Lists.{found, has, with_record, with_number}
 
 -- a reference: its number, the number of its value, none where that was collected, and its count
 pub record Reference : Type 0 where
@@ -9,7 +9,7 @@ pub record Reference : Type 0 where
   pub value : Option ℕ
   pub count : ℕ
 
--- the references that were made and not deleted, in the order in which they were made, and the numbers that were issued
+-- the references that were made and not deleted, and the numbers that were issued, both as finite maps
 pub record ReferenceMap : Type 0 where
   pub rows : List Reference
   pub issued : List ℕ
@@ -40,7 +40,10 @@ count_of m n = unwrap_or (option_map (λ r. r.count) (reference_at m n)) 0
 
 -- one reference more, of this number, to a value
 abbrev pub with_reference : ℕ → ℕ → ℕ → ReferenceMap → ReferenceMap
-with_reference n value count m = record { rows = m.rows ++ record { number = n; value = Some value; count = count } ∷ []; issued = n ∷ m.issued }
+with_reference n value count m = record {
+  rows = with_record (λ r. r.number) (record { number = n; value = Some value; count = count }) m.rows;
+  issued = with_number n m.issued;
+}
 
 -- without the reference of this number
 abbrev pub without_reference : ℕ → ReferenceMap → ReferenceMap

@@ -1,17 +1,18 @@
 -- What the calls on scopes answer and leave where nothing refuses them.
-use Rattle.std.specs.Prelude.{ℕ, ◌+◌, ◌∷◌, Option, Some, None}
+use Rattle.std.specs.Prelude.{ℕ, ◌+◌, Option, Some, None}
 use Rattle.napi_types.specs.declared.call.Call.{Call}
 use Rattle.napi_types.specs.declared.call.Call.TheVariants as call
 use Rattle.napi_types.specs.declared.entry.Out.TheVariants as out
 use Rattle.napi_types.specs.declared.ids.ScopeKind.{ScopeKind}
 use Rattle.napi_types.specs.declared.ids.ScopeKind.TheVariants as scope_kind
 use Rattle.napi_types.specs.Heap.{Heap, handle_value, in_scopes}
+use Rattle.napi_types.specs.Lists.{with_number}
 use Rattle.napi_types.specs.Replies.{Answer, answered}
 use Rattle.napi_types.specs.Scopes.{open_in, close_in, escape_in}
 
 -- a scope of this kind and the number n is open inside the innermost one
 abbrev pub with_scope : ScopeKind → ℕ → Heap → Heap
-with_scope kind n heap = in_scopes (open_in kind n) (record heap { scope_numbers = n ∷ heap.scope_numbers })
+with_scope kind n heap = in_scopes (open_in kind n) (record heap { scope_numbers = with_number n heap.scope_numbers })
 
 -- a new handle of a value in the scope that encloses the one of the number n, from which it escaped
 abbrev pub with_escaped : ℕ → ℕ → Heap → Heap

@@ -4,8 +4,16 @@ use Rattle.napi_reference.specs.Places.{map_of}
 use Rattle.trace_collect.specs.Collects.{reached}
 use Rattle.env_core.specs.Rooting.{AreRoots}
 use Rattle.env_core.specs.contracts.state.State.{the_view}
+use Rattle.env_core.proofs.Rooting.{roots-start}
 use Rattle.env_core.proofs.Collecting.{frees-others, strong-kept, state-collected, collected-answers}
 use Rattle.env_core.proofs.state.State.collect.Goals as goal
+
+pub collect-requires-clause-starting : goal.collect-requires-clause-starting
+collect-requires-clause-starting c =
+    let s = c.self.inside in
+    let roots = numbers_of c.deref.result.now in
+    let P : Option ℕ → Type 0 = λ p. AreRoots s.store s.scopes (map_of s.references) p roots in
+    roots-start s.store s.scopes (map_of s.references) s.exceptions.pending roots (subst P c.pending.ensures (rw c.deref.ensures.value c.in_ok-roots.ensures))
 
 pub empty_of-requires : goal.empty_of-requires
 empty_of-requires c =

@@ -1,11 +1,11 @@
 use Rattle.std.proofs.Common.{◌≡◌, ◌≢◌, ◌+◌, length, subst, sym, ap, refl, [], arith}
 use Rattle.handle_scope.specs.HandleScopes.{HandleScopes}
-use Rattle.napi_types.proofs.Issued.{length-down_from, fresh_number, down_from-more}
+use Rattle.napi_types.proofs.Issued.{length-up_to, fresh_number, up_to-more}
 use Rattle.handle_scope.proofs.Stacks.{frames-opened, kept-opened}
 use Rattle.handle_scope.proofs.scopes.Scopes.open_scope.Goals as goal
 
 pub overflow_add-number : goal.overflow_add-number
-overflow_add-number c = omega (arith, rw (← c.self.view_is) at c.requires.numbers, length-down_from c.self.inside.numbers)
+overflow_add-number c = omega (arith, rw (← c.self.view_is) at c.requires.numbers, length-up_to c.self.inside.numbers)
 
 pub invariant_of-self-2 : goal.invariant_of-self-2
 invariant_of-self-2 c =
@@ -28,4 +28,4 @@ returns-clause-ok c =
     let held : length c.make_room.new.held.items ≡ length c.self.inside.held.items = ap length room.held in
     let opened = frames-opened c.self.inside.frames.items c.self.inside.scopes.items c.self.inside.held.items c.self.inside.handles c.self.inside.numbers c.self.invariant.stack (c.self.inside.numbers + 1) c.args.kind c.len-2.result (c.len-3.result + c.len-4.result) (omega (arith, c.len-2.ensures, held)) in
     rw (← c.self.view_is)
-    (rw (c.push_reserved.ensures.items, room.scopes, room.held, down_from-more c.self.inside.numbers, opened) refl)
+    (rw (c.push_reserved.ensures.items, room.scopes, room.held, up_to-more c.self.inside.numbers, opened) refl)

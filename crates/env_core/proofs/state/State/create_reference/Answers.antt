@@ -1,0 +1,34 @@
+use Rattle.std.proofs.Common.{◌≡◌, None, sym, subst}
+use Rattle.napi_types.specs.declared.call.Call.TheVariants as call
+use Rattle.napi_types.specs.Graph.{IsLive}
+use Rattle.napi_types.specs.Refusals.{refusal_in}
+use Rattle.napi_reference.specs.Places.{map_of}
+use Rattle.napi_reference.proofs.Keeping.{AllValues-with_reference}
+use Rattle.env_core.specs.Referring.{RefersToLive}
+use Rattle.env_core.specs.contracts.state.State.{the_view}
+use Rattle.env_core.proofs.Referring.{made-answers}
+use Rattle.env_core.proofs.state.State.create_reference.Goals as goal
+
+pub invariant_of-self-2 : goal.invariant_of-self-2
+invariant_of-self-2 c =
+    let s = c.self.inside in
+    let i = c.self.invariant in
+    record {
+      live = i.live;
+      frames = i.frames;
+      calls = i.calls;
+      pending = i.pending;
+      referred =
+          subst (RefersToLive s.store) (sym c.in_ok-reference.ensures.made)
+          (AllValues-with_reference (IsLive s.store) c.in_ok-reference.reference.0 c.value_of-value.result.0 c.args.count (map_of s.references) c.value_of-value.ensures.live i.referred);
+    }
+
+pub returns-clause-ok : goal.returns-clause-ok
+returns-clause-ok c =
+    let s = c.self.inside in
+    let none : refusal_in (the_view s).texts (the_view s).heap (call.CreateReference c.args.handle c.args.count) ≡ None =
+    sym (rw (← c.self.view_is) at c.if-not-may_refer_to.ensures) in
+    rw (← c.self.view_is)
+    (rw c.plain-2.ensures
+    (made-answers (the_view s) s.store (map_of s.references) (map_of c.make.new.self) c.args.handle c.value_of-value.result.0 c.args.count c.in_ok-reference.reference none
+    c.in_ok-reference.ensures.fresh c.value_of-value.ensures.number c.in_ok-reference.ensures.made))
