@@ -4,3 +4,4 @@ mod Cutting
 mod Fronts
 mod Misses
 mod Rows
+mod Unordered

@@ -6,6 +6,7 @@ pub mod Cuts
 pub mod Depth
 pub mod EscapeTwice
 pub mod FirstRun
+pub mod MapLaws
 pub mod NamesRun
 pub mod PendingException
 pub mod ReferenceCounts

@@ -6,6 +6,7 @@
 pub mod calls;
 pub mod cuts;
 pub mod function_runs;
+pub mod maps;
 pub mod runs;
 pub mod scope_runs;
 pub mod value_runs;

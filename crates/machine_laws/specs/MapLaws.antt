@@ -1,0 +1,46 @@
+-- Laws of finite maps: in what order records were added, and at what places references stand, shows nowhere in them.
+use Rattle.std.specs.Prelude.{◌≡◌, ◌≢◌, ℕ, ◌<◌, ◌==◌, false, List, [], ◌∷◌, ◌++◌, length, Some, None, slice_index_or, slice_set}
+use Rattle.napi_types.specs.Lists.{has, with_record, with_number}
+use Rattle.napi_types.specs.References.{Reference, ReferenceMap, reference_at, with_reference}
+use Rattle.napi_reference.specs.Places.{ReferencePlaces, standing, map_of}
+
+-- one reference more of a map
+pub record IsOneMore (m : ReferenceMap) (n value count : ℕ) : Type 0 where
+  -- it is found by its number, and under any other number what was found before
+  pub there : reference_at (with_reference n value count m) n ≡ Some (record { number = n; value = Some value; count = count })
+  pub others : (k : ℕ) → (n == k) ≡ false → reference_at (with_reference n value count m) k ≡ reference_at m k
+  -- two of different numbers come to the same map, whichever was first
+  pub order : (k w c : ℕ) → (n == k) ≡ false → with_reference n value count (with_reference k w c m) ≡ with_reference k w c (with_reference n value count m)
+
+-- whatever list the map is
+abbrev pub ReferencesHaveNoOrder : Type 0
+ReferencesHaveNoOrder = (m : ReferenceMap) (n value count : ℕ) → IsOneMore m n value count
+
+-- the same of numbers that were issued
+abbrev pub NumbersHaveNoOrder : Type 0
+NumbersHaveNoOrder = (n k : ℕ) (ns : List ℕ) → with_number n (with_number k ns) ≡ with_number k (with_number n ns)
+
+-- two references, as a list that grows at its end would have them
+abbrev pub first_reference : Reference
+first_reference = record { number = 1; value = Some 6; count = 0 }
+
+abbrev pub second_reference : Reference
+second_reference = record { number = 2; value = Some 7; count = 0 }
+
+abbrev pub appended : Reference → List Reference → List Reference
+appended r rs = rs ++ r ∷ []
+
+-- such a list tells which came first, where the map does not
+pub record ListsHaveAnOrder : Type 0 where
+  pub listed : appended second_reference (appended first_reference []) ≢ appended first_reference (appended second_reference [])
+  pub mapped : with_record (λ r. r.number) first_reference (with_record (λ r. r.number) second_reference []) ≡ first_reference ∷ second_reference ∷ []
+
+-- a reference is put into a place, and its number is issued
+abbrev pub put_at : ℕ → Reference → ReferencePlaces → ReferencePlaces
+put_at at r p = record { places = slice_set p.places at (Some r); issued = with_number r.number p.issued }
+
+-- one of a new number that is put into an empty place, whichever that is, makes one reference more
+abbrev pub PlacesHaveNoOrder : Type 0
+PlacesHaveNoOrder = (p : ReferencePlaces) (at n value count : ℕ) → at < length p.places → slice_index_or p.places at None ≡ None
+    → has (λ r. r.number) n (standing p.places) ≡ false
+    → map_of (put_at at (record { number = n; value = Some value; count = count }) p) ≡ with_reference n value count (map_of p)
