@@ -6,7 +6,7 @@ use Rattle.napi_types.specs.declared.entry.Entry.{Entry}
 use Rattle.napi_types.specs.declared.entry.Local.{Local}
 use Rattle.napi_types.specs.declared.entry.Why.{Why}
 use Rattle.napi_types.specs.declared.ids.HandleId.{HandleId}
-use Rattle.napi_types.specs.Built.{is_calling}
+use Rattle.napi_types.specs.Built.{is_built, is_calling}
 use Rattle.napi_types.specs.Changes.{called, number_of}
 use Rattle.napi_types.specs.Ends.{frame_ended}
 use Rattle.napi_types.specs.Entering.{is_entering}
@@ -82,9 +82,17 @@ core-ended old new pages after x v cut c stands h e =
 pub other-at-once : (e : Environment) (c : Call) → is_calling c ≡ false → is_entering e c ≡ false
 other-at-once e c h = ap (λ b. b && is_none (refusal e c)) h
 
-pub other-need : (c : Call) → is_calling c ≡ false → need c ≡ 1
-other-need (call.CallFunction receiver f args) h = cc
-other-need _ h = refl
+pub other-need : (c : Call) → is_built c ≡ true → is_calling c ≡ false → need c ≡ 1
+other-need (call.CallFunction receiver f args) b h = cc
+other-need (call.CreateExternal payload finalizer hint) b h = cc
+other-need (call.Wrap object payload finalizer hint ref) b h = cc
+other-need (call.AddFinalizer object payload finalizer hint ref) b h = cc
+other-need (call.SetInstanceData payload finalizer hint) b h = cc
+other-need (call.AddEnvCleanupHook entry arg) b h = cc
+other-need (call.QueueAsyncWork w) b h = cc
+other-need (call.CreateThreadsafeFunction f entry most initial finalizer context) b h = cc
+other-need (call.CallThreadsafeFunction f payload mode) b h = cc
+other-need _ b h = refl
 
 not-lt : (a b : ℕ) → b ≤ a → nat_lt a b ≡ false
 not-lt a b h = grind arith

@@ -3,5 +3,6 @@ mod Computing
 mod Cutting
 mod Fronts
 mod Misses
+mod Naming
 mod Rows
 mod Unordered

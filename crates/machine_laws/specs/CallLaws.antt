@@ -1,30 +1,76 @@
 -- Laws over all calls in all environments.
-use Rattle.std.specs.Option.{option_or}
-use Rattle.std.specs.Prelude.{◌≡◌, ℕ, ◌&&◌, not, [], length, Some, None, filter, is_some, slice_get, codes, ◌⊎◌}
+use Rattle.std.specs.Option.{option_or, unwrap_or}
+use Rattle.std.specs.Prelude.{◌≡◌, ℕ, ◌+◌, ◌*◌, nat_lt, Bool, true, false, ◌&&◌, not, [], length, Option, Some, None, filter, is_some, slice_get, codes, ◌⊎◌}
+use Rattle.napi_types.specs.declared.body.Body.TheVariants as body
 use Rattle.napi_types.specs.declared.call.Call.{Call}
-use Rattle.napi_types.specs.declared.call.Call.TheVariants.{Typeof}
+use Rattle.napi_types.specs.declared.call.Call.TheVariants as call
 use Rattle.napi_types.specs.declared.entry.Out.TheVariants as out
 use Rattle.napi_types.specs.declared.ids.HandleId.{HandleId}
+use Rattle.napi_types.specs.declared.ids.WorkId.{WorkId}
 use Rattle.napi_types.specs.declared.status.Status.{Status}
 use Rattle.napi_types.specs.declared.status.Status.TheVariants as status
 use Rattle.napi_types.specs.Calls.{answer, at_depth_limit, by_groups}
 use Rattle.napi_types.specs.Built.{is_built, is_calling}
 use Rattle.napi_types.specs.Environment.{Environment}
+use Rattle.napi_types.specs.Guards.{is_registering}
+use Rattle.napi_types.specs.Heap.{Heap, handle_body}
+use Rattle.napi_types.specs.Lists.{has_number}
 use Rattle.napi_types.specs.Replies.{plain}
-use Rattle.napi_types.specs.Refusals.{references_of, handles_of, texts_of, reference_refusal, refusal_in, early_refusal, depth_refusal, refusal}
-use Rattle.napi_types.specs.Room.{one_if}
+use Rattle.napi_types.specs.Refusals.{references_of, handles_of, texts_of, moment_refusal, reference_refusal, unknown_refusal, kind_refusal, refusal_in, early_refusal, depth_refusal, refusal}
+use Rattle.napi_types.specs.Room.{one_if, need, is_growing}
 use Rattle.napi_types.specs.Scopes.{gives}
 use Rattle.napi_types.specs.Texts.{fixed_texts, message_text, code_text}
 
--- `typeof` refuses the handle as an invalid argument, tells nothing, and leaves the environment as it was
-pub record RefusesHandle (e : Environment) (h : HandleId) : Type 0 where
-  pub refusal : refusal e (Typeof h) ≡ Some status.InvalidArg
-  pub reply : (n : ℕ) → (answer e (Typeof h) n).reply ≡ plain status.InvalidArg out.Nothing
-  pub after : (n : ℕ) → (answer e (Typeof h) n).after ≡ e
+-- the call is refused as one at a wrong moment, or else as an invalid argument; it tells nothing, and leaves the environment as it was
+pub record RefusesArgument (e : Environment) (c : Call) : Type 0 where
+  pub refusal : refusal e c ≡ Some (unwrap_or (moment_refusal e c) status.InvalidArg)
+  pub reply : (n : ℕ) → (answer e c n).reply ≡ plain (unwrap_or (moment_refusal e c) status.InvalidArg) out.Nothing
+  pub after : (n : ℕ) → (answer e c n).after ≡ e
 
--- a handle that no open scope holds is refused
+-- each call that names a handle which no open scope holds is refused, whatever else it names ..
 abbrev pub RefusesUnknownHandles : Type 0
-RefusesUnknownHandles = (e : Environment) (h : HandleId) → gives e.heap.scopes h.0 ≡ None → RefusesHandle e h
+RefusesUnknownHandles = (e : Environment) (c : Call) (h : ℕ) → has_number h (handles_of c) ≡ true → gives e.heap.scopes h ≡ None → RefusesArgument e c
+
+-- .. and one whose handles open scopes hold, and whose texts stand in the table, is refused for none of them
+abbrev pub TakesKnownHandles : Type 0
+TakesKnownHandles = (e : Environment) (c : Call) → ((h : ℕ) → has_number h (handles_of c) ≡ true → is_some (gives e.heap.scopes h) ≡ true)
+    → ((t : ℕ) → has_number t (texts_of c) ≡ true → nat_lt t e.texts ≡ true) → unknown_refusal e.texts e.heap c ≡ None
+
+-- a type tag may be on an external, but nothing is wrapped in one, and no finalizer is added to one
+pub record TagsExternalsOnly (heap : Heap) (h : HandleId) : Type 0 where
+  pub tag : (lower upper : ℕ) → kind_refusal heap (call.TypeTagObject h lower upper) ≡ None
+  pub check : (lower upper : ℕ) → kind_refusal heap (call.CheckObjectTypeTag h lower upper) ≡ None
+  pub wrap : (payload : ℕ) (finalizer : Option ℕ) (hint : ℕ) (ref : Bool)
+      → kind_refusal heap (call.Wrap h payload finalizer hint ref) ≡ Some status.ObjectExpected
+  pub unwrap : kind_refusal heap (call.Unwrap h) ≡ Some status.ObjectExpected
+  pub remove : kind_refusal heap (call.RemoveWrap h) ≡ Some status.ObjectExpected
+  pub finalizer : (payload finalizer hint : ℕ) (ref : Bool) → kind_refusal heap (call.AddFinalizer h payload finalizer hint ref) ≡ Some status.ObjectExpected
+
+abbrev pub ExternalsAreTaggedOnly : Type 0
+ExternalsAreTaggedOnly = (heap : Heap) (h : HandleId) (payload : ℕ) → handle_body heap h.0 ≡ body.External payload → TagsExternalsOnly heap h
+
+-- the calls on works and on thread-safe functions, whose entries stand in the history
+abbrev pub is_shared_call : Call → Bool
+is_shared_call (call.CreateAsyncWork _ _ _) = true
+is_shared_call (call.DeleteAsyncWork _) = true
+is_shared_call (call.CancelAsyncWork _) = true
+is_shared_call (call.QueueAsyncWork _) = true
+is_shared_call (call.CreateThreadsafeFunction _ _ _ _ _ _) = true
+is_shared_call (call.CallThreadsafeFunction _ _ _) = true
+is_shared_call (call.AcquireThreadsafeFunction _) = true
+is_shared_call (call.ReleaseThreadsafeFunction _ _) = true
+is_shared_call (call.RefThreadsafeFunction _) = true
+is_shared_call (call.UnrefThreadsafeFunction _) = true
+is_shared_call (call.GetThreadsafeFunctionContext _) = true
+is_shared_call _ = false
+
+-- every other call needs a place for its entry, one for the end of the frame that it enters, and two for the frame of what it registers
+abbrev pub EachDutyHasPlaces : Type 0
+EachDutyHasPlaces = (c : Call) → is_shared_call c ≡ false → need c ≡ 1 + one_if (is_calling c) + 2 * one_if (is_registering c)
+
+-- a call that registers takes memory for that, but that of a work which is queued
+abbrev pub RegisteringCallsGrow : Type 0
+RegisteringCallsGrow = (c : Call) → is_registering c ≡ true → (is_growing c ≡ true) ⊎ ((w : WorkId) × (c ≡ call.QueueAsyncWork w))
 
 -- each call that is built, but the call of a function, which enters a frame, has a row: exactly one group of calls answers it, and none answers another call
 abbrev pub EveryCallHasARow : Type 0

@@ -1,14 +1,27 @@
 //! Laws over all calls in all environments.
-ghost use Rattle.machine_laws.specs.CallLaws.{RefusesUnknownHandles, EveryCallHasARow, RefusedCallsChangeNothing, ErrorNamesAreFixed, ReferencesAreNamedAlone};
+ghost use Rattle.machine_laws.specs.CallLaws.{RefusesUnknownHandles, TakesKnownHandles, ExternalsAreTaggedOnly, EachDutyHasPlaces, RegisteringCallsGrow};
+ghost use Rattle.machine_laws.specs.CallLaws.{EveryCallHasARow, RefusedCallsChangeNothing, ErrorNamesAreFixed, ReferencesAreNamedAlone};
 
 /// A refused call answers the first refusal that applies and changes nothing, but that the depth limit leaves its error pending.
 pub fn refused_calls_change_nothing()
     ensures { RefusedCallsChangeNothing }
 {}
 
-/// A handle that no open scope holds is an invalid argument, and the call that names it changes nothing.
+/// A handle that no open scope holds is an invalid argument, and each call that names it changes nothing.
 pub fn refuses_unknown_handles()
-    ensures { RefusesUnknownHandles }
+    ensures unknown { RefusesUnknownHandles }
+    ensures known { TakesKnownHandles }
+{}
+
+/// An external is no object: only a type tag may be on it.
+pub fn tells_externals_from_objects()
+    ensures { ExternalsAreTaggedOnly }
+{}
+
+/// A local call that registers something has places for its frame, and each call that registers takes memory, but the one that queues a work.
+pub fn each_duty_has_places()
+    ensures places { EachDutyHasPlaces }
+    ensures memory { RegisteringCallsGrow }
 {}
 
 /// Each call but that of a function, which enters a frame, is answered by exactly one group of calls.

@@ -20,7 +20,7 @@ use Rattle.napi_types.specs.Heap.{Heap, handle_body, handle_properties}
 use Rattle.napi_types.specs.Lists.{one, when, unless}
 use Rattle.napi_types.specs.References.{ReferenceMap, has_reference, value_of, count_of, most_count}
 use Rattle.napi_types.specs.Scopes.{gives, opened_scopes, closing, escaping}
-use Rattle.napi_types.specs.Values.{is_object_like, is_string, is_number, is_bigint, is_boolean, is_array, is_function, is_referable, most_names, most_index}
+use Rattle.napi_types.specs.Values.{is_object_like, is_string, is_number, is_bigint, is_boolean, is_array, is_function, is_referable, is_taggable, most_names, most_index}
 
 -- A CALL AT A WRONG MOMENT
 -- from the start of the teardown on
@@ -60,6 +60,7 @@ handles_of (call.GetValueInt64 h) = one h.0
 handles_of (call.GetValueBigintInt64 h) = one h.0
 handles_of (call.GetValueBool h) = one h.0
 handles_of (call.GetValueStringUtf8 h) = one h.0
+handles_of (call.GetValueExternal h) = one h.0
 handles_of (call.GetArrayLength h) = one h.0
 handles_of (call.StrictEquals g h) = g.0 ∷ one h.0
 handles_of (call.SetNamedProperty h _ v) = h.0 ∷ one v.0
@@ -72,8 +73,15 @@ handles_of (call.GetElement h _) = one h.0
 handles_of (call.HasElement h _) = one h.0
 handles_of (call.EscapeHandle _ h) = one h.0
 handles_of (call.CreateReference h _) = one h.0
+handles_of (call.Wrap h _ _ _ _) = one h.0
+handles_of (call.Unwrap h) = one h.0
+handles_of (call.RemoveWrap h) = one h.0
+handles_of (call.TypeTagObject h _ _) = one h.0
+handles_of (call.CheckObjectTypeTag h _ _) = one h.0
+handles_of (call.AddFinalizer h _ _ _ _) = one h.0
 handles_of (call.CallFunction receiver f args) = handle_if receiver ++ f.0 ∷ argument_handles args
 handles_of (call.Throw h) = one h.0
+handles_of (call.CreateThreadsafeFunction f _ _ _ _ _) = handle_if f
 handles_of _ = []
 
 -- the text of an argument that may be left out
@@ -125,6 +133,12 @@ kind_refusal heap (call.GetPropertyNames h) = expects heap h is_object_like stat
 kind_refusal heap (call.SetElement h _ _) = expects heap h is_object_like status.ObjectExpected
 kind_refusal heap (call.GetElement h _) = expects heap h is_object_like status.ObjectExpected
 kind_refusal heap (call.HasElement h _) = expects heap h is_object_like status.ObjectExpected
+kind_refusal heap (call.Wrap h _ _ _ _) = expects heap h is_object_like status.ObjectExpected
+kind_refusal heap (call.Unwrap h) = expects heap h is_object_like status.ObjectExpected
+kind_refusal heap (call.RemoveWrap h) = expects heap h is_object_like status.ObjectExpected
+kind_refusal heap (call.TypeTagObject h _ _) = expects heap h is_taggable status.ObjectExpected
+kind_refusal heap (call.CheckObjectTypeTag h _ _) = expects heap h is_taggable status.ObjectExpected
+kind_refusal heap (call.AddFinalizer h _ _ _ _) = expects heap h is_object_like status.ObjectExpected
 kind_refusal heap _ = None
 
 -- THE CALL'S OWN REFUSALS

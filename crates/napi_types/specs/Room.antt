@@ -1,5 +1,5 @@
 -- The room in the journal and in the history: places that entries take, places that are reserved, and what a call needs.
-use Rattle.std.specs.Prelude.{ℕ, ◌+◌, ◌-◌, ◌*◌, Bool, true, false, not, ◌||◌, nat_lt, min, length}
+use Rattle.std.specs.Prelude.{ℕ, ◌+◌, ◌-◌, ◌*◌, Bool, true, false, not, ◌||◌, nat_lt, min, length, Option, Some, None, is_some}
 use Rattle.napi_types.specs.declared.call.Call.{Call}
 use Rattle.napi_types.specs.declared.entry.Phase.{Phase}
 use Rattle.napi_types.specs.declared.entry.Phase.TheVariants as phase
@@ -47,9 +47,28 @@ journal_room e locals limit = record { limit = limit; taken = locals + reserved_
 abbrev pub room_of : Machine → Call → Room
 room_of m c = journal_room m.env m.locals m.limits.journal
 
--- the places that a call needs, counted as if it were accepted: one for its entry, or two for the begin and the end of the frame that it enters; no call that is built makes a duty
+-- the places of a duty's frame, its begin and its end
+abbrev pub duty_places : ℕ
+duty_places = 2
+
+-- the same where there is a finalizer
+abbrev pub finalizer_places : Option ℕ → ℕ
+finalizer_places None = 0
+finalizer_places (Some entry) = duty_places
+
+-- the places that a call needs in the list in which its entry stands, counted as if it were accepted: one for its entry, and those of the events that it
+-- owes: the end of the frame that it enters, the frame of the duty that it makes, the start and the finish of a queued work, the close and the finish of a
+-- thread-safe function. A work owes nothing until it is queued
 abbrev pub need : Call → ℕ
+need (call.CreateExternal _ finalizer _) = 1 + finalizer_places finalizer
+need (call.Wrap _ _ finalizer _ _) = 1 + finalizer_places finalizer
+need (call.AddFinalizer _ _ _ _ _) = 1 + duty_places
 need (call.CallFunction _ _ _) = 2
+need (call.SetInstanceData _ finalizer _) = 1 + finalizer_places finalizer
+need (call.AddEnvCleanupHook _ _) = 1 + duty_places
+need (call.QueueAsyncWork _) = 3 + duty_places
+need (call.CreateThreadsafeFunction _ _ _ _ finalizer _) = 3 + finalizer_places finalizer
+need (call.CallThreadsafeFunction _ _ _) = 1 + duty_places
 need _ = 1
 
 -- how many entries a list may have at most
@@ -65,7 +84,8 @@ abbrev pub is_full : Room → Call → Bool
 is_full r c = nat_lt r.limit (r.taken + need c)
 
 -- a call that takes memory beside that of its places in the list of its entry: one whose result is a newly issued number, `escape_handle` excepted, whose
--- place was kept when the scope opened; one that sets a property or an element, or makes an error; and a collection
+-- place was kept when the scope opened; one that registers, `queue_async_work` excepted; one that sets a property or an element, wraps or tags, or makes an
+-- error; and a collection
 abbrev pub is_growing : Call → Bool
 is_growing call.GetUndefined = true
 is_growing call.GetNull = true
@@ -78,20 +98,29 @@ is_growing (call.CreateSymbol _) = true
 is_growing call.CreateObject = true
 is_growing call.CreateArray = true
 is_growing (call.CreateFunction _ _) = true
+is_growing (call.CreateExternal _ _ _) = true
 is_growing (call.CreateError _ _) = true
 is_growing (call.SetNamedProperty _ _ _) = true
 is_growing (call.GetNamedProperty _ _) = true
 is_growing (call.GetPropertyNames _) = true
 is_growing (call.SetElement _ _ _) = true
 is_growing (call.GetElement _ _) = true
-is_growing (call.CreateReference _ _) = true
-is_growing (call.GetReferenceValue _) = true
-is_growing call.Collect = true
 is_growing call.OpenHandleScope = true
 is_growing call.OpenEscapableHandleScope = true
+is_growing (call.CreateReference _ _) = true
+is_growing (call.GetReferenceValue _) = true
+is_growing (call.Wrap _ _ _ _ _) = true
+is_growing (call.TypeTagObject _ _ _) = true
+is_growing (call.AddFinalizer _ _ _ _ _) = true
 is_growing (call.CallFunction _ _ _) = true
 is_growing (call.ThrowError _ _) = true
 is_growing call.GetAndClearLastException = true
+is_growing (call.SetInstanceData _ finalizer _) = is_some finalizer
+is_growing (call.AddEnvCleanupHook _ _) = true
+is_growing (call.CreateAsyncWork _ _ _) = true
+is_growing (call.CreateThreadsafeFunction _ _ _ _ _ _) = true
+is_growing (call.CallThreadsafeFunction _ _ _) = true
+is_growing call.Collect = true
 is_growing _ = false
 
 -- the call grows, or entries, reserved places and its need pass the first places

@@ -114,6 +114,13 @@ is_referable (body.External payload) = true
 is_referable (body.Symbol t) = true
 is_referable _ = false
 
+-- what a type tag may be on
+abbrev pub is_taggable : Body → Bool
+is_taggable (body.Object array error) = true
+is_taggable (body.Function addon entry payload) = true
+is_taggable (body.External payload) = true
+is_taggable _ = false
+
 -- the addon and the entry that a function runs, and its payload; a value of another kind is refused before it is read so
 abbrev pub function_addon : Body → ℕ
 function_addon (body.Function addon entry payload) = addon

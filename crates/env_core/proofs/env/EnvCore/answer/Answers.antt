@@ -23,11 +23,12 @@ returns-in-Ok-clause-reply c =
     (replied s.state c.call.new.self s.journal c.push.new.self c.args.call.now c.in-Ok.entry (s.journal.promised + 1 - 1)
     (c.push.ensures ∙ ap (λ (p : Pages). written c.in-Ok.entry (p.promised - 1) p) c.in_default.ensures.ok)
     (other-at-once s.state c.args.call.now c.requires.at_once)
-    (fits-in s.state s.journal c.args.call.now 1 c.self.invariant (other-need c.args.call.now c.requires.at_once) c.in_default.ensures.room)
+    (fits-in s.state s.journal c.args.call.now 1 c.self.invariant (other-need c.args.call.now c.requires.built c.requires.at_once) c.in_default.ensures.room)
     c.in-Ok.ensures.ok)
 
 pub returns-in-Ok-clause-full : goal.returns-in-Ok-clause-full
 returns-in-Ok-clause-full c =
     let s = c.self.inside in
     rw (← c.self.view_is)
-    (never-full _ (fits-in s.state s.journal c.args.call.now 1 c.self.invariant (other-need c.args.call.now c.requires.at_once) c.in_default.ensures.room))
+    (never-full _
+    (fits-in s.state s.journal c.args.call.now 1 c.self.invariant (other-need c.args.call.now c.requires.built c.requires.at_once) c.in_default.ensures.room))

@@ -1,0 +1,41 @@
+-- What a call names, and the first refusal for that.
+use Rattle.std.proofs.Common.{◌≡◌, ℕ, ◌==◌, ◌∙◌, ap, sym, refl, Bool, true, false, ◌&&◌, List, [], ◌∷◌, Option, Some, None, inl, inr}
+use Rattle.std.proofs.Math.Bool.{and-false}
+use Rattle.std.proofs.lemmas.Bool.{eqb-true, eq-eqb, or_cases, or_left, or_right}
+use Rattle.std.specs.List.{list_all}
+use Rattle.std.specs.Option.{option_or}
+use Rattle.napi_types.specs.declared.call.Call.TheVariants as call
+use Rattle.napi_types.specs.declared.status.Status.{Status}
+use Rattle.napi_types.specs.Lists.{has_number}
+use Rattle.napi_types.specs.Refusals.{reference_refusal, refusal_in}
+use Rattle.machine_laws.specs.CallLaws.{ReferencesAreNamedAlone}
+
+option_or-none : (s : Option Status) → option_or s None ≡ s
+option_or-none None = refl
+option_or-none (Some s) = refl
+
+pub named-alone : ReferencesAreNamedAlone
+named-alone e (call.DeleteReference r) = record { alone = inr (refl, refl); order = option_or-none (reference_refusal e.references (call.DeleteReference r)) }
+named-alone e (call.ReferenceRef r) = record { alone = inr (refl, refl); order = option_or-none (reference_refusal e.references (call.ReferenceRef r)) }
+named-alone e (call.ReferenceUnref r) = record { alone = inr (refl, refl); order = option_or-none (reference_refusal e.references (call.ReferenceUnref r)) }
+named-alone e (call.GetReferenceValue r) = record {
+  alone = inr (refl, refl);
+  order = option_or-none (reference_refusal e.references (call.GetReferenceValue r));
+}
+named-alone e c = record { alone = inl refl; order = sym (option_or-none (refusal_in e.texts e.heap c)) }
+
+-- one of the list fails the test, so not all pass it
+pub fails-all : (p : ℕ → Bool) (ns : List ℕ) (n : ℕ) → has_number n ns ≡ true → p n ≡ false → list_all p ns ≡ false
+fails-all p [] n here fails = cc
+fails-all p (m ∷ ns) n here fails =
+    elim (or_cases (m == n) (has_number n ns) here) [
+      | inl same ↦ ap (λ b. b && list_all p ns) (ap p (eqb-true m n same) ∙ fails)
+      | inr later ↦ ap (λ b. p m && b) (fails-all p ns n later fails) ∙ and-false (p m)
+    ]
+
+-- each of the list passes it
+pub passes-all : (p : ℕ → Bool) (ns : List ℕ) → ((n : ℕ) → has_number n ns ≡ true → p n ≡ true) → list_all p ns ≡ true
+passes-all p [] each = refl
+passes-all p (m ∷ ns) each =
+    rw (each m (or_left (m == m) (has_number m ns) (eq-eqb m m refl)))
+    (passes-all p ns (λ n here. each n (or_right (m == n) (has_number n ns) here)))
