@@ -10,15 +10,11 @@ use Rattle.napi_types.specs.declared.call.Ask.TheVariants as ask
 use Rattle.napi_types.specs.declared.call.Call.{Call}
 use Rattle.napi_types.specs.declared.call.Call.TheVariants as call
 use Rattle.napi_types.specs.declared.entry.Actor.TheVariants as actor
-use Rattle.napi_types.specs.declared.entry.Cause.{Cause}
-use Rattle.napi_types.specs.declared.entry.Cause.TheVariants as cause
 use Rattle.napi_types.specs.declared.entry.Entry.{Entry}
-use Rattle.napi_types.specs.declared.entry.HostStep.TheVariants as host
 use Rattle.napi_types.specs.declared.entry.Reply.{Reply}
 use Rattle.napi_types.specs.declared.entry.Target.{Target}
 use Rattle.napi_types.specs.declared.entry.Out.{Out}
 use Rattle.napi_types.specs.declared.entry.Phase.TheVariants as phase
-use Rattle.napi_types.specs.declared.entry.What.TheVariants as what
 use Rattle.napi_types.specs.declared.entry.Why.{Why}
 use Rattle.napi_types.specs.declared.entry.Why.TheVariants as why
 use Rattle.napi_types.specs.declared.status.Status.{Status}
@@ -26,11 +22,11 @@ use Rattle.napi_types.specs.declared.status.Status.TheVariants as status
 use Rattle.napi_types.specs.declared.ids.HandleId.{HandleId}
 use Rattle.napi_types.specs.Built.{is_built, taken}
 use Rattle.napi_types.specs.Calls.{accepted, accepted_of, accepted_by, answer_given, answer_at, answer}
-use Rattle.napi_types.specs.Changes.{Change, number_of, is_fresh, may_ask, called, init_begun, gone}
-use Rattle.napi_types.specs.Ends.{end_out, call_left, ended_by, frame_ended}
+use Rattle.napi_types.specs.Changes.{Change, number_of, is_fresh, may_ask, may_call, called, init_begun, gone}
+use Rattle.napi_types.specs.Ends.{frame_ended}
 use Rattle.napi_types.specs.Entering.{is_entering, entered, asked_for}
 use Rattle.napi_types.specs.Environment.{Environment}
-use Rattle.napi_types.specs.Frames.{Frame, cause_of, at_last_ask, asks_made, most_asks}
+use Rattle.napi_types.specs.Frames.{Frame, at_last_ask, is_asking, asks_made, most_asks}
 use Rattle.napi_types.specs.FunctionCalls.{callee_of, call_gifts}
 use Rattle.napi_types.specs.Heap.{Heap}
 use Rattle.napi_types.specs.Lists.{head, tail}
@@ -54,6 +50,7 @@ use Rattle.napi_types.specs.References.{value_of}
 use Rattle.env_loop.specs.Turns.{IsAsked, IsTold, KeepsRun, IsTurn}
 use Rattle.napi_types.proofs.Answers.{called-keeps}
 use Rattle.napi_types.proofs.FrameChanges.{KeepsButFrame, ended-keeps, entered-keeps, asked_for-called, asked_for-entered}
+use Rattle.napi_types.proofs.FrameEnds.{Ends, ended-ends}
 use Rattle.napi_types.proofs.Owners.{owned-asked, owned-ended, owned-init, within-asked, within-ended, within-init, callee-owned}
 use Rattle.env_loop.proofs.Recordings.{local-grown, init-grown, gone-grown}
 
@@ -85,30 +82,10 @@ reply-uncut e c n early None = given-uncut e c n early
 reply-uncut e c n None (Some d) = refl
 reply-uncut e c n (Some s) (Some d) = refl
 
--- what the entry of a frame's end tells: who made it, that it is an end, and the cut
-record Ends (cut : Option Why) (x : Entry) : Type 0 where
-  pub who : x.actor ≡ actor.Env
-  pub is : x.what ≡ what.Host host.End
-  pub told : cut_of x.reply.out ≡ cut
-
-left-ends : (v : Option HandleId) (e : Environment) (p : Option ℕ) → Ends None (call_left v e p).entry
-left-ends v e None = record { who = refl; is = refl; told = refl }
-left-ends v e (Some p) = record { who = refl; is = refl; told = refl }
-
-end-told : (cut : Option Why) (p : Option ℕ) → cut_of (end_out cut p) ≡ cut
-end-told (Some w) p = refl
-end-told None None = refl
-end-told None (Some v) = refl
-
-by-ends : (v : Option HandleId) (cut : Option Why) (e : Environment) (c : Cause) → Ends cut (ended_by v cut e c).entry
-by-ends v (Some w) e cause.Call = record { who = refl; is = refl; told = refl }
-by-ends v None e cause.Call = left-ends v e e.pending
-by-ends v cut e _ = record { who = refl; is = refl; told = end-told cut e.pending }
-
-ended-ends : (v : Option HandleId) (cut : Option Why) (e : Environment) → Ends cut (frame_ended v cut e).entry
-ended-ends v cut e = by-ends v cut e (cause_of e.frames)
-
 -- STEPS
+two_may : (a b : Bool) → a ≡ true → b ≡ true → (a && b) ≡ true
+two_may a b p q = rw (p, q) refl
+
 both_may : (a b c : Bool) → a ≡ true → b ≡ true → c ≡ false → (a && b && not c) ≡ true
 both_may a b c p q r = rw (p, q, r) refl
 
@@ -130,14 +107,14 @@ taken-asked (ask.Do d) c h = by (is_built d) h
     by false same = cc
 
 call-next : (m : Machine) (a : Ask) (c : Call) (o : Out) (n : ℕ) (f : Frame) (fs : List Frame) → m.env.frames ≡ f ∷ fs → ask.Do c ≡ taken a → cut_of o ≡ None → number_of o ≡ n
-    → may_ask m.env ≡ true → is_fresh m.env o ≡ true → is_full (room_of m c) c ≡ false
+    → may_call m.env ≡ true → is_fresh m.env o ≡ true → is_full (room_of m c) c ≡ false
     → env_step m a o m.env.frames ≡ locally m (asked_for m.env c n) true
 call-next m a c o n f fs stands made uncut number may fresh fits =
     ap (env_step m a o) stands
     ∙ ap (λ b. frame_step m b o (cut_of o)) (sym made)
     ∙ ap (frame_step m (ask.Do c) o) uncut
-    ∙ ap (λ k. locally m (asked_for m.env c k) (may_ask m.env && is_fresh m.env o && not (is_full (room_of m c) c))) number
-    ∙ ap (locally m (asked_for m.env c n)) (both_may (may_ask m.env) (is_fresh m.env o) (is_full (room_of m c) c) may fresh fits)
+    ∙ ap (λ k. locally m (asked_for m.env c k) (may_call m.env && is_fresh m.env o && not (is_full (room_of m c) c))) number
+    ∙ ap (locally m (asked_for m.env c n)) (both_may (may_call m.env) (is_fresh m.env o) (is_full (room_of m c) c) may fresh fits)
 
 leave-next : (m : Machine) (a : Ask) (v : Option HandleId) (o : Out) (f : Frame) (fs : List Frame) → m.env.frames ≡ f ∷ fs → ask.Leave v ≡ taken a → cut_of o ≡ None → may_ask m.env ≡ true
     → env_step m a o m.env.frames ≡ locally m (frame_ended v None m.env) true
@@ -166,11 +143,12 @@ frame-asked (Some p) (Some q) f mine own a e agrees told = told ∙ cc
 
 -- what the innermost frame of this script asks, whatever is told of the plans
 asked-of : (s : Setting) (plans : List Plan) (core : Core) (history : List Entry) (all : Registers) (f : Frame) (fs : List Frame) (a : Ask)
-    → core.env.frames ≡ f ∷ fs → f.addon < core.env.addons → IsOf s plans core → (r : IsRecorded s core history all)
+    → core.env.frames ≡ f ∷ fs → f.makes_asks ≡ true → f.addon < core.env.addons → IsOf s plans core → (r : IsRecorded s core history all)
     → IsAsked plans all f a → a ≡ frames_ask s.plans r.own core.env.frames a
-asked-of s plans core history all f fs a stands there of r told =
+asked-of s plans core history all f fs a stands makes there of r told =
     let below : f.addon < length s.plans = omega (arith, of.count, there) in
     frame-asked (plan_of plans f.addon) (plan_of s.plans f.addon) f (registers_of all f.addon) (registers_of r.own f.addon) a (of.first f.addon below) (r.agrees f.addon below) told
+    ∙ ap (λ b. cond b (frame_ask (plan_of s.plans f.addon) (registers_of r.own f.addon) f a) (ask.Leave None)) (sym makes)
     ∙ ap (λ gs. frames_ask s.plans r.own gs a) (sym stands)
 
 agrees-kept : (p q : Plan) (f : Frame) (mine own now : List ℕ) (r : Reply) → q ≡ p → AgreesWhereTold q mine own
@@ -262,6 +240,19 @@ below-most fs n e h = ap (λ k. nat_lt k most_asks) e ∙ lt-true n most_asks h
     lt-true : (a b : ℕ) → a < b → nat_lt a b ≡ true
     lt-true a b k = grind arith
 
+-- the innermost frame asks this, as its plan gives it where one is told, and may still ask
+pub record IsAsking (ps : List Plan) (all : Registers) (f : Frame) (a : Ask) : Type 0 where
+  pub makes : f.makes_asks ≡ true
+  pub below : f.asks < most_asks
+  pub asked : IsAsked ps all f a
+
+asking-asks : (core : Core) (f : Frame) (fs : List Frame) (ps : List Plan) (all : Registers) (a : Ask) → core.env.frames ≡ f ∷ fs → IsAsking ps all f a → may_ask core.env ≡ true
+asking-asks core f fs ps all a stands asking = below-most core.env.frames f.asks (ap asks_made stands) asking.below
+
+asking-calls : (core : Core) (f : Frame) (fs : List Frame) (ps : List Plan) (all : Registers) (a : Ask) → core.env.frames ≡ f ∷ fs → IsAsking ps all f a → may_call core.env ≡ true
+asking-calls core f fs ps all a stands asking =
+    two_may (may_ask core.env) (is_asking core.env.frames) (asking-asks core f fs ps all a stands asking) (ap is_asking stands ∙ asking.makes)
+
 same-room : (s : Setting) (core : Core) (history : List Entry) (c : Call) → core.limit ≡ s.limits.journal
     → room_in core ≡ room_of (machine_of s.limits core history) c
 same-room s core history c e = ap (λ n. journal_room core.env (length core.journal) n) e
@@ -293,11 +284,11 @@ below-plans s ps core fs of all = subst (λ (n : ℕ). All (λ f. f.addon < n) f
 
 -- a call that is replied to
 called-grown : (s : Setting) (core : Core) (history : List Entry) (all : Registers) (ps : List Plan) (f : Frame) (fs : List Frame) (a : Ask) (c : Call) (r : Reply) (now : Registers)
-    → IsOf s ps core → IsSound core.env → core.env.frames ≡ f ∷ fs → f.asks < most_asks → IsAsked ps all f a → ask.Do c ≡ taken a
+    → IsOf s ps core → IsSound core.env → core.env.frames ≡ f ∷ fs → IsAsking ps all f a → ask.Do c ≡ taken a
     → is_entering core.env c ≡ false → is_full (room_in core) c ≡ false → IsTrue (is_fresh core.env r.out) → r ≡ (called core.env c (number_of r.out)).entry.reply
     → IsTold ps all core.env.frames r now
     → IsRecorded s core history all → IsRecorded s (wrote (called core.env c (number_of r.out)) core) history now
-called-grown s core history all ps f fs a c r now of sound stands below asked made at_once fits fresh answer told rec =
+called-grown s core history all ps f fs a c r now of sound stands asking made at_once fits fresh answer told rec =
     let k : ℕ = number_of r.out in
     let change : Change = called core.env c k in
     let m : Machine = machine_of s.limits core history in
@@ -306,7 +297,7 @@ called-grown s core history all ps f fs a c r now of sound stands below asked ma
     let number : number_of o ≡ k = ap number_of (sym same_out) in
     let fresh_o : is_fresh core.env o ≡ true = ap (is_fresh core.env) (sym same_out) ∙ fresh in
     let room : is_full (room_of m c) c ≡ false = ap (λ x. is_full x c) (sym (same-room s core history c rec.limit)) ∙ fits in
-    let may : may_ask core.env ≡ true = below-most core.env.frames f.asks (ap asks_made stands) below in
+    let may : may_call core.env ≡ true = asking-calls core f fs ps all a stands asking in
     let there : f.addon < core.env.addons =
     All-head (λ (x : Frame). x.addon < core.env.addons) f fs (subst (λ (l : List Frame). All (λ x. x.addon < core.env.addons) l) stands (frames-below core sound)) in
     let told_here : IsTold ps all core.env.frames change.entry.reply now = subst (λ (x : Reply). IsTold ps all core.env.frames x now) answer told in
@@ -315,7 +306,7 @@ called-grown s core history all ps f fs a c r now of sound stands below asked ma
     local-grown s core history all rec a change (kept_in_frames s.plans rec.own core.env.frames change.entry.reply) now
     (call-next m a c o k f fs stands made (reply-uncut core.env c k (early_refusal core.env c) (depth_refusal core.env.frames c)) number may fresh_o room
     ∙ ap (λ x. locally m x true) (asked_for-called core.env c k at_once))
-    (asked-of s ps core history all f fs a stands there of rec asked)
+    (asked-of s ps core history all f fs a stands asking.makes there of rec asking.asked)
     refl next.count next.agrees
     (ap stage_of (called-keeps core.env c k).phase) refl
 
@@ -329,17 +320,17 @@ others-given all now i gifts inside e = e ∙ ap (λ v. set all i v) (sym (given
 -- a call that enters a frame
 entered-grown : (s : Setting) (core : Core) (history : List Entry) (all : Registers) (ps : List Plan) (f : Frame) (fs : List Frame) (a : Ask)
     (receiver : Option HandleId) (g : HandleId) (args : Args) (now : Registers)
-    → IsOf s ps core → IsSound core.env → core.env.frames ≡ f ∷ fs → f.asks < most_asks → IsAsked ps all f a → ask.Do (call.CallFunction receiver g args) ≡ taken a
+    → IsOf s ps core → IsSound core.env → core.env.frames ≡ f ∷ fs → IsAsking ps all f a → ask.Do (call.CallFunction receiver g args) ≡ taken a
     → refusal core.env (call.CallFunction receiver g args) ≡ None → is_full (room_in core) (call.CallFunction receiver g args) ≡ false
     → core.env.addons ≤ length all → now ≡ gifts_given all (callee_of core.env.heap g).addon (call_gifts core.env.heap receiver g args)
     → IsRecorded s core history all → IsRecorded s (wrote (entered receiver g args core.env) core) history now
-entered-grown s core history all ps f fs a receiver g args now of sound stands below asked made accepted fits enough given rec =
+entered-grown s core history all ps f fs a receiver g args now of sound stands asking made accepted fits enough given rec =
     let c : Call = call.CallFunction receiver g args in
     let change : Change = entered receiver g args core.env in
     let m : Machine = machine_of s.limits core history in
     let o : Out = change.entry.reply.out in
     let room : is_full (room_of m c) c ≡ false = ap (λ x. is_full x c) (sym (same-room s core history c rec.limit)) ∙ fits in
-    let may : may_ask core.env ≡ true = below-most core.env.frames f.asks (ap asks_made stands) below in
+    let may : may_call core.env ≡ true = asking-calls core f fs ps all a stands asking in
     let there : f.addon < core.env.addons =
     All-head (λ (x : Frame). x.addon < core.env.addons) f fs (subst (λ (l : List Frame). All (λ x. x.addon < core.env.addons) l) stands (frames-below core sound)) in
     let i : ℕ = (callee_of core.env.heap g).addon in
@@ -350,7 +341,7 @@ entered-grown s core history all ps f fs a receiver g args now of sound stands b
     let same : a ≡ ask.Do c = taken-asked a c made in
     local-grown s core history all rec a change (set rec.own i v) now
     (call-next m a c o 0 f fs stands made refl refl may refl room ∙ ap (λ x. locally m x true) (asked_for-entered core.env receiver g args 0 accepted))
-    (asked-of s ps core history all f fs a stands there of rec asked)
+    (asked-of s ps core history all f fs a stands asking.makes there of rec asking.asked)
     (ap (λ b. given_by rec.own core.env.heap b) same)
     (length-set rec.own i v ∙ rec.count)
     (agrees-set s.plans all now rec.own i v rec.count rec.agrees (others-given all now i gifts (omega (arith, callee, enough)) given)
@@ -359,11 +350,11 @@ entered-grown s core history all ps f fs a receiver g args now of sound stands b
 
 -- the end of a frame, at an ask that its plan gives
 ended-grown : (s : Setting) (core : Core) (history : List Entry) (all : Registers) (ps : List Plan) (f : Frame) (fs : List Frame) (a : Ask) (v : Option HandleId) (cut : Option Why) (now : Registers)
-    → IsOf s ps core → IsSound core.env → core.env.frames ≡ f ∷ fs → IsAsked ps all f a
+    → IsOf s ps core → IsSound core.env → core.env.frames ≡ f ∷ fs → f.makes_asks ≡ true → IsAsked ps all f a
     → env_step (machine_of s.limits core history) a (frame_ended v cut core.env).entry.reply.out core.env.frames ≡ locally (machine_of s.limits core history) (frame_ended v cut core.env) true
     → IsTold ps all (at_last_ask (tail core.env.frames)) (frame_ended v cut core.env).entry.reply now
     → IsRecorded s core history all → IsRecorded s (wrote (frame_ended v cut core.env) core) history now
-ended-grown s core history all ps f fs a v cut now of sound stands asked next told rec =
+ended-grown s core history all ps f fs a v cut now of sound stands makes asked next told rec =
     let change : Change = frame_ended v cut core.env in
     let m : Machine = machine_of s.limits core history in
     let x : Entry = change.entry in
@@ -375,7 +366,7 @@ ended-grown s core history all ps f fs a v cut now of sound stands asked next to
     told-kept s.plans ps all rec.own now callers x.reply (below-plans s ps core callers of (tail-below core.env.addons core.env.frames (frames-below core sound))) of.first rec.count rec.agrees told in
     local-grown s core history all rec a change (kept_in_frames s.plans rec.own callers x.reply) now
     (by-env m a x (locally m change true) e.who next)
-    (asked-of s ps core history all f fs a stands there of rec asked)
+    (asked-of s ps core history all f fs a stands makes there of rec asked)
     (ap (λ w. kept_at s.plans rec.own core.env a x.reply w) e.is)
     kept_now.count kept_now.agrees
     (ap stage_of (ended-keeps v cut core.env).phase)
@@ -383,37 +374,34 @@ ended-grown s core history all ps f fs a v cut now of sound stands asked next to
 
 -- a frame that leaves
 left-grown : (s : Setting) (core : Core) (history : List Entry) (all : Registers) (ps : List Plan) (f : Frame) (fs : List Frame) (a : Ask) (v : Option HandleId) (now : Registers)
-    → IsOf s ps core → IsSound core.env → core.env.frames ≡ f ∷ fs → f.asks < most_asks → IsAsked ps all f a → ask.Leave v ≡ taken a
+    → IsOf s ps core → IsSound core.env → core.env.frames ≡ f ∷ fs → IsAsking ps all f a → ask.Leave v ≡ taken a
     → IsTold ps all (at_last_ask (tail core.env.frames)) (frame_ended v None core.env).entry.reply now
     → IsRecorded s core history all → IsRecorded s (wrote (frame_ended v None core.env) core) history now
-left-grown s core history all ps f fs a v now of sound stands below asked left told rec =
-    ended-grown s core history all ps f fs a v None now of sound stands asked
+left-grown s core history all ps f fs a v now of sound stands asking left told rec =
+    ended-grown s core history all ps f fs a v None now of sound stands asking.makes asking.asked
     (leave-next (machine_of s.limits core history) a v (frame_ended v None core.env).entry.reply.out f fs stands left (ended-ends v None core.env).told
-    (below-most core.env.frames f.asks (ap asks_made stands) below)) told rec
+    (asking-asks core f fs ps all a stands asking)) told rec
 
 -- a frame that is cut
 cut-grown : (s : Setting) (core : Core) (history : List Entry) (all : Registers) (ps : List Plan) (f : Frame) (fs : List Frame) (a : Ask) (w : Why) (now : Registers)
-    → IsOf s ps core → IsSound core.env → core.env.frames ≡ f ∷ fs → IsAsked ps all f a → may_cut (machine_of s.limits core history) (taken a) w ≡ true
+    → IsOf s ps core → IsSound core.env → core.env.frames ≡ f ∷ fs → f.makes_asks ≡ true → IsAsked ps all f a → may_cut (machine_of s.limits core history) (taken a) w ≡ true
     → IsTold ps all (at_last_ask (tail core.env.frames)) (frame_ended None (Some w) core.env).entry.reply now
     → IsRecorded s core history all → IsRecorded s (wrote (frame_ended None (Some w) core.env) core) history now
-cut-grown s core history all ps f fs a w now of sound stands asked may told rec =
-    ended-grown s core history all ps f fs a None (Some w) now of sound stands asked
+cut-grown s core history all ps f fs a w now of sound stands makes asked may told rec =
+    ended-grown s core history all ps f fs a None (Some w) now of sound stands makes asked
     (cut-next (machine_of s.limits core history) a w (frame_ended None (Some w) core.env).entry.reply.out f fs stands (ended-ends None (Some w) core.env).told may) told rec
 
-two_may : (a b : Bool) → a ≡ true → b ≡ true → (a && b) ≡ true
-two_may a b p q = rw (p, q) refl
-
 -- a frame may be cut where its call stopped, for the reason that the status gives
-stopped-may : (s : Setting) (core : Core) (history : List Entry) (a : Ask) (c : Call) (t : Status) → core.limit ≡ s.limits.journal → may_ask core.env ≡ true → ask.Do c ≡ taken a
+stopped-may : (s : Setting) (core : Core) (history : List Entry) (a : Ask) (c : Call) (t : Status) → core.limit ≡ s.limits.journal → may_call core.env ≡ true → ask.Do c ≡ taken a
     → StopsBy (room_in core) c t → may_cut (machine_of s.limits core history) (taken a) (why_stopped t) ≡ true
 stopped-may s core history a c t limit may made stops =
     ap (λ b. may_cut (machine_of s.limits core history) b (why_stopped t)) (sym made)
     ∙ by t (subst (λ (x : Room). StopsBy x c t) (same-room s core history c limit) stops)
   where
     by : (t : Status) → StopsBy (room_of (machine_of s.limits core history) c) c t → may_cut (machine_of s.limits core history) (ask.Do c) (why_stopped t) ≡ true
-    by status.TraceFull stops = two_may (may_ask core.env) (is_full (room_of (machine_of s.limits core history) c) c) may stops
+    by status.TraceFull stops = two_may (may_call core.env) (is_full (room_of (machine_of s.limits core history) c) c) may stops
     by status.NoMemory stops =
-        both_may (may_ask core.env) (may_want_memory (room_of (machine_of s.limits core history) c) c) (is_full (room_of (machine_of s.limits core history) c) c) may stops.0 stops.1
+        both_may (may_call core.env) (may_want_memory (room_of (machine_of s.limits core history) c) c) (is_full (room_of (machine_of s.limits core history) c) c) may stops.0 stops.1
     by _ stops = absurd stops
 
 -- an ask that the plan gives, where one is told
@@ -453,51 +441,51 @@ ended-turn ps core new all now f fs v cut sound stands made told grows =
 
 -- the frame leaves
 pub left-turn : (ps : List Plan) (core new : Core) (all now : Registers) (f : Frame) (a : Ask) (v : Option HandleId)
-    → IsSound core.env → head core.env.frames ≡ Some f → f.asks < most_asks → IsAsked ps all f a → ask.Leave v ≡ taken a
+    → IsSound core.env → head core.env.frames ≡ Some f → IsAsking ps all f a → ask.Leave v ≡ taken a
     → new ≡ wrote (frame_ended v None core.env) core
     → IsTold ps all (at_last_ask (tail core.env.frames)) (frame_ended v None core.env).entry.reply now → IsTurn ps core all new now
-left-turn ps core new all now f a v sound top below asked left made told =
+left-turn ps core new all now f a v sound top asking left made told =
     let stands : core.env.frames ≡ f ∷ tail core.env.frames = head-stands core.env.frames f top in
     ended-turn ps core new all now f (tail core.env.frames) v None sound stands made told
-    (λ s history of r. left-grown s core history all ps f (tail core.env.frames) a v now of sound stands below asked left told r)
+    (λ s history of r. left-grown s core history all ps f (tail core.env.frames) a v now of sound stands asking left told r)
 
 -- its call stopped
 pub stopped-turn : (ps : List Plan) (core new : Core) (all now : Registers) (f : Frame) (a : Ask) (c : Call) (t : Status) (w : Why)
-    → IsSound core.env → head core.env.frames ≡ Some f → f.asks < most_asks → IsAsked ps all f a → ask.Do c ≡ taken a → StopsBy (room_in core) c t → w ≡ why_stopped t
+    → IsSound core.env → head core.env.frames ≡ Some f → IsAsking ps all f a → ask.Do c ≡ taken a → StopsBy (room_in core) c t → w ≡ why_stopped t
     → new ≡ wrote (frame_ended None (Some w) core.env) core
     → IsTold ps all (at_last_ask (tail core.env.frames)) (frame_ended None (Some w) core.env).entry.reply now → IsTurn ps core all new now
-stopped-turn ps core new all now f a c t w sound top below asked made stops reason ended told =
+stopped-turn ps core new all now f a c t w sound top asking made stops reason ended told =
     let stands : core.env.frames ≡ f ∷ tail core.env.frames = head-stands core.env.frames f top in
-    let may : may_ask core.env ≡ true = below-most core.env.frames f.asks (ap asks_made stands) below in
+    let may : may_call core.env ≡ true = asking-calls core f (tail core.env.frames) ps all a stands asking in
     ended-turn ps core new all now f (tail core.env.frames) None (Some w) sound stands ended told
-    (λ s history of r. cut-grown s core history all ps f (tail core.env.frames) a w now of sound stands asked
+    (λ s history of r. cut-grown s core history all ps f (tail core.env.frames) a w now of sound stands asking.makes asking.asked
     (ap (λ x. may_cut (machine_of s.limits core history) (taken a) x) reason ∙ stopped-may s core history a c t r.limit may made stops) told r)
 
 -- it has made all its asks
 pub spent-turn : (ps : List Plan) (core new : Core) (all now : Registers) (f : Frame)
-    → IsSound core.env → head core.env.frames ≡ Some f → f.asks ≡ most_asks
+    → IsSound core.env → head core.env.frames ≡ Some f → f.makes_asks ≡ true → f.asks ≡ most_asks
     → new ≡ wrote (frame_ended None (Some why.Asks) core.env) core
     → IsTold ps all (at_last_ask (tail core.env.frames)) (frame_ended None (Some why.Asks) core.env).entry.reply now → IsTurn ps core all new now
-spent-turn ps core new all now f sound top spent made told =
+spent-turn ps core new all now f sound top makes spent made told =
     let stands : core.env.frames ≡ f ∷ tail core.env.frames = head-stands core.env.frames f top in
     let would = some-ask ps all f in
     let all_made : (asks_made core.env.frames == most_asks) ≡ true = ap (λ gs. asks_made gs == most_asks) stands ∙ ap (λ k. k == most_asks) spent in
     ended-turn ps core new all now f (tail core.env.frames) None (Some why.Asks) sound stands made told
-    (λ s history of r. cut-grown s core history all ps f (tail core.env.frames) would.0 why.Asks now of sound stands would.1 all_made told r)
+    (λ s history of r. cut-grown s core history all ps f (tail core.env.frames) would.0 why.Asks now of sound stands makes would.1 all_made told r)
 
 -- its call is replied to
 pub replied-turn : (ps : List Plan) (core new : Core) (all now : Registers) (f : Frame) (a : Ask) (c : Call) (r : Reply)
-    → IsSound core.env → head core.env.frames ≡ Some f → f.asks < most_asks → IsAsked ps all f a → ask.Do c ≡ taken a
+    → IsSound core.env → head core.env.frames ≡ Some f → IsAsking ps all f a → ask.Do c ≡ taken a
     → Replies core c r new → OthersStay all now f.addon → IfSome (plan_of ps f.addon) (λ p. registers_of now f.addon ≡ kept p (registers_of all f.addon) f.entry f.asks r)
     → IsTurn ps core all new now
-replied-turn ps core new all now f a c r sound top below asked made reply others keeps =
+replied-turn ps core new all now f a c r sound top asking made reply others keeps =
     let k : ℕ = number_of r.out in
     let change : Change = called core.env c k in
     let stands : core.env.frames ≡ f ∷ tail core.env.frames = head-stands core.env.frames f top in
     let told : IsTold ps all core.env.frames r now = subst (λ (l : List Frame). IsTold ps all l r now) (sym stands) (others, keeps) in
     let e : Environment = (asked_for core.env c k).after in
     let same : e ≡ change.after = ap (λ (x : Change). x.after) (asked_for-called core.env c k reply.at_once) in
-    let spare : asks_made core.env.frames < most_asks = subst (λ (n : ℕ). n < most_asks) (asks-told core.env.frames f top) below in
+    let spare : asks_made core.env.frames < most_asks = subst (λ (n : ℕ). n < most_asks) (asks-told core.env.frames f top) asking.below in
     let P : Core → Type 0 = λ x. IsSound x.env in
     let Q : Core → Type 0 = λ x. Grows ps core all x now in
     let kept = called-keeps core.env c k in
@@ -508,14 +496,14 @@ replied-turn ps core new all now f a c r sound top below asked made reply others
           (subst (λ (x : Environment). All (λ y. y.asks ≤ most_asks) x.frames) same (within-asked core.env c k spare sound.asks)));
       kept = wrote-keeps change core new reply.after kept.addons (ap stage_of kept.phase);
       recorded = subst Q (sym reply.after) (λ s history of rec.
-          called-grown s core history all ps f (tail core.env.frames) a c r now of sound stands below asked made reply.at_once reply.fits reply.fresh reply.answer told rec);
+          called-grown s core history all ps f (tail core.env.frames) a c r now of sound stands asking made reply.at_once reply.fits reply.fresh reply.answer told rec);
     }
 
 -- its call enters a frame
 entering-turn : (ps : List Plan) (core new : Core) (all now : Registers) (f : Frame) (a : Ask) (receiver : Option HandleId) (g : HandleId) (args : Args) (target : Target) (gifts : List ℕ)
-    → IsSound core.env → core.env.addons ≤ length all → head core.env.frames ≡ Some f → f.asks < most_asks → IsAsked ps all f a → ask.Do (call.CallFunction receiver g args) ≡ taken a
+    → IsSound core.env → core.env.addons ≤ length all → head core.env.frames ≡ Some f → IsAsking ps all f a → ask.Do (call.CallFunction receiver g args) ≡ taken a
     → EntersBy core receiver g args target gifts new → now ≡ gifts_given all target.addon gifts → IsTurn ps core all new now
-entering-turn ps core new all now f a receiver g args target gifts sound enough top below asked made enters given =
+entering-turn ps core new all now f a receiver g args target gifts sound enough top asking made enters given =
     let c : Call = call.CallFunction receiver g args in
     let change : Change = entered receiver g args core.env in
     let stands : core.env.frames ≡ f ∷ tail core.env.frames = head-stands core.env.frames f top in
@@ -524,7 +512,7 @@ entering-turn ps core new all now f a receiver g args target gifts sound enough 
     let given_there : now ≡ gifts_given all i (call_gifts core.env.heap receiver g args) = given ∙ ap (λ n. gifts_given all n gifts) enters.called.addon ∙ ap (λ l. gifts_given all i l) enters.called.gifts_are in
     let e : Environment = (asked_for core.env c 0).after in
     let same : e ≡ change.after = ap (λ (x : Change). x.after) (asked_for-entered core.env receiver g args 0 enters.called.accepted) in
-    let spare : asks_made core.env.frames < most_asks = subst (λ (n : ℕ). n < most_asks) (asks-told core.env.frames f top) below in
+    let spare : asks_made core.env.frames < most_asks = subst (λ (n : ℕ). n < most_asks) (asks-told core.env.frames f top) asking.below in
     let kept = entered-keeps receiver g args core.env in
     let P : Core → Type 0 = λ x. IsSound x.env in
     let Q : Core → Type 0 = λ x. Grows ps core all x now in
@@ -535,15 +523,15 @@ entering-turn ps core new all now f a receiver g args target gifts sound enough 
           (subst (λ (x : Environment). All (λ y. y.asks ≤ most_asks) x.frames) same (within-asked core.env c 0 spare sound.asks)));
       kept = wrote-keeps change core new enters.after kept.addons (ap stage_of kept.phase);
       recorded = subst Q (sym enters.after) (λ s history of rec.
-          entered-grown s core history all ps f (tail core.env.frames) a receiver g args now of sound stands below asked made enters.called.accepted enters.fits enough given_there rec);
+          entered-grown s core history all ps f (tail core.env.frames) a receiver g args now of sound stands asking made enters.called.accepted enters.fits enough given_there rec);
     }
 
 pub entered-turn : (ps : List Plan) (core new : Core) (all now : Registers) (f : Frame) (a : Ask) (c : Call) (target : Target) (gifts : List ℕ)
-    → IsSound core.env → core.env.addons ≤ length all → head core.env.frames ≡ Some f → f.asks < most_asks → IsAsked ps all f a → ask.Do c ≡ taken a
+    → IsSound core.env → core.env.addons ≤ length all → head core.env.frames ≡ Some f → IsAsking ps all f a → ask.Do c ≡ taken a
     → Enters core c target gifts new → now ≡ gifts_given all target.addon gifts → IsTurn ps core all new now
-entered-turn ps core new all now f a (call.CallFunction receiver g args) target gifts sound enough top below asked made enters given =
-    entering-turn ps core new all now f a receiver g args target gifts sound enough top below asked made enters given
-entered-turn ps core new all now f a c target gifts sound enough top below asked made enters given = absurd enters
+entered-turn ps core new all now f a (call.CallFunction receiver g args) target gifts sound enough top asking made enters given =
+    entering-turn ps core new all now f a receiver g args target gifts sound enough top asking made enters given
+entered-turn ps core new all now f a c target gifts sound enough top asking made enters given = absurd enters
 
 -- the addon whose frame a call enters is there
 pub target-there : (core : Core) (c : Call) (target : Target) (gifts : List ℕ) (new : Core) → IsSound core.env → Enters core c target gifts new → target.addon < core.env.addons
@@ -633,11 +621,11 @@ given-from all mid now i gifts registers given = given ∙ ap (λ x. gifts_given
 
 -- a call that stopped changed nothing, so its frame ends where it stood
 pub stopped-turn-at : (ps qs : List Plan) (core stopped new : Core) (all mid now : Registers) (f : Frame) (a : Ask) (c : Call) (t : Status) (w : Why)
-    → IsSound core.env → head core.env.frames ≡ Some f → f.asks < most_asks → IsAsked ps all f a → ask.Do c ≡ taken a → StopsBy (room_in core) c t → w ≡ why_stopped t
+    → IsSound core.env → head core.env.frames ≡ Some f → IsAsking ps all f a → ask.Do c ≡ taken a → StopsBy (room_in core) c t → w ≡ why_stopped t
     → stopped ≡ core → new ≡ wrote (frame_ended None (Some w) stopped.env) stopped → qs ≡ ps → mid ≡ all
     → IsTold qs mid (at_last_ask (tail stopped.env.frames)) (frame_ended None (Some w) stopped.env).entry.reply now → IsTurn ps core all new now
-stopped-turn-at ps qs core stopped new all mid now f a c t w sound top below asked made stops reason same ended plans registers told =
+stopped-turn-at ps qs core stopped new all mid now f a c t w sound top asking made stops reason same ended plans registers told =
     let P : Core → Type 0 = λ x. new ≡ wrote (frame_ended None (Some w) x.env) x in
     let Q : Core → Type 0 = λ x. IsTold ps all (at_last_ask (tail x.env.frames)) (frame_ended None (Some w) x.env).entry.reply now in
-    stopped-turn ps core new all now f a c t w sound top below asked made stops reason (subst P same ended)
+    stopped-turn ps core new all now f a c t w sound top asking made stops reason (subst P same ended)
     (subst Q same (told-from ps qs all mid now (at_last_ask (tail stopped.env.frames)) (frame_ended None (Some w) stopped.env).entry.reply plans registers told))

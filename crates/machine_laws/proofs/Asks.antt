@@ -1,5 +1,5 @@
 -- Where every plan is told, the asks of a run are those of the plans.
-use Rattle.std.proofs.Common.{◌≡◌, ℕ, zero, suc, true, List, [], ◌∷◌, IsTrue, refl, ap, subst, ◌∙◌, Some, None, is_some}
+use Rattle.std.proofs.Common.{◌≡◌, ℕ, zero, suc, true, cond, List, [], ◌∷◌, IsTrue, refl, ap, subst, ◌∙◌, Some, None, is_some}
 use Rattle.std.specs.Option.{unwrap_or}
 use Rattle.std.specs.List.{list_all}
 use Rattle.napi_types.specs.declared.entry.Entry.{Entry}
@@ -29,7 +29,7 @@ told-ask None rs f a b h = cc
 told-frames : (ps : List Plan) (rss : Registers) (fs : List Frame) (a b : Ask) → IsTrue (list_all is_some ps)
     → frames_ask ps rss fs a ≡ frames_ask ps rss fs b
 told-frames ps rss [] a b h = refl
-told-frames ps rss (f ∷ fs) a b h = told-ask (plan_of ps f.addon) (registers_of rss f.addon) f a b (all-of-at ps f.addon h)
+told-frames ps rss (f ∷ fs) a b h = ap (λ c. cond f.makes_asks c (ask.Leave None)) (told-ask (plan_of ps f.addon) (registers_of rss f.addon) f a b (all-of-at ps f.addon h))
 
 -- the asks of a run by told plans are those that the entries give
 pub asks-unique : (ps : List Plan) (rss : Registers) (m : Machine) (bs : List Ask) (xs : List Entry) → IsTrue (list_all is_some ps)

@@ -10,7 +10,7 @@ use Rattle.napi_types.specs.declared.entry.Out.{Out}
 use Rattle.napi_types.specs.declared.entry.Why.{Why}
 use Rattle.napi_types.specs.declared.entry.Why.TheVariants as why
 use Rattle.napi_types.specs.Built.{taken}
-use Rattle.napi_types.specs.Changes.{is_fresh, may_ask}
+use Rattle.napi_types.specs.Changes.{is_fresh, may_ask, may_call}
 use Rattle.machine_laws.specs.Cuts.{cut_by, first_called}
 use Rattle.napi_types.specs.declared.entry.Cause.{Cause}
 use Rattle.napi_types.specs.declared.entry.Cause.TheVariants as cause
@@ -19,13 +19,13 @@ use Rattle.napi_types.specs.Environment.{Environment}
 use Rattle.napi_types.specs.Machine.{Machine}
 use Rattle.napi_types.specs.Room.{room_of, may_want_memory, need, is_full}
 use Rattle.napi_types.specs.Run.{IsNext}
-use Rattle.napi_types.specs.Frames.{Frame, cause_of, asks_made}
+use Rattle.napi_types.specs.Frames.{Frame, cause_of, is_asking, asks_made}
 use Rattle.napi_types.specs.Step.{Step, env_step, step_of, frame_step, cut_of}
 use Rattle.napi_types.proofs.FrameChanges.{needs-place}
 use Rattle.napi_types.proofs.Runs.{and-left, and-right}
 
 -- the step is that of the frame
-frame-step : (m : Machine) (a : Ask) (x : Entry) (who : Actor) (f : Frame) (fs : List Frame) → m.env.frames ≡ f ∷ fs
+pub frame-step : (m : Machine) (a : Ask) (x : Entry) (who : Actor) (f : Frame) (fs : List Frame) → m.env.frames ≡ f ∷ fs
     → IsTrue (step_of m a x who).may → step_of m a x who ≡ frame_step m (taken a) x.reply.out (cut_of x.reply.out)
 frame-step m a x actor.Env f fs e h = ap (λ l. env_step m a x.reply.out l) e
 frame-step m a x (actor.Thread n) f fs e h = cc
@@ -44,6 +44,10 @@ only-in-frame m a f fs y e k x n =
 spent-asks : (e : Environment) → asks_made e.frames ≡ 65536 → IsTrue (may_ask e) → ⊥
 spent-asks e s h = let k : IsTrue false = rw s at h in cc
 
+-- nor make a call
+spent-calls : (e : Environment) → asks_made e.frames ≡ 65536 → IsTrue (may_call e) → ⊥
+spent-calls e s h = spent-asks e s (and-left (may_ask e) (is_asking e.frames) h)
+
 -- a frame that is cut ends so
 ended-cut : (e : Environment) (w : Why) (c : Cause) → (ended_by None (Some w) e c).entry ≡ cut_by c w
 ended-cut e w cause.Call = refl
@@ -55,11 +59,11 @@ cut-entry e w f fs s = ended-cut e w (cause_of e.frames) ∙ ap (λ l. cut_by (c
 pub spent-only : (m : Machine) (a : Ask) (f : Frame) (fs : List Frame) → m.env.frames ≡ f ∷ fs → asks_made m.env.frames ≡ 65536 → (o : Out) (w : Option Why)
     → IsTrue (frame_step m a o w).may → (frame_step m a o w).entry ≡ cut_by f.cause why.Asks
 spent-only m a f fs e s o (Some why.Asks) h = cut-entry m.env why.Asks f fs e
-spent-only m (ask.Do c) f fs e s o (Some why.Full) h = absurd (spent-asks m.env s (and-left (may_ask m.env) _ h))
+spent-only m (ask.Do c) f fs e s o (Some why.Full) h = absurd (spent-calls m.env s (and-left (may_call m.env) _ h))
 spent-only m (ask.Do c) f fs e s o (Some why.Memory) h =
-    absurd (spent-asks m.env s (and-left (may_ask m.env) (may_want_memory (room_of m c) c) (and-left (may_ask m.env && may_want_memory (room_of m c) c) _ h)))
+    absurd (spent-calls m.env s (and-left (may_call m.env) (may_want_memory (room_of m c) c) (and-left (may_call m.env && may_want_memory (room_of m c) c) _ h)))
 spent-only m (ask.Do c) f fs e s o None h =
-    absurd (spent-asks m.env s (and-left (may_ask m.env) (is_fresh m.env o) (and-left (may_ask m.env && is_fresh m.env o) _ h)))
+    absurd (spent-calls m.env s (and-left (may_call m.env) (is_fresh m.env o) (and-left (may_call m.env && is_fresh m.env o) _ h)))
 spent-only m (ask.Leave v) f fs e s o (Some why.Full) h = cc
 spent-only m (ask.Leave v) f fs e s o (Some why.Memory) h = cc
 spent-only m (ask.Leave v) f fs e s o None h = absurd (spent-asks m.env s h)
@@ -81,11 +85,11 @@ full-only m c f fs e full early o (Some why.Asks) h = absurd (not-both (asks_mad
     not-both true h k = cc
     not-both false h k = cc
 full-only m c f fs e full early o (Some why.Memory) h =
-    let P : Bool → Type 0 = λ b. IsTrue (may_ask m.env && may_want_memory (room_of m c) c && not b) in
-    let k : IsTrue false = and-right (may_ask m.env && may_want_memory (room_of m c) c) false (subst P full h) in cc
+    let P : Bool → Type 0 = λ b. IsTrue (may_call m.env && may_want_memory (room_of m c) c && not b) in
+    let k : IsTrue false = and-right (may_call m.env && may_want_memory (room_of m c) c) false (subst P full h) in cc
 full-only m c f fs e full early o None h =
-    let P : Bool → Type 0 = λ b. IsTrue (may_ask m.env && is_fresh m.env o && not b) in
-    let k : IsTrue false = and-right (may_ask m.env && is_fresh m.env o) false (subst P full h) in cc
+    let P : Bool → Type 0 = λ b. IsTrue (may_call m.env && is_fresh m.env o && not b) in
+    let k : IsTrue false = and-right (may_call m.env && is_fresh m.env o) false (subst P full h) in cc
 
 -- at this ask, after the first call in the tight journal: whatever may come is the entry, ..
 abbrev pub Steps : Entry → Ask → Type 0
@@ -116,8 +120,11 @@ asks-next m f fs a e s =
     let P : Step → Type 0 = λ t. (cut_by f.cause why.Asks ≡ t.entry) × IsTrue t.may in
     subst P (sym (asks-step m a f fs f.cause e)) (sym (cut-entry m.env why.Asks f fs e), rw s refl)
 
-not-last : (n : ℕ) → n < 65536 → IsTrue (n == 65536) → ⊥
+pub not-last : (n : ℕ) → n < 65536 → IsTrue (n == 65536) → ⊥
 not-last n h k = grind arith
+
+pub below-last : (n : ℕ) → n < 65536 → nat_lt n 65536 ≡ true
+below-last n h = grind arith
 
 pub early-none : (m : Machine) (f : Frame) (fs : List Frame) (a : Ask) → m.env.frames ≡ f ∷ fs → f.asks < 65536 → IsNext m a (cut_by f.cause why.Asks) → ⊥
 early-none m f fs a e h n =

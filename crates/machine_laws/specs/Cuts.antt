@@ -16,7 +16,9 @@ use Rattle.napi_types.specs.declared.ids.HandleId.{HandleId}
 use Rattle.napi_types.specs.declared.status.Status.TheVariants as status
 use Rattle.napi_types.specs.Built.{is_built}
 use Rattle.napi_types.specs.Changes.{host_told, host_entry}
+use Rattle.napi_types.specs.Ends.{frame_ended}
 use Rattle.napi_types.specs.Machine.{Machine}
+use Rattle.napi_types.specs.Plan.{Plan, Registers, asked}
 use Rattle.napi_types.specs.Room.{need}
 use Rattle.napi_types.specs.Run.{IsNext}
 use Rattle.napi_types.specs.Frames.{Frame}
@@ -85,3 +87,16 @@ CutAtLastAsk = (m : Machine) (f : Frame) (fs : List Frame) (a : Ask) → m.env.f
 -- before that no frame is
 abbrev pub NotBeforeLastAsk : Type 0
 NotBeforeLastAsk = (m : Machine) (f : Frame) (fs : List Frame) (a : Ask) → m.env.frames ≡ f ∷ fs → f.asks < 65536 → IsNext m a (cut_by f.cause why.Asks) → ⊥
+
+-- A FRAME THAT MAKES NO ASKS
+-- it may only leave
+pub record OnlyLeaves (m : Machine) : Type 0 where
+  -- its plan, whichever it is, asks nothing but that
+  pub asked : (ps : List Plan) (rss : Registers) (a : Ask) → asked ps rss m a ≡ ask.Leave None
+  -- then its end comes, without a cut, and nothing else may come
+  pub leaves : (v : Option HandleId) → IsOnlyNext m (ask.Leave v) (frame_ended v None m.env).entry
+  -- at a call nothing may come: not its entry, not the begin of a frame, and no cut
+  pub calls : (c : Call) → is_built c ≡ true → (x : Entry) → IsNext m (ask.Do c) x → ⊥
+
+abbrev pub OnlyLeavesWithoutAsks : Type 0
+OnlyLeavesWithoutAsks = (m : Machine) (f : Frame) (fs : List Frame) → m.env.frames ≡ f ∷ fs → f.makes_asks ≡ false → f.asks < 65536 → OnlyLeaves m

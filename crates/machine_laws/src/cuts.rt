@@ -1,5 +1,5 @@
 //! Laws of where a frame is cut.
-ghost use Rattle.machine_laws.specs.Cuts.{CutsAtFirstCall, FullAtSecondCall, LeavesAtUnbuiltCall, CutAtLastAsk, NotBeforeLastAsk};
+ghost use Rattle.machine_laws.specs.Cuts.{CutsAtFirstCall, FullAtSecondCall, LeavesAtUnbuiltCall, CutAtLastAsk, NotBeforeLastAsk, OnlyLeavesWithoutAsks};
 
 /// In a tight journal a frame's first call has its place, and a call of a function has not and is cut.
 /// For want of memory the frame may be cut at a call that grows, but not at `typeof`, which does not.
@@ -21,4 +21,9 @@ pub fn leaves_at_unbuilt_call()
 pub fn cuts_at_last_ask()
     ensures last { CutAtLastAsk }
     ensures early { NotBeforeLastAsk }
+{}
+
+/// A frame that makes no asks may only leave: it makes no call, enters no frame, and no call cuts it.
+pub fn only_leaves_without_asks()
+    ensures { OnlyLeavesWithoutAsks }
 {}

@@ -1,5 +1,6 @@
 pub mod Answers
 pub mod FrameChanges
+pub mod FrameEnds
 pub mod Issued
 pub mod Keeping
 pub mod Maps

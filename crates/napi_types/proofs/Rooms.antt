@@ -13,7 +13,7 @@ use Rattle.napi_types.specs.declared.entry.Out.{Out}
 use Rattle.napi_types.specs.declared.entry.Phase.{Phase}
 use Rattle.napi_types.specs.declared.entry.Phase.TheVariants as phase
 use Rattle.napi_types.specs.declared.entry.Why.{Why}
-use Rattle.napi_types.specs.Changes.{opened, may_ask, is_fresh, number_of}
+use Rattle.napi_types.specs.Changes.{opened, may_ask, may_call, is_fresh, number_of}
 use Rattle.napi_types.specs.Ends.{frame_ended}
 use Rattle.napi_types.specs.Entering.{asked_for}
 use Rattle.napi_types.specs.Built.{taken}
@@ -71,7 +71,7 @@ call-room l m c o f fs e r h =
     let n : ℕ = number_of o in
     let d : Environment = (asked_for m.env c n).after in
     let k : KeepsButFrames m.env d (need c) = asked_for-fits m.env c n in
-    let free : is_full (room_of m c) c ≡ false = not-full _ (and-right (may_ask m.env && is_fresh m.env o) (not (is_full (room_of m c) c)) h) in
+    let free : is_full (room_of m c) c ≡ false = not-full _ (and-right (may_call m.env && is_fresh m.env o) (not (is_full (room_of m c) c)) h) in
     let P : Limits → Type 0 = λ q. m.locals + 1 + reserved_journal d ≤ q.journal in
     let Q : ℕ → Type 0 = λ b. m.locals + 1 + (b + length d.frames) ≤ m.limits.journal in
     record {

@@ -1,5 +1,5 @@
 -- What each local event of the environment writes, and the environment that it leaves.
-use Rattle.std.specs.Prelude.{ℕ, ◌+◌, Bool, true, not, nat_lt, ◌∷◌, length, None}
+use Rattle.std.specs.Prelude.{ℕ, ◌+◌, Bool, true, not, ◌&&◌, nat_lt, ◌∷◌, length, None}
 use Rattle.napi_types.specs.declared.call.Call.{Call}
 use Rattle.napi_types.specs.declared.call.Call.TheVariants as call
 use Rattle.napi_types.specs.declared.status.Status.{Status}
@@ -17,7 +17,7 @@ use Rattle.napi_types.specs.declared.entry.Phase.{Phase}
 use Rattle.napi_types.specs.declared.entry.Phase.TheVariants as phase
 use Rattle.napi_types.specs.Lists.{has_number}
 use Rattle.napi_types.specs.Numbers.{napi_version}
-use Rattle.napi_types.specs.Frames.{frame_of, ask_counted, asks_made, most_asks}
+use Rattle.napi_types.specs.Frames.{frame_of, begin_told, ask_counted, is_asking, asks_made, most_asks}
 use Rattle.napi_types.specs.Heap.{frame_entered}
 use Rattle.napi_types.specs.Environment.{Environment}
 use Rattle.napi_types.specs.Replies.{plain}
@@ -43,7 +43,7 @@ opened e = record { entry = host_entry host.Opened (out.Unsigned napi_version); 
 -- the init frame of an addon begins at the addon's entry 0, with a scope of its own
 abbrev pub init_begun : ℕ → Environment → Change
 init_begun n e = record {
-  entry = host_entry host.Begin (out.Begin cause.Init n 0 None);
+  entry = host_entry host.Begin (begin_told (frame_of cause.Init n 0));
   after = record e { inits = e.inits + 1; heap = frame_entered e.heap; frames = frame_of cause.Init n 0 ∷ e.frames };
 }
 
@@ -75,6 +75,10 @@ is_fresh e _ = true
 -- whether the innermost frame may make a further ask
 abbrev pub may_ask : Environment → Bool
 may_ask e = nat_lt (asks_made e.frames) most_asks
+
+-- whether it may make a further call: a frame that makes no asks may only leave
+abbrev pub may_call : Environment → Bool
+may_call e = may_ask e && is_asking e.frames
 
 -- a call that answers at once, with the number that its result newly gives
 abbrev pub called : Environment → Call → ℕ → Change

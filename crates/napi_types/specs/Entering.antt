@@ -3,16 +3,14 @@ use Rattle.std.specs.Prelude.{ℕ, ◌∷◌, Bool, ◌&&◌, Option, Some, None
 use Rattle.napi_types.specs.declared.call.Args.{Args}
 use Rattle.napi_types.specs.declared.call.Call.{Call}
 use Rattle.napi_types.specs.declared.call.Call.TheVariants as call
-use Rattle.napi_types.specs.declared.entry.Cause.TheVariants as cause
 use Rattle.napi_types.specs.declared.entry.HostStep.TheVariants as host
-use Rattle.napi_types.specs.declared.entry.Out.TheVariants as out
 use Rattle.napi_types.specs.declared.ids.HandleId.{HandleId}
 use Rattle.napi_types.specs.declared.status.Status.{Status}
 use Rattle.napi_types.specs.declared.status.Status.TheVariants as status
 use Rattle.napi_types.specs.Built.{is_calling}
 use Rattle.napi_types.specs.Changes.{Change, host_entry, noted, called}
 use Rattle.napi_types.specs.Environment.{Environment}
-use Rattle.napi_types.specs.Frames.{Frame}
+use Rattle.napi_types.specs.Frames.{Frame, begin_told}
 use Rattle.napi_types.specs.FunctionCalls.{callee_of, with_receiver}
 use Rattle.napi_types.specs.Heap.{frame_entered}
 use Rattle.napi_types.specs.Refusals.{refusal}
@@ -21,10 +19,10 @@ use Rattle.napi_types.specs.Refusals.{refusal}
 abbrev pub is_entering : Environment → Call → Bool
 is_entering e c = is_calling c && is_none (refusal e c)
 
--- a frame begins inside the innermost one, with a scope of its own; the entry tells the addon and the entry that it runs
+-- a frame begins inside the innermost one, with a scope of its own; the entry tells why, the addon and the entry that it runs, and the duty that began it
 abbrev pub call_begun : Frame → Option HandleId → Environment → Change
 call_begun f receiver e = record {
-  entry = host_entry host.Begin (out.Begin cause.Call f.addon f.entry None);
+  entry = host_entry host.Begin (begin_told f);
   after = record e { heap = with_receiver receiver (frame_entered e.heap); frames = f ∷ e.frames };
 }
 

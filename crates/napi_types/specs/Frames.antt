@@ -1,19 +1,29 @@
 -- The frames that stand: each runs one entry of one addon.
-use Rattle.std.specs.Prelude.{ℕ, ◌+◌, ◌-◌, List, [], ◌∷◌}
+use Rattle.std.specs.Prelude.{ℕ, ◌+◌, ◌-◌, Bool, true, false, List, [], ◌∷◌, Option, None}
 use Rattle.napi_types.specs.declared.entry.Cause.{Cause}
 use Rattle.napi_types.specs.declared.entry.Cause.TheVariants as cause
+use Rattle.napi_types.specs.declared.entry.Duty.{Duty}
+use Rattle.napi_types.specs.declared.entry.Out.{Out}
+use Rattle.napi_types.specs.declared.entry.Out.TheVariants as out
 use Rattle.napi_types.specs.Lists.{first_changed}
 
--- a frame: why it began, which entry of which addon it runs, and how many asks it made
+-- a frame: why it began, which entry of which addon it runs, the duty that began it where one did, whether it makes asks, and how many it made; one that makes
+-- none can only leave
 pub record Frame : Type 0 where
   pub cause : Cause
   pub addon : ℕ
   pub entry : ℕ
+  pub duty : Option Duty
+  pub makes_asks : Bool
   pub asks : ℕ
 
--- a frame as it begins
+-- a frame that no duty began, as it begins
 abbrev pub frame_of : Cause → ℕ → ℕ → Frame
-frame_of c addon entry = record { cause = c; addon = addon; entry = entry; asks = 0 }
+frame_of c addon entry = record { cause = c; addon = addon; entry = entry; duty = None; makes_asks = true; asks = 0 }
+
+-- what the begin of a frame tells
+abbrev pub begin_told : Frame → Out
+begin_told f = out.Begin f.cause f.addon f.entry f.duty
 
 -- how many frames may stand, the outermost counted
 abbrev pub most_frames : ℕ
@@ -32,6 +42,11 @@ caller_of (f ∷ fs) = f.addon
 abbrev pub cause_of : List Frame → Cause
 cause_of [] = cause.Init
 cause_of (f ∷ fs) = f.cause
+
+-- whether the innermost frame makes asks
+abbrev pub is_asking : List Frame → Bool
+is_asking [] = false
+is_asking (f ∷ fs) = f.makes_asks
 
 -- how many asks the innermost frame made
 abbrev pub asks_made : List Frame → ℕ

@@ -1,5 +1,5 @@
 -- What the plans of addons ask along a run, and the registers that they leave.
-use Rattle.std.specs.Prelude.{ℕ, List, [], ◌∷◌, map, set, Option, Some, None, slice_index_or}
+use Rattle.std.specs.Prelude.{ℕ, cond, List, [], ◌∷◌, map, set, Option, Some, None, slice_index_or}
 use Rattle.napi_types.specs.declared.call.Ask.{Ask}
 use Rattle.napi_types.specs.declared.call.Ask.TheVariants as ask
 use Rattle.napi_types.specs.declared.op.Op.{Op}
@@ -45,10 +45,10 @@ abbrev pub frame_ask : Plan → List ℕ → Frame → Ask → Ask
 frame_ask None rs f a = a
 frame_ask (Some p) rs f a = plan_ask p rs f.entry f.asks
 
--- the ask of the innermost frame; an event with no frame has `Leave None` in the place of its ask
+-- the ask of the innermost frame; an event with no frame, and the end of a frame that makes no asks, have `Leave None` in the place of their ask
 abbrev pub frames_ask : List Plan → Registers → List Frame → Ask → Ask
 frames_ask ps rss [] a = ask.Leave None
-frames_ask ps rss (f ∷ fs) a = frame_ask (plan_of ps f.addon) (registers_of rss f.addon) f a
+frames_ask ps rss (f ∷ fs) a = cond f.makes_asks (frame_ask (plan_of ps f.addon) (registers_of rss f.addon) f a) (ask.Leave None)
 
 -- what is asked of the machine: the ask of its innermost frame
 abbrev pub asked : List Plan → Registers → Machine → Ask → Ask

@@ -19,7 +19,7 @@ use Rattle.napi_types.specs.Frames.{Frame, asks_made, most_asks}
 use Rattle.napi_types.specs.Hub.{Hub, hub_next}
 use Rattle.napi_types.specs.Machine.{Machine}
 use Rattle.napi_types.specs.Room.{room_of, is_full, may_want_memory}
-use Rattle.napi_types.specs.Changes.{Change, host_entry, opened, init_begun, number_of, is_fresh, may_ask, gone, in_phase}
+use Rattle.napi_types.specs.Changes.{Change, host_entry, opened, init_begun, number_of, is_fresh, may_ask, may_call, gone, in_phase}
 use Rattle.napi_types.specs.Ends.{frame_ended}
 use Rattle.napi_types.specs.Entering.{asked_for}
 use Rattle.napi_types.specs.Loop.{Event, Opens, Inits, Goes, EndsLoop, Drains, FinalsCome, IsGone}
@@ -73,13 +73,13 @@ chosen m (Some event) = event_step m event
 -- whether a frame may be cut so, where this is its ask: after its last ask, or at a call that stopped
 abbrev pub may_cut : Machine → Ask → Why → Bool
 may_cut m a why.Asks = asks_made m.env.frames == most_asks
-may_cut m (ask.Do c) why.Full = may_ask m.env && is_full (room_of m c) c
-may_cut m (ask.Do c) why.Memory = may_ask m.env && may_want_memory (room_of m c) c && not (is_full (room_of m c) c)
+may_cut m (ask.Do c) why.Full = may_call m.env && is_full (room_of m c) c
+may_cut m (ask.Do c) why.Memory = may_call m.env && may_want_memory (room_of m c) c && not (is_full (room_of m c) c)
 may_cut m (ask.Leave v) _ = false
 
--- a call leaves its entry, or enters its frame, where there is room for it
+-- a call leaves its entry, or enters its frame, where its frame makes asks and there is room for it
 abbrev pub call_step : Machine → Call → Out → Step
-call_step m c o = locally m (asked_for m.env c (number_of o)) (may_ask m.env && is_fresh m.env o && not (is_full (room_of m c) c))
+call_step m c o = locally m (asked_for m.env c (number_of o)) (may_call m.env && is_fresh m.env o && not (is_full (room_of m c) c))
 
 -- the step of what a frame asks: its call, or its end
 abbrev pub asked_step : Machine → Ask → Out → Step

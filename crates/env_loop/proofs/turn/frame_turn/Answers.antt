@@ -1,4 +1,4 @@
-use Rattle.std.proofs.Common.{arith}
+use Rattle.std.proofs.Common.{arith, refl}
 use Rattle.env_core.specs.Standing.{frame_seen}
 use Rattle.env_loop.proofs.Turns.{head-within, spent-turn}
 use Rattle.env_loop.proofs.turn.frame_turn.Goals as goal
@@ -6,4 +6,4 @@ use Rattle.env_loop.proofs.turn.frame_turn.Goals as goal
 pub returns-then-frame-ge-MOST_ASKS-clause-turn : goal.returns-then-frame-ge-MOST_ASKS-clause-turn
 returns-then-frame-ge-MOST_ASKS-clause-turn g c =
     let most = head-within c.args.core.now.env.frames (frame_seen c.args.frame) c.requires.stands c.requires.sound.asks in
-    spent-turn _ c.args.core.now c.end_frame.new.core _ _ (frame_seen c.args.frame) c.requires.sound c.requires.stands (omega (arith, most)) c.end_frame.ensures.ended c.end_frame.ensures.told
+    spent-turn _ c.args.core.now c.end_frame.new.core _ _ (frame_seen c.args.frame) c.requires.sound c.requires.stands refl (omega (arith, most)) c.end_frame.ensures.ended c.end_frame.ensures.told

@@ -9,7 +9,7 @@ use Rattle.napi_types.specs.declared.ids.HandleId.{HandleId}
 use Rattle.machine_laws.specs.Cuts.{tight, begun, opening_asks, create, object_made, cut_by, IsOnlyNext}
 use Rattle.napi_types.specs.Room.{need, is_full, room_of}
 use Rattle.napi_types.specs.Built.{is_built}
-use Rattle.napi_types.specs.Changes.{may_ask}
+use Rattle.napi_types.specs.Changes.{may_call}
 use Rattle.napi_types.specs.Step.{may_cut}
 use Rattle.napi_types.specs.Run.{IsNext}
 use Rattle.machine_laws.specs.Traces.{opening_entries}
@@ -27,7 +27,7 @@ not-full c one h =
 
 -- .. so the frame may not be cut as full, whether the call is built or not
 not-cut : (c : Call) (b : Bool) → need c ≡ 1 → IsTrue (may_cut begun (cond b (ask.Do c) (ask.Leave None)) why.Full) → ⊥
-not-cut c true one h = not-full c one (and-right (may_ask begun.env) (is_full (room_of begun c) c) h)
+not-cut c true one h = not-full c one (and-right (may_call begun.env) (is_full (room_of begun c) c) h)
 not-cut c false one h = cc
 
 room : (c : Call) → need c ≡ 1 → IsNext begun (ask.Do c) (cut_by cause.Init why.Full) → ⊥
