@@ -1,5 +1,5 @@
 -- A run: its turns, the hub's events, and how many are left.
-use Rattle.std.proofs.Common.{◌≡◌, ◌<◌, ℕ, ◌+◌, ◌-◌, nat_lt, Bool, true, false, cond, List, [], ◌∷◌, ◌++◌, length, drop, refl, ap, subst, sym, ◌∙◌, arith, Option, Some, length-append, append_assoc, append-nil}
+use Rattle.std.proofs.Common.{◌≡◌, ◌<◌, ℕ, ◌+◌, ◌-◌, nat_lt, Bool, true, false, cond, List, [], ◌∷◌, ◌++◌, length, drop, refl, ap, subst, sym, ◌∙◌, arith, Option, Some, None, length-append, append_assoc, append-nil}
 use Rattle.napi_types.specs.declared.entry.Entry.{Entry}
 use Rattle.napi_types.specs.declared.entry.HostStep.{HostStep}
 use Rattle.napi_types.specs.declared.entry.HostStep.TheVariants as host
@@ -10,41 +10,46 @@ use Rattle.napi_types.specs.declared.entry.Out.TheVariants as out
 use Rattle.napi_types.specs.declared.entry.Phase.{Phase}
 use Rattle.napi_types.specs.declared.entry.Phase.TheVariants as phase
 use Rattle.napi_types.specs.Changes.{host_entry, in_phase}
+use Rattle.napi_types.specs.Choice.{local_choice, local_choice_in, hub_choice, hub_choice_at}
 use Rattle.napi_types.specs.Environment.{Environment}
 use Rattle.napi_types.specs.Frames.{Frame}
-use Rattle.napi_types.specs.Loop.{Event, Opens, Inits, Goes}
+use Rattle.napi_types.specs.Hub.{Before}
+use Rattle.napi_types.specs.Loop.{Event, Opens, Inits}
 use Rattle.napi_types.specs.Phases.{stage_of}
 use Rattle.napi_types.specs.Plan.{Plan, Registers}
 use Rattle.napi_types.specs.Room.{stage_places}
-use Rattle.napi_types.specs.Teardown.{choice, choice_in}
 use Rattle.napi_types.specs.Whole.{Setting}
 use Rattle.env_core.specs.Core.{Core}
 use Rattle.env_loop.specs.declared.turn.LocalTurn.TheVariants as turn
-use Rattle.env_loop.specs.Recording.{IsOf, IsRecorded}
+use Rattle.env_loop.specs.Recording.{hub_of, IsOf, IsRecorded}
 use Rattle.env_loop.specs.Runs.{Run, IsSound, OneMore, Extends, GoesOn, MovesOn}
-use Rattle.env_loop.specs.Turns.{turn_at, turns_left}
+use Rattle.env_loop.specs.Turns.{turn_at, turn_of, turns_left}
 use Rattle.env_loop.proofs.Recordings.{go-grown, loop_end-grown, drain-grown, finals-grown}
 
 -- THE HUB'S EVENTS
 -- where the hub is needed no frame stands
-pub needs-alone : (fs : List Frame) (v : Option Event) → turn_at fs v ≡ turn.NeedsHub → fs ≡ []
-needs-alone [] v h = refl
-needs-alone (f ∷ fs) v h = cc
+needs-none : (fs : List Frame) (mine hubs : Option Event) → turn_at fs mine hubs ≡ turn.NeedsHub → fs ≡ []
+needs-none [] mine hubs h = refl
+needs-none (f ∷ fs) mine hubs h = cc
+
+needs-alone : (e : Environment) → turn_of e ≡ turn.NeedsHub → e.frames ≡ []
+needs-alone e h = needs-none e.frames (local_choice e) (hub_choice (hub_of e)) h
 
 -- and before `go` every init frame has begun
 record ReadyToGo (e : Environment) : Type 0 where
   pub opened : e.opened ≡ true
   pub begun : nat_lt e.inits e.addons ≡ false
 
-ready-in : (e : Environment) (a b : Bool) → e.opened ≡ a → nat_lt e.inits e.addons ≡ b → turn_at [] (Some (cond a (cond b (Inits e.inits) Goes) Opens)) ≡ turn.NeedsHub → ReadyToGo e
+ready-in : (e : Environment) (a b : Bool) → e.opened ≡ a → nat_lt e.inits e.addons ≡ b
+    → turn_at [] (cond a (cond b (Some (Inits e.inits)) None) (Some Opens)) (hub_choice_at Before) ≡ turn.NeedsHub → ReadyToGo e
 ready-in e true false o i h = record { opened = o; begun = i }
 ready-in e true true o i h = cc
 ready-in e false b o i h = cc
 
-ready-to-go : (e : Environment) → e.phase ≡ phase.Init → turn_at e.frames (choice e) ≡ turn.NeedsHub → ReadyToGo e
+ready-to-go : (e : Environment) → e.phase ≡ phase.Init → turn_of e ≡ turn.NeedsHub → ReadyToGo e
 ready-to-go e here h =
-    let alone : e.frames ≡ [] = needs-alone e.frames (choice e) h in
-    let next : turn_at [] (choice_in e phase.Init) ≡ turn.NeedsHub = ap (λ p. turn_at [] (choice_in e p)) (sym here) ∙ ap (λ fs. turn_at fs (choice e)) (sym alone) ∙ h in
+    let next : turn_at [] (local_choice_in e phase.Init) (hub_choice_at (stage_of phase.Init)) ≡ turn.NeedsHub =
+    ap (λ p. turn_at [] (local_choice_in e p) (hub_choice_at (stage_of p))) (sym here) ∙ ap (λ fs. turn_at fs (local_choice e) (hub_choice (hub_of e))) (sym (needs-alone e h)) ∙ h in
     ready-in e e.opened (nat_lt e.inits e.addons) refl refl next
 
 -- the environment stays sound in the phase that starts
@@ -72,34 +77,34 @@ moves core new history later event o p written made other places grown =
       recorded = λ plans all s of r. grown s all r;
     }))
 
-pub go-moves : (core new : Core) (history later : List Entry) → core.env.phase ≡ phase.Init → turn_at core.env.frames (choice core.env) ≡ turn.NeedsHub
+pub go-moves : (core new : Core) (history later : List Entry) → core.env.phase ≡ phase.Init → turn_of core.env ≡ turn.NeedsHub
     → later ≡ history ++ host_entry host.Go out.Nothing ∷ [] → new ≡ moved_core core phase.Live history
     → MovesOn (record { core = core; history = history }) (record { core = new; history = later })
 go-moves core new history later here needs written made =
     let ready : ReadyToGo core.env = ready-to-go core.env here needs in
     moves core new history later host.Go out.Nothing phase.Live written made (λ g. cc) (ap (λ p. stage_places (stage_of p)) here)
-    (λ s all r. go-grown s core history all r (needs-alone core.env.frames (choice core.env) needs) here ready.opened ready.begun)
+    (λ s all r. go-grown s core history all r (needs-alone core.env needs) here ready.opened ready.begun)
 
-pub loop_end-moves : (core new : Core) (history later : List Entry) → core.env.phase ≡ phase.Live → turn_at core.env.frames (choice core.env) ≡ turn.NeedsHub
+pub loop_end-moves : (core new : Core) (history later : List Entry) → core.env.phase ≡ phase.Live → turn_of core.env ≡ turn.NeedsHub
     → later ≡ history ++ host_entry host.LoopEnd (out.Ended loop_end.Idle) ∷ [] → new ≡ moved_core core phase.Hooks history
     → MovesOn (record { core = core; history = history }) (record { core = new; history = later })
 loop_end-moves core new history later here needs written made =
     moves core new history later host.LoopEnd (out.Ended loop_end.Idle) phase.Hooks written made (λ g. cc) (ap (λ p. stage_places (stage_of p)) here)
-    (λ s all r. loop_end-grown s core history all r (needs-alone core.env.frames (choice core.env) needs) here)
+    (λ s all r. loop_end-grown s core history all r (needs-alone core.env needs) here)
 
-pub drain-moves : (core new : Core) (history later : List Entry) → core.env.phase ≡ phase.Hooks → turn_at core.env.frames (choice core.env) ≡ turn.NeedsHub
+pub drain-moves : (core new : Core) (history later : List Entry) → core.env.phase ≡ phase.Hooks → turn_of core.env ≡ turn.NeedsHub
     → later ≡ history ++ host_entry host.Drain (out.Unsigned 0) ∷ [] → new ≡ moved_core core phase.Drain history
     → MovesOn (record { core = core; history = history }) (record { core = new; history = later })
 drain-moves core new history later here needs written made =
     moves core new history later host.Drain (out.Unsigned 0) phase.Drain written made (λ g. cc) (ap (λ p. stage_places (stage_of p)) here)
-    (λ s all r. drain-grown s core history all r (needs-alone core.env.frames (choice core.env) needs) here)
+    (λ s all r. drain-grown s core history all r (needs-alone core.env needs) here)
 
-pub finals-moves : (core new : Core) (history later : List Entry) → core.env.phase ≡ phase.Drain → turn_at core.env.frames (choice core.env) ≡ turn.NeedsHub
+pub finals-moves : (core new : Core) (history later : List Entry) → core.env.phase ≡ phase.Drain → turn_of core.env ≡ turn.NeedsHub
     → later ≡ history ++ host_entry host.Finals out.Nothing ∷ [] → new ≡ moved_core core phase.Finals history
     → MovesOn (record { core = core; history = history }) (record { core = new; history = later })
 finals-moves core new history later here needs written made =
     moves core new history later host.Finals out.Nothing phase.Finals written made (λ g. cc) (ap (λ p. stage_places (stage_of p)) here)
-    (λ s all r. finals-grown s core history all r (needs-alone core.env.frames (choice core.env) needs) here)
+    (λ s all r. finals-grown s core history all r (needs-alone core.env needs) here)
 
 -- TURNS IN A ROW
 of-later : (s : Setting) (ps qs : List Plan) (a b : Core) → b.env.addons ≡ a.env.addons → qs ≡ ps → IsOf s ps a → IsOf s qs b

@@ -8,6 +8,8 @@ use Rattle.napi_types.specs.declared.entry.Why.{Why}
 use Rattle.napi_types.specs.declared.entry.Why.TheVariants as why
 use Rattle.napi_types.specs.declared.status.Status.{Status}
 use Rattle.napi_types.specs.declared.status.Status.TheVariants as status
+use Rattle.napi_types.specs.Environment.{Environment}
+use Rattle.napi_types.specs.Hub.{Hub}
 use Rattle.napi_types.specs.Phases.{stage_of}
 use Rattle.napi_types.specs.Machine.{Machine}
 use Rattle.napi_types.specs.Plan.{Plan, plan_of, Registers, registers_of}
@@ -15,11 +17,15 @@ use Rattle.napi_types.specs.Weave.{weave, RisesBetween, IsParted}
 use Rattle.napi_types.specs.Whole.{Setting, RunsBy, EndsBy, final_of, final_registers}
 use Rattle.env_core.specs.Core.{Core}
 
+-- the hub of a run without other actors: its events so far are told by the phase
+abbrev pub hub_of : Environment → Hub
+hub_of e = record { stage = stage_of e.phase }
+
 -- the machine that a core and a history are
 abbrev pub machine_of : Limits → Core → List Entry → Machine
 machine_of limits core history = record {
   env = core.env;
-  hub = record { stage = stage_of core.env.phase };
+  hub = hub_of core.env;
   locals = length core.journal;
   shareds = length history;
   limits = limits;

@@ -1,9 +1,11 @@
 -- What a turn of the environment comes to.
-use Rattle.std.specs.Prelude.{◌≡◌, ℕ, ◌+◌, ◌-◌, Bool, true, false, cond, List, [], ◌∷◌, length, drop, Option, Some, None, IfSome}
+use Rattle.std.specs.Prelude.{◌≡◌, ℕ, ◌+◌, ◌-◌, List, [], ◌∷◌, length, drop, Option, Some, None, IfSome}
 use Rattle.napi_types.specs.declared.call.Ask.{Ask}
 use Rattle.napi_types.specs.declared.entry.Reply.{Reply}
+use Rattle.napi_types.specs.Choice.{local_choice, hub_choice}
+use Rattle.napi_types.specs.Environment.{Environment}
 use Rattle.napi_types.specs.Frames.{Frame}
-use Rattle.napi_types.specs.Loop.{Event, Opens, Inits, IsGone}
+use Rattle.napi_types.specs.Loop.{Event}
 use Rattle.napi_types.specs.Phases.{stage_of}
 use Rattle.napi_types.specs.Plan.{Plan, plan_of, Registers, registers_of}
 use Rattle.napi_types.specs.Registers.{plan_ask, kept}
@@ -12,22 +14,20 @@ use Rattle.addon_trait.specs.Addons.{OthersStay}
 use Rattle.env_core.specs.Core.{Core}
 use Rattle.env_loop.specs.declared.turn.LocalTurn.{LocalTurn}
 use Rattle.env_loop.specs.declared.turn.LocalTurn.TheVariants as turn
-use Rattle.env_loop.specs.Recording.{Continues}
+use Rattle.env_loop.specs.Recording.{hub_of, Continues}
 use Rattle.env_loop.specs.Runs.{Run, IsSound, OneMore}
 
--- the events with no frame that stand in the journal; the others are the hub's
-abbrev pub is_local_event : Event → Bool
-is_local_event Opens = true
-is_local_event (Inits n) = true
-is_local_event IsGone = true
-is_local_event _ = false
+-- a turn makes an entry where a frame stands, and else where the environment has an event of its own; where it has none and the hub has one, the hub has to make
+-- its turn; where nothing is next the environment is gone
+abbrev pub turn_at : List Frame → Option Event → Option Event → LocalTurn
+turn_at (f ∷ fs) mine hubs = turn.Made
+turn_at [] (Some event) hubs = turn.Made
+turn_at [] None (Some event) = turn.NeedsHub
+turn_at [] None None = turn.Gone
 
--- a turn makes an entry where a frame stands, and else where the next event is a local one; where it is one of the hub, the hub has to make its turn; where nothing is next
--- the environment is gone
-abbrev pub turn_at : List Frame → Option Event → LocalTurn
-turn_at (f ∷ fs) next = turn.Made
-turn_at [] (Some event) = cond (is_local_event event) turn.Made turn.NeedsHub
-turn_at [] None = turn.Gone
+-- the turn of an environment
+abbrev pub turn_of : Environment → LocalTurn
+turn_of e = turn_at e.frames (local_choice e) (hub_choice (hub_of e))
 
 -- how many turns are left at most: one for each place that the journal has left, and one for each event of the hub to come
 abbrev pub turns_left : Run → ℕ

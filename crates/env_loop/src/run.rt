@@ -3,9 +3,8 @@ ghost use Rattle.std.specs.Prelude.{◌≡◌, ◌≢◌, ◌+◌, ◌<◌, ◌�
 ghost use Rattle.napi_types.specs.Changes.{host_entry, in_phase};
 ghost use Rattle.napi_types.specs.Phases.{next_phase, stage_of};
 ghost use Rattle.napi_types.specs.Room.{stage_places};
-ghost use Rattle.napi_types.specs.Teardown.{choice};
 ghost use Rattle.env_loop.specs.Runs.{IsOpened, opened_run, OneMore, Extends, GoesOn, MovesOn};
-ghost use Rattle.env_loop.specs.Turns.{turn_at};
+ghost use Rattle.env_loop.specs.Turns.{turn_of};
 
 use crate::history::History;
 use crate::turn::{LocalTurn, turn};
@@ -57,7 +56,7 @@ impl EnvRun {
         ensures plans { map (λ b. plan b) addons.new.items ≡ map (λ b. plan b) addons.old.items }
 
         // What the turn comes to is told by the frames and the next event.
-        ensures turn { result ≡ turn_at self.old.core.env.frames (choice self.old.core.env) }
+        ensures turn { result ≡ turn_of self.old.core.env }
         ensures gone { (result ≡ LocalTurn.Gone) ↔ (self.old.core.env.phase ≡ Phase.Gone) }
 
         // A turn that was made left exactly one entry in the journal, which had room for it, and none in the history.
@@ -84,7 +83,7 @@ impl EnvRun {
 
     /// Makes the hub's next event, where one is next.
     fn hub_turn(&mut self)
-        requires { turn_at self.old.core.env.frames (choice self.old.core.env) ≡ LocalTurn.NeedsHub }
+        requires { turn_of self.old.core.env ≡ LocalTurn.NeedsHub }
         ensures { MovesOn self.old self.new }
     {
         hub_event(&mut self.core, &mut self.history);
@@ -141,7 +140,7 @@ fn move_on(core: &mut EnvCore, history: &mut History, event: HostStep, out: Out,
 
 /// The hub's next event: `go`, then `loop_end`, since nothing is left to do, then `drain` and `finals`, which find nothing.
 fn hub_event(core: &mut EnvCore, history: &mut History)
-    requires needs { turn_at core.old.env.frames (choice core.old.env) ≡ LocalTurn.NeedsHub }
+    requires needs { turn_of core.old.env ≡ LocalTurn.NeedsHub }
     requires events { length history.old + stage_places (stage_of core.old.env.phase) ≡ 4 }
     ensures { MovesOn (record { core = core.old; history = history.old }) (record { core = core.new; history = history.new }) }
 {

@@ -3,14 +3,13 @@ ghost use Rattle.std.specs.Prelude.{◌≡◌, ◌≢◌, ◌<◌, ◌≤◌, []
 ghost use Rattle.napi_types.specs.Built.{taken};
 ghost use Rattle.napi_types.specs.Lists.{head, tail};
 ghost use Rattle.napi_types.specs.Plan.{Plan, Registers};
-ghost use Rattle.napi_types.specs.Teardown.{choice};
 ghost use Rattle.env_core.specs.Standing.{frame_seen};
 ghost use Rattle.env_loop.specs.Recording.{why_stopped};
 ghost use Rattle.env_loop.specs.Runs.{IsSound};
 ghost use Rattle.napi_types.specs.Ends.{frame_ended};
 ghost use Rattle.napi_types.specs.Frames.{at_last_ask, asks_made, most_asks};
 ghost use Rattle.env_core.specs.Core.{wrote};
-ghost use Rattle.env_loop.specs.Turns.{turn_at, IsTold, IsTurn};
+ghost use Rattle.env_loop.specs.Turns.{turn_of, IsTold, IsTurn};
 
 use addon_trait::{Addon, ask_at, enter_at, note_at};
 use env_core::{EnvCore, StandingFrame, Stepped};
@@ -127,7 +126,7 @@ fn frame_turn(core: &mut EnvCore, addons: &mut Vec<Box<dyn Addon>>, frame: Stand
 fn event_turn(core: &mut EnvCore) -> LocalTurn
     requires sound { IsSound core.old.env }
     requires alone { core.old.env.frames ≡ [] }
-    ensures turn { result ≡ turn_at core.old.env.frames (choice core.old.env) }
+    ensures turn { result ≡ turn_of core.old.env }
     ensures made { result ≡ LocalTurn.Made → (plans : List Plan) (all : Registers) → IsTurn plans core.old all core.new all }
     ensures stays { result ≢ LocalTurn.Made → core.new ≡ core.old }
 {
@@ -155,7 +154,7 @@ pub(crate) fn turn(core: &mut EnvCore, addons: &mut Vec<Box<dyn Addon>>) -> Loca
     requires enough { core.old.env.addons ≤ length addons.old.items }
     ensures count { length addons.new.items ≡ length addons.old.items }
     ensures plans { map (λ b. plan b) addons.new.items ≡ map (λ b. plan b) addons.old.items }
-    ensures turn { result ≡ turn_at core.old.env.frames (choice core.old.env) }
+    ensures turn { result ≡ turn_of core.old.env }
     ensures made { let before = map (λ b. regs b) addons.old.items in
         let after = map (λ b. regs b) addons.new.items in
         result ≡ LocalTurn.Made → IsTurn (map (λ b. plan b) addons.old.items) core.old before core.new after }

@@ -1,4 +1,5 @@
 mod Asks
+mod Choosing
 mod Computing
 mod Cutting
 mod Fronts

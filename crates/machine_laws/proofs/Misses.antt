@@ -11,6 +11,7 @@ use Rattle.napi_types.specs.declared.entry.Out.TheVariants as out
 use Rattle.napi_types.specs.declared.entry.Phase.TheVariants as phase
 use Rattle.napi_types.specs.declared.status.Kind.{Kind}
 use Rattle.napi_types.specs.Changes.{host_entry}
+use Rattle.napi_types.specs.Hub.{Final}
 use Rattle.napi_types.specs.Machine.{Machine}
 use Rattle.napi_types.specs.Run.{IsNext, IsRunBy}
 use Rattle.napi_types.specs.Step.{step_of}
@@ -51,11 +52,11 @@ told-steps s xs h r =
     let P : List Ask → Type 0 = λ bs. IsRunBy (opening_of s) bs xs in
     subst P same r.1.steps
 
--- where the environment is gone and no frame stands, nothing may come
-gone-step : (m : Machine) (a : Ask) (x : Entry) (who : Actor) → m.env.phase ≡ phase.Gone → m.env.frames ≡ [] → IsTrue (step_of m a x who).may → ⊥
-gone-step m a x actor.Env p f h = let k : IsTrue false = rw (f, p) at h in cc
-gone-step m a x (actor.Thread n) p f h = cc
-gone-step m a x (actor.Worker n) p f h = cc
+-- where the environment is gone, the hub has made its events, and no frame stands, nothing may come
+gone-step : (m : Machine) (a : Ask) (x : Entry) (who : Actor) → m.env.phase ≡ phase.Gone → m.hub.stage ≡ Final → m.env.frames ≡ [] → IsTrue (step_of m a x who).may → ⊥
+gone-step m a x actor.Env p s f h = let k : IsTrue false = rw (f, p, s) at h in cc
+gone-step m a x (actor.Thread n) p s f h = cc
+gone-step m a x (actor.Worker n) p s f h = cc
 
-pub gone-is-last : (m : Machine) (a : Ask) (x : Entry) → m.env.phase ≡ phase.Gone → m.env.frames ≡ [] → IsNext m a x → ⊥
-gone-is-last m a x p f n = gone-step m a x x.actor p f n.1
+pub gone-is-last : (m : Machine) (a : Ask) (x : Entry) → m.env.phase ≡ phase.Gone → m.hub.stage ≡ Final → m.env.frames ≡ [] → IsNext m a x → ⊥
+gone-is-last m a x p s f n = gone-step m a x x.actor p s f n.1

@@ -1,5 +1,6 @@
 pub mod CallAndError
 pub mod CallLaws
+pub mod Choices
 pub mod ClosedScope
 pub mod Computing
 pub mod Cuts
@@ -16,3 +17,4 @@ pub mod StaleHandle
 pub mod StrongAndWeak
 pub mod Told
 pub mod Traces
+pub mod TwoAddons

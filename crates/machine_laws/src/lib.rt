@@ -4,6 +4,7 @@
 #![tactic(auto)]
 
 pub mod calls;
+pub mod choices;
 pub mod cuts;
 pub mod function_runs;
 pub mod maps;

@@ -22,6 +22,7 @@ use Rattle.napi_types.specs.declared.ids.HandleId.{HandleId}
 use Rattle.napi_types.specs.declared.status.Status.{Status}
 use Rattle.napi_types.specs.Built.{taken}
 use Rattle.napi_types.specs.Changes.{number_of}
+use Rattle.napi_types.specs.Choice.{choice}
 use Rattle.napi_types.specs.Ends.{call_left, call_over, ended_by}
 use Rattle.napi_types.specs.Entering.{calling, asked_for}
 use Rattle.napi_types.specs.Environment.{Environment}
@@ -34,7 +35,6 @@ use Rattle.napi_types.specs.Refusals.{refusal}
 use Rattle.napi_types.specs.Roots.{roots}
 use Rattle.napi_types.specs.Run.{after, IsNext, IsRunBy}
 use Rattle.napi_types.specs.Step.{Step, hub_moved, event_step, chosen, asked_step, frame_step, env_step, step_of, step, cut_of}
-use Rattle.napi_types.specs.Teardown.{choice}
 use Rattle.napi_types.proofs.Reaching.{numbers-kept}
 
 -- an entry of a collection
@@ -95,7 +95,7 @@ frame-step-kept m a o None is = asked-step-kept m a o is
 frame-step-kept m a o (Some w) is = absurd (ended-other None (Some w) m.env (cause_of m.env.frames) is)
 
 env-step-kept : (m : Machine) (a : Ask) (o : Out) (fs : List Frame) → StepKeeps m (env_step m a o fs)
-env-step-kept m a o [] is = absurd (chosen-other m (choice m.env) is)
+env-step-kept m a o [] is = absurd (chosen-other m (choice m) is)
 env-step-kept m a o (f ∷ fs) is = frame-step-kept m (taken a) o (cut_of o) is
 
 step-kept : (m : Machine) (a : Ask) (x : Entry) (who : Actor) → StepKeeps m (step_of m a x who)

@@ -1,5 +1,6 @@
 -- The room suffices over all runs.
 use Rattle.std.proofs.Common.{◌≡◌, ◌≤◌, ℕ, ◌+◌, ◌-◌, ◌*◌, suc, Bool, true, false, not, ◌&&◌, cond, nat_lt, List, [], ◌∷◌, length, IsTrue, refl, ap, sym, ◌∙◌, subst, Option, Some, None, arith}
+use Rattle.std.specs.Option.{option_or}
 use Rattle.napi_types.specs.declared.call.Ask.{Ask}
 use Rattle.napi_types.specs.declared.call.Ask.TheVariants as ask
 use Rattle.napi_types.specs.declared.call.Call.{Call}
@@ -14,6 +15,7 @@ use Rattle.napi_types.specs.declared.entry.Phase.{Phase}
 use Rattle.napi_types.specs.declared.entry.Phase.TheVariants as phase
 use Rattle.napi_types.specs.declared.entry.Why.{Why}
 use Rattle.napi_types.specs.Changes.{opened, may_ask, may_call, is_fresh, number_of}
+use Rattle.napi_types.specs.Choice.{local_choice, local_choice_in, hub_choice_at, choice}
 use Rattle.napi_types.specs.Ends.{frame_ended}
 use Rattle.napi_types.specs.Entering.{asked_for}
 use Rattle.napi_types.specs.Built.{taken}
@@ -28,7 +30,6 @@ use Rattle.napi_types.specs.Room.{one_if, gone_place, stage_places, reserved_jou
 use Rattle.napi_types.specs.Run.{IsRunBy, after, final}
 use Rattle.napi_types.specs.Frames.{Frame}
 use Rattle.napi_types.specs.Step.{locally, hub_moved, by_hub, event_step, chosen, call_step, asked_step, cut_of, frame_step, env_step, step_of}
-use Rattle.napi_types.specs.Teardown.{choice_in, choice}
 use Rattle.napi_types.specs.Whole.{Setting, final_of, opening_of}
 use Rattle.napi_types.specs.Phases.{stage_of}
 use Rattle.napi_types.proofs.Runs.{and-right}
@@ -139,7 +140,7 @@ gone-fits j k a x h = omega (arith, h)
 
 -- before `go`
 init-room : (l : Limits) (m : Machine) (b c : Bool) → m.env.opened ≡ b → nat_lt m.env.inits m.env.addons ≡ c → m.env.phase ≡ phase.Init → m.env.frames ≡ []
-    → Roomy l m → Roomy l (event_step m (cond b (cond c (Inits m.env.inits) Goes) Opens)).after
+    → Roomy l m → Roomy l (chosen m (option_or (cond b (cond c (Some (Inits m.env.inits)) None) (Some Opens)) (Some Goes))).after
 init-room l m false c o i p f r =
     let j : m.locals + (1 + 1 + 2 * (m.env.addons - m.env.inits) + 0) ≤ l.journal = rw (o, p, f) at r.journal in
     record {
@@ -172,7 +173,7 @@ later-opened l m p e n r = r.opened (ap is_init e ∙ n)
 later-inits : (l : Limits) (m : Machine) (p : Phase) → m.env.phase ≡ p → is_init p ≡ false → Roomy l m → nat_lt m.env.inits m.env.addons ≡ false
 later-inits l m p e n r = r.inits (ap is_init e ∙ n)
 
-event-room : (l : Limits) (m : Machine) (p : Phase) → m.env.phase ≡ p → m.env.frames ≡ [] → Roomy l m → Roomy l (chosen m (choice_in m.env p)).after
+event-room : (l : Limits) (m : Machine) (p : Phase) → m.env.phase ≡ p → m.env.frames ≡ [] → Roomy l m → Roomy l (chosen m (option_or (local_choice_in m.env p) (hub_choice_at (stage_of p)))).after
 event-room l m phase.Init e f r = init-room l m m.env.opened (nat_lt m.env.inits m.env.addons) refl refl e f r
 event-room l m phase.Live e f r =
     let s : m.hub.stage ≡ Going = r.stage ∙ ap stage_of e in
@@ -209,7 +210,9 @@ frame-room l m a o None f fs e r h = asked-room l m a o f fs e r h
 
 env-room : (l : Limits) (m : Machine) (a : Ask) (o : Out) (fs : List Frame) → m.env.frames ≡ fs
     → Roomy l m → IsTrue (env_step m a o fs).may → Roomy l (env_step m a o fs).after
-env-room l m a o [] e r h = event-room l m m.env.phase refl e r
+env-room l m a o [] e r h =
+    let P : Stage → Type 0 = λ s. Roomy l (chosen m (option_or (local_choice m.env) (hub_choice_at s))).after in
+    subst P (sym r.stage) (event-room l m m.env.phase refl e r)
 env-room l m a o (f ∷ fs) e r h = frame-room l m (taken a) o (cut_of o) f fs e r h
 
 step-room : (l : Limits) (m : Machine) (a : Ask) (x : Entry) (who : Actor) → Roomy l m → IsTrue (step_of m a x who).may → Roomy l (step_of m a x who).after
@@ -261,7 +264,7 @@ frame-counted m a o (Some w) = one-local m.locals m.shareds
 frame-counted m a o None = asked-counted m a o
 
 env-counted : (m : Machine) (a : Ask) (o : Out) (fs : List Frame) → IsTrue (env_step m a o fs).may → entries (env_step m a o fs).after ≡ suc (entries m)
-env-counted m a o [] t = chosen-counted m (choice m.env) t
+env-counted m a o [] t = chosen-counted m (choice m) t
 env-counted m a o (f ∷ fs) t = frame-counted m (taken a) o (cut_of o)
 
 step-counted : (m : Machine) (a : Ask) (x : Entry) (who : Actor) → IsTrue (step_of m a x who).may → entries (step_of m a x who).after ≡ suc (entries m)

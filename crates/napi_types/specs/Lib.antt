@@ -2,6 +2,7 @@ pub mod Asks
 pub mod Built
 pub mod Calls
 pub mod Changes
+pub mod Choice
 pub mod Collection
 pub mod Edge
 pub mod Ends

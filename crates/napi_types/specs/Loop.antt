@@ -1,7 +1,6 @@
--- The environment's next event where no frame stands, up to the end of the loop.
-use Rattle.std.specs.Prelude.{ℕ, cond, nat_lt}
+-- The events with no frame, and those of the environment's own up to the end of the loop.
+use Rattle.std.specs.Prelude.{ℕ, cond, nat_lt, Option, Some, None}
 use Rattle.napi_types.specs.declared.entry.LoopEnd.{LoopEnd}
-use Rattle.napi_types.specs.declared.entry.LoopEnd.TheVariants as loop_end
 use Rattle.napi_types.specs.Environment.{Environment}
 
 -- an event of the environment with no frame: the opening, the init frame of an addon, the four events of the hub, and the end
@@ -14,10 +13,10 @@ pub data Event : Type 0 where
   FinalsCome : Event
   IsGone : Event
 
--- first the opening, then the init frame of each addon in order, then `go`
-abbrev pub init_choice : Environment → Event
-init_choice e = cond e.opened (cond (nat_lt e.inits e.addons) (Inits e.inits) Goes) Opens
+-- before the loop: first the opening, then the init frame of each addon in order
+abbrev pub init_choice : Environment → Option Event
+init_choice e = cond e.opened (cond (nat_lt e.inits e.addons) (Some (Inits e.inits)) None) (Some Opens)
 
--- without works, functions and tickets nothing is left to do, so the loop is idle
-abbrev pub loop_choice : Environment → Event
-loop_choice e = EndsLoop loop_end.Idle
+-- in the loop the environment has no event of its own: no ticket is due, and none asks to exit
+abbrev pub loop_choice : Environment → Option Event
+loop_choice e = None

@@ -20,10 +20,10 @@ use Rattle.napi_types.specs.Hub.{Hub, hub_next}
 use Rattle.napi_types.specs.Machine.{Machine}
 use Rattle.napi_types.specs.Room.{room_of, is_full, may_want_memory}
 use Rattle.napi_types.specs.Changes.{Change, host_entry, opened, init_begun, number_of, is_fresh, may_ask, may_call, gone, in_phase}
+use Rattle.napi_types.specs.Choice.{choice}
 use Rattle.napi_types.specs.Ends.{frame_ended}
 use Rattle.napi_types.specs.Entering.{asked_for}
 use Rattle.napi_types.specs.Loop.{Event, Opens, Inits, Goes, EndsLoop, Drains, FinalsCome, IsGone}
-use Rattle.napi_types.specs.Teardown.{choice}
 
 -- an entry, the machine after it, and whether it may stand
 pub record Step : Type 0 where
@@ -98,7 +98,7 @@ frame_step m a o None = asked_step m a o
 
 -- the step of the environment: that of its innermost frame by what it is taken to ask, or of its next event where no frame stands
 abbrev pub env_step : Machine → Ask → Out → List Frame → Step
-env_step m a o [] = chosen m (choice m.env)
+env_step m a o [] = chosen m (choice m)
 env_step m a o (f ∷ fs) = frame_step m (taken a) o (cut_of o)
 
 -- threads and workers make no entry

@@ -23,7 +23,7 @@ no-close : IsRun setting (left_out 5 trace) → ⊥
 no-close r = let w : (entry_at 5 (left_out 5 trace)).what ≡ _ = ap (λ xs. (entry_at 5 xs).what) (told-run setting (left_out 5 trace) refl r) in cc
 
 nothing-after : (x : Entry) → IsRun setting (trace ++ x ∷ []) → ⊥
-nothing-after x r = gone-is-last (final_of setting asks trace) (ask.Leave None) x refl refl (told-steps setting (trace ++ x ∷ []) refl r).1.1.1.1.1.1.1.1.1.1.1.1.0
+nothing-after x r = gone-is-last (final_of setting asks trace) (ask.Leave None) x refl refl refl (told-steps setting (trace ++ x ∷ []) refl r).1.1.1.1.1.1.1.1.1.1.1.1.0
 
 pub returns : goal.returns
 returns c = record { kind = no-other-kind; close = no-close; reason = no-other-reason; last = nothing-after }

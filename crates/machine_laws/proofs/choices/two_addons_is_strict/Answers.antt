@@ -1,0 +1,26 @@
+use Rattle.std.proofs.Common.{◌≡◌, ℕ, ◌∷◌, ◌++◌, ap, set, refl}
+use Rattle.napi_types.specs.declared.entry.HostStep.TheVariants as host
+use Rattle.napi_types.specs.declared.entry.Out.{Out}
+use Rattle.napi_types.specs.declared.entry.Out.TheVariants as out
+use Rattle.napi_types.specs.declared.entry.What.TheVariants as what
+use Rattle.machine_laws.specs.Told.{IsRun}
+use Rattle.machine_laws.specs.Traces.{opening_entries, frame_end}
+use Rattle.machine_laws.specs.TwoAddons.{setting, trace, later, init_begins}
+use Rattle.machine_laws.proofs.Asks.{told-run}
+use Rattle.machine_laws.proofs.Misses.{entry_at}
+use Rattle.machine_laws.proofs.choices.two_addons_is_strict.Goals as goal
+
+abbrev told_addon : Out → ℕ
+told_addon (out.Begin c addon entry d) = addon
+told_addon _ = 0
+
+no-early-go : IsRun setting (opening_entries ++ frame_end ∷ later) → ⊥
+no-early-go r =
+    let told : what.Host host.Go ≡ what.Host host.Begin = ap (λ xs. (entry_at 3 xs).what) (told-run setting (opening_entries ++ frame_end ∷ later) refl r) in
+    cc
+
+no-other-addon : (addon : ℕ) → IsRun setting (set trace 3 (init_begins addon)) → addon ≡ 1
+no-other-addon addon r = ap (λ xs. told_addon (entry_at 3 xs).reply.out) (told-run setting (set trace 3 (init_begins addon)) refl r)
+
+pub returns : goal.returns
+returns c = record { go = no-early-go; second = no-other-addon }

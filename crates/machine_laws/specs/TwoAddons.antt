@@ -1,0 +1,38 @@
+-- Two addons that ask nothing.
+use Rattle.std.specs.Prelude.{◌≡◌, ℕ, List, [], ◌∷◌, ◌++◌, set, Some, None}
+use Rattle.napi_types.specs.declared.entry.Cause.TheVariants as cause
+use Rattle.napi_types.specs.declared.entry.Entry.{Entry}
+use Rattle.napi_types.specs.declared.entry.HostStep.TheVariants as host
+use Rattle.napi_types.specs.declared.entry.Out.TheVariants as out
+use Rattle.napi_types.specs.Changes.{host_entry}
+use Rattle.napi_types.specs.Room.{most_entries}
+use Rattle.napi_types.specs.Whole.{Setting, EndsBy}
+use Rattle.machine_laws.specs.Told.{IsRun, told_asks}
+use Rattle.machine_laws.specs.Traces.{opening_entries, frame_end, great_events, gone_entry}
+
+-- the script: each addon has one entry without operations
+abbrev pub setting : Setting
+setting = record { plans = Some ([] ∷ []) ∷ Some ([] ∷ []) ∷ []; texts = 3; limits = record { journal = most_entries; history = most_entries } }
+
+-- the begin of the init frame of an addon
+abbrev pub init_begins : ℕ → Entry
+init_begins addon = host_entry host.Begin (out.Begin cause.Init addon 0 None)
+
+-- what comes after the frames
+abbrev pub later : List Entry
+later = great_events ++ gone_entry ∷ []
+
+-- the whole run
+abbrev pub trace : List Entry
+trace = opening_entries ++ frame_end ∷ init_begins 1 ∷ frame_end ∷ later
+
+-- the entries are a run of the script that comes to its end
+abbrev pub Ends : Type 0
+Ends = EndsBy setting (told_asks setting trace) trace
+
+-- near misses are no runs
+pub record IsStrict : Type 0 where
+  -- `go` does not come before the second addon's frame
+  pub go : IsRun setting (opening_entries ++ frame_end ∷ later) → ⊥
+  -- which is that of no other addon
+  pub second : (addon : ℕ) → IsRun setting (set trace 3 (init_begins addon)) → addon ≡ 1
