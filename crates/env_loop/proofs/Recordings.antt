@@ -2,6 +2,7 @@
 use Rattle.std.proofs.Common.{◌≡◌, ℕ, ◌+◌, ◌<◌, true, false, IsTrue, not, List, [], ◌∷◌, ◌++◌, length, refl, ap, subst, sym, ◌∙◌, arith, nat_lt, length-append, Some, None}
 use Rattle.std.proofs.lemmas.List.{length-map, get_or-map}
 use Rattle.napi_types.specs.declared.call.Ask.{Ask}
+use Rattle.napi_types.specs.declared.entry.Actor.TheVariants as actor
 use Rattle.napi_types.specs.declared.entry.Entry.{Entry}
 use Rattle.napi_types.specs.declared.entry.HostStep.{HostStep}
 use Rattle.napi_types.specs.declared.entry.HostStep.TheVariants as host
@@ -18,7 +19,7 @@ use Rattle.napi_types.specs.Changes.{Change, host_entry, in_phase, gone, init_be
 use Rattle.napi_types.specs.Registers.{blank_registers}
 use Rattle.napi_types.specs.declared.entry.Reply.{Reply}
 use Rattle.napi_types.specs.Environment.{Environment}
-use Rattle.napi_types.specs.Plan.{Plan, kept_by_host, plan_of, registers_of, asked, registers_after, Registers, loaded_registers}
+use Rattle.napi_types.specs.Plan.{Plan, kept_by_host, kept_at, kept_by_actor, plan_of, registers_of, frames_ask, asked, registers_after, Registers, loaded_registers}
 use Rattle.napi_types.specs.Weave.{weave, RisesBetween, is_shared, is_hub_event}
 use Rattle.napi_types.specs.Whole.{Setting, opening_of, RunsBy, final_of, final_registers, planned_asks}
 use Rattle.env_core.specs.Core.{Core, wrote, opened_core}
@@ -35,7 +36,7 @@ pub record Grown (s : Setting) (asks : List Ask) (xs : List Entry) (after : Mach
 
 pub grow : (s : Setting) (bs : List Ask) (xs : List Entry) (m : Machine) (rss : Registers) (a : Ask) (x : Entry) (st : Step)
     → RunsBy s bs xs → final_of s bs xs ≡ m → final_registers s bs xs ≡ rss
-    → step m a x ≡ st → x ≡ st.entry → IsTrue st.may → a ≡ asked s.plans rss m a
+    → step m a x ≡ st → x ≡ st.entry → IsTrue st.may → a ≡ asked s.plans rss m a x.actor
     → Grown s (bs ++ a ∷ []) (xs ++ x ∷ []) st.after (registers_after s.plans rss m a x)
 grow s bs xs m rss a x st r f g next entry may here =
     let P : Machine → Type 0 = λ n. IsNext n a x in
@@ -47,8 +48,8 @@ grow s bs xs m rss a x st r f g next entry may here =
         asked =
             ap (λ l. l ++ a ∷ []) r.asked
             ∙ ap (λ b. planned_asks s bs xs ++ b ∷ []) here
-            ∙ ap (λ qs. planned_asks s bs xs ++ asked s.plans qs m a ∷ []) (sym g)
-            ∙ ap (λ n. planned_asks s bs xs ++ asked s.plans (final_registers s bs xs) n a ∷ []) (sym f)
+            ∙ ap (λ qs. planned_asks s bs xs ++ asked s.plans qs m a x.actor ∷ []) (sym g)
+            ∙ ap (λ n. planned_asks s bs xs ++ asked s.plans (final_registers s bs xs) n a x.actor ∷ []) (sym f)
             ∙ sym (asked-more s.plans _ (opening_of s) bs xs a x r.steps);
       };
       final = final-more (opening_of s) bs xs a x r.steps ∙ ap (λ n. after n a x) f ∙ ap (λ t. t.after) next;
@@ -62,18 +63,19 @@ grow s bs xs m rss a x st r f g next entry may here =
 pub local-grown : (s : Setting) (core : Core) (history : List Entry) (all : Registers) (r : IsRecorded s core history all)
     (a : Ask) (c : Change) (own : Registers) (after_all : Registers)
     → step (machine_of s.limits core history) a c.entry ≡ locally (machine_of s.limits core history) c true
-    → a ≡ asked s.plans r.own (machine_of s.limits core history) a
-    → registers_after s.plans r.own (machine_of s.limits core history) a c.entry ≡ own
+    → c.entry.actor ≡ actor.Env
+    → a ≡ frames_ask s.plans r.own core.env.frames a
+    → kept_at s.plans r.own core.env a c.entry.reply c.entry.what ≡ own
     → length own ≡ length s.plans
     → AgreesWith s.plans after_all own
     → stage_of c.after.phase ≡ stage_of core.env.phase
     → not (is_shared c.entry.what) ≡ true
     → IsRecorded s (wrote c core) history after_all
-local-grown s core history all r a c own after_all next here kept count agrees staged local_one =
+local-grown s core history all r a c own after_all next who here kept count agrees staged local_one =
     let m : Machine = machine_of s.limits core history in
     let xs : List Entry = weave core.journal history in
     let g : Grown s (r.asks ++ a ∷ []) (xs ++ c.entry ∷ []) (locally m c true).after (registers_after s.plans r.own m a c.entry) =
-    grow s r.asks xs m r.own a c.entry (locally m c true) r.run r.final r.registers next refl refl here in
+    grow s r.asks xs m r.own a c.entry (locally m c true) r.run r.final r.registers next refl refl (here ∙ ap (asked s.plans r.own m a) (sym who)) in
     let woven : weave (core.journal ++ record { at = core.position; entry = c.entry } ∷ []) history ≡ xs ++ c.entry ∷ [] =
     ap (λ n. weave (core.journal ++ record { at = n; entry = c.entry } ∷ []) history) r.position ∙ weave-local core.journal history c.entry in
     let longer : length core.journal + 1 ≡ length (core.journal ++ record { at = core.position; entry = c.entry } ∷ []) =
@@ -87,7 +89,7 @@ local-grown s core history all r a c own after_all next here kept count agrees s
           ap (λ ys. final_of s (r.asks ++ a ∷ []) ys) woven ∙ g.final
           ∙ ap (λ n. record m { env = c.after; locals = n }) longer
           ∙ ap (λ t. record m { env = c.after; hub = record { stage = t }; locals = length (core.journal ++ record { at = core.position; entry = c.entry } ∷ []) }) (sym staged);
-      registers = ap (λ ys. final_registers s (r.asks ++ a ∷ []) ys) woven ∙ g.registers_are ∙ kept;
+      registers = ap (λ ys. final_registers s (r.asks ++ a ∷ []) ys) woven ∙ g.registers_are ∙ ap (kept_by_actor s.plans r.own core.env a c.entry) who ∙ kept;
       count = count;
       agrees = agrees;
       limit = r.limit;
@@ -118,7 +120,7 @@ shared-grown s core history all r event o p alone next shared_one =
     let m : Machine = machine_of s.limits core history in
     let xs : List Entry = weave core.journal history in
     let x : Entry = host_entry event o in
-    let nothing : ask.Leave None ≡ asked s.plans r.own m (ask.Leave None) = rw alone refl in
+    let nothing : ask.Leave None ≡ asked s.plans r.own m (ask.Leave None) actor.Env = rw alone refl in
     let st : Step = record { entry = x; after = hub_left m p; may = true } in
     let g : Grown s (r.asks ++ ask.Leave None ∷ []) (xs ++ x ∷ []) (hub_left m p) (registers_after s.plans r.own m (ask.Leave None) x) =
     grow s r.asks xs m r.own (ask.Leave None) x st r.run r.final r.registers next refl refl nothing in
@@ -168,7 +170,7 @@ pub gone-grown : (s : Setting) (core : Core) (history : List Entry) (all : Regis
     → core.env.frames ≡ [] → core.env.phase ≡ phase.Finals
     → IsRecorded s (wrote (gone core.env) core) history all
 gone-grown s core history all r alone here =
-    local-grown s core history all r (ask.Leave None) (gone core.env) r.own all (rw (alone, here) refl) (rw alone refl) refl r.count r.agrees (rw here refl) refl
+    local-grown s core history all r (ask.Leave None) (gone core.env) r.own all (rw (alone, here) refl) refl (rw alone refl) refl r.count r.agrees (rw here refl) refl
 
 -- THE INIT FRAMES
 -- blank registers are those that the run starts from
@@ -199,7 +201,7 @@ pub init-grown : (s : Setting) (core : Core) (history : List Entry) (all : Regis
     → core.env.frames ≡ [] → core.env.phase ≡ phase.Init → core.env.opened ≡ true → nat_lt core.env.inits core.env.addons ≡ true
     → IsRecorded s (wrote (init_begun core.env.inits core.env) core) history all
 init-grown s core history all r alone here opened more =
-    local-grown s core history all r (ask.Leave None) (init_begun core.env.inits core.env) r.own all (rw (alone, here, opened, more) refl) (rw alone refl) refl r.count r.agrees refl refl
+    local-grown s core history all r (ask.Leave None) (init_begun core.env.inits core.env) r.own all (rw (alone, here, opened, more) refl) refl (rw alone refl) refl r.count r.agrees refl refl
 
 -- THE END
 -- a recorded run whose environment is gone came to its end

@@ -306,7 +306,7 @@ called-grown s core history all ps f fs a c r now of sound stands asking made at
     local-grown s core history all rec a change (kept_in_frames s.plans rec.own core.env.frames change.entry.reply) now
     (call-next m a c o k f fs stands made (reply-uncut core.env c k (early_refusal core.env c) (depth_refusal core.env.frames c)) number may fresh_o room
     ∙ ap (λ x. locally m x true) (asked_for-called core.env c k at_once))
-    (asked-of s ps core history all f fs a stands asking.makes there of rec asking.asked)
+    refl (asked-of s ps core history all f fs a stands asking.makes there of rec asking.asked)
     refl next.count next.agrees
     (ap stage_of (called-keeps core.env c k).phase) refl
 
@@ -341,7 +341,7 @@ entered-grown s core history all ps f fs a receiver g args now of sound stands a
     let same : a ≡ ask.Do c = taken-asked a c made in
     local-grown s core history all rec a change (set rec.own i v) now
     (call-next m a c o 0 f fs stands made refl refl may refl room ∙ ap (λ x. locally m x true) (asked_for-entered core.env receiver g args 0 accepted))
-    (asked-of s ps core history all f fs a stands asking.makes there of rec asking.asked)
+    refl (asked-of s ps core history all f fs a stands asking.makes there of rec asking.asked)
     (ap (λ b. given_by rec.own core.env.heap b) same)
     (length-set rec.own i v ∙ rec.count)
     (agrees-set s.plans all now rec.own i v rec.count rec.agrees (others-given all now i gifts (omega (arith, callee, enough)) given)
@@ -366,7 +366,7 @@ ended-grown s core history all ps f fs a v cut now of sound stands makes asked n
     told-kept s.plans ps all rec.own now callers x.reply (below-plans s ps core callers of (tail-below core.env.addons core.env.frames (frames-below core sound))) of.first rec.count rec.agrees told in
     local-grown s core history all rec a change (kept_in_frames s.plans rec.own callers x.reply) now
     (by-env m a x (locally m change true) e.who next)
-    (asked-of s ps core history all f fs a stands makes there of rec asked)
+    e.who (asked-of s ps core history all f fs a stands makes there of rec asked)
     (ap (λ w. kept_at s.plans rec.own core.env a x.reply w) e.is)
     kept_now.count kept_now.agrees
     (ap stage_of (ended-keeps v cut core.env).phase)

@@ -2,6 +2,8 @@
 use Rattle.std.proofs.Common.{◌≡◌, ℕ, zero, suc, true, cond, List, [], ◌∷◌, IsTrue, refl, ap, subst, ◌∙◌, Some, None, is_some}
 use Rattle.std.specs.Option.{unwrap_or}
 use Rattle.std.specs.List.{list_all}
+use Rattle.napi_types.specs.declared.entry.Actor.{Actor}
+use Rattle.napi_types.specs.declared.entry.Actor.TheVariants as actor
 use Rattle.napi_types.specs.declared.entry.Entry.{Entry}
 use Rattle.napi_types.specs.declared.call.Ask.{Ask}
 use Rattle.napi_types.specs.declared.call.Ask.TheVariants as ask
@@ -31,12 +33,16 @@ told-frames : (ps : List Plan) (rss : Registers) (fs : List Frame) (a b : Ask) �
 told-frames ps rss [] a b h = refl
 told-frames ps rss (f ∷ fs) a b h = ap (λ c. cond f.makes_asks c (ask.Leave None)) (told-ask (plan_of ps f.addon) (registers_of rss f.addon) f a b (all-of-at ps f.addon h))
 
+told-actor : (ps : List Plan) (rss : Registers) (m : Machine) (who : Actor) (a b : Ask) → IsTrue (list_all is_some ps) → asked ps rss m a who ≡ asked ps rss m b who
+told-actor ps rss m actor.Env a b h = told-frames ps rss m.env.frames a b h
+told-actor ps rss m _ a b h = refl
+
 -- the asks of a run by told plans are those that the entries give
 pub asks-unique : (ps : List Plan) (rss : Registers) (m : Machine) (bs : List Ask) (xs : List Entry) → IsTrue (list_all is_some ps)
     → IsRunBy m bs xs → bs ≡ asked_along ps rss m bs xs → bs ≡ told_asks_along ps rss m xs
 asks-unique ps rss m [] [] h r e = refl
 asks-unique ps rss m (b ∷ bs) (x ∷ xs) h r e =
-    let here : b ≡ asked ps rss m (ask.Leave None) = ap (λ l. unwrap_or (head l) b) e ∙ told-frames ps rss m.env.frames b (ask.Leave None) h in
+    let here : b ≡ asked ps rss m (ask.Leave None) x.actor = ap (λ l. unwrap_or (head l) b) e ∙ told-actor ps rss m x.actor b (ask.Leave None) h in
     let later : bs ≡ told_asks_along ps (registers_after ps rss m b x) (after m b x) xs =
     asks-unique ps (registers_after ps rss m b x) (after m b x) bs xs h r.1 (ap tail e) in
     let P : Ask → Type 0 = λ a. b ∷ bs ≡ a ∷ told_asks_along ps (registers_after ps rss m a x) (after m a x) xs in

@@ -18,7 +18,7 @@ steps-front m (a ∷ bs) [] (suc n) r = absurd r
 asked-front : (ps : List Plan) (rss : Registers) (m : Machine) (bs : List Ask) (xs : List Entry) (n : ℕ)
     → take n (asked_along ps rss m bs xs) ≡ asked_along ps rss m (take n bs) (take n xs)
 asked-front ps rss m bs xs zero = refl
-asked-front ps rss m (a ∷ bs) (x ∷ xs) (suc n) = ap (λ l. asked ps rss m a ∷ l) (asked-front ps (registers_after ps rss m a x) (after m a x) bs xs n)
+asked-front ps rss m (a ∷ bs) (x ∷ xs) (suc n) = ap (λ l. asked ps rss m a x.actor ∷ l) (asked-front ps (registers_after ps rss m a x) (after m a x) bs xs n)
 asked-front ps rss m [] [] (suc n) = refl
 asked-front ps rss m [] (x ∷ xs) (suc n) = refl
 asked-front ps rss m (a ∷ bs) [] (suc n) = refl

@@ -5,6 +5,7 @@ use Rattle.napi_types.specs.declared.call.Ask.TheVariants as ask
 use Rattle.napi_types.specs.declared.call.Call.{Call}
 use Rattle.napi_types.specs.declared.call.Call.TheVariants as call
 use Rattle.napi_types.specs.declared.call.Args.{Args}
+use Rattle.napi_types.specs.declared.entry.Actor.TheVariants as actor
 use Rattle.napi_types.specs.declared.entry.Cause.{Cause}
 use Rattle.napi_types.specs.declared.entry.Cause.TheVariants as cause
 use Rattle.napi_types.specs.declared.entry.Entry.{Entry}
@@ -92,7 +93,7 @@ NotBeforeLastAsk = (m : Machine) (f : Frame) (fs : List Frame) (a : Ask) → m.e
 -- it may only leave
 pub record OnlyLeaves (m : Machine) : Type 0 where
   -- its plan, whichever it is, asks nothing but that
-  pub asked : (ps : List Plan) (rss : Registers) (a : Ask) → asked ps rss m a ≡ ask.Leave None
+  pub asked : (ps : List Plan) (rss : Registers) (a : Ask) → asked ps rss m a actor.Env ≡ ask.Leave None
   -- then its end comes, without a cut, and nothing else may come
   pub leaves : (v : Option HandleId) → IsOnlyNext m (ask.Leave v) (frame_ended v None m.env).entry
   -- at a call nothing may come: not its entry, not the begin of a frame, and no cut

@@ -1,8 +1,9 @@
 -- The first run: an addon opens a scope, makes an object in it, asks for its kind and closes the scope.
-use Rattle.std.specs.Prelude.{◌≡◌, ℕ, List, [], ◌∷◌, ◌++◌, map, set, replicate, codes}
+use Rattle.std.specs.Prelude.{◌≡◌, ℕ, List, [], ◌∷◌, ◌++◌, map, set, take, replicate, codes}
 use Rattle.napi_types.specs.declared.call.Ask.{Ask}
 use Rattle.napi_types.specs.declared.call.Call.TheVariants as call
 use Rattle.napi_types.specs.declared.op.Op.TheVariants as op
+use Rattle.napi_types.specs.declared.entry.Actor.TheVariants as actor
 use Rattle.napi_types.specs.declared.entry.Entry.{Entry}
 use Rattle.napi_types.specs.declared.entry.Local.{Local}
 use Rattle.napi_types.specs.declared.entry.LoopEnd.{LoopEnd}
@@ -79,6 +80,15 @@ Prints = text fixed_texts trace ≡
 -- the addon keeps the scope's number, the handle's, and 6, the number of the kind of an object; its other registers stay 0
 abbrev pub Keeps : Type 0
 Keeps = registers_of (final_registers setting asks trace) 0 ≡ 1 ∷ 1 ∷ 6 ∷ replicate 29 0
+
+-- the addon's registers after the first four entries and this one
+abbrev pub registers_with : Entry → List ℕ
+registers_with x = registers_of (final_registers setting asks (take 4 trace ++ x ∷ [])) 0
+
+-- the reply to `typeof` goes to a register, and the same reply in an entry of a thread to none
+pub record KeepsOwnReplies : Type 0 where
+  pub own : registers_with (typeof_entry kind.Object) ≡ 1 ∷ 1 ∷ 6 ∷ replicate 29 0
+  pub of_thread : (n : ℕ) → registers_with (record (typeof_entry kind.Object) { actor = actor.Thread n }) ≡ 1 ∷ 1 ∷ replicate 30 0
 
 -- NEAR MISSES, whatever is asked along them
 pub record IsStrict : Type 0 where

@@ -1,9 +1,13 @@
 -- Laws over all runs, and over all stores.
-use Rattle.std.specs.Prelude.{◌≡◌, ℕ, Bool, true, List, take, ◌↔◌}
+use Rattle.std.specs.Prelude.{◌≡◌, ℕ, Bool, true, List, None, take, ◌↔◌}
 use Rattle.napi_types.specs.declared.call.Ask.{Ask}
+use Rattle.napi_types.specs.declared.call.Ask.TheVariants as ask
+use Rattle.napi_types.specs.declared.entry.Actor.{Actor}
+use Rattle.napi_types.specs.declared.entry.Actor.TheVariants as actor
 use Rattle.napi_types.specs.declared.entry.Entry.{Entry}
 use Rattle.napi_types.specs.Lists.{has_number}
 use Rattle.napi_types.specs.Machine.{Machine}
+use Rattle.napi_types.specs.Plan.{Plan, Registers, asked, registers_after}
 use Rattle.napi_types.specs.Reach.{numbers, children_at, reach_from}
 use Rattle.napi_types.specs.Whole.{Setting, RunsBy}
 use Rattle.napi_types.specs.Run.{IsRunBy}
@@ -17,6 +21,15 @@ RunsAreComputed = (m : Machine) (bs : List Ask) (xs : List Entry) → (IsRunBy m
 -- what came of a run up to any moment is a run
 abbrev pub FrontsAreRuns : Type 0
 FrontsAreRuns = (s : Setting) (bs : List Ask) (xs : List Entry) (n : ℕ) → RunsBy s bs xs → RunsBy s (take n bs) (take n xs)
+
+-- an entry of this actor asks nothing of an addon and changes no register, whatever it tells
+pub record LeavesRegisters (who : Actor) : Type 0 where
+  pub asked : (ps : List Plan) (rss : Registers) (m : Machine) (a : Ask) → asked ps rss m a who ≡ ask.Leave None
+  pub registers : (ps : List Plan) (rss : Registers) (m : Machine) (a : Ask) (x : Entry) → x.actor ≡ who → registers_after ps rss m a x ≡ rss
+
+-- the registers are those of the environment's addons: no thread and no worker changes one
+abbrev pub OthersLeaveRegisters : Type 0
+OthersLeaveRegisters = (n : ℕ) → LeavesRegisters (actor.Thread n) × LeavesRegisters (actor.Worker n)
 
 -- what roots reach: each root that a value has, each child of what is reached that a value has, and no more, since every set of numbers that has both has it
 pub record IsLeastReach (vs : List Value) (roots : List ℕ) : Type 0 where

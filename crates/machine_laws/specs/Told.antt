@@ -21,7 +21,7 @@ all_told s = list_all is_some s.plans
 abbrev pub told_asks_along : List Plan → Registers → Machine → List Entry → List Ask
 told_asks_along ps rss m [] = []
 told_asks_along ps rss m (x ∷ xs) =
-    let a : Ask = asked ps rss m (ask.Leave None) in a ∷ told_asks_along ps (registers_after ps rss m a x) (after m a x) xs
+    let a : Ask = asked ps rss m (ask.Leave None) x.actor in a ∷ told_asks_along ps (registers_after ps rss m a x) (after m a x) xs
 
 -- those of a run of the script
 abbrev pub told_asks : Setting → List Entry → List Ask

@@ -20,6 +20,11 @@ pub fn first_run_registers()
     ensures { first_run.Keeps }
 {}
 
+/// The reply to a call goes to a register where the environment made its entry, and to none where a thread made one that looks like it.
+pub fn first_run_keeps_own_replies()
+    ensures { first_run.KeepsOwnReplies }
+{}
+
 /// Entries that differ from the first run in one place are no run of its script.
 pub fn first_run_is_strict()
     ensures { first_run.IsStrict }

@@ -36,9 +36,9 @@ final-more m (b ∷ bs) [] a x r = absurd r
 -- and so have its asks and its registers
 pub asked-more : (ps : List Plan) (rss : Registers) (m : Machine) (bs : List Ask) (xs : List Entry) (a : Ask) (x : Entry)
     → IsRunBy m bs xs
-    → asked_along ps rss m (bs ++ a ∷ []) (xs ++ x ∷ []) ≡ asked_along ps rss m bs xs ++ asked ps (registers_along ps rss m bs xs) (final m bs xs) a ∷ []
+    → asked_along ps rss m (bs ++ a ∷ []) (xs ++ x ∷ []) ≡ asked_along ps rss m bs xs ++ asked ps (registers_along ps rss m bs xs) (final m bs xs) a x.actor ∷ []
 asked-more ps rss m [] [] a x r = refl
-asked-more ps rss m (b ∷ bs) (y ∷ ys) a x r = ap (λ l. asked ps rss m b ∷ l) (asked-more ps (registers_after ps rss m b y) (after m b y) bs ys a x r.1)
+asked-more ps rss m (b ∷ bs) (y ∷ ys) a x r = ap (λ l. asked ps rss m b y.actor ∷ l) (asked-more ps (registers_after ps rss m b y) (after m b y) bs ys a x r.1)
 asked-more ps rss m [] (y ∷ ys) a x r = absurd r
 asked-more ps rss m (b ∷ bs) [] a x r = absurd r
 

@@ -4,6 +4,8 @@ use Rattle.napi_types.specs.declared.call.Ask.{Ask}
 use Rattle.napi_types.specs.declared.call.Ask.TheVariants as ask
 use Rattle.napi_types.specs.declared.op.Op.{Op}
 use Rattle.napi_types.specs.declared.call.Call.TheVariants as call
+use Rattle.napi_types.specs.declared.entry.Actor.{Actor}
+use Rattle.napi_types.specs.declared.entry.Actor.TheVariants as actor
 use Rattle.napi_types.specs.declared.entry.Entry.{Entry}
 use Rattle.napi_types.specs.declared.entry.HostStep.{HostStep}
 use Rattle.napi_types.specs.declared.entry.HostStep.TheVariants as host
@@ -50,9 +52,10 @@ abbrev pub frames_ask : List Plan → Registers → List Frame → Ask → Ask
 frames_ask ps rss [] a = ask.Leave None
 frames_ask ps rss (f ∷ fs) a = cond f.makes_asks (frame_ask (plan_of ps f.addon) (registers_of rss f.addon) f a) (ask.Leave None)
 
--- what is asked of the machine: the ask of its innermost frame
-abbrev pub asked : List Plan → Registers → Machine → Ask → Ask
-asked ps rss m a = frames_ask ps rss m.env.frames a
+-- what is asked at an entry of this actor: by the environment what its innermost frame asks; threads and workers ask nothing of an addon
+abbrev pub asked : List Plan → Registers → Machine → Ask → Actor → Ask
+asked ps rss m a actor.Env = frames_ask ps rss m.env.frames a
+asked ps rss m a _ = ask.Leave None
 
 -- WHAT THE REGISTERS KEEP
 -- the registers of a frame's addon after a reply; where no plan is told they stay as they are, and nothing is said of them
@@ -85,9 +88,14 @@ abbrev pub kept_at : List Plan → Registers → Environment → Ask → Reply �
 kept_at ps rss e a r (what.Call c) = kept_in_frames ps rss e.frames r
 kept_at ps rss e a r (what.Host h) = kept_by_host ps rss e a r h
 
+-- an entry of the environment changes them so; one of a thread or a worker changes none, whatever it tells
+abbrev pub kept_by_actor : List Plan → Registers → Environment → Ask → Entry → Actor → Registers
+kept_by_actor ps rss e a x actor.Env = kept_at ps rss e a x.reply x.what
+kept_by_actor ps rss e a x _ = rss
+
 -- the registers after an entry, at this ask
 abbrev pub registers_after : List Plan → Registers → Machine → Ask → Entry → Registers
-registers_after ps rss m a x = kept_at ps rss m.env a x.reply x.what
+registers_after ps rss m a x = kept_by_actor ps rss m.env a x x.actor
 
 -- the registers after entries
 abbrev pub registers_along : List Plan → Registers → Machine → List Ask → List Entry → Registers
@@ -96,5 +104,5 @@ registers_along ps rss m _ _ = rss
 
 -- the asks that the plans give along entries
 abbrev pub asked_along : List Plan → Registers → Machine → List Ask → List Entry → List Ask
-asked_along ps rss m (a ∷ bs) (x ∷ xs) = asked ps rss m a ∷ asked_along ps (registers_after ps rss m a x) (after m a x) bs xs
+asked_along ps rss m (a ∷ bs) (x ∷ xs) = asked ps rss m a x.actor ∷ asked_along ps (registers_after ps rss m a x) (after m a x) bs xs
 asked_along ps rss m _ _ = []

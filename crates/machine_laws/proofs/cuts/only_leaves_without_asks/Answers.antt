@@ -2,6 +2,7 @@ use Rattle.std.proofs.Common.{◌≡◌, ◌<◌, ◌==◌, ◌&&◌, true, fals
 use Rattle.napi_types.specs.declared.call.Ask.{Ask}
 use Rattle.napi_types.specs.declared.call.Ask.TheVariants as ask
 use Rattle.napi_types.specs.declared.call.Call.{Call}
+use Rattle.napi_types.specs.declared.entry.Actor.TheVariants as actor
 use Rattle.napi_types.specs.declared.entry.Entry.{Entry}
 use Rattle.napi_types.specs.declared.entry.Out.{Out}
 use Rattle.napi_types.specs.declared.entry.Why.{Why}
@@ -23,7 +24,7 @@ use Rattle.napi_types.proofs.Runs.{and-left, and-right}
 use Rattle.machine_laws.proofs.Cutting.{frame-step, only-in-frame, not-last, below-last}
 use Rattle.machine_laws.proofs.cuts.only_leaves_without_asks.Goals as goal
 
-asked-none : (m : Machine) (f : Frame) (fs : List Frame) → m.env.frames ≡ f ∷ fs → f.makes_asks ≡ false → (ps : List Plan) (rss : Registers) (a : Ask) → asked ps rss m a ≡ ask.Leave None
+asked-none : (m : Machine) (f : Frame) (fs : List Frame) → m.env.frames ≡ f ∷ fs → f.makes_asks ≡ false → (ps : List Plan) (rss : Registers) (a : Ask) → asked ps rss m a actor.Env ≡ ask.Leave None
 asked-none m f fs stands silent ps rss a =
     ap (λ l. frames_ask ps rss l a) stands ∙ ap (λ b. cond b (frame_ask (plan_of ps f.addon) (registers_of rss f.addon) f a) (ask.Leave None)) silent
 
