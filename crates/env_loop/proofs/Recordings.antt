@@ -1,5 +1,5 @@
 -- A recorded run goes on.
-use Rattle.std.proofs.Common.{◌≡◌, ℕ, ◌+◌, ◌<◌, true, false, IsTrue, not, List, [], ◌∷◌, ◌++◌, length, refl, ap, subst, sym, ◌∙◌, arith, nat_lt, length-append, Some, None}
+use Rattle.std.proofs.Common.{◌≡◌, ℕ, ◌+◌, ◌<◌, true, false, IsTrue, List, [], ◌∷◌, ◌++◌, length, refl, ap, subst, sym, ◌∙◌, arith, nat_lt, length-append, Some, None}
 use Rattle.std.proofs.lemmas.List.{length-map, get_or-map}
 use Rattle.napi_types.specs.declared.call.Ask.{Ask}
 use Rattle.napi_types.specs.declared.entry.Actor.TheVariants as actor
@@ -13,6 +13,7 @@ use Rattle.napi_types.specs.declared.entry.Phase.{Phase}
 use Rattle.napi_types.specs.declared.entry.Phase.TheVariants as phase
 use Rattle.napi_types.specs.declared.call.Ask.TheVariants as ask
 use Rattle.napi_types.specs.Machine.{Machine}
+use Rattle.napi_types.specs.Parting.{sides_along}
 use Rattle.napi_types.specs.Step.{Step, step, locally}
 use Rattle.napi_types.specs.Run.{after, IsNext}
 use Rattle.napi_types.specs.Changes.{Change, host_entry, in_phase, gone, init_begun}
@@ -20,24 +21,25 @@ use Rattle.napi_types.specs.Registers.{blank_registers}
 use Rattle.napi_types.specs.declared.entry.Reply.{Reply}
 use Rattle.napi_types.specs.Environment.{Environment}
 use Rattle.napi_types.specs.Plan.{Plan, kept_by_host, kept_at, kept_by_actor, plan_of, registers_of, frames_ask, asked, registers_after, Registers, loaded_registers}
-use Rattle.napi_types.specs.Weave.{weave, RisesBetween, is_shared, is_hub_event}
+use Rattle.napi_types.specs.Weave.{Side, Journal, History, weave, sides, RisesBetween}
 use Rattle.napi_types.specs.Whole.{Setting, opening_of, RunsBy, final_of, final_registers, planned_asks}
 use Rattle.env_core.specs.Core.{Core, wrote, opened_core}
 use Rattle.napi_types.specs.Phases.{stage_of}
 use Rattle.env_loop.specs.Recording.{machine_of, AgreesWhereTold, AgreesWith, IsRecorded, IsEnded}
-use Rattle.napi_types.proofs.Runs.{run-more, final-more, asked-more, registers-more}
-use Rattle.napi_types.proofs.Weaves.{weave-local, weave-shared, rises-append, rises-more, parted-local, parted-shared}
+use Rattle.napi_types.proofs.Runs.{run-more, final-more, asked-more, registers-more, sides-more}
+use Rattle.napi_types.proofs.Weaves.{weave-local, weave-shared, sides-local, sides-shared, rises-append, rises-more}
 
 -- what one more entry makes of a run by its asks
-pub record Grown (s : Setting) (asks : List Ask) (xs : List Entry) (after : Machine) (registers : Registers) : Type 0 where
+pub record Grown (s : Setting) (asks : List Ask) (xs : List Entry) (after : Machine) (registers : Registers) (sides : List Side) : Type 0 where
   pub run : RunsBy s asks xs
   pub final : final_of s asks xs ≡ after
   pub registers_are : final_registers s asks xs ≡ registers
+  pub sides_are : sides_along (opening_of s) asks xs ≡ sides
 
 pub grow : (s : Setting) (bs : List Ask) (xs : List Entry) (m : Machine) (rss : Registers) (a : Ask) (x : Entry) (st : Step)
     → RunsBy s bs xs → final_of s bs xs ≡ m → final_registers s bs xs ≡ rss
     → step m a x ≡ st → x ≡ st.entry → IsTrue st.may → a ≡ asked s.plans rss m a x.actor
-    → Grown s (bs ++ a ∷ []) (xs ++ x ∷ []) st.after (registers_after s.plans rss m a x)
+    → Grown s (bs ++ a ∷ []) (xs ++ x ∷ []) st.after (registers_after s.plans rss m a x) (sides_along (opening_of s) bs xs ++ st.side ∷ [])
 grow s bs xs m rss a x st r f g next entry may here =
     let P : Machine → Type 0 = λ n. IsNext n a x in
     let Q : Step → Type 0 = λ t. (x ≡ t.entry) × IsTrue t.may in
@@ -57,6 +59,10 @@ grow s bs xs m rss a x st r f g next entry may here =
           registers-more s.plans _ (opening_of s) bs xs a x r.steps
           ∙ ap (λ qs. registers_after s.plans qs (final_of s bs xs) a x) g
           ∙ ap (λ n. registers_after s.plans rss n a x) f;
+      sides_are =
+          sides-more (opening_of s) bs xs a x r.steps
+          ∙ ap (λ n. sides_along (opening_of s) bs xs ++ (step n a x).side ∷ []) f
+          ∙ ap (λ t. sides_along (opening_of s) bs xs ++ t.side ∷ []) next;
     }
 
 -- a local event goes into the journal
@@ -69,12 +75,11 @@ pub local-grown : (s : Setting) (core : Core) (history : List Entry) (all : Regi
     → length own ≡ length s.plans
     → AgreesWith s.plans after_all own
     → stage_of c.after.phase ≡ stage_of core.env.phase
-    → not (is_shared c.entry.what) ≡ true
     → IsRecorded s (wrote c core) history after_all
-local-grown s core history all r a c own after_all next who here kept count agrees staged local_one =
+local-grown s core history all r a c own after_all next who here kept count agrees staged =
     let m : Machine = machine_of s.limits core history in
     let xs : List Entry = weave core.journal history in
-    let g : Grown s (r.asks ++ a ∷ []) (xs ++ c.entry ∷ []) (locally m c true).after (registers_after s.plans r.own m a c.entry) =
+    let g : Grown s (r.asks ++ a ∷ []) (xs ++ c.entry ∷ []) (locally m c true).after (registers_after s.plans r.own m a c.entry) (sides_along (opening_of s) r.asks xs ++ Journal ∷ []) =
     grow s r.asks xs m r.own a c.entry (locally m c true) r.run r.final r.registers next refl refl (here ∙ ap (asked s.plans r.own m a) (sym who)) in
     let woven : weave (core.journal ++ record { at = core.position; entry = c.entry } ∷ []) history ≡ xs ++ c.entry ∷ [] =
     ap (λ n. weave (core.journal ++ record { at = n; entry = c.entry } ∷ []) history) r.position ∙ weave-local core.journal history c.entry in
@@ -95,34 +100,30 @@ local-grown s core history all r a c own after_all next who here kept count agre
       limit = r.limit;
       position = r.position;
       rises = rises-append 0 (length history) core.journal (record { at = core.position; entry = c.entry }) r.position r.rises;
-      parted = parted-local core.journal history (record { at = core.position; entry = c.entry }) r.parted local_one;
+      parted =
+          ap (λ ys. sides_along (opening_of s) (r.asks ++ a ∷ []) ys) woven ∙ g.sides_are ∙ ap (λ l. l ++ Journal ∷ []) r.parted
+          ∙ sym (ap (λ n. sides (core.journal ++ record { at = n; entry = c.entry } ∷ []) history) r.position ∙ sides-local core.journal history c.entry);
     }
 
 -- what an event of the hub leaves
 abbrev pub hub_left : Machine → Phase → Machine
 hub_left m p = record m { env = in_phase p m.env; hub = record { stage = stage_of p }; shareds = m.shareds + 1 }
 
--- an event of the hub leaves the registers
-hub-leaves : (ps : List Plan) (rss : Registers) (e : Environment) (a : Ask) (r : Reply) (event : HostStep) → is_hub_event event ≡ true → kept_by_host ps rss e a r event ≡ rss
-hub-leaves ps rss e a r host.Begin h = cc
-hub-leaves ps rss e a r host.End h = cc
-hub-leaves ps rss e a r event h = refl
-
--- an event of the hub goes into the history, and its phase starts
+-- an event of the hub goes into the history, and its phase starts; it leaves the registers
 pub shared-grown : (s : Setting) (core : Core) (history : List Entry) (all : Registers) (r : IsRecorded s core history all)
     (event : HostStep) (o : Out) (p : Phase)
     → core.env.frames ≡ []
     → step (machine_of s.limits core history) (ask.Leave None) (host_entry event o)
-    ≡ record { entry = host_entry event o; after = hub_left (machine_of s.limits core history) p; may = true }
-    → is_hub_event event ≡ true
+    ≡ record { entry = host_entry event o; side = History; after = hub_left (machine_of s.limits core history) p; may = true }
+    → ((rss : Registers) (reply : Reply) → kept_by_host s.plans rss core.env (ask.Leave None) reply event ≡ rss)
     → IsRecorded s (record core { env = in_phase p core.env; position = length history + 1 }) (history ++ host_entry event o ∷ []) all
-shared-grown s core history all r event o p alone next shared_one =
+shared-grown s core history all r event o p alone next leaves =
     let m : Machine = machine_of s.limits core history in
     let xs : List Entry = weave core.journal history in
     let x : Entry = host_entry event o in
     let nothing : ask.Leave None ≡ asked s.plans r.own m (ask.Leave None) actor.Env = rw alone refl in
-    let st : Step = record { entry = x; after = hub_left m p; may = true } in
-    let g : Grown s (r.asks ++ ask.Leave None ∷ []) (xs ++ x ∷ []) (hub_left m p) (registers_after s.plans r.own m (ask.Leave None) x) =
+    let st : Step = record { entry = x; side = History; after = hub_left m p; may = true } in
+    let g : Grown s (r.asks ++ ask.Leave None ∷ []) (xs ++ x ∷ []) (hub_left m p) (registers_after s.plans r.own m (ask.Leave None) x) (sides_along (opening_of s) r.asks xs ++ History ∷ []) =
     grow s r.asks xs m r.own (ask.Leave None) x st r.run r.final r.registers next refl refl nothing in
     let woven : weave core.journal (history ++ x ∷ []) ≡ xs ++ x ∷ [] = weave-shared core.journal history x r.rises in
     let longer : length (history ++ x ∷ []) ≡ length history + 1 = length-append history (x ∷ []) in
@@ -135,13 +136,15 @@ shared-grown s core history all r event o p alone next shared_one =
       final =
           ap (λ ys. final_of s (r.asks ++ ask.Leave None ∷ []) ys) woven ∙ g.final
           ∙ ap (λ n. record m { env = in_phase p core.env; hub = record { stage = stage_of p }; shareds = n }) (sym longer);
-      registers = ap (λ ys. final_registers s (r.asks ++ ask.Leave None ∷ []) ys) woven ∙ g.registers_are ∙ hub-leaves s.plans r.own core.env (ask.Leave None) x.reply event shared_one;
+      registers = ap (λ ys. final_registers s (r.asks ++ ask.Leave None ∷ []) ys) woven ∙ g.registers_are ∙ leaves r.own x.reply;
       count = r.count;
       agrees = r.agrees;
       limit = r.limit;
       position = sym longer;
       rises = subst U (sym longer) (rises-more 0 (length history) (length history + 1) core.journal (omega arith) r.rises);
-      parted = parted-shared core.journal history x r.parted shared_one;
+      parted =
+          ap (λ ys. sides_along (opening_of s) (r.asks ++ ask.Leave None ∷ []) ys) woven ∙ g.sides_are ∙ ap (λ l. l ++ History ∷ []) r.parted
+          ∙ sym (sides-shared core.journal history x r.rises);
     }
 
 -- THE EVENTS WITH NO FRAME, one after another
@@ -149,28 +152,28 @@ shared-grown s core history all r event o p alone next shared_one =
 pub go-grown : (s : Setting) (core : Core) (history : List Entry) (all : Registers) → IsRecorded s core history all
     → core.env.frames ≡ [] → core.env.phase ≡ phase.Init → core.env.opened ≡ true → nat_lt core.env.inits core.env.addons ≡ false
     → IsRecorded s (record core { env = in_phase phase.Live core.env; position = length history + 1 }) (history ++ host_entry host.Go out.Nothing ∷ []) all
-go-grown s core history all r alone here opened every = shared-grown s core history all r host.Go out.Nothing phase.Live alone (rw (alone, here, opened, every) refl) refl
+go-grown s core history all r alone here opened every = shared-grown s core history all r host.Go out.Nothing phase.Live alone (rw (alone, here, opened, every) refl) (λ rss reply. refl)
 
 pub loop_end-grown : (s : Setting) (core : Core) (history : List Entry) (all : Registers) → IsRecorded s core history all
     → core.env.frames ≡ [] → core.env.phase ≡ phase.Live
     → IsRecorded s (record core { env = in_phase phase.Hooks core.env; position = length history + 1 }) (history ++ host_entry host.LoopEnd (out.Ended loop_end.Idle) ∷ []) all
-loop_end-grown s core history all r alone here = shared-grown s core history all r host.LoopEnd (out.Ended loop_end.Idle) phase.Hooks alone (rw (alone, here) refl) refl
+loop_end-grown s core history all r alone here = shared-grown s core history all r host.LoopEnd (out.Ended loop_end.Idle) phase.Hooks alone (rw (alone, here) refl) (λ rss reply. refl)
 
 pub drain-grown : (s : Setting) (core : Core) (history : List Entry) (all : Registers) → IsRecorded s core history all
     → core.env.frames ≡ [] → core.env.phase ≡ phase.Hooks
     → IsRecorded s (record core { env = in_phase phase.Drain core.env; position = length history + 1 }) (history ++ host_entry host.Drain (out.Unsigned 0) ∷ []) all
-drain-grown s core history all r alone here = shared-grown s core history all r host.Drain (out.Unsigned 0) phase.Drain alone (rw (alone, here) refl) refl
+drain-grown s core history all r alone here = shared-grown s core history all r host.Drain (out.Unsigned 0) phase.Drain alone (rw (alone, here) refl) (λ rss reply. refl)
 
 pub finals-grown : (s : Setting) (core : Core) (history : List Entry) (all : Registers) → IsRecorded s core history all
     → core.env.frames ≡ [] → core.env.phase ≡ phase.Drain
     → IsRecorded s (record core { env = in_phase phase.Finals core.env; position = length history + 1 }) (history ++ host_entry host.Finals out.Nothing ∷ []) all
-finals-grown s core history all r alone here = shared-grown s core history all r host.Finals out.Nothing phase.Finals alone (rw (alone, here) refl) refl
+finals-grown s core history all r alone here = shared-grown s core history all r host.Finals out.Nothing phase.Finals alone (rw (alone, here) refl) (λ rss reply. refl)
 
 pub gone-grown : (s : Setting) (core : Core) (history : List Entry) (all : Registers) → IsRecorded s core history all
     → core.env.frames ≡ [] → core.env.phase ≡ phase.Finals
     → IsRecorded s (wrote (gone core.env) core) history all
 gone-grown s core history all r alone here =
-    local-grown s core history all r (ask.Leave None) (gone core.env) r.own all (rw (alone, here) refl) refl (rw alone refl) refl r.count r.agrees (rw here refl) refl
+    local-grown s core history all r (ask.Leave None) (gone core.env) r.own all (rw (alone, here) refl) refl (rw alone refl) refl r.count r.agrees (rw here refl)
 
 -- THE INIT FRAMES
 -- blank registers are those that the run starts from
@@ -193,7 +196,7 @@ opened-recorded s all blank = record {
   limit = refl;
   position = refl;
   rises = (omega arith, omega arith);
-  parted = record { local_ones = refl; shared_ones = refl };
+  parted = refl;
 }
 
 -- the next addon's init frame begins
@@ -201,7 +204,7 @@ pub init-grown : (s : Setting) (core : Core) (history : List Entry) (all : Regis
     → core.env.frames ≡ [] → core.env.phase ≡ phase.Init → core.env.opened ≡ true → nat_lt core.env.inits core.env.addons ≡ true
     → IsRecorded s (wrote (init_begun core.env.inits core.env) core) history all
 init-grown s core history all r alone here opened more =
-    local-grown s core history all r (ask.Leave None) (init_begun core.env.inits core.env) r.own all (rw (alone, here, opened, more) refl) refl (rw alone refl) refl r.count r.agrees refl refl
+    local-grown s core history all r (ask.Leave None) (init_begun core.env.inits core.env) r.own all (rw (alone, here, opened, more) refl) refl (rw alone refl) refl r.count r.agrees refl
 
 -- THE END
 -- a recorded run whose environment is gone came to its end

@@ -38,7 +38,6 @@ use Rattle.napi_types.specs.Refusals.{early_refusal, depth_refusal, refusal}
 use Rattle.napi_types.specs.Registers.{plan_ask, kept, gifted}
 use Rattle.napi_types.specs.Room.{Room, journal_room, room_of, is_full, may_want_memory}
 use Rattle.napi_types.specs.Step.{Step, step, step_of, locally, env_step, frame_step, cut_of, may_cut}
-use Rattle.napi_types.specs.Weave.{is_shared}
 use Rattle.napi_types.specs.Whole.{Setting}
 use Rattle.addon_trait.specs.Addons.{OthersStay}
 use Rattle.env_core.specs.Core.{Core, wrote, next_init, room_in}
@@ -308,7 +307,7 @@ called-grown s core history all ps f fs a c r now of sound stands asking made at
     ∙ ap (λ x. locally m x true) (asked_for-called core.env c k at_once))
     refl (asked-of s ps core history all f fs a stands asking.makes there of rec asking.asked)
     refl next.count next.agrees
-    (ap stage_of (called-keeps core.env c k).phase) refl
+    (ap stage_of (called-keeps core.env c k).phase)
 
 -- the registers of an addon that was given its gifts, and those of the others
 given-there : (all now : Registers) (i : ℕ) (gifts : List ℕ) → i < length all → now ≡ gifts_given all i gifts → registers_of now i ≡ gifted gifts (registers_of all i)
@@ -346,7 +345,7 @@ entered-grown s core history all ps f fs a receiver g args now of sound stands a
     (length-set rec.own i v ∙ rec.count)
     (agrees-set s.plans all now rec.own i v rec.count rec.agrees (others-given all now i gifts (omega (arith, callee, enough)) given)
     (agrees-gifted (plan_of s.plans i) gifts (registers_of all i) (registers_of rec.own i) (registers_of now i) (rec.agrees i inside) (given-there all now i gifts (omega (arith, callee, enough)) given)))
-    (ap stage_of (entered-keeps receiver g args core.env).phase) refl
+    (ap stage_of (entered-keeps receiver g args core.env).phase)
 
 -- the end of a frame, at an ask that its plan gives
 ended-grown : (s : Setting) (core : Core) (history : List Entry) (all : Registers) (ps : List Plan) (f : Frame) (fs : List Frame) (a : Ask) (v : Option HandleId) (cut : Option Why) (now : Registers)
@@ -370,7 +369,6 @@ ended-grown s core history all ps f fs a v cut now of sound stands makes asked n
     (ap (λ w. kept_at s.plans rec.own core.env a x.reply w) e.is)
     kept_now.count kept_now.agrees
     (ap stage_of (ended-keeps v cut core.env).phase)
-    (ap (λ w. not (is_shared w)) e.is)
 
 -- a frame that leaves
 left-grown : (s : Setting) (core : Core) (history : List Entry) (all : Registers) (ps : List Plan) (f : Frame) (fs : List Frame) (a : Ask) (v : Option HandleId) (now : Registers)

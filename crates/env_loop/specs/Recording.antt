@@ -10,11 +10,12 @@ use Rattle.napi_types.specs.declared.status.Status.{Status}
 use Rattle.napi_types.specs.declared.status.Status.TheVariants as status
 use Rattle.napi_types.specs.Environment.{Environment}
 use Rattle.napi_types.specs.Hub.{Hub}
+use Rattle.napi_types.specs.Parting.{IsParted}
 use Rattle.napi_types.specs.Phases.{stage_of}
 use Rattle.napi_types.specs.Machine.{Machine}
 use Rattle.napi_types.specs.Plan.{Plan, plan_of, Registers, registers_of}
-use Rattle.napi_types.specs.Weave.{weave, RisesBetween, IsParted}
-use Rattle.napi_types.specs.Whole.{Setting, RunsBy, EndsBy, final_of, final_registers}
+use Rattle.napi_types.specs.Weave.{weave, RisesBetween}
+use Rattle.napi_types.specs.Whole.{Setting, RunsBy, EndsBy, opening_of, final_of, final_registers}
 use Rattle.env_core.specs.Core.{Core}
 
 -- the hub of a run without other actors: its events so far are told by the phase
@@ -53,7 +54,7 @@ pub record IsRecorded (s : Setting) (core : Core) (history : List Entry) (all : 
   pub limit : core.limit ≡ s.limits.journal
   pub position : core.position ≡ length history
   pub rises : RisesBetween 0 (length history) core.journal
-  pub parted : IsParted core.journal history
+  pub parted : IsParted (opening_of s) asks core.journal history
 
 -- a run that came to its end, as it is left: the weave of the two lists is a run of the script to `gone`, the journal stands in the order of
 -- its places, each list has its own entries, and the registers of the script's addons are the run's
@@ -63,7 +64,7 @@ pub record IsEnded (s : Setting) (journal : List Local) (history : List Entry) (
   pub locals : (final_of s asks (weave journal history)).locals ≡ length journal
   pub shareds : (final_of s asks (weave journal history)).shareds ≡ length history
   pub rises : RisesBetween 0 (length history) journal
-  pub parted : IsParted journal history
+  pub parted : IsParted (opening_of s) asks journal history
   pub agrees : AgreesWith s.plans all (final_registers s asks (weave journal history))
 
 -- why a frame is cut whose call stopped with this status

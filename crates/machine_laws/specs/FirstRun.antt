@@ -1,5 +1,5 @@
 -- The first run: an addon opens a scope, makes an object in it, asks for its kind and closes the scope.
-use Rattle.std.specs.Prelude.{◌≡◌, ℕ, List, [], ◌∷◌, ◌++◌, map, set, take, replicate, codes}
+use Rattle.std.specs.Prelude.{◌≡◌, ℕ, List, [], ◌∷◌, ◌++◌, map, set, take, drop, replicate, codes}
 use Rattle.napi_types.specs.declared.call.Ask.{Ask}
 use Rattle.napi_types.specs.declared.call.Call.TheVariants as call
 use Rattle.napi_types.specs.declared.op.Op.TheVariants as op
@@ -12,12 +12,13 @@ use Rattle.napi_types.specs.declared.entry.Out.TheVariants as out
 use Rattle.napi_types.specs.declared.status.Kind.{Kind}
 use Rattle.napi_types.specs.declared.status.Kind.TheVariants as kind
 use Rattle.napi_types.specs.declared.status.Status.TheVariants as status
+use Rattle.napi_types.specs.Parting.{IsParted}
 use Rattle.napi_types.specs.Plan.{registers_of}
 use Rattle.napi_types.specs.Text.{text}
 use Rattle.napi_types.specs.Texts.{fixed_texts}
 use Rattle.machine_laws.specs.Traces.{script_of, call_at, opening_entries, frame_end, great_events, gone_entry, loop_ended, left_out}
 use Rattle.napi_types.specs.Weave.{weave}
-use Rattle.napi_types.specs.Whole.{Setting, EndsBy, final_registers}
+use Rattle.napi_types.specs.Whole.{Setting, EndsBy, opening_of, final_registers}
 use Rattle.machine_laws.specs.Told.{IsRun, told_asks}
 
 -- the script: the scope's number goes to register 0, the handle's to register 1, the kind's to register 2
@@ -41,9 +42,13 @@ calls =
 abbrev pub local_entry : ℕ → Entry → Local
 local_entry n x = record { at = n; entry = x }
 
--- the journal: all entries up to the frame's end stand before the history's first, and the end of the run behind its last
+-- a journal with these entries before the history's first, and the end of the run at this length of the history
+abbrev pub journal_of : List Entry → ℕ → List Local
+journal_of xs n = map (λ x. local_entry 0 x) xs ++ local_entry n gone_entry ∷ []
+
+-- the journal: all entries up to the frame's end, and the end of the run behind the history's last
 abbrev pub journal : List Local
-journal = map (λ x. local_entry 0 x) (opening_entries ++ calls ++ frame_end ∷ []) ++ local_entry 4 gone_entry ∷ []
+journal = journal_of (opening_entries ++ calls ++ frame_end ∷ []) 4
 
 -- the history: the four events of the hub
 abbrev pub history : List Entry
@@ -80,6 +85,22 @@ Prints = text fixed_texts trace ≡
 -- the addon keeps the scope's number, the handle's, and 6, the number of the kind of an object; its other registers stay 0
 abbrev pub Keeps : Type 0
 Keeps = registers_of (final_registers setting asks trace) 0 ≡ 1 ∷ 1 ∷ 6 ∷ replicate 29 0
+
+-- the same entries on other lists: `go` in the journal, ..
+abbrev pub journal_with_go : List Local
+journal_with_go = journal_of (opening_entries ++ calls ++ frame_end ∷ take 1 great_events) 3
+
+-- .. or the end of the init frame in the history
+abbrev pub journal_without_end : List Local
+journal_without_end = journal_of (opening_entries ++ calls) 5
+
+-- each entry stands on its list, and on no other, though the weave has the same entries in the same order
+pub record IsPartedSo : Type 0 where
+  pub parted : IsParted (opening_of setting) asks journal history
+  pub go_same : weave journal_with_go (drop 1 history) ≡ trace
+  pub go : IsParted (opening_of setting) asks journal_with_go (drop 1 history) → ⊥
+  pub end_same : weave journal_without_end (frame_end ∷ history) ≡ trace
+  pub end : IsParted (opening_of setting) asks journal_without_end (frame_end ∷ history) → ⊥
 
 -- the addon's registers after the first four entries and this one
 abbrev pub registers_with : Entry → List ℕ

@@ -20,6 +20,11 @@ pub fn first_run_registers()
     ensures { first_run.Keeps }
 {}
 
+/// Each entry of the first run stands on its list: `go` not in the journal, the end of the init frame not in the history.
+pub fn first_run_is_parted()
+    ensures { first_run.IsPartedSo }
+{}
+
 /// The reply to a call goes to a register where the environment made its entry, and to none where a thread made one that looks like it.
 pub fn first_run_keeps_own_replies()
     ensures { first_run.KeepsOwnReplies }

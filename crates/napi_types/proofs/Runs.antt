@@ -4,6 +4,8 @@ use Rattle.napi_types.specs.declared.entry.Entry.{Entry}
 use Rattle.napi_types.specs.declared.call.Ask.{Ask}
 use Rattle.napi_types.specs.Machine.{Machine}
 use Rattle.napi_types.specs.Run.{after, IsNext, IsRunBy, final}
+use Rattle.napi_types.specs.Parting.{sides_along}
+use Rattle.napi_types.specs.Step.{step}
 use Rattle.napi_types.specs.Plan.{Plan, Registers, asked, asked_along, registers_along, registers_after}
 
 pub and-left : (a b : Bool) → IsTrue (a && b) → IsTrue a
@@ -49,3 +51,11 @@ registers-more ps rss m [] [] a x r = refl
 registers-more ps rss m (b ∷ bs) (y ∷ ys) a x r = registers-more ps (registers_after ps rss m b y) (after m b y) bs ys a x r.1
 registers-more ps rss m [] (y ∷ ys) a x r = absurd r
 registers-more ps rss m (b ∷ bs) [] a x r = absurd r
+
+-- and so have the lists on which its entries stand
+pub sides-more : (m : Machine) (bs : List Ask) (xs : List Entry) (a : Ask) (x : Entry)
+    → IsRunBy m bs xs → sides_along m (bs ++ a ∷ []) (xs ++ x ∷ []) ≡ sides_along m bs xs ++ (step (final m bs xs) a x).side ∷ []
+sides-more m [] [] a x r = refl
+sides-more m (b ∷ bs) (y ∷ ys) a x r = ap (λ l. (step m b y).side ∷ l) (sides-more (after m b y) bs ys a x r.1)
+sides-more m [] (y ∷ ys) a x r = absurd r
+sides-more m (b ∷ bs) [] a x r = absurd r

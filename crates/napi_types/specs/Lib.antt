@@ -24,6 +24,7 @@ pub mod Names
 pub mod Numbers
 pub mod OtherCalls
 pub mod Owners
+pub mod Parting
 pub mod Phases
 pub mod Plan
 pub mod PropertyCalls

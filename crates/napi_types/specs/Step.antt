@@ -24,26 +24,29 @@ use Rattle.napi_types.specs.Choice.{choice}
 use Rattle.napi_types.specs.Ends.{frame_ended}
 use Rattle.napi_types.specs.Entering.{asked_for}
 use Rattle.napi_types.specs.Loop.{Event, Opens, Inits, Goes, EndsLoop, Drains, FinalsCome, IsGone}
+use Rattle.napi_types.specs.Weave.{Side, Journal, History}
 
--- an entry, the machine after it, and whether it may stand
+-- an entry, the list on which it stands, the machine after it, and whether it may stand
 pub record Step : Type 0 where
   pub entry : Entry
+  pub side : Side
   pub after : Machine
   pub may : Bool
 
 -- nothing may come
 abbrev pub no_step : Machine → Step
-no_step m = record { entry = host_entry host.Gone out.Nothing; after = m; may = false }
+no_step m = record { entry = host_entry host.Gone out.Nothing; side = Journal; after = m; may = false }
 
 -- a local event is one entry more in the journal
 abbrev pub locally : Machine → Change → Bool → Step
-locally m c may = record { entry = c.entry; after = record m { env = c.after; locals = m.locals + 1 }; may = may }
+locally m c may = record { entry = c.entry; side = Journal; after = record m { env = c.after; locals = m.locals + 1 }; may = may }
 
 -- an event of the hub is one entry more in the history, and moves the environment's phase
 abbrev pub hub_moved : Machine → HostStep → Phase → Out → Option Hub → Step
 hub_moved m event p o None = no_step m
 hub_moved m event p o (Some h) = record {
   entry = host_entry event o;
+  side = History;
   after = record m { env = in_phase p m.env; hub = h; shareds = m.shareds + 1 };
   may = true;
 }

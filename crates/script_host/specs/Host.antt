@@ -10,10 +10,11 @@ use Rattle.napi_types.specs.declared.script.Wrong.{Wrong}
 use Rattle.napi_types.specs.declared.script.Wrong.TheVariants as wrong
 use Rattle.napi_types.specs.Edge.{HasRisen, TookFront}
 use Rattle.napi_types.specs.Kept.{KeepsReached}
+use Rattle.napi_types.specs.Parting.{IsParted}
 use Rattle.napi_types.specs.Plan.{Plan, plan_of, registers_of}
 use Rattle.napi_types.specs.Script.{IsNoJson, IsScript, IsWrong, HasWrongShape}
 use Rattle.napi_types.specs.Text.{text}
-use Rattle.napi_types.specs.Weave.{weave, RisesBetween, IsParted}
+use Rattle.napi_types.specs.Weave.{weave, RisesBetween}
 use Rattle.napi_types.specs.Whole.{Setting, EndsBy, opening_of, final_registers}
 use Rattle.script_host.specs.Reading.{longest_source, GaveTooMany}
 use Rattle.env_loop.specs.Recording.{AgreesWhereTold}
@@ -38,7 +39,7 @@ pub record IsRunOf (script : Script) (handed : List Plan) (left : Record) (regis
   pub ended : EndsBy (setting_of script handed) asks (weave left.journal left.history)
   pub collected : KeepsReached (opening_of (setting_of script handed)) asks (weave left.journal left.history)
   pub rises : RisesBetween 0 (length left.history) left.journal
-  pub parted : IsParted left.journal left.history
+  pub parted : IsParted (opening_of (setting_of script handed)) asks left.journal left.history
   pub agrees : (addon : ℕ) → addon < length script.addons → AgreesWhereTold (plan_of (setting_of script handed).plans addon)
       (registers_of registers addon) (registers_of (final_registers (setting_of script handed) asks (weave left.journal left.history)) addon)
 
