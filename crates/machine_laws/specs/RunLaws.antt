@@ -1,5 +1,5 @@
 -- Laws over all runs, and over all stores.
-use Rattle.std.specs.Prelude.{◌≡◌, ℕ, Bool, true, List, None, take, ◌↔◌}
+use Rattle.std.specs.Prelude.{◌≡◌, ℕ, ◌+◌, Bool, true, List, None, take, ◌↔◌}
 use Rattle.napi_types.specs.declared.call.Ask.{Ask}
 use Rattle.napi_types.specs.declared.call.Ask.TheVariants as ask
 use Rattle.napi_types.specs.declared.entry.Actor.{Actor}
@@ -10,9 +10,11 @@ use Rattle.napi_types.specs.Machine.{Machine}
 use Rattle.napi_types.specs.Plan.{Plan, Registers, asked, registers_after}
 use Rattle.napi_types.specs.Reach.{numbers, children_at, reach_from}
 use Rattle.napi_types.specs.Whole.{Setting, RunsBy}
-use Rattle.napi_types.specs.Run.{IsRunBy}
+use Rattle.napi_types.specs.Run.{after, IsNext, IsRunBy}
+use Rattle.napi_types.specs.Step.{step}
 use Rattle.machine_laws.specs.Computing.{ComputesBy}
 use Rattle.napi_types.specs.Values.{Value}
+use Rattle.napi_types.specs.Weave.{Side, Journal, History}
 
 -- a run, and what computes to be one, are the same
 abbrev pub RunsAreComputed : Type 0
@@ -21,6 +23,15 @@ RunsAreComputed = (m : Machine) (bs : List Ask) (xs : List Entry) → (IsRunBy m
 -- what came of a run up to any moment is a run
 abbrev pub FrontsAreRuns : Type 0
 FrontsAreRuns = (s : Setting) (bs : List Ask) (xs : List Entry) (n : ℕ) → RunsBy s bs xs → RunsBy s (take n bs) (take n xs)
+
+-- one entry more on this list, and none on the other
+abbrev pub GrowsOn : Side → Machine → Machine → Type 0
+GrowsOn Journal old new = (new.locals ≡ old.locals + 1) × (new.shareds ≡ old.shareds)
+GrowsOn History old new = (new.shareds ≡ old.shareds + 1) × (new.locals ≡ old.locals)
+
+-- the machine counts each entry on the list on which its step says that it stands
+abbrev pub EntriesCountOnTheirList : Type 0
+EntriesCountOnTheirList = (m : Machine) (a : Ask) (x : Entry) → IsNext m a x → GrowsOn (step m a x).side m (after m a x)
 
 -- an entry of this actor asks nothing of an addon and changes no register, whatever it tells
 pub record LeavesRegisters (who : Actor) : Type 0 where

@@ -1,5 +1,5 @@
 //! Laws over all runs, and over all stores.
-ghost use Rattle.machine_laws.specs.RunLaws.{FrontsAreRuns, RunsAreComputed, OthersLeaveRegisters, ReachIsLeast};
+ghost use Rattle.machine_laws.specs.RunLaws.{FrontsAreRuns, RunsAreComputed, EntriesCountOnTheirList, OthersLeaveRegisters, ReachIsLeast};
 
 /// A run, and what computes to be one, are the same.
 pub fn runs_are_computed()
@@ -9,6 +9,11 @@ pub fn runs_are_computed()
 /// What came of a run up to any moment is a run.
 pub fn fronts_are_runs()
     ensures { FrontsAreRuns }
+{}
+
+/// Each entry is counted on the list on which it stands, and on no other.
+pub fn entries_count_on_their_list()
+    ensures { EntriesCountOnTheirList }
 {}
 
 /// Entries of threads and workers ask nothing of an addon and change no register.
