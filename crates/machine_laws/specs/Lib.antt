@@ -3,10 +3,13 @@ pub mod CallLaws
 pub mod Choices
 pub mod ClosedScope
 pub mod Computing
+pub mod Consistency
+pub mod ConsistencyMisses
 pub mod Cuts
 pub mod Depth
 pub mod EscapeTwice
 pub mod FirstRun
+pub mod HandleLaws
 pub mod MapLaws
 pub mod NamesRun
 pub mod PendingException

@@ -7,6 +7,7 @@ pub mod calls;
 pub mod choices;
 pub mod cuts;
 pub mod function_runs;
+pub mod handles;
 pub mod maps;
 pub mod runs;
 pub mod scope_runs;

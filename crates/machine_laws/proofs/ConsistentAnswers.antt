@@ -1,0 +1,181 @@
+-- Every call keeps environments good.
+use Rattle.std.proofs.Common.{◌≡◌, ◌≤◌, arith, ℕ, ◌==◌, Bool, true, false, cond, not, List, [], ◌∷◌, length, refl, sym, ◌∙◌, Option, Some, None, option_map, slice_index_or}
+use Rattle.std.specs.List.{All}
+use Rattle.std.specs.Option.{IfSome, unwrap_or}
+use Rattle.std.proofs.lemmas.List.Elements.{All-append, All-cons, All-nil, All-head, All-tail, All-filter, All-map, All-weaker}
+use Rattle.std.proofs.lemmas.Option.{IfSome_then}
+use Rattle.napi_types.specs.declared.call.Call.{Call}
+use Rattle.napi_types.specs.declared.call.Call.TheVariants as call
+use Rattle.napi_types.specs.declared.ids.TextNo.{TextNo}
+use Rattle.napi_types.specs.declared.status.Status.{Status}
+use Rattle.napi_types.specs.Calls.{accepted_by, answer_given, answer_at}
+use Rattle.napi_types.specs.Changes.{called}
+use Rattle.napi_types.specs.Environment.{Environment, with_heap}
+use Rattle.napi_types.specs.ExceptionCalls.{with_pending, with_thrown_error}
+use Rattle.napi_types.specs.Frames.{caller_of, most_frames}
+use Rattle.napi_types.specs.Heap.{Heap, handle_value, with_handle, with_thrown, thrown_number}
+use Rattle.napi_types.specs.Lists.{found}
+use Rattle.napi_types.specs.ReferenceCalls.{with_references, counted_up, value_told}
+use Rattle.napi_types.specs.References.{Reference, ReferenceMap, value_of, with_reference, without_reference, with_count}
+use Rattle.napi_types.specs.Refusals.{early_refusal, depth_refusal}
+use Rattle.napi_types.specs.Values.{undefined_value}
+use Rattle.napi_types.proofs.Answers.{KeepsButAsk, called-keeps}
+use Rattle.machine_laws.specs.Consistency.{IsConsistent, IsLive}
+use Rattle.machine_laws.proofs.Collected.{heap-kept, referred-kept, pending-kept}
+use Rattle.machine_laws.proofs.ConsistentCalls.{heap-call, handle-live, or-undefined}
+use Rattle.machine_laws.proofs.ConsistentHeaps.{IsConsistentHeap, HandlesStay, ComesTo, stays, with-handle}
+use Rattle.machine_laws.proofs.ConsistentValues.{with-thrown, thrown-live}
+
+-- what holds of an environment, but what is said of its frames
+pub record IsConsistentButFrames (e : Environment) : Type 0 where
+  pub heap : IsConsistentHeap e.heap
+  pub referred : All (λ r. IfSome r.value (IsLive e.heap.values)) e.references.rows
+  pub pending : IfSome e.pending (IsLive e.heap.values)
+
+-- one environment leads to another, which is good
+pub record LeadsTo (old new : Environment) : Type 0 where
+  pub good : IsConsistentButFrames new
+  pub stay : HandlesStay old.heap new.heap
+
+-- between the parts and the whole
+pub parts-of : (e : Environment) → IsConsistent e → IsConsistentButFrames e
+parts-of e c = record {
+  heap = record { handles = c.handles; values = c.values; held = c.held; children = c.children; starting = c.starting };
+  referred = c.referred;
+  pending = c.pending;
+}
+
+pub whole-of : (e : Environment) → IsConsistentButFrames e → length e.heap.scopes ≡ length e.frames → length e.frames ≤ most_frames → IsConsistent e
+whole-of e g same few = record {
+  handles = g.heap.handles;
+  values = g.heap.values;
+  held = g.heap.held;
+  referred = g.referred;
+  pending = g.pending;
+  children = g.heap.children;
+  starting = g.heap.starting;
+  frames = same;
+  depth = few;
+}
+
+unmoved : (e : Environment) → IsConsistentButFrames e → LeadsTo e e
+unmoved e g = record { good = g; stay = stays e.heap }
+
+-- another heap
+pub in-heap : (e : Environment) (heap : Heap) → IsConsistentButFrames e → ComesTo e.heap heap → LeadsTo e (with_heap e heap)
+in-heap e heap g c =
+    let P : Reference → Type 0 = λ r. IfSome r.value (IsLive e.heap.values) in
+    let Q : Reference → Type 0 = λ r. IfSome r.value (IsLive heap.values) in
+    record {
+      good = record {
+        heap = c.good;
+        referred = All-weaker P Q (λ r h. IfSome_then r.value h c.live) e.references.rows g.referred;
+        pending = IfSome_then e.pending g.pending c.live;
+      };
+      stay = c.stay;
+    }
+
+-- another pending exception
+pub with-pending : (e : Environment) (o : Option ℕ) → IsConsistentButFrames e → IfSome o (IsLive e.heap.values) → IsConsistentButFrames (with_pending o e)
+with-pending e o g live = record { heap = g.heap; referred = g.referred; pending = live }
+
+thrown-good : (e : Environment) (code : Option TextNo) (message : TextNo) → IsConsistentButFrames e → LeadsTo e (with_thrown_error code message e)
+thrown-good e code message g =
+    let heap : Heap = with_thrown code message e.heap in
+    let led : LeadsTo e (with_heap e heap) = in-heap e heap g (with-thrown e.heap code message g.heap) in
+    record { good = with-pending (with_heap e heap) (Some (thrown_number code message e.heap)) led.good (thrown-live e.heap code message); stay = led.stay }
+
+-- REFERENCES
+-- what holds of each reference, told of its value alone
+abbrev OfRows : (Option ℕ → Type 0) → ReferenceMap → Type 0
+OfRows P m = All (λ (r : Reference). P r.value) m.rows
+
+-- each reference of the map is the new one, or one that was there
+rows-more : (P : Option ℕ → Type 0) (n v count : ℕ) (m : ReferenceMap) → P (Some v) → OfRows P m → OfRows P (with_reference n v count m)
+rows-more P n v count m here all = search (here, all, All-append, All-filter, All-cons, All-nil)
+
+-- the value of a reference of the map
+abbrev value_among : ℕ → List Reference → Option ℕ
+value_among n rs = unwrap_or (option_map (λ (r : Reference). r.value) (found (λ (r : Reference). r.number) n rs)) None
+
+rows-fewer : (P : Option ℕ → Type 0) (n : ℕ) (m : ReferenceMap) → OfRows P m → OfRows P (without_reference n m)
+rows-fewer P n m all = All-filter (λ (r : Reference). not (r.number == n)) (λ r. P r.value) m.rows all
+
+rows-counted : (P : Option ℕ → Type 0) (n count : ℕ) (m : ReferenceMap) → OfRows P m → OfRows P (with_count n count m)
+rows-counted P n count m all =
+    let change : Reference → Reference = λ r. cond (r.number == n) (record r { count = count }) r in
+    All-map (λ (r : Reference). P r.value) change m.rows (λ k d below. by (slice_index_or m.rows k d) ((slice_index_or m.rows k d).number == n) (all k d below))
+  where
+    by : (r : Reference) (b : Bool) → P r.value → P (cond b (record r { count = count }) r).value
+    by r true h = h
+    by r false h = h
+
+row-of : (P : Option ℕ → Type 0) (n : ℕ) (rs : List Reference) → P None → All (λ (r : Reference). P r.value) rs → P (value_among n rs)
+row-of P n [] none all = none
+row-of P n (r ∷ rs) none all = by (r.number == n) refl (row-of P n rs none (All-tail (λ (r : Reference). P r.value) r rs all))
+  where
+    by : (b : Bool) → (r.number == n) ≡ b → P (value_among n rs) → P (value_among n (r ∷ rs))
+    by true same later = rw same (All-head (λ (r : Reference). P r.value) r rs all)
+    by false other later = rw other later
+
+-- other references, of live values
+referring : (e : Environment) (m : ReferenceMap) → IsConsistentButFrames e → OfRows (λ o. IfSome o (IsLive e.heap.values)) m → LeadsTo e (with_references m e)
+referring e m g all = record { good = record { heap = g.heap; referred = all; pending = g.pending }; stay = stays e.heap }
+
+counted-good : (e : Environment) (r count : ℕ) → IsConsistentButFrames e → LeadsTo e (with_references (with_count r count e.references) e)
+counted-good e r count g = referring e (with_count r count e.references) g (rows-counted (λ o. IfSome o (IsLive e.heap.values)) r count e.references g.referred)
+
+counted-up-good : (e : Environment) (r : ℕ) (o : Option ℕ) → IsConsistentButFrames e → LeadsTo e (counted_up r e o).after
+counted-up-good e r None g = unmoved e g
+counted-up-good e r (Some v) g = counted-good e r _ g
+
+told-good : (e : Environment) (o : Option ℕ) → IfSome o (IsLive e.heap.values) → IsConsistentButFrames e → LeadsTo e (value_told e o).after
+told-good e None live g = unmoved e g
+told-good e (Some v) live g = in-heap e (with_handle v e.heap) g (with-handle e.heap v g.heap live)
+
+-- CALLS
+by-call : (e : Environment) (c : Call) (k : ℕ) → IsConsistentButFrames e → LeadsTo e (accepted_by e c k).after
+by-call e (call.Throw v) k g = record { good = with-pending e (Some (handle_value e.heap v.0)) g (handle-live e.heap v.0 g.heap); stay = stays e.heap }
+by-call e (call.ThrowError code message) k g = thrown-good e code message g
+by-call e call.IsExceptionPending k g = unmoved e g
+by-call e call.GetLastErrorInfo k g = unmoved e g
+by-call e call.GetAndClearLastException k g =
+    let none : IsConsistentButFrames (with_pending None e) = with-pending e None g tt in
+    let v : ℕ = unwrap_or e.pending undefined_value in
+    let comes : ComesTo e.heap (with_handle v e.heap) = with-handle e.heap v g.heap (or-undefined e.heap e.pending g.heap g.pending) in
+    let led : LeadsTo (with_pending None e) _ = in-heap (with_pending None e) (with_handle v e.heap) none comes in
+    record { good = led.good; stay = led.stay }
+by-call e (call.CreateReference v count) k g =
+    referring e _ g (rows-more (λ o. IfSome o (IsLive e.heap.values)) k (handle_value e.heap v.0) count e.references (handle-live e.heap v.0 g.heap) g.referred)
+by-call e (call.DeleteReference r) k g = referring e _ g (rows-fewer (λ o. IfSome o (IsLive e.heap.values)) r.0 e.references g.referred)
+by-call e (call.ReferenceRef r) k g = counted-up-good e r.0 (value_of e.references r.0) g
+by-call e (call.ReferenceUnref r) k g = counted-good e r.0 _ g
+by-call e (call.GetReferenceValue r) k g =
+    told-good e (value_of e.references r.0) (row-of (λ o. IfSome o (IsLive e.heap.values)) r.0 e.references.rows tt g.referred) g
+by-call e call.Collect k g = record {
+  good = record { heap = heap-kept e g.heap; referred = referred-kept e; pending = pending-kept e e.pending refl g.pending };
+  stay = record { rises = omega arith; held = λ h v below. omega arith };
+}
+by-call e c k g = in-heap e _ g (heap-call (caller_of e.frames) e.heap c k g.heap)
+
+given-good : (e : Environment) (c : Call) (k : ℕ) (s : Option Status) → IsConsistentButFrames e → LeadsTo e (answer_given e c k s).after
+given-good e c k (Some s) g = unmoved e g
+given-good e c k None g = by-call e c k g
+
+at-good : (e : Environment) (c : Call) (k : ℕ) (early deep : Option Status) → IsConsistentButFrames e → LeadsTo e (answer_at e c k early deep).after
+at-good e c k early None g = given-good e c k early g
+at-good e c k (Some r) (Some s) g = unmoved e g
+at-good e c k None (Some s) g = thrown-good e None _ g
+
+-- one environment leads to another, which is consistent
+pub record Follows (old new : Environment) : Type 0 where
+  pub good : IsConsistent new
+  pub stay : HandlesStay old.heap new.heap
+
+pub called-follows : (e : Environment) (c : Call) (k : ℕ) → IsConsistent e → Follows e (called e c k).after
+called-follows e c k old =
+    let led : LeadsTo e _ = at-good e c k (early_refusal e c) (depth_refusal e.frames c) (parts-of e old) in
+    let new : Environment = (called e c k).after in
+    let keeps : KeepsButAsk e new = called-keeps e c k in
+    let good : IsConsistentButFrames new = record { heap = led.good.heap; referred = led.good.referred; pending = led.good.pending } in
+    record { good = whole-of new good (keeps.heap.depth ∙ old.frames ∙ sym keeps.depth) (omega (arith, keeps.depth, old.depth)); stay = led.stay }

@@ -1,0 +1,238 @@
+-- Every step keeps environments consistent, whether or not it may stand, and so does every run.
+use Rattle.std.proofs.Common.{◌≡◌, ◌≤◌, arith, ℕ, zero, suc, ◌+◌, nat_le, true, false, Bool, List, [], ◌∷◌, length, take, refl, sym, ◌∙◌, ap, Option, Some, None}
+use Rattle.std.specs.Option.{option_or}
+use Rattle.std.proofs.lemmas.Bool.{leb-false}
+use Rattle.napi_types.specs.declared.call.Args.{Args}
+use Rattle.napi_types.specs.declared.call.Ask.{Ask}
+use Rattle.napi_types.specs.declared.call.Ask.TheVariants as ask
+use Rattle.napi_types.specs.declared.call.Call.{Call}
+use Rattle.napi_types.specs.declared.call.Call.TheVariants as call
+use Rattle.napi_types.specs.declared.entry.Actor.{Actor}
+use Rattle.napi_types.specs.declared.entry.Actor.TheVariants as actor
+use Rattle.napi_types.specs.declared.entry.Cause.{Cause}
+use Rattle.napi_types.specs.declared.entry.Cause.TheVariants as cause
+use Rattle.napi_types.specs.declared.entry.Entry.{Entry}
+use Rattle.napi_types.specs.declared.entry.HostStep.{HostStep}
+use Rattle.napi_types.specs.declared.entry.HostStep.TheVariants as host
+use Rattle.napi_types.specs.declared.entry.Out.{Out}
+use Rattle.napi_types.specs.declared.entry.Out.TheVariants as out
+use Rattle.napi_types.specs.declared.entry.Phase.{Phase}
+use Rattle.napi_types.specs.declared.entry.Phase.TheVariants as phase
+use Rattle.napi_types.specs.declared.entry.Why.{Why}
+use Rattle.napi_types.specs.declared.ids.HandleId.{HandleId}
+use Rattle.napi_types.specs.declared.status.Status.{Status}
+use Rattle.napi_types.specs.declared.status.Status.TheVariants as status
+use Rattle.napi_types.specs.Built.{taken}
+use Rattle.napi_types.specs.Changes.{opened, init_begun, gone, in_phase, number_of}
+use Rattle.napi_types.specs.Ends.{ended_by, call_left, frame_ended}
+use Rattle.napi_types.specs.Entering.{entered, calling, asked_for}
+use Rattle.napi_types.specs.Environment.{Environment}
+use Rattle.napi_types.specs.Frames.{Frame, cause_of, most_frames, ask_counted}
+use Rattle.napi_types.specs.FunctionCalls.{left_value, with_receiver}
+use Rattle.napi_types.specs.Heap.{Heap, with_handle, frame_entered, frame_left}
+use Rattle.napi_types.specs.Hub.{Hub, hub_next}
+use Rattle.napi_types.specs.Lists.{first_changed, tail, when}
+use Rattle.napi_types.specs.Loop.{Event, Opens, Inits, Goes, EndsLoop, Drains, FinalsCome, IsGone}
+use Rattle.napi_types.specs.Machine.{Machine}
+use Rattle.napi_types.specs.Refusals.{refusal, early_refusal, depth_refusal}
+use Rattle.napi_types.specs.Run.{after, final}
+use Rattle.napi_types.specs.Step.{Step, hub_moved, event_step, chosen, asked_step, frame_step, env_step, step_of, cut_of}
+use Rattle.napi_types.specs.Values.{undefined_value}
+use Rattle.machine_laws.specs.Consistency.{IsConsistent, IsLive}
+use Rattle.machine_laws.proofs.ConsistentAnswers.{IsConsistentButFrames, Follows, parts-of, whole-of, in-heap, called-follows}
+use Rattle.machine_laws.proofs.ConsistentCalls.{handle-live}
+use Rattle.machine_laws.proofs.ConsistentHeaps.{IsConsistentHeap, ComesTo, HandlesStay, stays, stays-then, and-then, unchanged, with-handle, with-frame, without-frame}
+
+length-changed : {A : Type 0} (f : A → A) (xs : List A) → length (first_changed f xs) ≡ length xs
+length-changed f [] = refl
+length-changed f (x ∷ xs) = refl
+
+length-tail : {A B : Type 0} (xs : List A) (ys : List B) → length xs ≡ length ys → length (tail xs) ≡ length (tail ys)
+length-tail [] [] h = refl
+length-tail [] (y ∷ ys) h = absurd (omega (arith, h))
+length-tail (x ∷ xs) [] h = absurd (omega (arith, h))
+length-tail (x ∷ xs) (y ∷ ys) h = omega (arith, h)
+
+tail-shorter : {A : Type 0} (xs : List A) → length (tail xs) ≤ length xs
+tail-shorter [] = omega arith
+tail-shorter (x ∷ xs) = omega arith
+
+-- nothing of this changes
+pub same-follows : (e : Environment) → IsConsistent e → Follows e e
+same-follows e c = record { good = c; stay = stays e.heap }
+
+then-follows : (a b c : Environment) → Follows a b → Follows b c → Follows a c
+then-follows a b c one two = record { good = two.good; stay = stays-then a.heap b.heap c.heap one.stay two.stay }
+
+-- THE END OF A FRAME
+-- a frame ends, its heap is left for another, and an exception that is pending may be cleared
+ended-follows : (e : Environment) (heap : Heap) (pending : Option ℕ) (s : Status) → IsConsistent e → ComesTo e.heap heap
+    → length heap.scopes ≡ length (tail e.heap.scopes) → IsConsistentButFrames (record e { heap = heap; pending = pending })
+    → Follows e (record e { heap = heap; frames = tail e.frames; pending = pending; last = s })
+ended-follows e heap pending s c comes same g =
+    let new : Environment = record e { heap = heap; frames = tail e.frames; pending = pending; last = s } in
+    let good : IsConsistentButFrames new = record { heap = g.heap; referred = g.referred; pending = g.pending } in
+    record {
+      good = whole-of new good (same ∙ length-tail e.heap.scopes e.frames c.frames) (omega (arith, tail-shorter e.frames, c.depth));
+      stay = comes.stay;
+    }
+
+-- .. where it stays pending
+kept-ended : (e : Environment) (heap : Heap) (s : Status) → IsConsistent e → ComesTo e.heap heap → length heap.scopes ≡ length (tail e.heap.scopes)
+    → Follows e (record e { heap = heap; frames = tail e.frames; last = s })
+kept-ended e heap s c comes same =
+    let g : IsConsistentButFrames (record e { heap = heap }) = (in-heap e heap (parts-of e c) comes).good in
+    ended-follows e heap e.pending s c comes same (record { heap = g.heap; referred = g.referred; pending = g.pending })
+
+left-live : (e : Environment) (v : Option HandleId) → IsConsistentHeap e.heap → IsLive e.heap.values (left_value e.heap v)
+left-live e None g = g.starting 0 0 (omega arith)
+left-live e (Some h) g = handle-live e.heap h.0 g
+
+left-follows : (v : Option HandleId) (e : Environment) (pending : Option ℕ) → IsConsistent e → Follows e (call_left v e pending).after
+left-follows v e (Some p) c = kept-ended e (frame_left e.heap) status.PendingException c (without-frame e.heap (parts-of e c).heap) refl
+left-follows v e None c =
+    let good : IsConsistentHeap e.heap = (parts-of e c).heap in
+    let left : ComesTo e.heap (frame_left e.heap) = without-frame e.heap good in
+    let heap : Heap = with_handle (left_value e.heap v) (frame_left e.heap) in
+    let given : ComesTo (frame_left e.heap) heap = with-handle (frame_left e.heap) (left_value e.heap v) left.good (left-live e v good) in
+    kept-ended e heap status.Ok c (and-then e.heap (frame_left e.heap) heap left given) (length-changed _ (tail e.heap.scopes))
+
+by-cause : (v : Option HandleId) (cut : Option Why) (e : Environment) (why : Cause) → IsConsistent e → Follows e (ended_by v cut e why).after
+by-cause v (Some w) e cause.Call c = kept-ended e (frame_left e.heap) status.GenericFailure c (without-frame e.heap (parts-of e c).heap) refl
+by-cause v None e cause.Call c = left-follows v e e.pending c
+by-cause v cut e _ c =
+    let left : ComesTo e.heap (frame_left e.heap) = without-frame e.heap (parts-of e c).heap in
+    let g : IsConsistentButFrames (record e { heap = frame_left e.heap }) = (in-heap e (frame_left e.heap) (parts-of e c) left).good in
+    ended-follows e (frame_left e.heap) None e.last c left refl (record { heap = g.heap; referred = g.referred; pending = tt })
+
+frame-follows : (v : Option HandleId) (cut : Option Why) (e : Environment) → IsConsistent e → Follows e (frame_ended v cut e).after
+frame-follows v cut e c = by-cause v cut e (cause_of e.frames) c
+
+-- THE BEGIN OF A FRAME
+with-receiver : (heap : Heap) (receiver : Option HandleId) → IsConsistentHeap heap → ComesTo heap (with_receiver receiver heap)
+with-receiver heap None g = with-handle heap undefined_value g (g.starting 0 0 (omega arith))
+with-receiver heap (Some h) g = unchanged heap g
+
+length-receiver : (heap : Heap) (receiver : Option HandleId) → length (with_receiver receiver heap).scopes ≡ length heap.scopes
+length-receiver heap None = length-changed _ heap.scopes
+length-receiver heap (Some h) = refl
+
+none-last : (a b : Option Status) → option_or a b ≡ None → b ≡ None
+none-last None b h = h
+none-last (Some s) b h = cc
+
+not-when : (b : Bool) (s : Status) → when b s ≡ None → b ≡ false
+not-when true s h = cc
+not-when false s h = refl
+
+-- a function is called only where a frame more may stand
+below-limit : (e : Environment) (receiver : Option HandleId) (f : HandleId) (args : Args) → refusal e (call.CallFunction receiver f args) ≡ None
+    → length e.frames + 1 ≤ most_frames
+below-limit e receiver f args h =
+    let c : Call = call.CallFunction receiver f args in
+    let no_refusal : depth_refusal e.frames c ≡ None = none-last (early_refusal e c) (depth_refusal e.frames c) h in
+    let shallow : nat_le most_frames (length e.frames) ≡ false = not-when (nat_le most_frames (length e.frames)) status.PendingException no_refusal in
+    omega (arith, leb-false most_frames (length e.frames) shallow)
+
+entered-follows : (e : Environment) (receiver : Option HandleId) (f : HandleId) (args : Args) → refusal e (call.CallFunction receiver f args) ≡ None
+    → IsConsistent e → Follows e (entered receiver f args e).after
+entered-follows e receiver f args h c =
+    let g : IsConsistentButFrames e = parts-of e c in
+    let frame : ComesTo e.heap (frame_entered e.heap) = with-frame e.heap g.heap in
+    let heap : Heap = with_receiver receiver (frame_entered e.heap) in
+    let comes : ComesTo e.heap heap = and-then e.heap (frame_entered e.heap) heap frame (with-receiver (frame_entered e.heap) receiver frame.good) in
+    let led : IsConsistentButFrames (record e { heap = heap }) = (in-heap e heap g comes).good in
+    let new : Environment = (entered receiver f args e).after in
+    let good : IsConsistentButFrames new = record { heap = led.heap; referred = led.referred; pending = led.pending } in
+    let asks : length (ask_counted e.frames) ≡ length e.frames = length-changed _ e.frames in
+    let scopes : length heap.scopes ≡ length (frame_entered e.heap).scopes = length-receiver (frame_entered e.heap) receiver in
+    record {
+      good = whole-of new good (omega (arith, scopes, c.frames, asks)) (omega (arith, below-limit e receiver f args h, asks));
+      stay = comes.stay;
+    }
+
+calling-follows : (e : Environment) (receiver : Option HandleId) (f : HandleId) (args : Args) (k : ℕ) (s : Option Status)
+    → refusal e (call.CallFunction receiver f args) ≡ s → IsConsistent e → Follows e (calling receiver f args k e s).after
+calling-follows e receiver f args k None h c = entered-follows e receiver f args h c
+calling-follows e receiver f args k (Some s) h c = called-follows e (call.CallFunction receiver f args) k c
+
+asked-follows : (e : Environment) (c : Call) (k : ℕ) → IsConsistent e → Follows e (asked_for e c k).after
+asked-follows e (call.CallFunction receiver f args) k c = calling-follows e receiver f args k (refusal e (call.CallFunction receiver f args)) refl c
+asked-follows e c k old = called-follows e c k old
+
+-- EVENTS WITH NO FRAME
+-- what is neither heap, references, pending exception nor frames may change
+other-follows : (e new : Environment) → IsConsistentButFrames new → length new.heap.scopes ≡ length e.heap.scopes → length new.frames ≡ length e.frames
+    → HandlesStay e.heap new.heap → IsConsistent e → Follows e new
+other-follows e new g scopes frames stay c = record { good = whole-of new g (scopes ∙ c.frames ∙ sym frames) (omega (arith, frames, c.depth)); stay = stay }
+
+init-follows : (e : Environment) (n : ℕ) → e.frames ≡ [] → IsConsistent e → Follows e (init_begun n e).after
+init-follows e n none c =
+    let g : IsConsistentButFrames e = parts-of e c in
+    let frame : ComesTo e.heap (frame_entered e.heap) = with-frame e.heap g.heap in
+    let led : IsConsistentButFrames (record e { heap = frame_entered e.heap }) = (in-heap e (frame_entered e.heap) g frame).good in
+    let new : Environment = (init_begun n e).after in
+    let good : IsConsistentButFrames new = record { heap = led.heap; referred = led.referred; pending = led.pending } in
+    record { good = whole-of new good (ap suc c.frames) (omega (arith, ap length none)); stay = frame.stay }
+
+-- STEPS
+abbrev StepFollows : Machine → Step → Type 0
+StepFollows m s = Follows m.env s.after.env
+
+hub-follows : (m : Machine) (event : HostStep) (p : Phase) (o : Out) (h : Option Hub) → IsConsistent m.env → StepFollows m (hub_moved m event p o h)
+hub-follows m event p o None c = same-follows m.env c
+hub-follows m event p o (Some h) c =
+    let g : IsConsistentButFrames m.env = parts-of m.env c in
+    other-follows m.env (in_phase p m.env) (record { heap = g.heap; referred = g.referred; pending = g.pending }) refl refl (stays m.env.heap) c
+
+event-follows : (m : Machine) (event : Event) → m.env.frames ≡ [] → IsConsistent m.env → StepFollows m (event_step m event)
+event-follows m Opens none c =
+    let g : IsConsistentButFrames m.env = parts-of m.env c in
+    other-follows m.env (opened m.env).after (record { heap = g.heap; referred = g.referred; pending = g.pending }) refl refl (stays m.env.heap) c
+event-follows m (Inits n) none c = init-follows m.env n none c
+event-follows m Goes none c = hub-follows m host.Go phase.Live out.Nothing (hub_next m.hub host.Go) c
+event-follows m (EndsLoop w) none c = hub-follows m host.LoopEnd phase.Hooks (out.Ended w) (hub_next m.hub host.LoopEnd) c
+event-follows m Drains none c = hub-follows m host.Drain phase.Drain (out.Unsigned 0) (hub_next m.hub host.Drain) c
+event-follows m FinalsCome none c = hub-follows m host.Finals phase.Finals out.Nothing (hub_next m.hub host.Finals) c
+event-follows m IsGone none c =
+    let g : IsConsistentButFrames m.env = parts-of m.env c in
+    other-follows m.env (gone m.env).after (record { heap = g.heap; referred = g.referred; pending = g.pending }) refl refl (stays m.env.heap) c
+
+chosen-follows : (m : Machine) (event : Option Event) → m.env.frames ≡ [] → IsConsistent m.env → StepFollows m (chosen m event)
+chosen-follows m None none c = same-follows m.env c
+chosen-follows m (Some event) none c = event-follows m event none c
+
+asked-step-follows : (m : Machine) (a : Ask) (o : Out) → IsConsistent m.env → StepFollows m (asked_step m a o)
+asked-step-follows m (ask.Do call) o c = asked-follows m.env call (number_of o) c
+asked-step-follows m (ask.Leave v) o c = frame-follows v None m.env c
+
+frame-step-follows : (m : Machine) (a : Ask) (o : Out) (cut : Option Why) → IsConsistent m.env → StepFollows m (frame_step m a o cut)
+frame-step-follows m a o None c = asked-step-follows m a o c
+frame-step-follows m a o (Some w) c = frame-follows None (Some w) m.env c
+
+env-step-follows : (m : Machine) (a : Ask) (o : Out) (fs : List Frame) → m.env.frames ≡ fs → IsConsistent m.env → StepFollows m (env_step m a o fs)
+env-step-follows m a o [] none c = chosen-follows m _ none c
+env-step-follows m a o (f ∷ fs) is c = frame-step-follows m (taken a) o (cut_of o) c
+
+step-follows : (m : Machine) (a : Ask) (x : Entry) (who : Actor) → IsConsistent m.env → StepFollows m (step_of m a x who)
+step-follows m a x actor.Env c = env-step-follows m a x.reply.out m.env.frames refl c
+step-follows m a x (actor.Thread t) c = same-follows m.env c
+step-follows m a x (actor.Worker w) c = same-follows m.env c
+
+-- RUNS
+pub run-follows : (m : Machine) (bs : List Ask) (xs : List Entry) → IsConsistent m.env → Follows m.env (final m bs xs).env
+run-follows m (a ∷ bs) (x ∷ xs) c =
+    let one : Follows m.env (after m a x).env = step-follows m a x x.actor c in
+    then-follows m.env (after m a x).env (final (after m a x) bs xs).env one (run-follows (after m a x) bs xs one.good)
+run-follows m [] xs c = same-follows m.env c
+run-follows m (a ∷ bs) [] c = same-follows m.env c
+
+-- from each moment to each later one
+pub later-follows : (m : Machine) (bs : List Ask) (xs : List Entry) (i j : ℕ) → i ≤ j → IsConsistent m.env
+    → Follows (final m (take i bs) (take i xs)).env (final m (take j bs) (take j xs)).env
+later-follows m bs xs zero j below c = run-follows m (take j bs) (take j xs) c
+later-follows m bs xs (suc i) zero below c = absurd (omega (arith, below))
+later-follows m (a ∷ bs) (x ∷ xs) (suc i) (suc j) below c =
+    later-follows (after m a x) bs xs i j (omega (arith, below)) (step-follows m a x x.actor c).good
+later-follows m [] xs (suc i) (suc j) below c = same-follows m.env c
+later-follows m (a ∷ bs) [] (suc i) (suc j) below c = same-follows m.env c

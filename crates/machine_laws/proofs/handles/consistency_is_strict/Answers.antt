@@ -1,0 +1,57 @@
+use Rattle.std.proofs.Common.{arith, [], ◌∷◌, refl, Some}
+use Rattle.std.proofs.lemmas.Bool.{false≢true}
+use Rattle.napi_types.specs.declared.body.Body.TheVariants as body
+use Rattle.napi_types.specs.Environment.{Environment}
+use Rattle.napi_types.specs.Frames.{most_frames}
+use Rattle.napi_types.specs.Heap.{new_heap, with_handle, frame_entered}
+use Rattle.napi_types.specs.Values.{undefined_value, null_value, fresh_value}
+use Rattle.machine_laws.specs.Consistency.{IsConsistent}
+use Rattle.machine_laws.specs.ConsistencyMisses.{IsStrict, standing, holding, two_held, deep}
+use Rattle.machine_laws.proofs.ConsistentRuns.{new-heap-good}
+use Rattle.machine_laws.proofs.Counting.{distinct-times, none-issued}
+use Rattle.machine_laws.proofs.ConsistentAnswers.{whole-of}
+use Rattle.machine_laws.proofs.ConsistentHeaps.{IsConsistentHeap, ComesTo, with-handle, with-frame}
+use Rattle.machine_laws.proofs.handles.consistency_is_strict.Goals as goal
+
+two-good : IsConsistentHeap (holding two_held)
+two-good =
+    let one : ComesTo new_heap (frame_entered new_heap) = with-frame new_heap new-heap-good in
+    let two : ComesTo _ (with_handle undefined_value (frame_entered new_heap)) = with-handle (frame_entered new_heap) undefined_value one.good refl in
+    (with-handle (with_handle undefined_value (frame_entered new_heap)) null_value two.good refl).good
+
+two-fit : IsConsistent (standing (holding two_held))
+two-fit =
+    let e : Environment = standing (holding two_held) in
+    whole-of e (record { heap = two-good; referred = λ k d below. absurd (omega (arith, below)); pending = tt }) refl (omega arith)
+
+deep-good : IsConsistentHeap (deep most_frames).heap
+deep-good = record {
+  handles = none-issued 0;
+  values = new-heap-good.values;
+  held = λ k d below. absurd (omega (arith, below));
+  children = new-heap-good.children;
+  starting = new-heap-good.starting;
+}
+
+deep-fit : IsConsistent (deep most_frames)
+deep-fit = whole-of (deep most_frames) (record { heap = deep-good; referred = λ k d below. absurd (omega (arith, below)); pending = tt }) refl (omega arith)
+
+law : IsStrict
+law = record {
+  fits = two-fit;
+  fits_deep = deep-fit;
+  twice = λ v w c. absurd (omega (arith, distinct-times 1 (1 ∷ 1 ∷ []) c.handles.apart));
+  unissued = λ c. absurd (omega (arith, (c.handles.within 1 0 (omega arith)).1));
+  doubled = λ c. absurd (omega (arith, distinct-times 2 (1 ∷ 2 ∷ 3 ∷ 4 ∷ 5 ∷ 2 ∷ []) c.values.apart));
+  unmade = λ c. absurd (omega (arith, (c.values.within 5 0 (omega arith)).1));
+  held = λ c. false≢true (c.held 0 0 (omega arith));
+  referred = λ c. false≢true (c.referred 0 (record { number = 1; value = Some 6; count = 0 }) (omega arith));
+  pending = λ c. false≢true c.pending;
+  child = λ c. false≢true (c.children 5 (fresh_value 1 body.Undefined) (omega arith) 0 0 (omega arith));
+  starting = λ c. false≢true (c.starting 0 0 (omega arith));
+  scopes = λ c. absurd (omega (arith, c.frames));
+  depth = λ c. absurd (omega (arith, c.depth));
+}
+
+pub returns : goal.returns
+returns c = law

@@ -1,0 +1,42 @@
+-- What holds of the environment at every moment of a run.
+use Rattle.std.specs.Prelude.{◌≡◌, ◌<◌, ◌≤◌, ℕ, nat_eq, true, List, length, map}
+use Rattle.std.specs.List.{All, IsDistinct}
+use Rattle.std.specs.Option.{IfSome}
+use Rattle.napi_types.specs.Environment.{Environment}
+use Rattle.napi_types.specs.Frames.{most_frames}
+use Rattle.napi_types.specs.Lists.{has_number}
+use Rattle.napi_types.specs.Reach.{numbers}
+use Rattle.napi_types.specs.Scopes.{FrameScopes, held_by_frames}
+use Rattle.napi_types.specs.Values.{Value, children, starting_values}
+
+-- these numbers were issued, where numbers are issued from 1 to the last one: each is one of those, and none stands twice
+pub record AreIssued (last : ℕ) (ns : List ℕ) : Type 0 where
+  pub apart : IsDistinct nat_eq ns
+  pub within : All (λ n. (0 < n) × (n ≤ last)) ns
+
+-- the handles that the open scopes of all frames hold, and the creation numbers of their values
+abbrev pub held_handles : List FrameScopes → List ℕ
+held_handles fs = map (λ h. h.handle) (held_by_frames fs)
+
+abbrev pub held_values : List FrameScopes → List ℕ
+held_values fs = map (λ h. h.value) (held_by_frames fs)
+
+-- one of the values has the creation number
+abbrev pub IsLive : List Value → ℕ → Type 0
+IsLive vs n = has_number n (numbers vs) ≡ true
+
+-- handles, values and frames fit together
+pub record IsConsistent (e : Environment) : Type 0 where
+  -- the handles in open scopes were issued, each once, and so were the creation numbers of the values
+  pub handles : AreIssued e.heap.handles (held_handles e.heap.scopes)
+  pub values : AreIssued e.heap.made (numbers e.heap.values)
+  -- the value of a handle in an open scope is live, and so is what a reference refers to, and the pending exception
+  pub held : All (IsLive e.heap.values) (held_values e.heap.scopes)
+  pub referred : All (λ r. IfSome r.value (IsLive e.heap.values)) e.references.rows
+  pub pending : IfSome e.pending (IsLive e.heap.values)
+  -- what the properties and elements of a value name is live, and so are the starting values
+  pub children : All (λ v. All (IsLive e.heap.values) (children v)) e.heap.values
+  pub starting : All (IsLive e.heap.values) (numbers starting_values)
+  -- each frame that stands has its scopes, and no more stand than may
+  pub frames : length e.heap.scopes ≡ length e.frames
+  pub depth : length e.frames ≤ most_frames

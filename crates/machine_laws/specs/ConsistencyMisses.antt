@@ -1,0 +1,64 @@
+-- Environments that are consistent, and near misses, each of which misses one fact.
+use Rattle.std.specs.Prelude.{ℕ, ◌+◌, List, [], ◌∷◌, ◌++◌, Some, replicate}
+use Rattle.napi_types.specs.declared.body.Body.TheVariants as body
+use Rattle.napi_types.specs.declared.entry.Cause.TheVariants as cause
+use Rattle.napi_types.specs.Environment.{Environment, new_environment}
+use Rattle.napi_types.specs.Frames.{Frame, frame_of, most_frames}
+use Rattle.napi_types.specs.Heap.{Heap, new_heap}
+use Rattle.napi_types.specs.References.{with_reference, no_references}
+use Rattle.napi_types.specs.Scopes.{Held, no_handles}
+use Rattle.napi_types.specs.Values.{undefined_value, null_value, starting_values, fresh_value, array_of}
+use Rattle.machine_laws.specs.Consistency.{IsConsistent}
+
+-- a handle of this number to a value
+abbrev pub handle_to : ℕ → ℕ → Held
+handle_to value handle = record { handle = handle; value = value }
+
+-- the frame of an addon's init
+abbrev pub init_frame : Frame
+init_frame = frame_of cause.Init 0 0
+
+-- a heap in which one frame's own scope holds these handles, and two handles were issued
+abbrev pub holding : List Held → Heap
+holding hs = record new_heap { scopes = record { own = hs; opened = [] } ∷ []; handles = 2 }
+
+-- an environment with such a heap, and one frame
+abbrev pub standing : Heap → Environment
+standing heap = record (new_environment 1 3) { heap = heap; frames = init_frame ∷ [] }
+
+-- two handles, of undefined and of null
+abbrev pub two_held : List Held
+two_held = handle_to undefined_value 1 ∷ handle_to null_value 2 ∷ []
+
+-- the number after the starting values', which no value has
+abbrev pub no_value : ℕ
+no_value = 6
+
+-- an environment with so many frames, each with its scopes
+abbrev pub deep : ℕ → Environment
+deep n = record (new_environment 1 3) { heap = record new_heap { scopes = replicate n no_handles }; frames = replicate n init_frame }
+
+-- near misses are not consistent
+pub record IsStrict : Type 0 where
+  -- two handles of two values are consistent, and so are as many frames as may stand
+  pub fits : IsConsistent (standing (holding two_held))
+  pub fits_deep : IsConsistent (deep most_frames)
+  -- no handle stands twice, not of one value either, and none was not issued
+  pub twice : (v w : ℕ) → IsConsistent (standing (holding (handle_to v 1 ∷ handle_to w 1 ∷ []))) → ⊥
+  pub unissued : IsConsistent (standing (holding (handle_to undefined_value 1 ∷ handle_to null_value 3 ∷ []))) → ⊥
+  -- no value stands twice, and none was not made
+  pub doubled : IsConsistent (standing (record (holding two_held) { values = starting_values ++ fresh_value null_value body.Null ∷ [] })) → ⊥
+  pub unmade : IsConsistent (standing (record (holding two_held) { values = starting_values ++ fresh_value no_value body.Null ∷ [] })) → ⊥
+  -- what a handle holds, a reference refers to, is pending or is a child is no number that no value has
+  pub held : IsConsistent (standing (holding (handle_to no_value 1 ∷ []))) → ⊥
+  pub referred : IsConsistent (record (standing (holding two_held)) { references = with_reference 1 no_value 0 no_references }) → ⊥
+  pub pending : IsConsistent (record (standing (holding two_held)) { pending = Some no_value }) → ⊥
+  pub child : IsConsistent (standing (record (holding two_held) {
+    values = starting_values ++ array_of no_value ((no_value + 1) ∷ []) ∷ [];
+    made = no_value;
+  })) → ⊥
+  -- a starting value is there
+  pub starting : IsConsistent (standing (record (holding []) { values = [] })) → ⊥
+  -- no frame is without scopes, and one more than may stand does not
+  pub scopes : IsConsistent (standing new_heap) → ⊥
+  pub depth : IsConsistent (deep (most_frames + 1)) → ⊥
