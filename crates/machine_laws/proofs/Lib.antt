@@ -17,4 +17,5 @@ mod LiveNumbers
 mod Misses
 mod Naming
 mod Rows
+mod StableHandles
 mod Unordered

@@ -1,11 +1,29 @@
 -- Laws of handles: with values and frames they fit together at every moment of a run, and each gives one value throughout.
-use Rattle.std.specs.Prelude.{List}
+use Rattle.std.specs.Prelude.{◌≡◌, ℕ, true, List, take, Some, None, IsSome}
 use Rattle.napi_types.specs.declared.call.Ask.{Ask}
+use Rattle.napi_types.specs.declared.call.Call.{Call}
 use Rattle.napi_types.specs.declared.entry.Entry.{Entry}
+use Rattle.napi_types.specs.Environment.{Environment}
+use Rattle.napi_types.specs.Lists.{has_number}
+use Rattle.napi_types.specs.Refusals.{handles_of, refusal}
 use Rattle.napi_types.specs.Run.{IsRunBy}
+use Rattle.napi_types.specs.Scopes.{FrameScopes, gives}
 use Rattle.napi_types.specs.Whole.{Setting, opening_of, final_of}
 use Rattle.machine_laws.specs.Consistency.{IsConsistent}
 
 -- the environment after a run is consistent, and so it is at every moment, since what came of a run up to any moment is a run
 abbrev pub EnvironmentsAreConsistent : Type 0
 EnvironmentsAreConsistent = (s : Setting) (bs : List Ask) (xs : List Entry) → IsRunBy (opening_of s) bs xs → IsConsistent (final_of s bs xs).env
+
+-- a handle that an accepted call names lies in an open scope
+abbrev pub AcceptedHandlesAreOpen : Type 0
+AcceptedHandlesAreOpen = (e : Environment) (c : Call) (h : ℕ) → refusal e c ≡ None → has_number h (handles_of c) ≡ true → IsSome (gives e.heap.scopes h)
+
+-- the scopes of all frames after the first n entries of a run
+abbrev pub scopes_at : Setting → List Ask → List Entry → ℕ → List FrameScopes
+scopes_at s bs xs n = (final_of s (take n bs) (take n xs)).env.heap.scopes
+
+-- at any two moments of a run at which an open scope holds a handle, it gives the same value
+abbrev pub HandlesAreStable : Type 0
+HandlesAreStable = (s : Setting) (bs : List Ask) (xs : List Entry) (i j : ℕ) (h v w : ℕ) → IsRunBy (opening_of s) bs xs
+    → gives (scopes_at s bs xs i) h ≡ Some v → gives (scopes_at s bs xs j) h ≡ Some w → v ≡ w

@@ -1,0 +1,45 @@
+use Rattle.std.proofs.Common.{◌≡◌, ℕ, ◌==◌, Bool, true, false, List, [], ◌∷◌, Option, Some, None, refl, subst, is_some}
+use Rattle.std.specs.List.{list_all}
+use Rattle.std.specs.Option.{option_or}
+use Rattle.std.proofs.lemmas.Bool.{eqb-true, and_parts}
+use Rattle.napi_types.specs.declared.status.Status.{Status}
+use Rattle.napi_types.specs.declared.status.Status.TheVariants as status
+use Rattle.napi_types.specs.Lists.{has_number, unless}
+use Rattle.napi_types.specs.Refusals.{handles_of, is_known, unknown_refusal, kind_refusal, row_refusal, refusal_in, reference_refusal, timely_refusal, moment_refusal, early_refusal, depth_refusal}
+use Rattle.napi_types.specs.Scopes.{gives}
+use Rattle.machine_laws.specs.HandleLaws.{AcceptedHandlesAreOpen}
+use Rattle.machine_laws.proofs.handles.accepted_handles_are_open.Goals as goal
+
+none-first : (a b : Option Status) → option_or a b ≡ None → a ≡ None
+none-first None b h = refl
+none-first (Some s) b h = h
+
+none-last : (a b : Option Status) → option_or a b ≡ None → b ≡ None
+none-last None b h = h
+none-last (Some s) b h = cc
+
+not-unless : (b : Bool) (s : Status) → unless b s ≡ None → b ≡ true
+not-unless true s h = refl
+not-unless false s h = cc
+
+-- what is true of all numbers of a list is true of each that it has
+of-all : (p : ℕ → Bool) (n : ℕ) (ns : List ℕ) → list_all p ns ≡ true → has_number n ns ≡ true → p n ≡ true
+of-all p n [] all there = cc
+of-all p n (m ∷ ns) all there = by (m == n) refl there (of-all p n ns (and_parts (p m) (list_all p ns) all).1)
+  where
+    by : (b : Bool) → (m == n) ≡ b → has_number n (m ∷ ns) ≡ true → (has_number n ns ≡ true → p n ≡ true) → p n ≡ true
+    by true same h later = subst (λ k. p k ≡ true) (eqb-true m n same) (and_parts (p m) (list_all p ns) all).0
+    by false other h later = later (rw other at h)
+
+law : AcceptedHandlesAreOpen
+law e c h accepted there =
+    let early : early_refusal e c ≡ None = none-first (early_refusal e c) (depth_refusal e.frames c) accepted in
+    let timely : timely_refusal e c ≡ None = none-last (moment_refusal e c) (timely_refusal e c) early in
+    let within : refusal_in e.texts e.heap c ≡ None = none-last (reference_refusal e.references c) (refusal_in e.texts e.heap c) timely in
+    let own : Option Status = option_or (kind_refusal e.heap c) (row_refusal e.heap c) in
+    let unknown : unknown_refusal e.texts e.heap c ≡ None = none-first (unknown_refusal e.texts e.heap c) own within in
+    let known : is_known e.texts e.heap c ≡ true = not-unless (is_known e.texts e.heap c) status.InvalidArg unknown in
+    of-all (λ k. is_some (gives e.heap.scopes k)) h (handles_of c) (and_parts (list_all (λ k. is_some (gives e.heap.scopes k)) (handles_of c)) _ known).0 there
+
+pub returns : goal.returns
+returns c = law
