@@ -29,6 +29,10 @@ abbrev pub told_number : ℕ → Out → ℕ
 told_number d (out.Unsigned n) = n
 told_number d _ = d
 
+abbrev pub told_handle : ℕ → Out → ℕ
+told_handle d (out.Handle h) = h.0
+told_handle d _ = d
+
 abbrev pub told_flag : Bool → Out → Bool
 told_flag d (out.Flag b) = b
 told_flag d _ = d

@@ -12,6 +12,7 @@ pub mod FirstRun
 pub mod HandleLaws
 pub mod MapLaws
 pub mod NamesRun
+pub mod NextHandle
 pub mod PendingException
 pub mod ReferenceCounts
 pub mod RunLaws

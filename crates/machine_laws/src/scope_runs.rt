@@ -4,6 +4,7 @@ ghost use Rattle.machine_laws.specs.ScopeOrder as scope_order;
 ghost use Rattle.machine_laws.specs.ClosedScope as closed_scope;
 ghost use Rattle.machine_laws.specs.EscapeTwice as escape_twice;
 ghost use Rattle.machine_laws.specs.StaleHandle as stale_handle;
+ghost use Rattle.machine_laws.specs.NextHandle as next_handle;
 
 /// The first run: the entries are a run of its script and come to its end.
 pub fn first_run_ends()
@@ -93,4 +94,19 @@ pub fn stale_handle_prints()
 /// The refused call has no other status, and it is the last one, also after it was asked for.
 pub fn stale_handle_is_strict()
     ensures { stale_handle.IsStrict }
+{}
+
+/// A handle that is made after the scope of another closed: the entries are a run of their script and come to its end.
+pub fn next_handle_ends()
+    ensures { next_handle.Ends }
+{}
+
+/// The text of that run, line by line.
+pub fn next_handle_prints()
+    ensures { next_handle.Prints }
+{}
+
+/// The handle has the next number, and not again that of the one before.
+pub fn next_handle_is_strict()
+    ensures { next_handle.IsStrict }
 {}

@@ -1,5 +1,4 @@
 use Rattle.std.proofs.Common.{◌≡◌, ℕ, ap, set, refl}
-use Rattle.napi_types.specs.declared.entry.Out.{Out}
 use Rattle.napi_types.specs.declared.entry.Out.TheVariants as out
 use Rattle.napi_types.specs.declared.status.Kind.TheVariants as kind
 use Rattle.napi_types.specs.declared.status.Status.{Status}
@@ -7,16 +6,11 @@ use Rattle.napi_types.specs.declared.status.Status.TheVariants as status
 use Rattle.machine_laws.specs.EscapeTwice.{setting, trace, escape, escape_again, outside, within}
 use Rattle.machine_laws.specs.Told.{IsRun}
 use Rattle.machine_laws.proofs.Asks.{told-run}
-use Rattle.machine_laws.proofs.Misses.{entry_at}
+use Rattle.machine_laws.proofs.Misses.{entry_at, told_handle}
 use Rattle.machine_laws.proofs.scope_runs.escape_twice_is_strict.Goals as goal
 
--- the number of the handle that a result tells
-abbrev told_handle : Out → ℕ
-told_handle (out.Handle h) = h.0
-told_handle _ = 0
-
 next-handle : (h : ℕ) → IsRun setting (set trace 4 (escape h)) → h ≡ 2
-next-handle h r = ap (λ xs. told_handle (entry_at 4 xs).reply.out) (told-run setting (set trace 4 (escape h)) refl r)
+next-handle h r = ap (λ xs. told_handle h (entry_at 4 xs).reply.out) (told-run setting (set trace 4 (escape h)) refl r)
 
 no-handle : (s : Status) (h : ℕ) → IsRun setting (set trace 5 (escape_again s (out.Handle (record { 0 = h })))) → ⊥
 no-handle s h r =
