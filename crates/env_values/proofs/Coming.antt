@@ -1,5 +1,5 @@
 -- What a call comes to, of an addon.
-use Rattle.std.proofs.Common.{◌≡◌, ◌∙◌, ℕ, Option, None, ap}
+use Rattle.std.proofs.Common.{◌≡◌, ◌∙◌, ℕ, Option, None, ap, sym, subst}
 use Rattle.std.specs.Option.{unwrap_or}
 use Rattle.std.specs.declared.result.Result.{Result}
 use Rattle.std.specs.declared.result.Result.TheVariants.{Ok, Err}
@@ -14,8 +14,13 @@ use Rattle.env_values.specs.declared.stop.Stop.TheVariants as stop
 use Rattle.env_values.specs.Steps.{Comes, ComesOf}
 
 -- a call that creates no function comes to the same, whichever addon calls
-pub comes-of-any : (texts addon : ℕ) (before : Heap) (c : Call) (r : Result Out Stop) (after : Heap) → on_functions addon before c ≡ None → Comes texts before c r after
+comes-of-any : (texts addon : ℕ) (before : Heap) (c : Call) (r : Result Out Stop) (after : Heap) → on_functions addon before c ≡ None → Comes texts before c r after
     → ComesOf texts addon before c r after
 comes-of-any texts addon before c (Ok o) after none (unrefused, is) = (unrefused, ap (λ (a : Option (Answer Heap)). unwrap_or a (accepted before c 0)) none ∙ is)
 comes-of-any texts addon before c (Err (stop.Refused s)) after none comes = comes
 comes-of-any texts addon before c (Err stop.NoMemory) after none comes = comes
+
+-- the same, where the call is this one
+pub comes-of : (texts addon : ℕ) (before : Heap) (k c : Call) (r : Result Out Stop) (after : Heap) → k ≡ c → on_functions addon before c ≡ None → Comes texts before c r after
+    → ComesOf texts addon before k r after
+comes-of texts addon before k c r after is none comes = subst (λ (x : Call). ComesOf texts addon before x r after) (sym is) (comes-of-any texts addon before c r after none comes)

@@ -18,3 +18,14 @@ is_creating call.CreateArray = true
 is_creating (call.CreateFunction _ _) = true
 is_creating (call.CreateError _ _) = true
 is_creating _ = false
+
+-- the calls that tell what one value is
+abbrev pub is_telling : Call → Bool
+is_telling (call.Typeof _) = true
+is_telling (call.IsArray _) = true
+is_telling (call.IsError _) = true
+is_telling (call.GetValueInt64 _) = true
+is_telling (call.GetValueBigintInt64 _) = true
+is_telling (call.GetValueBool _) = true
+is_telling (call.GetValueStringUtf8 _) = true
+is_telling _ = false

@@ -1,4 +1,5 @@
 pub mod Creating
+pub mod Keeping
 pub mod Numbering
 pub mod Seen
 pub mod Steps

@@ -31,22 +31,20 @@ pub record IsValueOf (store : StoreState) (scopes : HandleScopes) (h : ℕ) (v :
   pub body : IsStored store v
   pub seen : value_at (heap_of store scopes).values (number_in store v.id.0) ≡ option_map (renamed store) (value_of store v.id.0)
 
--- what a call that only reads comes to: its result where nothing refuses it, or else the first refusal
-abbrev pub Reads : ℕ → Heap → Call → Result Out Status → Type 0
-Reads texts heap c (Ok o) = (refusal_in texts heap c ≡ None) × (accepted heap c 0 ≡ answered o heap)
-Reads texts heap c (Err s) = refusal_in texts heap c ≡ Some s
+-- what a call comes to, where an accepted one has this answer: its result where nothing refuses it, and the heap that it leaves; or the first refusal; or want of
+-- memory. The last two leave the heap as it was
+abbrev pub ComesBy : (Heap → Call → ℕ → Answer Heap) → ℕ → Heap → Call → Result Out Stop → Heap → Type 0
+ComesBy answer texts before c (Ok o) after = (refusal_in texts before c ≡ None) × (answer before c 0 ≡ answered o after)
+ComesBy answer texts before c (Err (stop.Refused s)) after = (refusal_in texts before c ≡ Some s) × (after ≡ before)
+ComesBy answer texts before c (Err stop.NoMemory) after = IsTrue (is_growing c) × (after ≡ before)
 
--- what a call comes to: its result where nothing refuses it, and the heap that it leaves; or the first refusal; or want of memory. The last two leave the heap as it was
+-- a call that creates no function
 abbrev pub Comes : ℕ → Heap → Call → Result Out Stop → Heap → Type 0
-Comes texts before c (Ok o) after = (refusal_in texts before c ≡ None) × (accepted before c 0 ≡ answered o after)
-Comes texts before c (Err (stop.Refused s)) after = (refusal_in texts before c ≡ Some s) × (after ≡ before)
-Comes texts before c (Err stop.NoMemory) after = IsTrue (is_growing c) × (after ≡ before)
+Comes texts before c r after = ComesBy accepted texts before c r after
 
--- the same of a call of this addon
+-- a call of this addon
 abbrev pub ComesOf : ℕ → ℕ → Heap → Call → Result Out Stop → Heap → Type 0
-ComesOf texts addon before c (Ok o) after = (refusal_in texts before c ≡ None) × (accepted_of addon before c 0 ≡ answered o after)
-ComesOf texts addon before c (Err (stop.Refused s)) after = (refusal_in texts before c ≡ Some s) × (after ≡ before)
-ComesOf texts addon before c (Err stop.NoMemory) after = IsTrue (is_growing c) × (after ≡ before)
+ComesOf texts addon before c r after = ComesBy (accepted_of addon) texts before c r after
 
 -- what gives a handle comes to: this answer and what it leaves; or want of memory, which leaves the heap as it was
 abbrev pub Gives : Answer Heap → Heap → Result Out NoMemory → Heap → Type 0

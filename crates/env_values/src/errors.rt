@@ -1,10 +1,11 @@
 //! Errors: what makes one of values, and the call that does.
-ghost use Rattle.std.specs.Prelude.{◌≡◌, ◌≢◌, ◌+◌, ◌<◌, ◌^◌, ◌++◌, [], ◌∷◌, length, option_map, IfSome, IfOk, OnOk, OnErr};
+ghost use Rattle.std.specs.Prelude.{◌≡◌, ℕ, ◌≢◌, ◌+◌, ◌<◌, ◌^◌, ◌++◌, [], ◌∷◌, length, option_map, IfSome, IfOk, OnOk, OnErr};
 ghost use Rattle.napi_types.specs.Graph.{IsLive, number_in, graph_of};
 ghost use Rattle.napi_types.specs.Heap.{new_error};
 ghost use Rattle.napi_types.specs.Values.{error_of, thrown_strings, thrown_of};
 ghost use Rattle.value_store.specs.Changes.{MakesValue};
-ghost use Rattle.env_values.specs.Seen.{heap_of, HoldsLive, KeepsValues};
+ghost use Rattle.env_values.specs.Keeping.{CanMake, KeepsHeap};
+ghost use Rattle.env_values.specs.Seen.{heap_of, KeepsValues};
 ghost use Rattle.env_values.specs.Steps.{Comes, Gives};
 
 use crate::known::{recall, text, value_of_handle};
@@ -65,18 +66,13 @@ fn give_error(
     code: Option<ValueId>,
     message: ValueId,
 ) -> Result<Out, NoMemory>
-    requires standing { scopes.old.frames ≢ [] }
-    requires live { HoldsLive store.old scopes.old }
+    requires able { CanMake 1 store.old scopes.old }
     requires code { IfSome code (λ c. IsLive store.old c.0) }
     requires message { IsLive store.old message.0 }
-    requires values { store.old.made + 2 < 2 ^ 48 }
-    requires handles { scopes.old.handles < 2 ^ 62 }
     ensures gives { let before = heap_of store.old scopes.old in
         let answer = new_error (option_map (λ c. number_in store.old c.0) code) (number_in store.old message.0) before in
         Gives answer before result (heap_of store.new scopes.new) }
-    ensures live { HoldsLive store.new scopes.new }
-    ensures calls { scopes.new.by_call ≡ scopes.old.by_call }
-    ensures kept { KeepsValues store.old store.new }
+    ensures keeps { KeepsHeap store.old scopes.old store.new scopes.new }
 {
     scopes.reserve()?;
     recall(store);
@@ -88,19 +84,12 @@ fn give_error(
 pub(crate) fn create_error(
     store: &mut Store,
     scopes: &mut Scopes,
-    texts: u32,
     code: Option<HandleId>,
     message: HandleId,
 ) -> Result<Out, Stop>
-    requires standing { scopes.old.frames ≢ [] }
-    requires live { HoldsLive store.old scopes.old }
-    requires values { store.old.made + 2 < 2 ^ 48 }
-    requires handles { scopes.old.handles < 2 ^ 62 }
-    ensures comes { let before = heap_of store.old scopes.old in
-        Comes texts before (Call.CreateError code message) result (heap_of store.new scopes.new) }
-    ensures live { HoldsLive store.new scopes.new }
-    ensures calls { scopes.new.by_call ≡ scopes.old.by_call }
-    ensures kept { KeepsValues store.old store.new }
+    requires able { CanMake 1 store.old scopes.old }
+    ensures comes { (texts : ℕ) → Comes texts (heap_of store.old scopes.old) (Call.CreateError code message) result (heap_of store.new scopes.new) }
+    ensures keeps { KeepsHeap store.old scopes.old store.new scopes.new }
 {
     match code {
         None => {

@@ -2,7 +2,8 @@
 ghost use Rattle.std.specs.Prelude.{◌≡◌, ◌≢◌, ◌+◌, ◌<◌, ◌≤◌, ◌^◌, [], length, IfOk, OnOk, OnErr};
 ghost use Rattle.napi_types.specs.Graph.{IsLive, number_in};
 ghost use Rattle.napi_types.specs.Heap.{handle_of, new_value, new_list};
-ghost use Rattle.env_values.specs.Seen.{heap_of, HoldsLive, KeepsValues};
+ghost use Rattle.env_values.specs.Keeping.{CanGive, CanMake, KeepsScopes, KeepsHeap};
+ghost use Rattle.env_values.specs.Seen.{heap_of};
 ghost use Rattle.env_values.specs.Steps.{Gives};
 
 use crate::known::recall;
@@ -12,14 +13,11 @@ use value_store::Store;
 
 /// A new handle of a value.
 pub(crate) fn give(store: &Store, scopes: &mut Scopes, value: ValueId) -> Result<Out, NoMemory>
-    requires standing { scopes.old.frames ≢ [] }
-    requires live { HoldsLive store.now scopes.old }
+    requires give { CanGive store.now scopes.old }
     requires value { IsLive store.now value.0 }
-    requires handles { scopes.old.handles < 2 ^ 62 }
     ensures gives { let before = heap_of store.now scopes.old in
         Gives (handle_of (number_in store.now value.0) before) before result (heap_of store.now scopes.new) }
-    ensures live { HoldsLive store.now scopes.new }
-    ensures calls { scopes.new.by_call ≡ scopes.old.by_call }
+    ensures keeps { KeepsScopes scopes.old store.now scopes.new }
 {
     let _ = store;
     Ok(Out::Handle(scopes.issue(value)?))
@@ -27,15 +25,10 @@ pub(crate) fn give(store: &Store, scopes: &mut Scopes, value: ValueId) -> Result
 
 /// A new value, and its handle. The place of the handle is taken first, so that a value is made only where its handle can be.
 pub(crate) fn give_new(store: &mut Store, scopes: &mut Scopes, body: Body) -> Result<Out, NoMemory>
-    requires standing { scopes.old.frames ≢ [] }
-    requires live { HoldsLive store.old scopes.old }
-    requires values { store.old.made + 2 < 2 ^ 48 }
-    requires handles { scopes.old.handles < 2 ^ 62 }
+    requires able { CanMake 1 store.old scopes.old }
     ensures gives { let before = heap_of store.old scopes.old in
         Gives (new_value body before) before result (heap_of store.new scopes.new) }
-    ensures live { HoldsLive store.new scopes.new }
-    ensures calls { scopes.new.by_call ≡ scopes.old.by_call }
-    ensures kept { KeepsValues store.old store.new }
+    ensures keeps { KeepsHeap store.old scopes.old store.new scopes.new }
 {
     scopes.reserve()?;
     // A value that a scope holds has another number than a new one.
@@ -47,13 +40,10 @@ pub(crate) fn give_new(store: &mut Store, scopes: &mut Scopes, body: Body) -> Re
 /// A new handle of a starting value, by its place in their order: undefined, null, true, false, the global object.
 pub(crate) fn give_starting(store: &Store, scopes: &mut Scopes, which: u32) -> Result<Out, NoMemory>
     requires which { which < 5 }
-    requires standing { scopes.old.frames ≢ [] }
-    requires live { HoldsLive store.now scopes.old }
-    requires handles { scopes.old.handles < 2 ^ 62 }
+    requires give { CanGive store.now scopes.old }
     ensures gives { let before = heap_of store.now scopes.old in
         Gives (handle_of (which + 1) before) before result (heap_of store.now scopes.new) }
-    ensures live { HoldsLive store.now scopes.new }
-    ensures calls { scopes.new.by_call ≡ scopes.old.by_call }
+    ensures keeps { KeepsScopes scopes.old store.now scopes.new }
 {
     let value = store.starting(which);
     give(store, scopes, value)
@@ -67,15 +57,10 @@ pub(crate) fn create_function(
     entry: u32,
     payload: u64,
 ) -> Result<Out, NoMemory>
-    requires standing { scopes.old.frames ≢ [] }
-    requires live { HoldsLive store.old scopes.old }
-    requires values { store.old.made + 2 < 2 ^ 48 }
-    requires handles { scopes.old.handles < 2 ^ 62 }
+    requires able { CanMake 1 store.old scopes.old }
     ensures gives { let before = heap_of store.old scopes.old in
         Gives (new_value (Body.Function addon entry payload) before) before result (heap_of store.new scopes.new) }
-    ensures live { HoldsLive store.new scopes.new }
-    ensures calls { scopes.new.by_call ≡ scopes.old.by_call }
-    ensures kept { KeepsValues store.old store.new }
+    ensures keeps { KeepsHeap store.old scopes.old store.new scopes.new }
 {
     let function = Body::Function {
         addon,

@@ -1,11 +1,12 @@
 //! The names of an object's properties.
-ghost use Rattle.std.specs.Prelude.{◌≡◌, ◌≢◌, ◌+◌, ◌<◌, ◌≤◌, ◌^◌, [], true, false, length, nat_lt, IfOk, IfErr, OnOk};
+ghost use Rattle.std.specs.Prelude.{◌≡◌, ℕ, ◌≢◌, ◌+◌, ◌<◌, ◌≤◌, ◌^◌, [], true, false, length, nat_lt, IfOk, IfErr, OnOk};
 ghost use Rattle.napi_types.specs.Heap.{new_list};
 ghost use Rattle.napi_types.specs.PropertyCalls.{names_of};
 ghost use Rattle.napi_types.specs.Values.{most_names};
 ghost use Rattle.value_store.specs.Changes.{properties_in};
 ghost use Rattle.env_values.specs.Numbering.{HasNumbersLeft};
-ghost use Rattle.env_values.specs.Seen.{heap_of, HoldsLive, KeepsValues};
+ghost use Rattle.env_values.specs.Keeping.{CanGive, CanMake, KeepsHeap};
+ghost use Rattle.env_values.specs.Seen.{heap_of};
 ghost use Rattle.env_values.specs.Steps.{Comes, Gives};
 
 use crate::known::{object_like, recall, value_of_handle};
@@ -45,15 +46,10 @@ fn listable(store: &Store, id: ValueId) -> Result<(), Status>
 /// A new array of new values, and its handle. The place of the handle is taken first.
 fn give_list(store: &mut Store, scopes: &mut Scopes, bodies: &[Body]) -> Result<Out, NoMemory>
     requires count { length bodies.now ≤ most_names }
-    requires standing { scopes.old.frames ≢ [] }
-    requires live { HoldsLive store.old scopes.old }
-    requires values { store.old.made + length bodies.now + 2 < 2 ^ 48 }
-    requires handles { scopes.old.handles < 2 ^ 62 }
+    requires able { CanMake (length bodies.now + 1) store.old scopes.old }
     ensures gives { let before = heap_of store.old scopes.old in
         Gives (new_list bodies.now before) before result (heap_of store.new scopes.new) }
-    ensures live { HoldsLive store.new scopes.new }
-    ensures calls { scopes.new.by_call ≡ scopes.old.by_call }
-    ensures kept { KeepsValues store.old store.new }
+    ensures keeps { KeepsHeap store.old scopes.old store.new scopes.new }
 {
     scopes.reserve()?;
     recall(store);
@@ -66,18 +62,12 @@ pub(crate) fn get_property_names(
     alloc: Global,
     store: &mut Store,
     scopes: &mut Scopes,
-    texts: u32,
     object: HandleId,
 ) -> Result<Out, Stop>
-    requires standing { scopes.old.frames ≢ [] }
-    requires live { HoldsLive store.old scopes.old }
+    requires give { CanGive store.old scopes.old }
     requires values { HasNumbersLeft store.old }
-    requires handles { scopes.old.handles < 2 ^ 62 }
-    ensures comes { let before = heap_of store.old scopes.old in
-        Comes texts before (Call.GetPropertyNames object) result (heap_of store.new scopes.new) }
-    ensures live { HoldsLive store.new scopes.new }
-    ensures calls { scopes.new.by_call ≡ scopes.old.by_call }
-    ensures kept { KeepsValues store.old store.new }
+    ensures comes { (texts : ℕ) → Comes texts (heap_of store.old scopes.old) (Call.GetPropertyNames object) result (heap_of store.new scopes.new) }
+    ensures keeps { KeepsHeap store.old scopes.old store.new scopes.new }
 {
     let object = value_of_handle(store, scopes, object)?;
     object_like(object.body)?;

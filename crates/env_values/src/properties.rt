@@ -1,7 +1,8 @@
 //! The calls that set and remove properties and elements.
-ghost use Rattle.std.specs.Prelude.{◌≡◌, ◌≤◌, true, false, nat_lt, IfOk, IfErr, OnOk};
+ghost use Rattle.std.specs.Prelude.{◌≡◌, ℕ, ◌≤◌, true, false, nat_lt, IfOk, IfErr, OnOk};
 ghost use Rattle.napi_types.specs.Values.{most_index};
-ghost use Rattle.env_values.specs.Seen.{heap_of, HoldsLive, KeepsValues};
+ghost use Rattle.env_values.specs.Keeping.{KeepsHeap};
+ghost use Rattle.env_values.specs.Seen.{heap_of, HoldsLive};
 ghost use Rattle.env_values.specs.Steps.{Comes};
 
 use crate::known::{known_text, object_like, value_of_handle};
@@ -22,8 +23,7 @@ pub(crate) fn set_named_property(
     requires { HoldsLive store.old scopes.now }
     ensures comes { let before = heap_of store.old scopes.now in
         Comes texts before (Call.SetNamedProperty object name value) result (heap_of store.new scopes.now) }
-    ensures live { HoldsLive store.new scopes.now }
-    ensures kept { KeepsValues store.old store.new }
+    ensures keeps { KeepsHeap store.old scopes.now store.new scopes.now }
 {
     let object = value_of_handle(store, scopes, object)?;
     let value = value_of_handle(store, scopes, value)?;
@@ -44,8 +44,7 @@ pub(crate) fn delete_property(
     requires { HoldsLive store.old scopes.now }
     ensures comes { let before = heap_of store.old scopes.now in
         Comes texts before (Call.DeleteProperty object name) result (heap_of store.new scopes.now) }
-    ensures live { HoldsLive store.new scopes.now }
-    ensures kept { KeepsValues store.old store.new }
+    ensures keeps { KeepsHeap store.old scopes.now store.new scopes.now }
 {
     let object = value_of_handle(store, scopes, object)?;
     known_text(name, texts)?;
@@ -75,16 +74,13 @@ fn settable_index(index: u64) -> Result<u32, Status>
 pub(crate) fn set_element(
     store: &mut Store,
     scopes: &Scopes,
-    texts: u32,
     object: HandleId,
     index: u64,
     value: HandleId,
 ) -> Result<Out, Stop>
     requires { HoldsLive store.old scopes.now }
-    ensures comes { let before = heap_of store.old scopes.now in
-        Comes texts before (Call.SetElement object index value) result (heap_of store.new scopes.now) }
-    ensures live { HoldsLive store.new scopes.now }
-    ensures kept { KeepsValues store.old store.new }
+    ensures comes { (texts : ℕ) → Comes texts (heap_of store.old scopes.now) (Call.SetElement object index value) result (heap_of store.new scopes.now) }
+    ensures keeps { KeepsHeap store.old scopes.now store.new scopes.now }
 {
     let object = value_of_handle(store, scopes, object)?;
     let value = value_of_handle(store, scopes, value)?;

@@ -1,123 +1,65 @@
 //! The calls that tell what a value is.
-ghost use Rattle.std.specs.Prelude.{◌≡◌};
+ghost use Rattle.std.specs.Prelude.{◌≡◌, ℕ, true};
 ghost use Rattle.env_values.specs.Seen.{heap_of, HoldsLive};
-ghost use Rattle.env_values.specs.Steps.{Reads};
+ghost use Rattle.env_values.specs.Creating.{is_telling};
+ghost use Rattle.env_values.specs.Steps.{Comes, ComesOf};
 
 use crate::known::{
     array, bigint, boolean, element, equals_strictly, is_array_value, is_error_value, known_text,
     number, object_like, text, value_of_handle,
 };
+use crate::stop::Stop;
 use handle_scope::Scopes;
-use napi_types::{Call, HandleId, Out, Status, TextNo};
+use napi_types::{Call, HandleId, Out, TextNo};
 use value_store::Store;
 
-/// `typeof`: the kind of a value.
-pub(crate) fn type_of(
-    store: &Store,
-    scopes: &Scopes,
-    texts: u32,
-    value: HandleId,
-) -> Result<Out, Status>
-    requires { HoldsLive store.now scopes.now }
-    ensures { Reads texts (heap_of store.now scopes.now) (Call.Typeof value) result }
+/// The calls that tell what one value is: `typeof`, `is_array`, `is_error` and `get_value_*`.
+pub(crate) fn tell(store: &Store, scopes: &Scopes, call: &Call) -> Result<Out, Stop>
+    requires telling { is_telling call.now ≡ true }
+    requires live { HoldsLive store.now scopes.now }
+    ensures comes { let heap = heap_of store.now scopes.now in (texts addon : ℕ) → ComesOf texts addon heap call.now result heap }
 {
-    let value = value_of_handle(store, scopes, value)?;
-    Ok(Out::Kind(value.body.kind()))
-}
-
-/// `get_value_int64`: the whole number that a number is.
-pub(crate) fn get_value_int64(
-    store: &Store,
-    scopes: &Scopes,
-    texts: u32,
-    value: HandleId,
-) -> Result<Out, Status>
-    requires { HoldsLive store.now scopes.now }
-    ensures { Reads texts (heap_of store.now scopes.now) (Call.GetValueInt64 value) result }
-{
-    let value = value_of_handle(store, scopes, value)?;
-    Ok(Out::Signed(number(value.body)?))
-}
-
-/// `is_array`: whether a value is an array.
-pub(crate) fn is_array(
-    store: &Store,
-    scopes: &Scopes,
-    texts: u32,
-    value: HandleId,
-) -> Result<Out, Status>
-    requires { HoldsLive store.now scopes.now }
-    ensures { Reads texts (heap_of store.now scopes.now) (Call.IsArray value) result }
-{
-    let value = value_of_handle(store, scopes, value)?;
-    Ok(Out::Flag(is_array_value(value.body)))
-}
-
-/// `is_error`: whether a value was created as an error.
-pub(crate) fn is_error(
-    store: &Store,
-    scopes: &Scopes,
-    texts: u32,
-    value: HandleId,
-) -> Result<Out, Status>
-    requires { HoldsLive store.now scopes.now }
-    ensures { Reads texts (heap_of store.now scopes.now) (Call.IsError value) result }
-{
-    let value = value_of_handle(store, scopes, value)?;
-    Ok(Out::Flag(is_error_value(value.body)))
-}
-
-/// `get_value_bigint_int64`: the whole number that a bigint is.
-pub(crate) fn get_value_bigint_int64(
-    store: &Store,
-    scopes: &Scopes,
-    texts: u32,
-    value: HandleId,
-) -> Result<Out, Status>
-    requires { HoldsLive store.now scopes.now }
-    ensures { Reads texts (heap_of store.now scopes.now) (Call.GetValueBigintInt64 value) result }
-{
-    let value = value_of_handle(store, scopes, value)?;
-    Ok(Out::Signed(bigint(value.body)?))
-}
-
-/// `get_value_bool`: the flag that a boolean is.
-pub(crate) fn get_value_bool(
-    store: &Store,
-    scopes: &Scopes,
-    texts: u32,
-    value: HandleId,
-) -> Result<Out, Status>
-    requires { HoldsLive store.now scopes.now }
-    ensures { Reads texts (heap_of store.now scopes.now) (Call.GetValueBool value) result }
-{
-    let value = value_of_handle(store, scopes, value)?;
-    Ok(Out::Flag(boolean(value.body)?))
-}
-
-/// `get_value_string_utf8`: the text of a string.
-pub(crate) fn get_value_string_utf8(
-    store: &Store,
-    scopes: &Scopes,
-    texts: u32,
-    value: HandleId,
-) -> Result<Out, Status>
-    requires { HoldsLive store.now scopes.now }
-    ensures { Reads texts (heap_of store.now scopes.now) (Call.GetValueStringUtf8 value) result }
-{
-    let value = value_of_handle(store, scopes, value)?;
-    Ok(Out::Text(text(value.body)?))
+    match *call {
+        Call::Typeof(value) => {
+            let value = value_of_handle(store, scopes, value)?;
+            Ok(Out::Kind(value.body.kind()))
+        }
+        Call::IsArray(value) => {
+            let value = value_of_handle(store, scopes, value)?;
+            Ok(Out::Flag(is_array_value(value.body)))
+        }
+        Call::IsError(value) => {
+            let value = value_of_handle(store, scopes, value)?;
+            Ok(Out::Flag(is_error_value(value.body)))
+        }
+        Call::GetValueInt64(value) => {
+            let value = value_of_handle(store, scopes, value)?;
+            Ok(Out::Signed(number(value.body)?))
+        }
+        Call::GetValueBigintInt64(value) => {
+            let value = value_of_handle(store, scopes, value)?;
+            Ok(Out::Signed(bigint(value.body)?))
+        }
+        Call::GetValueBool(value) => {
+            let value = value_of_handle(store, scopes, value)?;
+            Ok(Out::Flag(boolean(value.body)?))
+        }
+        Call::GetValueStringUtf8(value) => {
+            let value = value_of_handle(store, scopes, value)?;
+            Ok(Out::Text(text(value.body)?))
+        }
+        _ => unreachable!(),
+    }
 }
 
 /// `get_array_length`: how many elements an array has, holes counted.
 pub(crate) fn get_array_length(
     store: &Store,
     scopes: &Scopes,
-    texts: u32,
     value: HandleId,
-) -> Result<Out, Status>
+) -> Result<Out, Stop>
     requires { HoldsLive store.now scopes.now }
-    ensures { Reads texts (heap_of store.now scopes.now) (Call.GetArrayLength value) result }
+    ensures comes { let heap = heap_of store.now scopes.now in (texts : ℕ) → Comes texts heap (Call.GetArrayLength value) result heap }
 {
     let value = value_of_handle(store, scopes, value)?;
     array(value.body)?;
@@ -128,12 +70,11 @@ pub(crate) fn get_array_length(
 pub(crate) fn strict_equals(
     store: &Store,
     scopes: &Scopes,
-    texts: u32,
     left: HandleId,
     right: HandleId,
-) -> Result<Out, Status>
+) -> Result<Out, Stop>
     requires { HoldsLive store.now scopes.now }
-    ensures { Reads texts (heap_of store.now scopes.now) (Call.StrictEquals left right) result }
+    ensures comes { let heap = heap_of store.now scopes.now in (texts : ℕ) → Comes texts heap (Call.StrictEquals left right) result heap }
 {
     let left = value_of_handle(store, scopes, left)?;
     let right = value_of_handle(store, scopes, right)?;
@@ -147,9 +88,9 @@ pub(crate) fn has_named_property(
     texts: u32,
     object: HandleId,
     name: TextNo,
-) -> Result<Out, Status>
+) -> Result<Out, Stop>
     requires { HoldsLive store.now scopes.now }
-    ensures { Reads texts (heap_of store.now scopes.now) (Call.HasNamedProperty object name) result }
+    ensures comes { let heap = heap_of store.now scopes.now in Comes texts heap (Call.HasNamedProperty object name) result heap }
 {
     let object = value_of_handle(store, scopes, object)?;
     known_text(name, texts)?;
@@ -161,12 +102,11 @@ pub(crate) fn has_named_property(
 pub(crate) fn has_element(
     store: &Store,
     scopes: &Scopes,
-    texts: u32,
     object: HandleId,
     index: u64,
-) -> Result<Out, Status>
+) -> Result<Out, Stop>
     requires { HoldsLive store.now scopes.now }
-    ensures { Reads texts (heap_of store.now scopes.now) (Call.HasElement object index) result }
+    ensures comes { let heap = heap_of store.now scopes.now in (texts : ℕ) → Comes texts heap (Call.HasElement object index) result heap }
 {
     let object = value_of_handle(store, scopes, object)?;
     object_like(object.body)?;

@@ -6,6 +6,7 @@ ghost use Rattle.napi_types.specs.Room.{is_growing};
 ghost use Rattle.napi_types.specs.Values.{true_value, false_value};
 ghost use Rattle.env_values.specs.Creating.{is_creating};
 ghost use Rattle.env_values.specs.Numbering.{HasNumbersLeft};
+ghost use Rattle.env_values.specs.Keeping.{CanGive, KeepsHeap};
 ghost use Rattle.env_values.specs.Seen.{heap_of, HoldsLive, KeepsValues};
 ghost use Rattle.env_values.specs.Steps.{ComesOf};
 
@@ -13,11 +14,7 @@ use crate::errors::create_error;
 use crate::makes::{create_function, give_new, give_starting};
 use crate::names::get_property_names;
 use crate::properties::{delete_property, set_element, set_named_property};
-use crate::reads::{
-    get_array_length, get_value_bigint_int64, get_value_bool, get_value_int64,
-    get_value_string_utf8, has_element, has_named_property, is_array, is_error, strict_equals,
-    type_of,
-};
+use crate::reads::{get_array_length, has_element, has_named_property, strict_equals, tell};
 use crate::stop::Stop;
 use crate::values::{
     create_int64, create_string_utf8, create_symbol, get_element, get_named_property,
@@ -56,31 +53,27 @@ fn creation(
     call: &Call,
 ) -> Result<Out, Stop>
     requires creating { is_creating call.now ≡ true }
-    requires standing { scopes.old.frames ≢ [] }
-    requires live { HoldsLive store.old scopes.old }
+    requires give { CanGive store.old scopes.old }
     requires values { HasNumbersLeft store.old }
-    requires handles { scopes.old.handles < 2 ^ 62 }
     ensures comes { let before = heap_of store.old scopes.old in
         ComesOf texts addon before call.now result (heap_of store.new scopes.new) }
-    ensures live { HoldsLive store.new scopes.new }
-    ensures calls { scopes.new.by_call ≡ scopes.old.by_call }
-    ensures kept { KeepsValues store.old store.new }
+    ensures keeps { KeepsHeap store.old scopes.old store.new scopes.new }
 {
     match *call {
         Call::GetUndefined => Ok(give_starting(store, scopes, 0)?),
         Call::GetNull => Ok(give_starting(store, scopes, 1)?),
         Call::GetBoolean(flag) => Ok(give_starting(store, scopes, place_of(flag))?),
         Call::GetGlobal => Ok(give_starting(store, scopes, 4)?),
-        Call::CreateInt64(number) => create_int64(store, scopes, texts, number),
+        Call::CreateInt64(number) => create_int64(store, scopes, number),
         Call::CreateBigintInt64(number) => Ok(give_new(store, scopes, Body::Bigint(number))?),
         Call::CreateStringUtf8(text) => create_string_utf8(store, scopes, texts, text),
-        Call::CreateSymbol(description) => create_symbol(store, scopes, texts, description),
+        Call::CreateSymbol(description) => create_symbol(store, scopes, description),
         Call::CreateObject => Ok(give_new(store, scopes, OBJECT)?),
         Call::CreateArray => Ok(give_new(store, scopes, ARRAY)?),
         Call::CreateFunction(entry, payload) => {
             Ok(create_function(store, scopes, addon, entry, payload)?)
         }
-        Call::CreateError(code, message) => create_error(store, scopes, texts, code, message),
+        Call::CreateError(code, message) => create_error(store, scopes, code, message),
         _ => unreachable!(),
     }
 }
@@ -96,28 +89,22 @@ fn outcome(
     call: &Call,
 ) -> Result<Out, Stop>
     requires value_call { is_value_call call.now ≡ true }
-    requires standing { scopes.old.frames ≢ [] }
-    requires live { HoldsLive store.old scopes.old }
+    requires give { CanGive store.old scopes.old }
     requires values { HasNumbersLeft store.old }
-    requires handles { scopes.old.handles < 2 ^ 62 }
     ensures comes { let before = heap_of store.old scopes.old in
         ComesOf texts addon before call.now result (heap_of store.new scopes.new) }
-    ensures live { HoldsLive store.new scopes.new }
-    ensures calls { scopes.new.by_call ≡ scopes.old.by_call }
-    ensures kept { KeepsValues store.old store.new }
+    ensures keeps { KeepsHeap store.old scopes.old store.new scopes.new }
 {
     match *call {
-        Call::Typeof(value) => Ok(type_of(store, scopes, texts, value)?),
-        Call::IsArray(value) => Ok(is_array(store, scopes, texts, value)?),
-        Call::IsError(value) => Ok(is_error(store, scopes, texts, value)?),
-        Call::GetValueInt64(value) => Ok(get_value_int64(store, scopes, texts, value)?),
-        Call::GetValueBigintInt64(value) => {
-            Ok(get_value_bigint_int64(store, scopes, texts, value)?)
-        }
-        Call::GetValueBool(value) => Ok(get_value_bool(store, scopes, texts, value)?),
-        Call::GetValueStringUtf8(value) => Ok(get_value_string_utf8(store, scopes, texts, value)?),
-        Call::GetArrayLength(value) => Ok(get_array_length(store, scopes, texts, value)?),
-        Call::StrictEquals(left, right) => Ok(strict_equals(store, scopes, texts, left, right)?),
+        Call::Typeof(_)
+        | Call::IsArray(_)
+        | Call::IsError(_)
+        | Call::GetValueInt64(_)
+        | Call::GetValueBigintInt64(_)
+        | Call::GetValueBool(_)
+        | Call::GetValueStringUtf8(_) => tell(store, scopes, call),
+        Call::GetArrayLength(value) => get_array_length(store, scopes, value),
+        Call::StrictEquals(left, right) => strict_equals(store, scopes, left, right),
         Call::SetNamedProperty(object, name, value) => {
             set_named_property(store, scopes, texts, object, name, value)
         }
@@ -125,15 +112,15 @@ fn outcome(
             get_named_property(store, scopes, texts, object, name)
         }
         Call::HasNamedProperty(object, name) => {
-            Ok(has_named_property(store, scopes, texts, object, name)?)
+            has_named_property(store, scopes, texts, object, name)
         }
         Call::DeleteProperty(object, name) => delete_property(store, scopes, texts, object, name),
-        Call::GetPropertyNames(object) => get_property_names(alloc, store, scopes, texts, object),
+        Call::GetPropertyNames(object) => get_property_names(alloc, store, scopes, object),
         Call::SetElement(object, index, value) => {
-            set_element(store, scopes, texts, object, index, value)
+            set_element(store, scopes, object, index, value)
         }
-        Call::GetElement(object, index) => get_element(store, scopes, texts, object, index),
-        Call::HasElement(object, index) => Ok(has_element(store, scopes, texts, object, index)?),
+        Call::GetElement(object, index) => get_element(store, scopes, object, index),
+        Call::HasElement(object, index) => has_element(store, scopes, object, index),
         _ => creation(store, scopes, texts, addon, call),
     }
 }

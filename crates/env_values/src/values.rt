@@ -1,7 +1,8 @@
 //! The calls that make values, and those that give the value of a property or an element.
-ghost use Rattle.std.specs.Prelude.{◌≡◌, ◌≢◌, ◌+◌, ◌<◌, ◌^◌, []};
+ghost use Rattle.std.specs.Prelude.{◌≡◌, ℕ, ◌≢◌, ◌+◌, ◌<◌, ◌^◌, []};
 ghost use Rattle.napi_types.specs.Graph.{IsLive};
-ghost use Rattle.env_values.specs.Seen.{heap_of, HoldsLive, KeepsValues};
+ghost use Rattle.env_values.specs.Keeping.{CanGive, CanMake, KeepsScopes, KeepsHeap};
+ghost use Rattle.env_values.specs.Seen.{heap_of};
 ghost use Rattle.env_values.specs.Steps.{Comes};
 
 use crate::known::{element, known_text, object_like, or_undefined, text, value_of_handle};
@@ -15,21 +16,10 @@ use value_store::Store;
 const MOST_NUMBER: i64 = 9_007_199_254_740_991;
 
 /// `create_int64`: a number, refused as an invalid argument outside -(2^53-1) to 2^53-1.
-pub(crate) fn create_int64(
-    store: &mut Store,
-    scopes: &mut Scopes,
-    texts: u32,
-    number: i64,
-) -> Result<Out, Stop>
-    requires standing { scopes.old.frames ≢ [] }
-    requires live { HoldsLive store.old scopes.old }
-    requires values { store.old.made + 2 < 2 ^ 48 }
-    requires handles { scopes.old.handles < 2 ^ 62 }
-    ensures comes { let before = heap_of store.old scopes.old in
-        Comes texts before (Call.CreateInt64 number) result (heap_of store.new scopes.new) }
-    ensures live { HoldsLive store.new scopes.new }
-    ensures calls { scopes.new.by_call ≡ scopes.old.by_call }
-    ensures kept { KeepsValues store.old store.new }
+pub(crate) fn create_int64(store: &mut Store, scopes: &mut Scopes, number: i64) -> Result<Out, Stop>
+    requires able { CanMake 1 store.old scopes.old }
+    ensures comes { (texts : ℕ) → Comes texts (heap_of store.old scopes.old) (Call.CreateInt64 number) result (heap_of store.new scopes.new) }
+    ensures keeps { KeepsHeap store.old scopes.old store.new scopes.new }
 {
     if number < -MOST_NUMBER || number > MOST_NUMBER {
         return Err(Stop::Refused(Status::InvalidArg));
@@ -44,15 +34,10 @@ pub(crate) fn create_string_utf8(
     texts: u32,
     text: TextNo,
 ) -> Result<Out, Stop>
-    requires standing { scopes.old.frames ≢ [] }
-    requires live { HoldsLive store.old scopes.old }
-    requires values { store.old.made + 2 < 2 ^ 48 }
-    requires handles { scopes.old.handles < 2 ^ 62 }
+    requires able { CanMake 1 store.old scopes.old }
     ensures comes { let before = heap_of store.old scopes.old in
         Comes texts before (Call.CreateStringUtf8 text) result (heap_of store.new scopes.new) }
-    ensures live { HoldsLive store.new scopes.new }
-    ensures calls { scopes.new.by_call ≡ scopes.old.by_call }
-    ensures kept { KeepsValues store.old store.new }
+    ensures keeps { KeepsHeap store.old scopes.old store.new scopes.new }
 {
     known_text(text, texts)?;
     Ok(give_new(store, scopes, Body::Str(text))?)
@@ -62,18 +47,11 @@ pub(crate) fn create_string_utf8(
 pub(crate) fn create_symbol(
     store: &mut Store,
     scopes: &mut Scopes,
-    texts: u32,
     description: Option<HandleId>,
 ) -> Result<Out, Stop>
-    requires standing { scopes.old.frames ≢ [] }
-    requires live { HoldsLive store.old scopes.old }
-    requires values { store.old.made + 2 < 2 ^ 48 }
-    requires handles { scopes.old.handles < 2 ^ 62 }
-    ensures comes { let before = heap_of store.old scopes.old in
-        Comes texts before (Call.CreateSymbol description) result (heap_of store.new scopes.new) }
-    ensures live { HoldsLive store.new scopes.new }
-    ensures calls { scopes.new.by_call ≡ scopes.old.by_call }
-    ensures kept { KeepsValues store.old store.new }
+    requires able { CanMake 1 store.old scopes.old }
+    ensures comes { (texts : ℕ) → Comes texts (heap_of store.old scopes.old) (Call.CreateSymbol description) result (heap_of store.new scopes.new) }
+    ensures keeps { KeepsHeap store.old scopes.old store.new scopes.new }
 {
     match description {
         None => Ok(give_new(store, scopes, Body::Symbol(None))?),
@@ -93,13 +71,10 @@ pub(crate) fn get_named_property(
     object: HandleId,
     name: TextNo,
 ) -> Result<Out, Stop>
-    requires standing { scopes.old.frames ≢ [] }
-    requires live { HoldsLive store.now scopes.old }
-    requires handles { scopes.old.handles < 2 ^ 62 }
+    requires give { CanGive store.now scopes.old }
     ensures comes { let before = heap_of store.now scopes.old in
         Comes texts before (Call.GetNamedProperty object name) result (heap_of store.now scopes.new) }
-    ensures live { HoldsLive store.now scopes.new }
-    ensures calls { scopes.new.by_call ≡ scopes.old.by_call }
+    ensures keeps { KeepsScopes scopes.old store.now scopes.new }
 {
     let object = value_of_handle(store, scopes, object)?;
     known_text(name, texts)?;
@@ -112,17 +87,12 @@ pub(crate) fn get_named_property(
 pub(crate) fn get_element(
     store: &Store,
     scopes: &mut Scopes,
-    texts: u32,
     object: HandleId,
     index: u64,
 ) -> Result<Out, Stop>
-    requires standing { scopes.old.frames ≢ [] }
-    requires live { HoldsLive store.now scopes.old }
-    requires handles { scopes.old.handles < 2 ^ 62 }
-    ensures comes { let before = heap_of store.now scopes.old in
-        Comes texts before (Call.GetElement object index) result (heap_of store.now scopes.new) }
-    ensures live { HoldsLive store.now scopes.new }
-    ensures calls { scopes.new.by_call ≡ scopes.old.by_call }
+    requires give { CanGive store.now scopes.old }
+    ensures comes { (texts : ℕ) → Comes texts (heap_of store.now scopes.old) (Call.GetElement object index) result (heap_of store.now scopes.new) }
+    ensures keeps { KeepsScopes scopes.old store.now scopes.new }
 {
     let object = value_of_handle(store, scopes, object)?;
     object_like(object.body)?;

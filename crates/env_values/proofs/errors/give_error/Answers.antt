@@ -6,6 +6,7 @@ use Rattle.napi_types.specs.Values.{error_of}
 use Rattle.handle_scope.specs.HandleScopes.{HandleScopes, handle_issued, place_reserved}
 use Rattle.env_values.specs.Seen.{heap_of}
 use Rattle.env_values.proofs.Giving.{given-answer, made-heap, made-live}
+use Rattle.env_values.proofs.Keeping.{keeps_made}
 use Rattle.env_values.proofs.errors.give_error.Goals as goal
 
 pub returns-clause-gives : goal.returns-clause-gives
@@ -19,11 +20,14 @@ returns-clause-gives c =
     given-answer (with_error code message (heap_of s scopes)) (heap_of c.error_value.new.store after) (s.made + 1) c.issue_reserved.result
     (c.issue_reserved.ensures.handle ∙ ap (λ (x : HandleScopes). x.handles + 1) c.in_ok-reserve.ensures.ok)
     (made-heap s c.error_value.new.store (place_reserved scopes) after c.in_ok-error.error.0 (error_of (s.made + 1) (option_map (λ (v : ValueId). v.0) c.args.code) c.args.message.0) (error_of (s.made + 1) code message)
-    c.recall.ensures c.in_ok-error.ensures.made refl c.in_ok-error.ensures.graph c.requires.live issued)
+    c.recall.ensures c.in_ok-error.ensures.made refl c.in_ok-error.ensures.graph c.requires.able.give.live issued)
 
-pub returns-clause-live : goal.returns-clause-live
-returns-clause-live c =
+pub returns-clause-keeps : goal.returns-clause-keeps
+returns-clause-keeps c =
     let scopes = c.args.scopes.now in
     let issued : c.issue_reserved.new.self ≡ handle_issued c.in_ok-error.error.0 (place_reserved scopes) =
     c.issue_reserved.ensures.issued ∙ ap (handle_issued c.in_ok-error.error.0) c.in_ok-reserve.ensures.ok in
-    made-live c.args.store.now c.error_value.new.store (place_reserved scopes) c.issue_reserved.new.self c.in_ok-error.error.0 _ c.in_ok-error.ensures.made c.requires.live issued
+    record {
+      scopes = record { live = made-live c.args.store.now c.error_value.new.store (place_reserved scopes) c.issue_reserved.new.self c.in_ok-error.error.0 _ c.in_ok-error.ensures.made c.requires.able.give.live issued; calls = ap (λ (x : HandleScopes). x.by_call) issued };
+      values = keeps_made c.args.store.now c.error_value.new.store c.in_ok-error.error.0 _ c.recall.ensures c.in_ok-error.ensures.made;
+    }

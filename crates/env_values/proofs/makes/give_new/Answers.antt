@@ -16,14 +16,14 @@ returns-clause-gives c =
     let issued : after ≡ handle_issued c.in_ok-value.value.0 (place_reserved scopes) = c.issue_reserved.ensures.issued ∙ ap (handle_issued c.in_ok-value.value.0) c.in_ok-reserve.ensures.ok in
     given-answer (with_value c.args.body (heap_of s scopes)) (heap_of c.make.new.self after) (s.made + 1) c.issue_reserved.result
     (c.issue_reserved.ensures.handle ∙ ap (λ (x : HandleScopes). x.handles + 1) c.in_ok-reserve.ensures.ok)
-    (made-heap s c.make.new.self (place_reserved scopes) after c.in_ok-value.value.0 value value c.recall.ensures c.in_ok-value.ensures.made refl c.in_ok-value.ensures.graph c.requires.live issued)
+    (made-heap s c.make.new.self (place_reserved scopes) after c.in_ok-value.value.0 value value c.recall.ensures c.in_ok-value.ensures.made refl c.in_ok-value.ensures.graph c.requires.able.give.live issued)
 
-pub returns-clause-live : goal.returns-clause-live
-returns-clause-live c =
+pub returns-clause-keeps : goal.returns-clause-keeps
+returns-clause-keeps c =
     let scopes = c.args.scopes.now in
     let issued : c.issue_reserved.new.self ≡ handle_issued c.in_ok-value.value.0 (place_reserved scopes) =
     c.issue_reserved.ensures.issued ∙ ap (handle_issued c.in_ok-value.value.0) c.in_ok-reserve.ensures.ok in
-    made-live c.args.store.now c.make.new.self (place_reserved scopes) c.issue_reserved.new.self c.in_ok-value.value.0 _ c.in_ok-value.ensures.made c.requires.live issued
-
-pub returns-clause-kept : goal.returns-clause-kept
-returns-clause-kept c = keeps_made c.args.store.now c.make.new.self c.in_ok-value.value.0 _ c.recall.ensures c.in_ok-value.ensures.made
+    record {
+      scopes = record { live = made-live c.args.store.now c.make.new.self (place_reserved scopes) c.issue_reserved.new.self c.in_ok-value.value.0 _ c.in_ok-value.ensures.made c.requires.able.give.live issued; calls = ap (λ (x : HandleScopes). x.by_call) issued };
+      values = keeps_made c.args.store.now c.make.new.self c.in_ok-value.value.0 _ c.recall.ensures c.in_ok-value.ensures.made;
+    }

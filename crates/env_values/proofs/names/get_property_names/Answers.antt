@@ -10,7 +10,7 @@ use Rattle.env_values.proofs.Listing.{names-seen}
 use Rattle.env_values.proofs.names.get_property_names.Goals as goal
 
 pub returns-clause-comes : goal.returns-clause-comes
-returns-clause-comes c =
+returns-clause-comes c = λ texts.
     let s = c.args.store.now in
     let scopes = c.args.scopes.now in
     let heap = heap_of s scopes in

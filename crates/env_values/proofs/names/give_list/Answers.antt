@@ -15,14 +15,14 @@ returns-clause-gives c =
     let issued : after ≡ handle_issued c.in_ok-value.value.0 (place_reserved scopes) = c.issue_reserved.ensures.issued ∙ ap (handle_issued c.in_ok-value.value.0) c.in_ok-reserve.ensures.ok in
     given-answer (with_list bodies (heap_of s scopes)) (heap_of c.make_list.new.self after) (s.made + length bodies + 1) c.issue_reserved.result
     (c.issue_reserved.ensures.handle ∙ ap (λ (x : HandleScopes). x.handles + 1) c.in_ok-reserve.ensures.ok)
-    (listed-heap s c.make_list.new.self (place_reserved scopes) after c.in_ok-value.value.0 bodies c.recall.ensures c.in_ok-value.ensures.listed c.in_ok-value.ensures.graph c.requires.live issued)
+    (listed-heap s c.make_list.new.self (place_reserved scopes) after c.in_ok-value.value.0 bodies c.recall.ensures c.in_ok-value.ensures.listed c.in_ok-value.ensures.graph c.requires.able.give.live issued)
 
-pub returns-clause-live : goal.returns-clause-live
-returns-clause-live c =
+pub returns-clause-keeps : goal.returns-clause-keeps
+returns-clause-keeps c =
     let scopes = c.args.scopes.now in
     let issued : c.issue_reserved.new.self ≡ handle_issued c.in_ok-value.value.0 (place_reserved scopes) =
     c.issue_reserved.ensures.issued ∙ ap (handle_issued c.in_ok-value.value.0) c.in_ok-reserve.ensures.ok in
-    listed-live c.args.store.now c.make_list.new.self (place_reserved scopes) c.issue_reserved.new.self c.in_ok-value.value.0 (length c.args.bodies.now) c.recall.ensures c.in_ok-value.ensures.listed c.requires.live issued
-
-pub returns-clause-kept : goal.returns-clause-kept
-returns-clause-kept c = keeps_listed c.args.store.now c.make_list.new.self c.in_ok-value.value.0 (length c.args.bodies.now) c.recall.ensures c.in_ok-value.ensures.listed
+    record {
+      scopes = record { live = listed-live c.args.store.now c.make_list.new.self (place_reserved scopes) c.issue_reserved.new.self c.in_ok-value.value.0 (length c.args.bodies.now) c.recall.ensures c.in_ok-value.ensures.listed c.requires.able.give.live issued; calls = ap (λ (x : HandleScopes). x.by_call) issued };
+      values = keeps_listed c.args.store.now c.make_list.new.self c.in_ok-value.value.0 (length c.args.bodies.now) c.recall.ensures c.in_ok-value.ensures.listed;
+    }

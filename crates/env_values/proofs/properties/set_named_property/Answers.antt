@@ -4,6 +4,7 @@ use Rattle.napi_types.specs.Replies.{answered}
 use Rattle.napi_types.specs.declared.entry.Out.TheVariants as out
 use Rattle.napi_types.specs.Values.{is_object_like, with_property}
 use Rattle.env_values.specs.Seen.{heap_of}
+use Rattle.env_values.proofs.Giving.{more-live}
 use Rattle.env_values.proofs.HandleValues.{like-known}
 use Rattle.env_values.proofs.Heaps.{with_changed-heap}
 use Rattle.env_values.proofs.Keeping.{keeps_changed}
@@ -23,5 +24,8 @@ returns-clause-comes c =
           (with_changed-heap s c.set_prop.new.self scopes c.args.object.0 c.in_ok-object.object.id.0 _ _ (λ v. refl) c.in_ok-set_prop.ensures.set c.in_ok-set_prop.ensures.graph object.number),
     )
 
-pub returns-clause-kept : goal.returns-clause-kept
-returns-clause-kept c = keeps_changed c.args.store.now c.set_prop.new.self c.in_ok-object.object.id.0 _ (λ v. refl) c.in_ok-set_prop.ensures.set
+pub returns-clause-keeps : goal.returns-clause-keeps
+returns-clause-keeps c = let values = keeps_changed c.args.store.now c.set_prop.new.self c.in_ok-object.object.id.0 _ (λ v. refl) c.in_ok-set_prop.ensures.set in record {
+  scopes = record { live = more-live c.args.store.now c.set_prop.new.self c.args.scopes.now values.live c.requires; calls = refl };
+  values = values;
+}
