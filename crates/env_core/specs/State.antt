@@ -22,6 +22,7 @@ use Rattle.napi_types.specs.FunctionCalls.{callee_of, call_gifts, receiver_handl
 use Rattle.napi_types.specs.Heap.{frame_entered}
 use Rattle.napi_types.specs.References.{ReferenceMap}
 use Rattle.napi_types.specs.Refusals.{timely_refusal, refusal}
+use Rattle.napi_types.specs.Replies.{Answer}
 use Rattle.handle_scope.specs.HandleScopes.{HandleScopes}
 use Rattle.env_core.specs.declared.state.calling.Called.{Called}
 use Rattle.env_core.specs.declared.state.calling.Called.TheVariants as called_of
@@ -61,17 +62,19 @@ pub record Calls (old : Environment) (c : Call) (x : Entry) (new : Environment) 
   pub entry : x ≡ (called old c (number_of x.reply.out)).entry
   pub after : new ≡ (called old c (number_of x.reply.out)).after
 
--- the call's reply is the machine's answer, with a fresh number where it gives one, and the environment is what the answer leaves
-pub record Answers (old : Environment) (c : Call) (r : Reply) (new : Environment) : Type 0 where
+-- a reply is the one of this answer, with a fresh number where it gives one, and the environment is what the answer leaves
+pub record AnswersBy (told : ℕ → Answer Environment) (old : Environment) (r : Reply) (new : Environment) : Type 0 where
   pub fresh : IsTrue (is_fresh old r.out)
-  pub reply : r ≡ (answer old c (number_of r.out)).reply
-  pub after : new ≡ (answer old c (number_of r.out)).after
+  pub reply : r ≡ (told (number_of r.out)).reply
+  pub after : new ≡ (told (number_of r.out)).after
+
+-- the machine's answer to a call
+abbrev pub Answers : Environment → Call → Reply → Environment → Type 0
+Answers old c r new = AnswersBy (answer old c) old r new
 
 -- the same where the call comes at a right moment, so that it is not asked whether it is guarded or registers
-pub record AnswersInTime (old : Environment) (c : Call) (r : Reply) (new : Environment) : Type 0 where
-  pub fresh : IsTrue (is_fresh old r.out)
-  pub reply : r ≡ (answer_given old c (number_of r.out) (timely_refusal old c)).reply
-  pub after : new ≡ (answer_given old c (number_of r.out) (timely_refusal old c)).after
+abbrev pub AnswersInTime : Environment → Call → Reply → Environment → Type 0
+AnswersInTime old c r new = AnswersBy (λ n. answer_given old c n (timely_refusal old c)) old r new
 
 -- CALLS OF FUNCTIONS
 -- a call that is refused answers at once, as every other call does

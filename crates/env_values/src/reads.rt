@@ -53,11 +53,7 @@ pub(crate) fn tell(store: &Store, scopes: &Scopes, call: &Call) -> Result<Out, S
 }
 
 /// `get_array_length`: how many elements an array has, holes counted.
-pub(crate) fn get_array_length(
-    store: &Store,
-    scopes: &Scopes,
-    value: HandleId,
-) -> Result<Out, Stop>
+pub(crate) fn get_array_length(store: &Store, scopes: &Scopes, value: HandleId) -> Result<Out, Stop>
     requires { HoldsLive store.now scopes.now }
     ensures comes { let heap = heap_of store.now scopes.now in (texts : ℕ) → Comes texts heap (Call.GetArrayLength value) result heap }
 {

@@ -14,8 +14,10 @@ returns c =
     let k = c.in_ok-object.ensures.ok in
     let like : is_object_like (handle_body (heap_of s scopes) c.args.object.0) ≡ true =
     like-known s scopes c.args.object.0 c.in_ok-object.object k c.in_ok-object_like.ensures.ok in
-    record { comes = (
-      rw (k.known, c.in_ok-known_text.ensures.ok, like) refl,
-      ap (λ b. answered (out.Flag b) (heap_of s scopes))
-          (ap is_some (property-known s scopes c.args.object.0 c.in_ok-object.object k c.args.name.0) ∙ same-there s _ _ c.get_prop.ensures.value ∙ sym c.is_some.ensures),
-    ) }
+    record {
+      comes = (
+        rw (k.known, c.in_ok-known_text.ensures.ok, like) refl,
+        ap (λ b. answered (out.Flag b) (heap_of s scopes))
+            (ap is_some (property-known s scopes c.args.object.0 c.in_ok-object.object k c.args.name.0) ∙ same-there s _ _ c.get_prop.ensures.value ∙ sym c.is_some.ensures),
+      );
+    }
