@@ -42,7 +42,8 @@ use Rattle.machine_laws.proofs.Cutting.{frame-step}
 ended-of : (v : Option HandleId) (cut : Option Why) (e : Environment) → is_of_frames (frame_ended v cut e).entry.what ≡ true
 ended-of v cut e = ap is_of_frames (ended-ends v cut e).is
 
-calling-of : (receiver : Option HandleId) (f : HandleId) (args : Args) (n : ℕ) (e : Environment) (s : Option Status) → is_of_frames (calling receiver f args n e s).entry.what ≡ true
+calling-of : (receiver : Option HandleId) (f : HandleId) (args : Args) (n : ℕ) (e : Environment) (s : Option Status)
+    → is_of_frames (calling receiver f args n e s).entry.what ≡ true
 calling-of receiver f args n e None = refl
 calling-of receiver f args n e (Some s) = refl
 
@@ -139,7 +140,8 @@ moved-other : (m : Machine) (event : HostStep) (p : Phase) (o : Out) (h : Option
 moved-other m event p o None x other is e t = cc
 moved-other m event p o (Some h) x other is e t = let z : what.Host event ≡ what.Host host.Gone = sym (ap (λ (y : Entry). y.what) e) ∙ is in other cc
 
-hub-other : (m : Machine) (s : Stage) (x : Entry) → x.what ≡ what.Host host.Gone → x ≡ (chosen m (hub_choice_at s)).entry → IsTrue (chosen m (hub_choice_at s)).may → ⊥
+hub-other : (m : Machine) (s : Stage) (x : Entry) → x.what ≡ what.Host host.Gone → x ≡ (chosen m (hub_choice_at s)).entry
+    → IsTrue (chosen m (hub_choice_at s)).may → ⊥
 hub-other m Before x is e t = moved-other m host.Go phase.Live out.Nothing (hub_next m.hub host.Go) x (λ z. cc) is e t
 hub-other m Going x is e t = moved-other m host.LoopEnd phase.Hooks (out.Ended loop_end.Idle) (hub_next m.hub host.LoopEnd) x (λ z. cc) is e t
 hub-other m Looped x is e t = moved-other m host.Drain phase.Drain (out.Unsigned 0) (hub_next m.hub host.Drain) x (λ z. cc) is e t
@@ -153,7 +155,8 @@ init-other m n true false s x is e t = hub-other m s x is e t
 init-other m n true true s x is e t = let z : what.Host host.Gone ≡ what.Host host.Begin = sym is ∙ ap (λ (y : Entry). y.what) e in cc
 init-other m n false c s x is e t = let z : what.Host host.Gone ≡ what.Host host.Opened = sym is ∙ ap (λ (y : Entry). y.what) e in cc
 
-gone-in : (m : Machine) (p : Phase) (s : Stage) (x : Entry) → x.what ≡ what.Host host.Gone → x ≡ (chosen m (option_or (local_choice_in m.env p) (hub_choice_at s))).entry
+gone-in : (m : Machine) (p : Phase) (s : Stage) (x : Entry) → x.what ≡ what.Host host.Gone
+    → x ≡ (chosen m (option_or (local_choice_in m.env p) (hub_choice_at s))).entry
     → IsTrue (chosen m (option_or (local_choice_in m.env p) (hub_choice_at s))).may → p ≡ phase.Finals
 gone-in m phase.Init s x is e t = absurd (init-other m m.env.inits m.env.opened (nat_lt m.env.inits m.env.addons) s x is e t)
 gone-in m phase.Finals s x is e t = refl

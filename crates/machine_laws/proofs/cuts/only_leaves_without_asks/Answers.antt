@@ -24,7 +24,8 @@ use Rattle.napi_types.proofs.Runs.{and-left, and-right}
 use Rattle.machine_laws.proofs.Cutting.{frame-step, only-in-frame, not-last, below-last}
 use Rattle.machine_laws.proofs.cuts.only_leaves_without_asks.Goals as goal
 
-asked-none : (m : Machine) (f : Frame) (fs : List Frame) → m.env.frames ≡ f ∷ fs → f.makes_asks ≡ false → (ps : List Plan) (rss : Registers) (a : Ask) → asked ps rss m a actor.Env ≡ ask.Leave None
+asked-none : (m : Machine) (f : Frame) (fs : List Frame) → m.env.frames ≡ f ∷ fs → f.makes_asks ≡ false → (ps : List Plan) (rss : Registers) (a : Ask)
+    → asked ps rss m a actor.Env ≡ ask.Leave None
 asked-none m f fs stands silent ps rss a =
     ap (λ l. frames_ask ps rss l a) stands ∙ ap (λ b. cond b (frame_ask (plan_of ps f.addon) (registers_of rss f.addon) f a) (ask.Leave None)) silent
 
@@ -38,7 +39,8 @@ no-call e f fs stands silent h =
 not-spent : (e : Environment) (f : Frame) (fs : List Frame) → e.frames ≡ f ∷ fs → f.asks < 65536 → IsTrue (asks_made e.frames == 65536) → ⊥
 not-spent e f fs stands below h = not-last f.asks below (rw stands at h)
 
-none-at-call : (m : Machine) (f : Frame) (fs : List Frame) → m.env.frames ≡ f ∷ fs → f.makes_asks ≡ false → f.asks < 65536 → (c : Call) (o : Out) (w : Option Why)
+none-at-call : (m : Machine) (f : Frame) (fs : List Frame) → m.env.frames ≡ f ∷ fs → f.makes_asks ≡ false → f.asks < 65536
+    → (c : Call) (o : Out) (w : Option Why)
     → IsTrue (frame_step m (ask.Do c) o w).may → ⊥
 none-at-call m f fs stands silent below c o (Some why.Asks) h = not-spent m.env f fs stands below h
 none-at-call m f fs stands silent below c o (Some why.Full) h = no-call m.env f fs stands silent (and-left (may_call m.env) (is_full (room_of m c) c) h)
@@ -50,7 +52,8 @@ none-at-call m f fs stands silent below c o None h =
 built : (c : Call) → is_built c ≡ true → taken (ask.Do c) ≡ ask.Do c
 built c b = rw b refl
 
-calls : (m : Machine) (f : Frame) (fs : List Frame) → m.env.frames ≡ f ∷ fs → f.makes_asks ≡ false → f.asks < 65536 → (c : Call) → is_built c ≡ true → (x : Entry)
+calls : (m : Machine) (f : Frame) (fs : List Frame) → m.env.frames ≡ f ∷ fs → f.makes_asks ≡ false → f.asks < 65536 → (c : Call) → is_built c ≡ true
+    → (x : Entry)
     → IsNext m (ask.Do c) x → ⊥
 calls m f fs stands silent below c b x next =
     let s : step_of m (ask.Do c) x x.actor ≡ frame_step m (taken (ask.Do c)) x.reply.out (cut_of x.reply.out) = frame-step m (ask.Do c) x x.actor f fs stands next.1 in
@@ -66,7 +69,8 @@ only-end m f fs stands below v o (Some why.Asks) h = absurd (not-spent m.env f f
 only-end m f fs stands below v o (Some why.Full) h = cc
 only-end m f fs stands below v o (Some why.Memory) h = cc
 
-leaves : (m : Machine) (f : Frame) (fs : List Frame) → m.env.frames ≡ f ∷ fs → f.asks < 65536 → (v : Option HandleId) → IsOnlyNext m (ask.Leave v) (frame_ended v None m.env).entry
+leaves : (m : Machine) (f : Frame) (fs : List Frame) → m.env.frames ≡ f ∷ fs → f.asks < 65536 → (v : Option HandleId)
+    → IsOnlyNext m (ask.Leave v) (frame_ended v None m.env).entry
 leaves m f fs stands below v =
     let y : Entry = (frame_ended v None m.env).entry in
     let e : Ends None y = ended-ends v None m.env in
