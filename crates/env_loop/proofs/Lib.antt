@@ -1,3 +1,9 @@
+pub mod Calls
+pub mod Cuts
+pub mod Ends
+pub mod Frames
 pub mod Recordings
+pub mod Registers
 pub mod Runs
+pub mod Steps
 pub mod Turns

@@ -17,8 +17,8 @@ use Rattle.env_loop.specs.declared.turn.LocalTurn.TheVariants as turn
 use Rattle.env_loop.specs.Recording.{hub_of, Continues}
 use Rattle.env_loop.specs.Runs.{Run, IsSound, OneMore}
 
--- a turn makes an entry where a frame stands, and else where the environment has an event of its own; where it has none and the hub has one, the hub has to make
--- its turn; where nothing is next the environment is gone
+-- a turn makes an entry where a frame stands, and else where the environment has an event of its own; where it has none and the hub has one, the hub has to
+-- make its turn; where nothing is next the environment is gone
 abbrev pub turn_at : List Frame → Option Event → Option Event → LocalTurn
 turn_at (f ∷ fs) mine hubs = turn.Made
 turn_at [] (Some event) hubs = turn.Made

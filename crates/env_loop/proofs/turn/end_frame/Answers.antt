@@ -1,6 +1,6 @@
 use Rattle.std.proofs.Common.{arith}
 use Rattle.env_core.specs.Standing.{frame_seen}
-use Rattle.env_loop.proofs.Turns.{caller-there, told-caller}
+use Rattle.env_loop.proofs.Ends.{caller-there, told-caller}
 use Rattle.env_loop.proofs.turn.end_frame.Goals as goal
 
 pub note_at-requires : goal.note_at-requires

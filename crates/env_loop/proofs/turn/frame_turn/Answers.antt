@@ -1,6 +1,7 @@
 use Rattle.std.proofs.Common.{arith, refl}
 use Rattle.env_core.specs.Standing.{frame_seen}
-use Rattle.env_loop.proofs.Turns.{head-within, spent-turn}
+use Rattle.env_loop.proofs.Cuts.{spent-turn}
+use Rattle.env_loop.proofs.Frames.{head-within}
 use Rattle.env_loop.proofs.turn.frame_turn.Goals as goal
 
 pub returns-then-frame-ge-MOST_ASKS-clause-turn : goal.returns-then-frame-ge-MOST_ASKS-clause-turn

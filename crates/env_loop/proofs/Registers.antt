@@ -1,0 +1,109 @@
+-- What is asked by the plans, and what the registers keep.
+use Rattle.std.proofs.Common.{◌≡◌, ◌<◌, ℕ, cond, List, [], ◌∷◌, length, set, drop, refl, ap, subst, sym, ◌∙◌, arith, Some, None, IfSome, inl, inr}
+use Rattle.std.specs.List.{All}
+use Rattle.std.proofs.lemmas.List.{get_or-set_same, get_or-set_other, length-set, drop-set-lt}
+use Rattle.std.proofs.lemmas.List.Elements.{All-head}
+use Rattle.std.proofs.lemmas.Bool.{cases_eq}
+use Rattle.napi_types.specs.declared.call.Ask.{Ask}
+use Rattle.napi_types.specs.declared.call.Ask.TheVariants as ask
+use Rattle.napi_types.specs.declared.entry.Entry.{Entry}
+use Rattle.napi_types.specs.declared.entry.Reply.{Reply}
+use Rattle.napi_types.specs.Frames.{Frame}
+use Rattle.napi_types.specs.Plan.{Plan, plan_of, frame_ask, frames_ask, kept_by, kept_in_frames, Registers, registers_of}
+use Rattle.napi_types.specs.Registers.{plan_ask, kept, gifted}
+use Rattle.napi_types.specs.Whole.{Setting}
+use Rattle.addon_trait.specs.Addons.{OthersStay}
+use Rattle.env_core.specs.Core.{Core}
+use Rattle.env_loop.specs.Recording.{IsOf, AgreesWhereTold, AgreesWith, IsRecorded}
+use Rattle.env_loop.specs.Turns.{IsTold}
+use Rattle.env_loop.proofs.Frames.{InFrame, in-stands, in-there}
+
+-- WHAT IS ASKED, AND WHAT IS KEPT
+-- a frame asks what its plan gives from the run's registers, where its addon answered so from its own
+frame-asked : (p q : Plan) (f : Frame) (mine own : List ℕ) (a : Ask) → q ≡ p → AgreesWhereTold q mine own
+    → IfSome p (λ t. a ≡ plan_ask t mine f.entry f.asks) → a ≡ frame_ask q own f a
+frame-asked None q f mine own a e agrees told = rw e refl
+frame-asked (Some p) None f mine own a e agrees told = cc
+frame-asked (Some p) (Some q) f mine own a e agrees told = told ∙ cc
+
+agrees-kept : (p q : Plan) (f : Frame) (mine own now : List ℕ) (r : Reply) → q ≡ p → AgreesWhereTold q mine own
+    → IfSome p (λ t. now ≡ kept t mine f.entry f.asks r) → AgreesWhereTold q now (kept_by q own f r)
+agrees-kept p None f mine own now r e agrees told = tt
+agrees-kept None (Some q) f mine own now r e agrees told = cc
+agrees-kept (Some p) (Some q) f mine own now r e agrees told = told ∙ cc
+
+pub agrees-gifted : (q : Plan) (gifts mine own now : List ℕ) → AgreesWhereTold q mine own → now ≡ gifted gifts mine → AgreesWhereTold q now (gifted gifts own)
+agrees-gifted None gifts mine own now agrees e = tt
+agrees-gifted (Some q) gifts mine own now agrees e = e ∙ ap (gifted gifts) agrees
+
+-- the registers still agree where those of one addon agree anew, and the others are as they were
+pub agrees-set : (ps : List Plan) (all now own : Registers) (i : ℕ) (v : List ℕ) → length own ≡ length ps → AgreesWith ps all own
+    → OthersStay all now i → AgreesWhereTold (plan_of ps i) (registers_of now i) v → AgreesWith ps now (set own i v)
+agrees-set ps all now own i v count agrees others here k below = elim (cases_eq k i) [
+  | inl e ↦
+      let inside : i < length own = omega (arith, count, below, e) in
+      let A : ℕ → Type 0 = λ m. AgreesWhereTold (plan_of ps m) (registers_of now m) (registers_of (set own i v) m) in
+      let B : List ℕ → Type 0 = λ x. AgreesWhereTold (plan_of ps i) (registers_of now i) x in
+      subst A (sym e) (subst B (sym (get_or-set_same own i v [] inside)) here)
+  | inr ne ↦
+      let C : List ℕ → Type 0 = λ x. AgreesWhereTold (plan_of ps k) x (registers_of (set own i v) k) in
+      let D : List ℕ → Type 0 = λ x. AgreesWhereTold (plan_of ps k) (registers_of all k) x in
+      let mine : registers_of now k ≡ registers_of all k = ap (λ l. registers_of l k) others ∙ get_or-set_other all i k (registers_of now i) [] ne in
+      subst C (sym mine) (subst D (sym (get_or-set_other own i k v [] ne)) (agrees k below))
+]
+
+-- the registers of the run, where the innermost of these frames is told a reply
+pub record Kept (ps : List Plan) (now : Registers) (own : Registers) : Type 0 where
+  pub count : length own ≡ length ps
+  pub agrees : AgreesWith ps now own
+
+told-kept : (ps plans : List Plan) (all own now : Registers) (fs : List Frame) (r : Reply) → All (λ f. f.addon < length ps) fs
+    → ((addon : ℕ) → addon < length ps → plan_of ps addon ≡ plan_of plans addon) → length own ≡ length ps → AgreesWith ps all own
+    → IsTold plans all fs r now → Kept ps now (kept_in_frames ps own fs r)
+told-kept ps plans all own now [] r there first count agrees told =
+    let P : Registers → Type 0 = λ x. AgreesWith ps x own in
+    record { count = count; agrees = subst P (sym told) agrees }
+told-kept ps plans all own now (f ∷ fs) r there first count agrees told =
+    let i : ℕ = f.addon in
+    let below : i < length ps = All-head (λ (x : Frame). x.addon < length ps) f fs there in
+    let v : List ℕ = kept_by (plan_of ps i) (registers_of own i) f r in
+    record {
+      count = length-set own i v ∙ count;
+      agrees = agrees-set ps all now own i v count agrees told.0
+          (agrees-kept (plan_of plans i) (plan_of ps i) f (registers_of all i) (registers_of own i) (registers_of now i) r (first i below) (agrees i below) told.1);
+    }
+
+-- the addons that are no addons of the script keep their registers
+pub told-others : (n : ℕ) (plans : List Plan) (all now : Registers) (fs : List Frame) (r : Reply) → All (λ f. f.addon < n) fs → IsTold plans all fs r now
+    → drop n now ≡ drop n all
+told-others n plans all now [] r there told = ap (drop n) told
+told-others n plans all now (f ∷ fs) r there told =
+    ap (drop n) told.0 ∙ drop-set-lt n all f.addon (registers_of now f.addon) (All-head (λ (x : Frame). x.addon < n) f fs there)
+
+-- the same where the registers and the plans are those of before
+pub told-from : (ps qs : List Plan) (all mid now : Registers) (fs : List Frame) (r : Reply) → qs ≡ ps → mid ≡ all → IsTold qs mid fs r now
+    → IsTold ps all fs r now
+told-from ps qs all mid now fs r plans registers told =
+    let P : List Plan → Type 0 = λ x. IsTold x all fs r now in
+    let Q : Registers → Type 0 = λ x. IsTold qs x fs r now in
+    subst P plans (subst Q registers told)
+
+-- IN A RECORDED RUN
+-- what the innermost frame asks is what the run's plans and registers give
+pub asked-in : {ps : List Plan} {core : Core} {all : Registers} {f : Frame} {a : Ask} → InFrame ps core.env all f a → (s : Setting) (history : List Entry)
+    → IsOf s ps core
+    → (r : IsRecorded s core history all) → a ≡ frames_ask s.plans r.own core.env.frames a
+asked-in {ps} {core} {all} {f} {a} i s history of r =
+    let there : f.addon < core.env.addons = in-there i in
+    let below : f.addon < length s.plans = omega (arith, of.count, there) in
+    frame-asked (plan_of ps f.addon) (plan_of s.plans f.addon) f (registers_of all f.addon) (registers_of r.own f.addon) a (of.first f.addon below) (r.agrees f.addon below) i.asked
+    ∙ ap (λ b. cond b (frame_ask (plan_of s.plans f.addon) (registers_of r.own f.addon) f a) (ask.Leave None)) (sym i.makes)
+    ∙ ap (λ gs. frames_ask s.plans r.own gs a) (sym (in-stands i))
+
+-- what is told to the innermost of these frames is what the run's registers keep
+pub kept-in : (s : Setting) (ps : List Plan) (core : Core) (history : List Entry) (all now : Registers) (fs : List Frame) (r : Reply) → IsOf s ps core
+    → (rec : IsRecorded s core history all) → All (λ f. f.addon < core.env.addons) fs → IsTold ps all fs r now
+    → Kept s.plans now (kept_in_frames s.plans rec.own fs r)
+kept-in s ps core history all now fs r of rec there told =
+    let below : All (λ f. f.addon < length s.plans) fs = subst (λ (n : ℕ). All (λ f. f.addon < n) fs) (sym of.count) there in
+    told-kept s.plans ps all rec.own now fs r below of.first rec.count rec.agrees told
