@@ -19,7 +19,7 @@ use Rattle.env_core.specs.Journal.{Pages}
 use Rattle.env_core.specs.Core.{Core, IsCore, wrote, room_in}
 use Rattle.env_core.specs.State.{Calls}
 use Rattle.env_core.specs.Steps.{Replies}
-use Rattle.napi_types.proofs.Answers.{KeepsButAsk}
+use Rattle.napi_types.proofs.Answers.{course-parts, KeepsButAsk}
 use Rattle.napi_types.proofs.FrameChanges.{KeepsButFrame, ended-keeps}
 
 -- the core of an environment and a journal
@@ -51,7 +51,7 @@ core-pushed old new pages after x k c e promised room handles scopes references 
 
 -- a call reserves no place and gives none back
 pub reserved-kept : (old new : Environment) → KeepsButAsk old new → reserved_journal new ≡ reserved_journal old
-reserved-kept old new k = rw (k.opened, k.phase, k.addons, k.inits, k.depth) refl
+reserved-kept old new k = let course = course-parts old new k.course in rw (course.opened, course.phase, course.addons, course.inits, k.depth) refl
 
 pub core-called : (old new : Environment) (pages after : Pages) (x : Entry) (n : ℕ) → IsCore old pages → KeepsButAsk old new
     → length pages.entries + pages.promised + 1 ≤ pages.limit → n ≡ pages.promised → after ≡ written x n pages → IsCore new after
@@ -67,7 +67,8 @@ length-left (f ∷ fs) h = omega arith
 reserved-ended : (old new : Environment) → old.frames ≢ [] → KeepsButFrame old new → reserved_journal new + 1 ≡ reserved_journal old
 reserved-ended old new stands k =
     let left : length (tail old.frames) + 1 ≡ length old.frames = length-left old.frames stands in
-    rw (k.opened, k.phase, k.addons, k.inits, k.frames) (omega (arith, left))
+    let course = course-parts old new k.course in
+    rw (course.opened, course.phase, course.addons, course.inits, k.frames) (omega (arith, left))
 
 pub core-ended : (old new : Environment) (pages after : Pages) (x : Entry) (v : Option HandleId) (cut : Option Why) → IsCore old pages → old.frames ≢ []
     → new ≡ (frame_ended v cut old).after → after ≡ written x (pages.promised - 1) pages → IsCore new after

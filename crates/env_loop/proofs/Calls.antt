@@ -30,7 +30,7 @@ use Rattle.env_core.specs.Steps.{Replies, EntersBy, Enters}
 use Rattle.env_loop.specs.Recording.{machine_of, Continues}
 use Rattle.env_loop.specs.Runs.{IsSound}
 use Rattle.env_loop.specs.Turns.{IsTold, IsTurn}
-use Rattle.napi_types.proofs.Answers.{called-keeps}
+use Rattle.napi_types.proofs.Answers.{course-parts, called-keeps}
 use Rattle.napi_types.proofs.FrameChanges.{entered-keeps, asked_for-called, asked_for-entered, KeepsButFrames, asked_for-fits}
 use Rattle.napi_types.proofs.Owners.{callee-owned}
 use Rattle.env_loop.proofs.Recordings.{local-grown}
@@ -61,7 +61,7 @@ called-goes {ps} {core} {all} {f} {a} i c r new now below made reply told = λ s
     (in-calls i below) fresh_o room
     ∙ ap (λ x. locally m x true) (asked_for-called core.env c k reply.at_once))
     refl (asked-in i s history of rec) refl next.count next.agrees
-    (ap stage_of (called-keeps core.env c k).phase)
+    (ap stage_of (course-parts core.env (called core.env c k).after (called-keeps core.env c k).course).phase)
 
 -- a turn of a call, which comes to this change
 asked-turn : {ps : List Plan} {core : Core} {all : Registers} {f : Frame} {a : Ask} → InFrame ps core.env all f a
@@ -70,8 +70,9 @@ asked-turn : {ps : List Plan} {core : Core} {all : Registers} {f : Frame} {a : A
     → Continues ps core all (wrote change core) now → IsTurn ps core all new now
 asked-turn {ps} {core} {all} {f} {a} i c n change new now below same made others goes =
     let k : KeepsButFrames core.env (asked_for core.env c n).after (need c) = asked_for-fits core.env c n in
+    let course = course-parts core.env (asked_for core.env c n).after k.course in
     let Q : Change → Type 0 = λ x. Continues ps core all (wrote x core) now in
-    wrote-turn ps core new all now (asked_for core.env c n) (made ∙ ap (λ x. wrote x core) (sym same)) others (sound-asked i below c n) k.addons (ap stage_of k.phase) (subst Q (sym same) goes)
+    wrote-turn ps core new all now (asked_for core.env c n) (made ∙ ap (λ x. wrote x core) (sym same)) others (sound-asked i below c n) course.addons (ap stage_of course.phase) (subst Q (sym same) goes)
 
 pub replied-turn : (ps : List Plan) (core new : Core) (all now : Registers) (f : Frame) (a : Ask) (c : Call) (r : Reply) → InFrame ps core.env all f a
     → f.asks < most_asks → ask.Do c ≡ taken a
@@ -121,7 +122,7 @@ entered-goes {ps} {core} {all} {f} {a} e receiver g args target given_gifts new 
     (length-set rec.own i v ∙ rec.count)
     (agrees-set s.plans all now rec.own i v rec.count rec.agrees (others-given all now i gifts there given)
     (agrees-gifted (plan_of s.plans i) gifts (registers_of all i) (registers_of rec.own i) (registers_of now i) (rec.agrees i inside) (given-there all now i gifts there given)))
-    (ap stage_of (entered-keeps receiver g args core.env).phase)
+    (ap stage_of (course-parts core.env (entered receiver g args core.env).after (entered-keeps receiver g args core.env).course).phase)
 
 entering-turn : {ps : List Plan} {core : Core} {all : Registers} {f : Frame} {a : Ask} → InFrame ps core.env all f a
     → (receiver : Option HandleId) (g : HandleId) (args : Args) (target : Target)

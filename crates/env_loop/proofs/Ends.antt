@@ -24,6 +24,7 @@ use Rattle.env_core.specs.Core.{Core, wrote}
 use Rattle.env_loop.specs.Recording.{machine_of, Continues}
 use Rattle.env_loop.specs.Runs.{IsSound}
 use Rattle.env_loop.specs.Turns.{IsTold, IsTurn}
+use Rattle.napi_types.proofs.Answers.{course-parts}
 use Rattle.napi_types.proofs.FrameChanges.{KeepsButFrame, ended-keeps}
 use Rattle.napi_types.proofs.FrameEnds.{Ends, ended-ends}
 use Rattle.napi_types.proofs.Owners.{owned-ended}
@@ -62,17 +63,18 @@ ended-goes {ps} {core} {all} {f} {a} i v cut now next told = λ s history of rec
     e.who (asked-in i s history of rec)
     (ap (λ w. kept_at s.plans rec.own core.env a x.reply w) e.is)
     keeps.count keeps.agrees
-    (ap stage_of (ended-keeps v cut core.env).phase)
+    (ap stage_of (course-parts core.env (frame_ended v cut core.env).after (ended-keeps v cut core.env).course).phase)
 
 pub ended-turn : {ps : List Plan} {core : Core} {all : Registers} {f : Frame} {a : Ask} → InFrame ps core.env all f a
     → (v : Option HandleId) (cut : Option Why) (new : Core) (now : Registers)
     → EndIsNext core a v cut → new ≡ wrote (frame_ended v cut core.env) core → IsToldEnd ps all core.env v cut now → IsTurn ps core all new now
 ended-turn {ps} {core} {all} {f} {a} i v cut new now next made told =
     let k : KeepsButFrame core.env (frame_ended v cut core.env).after = ended-keeps v cut core.env in
+    let course = course-parts core.env (frame_ended v cut core.env).after k.course in
     let there : All (λ g. g.addon < core.env.addons) (callers_of core.env) = tail-below core.env.addons core.env.frames i.sound.owned.frames in
     wrote-turn ps core new all now (frame_ended v cut core.env) made
     (told-others core.env.addons ps all now (callers_of core.env) (frame_ended v cut core.env).entry.reply there told)
-    (sound-ended i v cut) k.addons (ap stage_of k.phase) (ended-goes i v cut now next told)
+    (sound-ended i v cut) course.addons (ap stage_of course.phase) (ended-goes i v cut now next told)
 
 -- the frame leaves
 pub left-turn : (ps : List Plan) (core new : Core) (all now : Registers) (f : Frame) (a : Ask) (v : Option HandleId) → InFrame ps core.env all f a

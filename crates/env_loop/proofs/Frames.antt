@@ -17,6 +17,7 @@ use Rattle.napi_types.specs.Plan.{Plan, Registers}
 use Rattle.napi_types.specs.Room.{need}
 use Rattle.env_loop.specs.Runs.{IsSound}
 use Rattle.env_loop.specs.Turns.{IsAsked}
+use Rattle.napi_types.proofs.Answers.{course-parts}
 use Rattle.napi_types.proofs.FrameChanges.{KeepsButFrame, ended-keeps, KeepsButFrames, asked_for-fits}
 use Rattle.napi_types.proofs.Owners.{owned-asked, owned-ended, within-asked, within-ended}
 use Rattle.env_loop.proofs.Steps.{two_may}
@@ -104,11 +105,13 @@ pub sound-asked : {ps : List Plan} {e : Environment} {all : Registers} {f : Fram
     → IsSound (asked_for e c n).after
 sound-asked {ps} {e} {all} {f} {a} i below c n =
     let k : KeepsButFrames e (asked_for e c n).after (need c) = asked_for-fits e c n in
-    sound-after e (asked_for e c n).after (in-some i) i.sound k.opened k.addons k.phase (owned-asked e.addons e c n (in-some i) i.sound.owned) (within-asked e c n (in-spare i below) i.sound.asks)
+    let course = course-parts e (asked_for e c n).after k.course in
+    sound-after e (asked_for e c n).after (in-some i) i.sound course.opened course.addons course.phase (owned-asked e.addons e c n (in-some i) i.sound.owned) (within-asked e c n (in-spare i below) i.sound.asks)
 
 -- .. and after the end of a frame
 pub sound-ended : {ps : List Plan} {e : Environment} {all : Registers} {f : Frame} {a : Ask} → InFrame ps e all f a → (v : Option HandleId) (cut : Option Why)
     → IsSound (frame_ended v cut e).after
 sound-ended {ps} {e} {all} {f} {a} i v cut =
     let k : KeepsButFrame e (frame_ended v cut e).after = ended-keeps v cut e in
-    sound-after e (frame_ended v cut e).after (in-some i) i.sound k.opened k.addons k.phase (owned-ended e.addons e v cut i.sound.owned) (within-ended e v cut i.sound.asks)
+    let course = course-parts e (frame_ended v cut e).after k.course in
+    sound-after e (frame_ended v cut e).after (in-some i) i.sound course.opened course.addons course.phase (owned-ended e.addons e v cut i.sound.owned) (within-ended e v cut i.sound.asks)

@@ -4,6 +4,7 @@ use Rattle.std.proofs.lemmas.List.{length-map}
 use Rattle.std.specs.Option.{option_or}
 use Rattle.napi_types.specs.declared.call.Call.{Call}
 use Rattle.napi_types.specs.declared.call.Call.TheVariants as call
+use Rattle.napi_types.specs.declared.entry.Phase.{Phase}
 use Rattle.napi_types.specs.declared.ids.TextNo.{TextNo}
 use Rattle.napi_types.specs.declared.status.Status.{Status}
 use Rattle.napi_types.specs.declared.status.Status.TheVariants as status
@@ -106,21 +107,43 @@ by-refusal texts addon heap c n (Some s) h = same heap
 pub answer_in-keeps : (texts addon : ℕ) (heap : Heap) (c : Call) (n : ℕ) → HeapKeeps heap (answer_in texts addon heap c n).after
 answer_in-keeps texts addon heap c n = by-refusal texts addon heap c n (refusal_in texts heap c) refl
 
--- what a call keeps of the environment: all but the heap, the references and the pending exception. It issues one reference number at most
-pub record Keeps (old new : Environment) : Type 0 where
+-- what no call and no frame changes: how many addons there are, whether the opening stands, the init frames that began, and the phase. A field more of the
+-- environment that none of them changes is one line more in each of these
+pub record Course : Type 0 where
+  pub addons : ℕ
+  pub opened : Bool
+  pub inits : ℕ
+  pub phase : Phase
+
+abbrev pub course_of : Environment → Course
+course_of e = record { addons = e.addons; opened = e.opened; inits = e.inits; phase = e.phase }
+
+pub record SameCourse (old new : Environment) : Type 0 where
   pub addons : new.addons ≡ old.addons
   pub opened : new.opened ≡ old.opened
   pub inits : new.inits ≡ old.inits
   pub phase : new.phase ≡ old.phase
+
+pub course-parts : (old new : Environment) → course_of new ≡ course_of old → SameCourse old new
+course-parts old new same = record {
+  addons = ap (λ (c : Course). c.addons) same;
+  opened = ap (λ (c : Course). c.opened) same;
+  inits = ap (λ (c : Course). c.inits) same;
+  phase = ap (λ (c : Course). c.phase) same;
+}
+
+-- what a call keeps of the environment: all but the heap, the references and the pending exception. It issues one reference number at most
+pub record Keeps (old new : Environment) : Type 0 where
+  pub course : course_of new ≡ course_of old
   pub frames : new.frames ≡ old.frames
   pub heap : HeapKeeps old.heap new.heap
   pub references : length new.references.issued ≤ length old.references.issued + 1
 
 keeps-all : (e : Environment) → Keeps e e
-keeps-all e = record { addons = refl; opened = refl; inits = refl; phase = refl; frames = refl; heap = same e.heap; references = omega arith }
+keeps-all e = record { course = refl; frames = refl; heap = same e.heap; references = omega arith }
 
 keeps-heap : (e : Environment) (c : Call) (n : ℕ) → refusal_in e.texts e.heap c ≡ None → Keeps e (record e { heap = (accepted_of (caller_of e.frames) e.heap c n).after })
-keeps-heap e c n h = record { addons = refl; opened = refl; inits = refl; phase = refl; frames = refl; heap = accepted_of-keeps e.texts (caller_of e.frames) e.heap c n h; references = omega arith }
+keeps-heap e c n h = record { course = refl; frames = refl; heap = accepted_of-keeps e.texts (caller_of e.frames) e.heap c n h; references = omega arith }
 
 thrown-keeps : (heap : Heap) (code : Option TextNo) (message : TextNo) → HeapKeeps heap (with_thrown code message heap)
 thrown-keeps heap None message = in-scopes-made heap _ refl (omega arith) (omega arith) (omega arith)
@@ -128,7 +151,7 @@ thrown-keeps heap (Some code) message = in-scopes-made heap _ refl (omega arith)
 
 -- the references, or the values, are others, and nothing is issued
 keeps-references : (e : Environment) (m : ReferenceMap) → length m.issued ≤ length e.references.issued + 1 → Keeps e (record e { references = m })
-keeps-references e m h = record { addons = refl; opened = refl; inits = refl; phase = refl; frames = refl; heap = same e.heap; references = h }
+keeps-references e m h = record { course = refl; frames = refl; heap = same e.heap; references = h }
 
 counted-keeps : (r : ℕ) (e : Environment) (v : Option ℕ) → Keeps e (counted_up r e v).after
 counted-keeps r e None = keeps-all e
@@ -136,17 +159,17 @@ counted-keeps r e (Some v) = keeps-references e _ (omega arith)
 
 told-keeps : (e : Environment) (v : Option ℕ) → Keeps e (value_told e v).after
 told-keeps e None = keeps-all e
-told-keeps e (Some v) = record { addons = refl; opened = refl; inits = refl; phase = refl; frames = refl; heap = handled e.heap e.heap _ refl refl refl (omega arith); references = omega arith }
+told-keeps e (Some v) = record { course = refl; frames = refl; heap = handled e.heap e.heap _ refl refl refl (omega arith); references = omega arith }
 
 collected-keeps : (e : Environment) (alive : List ℕ) → Keeps e (collected alive e)
-collected-keeps e alive = record { addons = refl; opened = refl; inits = refl; phase = refl; frames = refl; heap = in-scopes e.heap _ refl (omega arith) (omega arith) refl; references = omega arith }
+collected-keeps e alive = record { course = refl; frames = refl; heap = in-scopes e.heap _ refl (omega arith) (omega arith) refl; references = omega arith }
 
 accepted_by-keeps : (e : Environment) (c : Call) (n : ℕ) → refusal_in e.texts e.heap c ≡ None → Keeps e (accepted_by e c n).after
-accepted_by-keeps e (call.Throw v) n h = record { addons = refl; opened = refl; inits = refl; phase = refl; frames = refl; heap = same e.heap; references = omega arith }
-accepted_by-keeps e (call.ThrowError code message) n h = record { addons = refl; opened = refl; inits = refl; phase = refl; frames = refl; heap = thrown-keeps e.heap code message; references = omega arith }
+accepted_by-keeps e (call.Throw v) n h = record { course = refl; frames = refl; heap = same e.heap; references = omega arith }
+accepted_by-keeps e (call.ThrowError code message) n h = record { course = refl; frames = refl; heap = thrown-keeps e.heap code message; references = omega arith }
 accepted_by-keeps e call.IsExceptionPending n h = keeps-all e
 accepted_by-keeps e call.GetLastErrorInfo n h = keeps-all e
-accepted_by-keeps e call.GetAndClearLastException n h = record { addons = refl; opened = refl; inits = refl; phase = refl; frames = refl; heap = handled e.heap e.heap _ refl refl refl (omega arith); references = omega arith }
+accepted_by-keeps e call.GetAndClearLastException n h = record { course = refl; frames = refl; heap = handled e.heap e.heap _ refl refl refl (omega arith); references = omega arith }
 accepted_by-keeps e (call.CreateReference v count) n h = keeps-references e _ (length-with_record (λ m. m) n e.references.issued)
 accepted_by-keeps e (call.DeleteReference r) n h = keeps-references e _ (omega arith)
 accepted_by-keeps e (call.ReferenceRef r) n h = counted-keeps r.0 e (value_of e.references r.0)
@@ -164,7 +187,7 @@ given-keeps e c n None h = accepted_by-keeps e c n (none-right (reference_refusa
 given-keeps e c n (Some s) h = keeps-all e
 
 limit-keeps : (e : Environment) → Keeps e (at_depth_limit e)
-limit-keeps e = record { addons = refl; opened = refl; inits = refl; phase = refl; frames = refl; heap = thrown-keeps e.heap None _; references = omega arith }
+limit-keeps e = record { course = refl; frames = refl; heap = thrown-keeps e.heap None _; references = omega arith }
 
 at-keeps : (e : Environment) (c : Call) (n : ℕ) (early deep : Option Status) → early_refusal e c ≡ early → Keeps e (answer_at e c n early deep).after
 at-keeps e c n early None h = given-keeps e c n early h
@@ -176,20 +199,14 @@ answer-keeps e c n = at-keeps e c n (early_refusal e c) (depth_refusal e.frames 
 
 -- what a call's entry keeps: the addons, the opening, the init frames that began, the phase, and how many frames stand; one of them has made one ask more
 pub record KeepsButAsk (old new : Environment) : Type 0 where
-  pub addons : new.addons ≡ old.addons
-  pub opened : new.opened ≡ old.opened
-  pub inits : new.inits ≡ old.inits
-  pub phase : new.phase ≡ old.phase
+  pub course : course_of new ≡ course_of old
   pub depth : length new.frames ≡ length old.frames
   pub heap : HeapKeeps old.heap new.heap
   pub references : length new.references.issued ≤ length old.references.issued + 1
 
 pub called-keeps : (e : Environment) (c : Call) (n : ℕ) → KeepsButAsk e (called e c n).after
 called-keeps e c n = record {
-  addons = (answer-keeps e c n).addons;
-  opened = (answer-keeps e c n).opened;
-  inits = (answer-keeps e c n).inits;
-  phase = (answer-keeps e c n).phase;
+  course = (answer-keeps e c n).course;
   depth = length-changed _ (answer e c n).after.frames ∙ ap length (answer-keeps e c n).frames;
   heap = (answer-keeps e c n).heap;
   references = (answer-keeps e c n).references;

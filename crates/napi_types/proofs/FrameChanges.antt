@@ -17,15 +17,12 @@ use Rattle.napi_types.specs.FunctionCalls.{callee_of}
 use Rattle.napi_types.specs.Lists.{tail, first_changed}
 use Rattle.napi_types.specs.Refusals.{refusal}
 use Rattle.napi_types.specs.Room.{need}
-use Rattle.napi_types.proofs.Answers.{KeepsButAsk, called-keeps}
+use Rattle.napi_types.proofs.Answers.{course_of, KeepsButAsk, called-keeps}
 
 -- THE END OF A FRAME
 -- what the end of a frame keeps: all but its frame and its scopes, the pending exception and the last status; it issues one handle at most
 pub record KeepsButFrame (old new : Environment) : Type 0 where
-  pub addons : new.addons ≡ old.addons
-  pub opened : new.opened ≡ old.opened
-  pub inits : new.inits ≡ old.inits
-  pub phase : new.phase ≡ old.phase
+  pub course : course_of new ≡ course_of old
   pub frames : new.frames ≡ tail old.frames
   pub values : new.heap.values ≡ old.heap.values
   pub made : new.heap.made ≡ old.heap.made
@@ -34,13 +31,13 @@ pub record KeepsButFrame (old new : Environment) : Type 0 where
   pub references : new.references ≡ old.references
 
 left-keeps : (v : Option HandleId) (e : Environment) (pending : Option ℕ) → KeepsButFrame e (call_left v e pending).after
-left-keeps v e (Some p) = record { addons = refl; opened = refl; inits = refl; phase = refl; frames = refl; values = refl; made = refl; handles = omega arith; scope_numbers = refl; references = refl }
-left-keeps v e None = record { addons = refl; opened = refl; inits = refl; phase = refl; frames = refl; values = refl; made = refl; handles = omega arith; scope_numbers = refl; references = refl }
+left-keeps v e (Some p) = record { course = refl; frames = refl; values = refl; made = refl; handles = omega arith; scope_numbers = refl; references = refl }
+left-keeps v e None = record { course = refl; frames = refl; values = refl; made = refl; handles = omega arith; scope_numbers = refl; references = refl }
 
 by-cause : (v : Option HandleId) (cut : Option Why) (e : Environment) (c : Cause) → KeepsButFrame e (ended_by v cut e c).after
-by-cause v (Some w) e cause.Call = record { addons = refl; opened = refl; inits = refl; phase = refl; frames = refl; values = refl; made = refl; handles = omega arith; scope_numbers = refl; references = refl }
+by-cause v (Some w) e cause.Call = record { course = refl; frames = refl; values = refl; made = refl; handles = omega arith; scope_numbers = refl; references = refl }
 by-cause v None e cause.Call = left-keeps v e e.pending
-by-cause v cut e _ = record { addons = refl; opened = refl; inits = refl; phase = refl; frames = refl; values = refl; made = refl; handles = omega arith; scope_numbers = refl; references = refl }
+by-cause v cut e _ = record { course = refl; frames = refl; values = refl; made = refl; handles = omega arith; scope_numbers = refl; references = refl }
 
 pub ended-keeps : (v : Option HandleId) (cut : Option Why) (e : Environment) → KeepsButFrame e (frame_ended v cut e).after
 ended-keeps v cut e = by-cause v cut e (cause_of e.frames)
@@ -48,10 +45,7 @@ ended-keeps v cut e = by-cause v cut e (cause_of e.frames)
 -- THE BEGIN OF A CALL'S FRAME
 -- what an accepted call of a function keeps: all but its frame and its scope; it makes no value, and issues one handle at most
 pub record KeepsAndEnters (old new : Environment) (f : HandleId) : Type 0 where
-  pub addons : new.addons ≡ old.addons
-  pub opened : new.opened ≡ old.opened
-  pub inits : new.inits ≡ old.inits
-  pub phase : new.phase ≡ old.phase
+  pub course : course_of new ≡ course_of old
   pub frames : new.frames ≡ callee_of old.heap f ∷ ask_counted old.frames
   pub values : new.heap.values ≡ old.heap.values
   pub made : new.heap.made ≡ old.heap.made
@@ -60,8 +54,8 @@ pub record KeepsAndEnters (old new : Environment) (f : HandleId) : Type 0 where
   pub references : new.references ≡ old.references
 
 pub entered-keeps : (receiver : Option HandleId) (f : HandleId) (args : Args) (e : Environment) → KeepsAndEnters e (entered receiver f args e).after f
-entered-keeps None f args e = record { addons = refl; opened = refl; inits = refl; phase = refl; frames = refl; values = refl; made = refl; handles = omega arith; scope_numbers = refl; references = refl }
-entered-keeps (Some h) f args e = record { addons = refl; opened = refl; inits = refl; phase = refl; frames = refl; values = refl; made = refl; handles = omega arith; scope_numbers = refl; references = refl }
+entered-keeps None f args e = record { course = refl; frames = refl; values = refl; made = refl; handles = omega arith; scope_numbers = refl; references = refl }
+entered-keeps (Some h) f args e = record { course = refl; frames = refl; values = refl; made = refl; handles = omega arith; scope_numbers = refl; references = refl }
 
 -- WHAT A CALL COMES TO
 -- a call that enters no frame answers at once
@@ -81,10 +75,7 @@ asked_for-entered e receiver f args n h = ap (λ s. calling receiver f args n e 
 
 -- what a call keeps, and how many frames stand after it: it owes no more ends than it has places for
 pub record KeepsButFrames (old new : Environment) (places : ℕ) : Type 0 where
-  pub addons : new.addons ≡ old.addons
-  pub opened : new.opened ≡ old.opened
-  pub inits : new.inits ≡ old.inits
-  pub phase : new.phase ≡ old.phase
+  pub course : course_of new ≡ course_of old
   pub depth : length new.frames + 1 ≤ length old.frames + places
 
 length-changed : {A : Type 0} (f : A → A) (xs : List A) → length (first_changed f xs) ≡ length xs
@@ -97,7 +88,7 @@ counted a b c e h = omega (arith, e, h)
 called-fits : (e : Environment) (c : Call) (n : ℕ) → 1 ≤ need c → KeepsButFrames e (called e c n).after (need c)
 called-fits e c n one =
     let k : KeepsButAsk e (called e c n).after = called-keeps e c n in
-    record { addons = k.addons; opened = k.opened; inits = k.inits; phase = k.phase; depth = counted (length (called e c n).after.frames) (length e.frames) (need c) k.depth one }
+    record { course = k.course; depth = counted (length (called e c n).after.frames) (length e.frames) (need c) k.depth one }
 
 calling-fits : (receiver : Option HandleId) (f : HandleId) (args : Args) (n : ℕ) (e : Environment) (s : Option Status)
     → KeepsButFrames e (calling receiver f args n e s).after 2
@@ -105,10 +96,7 @@ calling-fits receiver f args n e (Some s) = called-fits e (call.CallFunction rec
 calling-fits receiver f args n e None =
     let k : KeepsAndEnters e (entered receiver f args e).after f = entered-keeps receiver f args e in
     record {
-      addons = k.addons;
-      opened = k.opened;
-      inits = k.inits;
-      phase = k.phase;
+      course = k.course;
       depth = two (length (entered receiver f args e).after.frames) (length e.frames) (length (ask_counted e.frames)) (ap length k.frames) (length-changed _ e.frames);
     }
   where

@@ -33,6 +33,7 @@ use Rattle.napi_types.specs.Step.{locally, hub_moved, by_hub, event_step, chosen
 use Rattle.napi_types.specs.Whole.{Setting, final_of, opening_of}
 use Rattle.napi_types.specs.Phases.{stage_of}
 use Rattle.napi_types.proofs.Runs.{and-right}
+use Rattle.napi_types.proofs.Answers.{SameCourse, course-parts}
 use Rattle.napi_types.proofs.FrameChanges.{KeepsButFrame, ended-keeps, KeepsButFrames, asked_for-fits}
 
 abbrev pub is_init : Phase → Bool
@@ -64,7 +65,7 @@ abbrev other_places : Environment → ℕ
 other_places e = one_if (not e.opened) + gone_place e.phase + 2 * (e.addons - e.inits)
 
 same-others : (d e : Environment) (n : ℕ) → KeepsButFrames e d n → other_places d ≡ other_places e
-same-others d e n k = rw (k.opened, k.phase, k.addons, k.inits) refl
+same-others d e n k = let same = course-parts e d k.course in rw (same.opened, same.phase, same.addons, same.inits) refl
 
 call-room : (l : Limits) (m : Machine) (c : Call) (o : Out) (f : Frame) (fs : List Frame) → m.env.frames ≡ f ∷ fs
     → Roomy l m → IsTrue (call_step m c o).may → Roomy l (call_step m c o).after
@@ -72,6 +73,7 @@ call-room l m c o f fs e r h =
     let n : ℕ = number_of o in
     let d : Environment = (asked_for m.env c n).after in
     let k : KeepsButFrames m.env d (need c) = asked_for-fits m.env c n in
+    let course : SameCourse m.env d = course-parts m.env d k.course in
     let free : is_full (room_of m c) c ≡ false = not-full _ (and-right (may_call m.env && is_fresh m.env o) (not (is_full (room_of m c) c)) h) in
     let P : Limits → Type 0 = λ q. m.locals + 1 + reserved_journal d ≤ q.journal in
     let Q : ℕ → Type 0 = λ b. m.locals + 1 + (b + length d.frames) ≤ m.limits.journal in
@@ -80,10 +82,10 @@ call-room l m c o f fs e r h =
       journal = subst P r.limits (subst Q (sym (same-others d m.env (need c) k))
           (call-fits m.locals (other_places m.env) (length d.frames) (length m.env.frames) (need c) m.limits.journal free k.depth));
       history = r.history;
-      stage = r.stage ∙ ap stage_of (sym k.phase);
-      opened = λ p. k.opened ∙ r.opened (ap is_init (sym k.phase) ∙ p);
-      inits = λ p. rw (k.inits, k.addons) (r.inits (ap is_init (sym k.phase) ∙ p));
-      bare = λ p. let z : length (f ∷ fs) ≡ 0 = rw e at (r.bare (sym k.phase ∙ p)) in absurd (omega (arith, z));
+      stage = r.stage ∙ ap stage_of (sym course.phase);
+      opened = λ p. course.opened ∙ r.opened (ap is_init (sym course.phase) ∙ p);
+      inits = λ p. rw (course.inits, course.addons) (r.inits (ap is_init (sym course.phase) ∙ p));
+      bare = λ p. let z : length (f ∷ fs) ≡ 0 = rw e at (r.bare (sym course.phase ∙ p)) in absurd (omega (arith, z));
     }
 
 -- THE END OF A FRAME
@@ -95,17 +97,18 @@ end-room : (l : Limits) (m : Machine) (v : Option HandleId) (w : Option Why) (b 
 end-room l m v w b f fs e r =
     let d : Environment = (frame_ended v w m.env).after in
     let k : KeepsButFrame m.env d = ended-keeps v w m.env in
+    let course : SameCourse m.env d = course-parts m.env d k.course in
     let left : d.frames ≡ fs = k.frames ∙ ap tail e in
     let j : m.locals + (other_places m.env + length (f ∷ fs)) ≤ l.journal = rw e at r.journal in
-    let same : other_places d ≡ other_places m.env = rw (k.opened, k.phase, k.addons, k.inits) refl in
+    let same : other_places d ≡ other_places m.env = rw (course.opened, course.phase, course.addons, course.inits) refl in
     record {
       limits = r.limits;
       journal = rw (same, left) (end-fits m.locals (other_places m.env) (length fs) l.journal j);
       history = r.history;
-      stage = r.stage ∙ ap stage_of (sym k.phase);
-      opened = λ p. k.opened ∙ r.opened (ap is_init (sym k.phase) ∙ p);
-      inits = λ p. rw (k.inits, k.addons) (r.inits (ap is_init (sym k.phase) ∙ p));
-      bare = λ p. let z : length (f ∷ fs) ≡ 0 = rw e at (r.bare (sym k.phase ∙ p)) in absurd (omega (arith, z));
+      stage = r.stage ∙ ap stage_of (sym course.phase);
+      opened = λ p. course.opened ∙ r.opened (ap is_init (sym course.phase) ∙ p);
+      inits = λ p. rw (course.inits, course.addons) (r.inits (ap is_init (sym course.phase) ∙ p));
+      bare = λ p. let z : length (f ∷ fs) ≡ 0 = rw e at (r.bare (sym course.phase ∙ p)) in absurd (omega (arith, z));
     }
 
 -- AN EVENT OF THE HUB
