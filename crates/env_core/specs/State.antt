@@ -1,5 +1,5 @@
 -- The environment's state as the machine sees it.
-use Rattle.std.specs.Prelude.{◌≡◌, ℕ, ◌+◌, Bool, true, false, List, ◌∷◌, length, map, Option, None, option_map, IfSome, IsTrue}
+use Rattle.std.specs.Prelude.{◌≡◌, ℕ, ◌+◌, ◌<◌, ◌^◌, Bool, true, false, List, ◌∷◌, length, map, Option, None, option_map, IfSome, IsTrue}
 use Rattle.napi_types.specs.declared.call.Args.{Args}
 use Rattle.napi_types.specs.declared.call.Call.{Call}
 use Rattle.napi_types.specs.declared.call.Call.TheVariants as call
@@ -23,6 +23,7 @@ use Rattle.napi_types.specs.Heap.{frame_entered}
 use Rattle.napi_types.specs.References.{ReferenceMap}
 use Rattle.napi_types.specs.Refusals.{timely_refusal, refusal}
 use Rattle.napi_types.specs.Replies.{Answer}
+use Rattle.napi_types.specs.Values.{most_names}
 use Rattle.handle_scope.specs.HandleScopes.{HandleScopes}
 use Rattle.env_core.specs.declared.state.calling.Called.{Called}
 use Rattle.env_core.specs.declared.state.calling.Called.TheVariants as called_of
@@ -46,6 +47,13 @@ pub record IsState (store : StoreState) (scopes : HandleScopes) (standing : List
   pub calls : scopes.by_call ≡ map (λ f. is_by_call f.cause) standing
   pub pending : IfSome thrown (IsLive store)
   pub referred : RefersToLive store references
+
+-- numbers are left for all that one call may issue: values, a handle, a scope and a reference
+pub record HasNumbersFor (e : Environment) : Type 0 where
+  pub values : e.heap.made + most_names + 8 < 2 ^ 48
+  pub handles : e.heap.handles < 2 ^ 62
+  pub scopes : length e.heap.scope_numbers < 2 ^ 62
+  pub references : length e.references.issued + 2 < 2 ^ 48
 
 -- the call that opens a scope of a kind, and the one that closes it
 abbrev pub opening_call : ScopeKind → Call

@@ -12,7 +12,7 @@ ghost use Rattle.napi_types.specs.Refusals.{is_known, is_tearing, moment_refusal
 ghost use Rattle.napi_types.specs.Room.{is_growing};
 ghost use Rattle.napi_types.specs.Values.{most_names};
 ghost use Rattle.env_core.specs.Core.{next_init};
-ghost use Rattle.env_core.specs.State.{Calls, Answers, AnswersInTime, opening_call, closing_call};
+ghost use Rattle.env_core.specs.State.{HasNumbersFor, Calls, Answers, AnswersInTime, opening_call, closing_call};
 
 mod calling;
 mod collection;
@@ -137,10 +137,7 @@ impl State {
         requires at_once { is_calling call.now ≡ false }
         requires ask { step ≡ asks_made self.old.frames }
         requires within { step < most_asks }
-        requires values { self.old.heap.made + most_names + 8 < 2 ^ 48 }
-        requires handles { self.old.heap.handles < 2 ^ 62 }
-        requires scopes { length self.old.heap.scope_numbers < 2 ^ 62 }
-        requires references { length self.old.references.issued + 2 < 2 ^ 48 }
+        requires numbers { HasNumbersFor self.old }
         ensures ok { IfOk result (λ entry. Calls self.old call.now entry self.new) }
         ensures err { OnErr result (self.new ≡ self.old) }
         ensures growing { OnErr result (IsTrue (is_growing call.now)) }
@@ -198,10 +195,7 @@ impl State {
         requires standing { self.old.frames ≢ [] }
         requires built { is_built call.now ≡ true }
         requires at_once { is_calling call.now ≡ false }
-        requires values { self.old.heap.made + most_names + 8 < 2 ^ 48 }
-        requires handles { self.old.heap.handles < 2 ^ 62 }
-        requires scopes { length self.old.heap.scope_numbers < 2 ^ 62 }
-        requires references { length self.old.references.issued + 2 < 2 ^ 48 }
+        requires numbers { HasNumbersFor self.old }
         ensures ok { IfOk result (λ reply. Answers self.old call.now reply self.new) }
         ensures err { OnErr result (self.new ≡ self.old) }
         ensures growing { OnErr result (IsTrue (is_growing call.now)) }
@@ -239,10 +233,7 @@ impl State {
         requires standing { self.old.frames ≢ [] }
         requires built { is_built call.now ≡ true }
         requires at_once { is_calling call.now ≡ false }
-        requires values { self.old.heap.made + most_names + 8 < 2 ^ 48 }
-        requires handles { self.old.heap.handles < 2 ^ 62 }
-        requires scopes { length self.old.heap.scope_numbers < 2 ^ 62 }
-        requires references { length self.old.references.issued + 2 < 2 ^ 48 }
+        requires numbers { HasNumbersFor self.old }
         ensures ok { IfOk result (λ reply. AnswersInTime self.old call.now reply self.new) }
         ensures err { OnErr result (self.new ≡ self.old) }
         ensures growing { OnErr result (IsTrue (is_growing call.now)) }
