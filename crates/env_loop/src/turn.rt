@@ -19,7 +19,7 @@ use napi_types::{Ask, Call, HandleId, Phase, Status, Why};
 const MOST_ASKS: u32 = 65536;
 
 /// What a turn of the environment comes to.
-#[derive(Clone, Copy)]
+#[derive(Clone, Copy, Debug, PartialEq, Eq)]
 pub enum LocalTurn {
     /// It made one entry of the journal.
     Made,

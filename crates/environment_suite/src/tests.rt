@@ -4,7 +4,7 @@ ghost use Rattle.std.specs.Prelude.{◌+◌, ◌*◌, ◌≤◌, ◌<◌, ◌≢
 ghost use Rattle.napi_types.specs.Room.{most_entries};
 
 use env_core::{EnvCore, Stepped};
-use napi_types::{Call, HandleId, Limits, NAPI_VERSION, Out, Why};
+use napi_types::{Call, HandleId, Limits, NAPI_VERSION, Out, Status, Why};
 use std::alloc::Global;
 use std::process::Abort;
 use std::test::Fail;
@@ -25,6 +25,9 @@ const NOTHING: Told = ("nothing", 0);
 /// No frame is entered.
 const NO_GIFTS: [u64; 8] = [0; 8];
 
+/// What something comes to: a status and a result, and the gifts of a frame that was entered.
+type Found = (Status, Told, [u64; 8]);
+
 /// What is done with an environment, and what it is to answer.
 #[derive(Clone, Copy)]
 enum Act {
@@ -35,15 +38,15 @@ enum Act {
     /// A call that is accepted and tells this.
     Told(Call, Told),
     /// A call that is refused with this status.
-    Refused(Call, u16),
+    Refused(Call, Status),
     /// A call of a function that enters a frame of this entry of the first addon, with these gifts.
     Entered(Call, u32, [u64; 8]),
     /// A call that stops for want of room.
     Full(Call),
     /// The end of the innermost frame, which leaves the value of a handle: its status and what it tells.
-    Left(Option<HandleId>, u16, Told),
+    Left(Option<HandleId>, Status, Told),
     /// The end of the innermost frame, which is cut for want of memory: its status.
-    Cut(u16),
+    Cut(Status),
     /// The next addon's init frame begins.
     Begun,
     /// So many frames stand.
@@ -101,13 +104,15 @@ fn told(out: Out) -> Told {
 }
 
 /// What a step comes to: its status and its result.
-fn answer(stepped: &Stepped) -> (u16, Told) {
+fn answer(stepped: &Stepped) -> (Status, Told) {
     match stepped {
-        Stepped::Reply(reply) => (reply.status.number(), told(reply.out)),
-        Stepped::Enter(target, _) if target.addon == 0 => (0, ("entry", target.entry as u64)),
-        Stepped::Enter(..) => (0, ("another addon's entry", 0)),
-        Stepped::Shared(_) => (0, ("shared", 0)),
-        Stepped::Stop(status) => (status.number(), ("stop", 0)),
+        Stepped::Reply(reply) => (reply.status, told(reply.out)),
+        Stepped::Enter(target, _) if target.addon == 0 => {
+            (Status::Ok, ("entry", target.entry as u64))
+        }
+        Stepped::Enter(..) => (Status::Ok, ("another addon's entry", 0)),
+        Stepped::Shared(_) => (Status::Ok, ("shared", 0)),
+        Stepped::Stop(status) => (*status, ("stop", 0)),
     }
 }
 
@@ -120,33 +125,29 @@ fn gifts(stepped: &Stepped) -> [u64; 8] {
 }
 
 /// The end of the innermost frame.
-fn left(
-    core: &mut EnvCore,
-    value: Option<HandleId>,
-    cut: Option<Why>,
-) -> Result<(u16, Told, [u64; 8]), Fail>
+fn left(core: &mut EnvCore, value: Option<HandleId>, cut: Option<Why>) -> Result<Found, Fail>
     requires { cut ≢ Some Why.Asks }
 {
     if core.frame().is_none() {
         return Err(Fail::new("no frame stands"));
     }
     let reply = core.leave(value, cut);
-    Ok((reply.status.number(), told(reply.out), NO_GIFTS))
+    Ok((reply.status, told(reply.out), NO_GIFTS))
 }
 
 /// The next addon's init frame begins, where no frame stands.
-fn begin_next(core: &mut EnvCore) -> Result<(u16, Told, [u64; 8]), Fail> {
+fn begin_next(core: &mut EnvCore) -> Result<Found, Fail> {
     match (core.frame(), core.next_init()) {
         (None, Some(addon)) => {
             core.begin_init(addon);
-            Ok((0, NOTHING, NO_GIFTS))
+            Ok((Status::Ok, NOTHING, NO_GIFTS))
         }
         _ => Err(Fail::new("no init frame can begin")),
     }
 }
 
-/// Does it, and answers what it came to: a status and a result, and the gifts of a frame that was entered.
-fn found(core: &mut EnvCore, act: &Act) -> Result<(u16, Told, [u64; 8]), Fail> {
+/// Does it, and answers what it came to.
+fn found(core: &mut EnvCore, act: &Act) -> Result<Found, Fail> {
     match act {
         Act::Given(call, _)
         | Act::Accepted(call)
@@ -161,24 +162,28 @@ fn found(core: &mut EnvCore, act: &Act) -> Result<(u16, Told, [u64; 8]), Fail> {
         Act::Left(value, _, _) => left(core, *value, None),
         Act::Cut(_) => left(core, None, Some(Why::Memory)),
         Act::Begun => begin_next(core),
-        Act::Depth(_) => Ok((0, ("depth", core.depth() as u64), NO_GIFTS)),
-        Act::Journal(_) => Ok((0, ("journal", core.journal().len() as u64), NO_GIFTS)),
+        Act::Depth(_) => Ok((Status::Ok, ("depth", core.depth() as u64), NO_GIFTS)),
+        Act::Journal(_) => Ok((
+            Status::Ok,
+            ("journal", core.journal().len() as u64),
+            NO_GIFTS,
+        )),
     }
 }
 
 /// What it is to come to.
-fn expected(act: &Act) -> (u16, Told, [u64; 8]) {
+fn expected(act: &Act) -> Found {
     match act {
-        Act::Given(_, handle) => (0, ("handle", *handle), NO_GIFTS),
-        Act::Accepted(_) | Act::Begun => (0, NOTHING, NO_GIFTS),
-        Act::Told(_, result) => (0, *result, NO_GIFTS),
+        Act::Given(_, handle) => (Status::Ok, ("handle", *handle), NO_GIFTS),
+        Act::Accepted(_) | Act::Begun => (Status::Ok, NOTHING, NO_GIFTS),
+        Act::Told(_, result) => (Status::Ok, *result, NO_GIFTS),
         Act::Refused(_, status) => (*status, NOTHING, NO_GIFTS),
-        Act::Entered(_, entry, gifts) => (0, ("entry", *entry as u64), *gifts),
-        Act::Full(_) => (1001, ("stop", 0), NO_GIFTS),
+        Act::Entered(_, entry, gifts) => (Status::Ok, ("entry", *entry as u64), *gifts),
+        Act::Full(_) => (Status::TraceFull, ("stop", 0), NO_GIFTS),
         Act::Left(_, status, result) => (*status, *result, NO_GIFTS),
         Act::Cut(status) => (*status, ("cut for memory", 0), NO_GIFTS),
-        Act::Depth(depth) => (0, ("depth", *depth as u64), NO_GIFTS),
-        Act::Journal(length) => (0, ("journal", *length as u64), NO_GIFTS),
+        Act::Depth(depth) => (Status::Ok, ("depth", *depth as u64), NO_GIFTS),
+        Act::Journal(length) => (Status::Ok, ("journal", *length as u64), NO_GIFTS),
     }
 }
 

@@ -5,7 +5,7 @@ ghost use Rattle.napi_types.specs.Values.{kind_of};
 use crate::{Kind, TextNo};
 
 /// What a value is, its properties and elements aside. An array and an error are objects.
-#[derive(Clone, Copy)]
+#[derive(Clone, Copy, Debug, PartialEq, Eq)]
 pub enum Body {
     Undefined,
     Null,

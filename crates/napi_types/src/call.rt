@@ -6,7 +6,7 @@ ghost use Rattle.napi_types.specs.Guards.{is_guarded, is_registering};
 use crate::{HandleId, RefId, ScopeId, TextNo, TsfnId, WorkId};
 
 /// What an asynchronous work computes.
-#[derive(Clone, Copy)]
+#[derive(Clone, Copy, Debug, PartialEq, Eq)]
 pub enum JobSpec {
     /// The sum of the whole numbers up to this one.
     Sum(u64),
@@ -15,21 +15,21 @@ pub enum JobSpec {
 }
 
 /// Whether a call of a thread-safe function may wait where its queue is full.
-#[derive(Clone, Copy)]
+#[derive(Clone, Copy, Debug, PartialEq, Eq)]
 pub enum Mode {
     Nonblocking,
     Blocking,
 }
 
 /// How a thread-safe function is released: by one, or with all that still hold it.
-#[derive(Clone, Copy)]
+#[derive(Clone, Copy, Debug, PartialEq, Eq)]
 pub enum Release {
     Release,
     Abort,
 }
 
 /// The arguments of a call of a function, at most four. A count above 4 is read as 4, and unused places are 0.
-#[derive(Clone, Copy)]
+#[derive(Clone, Copy, Debug, PartialEq, Eq)]
 pub struct Args {
     pub count: u8,
     pub handles: [HandleId; 4],

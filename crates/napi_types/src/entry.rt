@@ -4,9 +4,11 @@ ghost use Rattle.napi_types.specs.Replies.{plain as plain_reply};
 
 use crate::{Call, HandleId, Kind, RefId, ScopeId, Status, TextNo, Ticket, TsfnId, WorkId};
 use std::alloc::{AllocError, AllocFailed};
+use std::error::Error;
+use std::fmt;
 
 /// Who made an entry.
-#[derive(Clone, Copy)]
+#[derive(Clone, Copy, Debug, PartialEq, Eq)]
 pub enum Actor {
     Env,
     Thread(u32),
@@ -16,7 +18,7 @@ pub enum Actor {
 /// An obligation: a ticket's finalizer or hook, the completion of a work, an accepted item, a function's finalizer.
 ///
 /// Works are numbered from 1 in the order of their queueing, and a function's items from 1.
-#[derive(Clone, Copy)]
+#[derive(Clone, Copy, Debug, PartialEq, Eq)]
 pub enum Duty {
     Ticket(Ticket),
     Work(u64),
@@ -25,7 +27,7 @@ pub enum Duty {
 }
 
 /// Why a frame began.
-#[derive(Clone, Copy)]
+#[derive(Clone, Copy, Debug, PartialEq, Eq)]
 pub enum Cause {
     Init,
     Call,
@@ -37,7 +39,7 @@ pub enum Cause {
 }
 
 /// An event that is no call.
-#[derive(Clone, Copy)]
+#[derive(Clone, Copy, Debug, PartialEq, Eq)]
 pub enum HostStep {
     Opened,
     Begin,
@@ -62,7 +64,7 @@ pub enum What {
 }
 
 /// Why the loop ended.
-#[derive(Clone, Copy)]
+#[derive(Clone, Copy, Debug, PartialEq, Eq)]
 pub enum LoopEnd {
     Exit,
     Idle,
@@ -70,7 +72,7 @@ pub enum LoopEnd {
 }
 
 /// Why a frame or a thread was cut: a call stopped for want of memory or of room, or the frame made all its asks.
-#[derive(Clone, Copy)]
+#[derive(Clone, Copy, Debug, PartialEq, Eq)]
 pub enum Why {
     Memory,
     Full,
@@ -124,7 +126,7 @@ impl Reply {
 }
 
 /// Where the items of a thread-safe function are delivered, and whether a torn item's frame makes asks.
-#[derive(Clone, Copy)]
+#[derive(Clone, Copy, Debug, PartialEq, Eq)]
 pub struct Target {
     pub addon: u32,
     pub entry: u32,
@@ -133,7 +135,7 @@ pub struct Target {
 
 /// What the environment hands to the hub with a shared call: the calling addon, the target of a new function,
 /// and the environment's own refusal.
-#[derive(Clone, Copy)]
+#[derive(Clone, Copy, Debug, PartialEq, Eq)]
 pub struct Given {
     pub addon: u32,
     pub target: Option<Target>,
@@ -173,7 +175,7 @@ pub struct Local {
 }
 
 /// How far the environment has come.
-#[derive(Clone, Copy)]
+#[derive(Clone, Copy, Debug, PartialEq, Eq)]
 pub enum Phase {
     Init,
     Live,
@@ -184,15 +186,23 @@ pub enum Phase {
 }
 
 /// How many entries the journal and the history may have, reserved places included.
-#[derive(Clone, Copy)]
+#[derive(Clone, Copy, Debug, PartialEq, Eq)]
 pub struct Limits {
     pub journal: u32,
     pub history: u32,
 }
 
 /// A part found no memory. It means that and nothing else.
-#[derive(Clone, Copy)]
+#[derive(Clone, Copy, Debug, PartialEq, Eq)]
 pub struct NoMemory;
+
+impl fmt::Display for NoMemory {
+    fn fmt<W: fmt::Write>(&self, f: &mut fmt::Formatter<W>) -> fmt::Result {
+        write!(f, "a part found no memory")
+    }
+}
+
+impl Error for NoMemory {}
 
 impl From<AllocError> for NoMemory {
     fn from(_: AllocError) -> NoMemory {
@@ -207,5 +217,13 @@ impl<T: Drop> From<AllocFailed<T>> for NoMemory {
 }
 
 /// A fault of the outside: its count of faults rose.
-#[derive(Clone, Copy)]
+#[derive(Clone, Copy, Debug, PartialEq, Eq)]
 pub struct Failed;
+
+impl fmt::Display for Failed {
+    fn fmt<W: fmt::Write>(&self, f: &mut fmt::Formatter<W>) -> fmt::Result {
+        write!(f, "the outside failed")
+    }
+}
+
+impl Error for Failed {}

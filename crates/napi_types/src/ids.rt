@@ -1,15 +1,15 @@
 //! The numbers that name things, of which 0 is never issued, and the kinds of scopes.
 
 /// A handle, the manual's `napi_value`. Handles count from 1 over the whole run.
-#[derive(Clone, Copy)]
+#[derive(Clone, Copy, Debug, PartialEq, Eq)]
 pub struct HandleId(pub u64);
 
 /// A handle scope, the manual's `napi_handle_scope`: any number that was never issued before.
-#[derive(Clone, Copy)]
+#[derive(Clone, Copy, Debug, PartialEq, Eq)]
 pub struct ScopeId(pub u64);
 
 /// What a scope that a call opens is for.
-#[derive(Clone, Copy)]
+#[derive(Clone, Copy, Debug, PartialEq, Eq)]
 pub enum ScopeKind {
     /// The manual's `napi_handle_scope`.
     Plain,
@@ -18,25 +18,25 @@ pub enum ScopeKind {
 }
 
 /// A reference, the manual's `napi_ref`: any number that was never issued before.
-#[derive(Clone, Copy)]
+#[derive(Clone, Copy, Debug, PartialEq, Eq)]
 pub struct RefId(pub u64);
 
 /// An asynchronous work, the manual's `napi_async_work`: any number that was never issued before.
-#[derive(Clone, Copy)]
+#[derive(Clone, Copy, Debug, PartialEq, Eq)]
 pub struct WorkId(pub u64);
 
 /// A thread-safe function, the manual's `napi_threadsafe_function`. They count from 1.
-#[derive(Clone, Copy)]
+#[derive(Clone, Copy, Debug, PartialEq, Eq)]
 pub struct TsfnId(pub u64);
 
 /// A finalizer or a hook that was registered. Tickets count from 1.
-#[derive(Clone, Copy)]
+#[derive(Clone, Copy, Debug, PartialEq, Eq)]
 pub struct Ticket(pub u64);
 
 /// A value as the store names it: any number that was never issued before.
-#[derive(Clone, Copy)]
+#[derive(Clone, Copy, Debug, PartialEq, Eq)]
 pub struct ValueId(pub u64);
 
 /// A text of the script's text table, counted from 0.
-#[derive(Clone, Copy)]
+#[derive(Clone, Copy, Debug, PartialEq, Eq)]
 pub struct TextNo(pub u32);

@@ -5,7 +5,7 @@ ghost use Rattle.napi_types.specs.ScriptOperations.{operation_name, is_built_ope
 use crate::{Ask, JobSpec, Mode, Release, TextNo};
 
 /// A list of at most four registers. A count above 4 is read as 4.
-#[derive(Clone, Copy)]
+#[derive(Clone, Copy, Debug, PartialEq, Eq)]
 pub struct Regs {
     pub count: u8,
     pub regs: [u8; 4],

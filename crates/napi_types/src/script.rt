@@ -26,7 +26,7 @@ pub struct Script {
 }
 
 /// A part of a script. Addons, entries, operations, threads and words are counted from 0.
-#[derive(Clone, Copy)]
+#[derive(Clone, Copy, Debug, PartialEq, Eq)]
 pub enum Place {
     Root,
     Version,
@@ -50,7 +50,7 @@ pub enum Place {
 }
 
 /// A number in a script that has a limit: of workers, or of the members of a list.
-#[derive(Clone, Copy)]
+#[derive(Clone, Copy, Debug, PartialEq, Eq)]
 pub enum LimitName {
     Workers,
     Addons,
@@ -64,7 +64,7 @@ pub enum LimitName {
 }
 
 /// What is wrong with a JSON value that is no script that can run.
-#[derive(Clone, Copy)]
+#[derive(Clone, Copy, Debug, PartialEq, Eq)]
 pub enum Wrong {
     /// A part has the wrong form, or is missing.
     Shape(Place),

@@ -5,7 +5,7 @@ ghost use Rattle.napi_types.specs.Numbers.{status_number, kind_number};
 /// What a call answers: the manual's `napi_status`, and two of this project's own.
 ///
 /// `NoMemory` (1000) and `TraceFull` (1001) say that a call stopped. They leave no entry.
-#[derive(Clone, Copy)]
+#[derive(Clone, Copy, Debug, PartialEq, Eq)]
 pub enum Status {
     Ok,
     InvalidArg,
@@ -108,7 +108,7 @@ impl Status {
 }
 
 /// The kind of a value, the manual's `napi_valuetype`. An array is an object.
-#[derive(Clone, Copy)]
+#[derive(Clone, Copy, Debug, PartialEq, Eq)]
 pub enum Kind {
     Undefined,
     Null,

@@ -1,7 +1,7 @@
 //! Calls of functions: the frames that they enter, one inside another, with their gifts, and the handles that their ends give.
 use super::{Act, NOTHING, compare, compare_in, in_first_frame};
 use env_core::EnvCore;
-use napi_types::{Args, Call, HandleId, TextNo};
+use napi_types::{Args, Call, HandleId, Status, TextNo};
 use std::process::Abort;
 use std::test::Fail;
 
@@ -59,14 +59,14 @@ const ENDS: [Act; 12] = [
     Act::Given(Call::CreateObject, 2),
     Act::Entered(NO_ARGUMENT, 5, [0, 0, 0, 0, 0, 2, 70, 0]),
     Act::Given(Call::CreateArray, 3),
-    Act::Left(Some(HandleId(3)), 0, ("handle", 4)),
+    Act::Left(Some(HandleId(3)), Status::Ok, ("handle", 4)),
     Act::Depth(1),
     Act::Told(Call::IsArray(HandleId(4)), ("flag", 1)),
-    Act::Refused(Call::IsArray(HandleId(3)), 1),
+    Act::Refused(Call::IsArray(HandleId(3)), Status::InvalidArg),
     Act::Entered(NO_ARGUMENT, 5, [0, 0, 0, 0, 0, 2, 70, 0]),
     Act::Accepted(Call::Throw(OBJECT)),
-    Act::Left(Some(OBJECT), 10, NOTHING),
-    Act::Left(None, 0, ("uncaught", 0)),
+    Act::Left(Some(OBJECT), Status::PendingException, NOTHING),
+    Act::Left(None, Status::Ok, ("uncaught", 0)),
 ];
 
 #[test]
@@ -81,7 +81,7 @@ const MADE: [Act; 2] = [
 
 const TOO_DEEP: [Act; 5] = [
     Act::Depth(64),
-    Act::Refused(NO_ARGUMENT, 10),
+    Act::Refused(NO_ARGUMENT, Status::PendingException),
     Act::Given(Call::GetAndClearLastException, 3),
     Act::Given(Call::GetNamedProperty(HandleId(3), TextNo(0)), 4),
     Act::Depth(64),

@@ -1,6 +1,6 @@
 //! A journal that is full, and frames that are cut.
 use super::{Act, NOTHING, compare, compare_in, in_frame};
-use napi_types::{Args, Call, HandleId, Limits};
+use napi_types::{Args, Call, HandleId, Limits, Status};
 use std::test::Fail;
 
 /// The journal has room for 5 entries, and keeps two of them for the end of the frame and for `gone`.
@@ -10,7 +10,7 @@ const FULL: [Act; 7] = [
     Act::Journal(3),
     Act::Full(Call::GetUndefined),
     Act::Journal(3),
-    Act::Cut(0),
+    Act::Cut(Status::Ok),
     Act::Journal(4),
 ];
 
@@ -28,7 +28,7 @@ fn a_full_journal_stops_the_second_call(rt: HostRuntime) -> Result<(), Fail> {
 const CUT_WITH_AN_EXCEPTION: [Act; 6] = [
     Act::Given(Call::CreateObject, 1),
     Act::Accepted(Call::Throw(HandleId(1))),
-    Act::Cut(0),
+    Act::Cut(Status::Ok),
     Act::Begun,
     Act::Told(Call::IsExceptionPending, ("flag", 0)),
     Act::Given(Call::CreateObject, 2),
@@ -52,15 +52,15 @@ const CALL: Call = Call::CallFunction(
 const CUT_CALLS: [Act; 11] = [
     Act::Given(Call::CreateFunction(5, 70), 1),
     Act::Entered(CALL, 5, [0, 0, 0, 0, 0, 1, 70, 0]),
-    Act::Cut(9),
+    Act::Cut(Status::GenericFailure),
     Act::Told(Call::GetLastErrorInfo, ("number", 9)),
     Act::Told(Call::IsExceptionPending, ("flag", 0)),
     Act::Entered(CALL, 5, [0, 0, 0, 0, 0, 1, 70, 0]),
     Act::Accepted(Call::Throw(HandleId(1))),
-    Act::Cut(9),
+    Act::Cut(Status::GenericFailure),
     Act::Told(Call::IsExceptionPending, ("flag", 1)),
     Act::Given(Call::GetAndClearLastException, 2),
-    Act::Left(None, 0, NOTHING),
+    Act::Left(None, Status::Ok, NOTHING),
 ];
 
 #[test]

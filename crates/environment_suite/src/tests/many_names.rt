@@ -2,7 +2,7 @@
 //! object.
 use super::{Act, begin_next, compare_in, in_frame, left, stepped};
 use env_core::EnvCore;
-use napi_types::{Call, HandleId, Limits, TextNo};
+use napi_types::{Call, HandleId, Limits, Status, TextNo};
 use std::test::Fail;
 
 /// The handle of the global object in the second addon's frame. The first addon's frame had the handle 1.
@@ -27,7 +27,7 @@ const ROWS: [Act; 10] = [
     Act::Given(Call::GetPropertyNames(GLOBAL), 3),
     Act::Told(Call::GetArrayLength(HandleId(3)), ("number", 65_536)),
     Act::Accepted(Call::SetNamedProperty(GLOBAL, TextNo(65_536), GLOBAL)),
-    Act::Refused(Call::GetPropertyNames(GLOBAL), 1),
+    Act::Refused(Call::GetPropertyNames(GLOBAL), Status::InvalidArg),
     Act::Told(Call::DeleteProperty(GLOBAL, TextNo(0)), ("flag", 1)),
     Act::Given(Call::GetPropertyNames(GLOBAL), 4),
     Act::Told(Call::GetArrayLength(HandleId(4)), ("number", 65_536)),

@@ -1,7 +1,7 @@
 //! The numbers of handles, scopes and references: each counts from 1 in the order in which they are given, over all frames, and none
 //! comes twice. A refused call gives none.
 use super::{Act, NOTHING, compare};
-use napi_types::{Call, HandleId, RefId, ScopeId, TextNo};
+use napi_types::{Call, HandleId, RefId, ScopeId, Status, TextNo};
 use std::test::Fail;
 
 const UNKNOWN: HandleId = HandleId(99);
@@ -18,23 +18,23 @@ const HANDLES: [Act; 24] = [
     Act::Given(Call::GetGlobal, 3),
     Act::Given(Call::GetBoolean(true), 4),
     Act::Given(Call::GetBoolean(false), 5),
-    Act::Refused(Call::CreateInt64(9_007_199_254_740_992), 1),
+    Act::Refused(Call::CreateInt64(9_007_199_254_740_992), Status::InvalidArg),
     Act::Given(Call::CreateInt64(7), 6),
     Act::Given(Call::CreateBigintInt64(7), 7),
     Act::Given(Call::CreateStringUtf8(TextNo(0)), 8),
     Act::Given(Call::CreateSymbol(Some(STRING)), 9),
-    Act::Refused(Call::CreateSymbol(Some(UNKNOWN)), 1),
+    Act::Refused(Call::CreateSymbol(Some(UNKNOWN)), Status::InvalidArg),
     Act::Given(Call::CreateObject, 10),
     Act::Given(Call::CreateArray, 11),
     Act::Given(Call::CreateError(None, STRING), 12),
-    Act::Refused(Call::CreateError(None, OBJECT), 3),
+    Act::Refused(Call::CreateError(None, OBJECT), Status::StringExpected),
     Act::Given(Call::CreateFunction(0, 7), 13),
     Act::Given(Call::GetNamedProperty(OBJECT, TextNo(1)), 14),
     Act::Given(Call::GetPropertyNames(OBJECT), 15),
-    Act::Refused(Call::GetElement(STRING, 0), 2),
+    Act::Refused(Call::GetElement(STRING, 0), Status::ObjectExpected),
     Act::Given(Call::GetElement(ARRAY, 0), 16),
     Act::Accepted(Call::Throw(OBJECT)),
-    Act::Refused(Call::GetElement(ARRAY, 0), 10),
+    Act::Refused(Call::GetElement(ARRAY, 0), Status::PendingException),
     Act::Given(Call::GetAndClearLastException, 17),
     Act::Given(Call::GetAndClearLastException, 18),
 ];
@@ -49,21 +49,24 @@ const SCOPES_AND_REFERENCES: [Act; 22] = [
     Act::Told(Call::OpenEscapableHandleScope, ("scope", 2)),
     Act::Given(Call::CreateObject, 1),
     Act::Given(Call::EscapeHandle(ScopeId(2), HandleId(1)), 2),
-    Act::Refused(Call::EscapeHandle(ScopeId(2), HandleId(1)), 12),
-    Act::Refused(Call::CloseHandleScope(ScopeId(3)), 1),
+    Act::Refused(
+        Call::EscapeHandle(ScopeId(2), HandleId(1)),
+        Status::EscapeCalledTwice,
+    ),
+    Act::Refused(Call::CloseHandleScope(ScopeId(3)), Status::InvalidArg),
     Act::Accepted(Call::CloseEscapableHandleScope(ScopeId(2))),
     Act::Told(Call::OpenHandleScope, ("scope", 3)),
     Act::Given(Call::CreateObject, 3),
     Act::Accepted(Call::CloseHandleScope(ScopeId(3))),
     Act::Accepted(Call::CloseHandleScope(ScopeId(1))),
     Act::Given(Call::CreateObject, 4),
-    Act::Refused(Call::CreateReference(UNKNOWN, 1), 1),
+    Act::Refused(Call::CreateReference(UNKNOWN, 1), Status::InvalidArg),
     Act::Told(Call::CreateReference(HandleId(4), 1), ("reference", 1)),
     Act::Told(Call::CreateReference(HandleId(4), 1), ("reference", 2)),
     Act::Given(Call::GetReferenceValue(RefId(1)), 5),
     Act::Accepted(Call::DeleteReference(RefId(2))),
     Act::Told(Call::CreateReference(HandleId(5), 1), ("reference", 3)),
-    Act::Left(None, 0, NOTHING),
+    Act::Left(None, Status::Ok, NOTHING),
     // A frame that ends gives nothing back: the next addon's frame goes on.
     Act::Begun,
     Act::Told(Call::OpenEscapableHandleScope, ("scope", 4)),

@@ -1,6 +1,6 @@
 //! Texts past the table: a script has none. The texts 0, 1 and 2 are there.
 use super::{Act, compare};
-use napi_types::{Call, HandleId, TextNo};
+use napi_types::{Call, HandleId, Status, TextNo};
 use std::test::Fail;
 
 const OBJECT: HandleId = HandleId(1);
@@ -12,17 +12,23 @@ const PAST: TextNo = TextNo(3);
 const ROWS: [Act; 13] = [
     Act::Given(Call::CreateObject, 1),
     Act::Given(Call::CreateInt64(5), 2),
-    Act::Refused(Call::CreateStringUtf8(PAST), 1),
+    Act::Refused(Call::CreateStringUtf8(PAST), Status::InvalidArg),
     Act::Given(Call::CreateStringUtf8(TextNo(2)), 3),
-    Act::Refused(Call::SetNamedProperty(OBJECT, PAST, NUMBER), 1),
+    Act::Refused(
+        Call::SetNamedProperty(OBJECT, PAST, NUMBER),
+        Status::InvalidArg,
+    ),
     // It comes before the wrong kind.
-    Act::Refused(Call::SetNamedProperty(NUMBER, PAST, NUMBER), 1),
-    Act::Refused(Call::GetNamedProperty(OBJECT, PAST), 1),
-    Act::Refused(Call::HasNamedProperty(OBJECT, PAST), 1),
-    Act::Refused(Call::DeleteProperty(OBJECT, PAST), 1),
-    Act::Refused(Call::ThrowError(Some(PAST), TextNo(1)), 1),
-    Act::Refused(Call::ThrowError(None, PAST), 1),
-    Act::Refused(Call::ThrowError(Some(TextNo(2)), PAST), 1),
+    Act::Refused(
+        Call::SetNamedProperty(NUMBER, PAST, NUMBER),
+        Status::InvalidArg,
+    ),
+    Act::Refused(Call::GetNamedProperty(OBJECT, PAST), Status::InvalidArg),
+    Act::Refused(Call::HasNamedProperty(OBJECT, PAST), Status::InvalidArg),
+    Act::Refused(Call::DeleteProperty(OBJECT, PAST), Status::InvalidArg),
+    Act::Refused(Call::ThrowError(Some(PAST), TextNo(1)), Status::InvalidArg),
+    Act::Refused(Call::ThrowError(None, PAST), Status::InvalidArg),
+    Act::Refused(Call::ThrowError(Some(TextNo(2)), PAST), Status::InvalidArg),
     Act::Told(Call::IsExceptionPending, ("flag", 0)),
 ];
 

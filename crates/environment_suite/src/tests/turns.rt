@@ -4,7 +4,7 @@ ghost use Rattle.std.specs.Prelude.{None};
 use addon_trait::Addon;
 use env_core::EnvCore;
 use env_loop::{EnvRun, LocalTurn, run_alone};
-use napi_types::{AddonPlan, Args, Ask, Call, HandleId, Limits, Out, Record, Reply};
+use napi_types::{AddonPlan, Args, Ask, Call, HandleId, Limits, Out, Record, Reply, Status};
 use std::alloc::Global;
 use std::test::Fail;
 
@@ -53,15 +53,6 @@ impl Addon for Caller {
     }
 }
 
-/// A turn by its first letter.
-fn letter(turn: LocalTurn) -> char {
-    match turn {
-        LocalTurn::Made => 'm',
-        LocalTurn::NeedsHub => 'n',
-        LocalTurn::Gone => 'g',
-    }
-}
-
 /// The number that a result tells: a handle's or a kind's, else 0.
 fn number(out: Out) -> u64 {
     match out {
@@ -72,7 +63,7 @@ fn number(out: Out) -> u64 {
 }
 
 /// What eight turns come to, and one more at the end; and what the run leaves.
-fn turns(alloc: Global) -> Result<([char; 8], char, Record), Fail> {
+fn turns(alloc: Global) -> Result<([LocalTurn; 8], LocalTurn, Record), Fail> {
     let caller = Caller {
         registers: [0; 32],
         last: HandleId(0),
@@ -90,17 +81,17 @@ fn turns(alloc: Global) -> Result<([char; 8], char, Record), Fail> {
         return Err(Fail::new("the history found no memory"));
     };
     let first = [
-        letter(env.local_turn(&mut addons)),
-        letter(env.local_turn(&mut addons)),
-        letter(env.local_turn(&mut addons)),
-        letter(env.local_turn(&mut addons)),
-        letter(env.local_turn(&mut addons)),
-        letter(env.local_turn(&mut addons)),
-        letter(env.local_turn(&mut addons)),
-        letter(env.local_turn(&mut addons)),
+        env.local_turn(&mut addons),
+        env.local_turn(&mut addons),
+        env.local_turn(&mut addons),
+        env.local_turn(&mut addons),
+        env.local_turn(&mut addons),
+        env.local_turn(&mut addons),
+        env.local_turn(&mut addons),
+        env.local_turn(&mut addons),
     ];
     run_alone(&mut env, &mut addons);
-    let last = letter(env.local_turn(&mut addons));
+    let last = env.local_turn(&mut addons);
     Ok((first, last, env.into_record()))
 }
 
@@ -109,29 +100,38 @@ fn a_function_runs_in_a_frame_inside_its_callers(rt: HostRuntime) -> Result<(), 
     let alloc = rt.alloc();
     let (first, last, record) = turns(alloc)?;
     // The two begins, three calls, and the two ends; then `go` is next.
-    assert_eq!(rt; first, ['m', 'm', 'm', 'm', 'm', 'm', 'm', 'n']);
-    assert_eq!(rt; last, 'g');
+    let made = LocalTurn::Made;
+    assert_eq!(rt;
+        first,
+        [
+            made,
+            made,
+            made,
+            made,
+            made,
+            made,
+            made,
+            LocalTurn::NeedsHub
+        ]
+    );
+    assert_eq!(rt; last, LocalTurn::Gone);
     let mut told = Vec::new(alloc);
     for local in record.journal.items() {
         let entry = local.entry;
-        told.push((
-            entry.depth,
-            entry.reply.status.number(),
-            number(entry.reply.out),
-        ))?;
+        told.push((entry.depth, entry.reply.status, number(entry.reply.out)))?;
     }
     // Handle 1 is the function's, 2 the missing receiver's, and 3 the object's in the callee's frame. The end of that frame gives the
     // caller handle 4, which is of an object (6).
     let expected = [
-        (0, 0, 0),
-        (0, 0, 0),
-        (1, 0, 1),
-        (0, 0, 0),
-        (2, 0, 3),
-        (0, 0, 4),
-        (1, 0, 6),
-        (0, 0, 0),
-        (0, 0, 0),
+        (0, Status::Ok, 0),
+        (0, Status::Ok, 0),
+        (1, Status::Ok, 1),
+        (0, Status::Ok, 0),
+        (2, Status::Ok, 3),
+        (0, Status::Ok, 4),
+        (1, Status::Ok, 6),
+        (0, Status::Ok, 0),
+        (0, Status::Ok, 0),
     ];
     assert_eq!(rt; told.as_slice(), expected.as_slice());
     assert_eq!(rt; record.history.items().len(), 4);

@@ -3,7 +3,7 @@ ghost use Rattle.std.specs.Prelude.{◌<◌, ◌≤◌, length};
 ghost use Rattle.napi_types.specs.Room.{most_entries};
 
 use super::traces::{call, check_taken, write};
-use napi_types::{Call, Entry, MemSink, Out};
+use napi_types::{Call, Entry, Failed, MemSink, NoMemory, Out};
 use std::alloc::{AllocError, Global};
 use std::process::Abort;
 use std::test::Fail;
@@ -42,6 +42,15 @@ fn a_fault_at_the_second_call_leaves_a_front_of_the_trace(rt: HostRuntime) -> Re
     let mut sink = failing_sink(rt.alloc(), 16, 1)?;
     assert!(rt; write(rt.alloc(), &mut sink, &[], &history).is_err());
     check_taken(&rt, &sink, b"1 env collect 0 ");
+    Ok(())
+}
+
+#[test]
+fn errors_have_a_text(rt: HostRuntime) -> Result<(), Fail> {
+    let failed = format!(in rt.alloc(); "{Failed}")?;
+    assert_eq!(rt; failed.as_str(), "the outside failed");
+    let no_memory = format!(in rt.alloc(); "{NoMemory}")?;
+    assert_eq!(rt; no_memory.as_str(), "a part found no memory");
     Ok(())
 }
 

@@ -7,7 +7,7 @@ ghost use Rattle.env_values.specs.Seen.{HoldsLive};
 use super::{PLAIN, ample};
 use env_values::value_step;
 use handle_scope::Scopes;
-use napi_types::{Body, Call, HandleId, Out, Reply, TextNo, ValueId};
+use napi_types::{Body, Call, HandleId, Out, Reply, Status, TextNo, ValueId};
 use std::alloc::Global;
 use std::process::Abort;
 use value_store::Store;
@@ -42,14 +42,14 @@ fn names_of(rt: &impl Abort, alloc: Global, count: u32) -> Reply {
 #[test]
 fn the_most_names_are_listed(rt: HostRuntime) {
     let reply = names_of(&rt, rt.alloc(), 65536);
-    assert_eq!(rt; reply.status.number(), 0);
+    assert_eq!(rt; reply.status, Status::Ok);
     assert!(rt; matches!(reply.out, Out::Handle(HandleId(2))));
 }
 
 #[test]
 fn one_name_more_is_refused(rt: HostRuntime) {
     let reply = names_of(&rt, rt.alloc(), 65537);
-    assert_eq!(rt; reply.status.number(), 1);
+    assert_eq!(rt; reply.status, Status::InvalidArg);
     assert!(rt; matches!(reply.out, Out::Nothing));
 }
 
@@ -76,15 +76,10 @@ fn body_of(store: &Store, scopes: &Scopes, reply: Reply) -> Option<Body> {
 
 #[test]
 fn a_function_belongs_to_the_addon_that_creates_it(rt: HostRuntime) {
-    let body = function_of(&rt, rt.alloc(), 3);
-    assert!(rt;
-        matches!(
-            body,
-            Some(Body::Function {
-                addon: 3,
-                entry: 2,
-                payload: 7,
-            })
-        )
-    );
+    let function = Body::Function {
+        addon: 3,
+        entry: 2,
+        payload: 7,
+    };
+    assert_eq!(rt; function_of(&rt, rt.alloc(), 3), Some(function));
 }

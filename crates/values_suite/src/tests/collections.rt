@@ -99,7 +99,7 @@ fn freed(
 fn assert_are(rt: &impl Abort, list: &[ValueId], objects: &[ValueId], expected: &[usize]) {
     assert_eq!(rt; list.len(), expected.len());
     for (id, at) in list.iter().zip(expected) {
-        assert_eq!(rt; id.0, object(rt, objects, *at).0);
+        assert_eq!(rt; *id, object(rt, objects, *at));
     }
 }
 

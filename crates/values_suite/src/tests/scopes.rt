@@ -21,18 +21,20 @@ fn in_frame(rt: &impl Abort, alloc: Global) -> Scopes
     scopes
 }
 
-fn number(answer: Result<(), Status>) -> u16 {
-    match answer {
-        Ok(()) => 0,
-        Err(status) => status.number(),
-    }
-}
+/// What a close answers.
+type Answer = Result<(), Status>;
+
+const CLOSED: Answer = Ok(());
+
+const MISMATCH: Answer = Err(Status::HandleScopeMismatch);
+
+const UNKNOWN: Answer = Err(Status::InvalidArg);
 
 /// One close: whether it names the inner scope, and the kind as which it closes it.
 type Close = (bool, ScopeKind);
 
-fn close(scopes: &mut Scopes, outer: ScopeId, inner: ScopeId, which: Close) -> u16 {
-    number(scopes.close_scope(if which.0 { inner } else { outer }, which.1))
+fn close(scopes: &mut Scopes, outer: ScopeId, inner: ScopeId, which: Close) -> Answer {
+    scopes.close_scope(if which.0 { inner } else { outer }, which.1)
 }
 
 /// What two closes answer where a scope of the second kind stands inside one of the first.
@@ -42,7 +44,7 @@ fn closes(
     kinds: (ScopeKind, ScopeKind),
     first: Close,
     second: Close,
-) -> (u16, u16) {
+) -> (Answer, Answer) {
     let mut scopes = in_frame(rt, alloc);
     let outer = ample(rt, scopes.open_scope(kinds.0));
     let inner = ample(rt, scopes.open_scope(kinds.1));
@@ -53,10 +55,10 @@ fn closes(
 #[test]
 fn only_the_innermost_scope_closes(rt: HostRuntime) {
     let rows = [
-        (false, false, (13, 13)),
-        (false, true, (13, 0)),
-        (true, false, (0, 0)),
-        (true, true, (0, 1)),
+        (false, false, (MISMATCH, MISMATCH)),
+        (false, true, (MISMATCH, CLOSED)),
+        (true, false, (CLOSED, CLOSED)),
+        (true, true, (CLOSED, UNKNOWN)),
     ];
     for (first, second, want) in rows {
         for kind in [PLAIN, ESCAPABLE] {
@@ -70,21 +72,23 @@ fn only_the_innermost_scope_closes(rt: HostRuntime) {
 fn a_scope_closes_as_its_own_kind(rt: HostRuntime) {
     let mixed = (PLAIN, ESCAPABLE);
     let swapped = (ESCAPABLE, PLAIN);
+    let [outer, outer_plain] = [(false, ESCAPABLE), (false, PLAIN)];
+    let [inner, inner_plain] = [(true, ESCAPABLE), (true, PLAIN)];
     let rows = [
-        (mixed, (true, PLAIN), (true, ESCAPABLE), (13, 0)),
-        (mixed, (true, ESCAPABLE), (false, ESCAPABLE), (0, 13)),
-        (mixed, (true, ESCAPABLE), (false, PLAIN), (0, 0)),
-        (mixed, (true, ESCAPABLE), (true, PLAIN), (0, 1)),
-        (swapped, (true, ESCAPABLE), (false, ESCAPABLE), (13, 13)),
-        (swapped, (true, PLAIN), (false, PLAIN), (0, 13)),
-        (swapped, (true, PLAIN), (false, ESCAPABLE), (0, 0)),
+        (mixed, inner_plain, inner, (MISMATCH, CLOSED)),
+        (mixed, inner, outer, (CLOSED, MISMATCH)),
+        (mixed, inner, outer_plain, (CLOSED, CLOSED)),
+        (mixed, inner, inner_plain, (CLOSED, UNKNOWN)),
+        (swapped, inner, outer, (MISMATCH, MISMATCH)),
+        (swapped, inner_plain, outer_plain, (CLOSED, MISMATCH)),
+        (swapped, inner_plain, outer, (CLOSED, CLOSED)),
         (
             (ESCAPABLE, ESCAPABLE),
-            (false, PLAIN),
-            (true, PLAIN),
-            (13, 13),
+            outer_plain,
+            inner_plain,
+            (MISMATCH, MISMATCH),
         ),
-        ((PLAIN, PLAIN), (true, ESCAPABLE), (true, PLAIN), (13, 0)),
+        ((PLAIN, PLAIN), inner, inner_plain, (MISMATCH, CLOSED)),
     ];
     for (kinds, first, second, want) in rows {
         assert_eq!(rt; closes(&rt, rt.alloc(), kinds, first, second), want);
@@ -144,27 +148,23 @@ fn handles_are_good_while_their_scope_is_open(rt: HostRuntime) {
 }
 
 /// Two handles, of the values 7 and 8, each in a scope of its own, the first of which is closed: their numbers, the
-/// values of both, what closing the first scope and closing it again answer, and the values at the two places.
-fn reissues(rt: &impl Abort, alloc: Global) -> [(u64, u64); 4] {
+/// values of both, and the values at the two places; and what closing the first scope and closing it again answer.
+fn reissues(rt: &impl Abort, alloc: Global) -> ([(u64, u64); 3], [Answer; 2]) {
     let mut scopes = in_frame(rt, alloc);
     let stale = ample(rt, scopes.open_scope(PLAIN));
     let first = ample(rt, scopes.issue(ValueId(7)));
-    let closes = number(scopes.close_scope(stale, PLAIN));
+    let closes = scopes.close_scope(stale, PLAIN);
     ample(rt, scopes.open_scope(PLAIN));
     let second = ample(rt, scopes.issue(ValueId(8)));
     let values = (value(&scopes, first), value(&scopes, second));
-    let again = number(scopes.close_scope(stale, PLAIN));
-    [
-        (first.0, second.0),
-        values,
-        (u64::from(closes), u64::from(again)),
-        (value_at(&scopes, 0), value_at(&scopes, 1)),
-    ]
+    let again = scopes.close_scope(stale, PLAIN);
+    let places = (value_at(&scopes, 0), value_at(&scopes, 1));
+    ([(first.0, second.0), values, places], [closes, again])
 }
 
 #[test]
 fn no_number_is_given_out_again(rt: HostRuntime) {
-    let want = [(1, 2), (0, 8), (0, 1), (0, 8)];
+    let want = ([(1, 2), (0, 8), (0, 8)], [CLOSED, UNKNOWN]);
     assert_eq!(rt; reissues(&rt, rt.alloc()), want);
 }
 
@@ -188,17 +188,14 @@ fn a_reserved_place_takes_a_handle(rt: HostRuntime) {
     assert_eq!(rt; issues(&rt, rt.alloc()), ((1, 2), (7, 8), 2));
 }
 
-/// The status of a refused escape, 0 where the handle escapes.
-fn refusal(answer: Result<HandleId, Status>) -> u16 {
-    match answer {
-        Ok(_) => 0,
-        Err(status) => status.number(),
-    }
+/// The refusal of an escape, none where the handle escapes.
+fn refusal(answer: Result<HandleId, Status>) -> Option<Status> {
+    answer.err()
 }
 
-/// What an escape answers out of a plain scope, out of an escapable one around that, out of the same again, out of the
+/// The refusals of an escape out of a plain scope, out of an escapable one around that, out of the same again, out of the
 /// same inside a frame that a call entered, and out of the same once it is closed.
-fn escapes(rt: &impl Abort, alloc: Global) -> [u16; 5] {
+fn escapes(rt: &impl Abort, alloc: Global) -> [Option<Status>; 5] {
     let mut scopes = in_frame(rt, alloc);
     let outer = ample(rt, scopes.open_scope(ESCAPABLE));
     let inner = ample(rt, scopes.open_scope(PLAIN));
@@ -216,7 +213,12 @@ fn escapes(rt: &impl Abort, alloc: Global) -> [u16; 5] {
 
 #[test]
 fn one_handle_escapes_from_an_escapable_scope(rt: HostRuntime) {
-    assert_eq!(rt; escapes(&rt, rt.alloc()), [1, 0, 12, 1, 1]);
+    let unknown = Some(Status::InvalidArg);
+    let twice = Some(Status::EscapeCalledTwice);
+    assert_eq!(rt;
+        escapes(&rt, rt.alloc()),
+        [unknown, None, twice, unknown, unknown]
+    );
 }
 
 /// How many places the scopes have, and the values at the first six of them, 0 where a place is not filled or is none.

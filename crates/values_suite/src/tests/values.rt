@@ -17,11 +17,6 @@ fn names(rt: &impl Abort, store: &Store, object: ValueId) -> [u32; 3] {
     ]
 }
 
-/// The number of the value that a property is, `None` where the name is absent.
-fn property(store: &Store, object: ValueId, name: u32) -> Option<u64> {
-    Some(store.get_prop(object, TextNo(name))?.0)
-}
-
 #[test]
 fn names_keep_their_order(rt: HostRuntime) {
     let mut store = ample(&rt, Store::new(rt.alloc()));
@@ -35,9 +30,8 @@ fn names_keep_their_order(rt: HostRuntime) {
     assert!(rt; !store.remove_prop(object, TextNo(3)));
     set(&rt, &mut store, object, 3, global);
     assert_eq!(rt; names(&rt, &store, object), [7, 9, 3]);
-    for (name, value) in [(7, Some(global.0)), (8, None)] {
-        assert_eq!(rt; property(&store, object, name), value);
-    }
+    assert_eq!(rt; store.get_prop(object, TextNo(7)), Some(global));
+    assert_eq!(rt; store.get_prop(object, TextNo(8)), None);
 }
 
 #[test]
@@ -62,11 +56,11 @@ fn children_stand_in_order(rt: HostRuntime) {
     set(&rt, &mut store, object, 9, global);
     set(&rt, &mut store, object, 2, undefined);
     set_at(&rt, &mut store, object, 1, null);
-    let expected = [Some(global.0), Some(undefined.0), None, Some(null.0)];
+    let expected = [Some(global), Some(undefined), None, Some(null)];
     assert_eq!(rt; store.child_places(object), expected.len());
     for (at, child) in expected.into_iter().enumerate() {
         assert!(rt; at < store.child_places(object));
-        assert_eq!(rt; store.child_at(object, at).map(|child| child.0), child);
+        assert_eq!(rt; store.child_at(object, at), child);
     }
     assert_eq!(rt; store.child_places(global), 0);
 }
@@ -91,24 +85,28 @@ fn a_number_is_never_given_again(rt: HostRuntime) {
     store.free(&[freed]);
     assert!(rt; store.get(freed).is_none());
     let next = ample(&rt, store.make(Body::Number(7)));
-    assert!(rt; next.0 != freed.0);
+    assert!(rt; next != freed);
     assert_eq!(rt; standing(&rt, &store), 6);
 }
 
-/// Whether the value of a number is an object, and one of this kind.
-fn is_object(store: &Store, id: ValueId, is_array: bool, is_error: bool) -> bool {
-    match store.get(id).map(|value| value.body()) {
-        Some(Body::Object { array, error }) => array == is_array && error == is_error,
-        _ => false,
-    }
+const ARRAY: Option<Body> = Some(Body::Object {
+    array: true,
+    error: false,
+});
+
+const ERROR: Option<Body> = Some(Body::Object {
+    array: false,
+    error: true,
+});
+
+/// What a value is, `None` where there is none.
+fn body(store: &Store, value: Option<ValueId>) -> Option<Body> {
+    Some(store.get(value?)?.body())
 }
 
-/// The number of the text of a string, `None` where there is no value or it is no string.
-fn text_of(store: &Store, value: Option<ValueId>) -> Option<u32> {
-    match store.get(value?)?.body() {
-        Body::Str(text) => Some(text.0),
-        _ => None,
-    }
+/// A string of the text with this number.
+fn string(text: u32) -> Option<Body> {
+    Some(Body::Str(TextNo(text)))
 }
 
 #[test]
@@ -117,21 +115,21 @@ fn a_list_has_its_values_in_order(rt: HostRuntime) {
     let texts = [Body::Str(TextNo(9)), Body::Str(TextNo(2))];
     let list = ample(&rt, store.make_list(&texts));
     assert_eq!(rt; store.places(), 8);
-    assert!(rt; is_object(&store, list, true, false));
+    assert_eq!(rt; body(&store, Some(list)), ARRAY);
     assert_eq!(rt; store.name_count(list), 0);
     assert_eq!(rt; store.element_count(list), 2);
-    for (at, text) in [(0, Some(9)), (1, Some(2)), (2, None)] {
-        assert_eq!(rt; text_of(&store, store.get_element(list, at)), text);
+    for (at, element) in [(0, string(9)), (1, string(2)), (2, None)] {
+        assert_eq!(rt; body(&store, store.get_element(list, at)), element);
     }
     let empty = ample(&rt, store.make_list(&[]));
-    assert!(rt; empty.0 != list.0);
+    assert!(rt; empty != list);
     assert_eq!(rt; store.element_count(empty), 0);
     assert_eq!(rt; store.element_count(list), 2);
 }
 
-/// The number of the text that a property is, `None` where the name is absent or the value no string.
-fn text_named(store: &Store, object: ValueId, name: u32) -> Option<u32> {
-    text_of(store, store.get_prop(object, TextNo(name)))
+/// What a property is, `None` where the name is absent.
+fn property(store: &Store, object: ValueId, name: u32) -> Option<Body> {
+    body(store, store.get_prop(object, TextNo(name)))
 }
 
 #[test]
@@ -139,19 +137,19 @@ fn a_thrown_error_comes_after_its_strings(rt: HostRuntime) {
     let mut store = ample(&rt, Store::new(rt.alloc()));
     let error = ample(&rt, store.make_thrown(Some(TextNo(7)), TextNo(9)));
     assert_eq!(rt; store.places(), 8);
-    assert!(rt; store.at_place(7).is_some_and(|last| last.0 == error.0));
-    assert!(rt; is_object(&store, error, false, true));
-    assert_eq!(rt; text_of(&store, store.at_place(5)), Some(9));
-    assert_eq!(rt; text_of(&store, store.at_place(6)), Some(7));
-    for (name, text) in [(0, Some(9)), (1, Some(7))] {
-        assert_eq!(rt; text_named(&store, error, name), text);
+    assert_eq!(rt; store.at_place(7), Some(error));
+    assert_eq!(rt; body(&store, Some(error)), ERROR);
+    assert_eq!(rt; body(&store, store.at_place(5)), string(9));
+    assert_eq!(rt; body(&store, store.at_place(6)), string(7));
+    for (name, text) in [(0, 9), (1, 7)] {
+        assert_eq!(rt; property(&store, error, name), string(text));
     }
     assert_eq!(rt; store.name_count(error), 2);
-    assert_eq!(rt; store.name_at(error, 0).0, 0);
+    assert_eq!(rt; store.name_at(error, 0), TextNo(0));
     let without = ample(&rt, store.make_thrown(None, TextNo(2)));
     assert_eq!(rt; store.places(), 10);
-    assert_eq!(rt; text_named(&store, without, 0), Some(2));
-    assert!(rt; store.get_prop(without, TextNo(1)).is_none());
+    assert_eq!(rt; property(&store, without, 0), string(2));
+    assert_eq!(rt; store.get_prop(without, TextNo(1)), None);
 }
 
 #[test]
@@ -162,16 +160,14 @@ fn an_error_has_its_message_and_then_its_code(rt: HostRuntime) {
     assert!(rt; store.get(message).is_some());
     assert!(rt; store.get(code).is_some());
     let error = ample(&rt, store.make_error(Some(code), message));
-    assert!(rt; is_object(&store, error, false, true));
+    assert_eq!(rt; body(&store, Some(error)), ERROR);
     assert_eq!(rt; store.name_count(error), 2);
-    for (at, name) in [0, 1].into_iter().enumerate() {
-        assert_eq!(rt; store.name_at(error, at).0, name);
-    }
-    for (name, value) in [(0, message), (1, code)] {
-        assert_eq!(rt; property(&store, error, name), Some(value.0));
+    for (name, value) in [message, code].into_iter().enumerate() {
+        assert_eq!(rt; store.name_at(error, name), TextNo(name as u32));
+        assert_eq!(rt; store.get_prop(error, TextNo(name as u32)), Some(value));
     }
     let without = ample(&rt, store.make_error(None, error));
-    assert!(rt; without.0 != error.0);
+    assert!(rt; without != error);
     assert_eq!(rt; store.name_count(without), 1);
-    assert_eq!(rt; property(&store, without, 0), Some(error.0));
+    assert_eq!(rt; store.get_prop(without, TextNo(0)), Some(error));
 }
