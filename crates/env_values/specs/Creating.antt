@@ -1,4 +1,4 @@
--- The calls that create values.
+-- The calls on values that create one, and those that tell what one is.
 use Rattle.std.specs.Prelude.{Bool, true, false}
 use Rattle.napi_types.specs.declared.call.Call.{Call}
 use Rattle.napi_types.specs.declared.call.Call.TheVariants as call

@@ -31,18 +31,18 @@ pub record IsValueOf (store : StoreState) (scopes : HandleScopes) (h : ℕ) (v :
   pub body : IsStored store v
   pub seen : value_at (heap_of store scopes).values (number_in store v.id.0) ≡ option_map (renamed store) (value_of store v.id.0)
 
--- what a call comes to, where an accepted one has this answer: its result where nothing refuses it, and the heap that it leaves; or the first refusal; or want of
--- memory. The last two leave the heap as it was
+-- what a call comes to, where an accepted one has this effect: its result where nothing refuses it, and the heap that it leaves; or the first refusal; or
+-- want of memory. The last two leave the heap as it was
 abbrev pub ComesBy : (Heap → Call → ℕ → Answer Heap) → ℕ → Heap → Call → Result Out Stop → Heap → Type 0
-ComesBy answer texts before c (Ok o) after = (refusal_in texts before c ≡ None) × (answer before c 0 ≡ answered o after)
-ComesBy answer texts before c (Err (stop.Refused s)) after = (refusal_in texts before c ≡ Some s) × (after ≡ before)
-ComesBy answer texts before c (Err stop.NoMemory) after = IsTrue (is_growing c) × (after ≡ before)
+ComesBy effect texts before c (Ok o) after = (refusal_in texts before c ≡ None) × (effect before c 0 ≡ answered o after)
+ComesBy effect texts before c (Err (stop.Refused s)) after = (refusal_in texts before c ≡ Some s) × (after ≡ before)
+ComesBy effect texts before c (Err stop.NoMemory) after = IsTrue (is_growing c) × (after ≡ before)
 
--- a call that creates no function
+-- what a call that creates no function comes to
 abbrev pub Comes : ℕ → Heap → Call → Result Out Stop → Heap → Type 0
 Comes texts before c r after = ComesBy accepted texts before c r after
 
--- a call of this addon
+-- what a call of this addon comes to
 abbrev pub ComesOf : ℕ → ℕ → Heap → Call → Result Out Stop → Heap → Type 0
 ComesOf texts addon before c r after = ComesBy (accepted_of addon) texts before c r after
 
