@@ -1,9 +1,10 @@
 -- Numbers that count up from 1, as they are issued.
-use Rattle.std.proofs.Common.{◌≡◌, ◌∙◌, ◌<◌, ◌≤◌, ℕ, zero, suc, ◌+◌, ◌==◌, true, false, [], ◌∷◌, ◌++◌, length, refl, ap, sym, arith, not, add-one}
+use Rattle.std.proofs.Common.{◌≡◌, ◌∙◌, ◌<◌, ◌≤◌, ℕ, zero, suc, ◌+◌, ◌==◌, Bool, true, false, ◌||◌, not, List, [], ◌∷◌, ◌++◌, length}
+use Rattle.std.proofs.Common.{refl, ap, sym, arith, add-one}
 use Rattle.std.specs.List.{All, range_with_len}
 use Rattle.std.proofs.lemmas.List.FromFn.{get_or-range_with_len, length-range_with_len}
 use Rattle.std.proofs.lemmas.List.Folds.{list_any_none}
-use Rattle.napi_types.specs.Lists.{has_number, with_number, up_to, down_from}
+use Rattle.napi_types.specs.Lists.{has_number, with_number, up_to}
 use Rattle.napi_types.proofs.Maps.{with_record-last}
 
 pub length-up_to : (n : ℕ) → length (up_to n) ≡ n
@@ -48,10 +49,19 @@ fresh_number n = rw (apart n, above-up_to (n + 1) n (omega arith)) refl
     apart : (n : ℕ) → (0 == n + 1) ≡ false
     apart n = grind arith
 
--- a number above those that count down is none of them
-pub above-down_from : (m n : ℕ) → n < m → has_number m (down_from n) ≡ false
-above-down_from m zero h = refl
-above-down_from m (suc n) h = rw (different m n h) (above-down_from m n (omega arith))
+-- a number is the last of them, or is among those before
+pub has-up_to : (k n : ℕ) → has_number k (up_to (suc n)) ≡ ((suc n == k) || has_number k (up_to n))
+has-up_to k n = ap (has_number k) (range-more 1 n) ∙ has-last k (1 + n) (up_to n) ∙ ap (λ m. (m == k) || has_number k (up_to n)) (next n)
   where
-    different : (m n : ℕ) → suc n < m → (suc n == m) ≡ false
-    different m n h = grind arith
+    next : (n : ℕ) → 1 + n ≡ suc n
+    next n = omega arith
+
+    swap : (a b c : Bool) → (a || (b || c)) ≡ (b || (a || c))
+    swap true true c = refl
+    swap true false c = refl
+    swap false true c = refl
+    swap false false c = refl
+
+    has-last : (k m : ℕ) (ms : List ℕ) → has_number k (ms ++ m ∷ []) ≡ ((m == k) || has_number k ms)
+    has-last k m [] = refl
+    has-last k m (x ∷ ms) = rw (has-last k m ms) (swap (x == k) (m == k) (has_number k ms))

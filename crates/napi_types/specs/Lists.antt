@@ -1,6 +1,6 @@
 -- Words on lists and options that the other definitions are told by. A finite map is a list of records, each found by its number. One that grows has its records
 -- by rising number, so that maps with the same records are equal, whatever was added first.
-use Rattle.std.specs.Prelude.{◌≡◌, ℕ, zero, suc, ◌==◌, nat_lt, Bool, true, false, List, [], ◌∷◌, ◌++◌, filter, Option, Some, None, find}
+use Rattle.std.specs.Prelude.{◌≡◌, ℕ, ◌==◌, nat_lt, Bool, true, false, List, [], ◌∷◌, ◌++◌, filter, Option, Some, None, find}
 use Rattle.std.specs.List.{list_any, range_with_len}
 use Rattle.napi_types.specs.declared.status.Status.{Status}
 
@@ -36,11 +36,6 @@ HaveSameNumbers ms ns = (n : ℕ) → has_number n ms ≡ has_number n ns
 -- the numbers from 1 up to n
 abbrev pub up_to : ℕ → List ℕ
 up_to n = range_with_len 1 n
-
--- the numbers from n down to 1
-abbrev pub down_from : ℕ → List ℕ
-down_from zero = []
-down_from (suc n) = suc n ∷ down_from n
 
 -- the list of one element
 abbrev pub one : {A : Type 0} → A → List A

@@ -6,10 +6,10 @@ use Rattle.std.specs.List.{All}
 use Rattle.std.proofs.lemmas.List.Elements.{All-nil, All-head, All-tail, All-weaker}
 use borrow.Author.Tests.{eqb-true}
 use Rattle.napi_types.specs.declared.body.Body.{Body}
-use Rattle.napi_types.specs.Lists.{has_number, down_from}
+use Rattle.napi_types.specs.Lists.{has_number, up_to}
 use Rattle.napi_types.specs.Values.{Value, HasDistinctNames, fresh_value, children, with_property, without_property, with_element}
 use Rattle.napi_types.specs.Graph.{StoreState, value_of, creation_number}
-use Rattle.napi_types.proofs.Issued.{above-down_from}
+use Rattle.napi_types.proofs.Issued.{above-up_to, has-up_to}
 use Rattle.value_store.specs.Places.{state_of, at_number, changed_at, IsNumbered, IsCleared}
 use Rattle.value_store.specs.Changes.{ChangesOnly, Makes, MakesValue, Frees, CanFree}
 use Rattle.value_store.proofs.Children.{children-with_property, children-without_property, children-with_element}
@@ -104,7 +104,7 @@ pushed-makes ps w all after = record {
   fresh = fresh (length ps);
   named = new (length ps + 1) ∙ same;
   others = λ n apart. new n ∙ other n apart ∙ sym (value_of-state_of ps all.numbered n);
-  issued = λ n. ap (λ m. has_number n (down_from m)) many ∙ next (length ps) n;
+  issued = λ n. ap (λ m. has_number n (up_to m)) many ∙ next (length ps) n;
   made = many ∙ omega arith;
 }
   where
@@ -120,11 +120,11 @@ pushed-makes ps w all after = record {
     other : (n : ℕ) → n ≢ length ps + 1 → updated (at_number ps) (length ps + 1) w n ≡ at_number ps n
     other n apart = rw (apart-number n (length ps + 1) apart) refl
 
-    fresh : (m : ℕ) → has_number (m + 1) (0 ∷ down_from m) ≡ false
-    fresh m = rw (apart-below 0 (m + 1) (omega arith)) (above-down_from (m + 1) m (omega arith))
+    fresh : (m : ℕ) → has_number (m + 1) (0 ∷ up_to m) ≡ false
+    fresh m = rw (apart-below 0 (m + 1) (omega arith)) (above-up_to (m + 1) m (omega arith))
 
-    next : (m n : ℕ) → ((suc m == n) || has_number n (down_from m)) ≡ ((n == m + 1) || has_number n (down_from m))
-    next m n = let e : m + 1 ≡ suc m = omega arith in rw (e, same-flip n (suc m)) refl
+    next : (m n : ℕ) → has_number n (up_to (suc m)) ≡ ((n == m + 1) || has_number n (up_to m))
+    next m n = let e : m + 1 ≡ suc m = omega arith in has-up_to n m ∙ rw (e, same-flip n (suc m)) refl
 
 -- a new value has the next number
 pub made-numbered : (ps : List (Option Value)) (b : Body) → IsNumbered (at_number ps) → IsNumbered (at_number (ps ++ Some (fresh_value (length ps + 1) b) ∷ []))
@@ -204,5 +204,5 @@ module _ (ps qs : List (Option Value)) (ids : List ℕ) (all : IsNumbered (at_nu
       record {
         gone = λ n has. new n ∙ cleared-gone (at_number ps) ids n has;
         others = λ n apart. new n ∙ cleared-other (at_number ps) ids n apart ∙ sym (old-map n);
-        nothing_issued = record { issued = ap down_from gone.many; made = gone.many };
+        nothing_issued = record { issued = ap up_to gone.many; made = gone.many };
       }

@@ -8,10 +8,10 @@ use borrow.Author.Tests.{eqb-true}
 use Rattle.napi_types.specs.declared.body.Body.{Body}
 use Rattle.napi_types.specs.declared.body.Body.TheVariants as body
 use Rattle.napi_types.specs.declared.ids.ValueId.{ValueId}
-use Rattle.napi_types.specs.Lists.{has_number, down_from}
+use Rattle.napi_types.specs.Lists.{has_number, up_to}
 use Rattle.napi_types.specs.Values.{Value, fresh_value, children, made_after, array_of, list_of}
 use Rattle.napi_types.specs.Graph.{StoreState, graph_of}
-use Rattle.napi_types.proofs.Issued.{above-down_from}
+use Rattle.napi_types.proofs.Issued.{above-up_to, has-up_to}
 use Rattle.value_store.specs.Places.{state_of, at_number, IsNumbered}
 use Rattle.value_store.specs.Changes.{MakesList}
 use Rattle.value_store.specs.Properties.{elements_of, elements_named}
@@ -142,11 +142,11 @@ length-list ps bs =
     ∙ ap (λ n. n + 1) (length-each ps bs)
 
 -- a number that was issued is one from 1 to how many were made
-pub issued-within : (m n : ℕ) → has_number n (down_from m) ≡ true → (0 < n) × (n ≤ m)
+pub issued-within : (m n : ℕ) → has_number n (up_to m) ≡ true → (0 < n) × (n ≤ m)
 issued-within zero n h = let no : ⊥ = cc in absurd no
-issued-within (suc m) n h = by (issued-within m n) (suc m == n) refl h
+issued-within (suc m) n h = by (issued-within m n) (suc m == n) refl (sym (has-up_to n m) ∙ h)
   where
-    by : (has_number n (down_from m) ≡ true → (0 < n) × (n ≤ m)) → (b : Bool) → (suc m == n) ≡ b → (b || has_number n (down_from m)) ≡ true → (0 < n) × (n ≤ suc m)
+    by : (has_number n (up_to m) ≡ true → (0 < n) × (n ≤ m)) → (b : Bool) → (suc m == n) ≡ b → (b || has_number n (up_to m)) ≡ true → (0 < n) × (n ≤ suc m)
     by rest true e is = let same : suc m ≡ n = eqb-true (suc m) n e in (omega arith, omega arith)
     by rest false e is = let lower : (0 < n) × (n ≤ m) = rest is in (omega (arith, lower.0), omega (arith, lower.1))
 
@@ -194,5 +194,5 @@ module _ (ps qs : List (Option Value)) (s : StoreState) (view : state_of ps ≡ 
     made = many;
   }))
     where
-      fresh : (m k : ℕ) → has_number (m + k + 1) (0 ∷ down_from m) ≡ false
-      fresh m k = rw (apart-below 0 (m + k + 1) (omega arith)) (above-down_from (m + k + 1) m (omega arith))
+      fresh : (m k : ℕ) → has_number (m + k + 1) (0 ∷ up_to m) ≡ false
+      fresh m k = rw (apart-below 0 (m + k + 1) (omega arith)) (above-up_to (m + k + 1) m (omega arith))

@@ -4,9 +4,10 @@ use Rattle.std.specs.List.{All}
 use Rattle.std.proofs.lemmas.List.{length-set}
 use Rattle.std.proofs.lemmas.List.Elements.{All-weaker}
 use borrow.Author.Tests.{eqb-true}
-use Rattle.napi_types.specs.Lists.{has_number, down_from}
+use Rattle.napi_types.specs.Lists.{has_number, up_to}
 use Rattle.napi_types.specs.Values.{Value, HasDistinctNames, children, value_at, starting_values}
 use Rattle.napi_types.specs.Graph.{IsSound, IsSoundMap, value_of}
+use Rattle.napi_types.proofs.Issued.{has-up_to}
 use Rattle.value_store.specs.Places.{state_of, at_number, changed_at, IsNumbered}
 use Rattle.value_store.specs.Changes.{ChangesOnly}
 use Rattle.value_store.proofs.Lookup.{value_of-state_of, number-within, at_number-set, other-number, same-number, apart-number, apart-above}
@@ -52,23 +53,23 @@ pub same-map : (f g : ℕ → Option Value) → ((n : ℕ) → f n ≡ g n) → 
 same-map f g each h = let e : g ≡ f = λ i n. sym (each n) i in subst IsNumbered e h
 
 -- the numbers from 1 on are those that were issued
-pub given : (n k : ℕ) → 0 < k → k ≤ n → has_number k (down_from n) ≡ true
+pub given : (n k : ℕ) → 0 < k → k ≤ n → has_number k (up_to n) ≡ true
 given zero k some less = absurd (omega arith)
-given (suc n) k some less = by (given n k some) (suc n == k) refl
+given (suc n) k some less = has-up_to k n ∙ by (given n k some) (suc n == k) refl
   where
-    by : (k ≤ n → has_number k (down_from n) ≡ true) → (b : Bool) → (suc n == k) ≡ b → (b || has_number k (down_from n)) ≡ true
+    by : (k ≤ n → has_number k (up_to n) ≡ true) → (b : Bool) → (suc n == k) ≡ b → (b || has_number k (up_to n)) ≡ true
     by rest true e = refl
     by rest false e = let apart : suc n ≢ k = other-number (suc n) k e in rest (omega arith)
 
-zero-not-given : (n : ℕ) → has_number 0 (down_from n) ≡ false
+zero-not-given : (n : ℕ) → has_number 0 (up_to n) ≡ false
 zero-not-given zero = refl
-zero-not-given (suc n) = rw (apart-above (suc n) 0 (omega arith)) (zero-not-given n)
+zero-not-given (suc n) = has-up_to 0 n ∙ rw (apart-above (suc n) 0 (omega arith)) (zero-not-given n)
 
 -- what holds of every state of a store
 pub sound : (ps : List (Option Value)) → IsNumbered (at_number ps) → IsSound (state_of ps)
 sound ps all =
     let same : value_of (state_of ps) ≡ at_number ps = λ i n. value_of-state_of ps all.numbered n i in
-    let map_is : IsSoundMap (at_number ps) (down_from (length ps)) (length ps) = record {
+    let map_is : IsSoundMap (at_number ps) (up_to (length ps)) (length ps) = record {
       given = λ id some. let in_list : (0 < id) × (id ≤ length ps) = number-within ps id some in given (length ps) id in_list.0 in_list.1;
       positive = zero-not-given (length ps);
       counted = λ id v is. let in_list : (0 < id) × (id ≤ length ps) = number-within ps id (rw is refl) in let number : v.number ≡ id = all.numbered id v is in (omega arith, omega arith);
@@ -76,7 +77,7 @@ sound ps all =
       names = all.names;
       closed = all.closed;
     } in
-    let P : (ℕ → Option Value) → Type 0 = λ f. IsSoundMap f (down_from (length ps)) (length ps) in
+    let P : (ℕ → Option Value) → Type 0 = λ f. IsSoundMap f (up_to (length ps)) (length ps) in
     subst P (sym same) map_is
 
 -- the change of one value, where it keeps the number and what the value is, no name stands twice in it, and it names what is there
@@ -112,7 +113,7 @@ changed-only ps k change all good =
     record {
       named = new k ∙ updated-same (at_number ps) k (change good.from) ∙ sym (ap (option_map change) (old k ∙ good.is));
       others = λ n other. new n ∙ updated-other (at_number ps) k (change good.from) n other ∙ sym (old n);
-      nothing_issued = record { issued = ap down_from many; made = many };
+      nothing_issued = record { issued = ap up_to many; made = many };
     }
   where
     updated-same : (f : ℕ → Option Value) (k : ℕ) (w : Value) → updated f k w k ≡ Some w

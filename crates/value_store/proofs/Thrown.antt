@@ -5,10 +5,10 @@ use Rattle.std.proofs.lemmas.List.{map-append}
 use Rattle.std.proofs.lemmas.List.Elements.{All-nil, All-cons, filter_map-append}
 use Rattle.napi_types.specs.declared.body.Body.{Body}
 use Rattle.napi_types.specs.declared.ids.TextNo.{TextNo}
-use Rattle.napi_types.specs.Lists.{has_number, down_from}
+use Rattle.napi_types.specs.Lists.{has_number, up_to}
 use Rattle.napi_types.specs.Values.{Value, children, made_after, error_of, thrown_strings, thrown_of}
 use Rattle.napi_types.specs.Graph.{StoreState, graph_of}
-use Rattle.napi_types.proofs.Issued.{above-down_from}
+use Rattle.napi_types.proofs.Issued.{above-up_to}
 use Rattle.value_store.specs.Places.{state_of, at_number, IsNumbered}
 use Rattle.value_store.specs.Changes.{MakesList}
 use Rattle.value_store.proofs.Lookup.{value_of-state_of, at_number-push, apart-below, same-number}
@@ -70,8 +70,8 @@ module _ (ps qs : List (Option Value)) (s : StoreState) (view : state_of ps ≡ 
     made = last-many;
   }))
     where
-      fresh : (m k : ℕ) → has_number (m + k + 1) (0 ∷ down_from m) ≡ false
-      fresh m k = rw (apart-below 0 (m + k + 1) (omega arith)) (above-down_from (m + k + 1) m (omega arith))
+      fresh : (m k : ℕ) → has_number (m + k + 1) (0 ∷ up_to m) ≡ false
+      fresh m k = rw (apart-below 0 (m + k + 1) (omega arith)) (above-up_to (m + k + 1) m (omega arith))
 
 -- AN ERROR OF NEW STRINGS
 -- what is there of the strings

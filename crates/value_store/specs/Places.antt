@@ -3,7 +3,7 @@ use Rattle.std.specs.Prelude.{◌≡◌, ℕ, zero, suc, ◌+◌, ◌-◌, ◌<�
 use Rattle.std.specs.List.{All}
 use Rattle.napi_types.specs.Values.{Value, Property, HasDistinctNames, children, value_at, starting_values}
 use Rattle.std.specs.Option.{unwrap_or}
-use Rattle.napi_types.specs.Lists.{has_number, down_from}
+use Rattle.napi_types.specs.Lists.{has_number, up_to}
 use Rattle.napi_types.specs.Graph.{Stored, StoreState}
 use Rattle.value_store.specs.Changes.{child_places}
 
@@ -13,7 +13,7 @@ stored_as v = record { id = v.number; value = v }
 
 -- each place has the value that was made there, until it is freed
 abbrev pub state_of : List (Option Value) → StoreState
-state_of ps = record { places = map (option_map stored_as) ps; issued = down_from (length ps); made = length ps }
+state_of ps = record { places = map (option_map stored_as) ps; issued = up_to (length ps); made = length ps }
 
 -- the value of a number: number n stands at place n - 1
 abbrev pub at_number : List (Option Value) → ℕ → Option Value
