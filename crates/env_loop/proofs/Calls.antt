@@ -11,7 +11,6 @@ use Rattle.napi_types.specs.declared.entry.Target.{Target}
 use Rattle.napi_types.specs.declared.entry.Out.{Out}
 use Rattle.napi_types.specs.declared.ids.HandleId.{HandleId}
 use Rattle.napi_types.specs.Built.{taken}
-use Rattle.napi_types.specs.Calls.{accepted, answer}
 use Rattle.napi_types.specs.Changes.{Change, number_of, is_fresh, called}
 use Rattle.napi_types.specs.Entering.{entered, asked_for}
 use Rattle.napi_types.specs.Frames.{Frame, most_asks}
@@ -34,7 +33,7 @@ use Rattle.napi_types.proofs.Answers.{course-parts, called-keeps}
 use Rattle.napi_types.proofs.FrameChanges.{entered-keeps, asked_for-called, asked_for-entered, KeepsButFrames, asked_for-fits}
 use Rattle.napi_types.proofs.Owners.{callee-owned}
 use Rattle.env_loop.proofs.Recordings.{local-grown}
-use Rattle.env_loop.proofs.Steps.{reply-uncut, taken-asked, call-next, same-room}
+use Rattle.env_loop.proofs.Steps.{reply-uncut, taken-built, taken-asked, call-next, same-room}
 use Rattle.env_loop.proofs.Frames.{InFrame, in-stands, in-calls, sound-asked}
 use Rattle.env_loop.proofs.Registers.{agrees-gifted, agrees-set, Kept, told-others, asked-in, kept-in}
 use Rattle.env_loop.proofs.Turns.{wrote-turn}
@@ -52,7 +51,7 @@ called-goes {ps} {core} {all} {f} {a} i c r new now below made reply told = λ s
     let same_out : r.out ≡ o = ap (λ (x : Reply). x.out) reply.answer in
     let number : number_of o ≡ k = ap number_of (sym same_out) in
     let fresh_o : is_fresh core.env o ≡ true = ap (is_fresh core.env) (sym same_out) ∙ reply.fresh in
-    let room : is_full (room_of m c) c ≡ false = ap (λ x. is_full x c) (sym (same-room s core history c rec.limit)) ∙ reply.fits in
+    let room : is_full (room_of m c) c ≡ false = ap (λ x. is_full x c) (sym (same-room s core history c (taken-built a c made) rec.limit)) ∙ reply.fits in
     let told_here : IsTold ps all core.env.frames change.entry.reply now = subst (λ (x : Reply). IsTold ps all core.env.frames x now) reply.answer told in
     let next : Kept s.plans now (kept_in_frames s.plans rec.own core.env.frames change.entry.reply) =
     kept-in s ps core history all now core.env.frames change.entry.reply of rec i.sound.owned.frames told_here in
@@ -107,7 +106,7 @@ entered-goes {ps} {core} {all} {f} {a} e receiver g args target given_gifts new 
     let c : Call = call.CallFunction receiver g args in
     let change : Change = entered receiver g args core.env in
     let m : Machine = machine_of s.limits core history in
-    let room : is_full (room_of m c) c ≡ false = ap (λ x. is_full x c) (sym (same-room s core history c rec.limit)) ∙ enters.fits in
+    let room : is_full (room_of m c) c ≡ false = ap (λ x. is_full x c) (sym (same-room s core history c refl rec.limit)) ∙ enters.fits in
     let i : ℕ = (callee_of core.env.heap g).addon in
     let gifts : List ℕ = call_gifts core.env.heap receiver g args in
     let callee : i < core.env.addons = callee-owned core.env.addons core.env receiver g args enters.called.accepted e.sound.owned in

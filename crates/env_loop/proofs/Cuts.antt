@@ -24,7 +24,7 @@ use Rattle.env_loop.specs.Recording.{machine_of, why_stopped}
 use Rattle.env_loop.specs.Runs.{IsSound}
 use Rattle.env_loop.specs.Turns.{IsAsked, IsTurn}
 use Rattle.napi_types.proofs.FrameEnds.{ended-ends}
-use Rattle.env_loop.proofs.Steps.{two_may, both_may, cut-next, same-room}
+use Rattle.env_loop.proofs.Steps.{two_may, both_may, taken-built, cut-next, same-room}
 use Rattle.env_loop.proofs.Frames.{InFrame, in-stands, in-calls}
 use Rattle.env_loop.proofs.Registers.{told-from}
 use Rattle.env_loop.proofs.Ends.{callers_of, IsToldEnd, ended-turn}
@@ -48,7 +48,7 @@ stopped-may : (s : Setting) (core : Core) (history : List Entry) (a : Ask) (c : 
     → StopsBy (room_in core) c t → may_cut (machine_of s.limits core history) (taken a) (why_stopped t) ≡ true
 stopped-may s core history a c t limit may made stops =
     ap (λ b. may_cut (machine_of s.limits core history) b (why_stopped t)) (sym made)
-    ∙ by t (subst (λ (x : Room). StopsBy x c t) (same-room s core history c limit) stops)
+    ∙ by t (subst (λ (x : Room). StopsBy x c t) (same-room s core history c (taken-built a c made) limit) stops)
   where
     by : (t : Status) → StopsBy (room_of (machine_of s.limits core history) c) c t → may_cut (machine_of s.limits core history) (ask.Do c) (why_stopped t) ≡ true
     by status.TraceFull stops = two_may (may_call core.env) (is_full (room_of (machine_of s.limits core history) c) c) may stops

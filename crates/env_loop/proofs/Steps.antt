@@ -22,6 +22,7 @@ use Rattle.napi_types.specs.Machine.{Machine}
 use Rattle.napi_types.specs.Room.{journal_room, room_of, is_full}
 use Rattle.napi_types.specs.Step.{Step, step, step_of, locally, env_step, frame_step, cut_of, may_cut}
 use Rattle.napi_types.specs.Whole.{Setting}
+use Rattle.napi_types.proofs.Rooms.{built-room}
 use Rattle.env_core.specs.Core.{Core, room_in}
 use Rattle.env_loop.specs.Recording.{machine_of}
 use Rattle.napi_types.specs.ReferenceCalls.{counted_up, value_told}
@@ -109,7 +110,7 @@ cut-next m a w o f fs stands told may =
 pub by-env : (m : Machine) (a : Ask) (x : Entry) (st : Step) → x.actor ≡ actor.Env → env_step m a x.reply.out m.env.frames ≡ st → step m a x ≡ st
 by-env m a x st who next = ap (step_of m a x) who ∙ next
 
--- the room that a core has is the machine's
-pub same-room : (s : Setting) (core : Core) (history : List Entry) (c : Call) → core.limit ≡ s.limits.journal
+-- the room that a core has is the machine's, for a call that is built
+pub same-room : (s : Setting) (core : Core) (history : List Entry) (c : Call) → is_built c ≡ true → core.limit ≡ s.limits.journal
     → room_in core ≡ room_of (machine_of s.limits core history) c
-same-room s core history c e = ap (λ n. journal_room core.env (length core.journal) n) e
+same-room s core history c built e = ap (λ n. journal_room core.env (length core.journal) n) e ∙ sym (built-room (machine_of s.limits core history) c built)

@@ -9,7 +9,7 @@ use Rattle.napi_types.specs.declared.entry.Entry.{Entry}
 use Rattle.napi_types.specs.declared.entry.Out.{Out}
 use Rattle.napi_types.specs.declared.entry.Why.{Why}
 use Rattle.napi_types.specs.declared.entry.Why.TheVariants as why
-use Rattle.napi_types.specs.Built.{taken}
+use Rattle.napi_types.specs.Built.{is_built, taken}
 use Rattle.napi_types.specs.Changes.{is_fresh, may_ask, may_call}
 use Rattle.machine_laws.specs.Cuts.{cut_by, first_called}
 use Rattle.napi_types.specs.declared.entry.Cause.{Cause}
@@ -22,6 +22,7 @@ use Rattle.napi_types.specs.Run.{IsNext}
 use Rattle.napi_types.specs.Frames.{Frame, cause_of, is_asking, asks_made}
 use Rattle.napi_types.specs.Step.{Step, env_step, step_of, frame_step, cut_of}
 use Rattle.napi_types.proofs.FrameChanges.{needs-place}
+use Rattle.napi_types.proofs.Rooms.{built-room}
 use Rattle.napi_types.proofs.Runs.{and-left, and-right}
 
 -- the step is that of the frame
@@ -68,12 +69,12 @@ spent-only m (ask.Leave v) f fs e s o (Some why.Full) h = cc
 spent-only m (ask.Leave v) f fs e s o (Some why.Memory) h = cc
 spent-only m (ask.Leave v) f fs e s o None h = absurd (spent-asks m.env s h)
 
--- where the journal's places are taken, every call is full; and where one is left, a call of a function is
+-- where the journal's places are taken, every call that is built is full; and where one is left, a call of a function is
 past : (n : ℕ) → 1 ≤ n → nat_lt 5 (5 + n) ≡ true
 past n h = grind arith
 
-pub full-there : (c : Call) → is_full (room_of first_called c) c ≡ true
-full-there c = past (need c) (needs-place c)
+pub full-there : (c : Call) → is_built c ≡ true → is_full (room_of first_called c) c ≡ true
+full-there c built = ap (λ x. is_full x c) (built-room first_called c built) ∙ past (need c) (needs-place c)
 
 -- where a call is full its frame is cut so
 pub full-only : (m : Machine) (c : Call) (f : Frame) (fs : List Frame) → m.env.frames ≡ f ∷ fs → is_full (room_of m c) c ≡ true → IsTrue (not (asks_made m.env.frames == 65536))

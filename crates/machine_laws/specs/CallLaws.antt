@@ -12,7 +12,7 @@ use Rattle.napi_types.specs.declared.status.Status.TheVariants as status
 use Rattle.napi_types.specs.Calls.{answer, at_depth_limit, by_groups}
 use Rattle.napi_types.specs.Built.{is_built, is_calling}
 use Rattle.napi_types.specs.Environment.{Environment}
-use Rattle.napi_types.specs.Guards.{is_registering}
+use Rattle.napi_types.specs.Guards.{is_registering, is_shared}
 use Rattle.napi_types.specs.Heap.{Heap, handle_body}
 use Rattle.napi_types.specs.Lists.{has_number}
 use Rattle.napi_types.specs.Replies.{plain}
@@ -49,24 +49,9 @@ pub record TagsExternalsOnly (heap : Heap) (h : HandleId) : Type 0 where
 abbrev pub ExternalsAreTaggedOnly : Type 0
 ExternalsAreTaggedOnly = (heap : Heap) (h : HandleId) (payload : ℕ) → handle_body heap h.0 ≡ body.External payload → TagsExternalsOnly heap h
 
--- the calls on works and on thread-safe functions, whose entries stand in the history
-abbrev pub is_shared_call : Call → Bool
-is_shared_call (call.CreateAsyncWork _ _ _) = true
-is_shared_call (call.DeleteAsyncWork _) = true
-is_shared_call (call.CancelAsyncWork _) = true
-is_shared_call (call.QueueAsyncWork _) = true
-is_shared_call (call.CreateThreadsafeFunction _ _ _ _ _ _) = true
-is_shared_call (call.CallThreadsafeFunction _ _ _) = true
-is_shared_call (call.AcquireThreadsafeFunction _) = true
-is_shared_call (call.ReleaseThreadsafeFunction _ _) = true
-is_shared_call (call.RefThreadsafeFunction _) = true
-is_shared_call (call.UnrefThreadsafeFunction _) = true
-is_shared_call (call.GetThreadsafeFunctionContext _) = true
-is_shared_call _ = false
-
--- every other call needs a place for its entry, one for the end of the frame that it enters, and two for the frame of what it registers
+-- a call whose entry stands in the journal needs a place for its entry, one for the end of the frame that it enters, and two for the frame of what it registers
 abbrev pub EachDutyHasPlaces : Type 0
-EachDutyHasPlaces = (c : Call) → is_shared_call c ≡ false → need c ≡ 1 + one_if (is_calling c) + 2 * one_if (is_registering c)
+EachDutyHasPlaces = (c : Call) → is_shared c ≡ false → need c ≡ 1 + one_if (is_calling c) + 2 * one_if (is_registering c)
 
 -- a call that registers takes memory for that, but that of a work which is queued
 abbrev pub RegisteringCallsGrow : Type 0

@@ -4,6 +4,7 @@ use Rattle.std.specs.Option.{option_or}
 use Rattle.napi_types.specs.declared.call.Ask.{Ask}
 use Rattle.napi_types.specs.declared.call.Ask.TheVariants as ask
 use Rattle.napi_types.specs.declared.call.Call.{Call}
+use Rattle.napi_types.specs.declared.call.Call.TheVariants as call
 use Rattle.napi_types.specs.declared.entry.Actor.{Actor}
 use Rattle.napi_types.specs.declared.entry.Actor.TheVariants as actor
 use Rattle.napi_types.specs.declared.entry.Entry.{Entry}
@@ -18,15 +19,16 @@ use Rattle.napi_types.specs.Changes.{opened, may_ask, may_call, is_fresh, number
 use Rattle.napi_types.specs.Choice.{local_choice, local_choice_in, hub_choice_at, choice}
 use Rattle.napi_types.specs.Ends.{frame_ended}
 use Rattle.napi_types.specs.Entering.{asked_for}
-use Rattle.napi_types.specs.Built.{taken}
+use Rattle.napi_types.specs.Built.{is_built, taken}
 use Rattle.napi_types.specs.declared.ids.HandleId.{HandleId}
 use Rattle.napi_types.specs.Environment.{Environment}
+use Rattle.napi_types.specs.Guards.{is_shared}
 use Rattle.napi_types.specs.Lists.{tail}
 use Rattle.napi_types.specs.Hub.{Hub, Stage, Before, Going, Looped, Drained, Final, stage_after, staged, hub_next}
 use Rattle.napi_types.specs.Laws.{RoomSuffices}
 use Rattle.napi_types.specs.Loop.{Event, Opens, Inits, Goes, EndsLoop, Drains, FinalsCome, IsGone}
 use Rattle.napi_types.specs.Machine.{Machine}
-use Rattle.napi_types.specs.Room.{one_if, gone_place, stage_places, reserved_journal, reserved_history, room_of, is_full, need}
+use Rattle.napi_types.specs.Room.{one_if, gone_place, stage_places, reserved_journal, reserved_history, journal_room, room_of, is_full, need}
 use Rattle.napi_types.specs.Run.{IsRunBy, after, final}
 use Rattle.napi_types.specs.Frames.{Frame}
 use Rattle.napi_types.specs.Step.{locally, hub_moved, by_hub, event_step, chosen, call_step, asked_step, cut_of, frame_step, env_step, step_of}
@@ -53,6 +55,25 @@ record Roomy (l : Limits) (m : Machine) : Type 0 where
   pub bare : m.env.phase ≡ phase.Gone → length m.env.frames ≡ 0
 
 -- A CALL
+-- no shared call is built, ..
+built-local : (c : Call) → is_built c ≡ true → is_shared c ≡ false
+built-local (call.CreateAsyncWork job completion payload) h = cc
+built-local (call.DeleteAsyncWork w) h = cc
+built-local (call.CancelAsyncWork w) h = cc
+built-local (call.QueueAsyncWork w) h = cc
+built-local (call.CreateThreadsafeFunction f entry most initial finalizer context) h = cc
+built-local (call.CallThreadsafeFunction f payload mode) h = cc
+built-local (call.AcquireThreadsafeFunction f) h = cc
+built-local (call.ReleaseThreadsafeFunction f how) h = cc
+built-local (call.RefThreadsafeFunction f) h = cc
+built-local (call.UnrefThreadsafeFunction f) h = cc
+built-local (call.GetThreadsafeFunctionContext f) h = cc
+built-local _ h = refl
+
+-- .. so a call that is built has its entry in the journal
+pub built-room : (m : Machine) (c : Call) → is_built c ≡ true → room_of m c ≡ journal_room m.env m.locals m.limits.journal
+built-room m c built = rw (built-local c built) refl
+
 call-fits : (j b d f n x : ℕ) → nat_lt x (j + (b + f) + n) ≡ false → d + 1 ≤ f + n → j + 1 + (b + d) ≤ x
 call-fits j b d f n x h k = grind arith
 
@@ -67,14 +88,15 @@ other_places e = one_if (not e.opened) + gone_place e.phase + 2 * (e.addons - e.
 same-others : (d e : Environment) (n : ℕ) → KeepsButFrames e d n → other_places d ≡ other_places e
 same-others d e n k = let same = course-parts e d k.course in rw (same.opened, same.phase, same.addons, same.inits) refl
 
-call-room : (l : Limits) (m : Machine) (c : Call) (o : Out) (f : Frame) (fs : List Frame) → m.env.frames ≡ f ∷ fs
+call-room : (l : Limits) (m : Machine) (c : Call) (o : Out) (f : Frame) (fs : List Frame) → is_built c ≡ true → m.env.frames ≡ f ∷ fs
     → Roomy l m → IsTrue (call_step m c o).may → Roomy l (call_step m c o).after
-call-room l m c o f fs e r h =
+call-room l m c o f fs built e r h =
     let n : ℕ = number_of o in
     let d : Environment = (asked_for m.env c n).after in
     let k : KeepsButFrames m.env d (need c) = asked_for-fits m.env c n in
     let course : SameCourse m.env d = course-parts m.env d k.course in
-    let free : is_full (room_of m c) c ≡ false = not-full _ (and-right (may_call m.env && is_fresh m.env o) (not (is_full (room_of m c) c)) h) in
+    let free : is_full (journal_room m.env m.locals m.limits.journal) c ≡ false =
+    ap (λ x. is_full x c) (sym (built-room m c built)) ∙ not-full _ (and-right (may_call m.env && is_fresh m.env o) (not (is_full (room_of m c) c)) h) in
     let P : Limits → Type 0 = λ q. m.locals + 1 + reserved_journal d ≤ q.journal in
     let Q : ℕ → Type 0 = λ b. m.locals + 1 + (b + length d.frames) ≤ m.limits.journal in
     record {
@@ -202,13 +224,18 @@ event-room l m phase.Gone e f r = r
 
 -- EACH STEP
 asked-room : (l : Limits) (m : Machine) (a : Ask) (o : Out) (f : Frame) (fs : List Frame) → m.env.frames ≡ f ∷ fs
-    → Roomy l m → IsTrue (asked_step m a o).may → Roomy l (asked_step m a o).after
-asked-room l m (ask.Do c) o f fs e r h = call-room l m c o f fs e r h
+    → Roomy l m → IsTrue (asked_step m (taken a) o).may → Roomy l (asked_step m (taken a) o).after
 asked-room l m (ask.Leave v) o f fs e r h = end-room l m v None (may_ask m.env) f fs e r
+asked-room l m (ask.Do c) o f fs e r h = by (is_built c) refl h
+  where
+    by : (b : Bool) → is_built c ≡ b → IsTrue (asked_step m (cond b (ask.Do c) (ask.Leave None)) o).may
+        → Roomy l (asked_step m (cond b (ask.Do c) (ask.Leave None)) o).after
+    by true built h = call-room l m c o f fs built e r h
+    by false left h = end-room l m None None (may_ask m.env) f fs e r
 
 frame-room : (l : Limits) (m : Machine) (a : Ask) (o : Out) (w : Option Why) (f : Frame) (fs : List Frame) → m.env.frames ≡ f ∷ fs
-    → Roomy l m → IsTrue (frame_step m a o w).may → Roomy l (frame_step m a o w).after
-frame-room l m a o (Some w) f fs e r h = end-room l m None (Some w) (frame_step m a o (Some w)).may f fs e r
+    → Roomy l m → IsTrue (frame_step m (taken a) o w).may → Roomy l (frame_step m (taken a) o w).after
+frame-room l m a o (Some w) f fs e r h = end-room l m None (Some w) (frame_step m (taken a) o (Some w)).may f fs e r
 frame-room l m a o None f fs e r h = asked-room l m a o f fs e r h
 
 env-room : (l : Limits) (m : Machine) (a : Ask) (o : Out) (fs : List Frame) → m.env.frames ≡ fs
@@ -216,7 +243,7 @@ env-room : (l : Limits) (m : Machine) (a : Ask) (o : Out) (fs : List Frame) → 
 env-room l m a o [] e r h =
     let P : Stage → Type 0 = λ s. Roomy l (chosen m (option_or (local_choice m.env) (hub_choice_at s))).after in
     subst P (sym r.stage) (event-room l m m.env.phase refl e r)
-env-room l m a o (f ∷ fs) e r h = frame-room l m (taken a) o (cut_of o) f fs e r h
+env-room l m a o (f ∷ fs) e r h = frame-room l m a o (cut_of o) f fs e r h
 
 step-room : (l : Limits) (m : Machine) (a : Ask) (x : Entry) (who : Actor) → Roomy l m → IsTrue (step_of m a x who).may → Roomy l (step_of m a x who).after
 step-room l m a x actor.Env r h = env-room l m a x.reply.out m.env.frames refl r h

@@ -1,4 +1,4 @@
--- Which calls are guarded, and which register something that the environment has to do later.
+-- Which calls are guarded, which register something that the environment has to do later, and which are shared.
 use Rattle.std.specs.Prelude.{Bool, true, false, is_some}
 use Rattle.napi_types.specs.declared.call.Call.{Call}
 use Rattle.napi_types.specs.declared.call.Call.TheVariants as call
@@ -38,3 +38,18 @@ is_registering (call.QueueAsyncWork _) = true
 is_registering (call.CreateThreadsafeFunction _ _ _ _ _ _) = true
 is_registering (call.CallThreadsafeFunction _ _ _) = true
 is_registering _ = false
+
+-- the calls on works and on thread-safe functions, whose entries stand in the history
+abbrev pub is_shared : Call → Bool
+is_shared (call.CreateAsyncWork _ _ _) = true
+is_shared (call.DeleteAsyncWork _) = true
+is_shared (call.CancelAsyncWork _) = true
+is_shared (call.QueueAsyncWork _) = true
+is_shared (call.CreateThreadsafeFunction _ _ _ _ _ _) = true
+is_shared (call.CallThreadsafeFunction _ _ _) = true
+is_shared (call.AcquireThreadsafeFunction _) = true
+is_shared (call.ReleaseThreadsafeFunction _ _) = true
+is_shared (call.RefThreadsafeFunction _) = true
+is_shared (call.UnrefThreadsafeFunction _) = true
+is_shared (call.GetThreadsafeFunctionContext _) = true
+is_shared _ = false

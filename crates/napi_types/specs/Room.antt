@@ -1,10 +1,11 @@
 -- The room in the journal and in the history: places that entries take, places that are reserved, and what a call needs.
-use Rattle.std.specs.Prelude.{ℕ, ◌+◌, ◌-◌, ◌*◌, Bool, true, false, not, ◌||◌, nat_lt, min, length, Option, Some, None, is_some}
+use Rattle.std.specs.Prelude.{ℕ, ◌+◌, ◌-◌, ◌*◌, Bool, true, false, cond, not, ◌||◌, nat_lt, min, length, Option, Some, None, is_some}
 use Rattle.napi_types.specs.declared.call.Call.{Call}
 use Rattle.napi_types.specs.declared.entry.Phase.{Phase}
 use Rattle.napi_types.specs.declared.entry.Phase.TheVariants as phase
 use Rattle.napi_types.specs.declared.call.Call.TheVariants as call
 use Rattle.napi_types.specs.Environment.{Environment}
+use Rattle.napi_types.specs.Guards.{is_shared}
 use Rattle.napi_types.specs.Hub.{Hub, Stage, Before, Going, Looped, Drained, Final}
 use Rattle.napi_types.specs.Machine.{Machine}
 
@@ -43,9 +44,13 @@ reserved_history h = stage_places h.stage
 abbrev pub journal_room : Environment → ℕ → ℕ → Room
 journal_room e locals limit = record { limit = limit; taken = locals + reserved_journal e }
 
--- the room of the list in which the call's entry would stand
+-- the room in a history with so many entries and this limit
+abbrev pub history_room : Hub → ℕ → ℕ → Room
+history_room h shareds limit = record { limit = limit; taken = shareds + reserved_history h }
+
+-- the room of the list in which the call's entry would stand: the history for a shared call, and the journal for every other
 abbrev pub room_of : Machine → Call → Room
-room_of m c = journal_room m.env m.locals m.limits.journal
+room_of m c = cond (is_shared c) (history_room m.hub m.shareds m.limits.history) (journal_room m.env m.locals m.limits.journal)
 
 -- the places of a duty's frame, its begin and its end
 abbrev pub duty_places : ℕ

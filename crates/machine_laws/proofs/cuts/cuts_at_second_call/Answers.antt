@@ -15,8 +15,9 @@ built c b = rw b refl
 
 full : (c : Call) → is_built c ≡ true → IsOnlyNext first_called (ask.Do c) (cut_by cause.Init why.Full)
 full c b = (
-  subst (λ a. MayStand (out.Cut why.Full) (Some why.Full) (cut_by cause.Init why.Full) a) (sym (built c b)) (refl, full-there c),
-  only-in-frame first_called (ask.Do c) _ _ (cut_by cause.Init why.Full) refl (subst (λ a. Steps (cut_by cause.Init why.Full) a) (sym (built c b)) (full-only first_called c _ _ refl (full-there c) refl)),
+  subst (λ a. MayStand (out.Cut why.Full) (Some why.Full) (cut_by cause.Init why.Full) a) (sym (built c b)) (refl, full-there c b),
+  only-in-frame first_called (ask.Do c) _ _ (cut_by cause.Init why.Full) refl
+      (subst (λ a. Steps (cut_by cause.Init why.Full) a) (sym (built c b)) (full-only first_called c _ _ refl (full-there c b) refl)),
 )
 
 pub returns : goal.returns
