@@ -1,11 +1,15 @@
 -- Laws over all calls in all environments.
 use Rattle.std.specs.Option.{option_or, unwrap_or}
-use Rattle.std.specs.Prelude.{◌≡◌, ℕ, ◌+◌, ◌*◌, nat_lt, Bool, true, false, ◌&&◌, not, [], length, Option, Some, None, filter, is_some, slice_get, codes, ◌⊎◌}
+use Rattle.std.specs.Prelude.{◌≡◌, ℕ, ℤ, ◌+◌, ◌*◌, nat_lt, Bool, true, false, ◌&&◌, not, [], length, Option, Some, None, filter, is_some, slice_get, codes, ◌⊎◌}
 use Rattle.napi_types.specs.declared.body.Body.TheVariants as body
 use Rattle.napi_types.specs.declared.call.Call.{Call}
 use Rattle.napi_types.specs.declared.call.Call.TheVariants as call
+use Rattle.napi_types.specs.declared.call.JobSpec.{JobSpec}
+use Rattle.napi_types.specs.declared.call.Mode.{Mode}
 use Rattle.napi_types.specs.declared.entry.Out.TheVariants as out
 use Rattle.napi_types.specs.declared.ids.HandleId.{HandleId}
+use Rattle.napi_types.specs.declared.ids.ScopeId.{ScopeId}
+use Rattle.napi_types.specs.declared.ids.TsfnId.{TsfnId}
 use Rattle.napi_types.specs.declared.ids.WorkId.{WorkId}
 use Rattle.napi_types.specs.declared.status.Status.{Status}
 use Rattle.napi_types.specs.declared.status.Status.TheVariants as status
@@ -16,7 +20,8 @@ use Rattle.napi_types.specs.Guards.{is_registering, is_shared}
 use Rattle.napi_types.specs.Heap.{Heap, handle_body}
 use Rattle.napi_types.specs.Lists.{has_number}
 use Rattle.napi_types.specs.Replies.{plain}
-use Rattle.napi_types.specs.Refusals.{references_of, handles_of, texts_of, moment_refusal, reference_refusal, unknown_refusal, kind_refusal, refusal_in, early_refusal, depth_refusal, refusal}
+use Rattle.napi_types.specs.Refusals.{references_of, handles_of, texts_of, moment_refusal, reference_refusal, unknown_refusal, kind_refusal, row_refusal, refusal_in}
+use Rattle.napi_types.specs.Refusals.{early_refusal, depth_refusal, refusal}
 use Rattle.napi_types.specs.Room.{one_if, need, is_growing}
 use Rattle.napi_types.specs.Scopes.{gives}
 use Rattle.napi_types.specs.Texts.{fixed_texts, message_text, code_text}
@@ -27,11 +32,27 @@ pub record RefusesArgument (e : Environment) (c : Call) : Type 0 where
   pub reply : (n : ℕ) → (answer e c n).reply ≡ plain (unwrap_or (moment_refusal e c) status.InvalidArg) out.Nothing
   pub after : (n : ℕ) → (answer e c n).after ≡ e
 
--- each call that names a handle which no open scope holds is refused, whatever else it names ..
+-- each call that names a handle which no open scope holds is refused, whatever else it names
 abbrev pub RefusesUnknownHandles : Type 0
 RefusesUnknownHandles = (e : Environment) (c : Call) (h : ℕ) → has_number h (handles_of c) ≡ true → gives e.heap.scopes h ≡ None → RefusesArgument e c
 
--- .. and one whose handles open scopes hold, and whose texts stand in the table, is refused for none of them
+-- the same of each of these calls by itself, whatever the table says of the handles that calls name: of `typeof`, and of those that are not built
+pub record RefusesUnknownByRow (e : Environment) (h : HandleId) : Type 0 where
+  pub typeof : RefusesArgument e (call.Typeof h)
+  pub external : RefusesArgument e (call.GetValueExternal h)
+  pub wrap : (payload : ℕ) (finalizer : Option ℕ) (hint : ℕ) (ref : Bool) → RefusesArgument e (call.Wrap h payload finalizer hint ref)
+  pub unwrap : RefusesArgument e (call.Unwrap h)
+  pub remove : RefusesArgument e (call.RemoveWrap h)
+  pub tag : (lower upper : ℕ) → RefusesArgument e (call.TypeTagObject h lower upper)
+  pub check : (lower upper : ℕ) → RefusesArgument e (call.CheckObjectTypeTag h lower upper)
+  pub finalizer : (payload finalizer hint : ℕ) (ref : Bool) → RefusesArgument e (call.AddFinalizer h payload finalizer hint ref)
+  pub function : (entry : Option ℕ) (most initial : ℕ) (finalizer : Option ℕ) (context : ℕ)
+      → RefusesArgument e (call.CreateThreadsafeFunction (Some h) entry most initial finalizer context)
+
+abbrev pub RefusesUnknownInEachRow : Type 0
+RefusesUnknownInEachRow = (e : Environment) (h : HandleId) → gives e.heap.scopes h.0 ≡ None → RefusesUnknownByRow e h
+
+-- a call whose handles open scopes hold, and whose texts stand in the table, is refused for none of them
 abbrev pub TakesKnownHandles : Type 0
 TakesKnownHandles = (e : Environment) (c : Call) → ((h : ℕ) → has_number h (handles_of c) ≡ true → is_some (gives e.heap.scopes h) ≡ true)
     → ((t : ℕ) → has_number t (texts_of c) ≡ true → nat_lt t e.texts ≡ true) → unknown_refusal e.texts e.heap c ≡ None
@@ -49,13 +70,56 @@ pub record TagsExternalsOnly (heap : Heap) (h : HandleId) : Type 0 where
 abbrev pub ExternalsAreTaggedOnly : Type 0
 ExternalsAreTaggedOnly = (heap : Heap) (h : HandleId) (payload : ℕ) → handle_body heap h.0 ≡ body.External payload → TagsExternalsOnly heap h
 
+-- an external is read, and a number is not
+pub record ReadsExternalsOnly (heap : Heap) (h : HandleId) : Type 0 where
+  pub external : (payload : ℕ) → handle_body heap h.0 ≡ body.External payload → row_refusal heap (call.GetValueExternal h) ≡ None
+  pub number : (n : ℤ) → handle_body heap h.0 ≡ body.Number n → row_refusal heap (call.GetValueExternal h) ≡ Some status.InvalidArg
+
+abbrev pub OnlyExternalsAreRead : Type 0
+OnlyExternalsAreRead = (heap : Heap) (h : HandleId) → ReadsExternalsOnly heap h
+
+-- the heap refuses no thread-safe function of a function, nor of none, but that of a number
+pub record ServesFunctionsOnly (heap : Heap) (h : HandleId) (entry : Option ℕ) (most initial : ℕ) (finalizer : Option ℕ) (context : ℕ) : Type 0 where
+  pub function : (addon runs payload : ℕ) → handle_body heap h.0 ≡ body.Function addon runs payload
+      → row_refusal heap (call.CreateThreadsafeFunction (Some h) entry most initial finalizer context) ≡ None
+  pub none : row_refusal heap (call.CreateThreadsafeFunction None entry most initial finalizer context) ≡ None
+  pub number : (n : ℤ) → handle_body heap h.0 ≡ body.Number n
+      → row_refusal heap (call.CreateThreadsafeFunction (Some h) entry most initial finalizer context) ≡ Some status.InvalidArg
+
+abbrev pub OnlyFunctionsAreServed : Type 0
+OnlyFunctionsAreServed = (heap : Heap) (h : HandleId) (entry : Option ℕ) (most initial : ℕ) (finalizer : Option ℕ) (context : ℕ)
+    → ServesFunctionsOnly heap h entry most initial finalizer context
+
 -- a call whose entry stands in the journal needs a place for its entry, one for the end of the frame that it enters, and two for the frame of what it registers
 abbrev pub EachDutyHasPlaces : Type 0
 EachDutyHasPlaces = (c : Call) → is_shared c ≡ false → need c ≡ 1 + one_if (is_calling c) + 2 * one_if (is_registering c)
 
--- a call that registers takes memory for that, but that of a work which is queued
+-- the call queues a work
+abbrev pub is_queuing : Call → Bool
+is_queuing (call.QueueAsyncWork _) = true
+is_queuing _ = false
+
+-- a call that registers grows, but that which queues a work does not
 abbrev pub RegisteringCallsGrow : Type 0
-RegisteringCallsGrow = (c : Call) → is_registering c ≡ true → (is_growing c ≡ true) ⊎ ((w : WorkId) × (c ≡ call.QueueAsyncWork w))
+RegisteringCallsGrow = (c : Call) → is_registering c ≡ true → is_growing c ≡ not (is_queuing c)
+
+-- the places that calls on works and on thread-safe functions need, and which calls grow: those that wrap and make an external also without a finalizer
+pub record NeedsAndGrowth : Type 0 where
+  pub work_needs : (job : JobSpec) (completion payload : ℕ) → need (call.CreateAsyncWork job completion payload) ≡ 1
+  pub queue_needs : (w : WorkId) → need (call.QueueAsyncWork w) ≡ 5
+  pub function_needs : (f : Option HandleId) (entry : Option ℕ) (most initial context : ℕ)
+      → need (call.CreateThreadsafeFunction f entry most initial None context) ≡ 3
+  pub finalized_needs : (f : Option HandleId) (entry : Option ℕ) (most initial finalizer context : ℕ)
+      → need (call.CreateThreadsafeFunction f entry most initial (Some finalizer) context) ≡ 5
+  pub item_needs : (f : TsfnId) (payload : ℕ) (mode : Mode) → need (call.CallThreadsafeFunction f payload mode) ≡ 3
+  pub tag_grows : (h : HandleId) (lower upper : ℕ) → is_growing (call.TypeTagObject h lower upper) ≡ true
+  pub wrap_grows : (h : HandleId) (payload hint : ℕ) (ref : Bool) → is_growing (call.Wrap h payload None hint ref) ≡ true
+  pub external_grows : (payload hint : ℕ) → is_growing (call.CreateExternal payload None hint) ≡ true
+  pub queue_stays : (w : WorkId) → is_growing (call.QueueAsyncWork w) ≡ false
+  pub typeof_stays : (h : HandleId) → is_growing (call.Typeof h) ≡ false
+  pub escape_stays : (s : ScopeId) (h : HandleId) → is_growing (call.EscapeHandle s h) ≡ false
+  pub unwrap_stays : (h : HandleId) → is_growing (call.Unwrap h) ≡ false
+  pub delete_stays : (w : WorkId) → is_growing (call.DeleteAsyncWork w) ≡ false
 
 -- each call that is built, but the call of a function, which enters a frame, has a row: exactly one group of calls answers it, and none answers another call
 abbrev pub EveryCallHasARow : Type 0

@@ -1,5 +1,6 @@
 //! Laws over all calls in all environments.
-ghost use Rattle.machine_laws.specs.CallLaws.{RefusesUnknownHandles, TakesKnownHandles, ExternalsAreTaggedOnly, EachDutyHasPlaces, RegisteringCallsGrow};
+ghost use Rattle.machine_laws.specs.CallLaws.{RefusesUnknownHandles, RefusesUnknownInEachRow, TakesKnownHandles, ExternalsAreTaggedOnly, OnlyExternalsAreRead};
+ghost use Rattle.machine_laws.specs.CallLaws.{OnlyFunctionsAreServed, EachDutyHasPlaces, RegisteringCallsGrow, NeedsAndGrowth};
 ghost use Rattle.machine_laws.specs.CallLaws.{EveryCallHasARow, RefusedCallsChangeNothing, ErrorNamesAreFixed, ReferencesAreNamedAlone};
 
 /// A refused call answers the first refusal that applies and changes nothing, but that the depth limit leaves its error pending.
@@ -10,18 +11,30 @@ pub fn refused_calls_change_nothing()
 /// A handle that no open scope holds is an invalid argument, and each call that names it changes nothing.
 pub fn refuses_unknown_handles()
     ensures unknown { RefusesUnknownHandles }
+    ensures rows { RefusesUnknownInEachRow }
     ensures known { TakesKnownHandles }
 {}
 
-/// An external is no object: only a type tag may be on it.
+/// An external is no object: only a type tag may be on it. And nothing but an external is read as one.
 pub fn tells_externals_from_objects()
-    ensures { ExternalsAreTaggedOnly }
+    ensures tagged { ExternalsAreTaggedOnly }
+    ensures read { OnlyExternalsAreRead }
 {}
 
-/// A local call that registers something has places for its frame, and each call that registers takes memory, but the one that queues a work.
+/// A thread-safe function is made of a function or of none, and of no other value.
+pub fn serves_functions_only()
+    ensures { OnlyFunctionsAreServed }
+{}
+
+/// A local call that registers something has places for its frame, and each call that registers grows, but the one that queues a work.
 pub fn each_duty_has_places()
     ensures places { EachDutyHasPlaces }
     ensures memory { RegisteringCallsGrow }
+{}
+
+/// What calls on works and on thread-safe functions need, and which calls grow.
+pub fn needs_and_growth()
+    ensures { NeedsAndGrowth }
 {}
 
 /// Each call but that of a function, which enters a frame, is answered by exactly one group of calls.

@@ -106,6 +106,10 @@ abbrev pub is_function : Body → Bool
 is_function (body.Function addon entry payload) = true
 is_function _ = false
 
+abbrev pub is_external : Body → Bool
+is_external (body.External payload) = true
+is_external _ = false
+
 -- what a reference may be to
 abbrev pub is_referable : Body → Bool
 is_referable (body.Object array error) = true

@@ -1,4 +1,4 @@
-use Rattle.std.proofs.Common.{Some, None, refl, inl, inr}
+use Rattle.std.proofs.Common.{Some, None, refl}
 use Rattle.napi_types.specs.declared.call.Call.TheVariants as call
 use Rattle.machine_laws.specs.CallLaws.{EachDutyHasPlaces, RegisteringCallsGrow}
 use Rattle.machine_laws.proofs.calls.each_duty_has_places.Goals as goal
@@ -17,15 +17,15 @@ places (call.CallThreadsafeFunction f payload mode) local = cc
 places _ local = refl
 
 grows : RegisteringCallsGrow
-grows (call.CreateExternal payload finalizer hint) registers = inl refl
-grows (call.Wrap object payload finalizer hint ref) registers = inl refl
-grows (call.AddFinalizer object payload finalizer hint ref) registers = inl refl
-grows (call.SetInstanceData payload finalizer hint) registers = inl registers
-grows (call.AddEnvCleanupHook entry arg) registers = inl refl
-grows (call.CreateAsyncWork job entry payload) registers = inl refl
-grows (call.QueueAsyncWork w) registers = inr (w, refl)
-grows (call.CreateThreadsafeFunction f entry most initial finalizer context) registers = inl refl
-grows (call.CallThreadsafeFunction f payload mode) registers = inl refl
+grows (call.CreateExternal payload finalizer hint) registers = refl
+grows (call.Wrap object payload finalizer hint ref) registers = refl
+grows (call.AddFinalizer object payload finalizer hint ref) registers = refl
+grows (call.SetInstanceData payload finalizer hint) registers = registers
+grows (call.AddEnvCleanupHook entry arg) registers = refl
+grows (call.CreateAsyncWork job entry payload) registers = refl
+grows (call.QueueAsyncWork w) registers = refl
+grows (call.CreateThreadsafeFunction f entry most initial finalizer context) registers = refl
+grows (call.CallThreadsafeFunction f payload mode) registers = refl
 grows _ registers = cc
 
 pub returns-clause-places : goal.returns-clause-places

@@ -1,17 +1,18 @@
-use Rattle.std.proofs.Common.{◌≡◌, ℕ, ◌∙◌, ap, refl, true, false, ◌&&◌, Option, Some, None, is_some, nat_lt}
+use Rattle.std.proofs.Common.{◌≡◌, ℕ, ◌∙◌, ◌==◌, ap, arith, refl, true, false, ◌&&◌, Option, Some, None, is_some, nat_lt}
 use Rattle.std.specs.List.{list_all}
 use Rattle.std.specs.Option.{option_or, unwrap_or}
 use Rattle.napi_types.specs.declared.call.Call.{Call}
+use Rattle.napi_types.specs.declared.call.Call.TheVariants as call
 use Rattle.napi_types.specs.declared.entry.Out.TheVariants as out
 use Rattle.napi_types.specs.declared.status.Status.{Status}
 use Rattle.napi_types.specs.declared.status.Status.TheVariants as status
 use Rattle.napi_types.specs.Calls.{answer_at}
 use Rattle.napi_types.specs.Environment.{Environment}
-use Rattle.napi_types.specs.Lists.{has_number, unless}
+use Rattle.napi_types.specs.Lists.{has_number, one, unless}
 use Rattle.napi_types.specs.Refusals.{handles_of, texts_of, moment_refusal, timely_refusal, unknown_refusal, reference_refusal, kind_refusal, row_refusal, depth_refusal}
 use Rattle.napi_types.specs.Replies.{plain}
 use Rattle.napi_types.specs.Scopes.{gives}
-use Rattle.machine_laws.specs.CallLaws.{RefusesUnknownHandles, TakesKnownHandles}
+use Rattle.machine_laws.specs.CallLaws.{RefusesUnknownHandles, RefusesUnknownInEachRow, TakesKnownHandles}
 use Rattle.machine_laws.proofs.Naming.{named-alone, fails-all, passes-all}
 use Rattle.machine_laws.proofs.calls.refuses_unknown_handles.Goals as goal
 
@@ -54,6 +55,27 @@ unknown e c h here none =
       after = λ n. ap (λ s. (answer_at e c n (option_or (moment_refusal e c) s) deep).after) first ∙ after-of e c n (moment_refusal e c) deep status.InvalidArg;
     }
 
+-- a handle is among those of a call that names it alone
+named : (h : ℕ) → has_number h (one h) ≡ true
+named h = rw (itself h) refl
+  where
+    itself : (h : ℕ) → (h == h) ≡ true
+    itself h = grind arith
+
+rows : RefusesUnknownInEachRow
+rows e h none = record {
+  typeof = unknown e (call.Typeof h) h.0 (named h.0) none;
+  external = unknown e (call.GetValueExternal h) h.0 (named h.0) none;
+  wrap = λ payload finalizer hint ref. unknown e (call.Wrap h payload finalizer hint ref) h.0 (named h.0) none;
+  unwrap = unknown e (call.Unwrap h) h.0 (named h.0) none;
+  remove = unknown e (call.RemoveWrap h) h.0 (named h.0) none;
+  tag = λ lower upper. unknown e (call.TypeTagObject h lower upper) h.0 (named h.0) none;
+  check = λ lower upper. unknown e (call.CheckObjectTypeTag h lower upper) h.0 (named h.0) none;
+  finalizer = λ payload finalizer hint ref. unknown e (call.AddFinalizer h payload finalizer hint ref) h.0 (named h.0) none;
+  function = λ entry most initial finalizer context.
+      unknown e (call.CreateThreadsafeFunction (Some h) entry most initial finalizer context) h.0 (named h.0) none;
+}
+
 known : TakesKnownHandles
 known e c handles texts =
     ap (λ b. unless (b && list_all (λ t. nat_lt t e.texts) (texts_of c)) status.InvalidArg)
@@ -62,6 +84,9 @@ known e c handles texts =
 
 pub returns-clause-unknown : goal.returns-clause-unknown
 returns-clause-unknown c = unknown
+
+pub returns-clause-rows : goal.returns-clause-rows
+returns-clause-rows c = rows
 
 pub returns-clause-known : goal.returns-clause-known
 returns-clause-known c = known

@@ -1,9 +1,9 @@
 use Rattle.std.proofs.Common.{refl}
-use Rattle.machine_laws.specs.CallLaws.{ExternalsAreTaggedOnly}
+use Rattle.machine_laws.specs.CallLaws.{ExternalsAreTaggedOnly, OnlyExternalsAreRead}
 use Rattle.machine_laws.proofs.calls.tells_externals_from_objects.Goals as goal
 
-law : ExternalsAreTaggedOnly
-law heap h payload external = record {
+tagged : ExternalsAreTaggedOnly
+tagged heap h payload external = record {
   tag = λ lower upper. rw external refl;
   check = λ lower upper. rw external refl;
   wrap = λ payload finalizer hint ref. rw external refl;
@@ -12,5 +12,11 @@ law heap h payload external = record {
   finalizer = λ payload finalizer hint ref. rw external refl;
 }
 
-pub returns : goal.returns
-returns c = law
+read : OnlyExternalsAreRead
+read heap h = record { external = λ payload is. rw is refl; number = λ n is. rw is refl }
+
+pub returns-clause-tagged : goal.returns-clause-tagged
+returns-clause-tagged c = tagged
+
+pub returns-clause-read : goal.returns-clause-read
+returns-clause-read c = read
