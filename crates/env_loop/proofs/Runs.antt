@@ -1,5 +1,6 @@
 -- A run: its turns, the hub's events, and how many are left.
 use Rattle.std.proofs.Common.{◌≡◌, ◌<◌, ℕ, ◌+◌, ◌-◌, nat_lt, Bool, true, false, cond, List, [], ◌∷◌, ◌++◌, length, drop, refl, ap, subst, sym, ◌∙◌, arith, Option, Some, None, length-append, append_assoc, append-nil}
+use Rattle.std.specs.Option.{option_or}
 use Rattle.napi_types.specs.declared.entry.Entry.{Entry}
 use Rattle.napi_types.specs.declared.entry.HostStep.{HostStep}
 use Rattle.napi_types.specs.declared.entry.HostStep.TheVariants as host
@@ -10,47 +11,50 @@ use Rattle.napi_types.specs.declared.entry.Out.TheVariants as out
 use Rattle.napi_types.specs.declared.entry.Phase.{Phase}
 use Rattle.napi_types.specs.declared.entry.Phase.TheVariants as phase
 use Rattle.napi_types.specs.Changes.{host_entry, in_phase}
-use Rattle.napi_types.specs.Choice.{local_choice, local_choice_in, hub_choice, hub_choice_at}
+use Rattle.napi_types.specs.Choice.{local_choice_in, hub_choice, choice}
 use Rattle.napi_types.specs.Environment.{Environment}
 use Rattle.napi_types.specs.Frames.{Frame}
-use Rattle.napi_types.specs.Hub.{Before}
-use Rattle.napi_types.specs.Loop.{Event, Opens, Inits}
+use Rattle.napi_types.specs.Loop.{Opens, Inits}
+use Rattle.napi_types.specs.Machine.{Machine}
 use Rattle.napi_types.specs.Phases.{stage_of}
 use Rattle.napi_types.specs.Plan.{Plan, Registers}
 use Rattle.napi_types.specs.Room.{stage_places}
+use Rattle.napi_types.specs.Weave.{Side}
 use Rattle.napi_types.specs.Whole.{Setting}
 use Rattle.env_core.specs.Core.{Core}
 use Rattle.env_loop.specs.declared.turn.LocalTurn.TheVariants as turn
-use Rattle.env_loop.specs.Recording.{hub_of, IsOf, IsRecorded}
+use Rattle.env_loop.specs.Recording.{IsOf, IsRecorded}
 use Rattle.env_loop.specs.Runs.{Run, IsSound, OneMore, Extends, GoesOn, MovesOn}
-use Rattle.env_loop.specs.Turns.{turn_at, turn_of, turns_left}
+use Rattle.env_loop.specs.Turns.{turn_at, side_of, uncounted, turn_of, turns_left}
 use Rattle.env_loop.proofs.Recordings.{go-grown, loop_end-grown, drain-grown, finals-grown}
 
 -- THE HUB'S EVENTS
 -- where the hub is needed no frame stands
-needs-none : (fs : List Frame) (mine hubs : Option Event) → turn_at fs mine hubs ≡ turn.NeedsHub → fs ≡ []
-needs-none [] mine hubs h = refl
-needs-none (f ∷ fs) mine hubs h = cc
+needs-none : (fs : List Frame) (next : Option Side) → turn_at fs next ≡ turn.NeedsHub → fs ≡ []
+needs-none [] next h = refl
+needs-none (f ∷ fs) next h = cc
 
 needs-alone : (e : Environment) → turn_of e ≡ turn.NeedsHub → e.frames ≡ []
-needs-alone e h = needs-none e.frames (local_choice e) (hub_choice (hub_of e)) h
+needs-alone e h = needs-none e.frames (side_of (uncounted e) (choice (uncounted e))) h
 
 -- and before `go` every init frame has begun
 record ReadyToGo (e : Environment) : Type 0 where
   pub opened : e.opened ≡ true
   pub begun : nat_lt e.inits e.addons ≡ false
 
-ready-in : (e : Environment) (a b : Bool) → e.opened ≡ a → nat_lt e.inits e.addons ≡ b
-    → turn_at [] (cond a (cond b (Some (Inits e.inits)) None) (Some Opens)) (hub_choice_at Before) ≡ turn.NeedsHub → ReadyToGo e
-ready-in e true false o i h = record { opened = o; begun = i }
-ready-in e true true o i h = cc
-ready-in e false b o i h = cc
+ready-in : (e : Environment) (m : Machine) (a b : Bool) → e.opened ≡ a → nat_lt e.inits e.addons ≡ b
+    → turn_at [] (side_of m (option_or (cond a (cond b (Some (Inits e.inits)) None) (Some Opens)) (hub_choice m.hub))) ≡ turn.NeedsHub → ReadyToGo e
+ready-in e m true false o i h = record { opened = o; begun = i }
+ready-in e m true true o i h = cc
+ready-in e m false b o i h = cc
 
 ready-to-go : (e : Environment) → e.phase ≡ phase.Init → turn_of e ≡ turn.NeedsHub → ReadyToGo e
 ready-to-go e here h =
-    let next : turn_at [] (local_choice_in e phase.Init) (hub_choice_at (stage_of phase.Init)) ≡ turn.NeedsHub =
-    ap (λ p. turn_at [] (local_choice_in e p) (hub_choice_at (stage_of p))) (sym here) ∙ ap (λ fs. turn_at fs (local_choice e) (hub_choice (hub_of e))) (sym (needs-alone e h)) ∙ h in
-    ready-in e e.opened (nat_lt e.inits e.addons) refl refl next
+    let m : Machine = uncounted e in
+    let next : turn_at [] (side_of m (option_or (local_choice_in e phase.Init) (hub_choice m.hub))) ≡ turn.NeedsHub =
+    ap (λ p. turn_at [] (side_of m (option_or (local_choice_in e p) (hub_choice m.hub)))) (sym here)
+    ∙ ap (λ fs. turn_at fs (side_of m (choice m))) (sym (needs-alone e h)) ∙ h in
+    ready-in e m e.opened (nat_lt e.inits e.addons) refl refl next
 
 -- the environment stays sound in the phase that starts
 moved-sound : (e : Environment) (p : Phase) → (p ≡ phase.Gone → ⊥) → IsSound e → IsSound (in_phase p e)

@@ -1,15 +1,18 @@
 -- What a turn of the environment comes to.
-use Rattle.std.specs.Prelude.{◌≡◌, ℕ, ◌+◌, ◌-◌, List, [], ◌∷◌, length, drop, Option, Some, None, IfSome}
+use Rattle.std.specs.Prelude.{◌≡◌, ℕ, ◌+◌, ◌-◌, List, [], ◌∷◌, length, drop, Option, Some, None, IfSome, option_map}
 use Rattle.napi_types.specs.declared.call.Ask.{Ask}
 use Rattle.napi_types.specs.declared.entry.Reply.{Reply}
-use Rattle.napi_types.specs.Choice.{local_choice, hub_choice}
+use Rattle.napi_types.specs.Choice.{choice}
 use Rattle.napi_types.specs.Environment.{Environment}
 use Rattle.napi_types.specs.Frames.{Frame}
 use Rattle.napi_types.specs.Loop.{Event}
+use Rattle.napi_types.specs.Machine.{Machine}
 use Rattle.napi_types.specs.Phases.{stage_of}
 use Rattle.napi_types.specs.Plan.{Plan, plan_of, Registers, registers_of}
 use Rattle.napi_types.specs.Registers.{plan_ask, kept}
 use Rattle.napi_types.specs.Room.{stage_places}
+use Rattle.napi_types.specs.Step.{event_step}
+use Rattle.napi_types.specs.Weave.{Side, Journal, History}
 use Rattle.addon_trait.specs.Addons.{OthersStay}
 use Rattle.env_core.specs.Core.{Core}
 use Rattle.env_loop.specs.declared.turn.LocalTurn.{LocalTurn}
@@ -17,17 +20,25 @@ use Rattle.env_loop.specs.declared.turn.LocalTurn.TheVariants as turn
 use Rattle.env_loop.specs.Recording.{hub_of, Continues}
 use Rattle.env_loop.specs.Runs.{Run, IsSound, OneMore}
 
--- a turn makes an entry where a frame stands, and else where the environment has an event of its own; where it has none and the hub has one, the hub has to
--- make its turn; where nothing is next the environment is gone
-abbrev pub turn_at : List Frame → Option Event → Option Event → LocalTurn
-turn_at (f ∷ fs) mine hubs = turn.Made
-turn_at [] (Some event) hubs = turn.Made
-turn_at [] None (Some event) = turn.NeedsHub
-turn_at [] None None = turn.Gone
+-- a turn makes an entry where a frame stands, and else where the entry of the next event stands in the journal; where it stands in the history, the hub has to
+-- make its turn; where no event is next the environment is gone
+abbrev pub turn_at : List Frame → Option Side → LocalTurn
+turn_at (f ∷ fs) next = turn.Made
+turn_at [] (Some Journal) = turn.Made
+turn_at [] (Some History) = turn.NeedsHub
+turn_at [] None = turn.Gone
+
+-- the list on which the entry of an event stands, where one was chosen
+abbrev pub side_of : Machine → Option Event → Option Side
+side_of m event = option_map (λ v. (event_step m v).side) event
+
+-- the machine of an environment and its hub; what it counts decides no event
+abbrev pub uncounted : Environment → Machine
+uncounted e = record { env = e; hub = hub_of e; locals = 0; shareds = 0; limits = record { journal = 0; history = 0 } }
 
 -- the turn of an environment
 abbrev pub turn_of : Environment → LocalTurn
-turn_of e = turn_at e.frames (local_choice e) (hub_choice (hub_of e))
+turn_of e = turn_at e.frames (side_of (uncounted e) (choice (uncounted e)))
 
 -- how many turns are left at most: one for each place that the journal has left, and one for each event of the hub to come
 abbrev pub turns_left : Run → ℕ
