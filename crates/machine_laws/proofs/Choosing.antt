@@ -1,6 +1,6 @@
 -- What may come where no frame stands, and where one does.
 use Rattle.std.proofs.Common.{◌≡◌, ◌≤◌, ℕ, nat_lt, Bool, true, false, cond, List, [], ◌∷◌, IsTrue, refl, ap, sym, ◌∙◌, subst, Option, Some, None, arith}
-use Rattle.std.specs.Option.{option_or}
+use Rattle.std.specs.Option.{option_or, IfSome}
 use Rattle.napi_types.specs.declared.call.Ask.{Ask}
 use Rattle.napi_types.specs.declared.call.Ask.TheVariants as ask
 use Rattle.napi_types.specs.declared.call.Args.{Args}
@@ -16,7 +16,6 @@ use Rattle.napi_types.specs.declared.entry.Out.{Out}
 use Rattle.napi_types.specs.declared.entry.Out.TheVariants as out
 use Rattle.napi_types.specs.declared.entry.Phase.{Phase}
 use Rattle.napi_types.specs.declared.entry.Phase.TheVariants as phase
-use Rattle.napi_types.specs.declared.entry.What.{What}
 use Rattle.napi_types.specs.declared.entry.What.TheVariants as what
 use Rattle.napi_types.specs.declared.entry.Why.{Why}
 use Rattle.napi_types.specs.declared.ids.HandleId.{HandleId}
@@ -28,39 +27,99 @@ use Rattle.napi_types.specs.Ends.{frame_ended}
 use Rattle.napi_types.specs.Entering.{calling, asked_for}
 use Rattle.napi_types.specs.Environment.{Environment}
 use Rattle.napi_types.specs.Frames.{Frame}
-use Rattle.napi_types.specs.Hub.{Hub, Stage, Before, Going, Looped, Drained, Final, hub_next}
+use Rattle.napi_types.specs.Hub.{Hub, Stage, Before, Going, Looped, Drained, Final, stage_after, staged, hub_next}
 use Rattle.napi_types.specs.Loop.{Event, Opens, Inits, Goes, EndsLoop, Drains, FinalsCome, IsGone}
 use Rattle.napi_types.specs.Machine.{Machine}
 use Rattle.napi_types.specs.Refusals.{refusal}
-use Rattle.napi_types.specs.Run.{IsNext}
-use Rattle.napi_types.specs.Step.{Step, hub_moved, event_step, chosen, asked_step, frame_step, env_step, step_of, step, cut_of}
-use Rattle.machine_laws.specs.Choices.{is_of_frames, MayGo, NoneIsChosenInFrames, OwnEventsComeFirst, GoComesAfterInitFrames, GoneComesAfterFinals}
+use Rattle.napi_types.specs.Phases.{stage_of}
+use Rattle.napi_types.specs.Run.{IsNext, after, final}
+use Rattle.napi_types.specs.Step.{Step, locally, hub_moved, event_step, chosen, frame_step, env_step, step_of, step, cut_of}
+use Rattle.napi_types.specs.Whole.{opening_of, final_of}
+use Rattle.machine_laws.specs.Choices.{is_of_frames, NoneIsChosenInFrames, TellsFrame, BeginsTellTheirFrames, OwnEventsComeFirst, IsOfHub, HubEventsComeLast, MayGo, GoComesAfterInitFrames, GoneComesAfterFinals, HubIsInPhase, GoComesOnlyAfterInitFrames, GoneComesOnlyAfterFinals}
+use Rattle.napi_types.proofs.Answers.{course-parts}
+use Rattle.napi_types.proofs.FrameChanges.{ended-keeps, asked_for-fits}
 use Rattle.napi_types.proofs.FrameEnds.{ended-ends}
 use Rattle.machine_laws.proofs.Cutting.{frame-step}
 
 -- IN A FRAME
-ended-of : (v : Option HandleId) (cut : Option Why) (e : Environment) → is_of_frames (frame_ended v cut e).entry.what ≡ true
-ended-of v cut e = ap is_of_frames (ended-ends v cut e).is
+-- an entry of a frame
+abbrev OfFrames : Entry → Type 0
+OfFrames x = is_of_frames x.what x.reply.out ≡ true
 
-calling-of : (receiver : Option HandleId) (f : HandleId) (args : Args) (n : ℕ) (e : Environment) (s : Option Status)
-    → is_of_frames (calling receiver f args n e s).entry.what ≡ true
+ended-of : (v : Option HandleId) (cut : Option Why) (e : Environment) → OfFrames (frame_ended v cut e).entry
+ended-of v cut e = ap (λ w. is_of_frames w (frame_ended v cut e).entry.reply.out) (ended-ends v cut e).is
+
+calling-of : (receiver : Option HandleId) (f : HandleId) (args : Args) (n : ℕ) (e : Environment) (s : Option Status) → OfFrames (calling receiver f args n e s).entry
 calling-of receiver f args n e None = refl
 calling-of receiver f args n e (Some s) = refl
 
-asked-of : (e : Environment) (c : Call) (n : ℕ) → is_of_frames (asked_for e c n).entry.what ≡ true
+asked-of : (e : Environment) (c : Call) (n : ℕ) → OfFrames (asked_for e c n).entry
 asked-of e (call.CallFunction receiver f args) n = calling-of receiver f args n e (refusal e (call.CallFunction receiver f args))
 asked-of e c n = refl
 
-frame-of : (m : Machine) (a : Ask) (o : Out) (cut : Option Why) → is_of_frames (frame_step m a o cut).entry.what ≡ true
+frame-of : (m : Machine) (a : Ask) (o : Out) (cut : Option Why) → OfFrames (frame_step m a o cut).entry
 frame-of m a o (Some w) = ended-of None (Some w) m.env
 frame-of m (ask.Do c) o None = asked-of m.env c (number_of o)
 frame-of m (ask.Leave v) o None = ended-of v None m.env
 
 pub none-in-frames : NoneIsChosenInFrames
 none-in-frames m f fs a x stands next =
-    ap (λ (y : Entry). is_of_frames y.what) next.0
-    ∙ ap (λ (t : Step). is_of_frames t.entry.what) (frame-step m a x x.actor f fs stands next.1)
+    ap (λ (y : Entry). is_of_frames y.what y.reply.out) next.0
+    ∙ ap (λ (t : Step). is_of_frames t.entry.what t.entry.reply.out) (frame-step m a x x.actor f fs stands next.1)
     ∙ frame-of m (taken a) x.reply.out (cut_of x.reply.out)
+
+-- WHAT A BEGIN TELLS
+-- where the entry of the step is a begin, it tells of the frame that the step leaves innermost, whether or not it may stand
+abbrev Tells : Step → Type 0
+Tells t = t.entry.what ≡ what.Host host.Begin → TellsFrame t.entry t.after
+
+moved-tells : (m : Machine) (event : HostStep) (p : Phase) (o : Out) (h : Option Hub) → (event ≡ host.Begin → ⊥) → Tells (hub_moved m event p o h)
+moved-tells m event p o None other is = cc
+moved-tells m event p o (Some h) other is = let z : event ≡ host.Begin = cc in absurd (other z)
+
+event-tells : (m : Machine) (v : Event) → Tells (event_step m v)
+event-tells m Opens is = cc
+event-tells m (Inits n) is = record { frame = _; outer = _; stands = refl; told = refl }
+event-tells m Goes is = moved-tells m host.Go phase.Live out.Nothing (hub_next m.hub host.Go) (λ z. cc) is
+event-tells m (EndsLoop w) is = moved-tells m host.LoopEnd phase.Hooks (out.Ended w) (hub_next m.hub host.LoopEnd) (λ z. cc) is
+event-tells m Drains is = moved-tells m host.Drain phase.Drain (out.Unsigned 0) (hub_next m.hub host.Drain) (λ z. cc) is
+event-tells m FinalsCome is = moved-tells m host.Finals phase.Finals out.Nothing (hub_next m.hub host.Finals) (λ z. cc) is
+event-tells m IsGone is = cc
+
+chosen-tells : (m : Machine) (v : Option Event) → Tells (chosen m v)
+chosen-tells m None is = cc
+chosen-tells m (Some v) is = event-tells m v is
+
+ended-tells : (m : Machine) (v : Option HandleId) (cut : Option Why) → Tells (locally m (frame_ended v cut m.env) true)
+ended-tells m v cut is = let z : what.Host host.End ≡ what.Host host.Begin = sym (ended-ends v cut m.env).is ∙ is in cc
+
+calling-tells : (m : Machine) (receiver : Option HandleId) (f : HandleId) (args : Args) (n : ℕ) (s : Option Status)
+    → Tells (locally m (calling receiver f args n m.env s) true)
+calling-tells m receiver f args n None is = record { frame = _; outer = _; stands = refl; told = refl }
+calling-tells m receiver f args n (Some s) is = cc
+
+asked-tells : (m : Machine) (c : Call) (n : ℕ) → Tells (locally m (asked_for m.env c n) true)
+asked-tells m (call.CallFunction receiver f args) n is = calling-tells m receiver f args n (refusal m.env (call.CallFunction receiver f args)) is
+asked-tells m c n is = cc
+
+frame-tells : (m : Machine) (a : Ask) (o : Out) (cut : Option Why) → Tells (frame_step m a o cut)
+frame-tells m a o (Some w) is = ended-tells m None (Some w) is
+frame-tells m (ask.Do c) o None is = asked-tells m c (number_of o) is
+frame-tells m (ask.Leave v) o None is = ended-tells m v None is
+
+env-tells : (m : Machine) (a : Ask) (o : Out) (fs : List Frame) → Tells (env_step m a o fs)
+env-tells m a o [] is = chosen-tells m (choice m) is
+env-tells m a o (f ∷ fs) is = frame-tells m (taken a) o (cut_of o) is
+
+step-tells : (m : Machine) (a : Ask) (x : Entry) (who : Actor) → Tells (step_of m a x who)
+step-tells m a x actor.Env is = env-tells m a x.reply.out m.env.frames is
+step-tells m a x (actor.Thread n) is = cc
+step-tells m a x (actor.Worker n) is = cc
+
+pub begins-tell : BeginsTellTheirFrames
+begins-tell m a x next is =
+    let t : TellsFrame (step m a x).entry (after m a x) = step-tells m a x x.actor (sym (ap (λ (y : Entry). y.what) next.0) ∙ is) in
+    record { frame = t.frame; outer = t.outer; stands = t.stands; told = ap (λ (y : Entry). y.reply.out) next.0 ∙ t.told }
 
 -- WHERE NO FRAME STANDS
 -- what may come is the environment's, ..
@@ -74,9 +133,21 @@ chosen-next : (m : Machine) (a : Ask) (x : Entry) → x.actor ≡ actor.Env → 
 chosen-next m a x who alone = ap (step_of m a x) who ∙ ap (env_step m a x.reply.out) alone
 
 -- where something else comes, no frame stands
-none-stands : (m : Machine) (a : Ask) (x : Entry) (fs : List Frame) → m.env.frames ≡ fs → is_of_frames x.what ≡ false → IsNext m a x → fs ≡ []
+none-stands : (m : Machine) (a : Ask) (x : Entry) (fs : List Frame) → m.env.frames ≡ fs → is_of_frames x.what x.reply.out ≡ false → IsNext m a x → fs ≡ []
 none-stands m a x [] stands other next = refl
 none-stands m a x (f ∷ fs) stands other next = let z : true ≡ false = sym (none-in-frames m f fs a x stands next) ∙ other in cc
+
+-- no frame stands, and the entry is that of the event that is chosen
+record IsAlone (m : Machine) (x : Entry) : Type 0 where
+  pub alone : m.env.frames ≡ []
+  pub entry : x ≡ (chosen m (choice m)).entry
+  pub may : IsTrue (chosen m (choice m)).may
+
+alone-next : (m : Machine) (a : Ask) (x : Entry) → is_of_frames x.what x.reply.out ≡ false → IsNext m a x → IsAlone m x
+alone-next m a x other next =
+    let alone : m.env.frames ≡ [] = none-stands m a x m.env.frames refl other next in
+    let s : step m a x ≡ chosen m (choice m) = chosen-next m a x (by-env m a x x.actor next.1) alone in
+    record { alone = alone; entry = next.0 ∙ ap (λ (t : Step). t.entry) s; may = subst (λ (t : Step). IsTrue t.may) s next.1 }
 
 -- THE ENVIRONMENT'S OWN EVENTS
 abbrev IsOwn : Event → Type 0
@@ -107,45 +178,90 @@ own-next m h IsGone x own n = n
 own-next m h _ x own n = absurd own
 
 pub own-first : OwnEventsComeFirst
-own-first m v a x alone chosen_own next h =
+own-first m v a x alone chosen_own next =
     let P : Step → Type 0 = λ t. (x ≡ t.entry) × IsTrue t.may in
     let who : x.actor ≡ actor.Env = by-env m a x x.actor next.1 in
     let here : step m a x ≡ event_step m v = chosen-next m a x who alone ∙ ap (λ c. chosen m (option_or c (hub_choice m.hub))) chosen_own in
-    let n : Machine = record m { hub = h } in
-    let there : step n a x ≡ event_step n v = chosen-next n a x who alone ∙ ap (λ c. chosen n (option_or c (hub_choice h))) chosen_own in
-    subst P (sym there) (own-next m h v x (local-own m.env m.env.phase v chosen_own) (subst P here next))
+    let there : (h : Hub) → step (record m { hub = h }) a x ≡ event_step (record m { hub = h }) v =
+    λ h. chosen-next (record m { hub = h }) a x who alone ∙ ap (λ c. chosen (record m { hub = h }) (option_or c (hub_choice h))) chosen_own in
+    record {
+      entry = (subst P here next).0;
+      anyhow = λ h. subst P (sym (there h)) (own-next m h v x (local-own m.env m.env.phase v chosen_own) (subst P here next));
+    }
+
+-- THE HUB'S EVENTS
+of-hub : (m : Machine) (x : Entry) (v : Option Event) → hub_choice m.hub ≡ v → x ≡ (chosen m v).entry → IsTrue (chosen m v).may → IsOfHub m x
+of-hub m x None next is t = cc
+of-hub m x (Some v) next is t = record { event = v; next = next; entry = is }
+
+pub hub-last : HubEventsComeLast
+hub-last m a x alone none next =
+    let here : step m a x ≡ chosen m (hub_choice m.hub) =
+    chosen-next m a x (by-env m a x x.actor next.1) alone ∙ ap (λ c. chosen m (option_or c (hub_choice m.hub))) none in
+    of-hub m x (hub_choice m.hub) refl (next.0 ∙ ap (λ (t : Step). t.entry) here) (subst (λ (t : Step). IsTrue t.may) here next.1)
+
+-- another entry than that of the event that moves the hub
+moved-other : (m : Machine) (event other : HostStep) (p : Phase) (o : Out) (h : Option Hub) (x : Entry) → (event ≡ other → ⊥) → x.what ≡ what.Host other
+    → x ≡ (hub_moved m event p o h).entry → IsTrue (hub_moved m event p o h).may → ⊥
+moved-other m event other p o None x apart is e t = cc
+moved-other m event other p o (Some h) x apart is e t =
+    let z : what.Host event ≡ what.Host other = sym (ap (λ (y : Entry). y.what) e) ∙ is in
+    let same : event ≡ other = cc in
+    apart same
 
 -- GO
-go-at : (m : Machine) (b c : Bool) (x : Entry) → x.what ≡ what.Host host.Go
+-- it is the hub's first event
+hub-go : (m : Machine) (s : Stage) (x : Entry) → x.what ≡ what.Host host.Go → x ≡ (chosen m (hub_choice_at s)).entry → IsTrue (chosen m (hub_choice_at s)).may
+    → s ≡ Before
+hub-go m Before x is e t = refl
+hub-go m Going x is e t = absurd (moved-other m host.LoopEnd host.Go phase.Hooks (out.Ended loop_end.Idle) (hub_next m.hub host.LoopEnd) x (λ z. cc) is e t)
+hub-go m Looped x is e t = absurd (moved-other m host.Drain host.Go phase.Drain (out.Unsigned 0) (hub_next m.hub host.Drain) x (λ z. cc) is e t)
+hub-go m Drained x is e t = absurd (moved-other m host.Finals host.Go phase.Finals out.Nothing (hub_next m.hub host.Finals) x (λ z. cc) is e t)
+hub-go m Final x is e t = cc
+
+-- no event of the environment's own before it is `go`
+init-go : (m : Machine) (b c : Bool) (x : Entry) → x.what ≡ what.Host host.Go
     → x ≡ (chosen m (option_or (cond b (cond c (Some (Inits m.env.inits)) None) (Some Opens)) (hub_choice m.hub))).entry → (b ≡ true) × (c ≡ false)
-go-at m true false x is e = (refl, refl)
-go-at m true true x is e = let z : what.Host host.Go ≡ what.Host host.Begin = sym is ∙ ap (λ (y : Entry). y.what) e in cc
-go-at m false c x is e = let z : what.Host host.Go ≡ what.Host host.Opened = sym is ∙ ap (λ (y : Entry). y.what) e in cc
+init-go m true false x is e = (refl, refl)
+init-go m true true x is e = let z : what.Host host.Go ≡ what.Host host.Begin = sym is ∙ ap (λ (y : Entry). y.what) e in cc
+init-go m false c x is e = let z : what.Host host.Go ≡ what.Host host.Opened = sym is ∙ ap (λ (y : Entry). y.what) e in cc
+
+-- so it is the hub's in every phase
+own-go : (m : Machine) (v : Option Event) (x : Entry) → ((w : Event) → v ≡ Some w → IsOwn w) → x.what ≡ what.Host host.Go
+    → x ≡ (chosen m (option_or v (hub_choice m.hub))).entry → v ≡ None
+own-go m None x own is e = refl
+own-go m (Some Opens) x own is e = let z : what.Host host.Go ≡ what.Host host.Opened = sym is ∙ ap (λ (y : Entry). y.what) e in cc
+own-go m (Some (Inits n)) x own is e = let z : what.Host host.Go ≡ what.Host host.Begin = sym is ∙ ap (λ (y : Entry). y.what) e in cc
+own-go m (Some IsGone) x own is e = let z : what.Host host.Go ≡ what.Host host.Gone = sym is ∙ ap (λ (y : Entry). y.what) e in cc
+own-go m (Some Goes) x own is e = absurd (own Goes refl)
+own-go m (Some (EndsLoop w)) x own is e = absurd (own (EndsLoop w) refl)
+own-go m (Some Drains) x own is e = absurd (own Drains refl)
+own-go m (Some FinalsCome) x own is e = absurd (own FinalsCome refl)
+
+go-stage : (m : Machine) (x : Entry) → x.what ≡ what.Host host.Go → IsAlone m x → m.hub.stage ≡ Before
+go-stage m x is here =
+    let none : local_choice m.env ≡ None = own-go m (local_choice m.env) x (local-own m.env m.env.phase) is here.entry in
+    let s : chosen m (choice m) ≡ chosen m (hub_choice m.hub) = ap (λ c. chosen m (option_or c (hub_choice m.hub))) none in
+    hub-go m m.hub.stage x is (here.entry ∙ ap (λ (t : Step). t.entry) s) (subst (λ (t : Step). IsTrue t.may) s here.may)
 
 not-less : (a b : ℕ) → nat_lt a b ≡ false → b ≤ a
 not-less a b h = grind arith
 
 pub go-last : GoComesAfterInitFrames
 go-last m a x next is =
-    let alone : m.env.frames ≡ [] = none-stands m a x m.env.frames refl (ap is_of_frames is) next in
-    let who : x.actor ≡ actor.Env = by-env m a x x.actor next.1 in
-    let told : x ≡ (chosen m (choice m)).entry = next.0 ∙ ap (λ (t : Step). t.entry) (chosen-next m a x who alone) in
+    let here : IsAlone m x = alone-next m a x (ap (λ w. is_of_frames w x.reply.out) is) next in
     let found : m.env.phase ≡ phase.Init → (m.env.opened ≡ true) × (nat_lt m.env.inits m.env.addons ≡ false) =
-    λ here. go-at m m.env.opened (nat_lt m.env.inits m.env.addons) x is (told ∙ ap (λ p. (chosen m (option_or (local_choice_in m.env p) (hub_choice m.hub))).entry) here) in
-    record { alone = alone; opened = λ here. (found here).0; begun = λ here. not-less m.env.inits m.env.addons (found here).1 }
+    λ init. init-go m m.env.opened (nat_lt m.env.inits m.env.addons) x is
+    (here.entry ∙ ap (λ p. (chosen m (option_or (local_choice_in m.env p) (hub_choice m.hub))).entry) init) in
+    record { alone = here.alone; opened = λ init. (found init).0; begun = λ init. not-less m.env.inits m.env.addons (found init).1 }
 
 -- GONE
-moved-other : (m : Machine) (event : HostStep) (p : Phase) (o : Out) (h : Option Hub) (x : Entry) → (event ≡ host.Gone → ⊥) → x.what ≡ what.Host host.Gone
-    → x ≡ (hub_moved m event p o h).entry → IsTrue (hub_moved m event p o h).may → ⊥
-moved-other m event p o None x other is e t = cc
-moved-other m event p o (Some h) x other is e t = let z : what.Host event ≡ what.Host host.Gone = sym (ap (λ (y : Entry). y.what) e) ∙ is in other cc
-
 hub-other : (m : Machine) (s : Stage) (x : Entry) → x.what ≡ what.Host host.Gone → x ≡ (chosen m (hub_choice_at s)).entry
     → IsTrue (chosen m (hub_choice_at s)).may → ⊥
-hub-other m Before x is e t = moved-other m host.Go phase.Live out.Nothing (hub_next m.hub host.Go) x (λ z. cc) is e t
-hub-other m Going x is e t = moved-other m host.LoopEnd phase.Hooks (out.Ended loop_end.Idle) (hub_next m.hub host.LoopEnd) x (λ z. cc) is e t
-hub-other m Looped x is e t = moved-other m host.Drain phase.Drain (out.Unsigned 0) (hub_next m.hub host.Drain) x (λ z. cc) is e t
-hub-other m Drained x is e t = moved-other m host.Finals phase.Finals out.Nothing (hub_next m.hub host.Finals) x (λ z. cc) is e t
+hub-other m Before x is e t = moved-other m host.Go host.Gone phase.Live out.Nothing (hub_next m.hub host.Go) x (λ z. cc) is e t
+hub-other m Going x is e t = moved-other m host.LoopEnd host.Gone phase.Hooks (out.Ended loop_end.Idle) (hub_next m.hub host.LoopEnd) x (λ z. cc) is e t
+hub-other m Looped x is e t = moved-other m host.Drain host.Gone phase.Drain (out.Unsigned 0) (hub_next m.hub host.Drain) x (λ z. cc) is e t
+hub-other m Drained x is e t = moved-other m host.Finals host.Gone phase.Finals out.Nothing (hub_next m.hub host.Finals) x (λ z. cc) is e t
 hub-other m Final x is e t = cc
 
 init-other : (m : Machine) (n : ℕ) (b c : Bool) (s : Stage) (x : Entry) → x.what ≡ what.Host host.Gone
@@ -167,7 +283,118 @@ gone-in m phase.Gone s x is e t = absurd (hub-other m s x is e t)
 
 pub gone-last : GoneComesAfterFinals
 gone-last m a x next is =
-    let alone : m.env.frames ≡ [] = none-stands m a x m.env.frames refl (ap is_of_frames is) next in
-    let who : x.actor ≡ actor.Env = by-env m a x x.actor next.1 in
-    let s : step m a x ≡ chosen m (choice m) = chosen-next m a x who alone in
-    (alone, gone-in m m.env.phase m.hub.stage x is (next.0 ∙ ap (λ (t : Step). t.entry) s) (subst (λ (t : Step). IsTrue t.may) s next.1))
+    let here : IsAlone m x = alone-next m a x (ap (λ w. is_of_frames w x.reply.out) is) next in
+    (here.alone, gone-in m m.env.phase m.hub.stage x is here.entry here.may)
+
+-- THE HUB AND THE PHASE
+-- the hub is as far as the phase says
+abbrev InPhase : Machine → Type 0
+InPhase m = m.hub.stage ≡ stage_of m.env.phase
+
+moved-in : (m : Machine) (event : HostStep) (p : Phase) (o : Out) (n : Option Stage) → IfSome n (λ s. s ≡ stage_of p) → InPhase m
+    → InPhase (hub_moved m event p o (staged m.hub n)).after
+moved-in m event p o None moved here = here
+moved-in m event p o (Some s) moved here = moved
+
+go-moves : (s : Stage) → IfSome (stage_after s host.Go) (λ t. t ≡ Going)
+go-moves Before = refl
+go-moves _ = tt
+
+loop_end-moves : (s : Stage) → IfSome (stage_after s host.LoopEnd) (λ t. t ≡ Looped)
+loop_end-moves Going = refl
+loop_end-moves _ = tt
+
+drain-moves : (s : Stage) → IfSome (stage_after s host.Drain) (λ t. t ≡ Drained)
+drain-moves Looped = refl
+drain-moves _ = tt
+
+finals-moves : (s : Stage) → IfSome (stage_after s host.Finals) (λ t. t ≡ Final)
+finals-moves Drained = refl
+finals-moves _ = tt
+
+-- each event keeps it, but that `gone` comes once the hub has made its last event
+event-in : (m : Machine) (v : Event) → (v ≡ IsGone → m.hub.stage ≡ Final) → InPhase m → InPhase (event_step m v).after
+event-in m Opens end here = here
+event-in m (Inits n) end here = here
+event-in m Goes end here = moved-in m host.Go phase.Live out.Nothing (stage_after m.hub.stage host.Go) (go-moves m.hub.stage) here
+event-in m (EndsLoop w) end here =
+    moved-in m host.LoopEnd phase.Hooks (out.Ended w) (stage_after m.hub.stage host.LoopEnd) (loop_end-moves m.hub.stage) here
+event-in m Drains end here = moved-in m host.Drain phase.Drain (out.Unsigned 0) (stage_after m.hub.stage host.Drain) (drain-moves m.hub.stage) here
+event-in m FinalsCome end here = moved-in m host.Finals phase.Finals out.Nothing (stage_after m.hub.stage host.Finals) (finals-moves m.hub.stage) here
+event-in m IsGone end here = end refl
+
+chosen-in : (m : Machine) (v : Option Event) → (v ≡ Some IsGone → m.hub.stage ≡ Final) → InPhase m → InPhase (chosen m v).after
+chosen-in m None end here = here
+chosen-in m (Some v) end here = event-in m v (λ is. end (ap (λ w. Some w) is)) here
+
+-- `gone` is chosen in the phase before it alone
+hub-not-gone : (s : Stage) → hub_choice_at s ≡ Some IsGone → ⊥
+hub-not-gone Before h = cc
+hub-not-gone Going h = cc
+hub-not-gone Looped h = cc
+hub-not-gone Drained h = cc
+hub-not-gone Final h = cc
+
+init-not-gone : (n : ℕ) (b c : Bool) (s : Stage) → option_or (cond b (cond c (Some (Inits n)) None) (Some Opens)) (hub_choice_at s) ≡ Some IsGone → ⊥
+init-not-gone n true true s h = cc
+init-not-gone n true false s h = hub-not-gone s h
+init-not-gone n false c s h = cc
+
+gone-final : (e : Environment) (p : Phase) (s : Stage) → option_or (local_choice_in e p) (hub_choice_at s) ≡ Some IsGone → stage_of p ≡ Final
+gone-final e phase.Init s h = absurd (init-not-gone e.inits e.opened (nat_lt e.inits e.addons) s h)
+gone-final e phase.Finals s h = refl
+gone-final e phase.Gone s h = refl
+gone-final e phase.Live s h = absurd (hub-not-gone s h)
+gone-final e phase.Hooks s h = absurd (hub-not-gone s h)
+gone-final e phase.Drain s h = absurd (hub-not-gone s h)
+
+frame-in : (m : Machine) (a : Ask) (o : Out) (cut : Option Why) → InPhase m → InPhase (frame_step m a o cut).after
+frame-in m a o (Some w) here =
+    let d : Environment = (frame_ended None (Some w) m.env).after in
+    here ∙ ap stage_of (sym (course-parts m.env d (ended-keeps None (Some w) m.env).course).phase)
+frame-in m (ask.Leave v) o None here =
+    let d : Environment = (frame_ended v None m.env).after in
+    here ∙ ap stage_of (sym (course-parts m.env d (ended-keeps v None m.env).course).phase)
+frame-in m (ask.Do c) o None here =
+    let d : Environment = (asked_for m.env c (number_of o)).after in
+    here ∙ ap stage_of (sym (course-parts m.env d (asked_for-fits m.env c (number_of o)).course).phase)
+
+env-in : (m : Machine) (a : Ask) (o : Out) (fs : List Frame) → InPhase m → InPhase (env_step m a o fs).after
+env-in m a o [] here = chosen-in m (choice m) (λ is. here ∙ gone-final m.env m.env.phase m.hub.stage is) here
+env-in m a o (f ∷ fs) here = frame-in m (taken a) o (cut_of o) here
+
+step-in : (m : Machine) (a : Ask) (x : Entry) (who : Actor) → InPhase m → InPhase (step_of m a x who).after
+step-in m a x actor.Env here = env-in m a x.reply.out m.env.frames here
+step-in m a x (actor.Thread n) here = here
+step-in m a x (actor.Worker n) here = here
+
+run-in : (m : Machine) (bs : List Ask) (xs : List Entry) → InPhase m → InPhase (final m bs xs)
+run-in m (a ∷ bs) (x ∷ xs) here = run-in (after m a x) bs xs (step-in m a x x.actor here)
+run-in m [] xs here = here
+run-in m (a ∷ bs) [] here = here
+
+pub hub-in-phase : HubIsInPhase
+hub-in-phase s bs xs run = run-in (opening_of s) bs xs refl
+
+-- EVENTS OF RUNS
+before-init : (p : Phase) → Before ≡ stage_of p → p ≡ phase.Init
+before-init phase.Init h = refl
+before-init phase.Live h = cc
+before-init phase.Hooks h = cc
+before-init phase.Drain h = cc
+before-init phase.Finals h = cc
+before-init phase.Gone h = cc
+
+pub go-of-runs : GoComesOnlyAfterInitFrames
+go-of-runs s bs xs a x run next is =
+    let m : Machine = final_of s bs xs in
+    let here : IsAlone m x = alone-next m a x (ap (λ w. is_of_frames w x.reply.out) is) next in
+    let init : m.env.phase ≡ phase.Init = before-init m.env.phase (sym (go-stage m x is here) ∙ hub-in-phase s bs xs run) in
+    let may : MayGo m = go-last m a x next is in
+    record { phase = init; alone = may.alone; opened = may.opened init; begun = may.begun init }
+
+pub gone-of-runs : GoneComesOnlyAfterFinals
+gone-of-runs s bs xs a x run next is =
+    let m : Machine = final_of s bs xs in
+    let last : (m.env.frames ≡ []) × (m.env.phase ≡ phase.Finals) = gone-last m a x next is in
+    record { phase = last.1; alone = last.0; stage = hub-in-phase s bs xs run ∙ ap stage_of last.1 }

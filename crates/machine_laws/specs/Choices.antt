@@ -1,33 +1,72 @@
 -- Which event comes next where no frame stands.
-use Rattle.std.specs.Prelude.{◌≡◌, ◌≤◌, Bool, true, false, List, [], ◌∷◌, Some}
+use Rattle.std.specs.Prelude.{◌≡◌, ◌≤◌, Bool, true, false, List, [], ◌∷◌, Some, None}
 use Rattle.napi_types.specs.declared.call.Ask.{Ask}
+use Rattle.napi_types.specs.declared.entry.Cause.TheVariants as cause
 use Rattle.napi_types.specs.declared.entry.Entry.{Entry}
 use Rattle.napi_types.specs.declared.entry.HostStep.TheVariants as host
+use Rattle.napi_types.specs.declared.entry.Out.{Out}
+use Rattle.napi_types.specs.declared.entry.Out.TheVariants as out
 use Rattle.napi_types.specs.declared.entry.Phase.TheVariants as phase
 use Rattle.napi_types.specs.declared.entry.What.{What}
 use Rattle.napi_types.specs.declared.entry.What.TheVariants as what
-use Rattle.napi_types.specs.Choice.{local_choice}
-use Rattle.napi_types.specs.Frames.{Frame}
-use Rattle.napi_types.specs.Hub.{Hub}
+use Rattle.napi_types.specs.Choice.{local_choice, hub_choice}
+use Rattle.napi_types.specs.Frames.{Frame, begin_told}
+use Rattle.napi_types.specs.Hub.{Hub, Final}
 use Rattle.napi_types.specs.Loop.{Event}
 use Rattle.napi_types.specs.Machine.{Machine}
-use Rattle.napi_types.specs.Run.{IsNext}
+use Rattle.napi_types.specs.Phases.{stage_of}
+use Rattle.napi_types.specs.Run.{after, IsNext, IsRunBy}
+use Rattle.napi_types.specs.Step.{event_step}
+use Rattle.napi_types.specs.Whole.{Setting, opening_of, final_of}
 
--- a call, or the begin or the end of a frame
-abbrev pub is_of_frames : What → Bool
-is_of_frames (what.Call c) = true
-is_of_frames (what.Host host.Begin) = true
-is_of_frames (what.Host host.End) = true
-is_of_frames _ = false
+-- FRAMES
+-- what the begin of a call's frame tells
+abbrev pub begins_call : Out → Bool
+begins_call (out.Begin cause.Call addon entry duty) = true
+begins_call _ = false
+
+-- a call, the begin of a call's frame, or the end of a frame
+abbrev pub is_of_frames : What → Out → Bool
+is_of_frames (what.Call c) o = true
+is_of_frames (what.Host host.Begin) o = begins_call o
+is_of_frames (what.Host host.End) o = true
+is_of_frames _ o = false
 
 -- where a frame stands no event is chosen, so nothing else may come
 abbrev pub NoneIsChosenInFrames : Type 0
-NoneIsChosenInFrames = (m : Machine) (f : Frame) (fs : List Frame) (a : Ask) (x : Entry) → m.env.frames ≡ f ∷ fs → IsNext m a x → is_of_frames x.what ≡ true
+NoneIsChosenInFrames = (m : Machine) (f : Frame) (fs : List Frame) (a : Ask) (x : Entry) → m.env.frames ≡ f ∷ fs → IsNext m a x
+    → is_of_frames x.what x.reply.out ≡ true
 
--- where the environment has an event of its own, that event comes next whatever the hub is
+-- the innermost frame is the one that the entry tells
+pub record TellsFrame (x : Entry) (m : Machine) : Type 0 where
+  pub frame : Frame
+  pub outer : List Frame
+  pub stands : m.env.frames ≡ frame ∷ outer
+  pub told : x.reply.out ≡ begin_told frame
+
+-- each begin tells of the frame that it leaves innermost why it began, its addon, its entry and its duty
+abbrev pub BeginsTellTheirFrames : Type 0
+BeginsTellTheirFrames = (m : Machine) (a : Ask) (x : Entry) → IsNext m a x → x.what ≡ what.Host host.Begin → TellsFrame x (after m a x)
+
+-- EVENTS
+-- the entry is that of the environment's own event, and comes next whatever the hub is
+pub record IsOfOwn (m : Machine) (own : Event) (a : Ask) (x : Entry) : Type 0 where
+  pub entry : x ≡ (event_step m own).entry
+  pub anyhow : (h : Hub) → IsNext (record m { hub = h }) a x
+
+-- where the environment has an event of its own, that event comes next
 abbrev pub OwnEventsComeFirst : Type 0
-OwnEventsComeFirst = (m : Machine) (own : Event) (a : Ask) (x : Entry) → m.env.frames ≡ [] → local_choice m.env ≡ Some own → IsNext m a x
-    → (h : Hub) → IsNext (record m { hub = h }) a x
+OwnEventsComeFirst = (m : Machine) (own : Event) (a : Ask) (x : Entry) → m.env.frames ≡ [] → local_choice m.env ≡ Some own → IsNext m a x → IsOfOwn m own a x
+
+-- the hub has a next event, and the entry is that event's
+pub record IsOfHub (m : Machine) (x : Entry) : Type 0 where
+  pub event : Event
+  pub next : hub_choice m.hub ≡ Some event
+  pub entry : x ≡ (event_step m event).entry
+
+-- where the environment has none of its own, the hub's event comes next; so nothing comes where the hub has none either
+abbrev pub HubEventsComeLast : Type 0
+HubEventsComeLast = (m : Machine) (a : Ask) (x : Entry) → m.env.frames ≡ [] → local_choice m.env ≡ None → IsNext m a x → IsOfHub m x
 
 -- `go` comes where no frame stands, and in the phase of the init frames only once the environment has opened and each addon had its frame
 pub record MayGo (m : Machine) : Type 0 where
@@ -41,3 +80,30 @@ GoComesAfterInitFrames = (m : Machine) (a : Ask) (x : Entry) → IsNext m a x �
 -- `gone` comes in the last phase before it and in no other, where no frame stands
 abbrev pub GoneComesAfterFinals : Type 0
 GoneComesAfterFinals = (m : Machine) (a : Ask) (x : Entry) → IsNext m a x → x.what ≡ what.Host host.Gone → (m.env.frames ≡ []) × (m.env.phase ≡ phase.Finals)
+
+-- EVENTS OF RUNS
+-- at every moment of a run the hub is as far as the phase says
+abbrev pub HubIsInPhase : Type 0
+HubIsInPhase = (s : Setting) (bs : List Ask) (xs : List Entry) → IsRunBy (opening_of s) bs xs
+    → (final_of s bs xs).hub.stage ≡ stage_of (final_of s bs xs).env.phase
+
+-- so `go` comes in the phase of the init frames and in no other, ..
+pub record IsReadyToGo (m : Machine) : Type 0 where
+  pub phase : m.env.phase ≡ phase.Init
+  pub alone : m.env.frames ≡ []
+  pub opened : m.env.opened ≡ true
+  pub begun : m.env.addons ≤ m.env.inits
+
+abbrev pub GoComesOnlyAfterInitFrames : Type 0
+GoComesOnlyAfterInitFrames = (s : Setting) (bs : List Ask) (xs : List Entry) (a : Ask) (x : Entry) → IsRunBy (opening_of s) bs xs
+    → IsNext (final_of s bs xs) a x → x.what ≡ what.Host host.Go → IsReadyToGo (final_of s bs xs)
+
+-- .. and `gone` comes once the hub has made its last event
+pub record IsReadyToEnd (m : Machine) : Type 0 where
+  pub phase : m.env.phase ≡ phase.Finals
+  pub alone : m.env.frames ≡ []
+  pub stage : m.hub.stage ≡ Final
+
+abbrev pub GoneComesOnlyAfterFinals : Type 0
+GoneComesOnlyAfterFinals = (s : Setting) (bs : List Ask) (xs : List Entry) (a : Ask) (x : Entry) → IsRunBy (opening_of s) bs xs
+    → IsNext (final_of s bs xs) a x → x.what ≡ what.Host host.Gone → IsReadyToEnd (final_of s bs xs)

@@ -1,6 +1,7 @@
 -- Two addons that ask nothing.
 use Rattle.std.specs.Prelude.{◌≡◌, ℕ, List, [], ◌∷◌, ◌++◌, set, Some, None}
 use Rattle.napi_types.specs.declared.entry.Cause.TheVariants as cause
+use Rattle.napi_types.specs.declared.entry.Duty.{Duty}
 use Rattle.napi_types.specs.declared.entry.Entry.{Entry}
 use Rattle.napi_types.specs.declared.entry.HostStep.TheVariants as host
 use Rattle.napi_types.specs.declared.entry.Out.TheVariants as out
@@ -36,3 +37,5 @@ pub record IsStrict : Type 0 where
   pub go : IsRun setting (opening_entries ++ frame_end ∷ later) → ⊥
   -- which is that of no other addon
   pub second : (addon : ℕ) → IsRun setting (set trace 3 (init_begins addon)) → addon ≡ 1
+  -- and a begin tells of no duty that did not begin its frame
+  pub duty : (d : Duty) → IsRun setting (set trace 1 (host_entry host.Begin (out.Begin cause.Init 0 0 (Some d)))) → ⊥

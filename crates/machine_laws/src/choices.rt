@@ -1,15 +1,27 @@
 //! Laws of the event that comes next where no frame stands, and a worked run of two addons.
-ghost use Rattle.machine_laws.specs.Choices.{NoneIsChosenInFrames, OwnEventsComeFirst, GoComesAfterInitFrames, GoneComesAfterFinals};
+ghost use Rattle.machine_laws.specs.Choices.{NoneIsChosenInFrames, BeginsTellTheirFrames, OwnEventsComeFirst, HubEventsComeLast};
+ghost use Rattle.machine_laws.specs.Choices.{GoComesAfterInitFrames, GoneComesAfterFinals, HubIsInPhase};
+ghost use Rattle.machine_laws.specs.Choices.{GoComesOnlyAfterInitFrames, GoneComesOnlyAfterFinals};
 ghost use Rattle.machine_laws.specs.TwoAddons as two_addons;
 
-/// Where a frame stands no event is chosen: what comes is a call, or the begin or the end of a frame.
+/// Where a frame stands no event is chosen: what comes is a call, the begin of a call's frame, or the end of a frame.
 pub fn none_is_chosen_in_frames()
     ensures { NoneIsChosenInFrames }
+{}
+
+/// A begin tells of the frame that it leaves innermost why it began, its addon, its entry and its duty.
+pub fn begins_tell_their_frames()
+    ensures { BeginsTellTheirFrames }
 {}
 
 /// An event of the environment's own comes before those of the hub, whatever the hub is.
 pub fn own_events_come_first()
     ensures { OwnEventsComeFirst }
+{}
+
+/// Where the environment has no event of its own the hub's comes next, and nothing where the hub has none either.
+pub fn hub_events_come_last()
+    ensures { HubEventsComeLast }
 {}
 
 /// `go` comes only once each addon had its init frame.
@@ -20,6 +32,21 @@ pub fn go_comes_after_init_frames()
 /// `gone` comes only after `finals`.
 pub fn gone_comes_after_finals()
     ensures { GoneComesAfterFinals }
+{}
+
+/// At every moment of a run the hub is as far as the environment's phase says.
+pub fn hub_is_in_phase()
+    ensures { HubIsInPhase }
+{}
+
+/// In a run `go` comes in the phase of the init frames alone, once each addon had its frame.
+pub fn go_comes_only_after_init_frames()
+    ensures { GoComesOnlyAfterInitFrames }
+{}
+
+/// In a run `gone` comes after `finals` alone, once the hub has made its last event.
+pub fn gone_comes_only_after_finals()
+    ensures { GoneComesOnlyAfterFinals }
 {}
 
 /// Two addons that ask nothing: the entries are a run of their script and come to its end.
