@@ -1,5 +1,5 @@
 -- The environment is consistent as it opens, and so at every moment of a run.
-use Rattle.std.proofs.Common.{◌≡◌, arith, ℕ, ◌+◌, true, false, Bool, List, [], ◌∷◌, ◌++◌, refl}
+use Rattle.std.proofs.Common.{◌≡◌, arith, ℕ, ◌+◌, true, false, Bool, List, [], ◌∷◌, ◌++◌, take, refl}
 use Rattle.std.specs.List.{All, list_all}
 use Rattle.std.proofs.lemmas.Bool.{and_parts}
 use Rattle.std.proofs.lemmas.List.Elements.{All-nil, All-cons}
@@ -56,4 +56,4 @@ opening-consistent addons texts =
 
 -- RUNS
 pub environments-are-consistent : EnvironmentsAreConsistent
-environments-are-consistent s bs xs run = (run-follows (opening_of s) bs xs (opening-consistent _ s.texts)).good
+environments-are-consistent s bs xs n run = (run-follows (opening_of s) (take n bs) (take n xs) (opening-consistent _ s.texts)).good

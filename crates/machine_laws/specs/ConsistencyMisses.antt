@@ -46,6 +46,8 @@ pub record IsStrict : Type 0 where
   -- no handle stands twice, not of one value either, and none was not issued
   pub twice : (v w : ℕ) → IsConsistent (standing (holding (handle_to v 1 ∷ handle_to w 1 ∷ []))) → ⊥
   pub unissued : IsConsistent (standing (holding (handle_to undefined_value 1 ∷ handle_to null_value 3 ∷ []))) → ⊥
+  -- nor is 0 a handle
+  pub nought : IsConsistent (standing (holding (handle_to undefined_value 0 ∷ []))) → ⊥
   -- no value stands twice, and none was not made
   pub doubled : IsConsistent (standing (record (holding two_held) { values = starting_values ++ fresh_value null_value body.Null ∷ [] })) → ⊥
   pub unmade : IsConsistent (standing (record (holding two_held) { values = starting_values ++ fresh_value no_value body.Null ∷ [] })) → ⊥

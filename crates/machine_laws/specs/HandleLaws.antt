@@ -11,17 +11,21 @@ use Rattle.napi_types.specs.Scopes.{FrameScopes, gives}
 use Rattle.napi_types.specs.Whole.{Setting, opening_of, final_of}
 use Rattle.machine_laws.specs.Consistency.{IsConsistent}
 
--- the environment after a run is consistent, and so it is at every moment, since what came of a run up to any moment is a run
+-- the environment after the first n entries of a run
+abbrev pub environment_at : Setting → List Ask → List Entry → ℕ → Environment
+environment_at s bs xs n = (final_of s (take n bs) (take n xs)).env
+
+-- at every moment of a run the environment is consistent
 abbrev pub EnvironmentsAreConsistent : Type 0
-EnvironmentsAreConsistent = (s : Setting) (bs : List Ask) (xs : List Entry) → IsRunBy (opening_of s) bs xs → IsConsistent (final_of s bs xs).env
+EnvironmentsAreConsistent = (s : Setting) (bs : List Ask) (xs : List Entry) (n : ℕ) → IsRunBy (opening_of s) bs xs → IsConsistent (environment_at s bs xs n)
 
 -- a handle that an accepted call names lies in an open scope
 abbrev pub AcceptedHandlesAreOpen : Type 0
 AcceptedHandlesAreOpen = (e : Environment) (c : Call) (h : ℕ) → refusal e c ≡ None → has_number h (handles_of c) ≡ true → IsSome (gives e.heap.scopes h)
 
--- the scopes of all frames after the first n entries of a run
+-- the scopes of all frames there
 abbrev pub scopes_at : Setting → List Ask → List Entry → ℕ → List FrameScopes
-scopes_at s bs xs n = (final_of s (take n bs) (take n xs)).env.heap.scopes
+scopes_at s bs xs n = (environment_at s bs xs n).heap.scopes
 
 -- at any two moments of a run at which an open scope holds a handle, it gives the same value
 abbrev pub HandlesAreStable : Type 0

@@ -1,11 +1,11 @@
 -- Laws of finite maps: in what order records were added, and at what places references stand, shows nowhere in them.
-use Rattle.std.specs.Prelude.{◌≡◌, ◌≢◌, ℕ, ◌<◌, ◌==◌, false, List, [], ◌∷◌, ◌++◌, length, Some, None, slice_index_or, slice_set}
-use Rattle.napi_types.specs.Lists.{has, with_record, with_number}
+use Rattle.std.specs.Prelude.{◌≡◌, ◌≢◌, ℕ, ◌<◌, ◌==◌, false, List, [], ◌∷◌, length, Some, None, slice_index_or, slice_set}
+use Rattle.napi_types.specs.Lists.{has, as_map, with_number}
 use Rattle.napi_types.specs.References.{Reference, ReferenceMap, reference_at, with_reference}
 use Rattle.napi_reference.specs.Places.{ReferencePlaces, standing, map_of}
 
 -- one reference more of a map
-pub record IsOneMore (m : ReferenceMap) (n value count : ℕ) : Type 0 where
+pub record AddsOne (m : ReferenceMap) (n value count : ℕ) : Type 0 where
   -- it is found by its number, and under any other number what was found before
   pub there : reference_at (with_reference n value count m) n ≡ Some (record { number = n; value = Some value; count = count })
   pub others : (k : ℕ) → (n == k) ≡ false → reference_at (with_reference n value count m) k ≡ reference_at m k
@@ -14,26 +14,24 @@ pub record IsOneMore (m : ReferenceMap) (n value count : ℕ) : Type 0 where
 
 -- whatever list the map is
 abbrev pub ReferencesHaveNoOrder : Type 0
-ReferencesHaveNoOrder = (m : ReferenceMap) (n value count : ℕ) → IsOneMore m n value count
+ReferencesHaveNoOrder = (m : ReferenceMap) (n value count : ℕ) → AddsOne m n value count
 
 -- the same of numbers that were issued
 abbrev pub NumbersHaveNoOrder : Type 0
 NumbersHaveNoOrder = (n k : ℕ) (ns : List ℕ) → with_number n (with_number k ns) ≡ with_number k (with_number n ns)
 
--- two references, as a list that grows at its end would have them
+-- two references
 abbrev pub first_reference : Reference
 first_reference = record { number = 1; value = Some 6; count = 0 }
 
 abbrev pub second_reference : Reference
 second_reference = record { number = 2; value = Some 7; count = 0 }
 
-abbrev pub appended : Reference → List Reference → List Reference
-appended r rs = rs ++ r ∷ []
-
--- such a list tells which came first, where the map does not
-pub record ListsHaveAnOrder : Type 0 where
-  pub listed : appended second_reference (appended first_reference []) ≢ appended first_reference (appended second_reference [])
-  pub mapped : with_record (λ r. r.number) first_reference (with_record (λ r. r.number) second_reference []) ≡ first_reference ∷ second_reference ∷ []
+-- the map of both, whichever was first, has them by rising number, and by no other order
+pub record MapsRise : Type 0 where
+  pub later_first : as_map (λ r. r.number) (second_reference ∷ first_reference ∷ []) ≡ first_reference ∷ second_reference ∷ []
+  pub earlier_first : as_map (λ r. r.number) (first_reference ∷ second_reference ∷ []) ≡ first_reference ∷ second_reference ∷ []
+  pub falling : as_map (λ r. r.number) (second_reference ∷ first_reference ∷ []) ≢ second_reference ∷ first_reference ∷ []
 
 -- a reference is put into a place, and its number is issued
 abbrev pub put_at : ℕ → Reference → ReferencePlaces → ReferencePlaces

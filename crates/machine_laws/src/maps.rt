@@ -1,5 +1,5 @@
 //! Laws of finite maps.
-ghost use Rattle.machine_laws.specs.MapLaws.{ReferencesHaveNoOrder, NumbersHaveNoOrder, ListsHaveAnOrder, PlacesHaveNoOrder};
+ghost use Rattle.machine_laws.specs.MapLaws.{ReferencesHaveNoOrder, NumbersHaveNoOrder, MapsRise, PlacesHaveNoOrder};
 
 /// A reference is found by its number, and in what order references were made shows nowhere.
 pub fn references_have_no_order()
@@ -11,9 +11,9 @@ pub fn numbers_have_no_order()
     ensures { NumbersHaveNoOrder }
 {}
 
-/// A list of references that grows at its end would show in what order they were made.
-pub fn lists_have_an_order()
-    ensures { ListsHaveAnOrder }
+/// The map of two references has them by rising number, whichever was made first.
+pub fn maps_rise()
+    ensures { MapsRise }
 {}
 
 /// A reference may be put into any empty place: a place that was given back may be used again, under a new number.

@@ -42,6 +42,7 @@ law = record {
   fits_deep = deep-fit;
   twice = λ v w c. absurd (omega (arith, distinct-times 1 (1 ∷ 1 ∷ []) c.handles.apart));
   unissued = λ c. absurd (omega (arith, (c.handles.within 1 0 (omega arith)).1));
+  nought = λ c. absurd (omega (arith, (c.handles.within 0 1 (omega arith)).0));
   doubled = λ c. absurd (omega (arith, distinct-times 2 (1 ∷ 2 ∷ 3 ∷ 4 ∷ 5 ∷ 2 ∷ []) c.values.apart));
   unmade = λ c. absurd (omega (arith, (c.values.within 5 0 (omega arith)).1));
   held = λ c. false≢true (c.held 0 0 (omega arith));
