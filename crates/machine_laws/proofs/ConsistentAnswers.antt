@@ -20,16 +20,18 @@ use Rattle.napi_types.specs.References.{Reference, ReferenceMap, value_of, with_
 use Rattle.napi_types.specs.Refusals.{early_refusal, depth_refusal}
 use Rattle.napi_types.specs.Values.{undefined_value}
 use Rattle.napi_types.proofs.Answers.{KeepsButAsk, called-keeps}
-use Rattle.machine_laws.specs.Consistency.{IsConsistent, IsLive}
+use Rattle.machine_laws.specs.Consistency.{IsConsistent, IsLive, IsMap}
 use Rattle.machine_laws.proofs.Collected.{heap-kept, referred-kept, pending-kept}
 use Rattle.machine_laws.proofs.ConsistentCalls.{heap-call, handle-live, or-undefined}
 use Rattle.machine_laws.proofs.ConsistentHeaps.{IsConsistentHeap, HandlesStay, ComesTo, stays, with-handle}
 use Rattle.machine_laws.proofs.ConsistentValues.{with-thrown, thrown-live}
+use Rattle.machine_laws.proofs.Rising.{more-map, fewer-map, counted-map, emptied-map}
 
 -- what holds of an environment, but what is said of its frames
 pub record IsConsistentButFrames (e : Environment) : Type 0 where
   pub heap : IsConsistentHeap e.heap
   pub referred : All (λ r. IfSome r.value (IsLive e.heap.values)) e.references.rows
+  pub references : IsMap e.references
   pub pending : IfSome e.pending (IsLive e.heap.values)
 
 -- one environment leads to another, which is good
@@ -42,6 +44,7 @@ pub parts-of : (e : Environment) → IsConsistent e → IsConsistentButFrames e
 parts-of e c = record {
   heap = record { handles = c.handles; values = c.values; held = c.held; children = c.children; starting = c.starting };
   referred = c.referred;
+  references = c.references;
   pending = c.pending;
 }
 
@@ -51,6 +54,7 @@ whole-of e g same few = record {
   values = g.heap.values;
   held = g.heap.held;
   referred = g.referred;
+  references = g.references;
   pending = g.pending;
   children = g.heap.children;
   starting = g.heap.starting;
@@ -70,6 +74,7 @@ in-heap e heap g c =
       good = record {
         heap = c.good;
         referred = All-weaker P Q (λ r h. IfSome_then r.value h c.live) e.references.rows g.referred;
+        references = g.references;
         pending = IfSome_then e.pending g.pending c.live;
       };
       stay = c.stay;
@@ -77,7 +82,7 @@ in-heap e heap g c =
 
 -- another pending exception
 pub with-pending : (e : Environment) (o : Option ℕ) → IsConsistentButFrames e → IfSome o (IsLive e.heap.values) → IsConsistentButFrames (with_pending o e)
-with-pending e o g live = record { heap = g.heap; referred = g.referred; pending = live }
+with-pending e o g live = record { heap = g.heap; referred = g.referred; references = g.references; pending = live }
 
 thrown-good : (e : Environment) (code : Option TextNo) (message : TextNo) → IsConsistentButFrames e → LeadsTo e (with_thrown_error code message e)
 thrown-good e code message g =
@@ -119,11 +124,14 @@ row-of P n (r ∷ rs) none all = by (r.number == n) refl (row-of P n rs none (Al
     by false other later = rw other later
 
 -- other references, of live values
-referring : (e : Environment) (m : ReferenceMap) → IsConsistentButFrames e → OfRows (λ o. IfSome o (IsLive e.heap.values)) m → LeadsTo e (with_references m e)
-referring e m g all = record { good = record { heap = g.heap; referred = all; pending = g.pending }; stay = stays e.heap }
+referring : (e : Environment) (m : ReferenceMap) → IsConsistentButFrames e → OfRows (λ o. IfSome o (IsLive e.heap.values)) m → IsMap m
+    → LeadsTo e (with_references m e)
+referring e m g all map = record { good = record { heap = g.heap; referred = all; references = map; pending = g.pending }; stay = stays e.heap }
 
 counted-good : (e : Environment) (r count : ℕ) → IsConsistentButFrames e → LeadsTo e (with_references (with_count r count e.references) e)
-counted-good e r count g = referring e (with_count r count e.references) g (rows-counted (λ o. IfSome o (IsLive e.heap.values)) r count e.references g.referred)
+counted-good e r count g =
+    referring e (with_count r count e.references) g (rows-counted (λ o. IfSome o (IsLive e.heap.values)) r count e.references g.referred)
+    (counted-map r count e.references g.references)
 
 counted-up-good : (e : Environment) (r : ℕ) (o : Option ℕ) → IsConsistentButFrames e → LeadsTo e (counted_up r e o).after
 counted-up-good e r None g = unmoved e g
@@ -147,13 +155,20 @@ by-call e call.GetAndClearLastException k g =
     record { good = led.good; stay = led.stay }
 by-call e (call.CreateReference v count) k g =
     referring e _ g (rows-more (λ o. IfSome o (IsLive e.heap.values)) k (handle_value e.heap v.0) count e.references (handle-live e.heap v.0 g.heap) g.referred)
-by-call e (call.DeleteReference r) k g = referring e _ g (rows-fewer (λ o. IfSome o (IsLive e.heap.values)) r.0 e.references g.referred)
+    (more-map k (handle_value e.heap v.0) count e.references g.references)
+by-call e (call.DeleteReference r) k g =
+    referring e _ g (rows-fewer (λ o. IfSome o (IsLive e.heap.values)) r.0 e.references g.referred) (fewer-map r.0 e.references g.references)
 by-call e (call.ReferenceRef r) k g = counted-up-good e r.0 (value_of e.references r.0) g
 by-call e (call.ReferenceUnref r) k g = counted-good e r.0 _ g
 by-call e (call.GetReferenceValue r) k g =
     told-good e (value_of e.references r.0) (row-of (λ o. IfSome o (IsLive e.heap.values)) r.0 e.references.rows tt g.referred) g
 by-call e call.Collect k g = record {
-  good = record { heap = heap-kept e g.heap; referred = referred-kept e; pending = pending-kept e e.pending refl g.pending };
+  good = record {
+    heap = heap-kept e g.heap;
+    referred = referred-kept e;
+    references = emptied-map _ e.references g.references;
+    pending = pending-kept e e.pending refl g.pending;
+  };
   stay = record { rises = omega arith; held = λ h v below. omega arith };
 }
 by-call e c k g = in-heap e _ g (heap-call (caller_of e.frames) e.heap c k g.heap)
@@ -177,5 +192,10 @@ called-follows e c k old =
     let led : LeadsTo e _ = at-good e c k (early_refusal e c) (depth_refusal e.frames c) (parts-of e old) in
     let new : Environment = (called e c k).after in
     let keeps : KeepsButAsk e new = called-keeps e c k in
-    let good : IsConsistentButFrames new = record { heap = led.good.heap; referred = led.good.referred; pending = led.good.pending } in
+    let good : IsConsistentButFrames new = record {
+      heap = led.good.heap;
+      referred = led.good.referred;
+      references = led.good.references;
+      pending = led.good.pending;
+    } in
     record { good = whole-of new good (keeps.heap.depth ∙ old.frames ∙ sym keeps.depth) (omega (arith, keeps.depth, old.depth)); stay = led.stay }

@@ -16,6 +16,7 @@ use Rattle.machine_laws.proofs.ConsistentAnswers.{whole-of}
 use Rattle.machine_laws.proofs.ConsistentHeaps.{IsConsistentHeap}
 use Rattle.machine_laws.proofs.ConsistentSteps.{run-follows}
 use Rattle.machine_laws.proofs.LiveNumbers.{all-there}
+use Rattle.machine_laws.proofs.Rising.{none-map}
 
 -- THE OPENING
 issued-pushed : (last : ℕ) (ns : List ℕ) → AreIssued last ns → AreIssued (last + 1) (ns ++ (last + 1) ∷ [])
@@ -52,7 +53,7 @@ new-heap-good = record {
 pub opening-consistent : (addons texts : ℕ) → IsConsistent (new_environment addons texts)
 opening-consistent addons texts =
     let e : Environment = new_environment addons texts in
-    whole-of e (record { heap = new-heap-good; referred = λ k d below. absurd (omega (arith, below)); pending = tt }) refl (omega arith)
+    whole-of e (record { heap = new-heap-good; referred = λ k d below. absurd (omega (arith, below)); references = none-map; pending = tt }) refl (omega arith)
 
 -- RUNS
 pub environments-are-consistent : EnvironmentsAreConsistent

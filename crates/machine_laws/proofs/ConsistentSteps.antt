@@ -71,7 +71,7 @@ ended-follows : (e : Environment) (heap : Heap) (pending : Option ℕ) (s : Stat
     → Follows e (record e { heap = heap; frames = tail e.frames; pending = pending; last = s })
 ended-follows e heap pending s c comes same g =
     let new : Environment = record e { heap = heap; frames = tail e.frames; pending = pending; last = s } in
-    let good : IsConsistentButFrames new = record { heap = g.heap; referred = g.referred; pending = g.pending } in
+    let good : IsConsistentButFrames new = record { heap = g.heap; referred = g.referred; references = g.references; pending = g.pending } in
     record {
       good = whole-of new good (same ∙ length-tail e.heap.scopes e.frames c.frames) (omega (arith, tail-shorter e.frames, c.depth));
       stay = comes.stay;
@@ -82,7 +82,7 @@ kept-ended : (e : Environment) (heap : Heap) (s : Status) → IsConsistent e →
     → Follows e (record e { heap = heap; frames = tail e.frames; last = s })
 kept-ended e heap s c comes same =
     let g : IsConsistentButFrames (record e { heap = heap }) = (in-heap e heap (parts-of e c) comes).good in
-    ended-follows e heap e.pending s c comes same (record { heap = g.heap; referred = g.referred; pending = g.pending })
+    ended-follows e heap e.pending s c comes same (record { heap = g.heap; referred = g.referred; references = g.references; pending = g.pending })
 
 left-live : (e : Environment) (v : Option HandleId) → IsConsistentHeap e.heap → IsLive e.heap.values (left_value e.heap v)
 left-live e None g = g.starting 0 0 (omega arith)
@@ -103,7 +103,7 @@ by-cause v None e cause.Call c = left-follows v e e.pending c
 by-cause v cut e _ c =
     let left : ComesTo e.heap (frame_left e.heap) = without-frame e.heap (parts-of e c).heap in
     let g : IsConsistentButFrames (record e { heap = frame_left e.heap }) = (in-heap e (frame_left e.heap) (parts-of e c) left).good in
-    ended-follows e (frame_left e.heap) None e.last c left refl (record { heap = g.heap; referred = g.referred; pending = tt })
+    ended-follows e (frame_left e.heap) None e.last c left refl (record { heap = g.heap; referred = g.referred; references = g.references; pending = tt })
 
 frame-follows : (v : Option HandleId) (cut : Option Why) (e : Environment) → IsConsistent e → Follows e (frame_ended v cut e).after
 frame-follows v cut e c = by-cause v cut e (cause_of e.frames) c
@@ -143,7 +143,7 @@ entered-follows e receiver f args h c =
     let comes : ComesTo e.heap heap = and-then e.heap (frame_entered e.heap) heap frame (with-receiver (frame_entered e.heap) receiver frame.good) in
     let led : IsConsistentButFrames (record e { heap = heap }) = (in-heap e heap g comes).good in
     let new : Environment = (entered receiver f args e).after in
-    let good : IsConsistentButFrames new = record { heap = led.heap; referred = led.referred; pending = led.pending } in
+    let good : IsConsistentButFrames new = record { heap = led.heap; referred = led.referred; references = led.references; pending = led.pending } in
     let asks : length (ask_counted e.frames) ≡ length e.frames = length-changed _ e.frames in
     let scopes : length heap.scopes ≡ length (frame_entered e.heap).scopes = length-receiver (frame_entered e.heap) receiver in
     record {
@@ -172,7 +172,7 @@ init-follows e n none c =
     let frame : ComesTo e.heap (frame_entered e.heap) = with-frame e.heap g.heap in
     let led : IsConsistentButFrames (record e { heap = frame_entered e.heap }) = (in-heap e (frame_entered e.heap) g frame).good in
     let new : Environment = (init_begun n e).after in
-    let good : IsConsistentButFrames new = record { heap = led.heap; referred = led.referred; pending = led.pending } in
+    let good : IsConsistentButFrames new = record { heap = led.heap; referred = led.referred; references = led.references; pending = led.pending } in
     record { good = whole-of new good (ap suc c.frames) (omega (arith, ap length none)); stay = frame.stay }
 
 -- STEPS
@@ -183,12 +183,14 @@ hub-follows : (m : Machine) (event : HostStep) (p : Phase) (o : Out) (h : Option
 hub-follows m event p o None c = same-follows m.env c
 hub-follows m event p o (Some h) c =
     let g : IsConsistentButFrames m.env = parts-of m.env c in
-    other-follows m.env (in_phase p m.env) (record { heap = g.heap; referred = g.referred; pending = g.pending }) refl refl (stays m.env.heap) c
+    let good : IsConsistentButFrames (in_phase p m.env) = record { heap = g.heap; referred = g.referred; references = g.references; pending = g.pending } in
+    other-follows m.env (in_phase p m.env) good refl refl (stays m.env.heap) c
 
 event-follows : (m : Machine) (event : Event) → m.env.frames ≡ [] → IsConsistent m.env → StepFollows m (event_step m event)
 event-follows m Opens none c =
     let g : IsConsistentButFrames m.env = parts-of m.env c in
-    other-follows m.env (opened m.env).after (record { heap = g.heap; referred = g.referred; pending = g.pending }) refl refl (stays m.env.heap) c
+    let good : IsConsistentButFrames (opened m.env).after = record { heap = g.heap; referred = g.referred; references = g.references; pending = g.pending } in
+    other-follows m.env (opened m.env).after good refl refl (stays m.env.heap) c
 event-follows m (Inits n) none c = init-follows m.env n none c
 event-follows m Goes none c = hub-follows m host.Go phase.Live out.Nothing (hub_next m.hub host.Go) c
 event-follows m (EndsLoop w) none c = hub-follows m host.LoopEnd phase.Hooks (out.Ended w) (hub_next m.hub host.LoopEnd) c
@@ -196,7 +198,8 @@ event-follows m Drains none c = hub-follows m host.Drain phase.Drain (out.Unsign
 event-follows m FinalsCome none c = hub-follows m host.Finals phase.Finals out.Nothing (hub_next m.hub host.Finals) c
 event-follows m IsGone none c =
     let g : IsConsistentButFrames m.env = parts-of m.env c in
-    other-follows m.env (gone m.env).after (record { heap = g.heap; referred = g.referred; pending = g.pending }) refl refl (stays m.env.heap) c
+    let good : IsConsistentButFrames (gone m.env).after = record { heap = g.heap; referred = g.referred; references = g.references; pending = g.pending } in
+    other-follows m.env (gone m.env).after good refl refl (stays m.env.heap) c
 
 chosen-follows : (m : Machine) (event : Option Event) → m.env.frames ≡ [] → IsConsistent m.env → StepFollows m (chosen m event)
 chosen-follows m None none c = same-follows m.env c

@@ -16,6 +16,7 @@ mod Holding
 mod LiveNumbers
 mod Misses
 mod Naming
+mod Rising
 mod Rows
 mod StableHandles
 mod Unordered

@@ -1,11 +1,12 @@
 -- What holds of the environment at every moment of a run.
-use Rattle.std.specs.Prelude.{◌≡◌, ◌<◌, ◌≤◌, ℕ, nat_eq, true, List, length, map}
+use Rattle.std.specs.Prelude.{◌≡◌, ◌<◌, ◌≤◌, ℕ, nat_eq, true, List, [], ◌∷◌, length, map}
 use Rattle.std.specs.List.{All, IsDistinct}
 use Rattle.std.specs.Option.{IfSome}
 use Rattle.napi_types.specs.Environment.{Environment}
 use Rattle.napi_types.specs.Frames.{most_frames}
 use Rattle.napi_types.specs.Lists.{has_number}
 use Rattle.napi_types.specs.Reach.{numbers}
+use Rattle.napi_types.specs.References.{ReferenceMap}
 use Rattle.napi_types.specs.Scopes.{FrameScopes, held_by_frames}
 use Rattle.napi_types.specs.Values.{Value, children, starting_values}
 
@@ -25,7 +26,18 @@ held_values fs = map (λ h. h.value) (held_by_frames fs)
 abbrev pub IsLive : List Value → ℕ → Type 0
 IsLive vs n = has_number n (numbers vs) ≡ true
 
--- handles, values and frames fit together
+-- records by rising number: each is below all that come after it
+abbrev pub RisesBy : {A : Type 0} → (A → ℕ) → List A → Type 0
+RisesBy number [] = Unit {0}
+RisesBy number (x ∷ xs) = All (λ y. number x < number y) xs × RisesBy number xs
+
+-- references as a finite map: they lie by rising number, and so do the numbers that were issued, of which each reference has one
+pub record IsMap (m : ReferenceMap) : Type 0 where
+  pub rows : RisesBy (λ r. r.number) m.rows
+  pub numbers : RisesBy (λ n. n) m.issued
+  pub issued : All (λ r. has_number r.number m.issued ≡ true) m.rows
+
+-- handles, values, references and frames fit together
 pub record IsConsistent (e : Environment) : Type 0 where
   -- the handles in open scopes were issued, each once, and so were the creation numbers of the values
   pub handles : AreIssued e.heap.handles (held_handles e.heap.scopes)
@@ -34,6 +46,8 @@ pub record IsConsistent (e : Environment) : Type 0 where
   pub held : All (IsLive e.heap.values) (held_values e.heap.scopes)
   pub referred : All (λ r. IfSome r.value (IsLive e.heap.values)) e.references.rows
   pub pending : IfSome e.pending (IsLive e.heap.values)
+  -- the references are a finite map
+  pub references : IsMap e.references
   -- what the properties and elements of a value name is live, and so are the starting values
   pub children : All (λ v. All (IsLive e.heap.values) (children v)) e.heap.values
   pub starting : All (IsLive e.heap.values) (numbers starting_values)

@@ -5,7 +5,7 @@ use Rattle.napi_types.specs.declared.entry.Cause.TheVariants as cause
 use Rattle.napi_types.specs.Environment.{Environment, new_environment}
 use Rattle.napi_types.specs.Frames.{Frame, frame_of, most_frames}
 use Rattle.napi_types.specs.Heap.{Heap, new_heap}
-use Rattle.napi_types.specs.References.{with_reference, no_references}
+use Rattle.napi_types.specs.References.{Reference, with_reference, no_references}
 use Rattle.napi_types.specs.Scopes.{Held, no_handles}
 use Rattle.napi_types.specs.Values.{undefined_value, null_value, starting_values, fresh_value, array_of}
 use Rattle.machine_laws.specs.Consistency.{IsConsistent}
@@ -34,6 +34,13 @@ two_held = handle_to undefined_value 1 ∷ handle_to null_value 2 ∷ []
 abbrev pub no_value : ℕ
 no_value = 6
 
+-- a reference to undefined of this number, and an environment with such references, where these numbers were issued
+abbrev pub reference : ℕ → Reference
+reference n = record { number = n; value = Some undefined_value; count = 0 }
+
+abbrev pub referring : List Reference → List ℕ → Environment
+referring rs ns = record (standing (holding two_held)) { references = record { rows = rs; issued = ns } }
+
 -- an environment with so many frames, each with its scopes
 abbrev pub deep : ℕ → Environment
 deep n = record (new_environment 1 3) { heap = record new_heap { scopes = replicate n no_handles }; frames = replicate n init_frame }
@@ -59,6 +66,10 @@ pub record IsStrict : Type 0 where
     values = starting_values ++ array_of no_value ((no_value + 1) ∷ []) ∷ [];
     made = no_value;
   })) → ⊥
+  -- no references lie by falling number, no more do the numbers that were issued, and no reference's number was not issued
+  pub falling : IsConsistent (referring (reference 2 ∷ reference 1 ∷ []) (1 ∷ 2 ∷ [])) → ⊥
+  pub falling_numbers : IsConsistent (referring (reference 1 ∷ reference 2 ∷ []) (2 ∷ 1 ∷ [])) → ⊥
+  pub uncounted : IsConsistent (referring (reference 1 ∷ []) (2 ∷ [])) → ⊥
   -- a starting value is there
   pub starting : IsConsistent (standing (record (holding []) { values = [] })) → ⊥
   -- no frame is without scopes, and one more than may stand does not

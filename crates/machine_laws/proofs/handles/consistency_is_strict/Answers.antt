@@ -6,11 +6,12 @@ use Rattle.napi_types.specs.Frames.{most_frames}
 use Rattle.napi_types.specs.Heap.{new_heap, with_handle, frame_entered}
 use Rattle.napi_types.specs.Values.{undefined_value, null_value, fresh_value}
 use Rattle.machine_laws.specs.Consistency.{IsConsistent}
-use Rattle.machine_laws.specs.ConsistencyMisses.{IsStrict, standing, holding, two_held, deep}
+use Rattle.machine_laws.specs.ConsistencyMisses.{IsStrict, standing, holding, two_held, deep, reference}
 use Rattle.machine_laws.proofs.ConsistentRuns.{new-heap-good}
 use Rattle.machine_laws.proofs.Counting.{distinct-times, none-issued}
 use Rattle.machine_laws.proofs.ConsistentAnswers.{whole-of}
 use Rattle.machine_laws.proofs.ConsistentHeaps.{IsConsistentHeap, ComesTo, with-handle, with-frame}
+use Rattle.machine_laws.proofs.Rising.{none-map}
 use Rattle.machine_laws.proofs.handles.consistency_is_strict.Goals as goal
 
 two-good : IsConsistentHeap (holding two_held)
@@ -22,7 +23,7 @@ two-good =
 two-fit : IsConsistent (standing (holding two_held))
 two-fit =
     let e : Environment = standing (holding two_held) in
-    whole-of e (record { heap = two-good; referred = λ k d below. absurd (omega (arith, below)); pending = tt }) refl (omega arith)
+    whole-of e (record { heap = two-good; referred = λ k d below. absurd (omega (arith, below)); references = none-map; pending = tt }) refl (omega arith)
 
 deep-good : IsConsistentHeap (deep most_frames).heap
 deep-good = record {
@@ -34,7 +35,7 @@ deep-good = record {
 }
 
 deep-fit : IsConsistent (deep most_frames)
-deep-fit = whole-of (deep most_frames) (record { heap = deep-good; referred = λ k d below. absurd (omega (arith, below)); pending = tt }) refl (omega arith)
+deep-fit = whole-of (deep most_frames) (record { heap = deep-good; referred = λ k d below. absurd (omega (arith, below)); references = none-map; pending = tt }) refl (omega arith)
 
 law : IsStrict
 law = record {
@@ -47,6 +48,9 @@ law = record {
   unmade = λ c. absurd (omega (arith, (c.values.within 5 0 (omega arith)).1));
   held = λ c. false≢true (c.held 0 0 (omega arith));
   referred = λ c. false≢true (c.referred 0 (record { number = 1; value = Some 6; count = 0 }) (omega arith));
+  falling = λ c. absurd (omega (arith, c.references.rows.0 0 (reference 0) (omega arith)));
+  falling_numbers = λ c. absurd (omega (arith, c.references.numbers.0 0 0 (omega arith)));
+  uncounted = λ c. false≢true (c.references.issued 0 (reference 0) (omega arith));
   pending = λ c. false≢true c.pending;
   child = λ c. false≢true (c.children 5 (fresh_value 1 body.Undefined) (omega arith) 0 0 (omega arith));
   starting = λ c. false≢true (c.starting 0 0 (omega arith));
