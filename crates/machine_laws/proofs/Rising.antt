@@ -1,11 +1,11 @@
 -- References stay a finite map.
-use Rattle.std.proofs.Common.{◌≡◌, ◌∙◌, ◌<◌, ℕ, nat_lt, ◌==◌, ◌&&◌, ◌||◌, Bool, true, false, not, cond, List, [], ◌∷◌, ◌++◌, filter, map, refl, ap, arith, Some, slice_index_or}
+use Rattle.std.proofs.Common.{◌≡◌, ◌∙◌, ◌<◌, ◌≤◌, ℕ, nat_lt, ◌==◌, ◌&&◌, ◌||◌, Bool, true, false, not, cond, List, [], ◌∷◌, ◌++◌, filter, map, refl, ap, sym, subst, arith, inl, inr, Some, None, slice_index_or}
 use Rattle.std.specs.List.{All}
-use Rattle.std.proofs.lemmas.Bool.{ltb-true}
+use Rattle.std.proofs.lemmas.Bool.{ltb-true, eq-eqb, eqb-true, cases_lt}
 use Rattle.std.proofs.lemmas.Bool.Decides.{nat_tests}
 use Rattle.std.proofs.lemmas.List.Elements.{All-append, All-cons, All-filter, All-head, All-map, All-nil, All-tail, All-weaker, filter_passes}
 use Rattle.std.proofs.lemmas.List.Folds.{list_any-append}
-use Rattle.napi_types.specs.Lists.{has_number, with_record, with_number}
+use Rattle.napi_types.specs.Lists.{found, has_number, with_record, with_number}
 use Rattle.napi_types.specs.References.{Reference, ReferenceMap, no_references, with_reference, without_reference, with_count, emptied, value_left}
 use Rattle.napi_types.proofs.Maps.{All-with_record}
 use Rattle.napi_types.proofs.Reaching.{has_number-filter}
@@ -49,6 +49,68 @@ module _ {A : Type 0} (number : A → ℕ) where
   map-rises f same (x ∷ xs) h =
       let above : All (λ y. number (f x) < number (f y)) xs = λ k d below. rw (same x, same (slice_index_or xs k d)) (h.0 k d below) in
       (All-map (λ y. number (f x) < number y) f xs above, map-rises f same xs h.1)
+
+  -- THE SAME RECORDS
+  none-found : (n : ℕ) (xs : List A) → All (λ y. n < number y) xs → found number n xs ≡ None
+  none-found n [] above = refl
+  none-found n (y ∷ ys) above =
+      let apart : (number y == n) ≡ false = other n (number y) (All-head (λ z. n < number z) y ys above) in
+      rw apart (none-found n ys (All-tail (λ z. n < number z) y ys above))
+    where
+      other : (n k : ℕ) → n < k → (k == n) ≡ false
+      other n k h = grind (arith, nat_tests)
+
+  first-found : (x : A) (xs : List A) → found number (number x) (x ∷ xs) ≡ Some x
+  first-found x xs = ap (λ b. cond b (Some x) (found number (number x) xs)) (eq-eqb (number x) (number x) refl)
+
+  -- all of a list are above a number that is below its first record
+  above-all : (n : ℕ) (y : A) (ys : List A) → n < number y → All (λ z. number y < number z) ys → All (λ z. n < number z) (y ∷ ys)
+  above-all n y ys less h = All-cons (λ z. n < number z) y ys less (λ k d below. omega (arith, less, h k d below))
+
+  not-below : (x y : A) (xs ys : List A) → number x < number y → RisesBy number (y ∷ ys) → found number (number x) (x ∷ xs) ≡ found number (number x) (y ∷ ys) → ⊥
+  not-below x y xs ys less h same =
+      let none : Some x ≡ None = sym (first-found x xs) ∙ same ∙ none-found (number x) (y ∷ ys) (above-all (number x) y ys less h.0) in cc
+
+  same-rest : (x : A) (xs ys : List A) → RisesBy number (x ∷ xs) → RisesBy number (x ∷ ys)
+      → ((n : ℕ) → found number n (x ∷ xs) ≡ found number n (x ∷ ys)) → (n : ℕ) → found number n xs ≡ found number n ys
+  same-rest x xs ys h k same n = by (number x == n) refl (same n)
+    where
+      by : (b : Bool) → (number x == n) ≡ b → cond (number x == n) (Some x) (found number n xs) ≡ cond (number x == n) (Some x) (found number n ys)
+          → found number n xs ≡ found number n ys
+      by true is both =
+          let here : number x ≡ n = eqb-true (number x) n is in
+          rw (sym here) (none-found (number x) xs h.0 ∙ sym (none-found (number x) ys k.0))
+      by false is both = rw is at both
+
+  pub maps-equal : (xs ys : List A) → RisesBy number xs → RisesBy number ys → ((n : ℕ) → found number n xs ≡ found number n ys) → xs ≡ ys
+  maps-equal [] [] h k same = refl
+  maps-equal [] (y ∷ ys) h k same = let none : None ≡ Some y = same (number y) ∙ first-found y ys in cc
+  maps-equal (x ∷ xs) [] h k same = let none : Some x ≡ None = sym (first-found x xs) ∙ same (number x) in cc
+  maps-equal (x ∷ xs) (y ∷ ys) h k same =
+      elim (cases_lt (number x) (number y)) [
+        | inl less ↦ absurd (not-below x y xs ys less k (same (number x)))
+        | inr le ↦ by (number y == number x) refl le (λ rest. maps-equal xs ys h.1 k.1 rest)
+      ]
+    where
+      heads : (number y == number x) ≡ true → x ≡ y
+      heads is =
+          let here : number y ≡ number x = eqb-true (number y) (number x) is in
+          let found_y : found number (number x) (y ∷ ys) ≡ Some y = ap (λ b. cond b (Some y) (found number (number x) ys)) is in
+          let both : Some x ≡ Some y = sym (first-found x xs) ∙ same (number x) ∙ found_y in cc
+
+      strict : (a b : ℕ) → (b == a) ≡ false → b ≤ a → b < a
+      strict a b apart le = grind (arith, nat_tests)
+
+      joined : x ≡ y → (((n : ℕ) → found number n xs ≡ found number n ys) → xs ≡ ys) → x ∷ xs ≡ y ∷ ys
+      joined one later =
+          let P : A → Type 0 = λ z. RisesBy number (z ∷ ys) in
+          let Q : A → Type 0 = λ z. (n : ℕ) → found number n (x ∷ xs) ≡ found number n (z ∷ ys) in
+          let rest : xs ≡ ys = later (same-rest x xs ys h (subst P (sym one) k) (subst Q (sym one) same)) in
+          ap (λ z. z ∷ xs) one ∙ ap (λ zs. y ∷ zs) rest
+
+      by : (b : Bool) → (number y == number x) ≡ b → number y ≤ number x → (((n : ℕ) → found number n xs ≡ found number n ys) → xs ≡ ys) → x ∷ xs ≡ y ∷ ys
+      by true is le later = joined (heads is) later
+      by false is le later = absurd (not-below y x ys xs (strict (number x) (number y) is le) h (sym (same (number y))))
 
 -- NUMBERS THAT WERE ISSUED
 either : (j n : ℕ) → (nat_lt j n || ((n == j) || nat_lt n j)) ≡ true
@@ -97,7 +159,8 @@ fewer-map n m h = record {
 }
 
 -- references that are changed and keep their numbers
-changed-map : (f : Reference → Reference) → ((r : Reference) → (f r).number ≡ r.number) → (m : ReferenceMap) → IsMap m → IsMap (record m { rows = map f m.rows })
+changed-map : (f : Reference → Reference) → ((r : Reference) → (f r).number ≡ r.number) → (m : ReferenceMap) → IsMap m
+    → IsMap (record m { rows = map f m.rows })
 changed-map f same m h = record {
   rows = map-rises (λ (r : Reference). r.number) f same m.rows h.rows;
   numbers = h.numbers;

@@ -1,7 +1,8 @@
 -- Laws of finite maps: in what order records were added, and at what places references stand, shows nowhere in them.
 use Rattle.std.specs.Prelude.{◌≡◌, ◌≢◌, ℕ, ◌<◌, ◌==◌, false, List, [], ◌∷◌, length, Some, None, slice_index_or, slice_set}
-use Rattle.napi_types.specs.Lists.{has, as_map, with_number}
+use Rattle.napi_types.specs.Lists.{found, has, as_map, with_number}
 use Rattle.napi_types.specs.References.{Reference, ReferenceMap, reference_at, with_reference}
+use Rattle.machine_laws.specs.Consistency.{RisesBy}
 use Rattle.napi_reference.specs.Places.{ReferencePlaces, standing, map_of}
 
 -- one reference more of a map
@@ -19,6 +20,11 @@ ReferencesHaveNoOrder = (m : ReferenceMap) (n value count : ℕ) → AddsOne m n
 -- the same of numbers that were issued
 abbrev pub NumbersHaveNoOrder : Type 0
 NumbersHaveNoOrder = (n k : ℕ) (ns : List ℕ) → with_number n (with_number k ns) ≡ with_number k (with_number n ns)
+
+-- two lists of references by rising number are equal where each number finds the same in both
+abbrev pub MapsAreTheirRecords : Type 0
+MapsAreTheirRecords = (xs ys : List Reference) → RisesBy (λ r. r.number) xs → RisesBy (λ r. r.number) ys
+    → ((n : ℕ) → found (λ r. r.number) n xs ≡ found (λ r. r.number) n ys) → xs ≡ ys
 
 -- two references
 abbrev pub first_reference : Reference

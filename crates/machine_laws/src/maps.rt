@@ -1,5 +1,5 @@
 //! Laws of finite maps.
-ghost use Rattle.machine_laws.specs.MapLaws.{ReferencesHaveNoOrder, NumbersHaveNoOrder, MapsRise, PlacesHaveNoOrder};
+ghost use Rattle.machine_laws.specs.MapLaws.{ReferencesHaveNoOrder, NumbersHaveNoOrder, MapsAreTheirRecords, MapsRise, PlacesHaveNoOrder};
 
 /// A reference is found by its number, and in what order references were made shows nowhere.
 pub fn references_have_no_order()
@@ -9,6 +9,11 @@ pub fn references_have_no_order()
 /// In what order numbers were issued shows nowhere.
 pub fn numbers_have_no_order()
     ensures { NumbersHaveNoOrder }
+{}
+
+/// Two maps of references with the same records are equal.
+pub fn maps_are_their_records()
+    ensures { MapsAreTheirRecords }
 {}
 
 /// The map of two references has them by rising number, whichever was made first.
