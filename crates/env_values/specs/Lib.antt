@@ -1,4 +1,3 @@
-pub mod Creating
 pub mod Keeping
 pub mod Numbering
 pub mod Seen

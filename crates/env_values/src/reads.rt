@@ -1,7 +1,7 @@
 //! The calls that tell what a value is.
 ghost use Rattle.std.specs.Prelude.{◌≡◌, ℕ, true};
+ghost use Rattle.napi_types.specs.Built.{is_telling};
 ghost use Rattle.env_values.specs.Seen.{heap_of, HoldsLive};
-ghost use Rattle.env_values.specs.Creating.{is_telling};
 ghost use Rattle.env_values.specs.Steps.{Comes, ComesOf};
 
 use crate::known::{

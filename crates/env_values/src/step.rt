@@ -1,10 +1,9 @@
 //! One call on values, properties or elements.
 ghost use Rattle.std.specs.Prelude.{◌≡◌, ◌≢◌, ◌+◌, ◌<◌, ◌^◌, true, cond, [], IsTrue, IfOk, OnOk, OnErr};
-ghost use Rattle.napi_types.specs.Built.{is_value_call};
+ghost use Rattle.napi_types.specs.Built.{is_creating, is_value_call};
 ghost use Rattle.napi_types.specs.Calls.{answer_in};
 ghost use Rattle.napi_types.specs.Room.{is_growing};
 ghost use Rattle.napi_types.specs.Values.{true_value, false_value};
-ghost use Rattle.env_values.specs.Creating.{is_creating};
 ghost use Rattle.env_values.specs.Numbering.{HasNumbersLeft};
 ghost use Rattle.env_values.specs.Keeping.{CanGive, KeepsHeap};
 ghost use Rattle.env_values.specs.Seen.{heap_of, HoldsLive, KeepsValues};

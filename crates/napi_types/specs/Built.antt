@@ -5,38 +5,50 @@ use Rattle.napi_types.specs.declared.call.Ask.TheVariants as ask
 use Rattle.napi_types.specs.declared.call.Call.{Call}
 use Rattle.napi_types.specs.declared.call.Call.TheVariants as call
 
+-- the calls on values that give a handle of a starting value, or create a value
+abbrev pub is_creating : Call → Bool
+is_creating call.GetUndefined = true
+is_creating call.GetNull = true
+is_creating call.GetGlobal = true
+is_creating (call.GetBoolean _) = true
+is_creating (call.CreateInt64 _) = true
+is_creating (call.CreateBigintInt64 _) = true
+is_creating (call.CreateStringUtf8 _) = true
+is_creating (call.CreateSymbol _) = true
+is_creating call.CreateObject = true
+is_creating call.CreateArray = true
+is_creating (call.CreateFunction _ _) = true
+is_creating (call.CreateError _ _) = true
+is_creating _ = false
+
+-- the calls that tell what one value is
+abbrev pub is_telling : Call → Bool
+is_telling (call.Typeof _) = true
+is_telling (call.IsArray _) = true
+is_telling (call.IsError _) = true
+is_telling (call.GetValueInt64 _) = true
+is_telling (call.GetValueBigintInt64 _) = true
+is_telling (call.GetValueBool _) = true
+is_telling (call.GetValueStringUtf8 _) = true
+is_telling _ = false
+
+-- the other calls on values, properties and elements
+abbrev pub is_other_value_call : Call → Bool
+is_other_value_call (call.GetArrayLength _) = true
+is_other_value_call (call.StrictEquals _ _) = true
+is_other_value_call (call.SetNamedProperty _ _ _) = true
+is_other_value_call (call.GetNamedProperty _ _) = true
+is_other_value_call (call.HasNamedProperty _ _) = true
+is_other_value_call (call.DeleteProperty _ _) = true
+is_other_value_call (call.GetPropertyNames _) = true
+is_other_value_call (call.SetElement _ _ _) = true
+is_other_value_call (call.GetElement _ _) = true
+is_other_value_call (call.HasElement _ _) = true
+is_other_value_call _ = false
+
 -- the calls on values, and those on properties and elements
 abbrev pub is_value_call : Call → Bool
-is_value_call call.GetUndefined = true
-is_value_call call.GetNull = true
-is_value_call call.GetGlobal = true
-is_value_call (call.GetBoolean _) = true
-is_value_call (call.CreateInt64 _) = true
-is_value_call (call.CreateBigintInt64 _) = true
-is_value_call (call.CreateStringUtf8 _) = true
-is_value_call (call.CreateSymbol _) = true
-is_value_call call.CreateObject = true
-is_value_call call.CreateArray = true
-is_value_call (call.CreateFunction _ _) = true
-is_value_call (call.CreateError _ _) = true
-is_value_call (call.Typeof _) = true
-is_value_call (call.IsArray _) = true
-is_value_call (call.IsError _) = true
-is_value_call (call.GetValueInt64 _) = true
-is_value_call (call.GetValueBigintInt64 _) = true
-is_value_call (call.GetValueBool _) = true
-is_value_call (call.GetValueStringUtf8 _) = true
-is_value_call (call.GetArrayLength _) = true
-is_value_call (call.StrictEquals _ _) = true
-is_value_call (call.SetNamedProperty _ _ _) = true
-is_value_call (call.GetNamedProperty _ _) = true
-is_value_call (call.HasNamedProperty _ _) = true
-is_value_call (call.DeleteProperty _ _) = true
-is_value_call (call.GetPropertyNames _) = true
-is_value_call (call.SetElement _ _ _) = true
-is_value_call (call.GetElement _ _) = true
-is_value_call (call.HasElement _ _) = true
-is_value_call _ = false
+is_value_call c = is_creating c || is_telling c || is_other_value_call c
 
 -- the calls on scopes, and the version
 abbrev pub is_scope_or_version : Call → Bool

@@ -4,6 +4,7 @@ use Rattle.napi_types.specs.declared.call.Call.{Call}
 use Rattle.napi_types.specs.declared.entry.Phase.{Phase}
 use Rattle.napi_types.specs.declared.entry.Phase.TheVariants as phase
 use Rattle.napi_types.specs.declared.call.Call.TheVariants as call
+use Rattle.napi_types.specs.Built.{is_creating}
 use Rattle.napi_types.specs.Environment.{Environment}
 use Rattle.napi_types.specs.Guards.{is_shared}
 use Rattle.napi_types.specs.Hub.{Hub, Stage, Before, Going, Looped, Drained, Final}
@@ -92,19 +93,7 @@ is_full r c = nat_lt r.limit (r.taken + need c)
 -- place was kept when the scope opened; one that registers, `queue_async_work` excepted; one that sets a property or an element, wraps or tags, or makes an
 -- error; and a collection
 abbrev pub is_growing : Call → Bool
-is_growing call.GetUndefined = true
-is_growing call.GetNull = true
-is_growing call.GetGlobal = true
-is_growing (call.GetBoolean _) = true
-is_growing (call.CreateInt64 _) = true
-is_growing (call.CreateBigintInt64 _) = true
-is_growing (call.CreateStringUtf8 _) = true
-is_growing (call.CreateSymbol _) = true
-is_growing call.CreateObject = true
-is_growing call.CreateArray = true
-is_growing (call.CreateFunction _ _) = true
 is_growing (call.CreateExternal _ _ _) = true
-is_growing (call.CreateError _ _) = true
 is_growing (call.SetNamedProperty _ _ _) = true
 is_growing (call.GetNamedProperty _ _) = true
 is_growing (call.GetPropertyNames _) = true
@@ -126,7 +115,7 @@ is_growing (call.CreateAsyncWork _ _ _) = true
 is_growing (call.CreateThreadsafeFunction _ _ _ _ _ _) = true
 is_growing (call.CallThreadsafeFunction _ _ _) = true
 is_growing call.Collect = true
-is_growing _ = false
+is_growing c = is_creating c
 
 -- the call grows, or entries, reserved places and its need pass the first places
 abbrev pub may_want_memory : Room → Call → Bool
