@@ -1,5 +1,6 @@
 pub mod Asks
 pub mod Built
+pub mod CallFacts
 pub mod Calls
 pub mod Changes
 pub mod Choice

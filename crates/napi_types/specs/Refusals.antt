@@ -1,23 +1,22 @@
 -- The first refusal of a call that applies: a table for each point of their order.
-use Rattle.std.specs.Prelude.{ℕ, ◌==◌, Bool, true, false, ◌&&◌, ◌||◌, List, [], ◌∷◌, ◌++◌, length, nat_lt, nat_le, pos, negsuc, int_le, Option, Some, None, is_some}
+use Rattle.std.specs.Prelude.{ℕ, ◌==◌, Bool, true, false, ◌&&◌, ◌||◌, List, length, nat_lt, nat_le, pos, negsuc, int_le, Option, Some, None, is_some}
 use Rattle.std.specs.List.{list_all}
 use Rattle.std.specs.Option.{option_or}
 use Rattle.napi_types.specs.declared.body.Body.{Body}
+use Rattle.napi_types.specs.CallFacts.{facts_of}
 use Rattle.napi_types.specs.declared.call.Call.{Call}
 use Rattle.napi_types.specs.declared.call.Call.TheVariants as call
 use Rattle.napi_types.specs.declared.ids.HandleId.{HandleId}
 use Rattle.napi_types.specs.declared.ids.ScopeKind.TheVariants as scope_kind
-use Rattle.napi_types.specs.declared.ids.TextNo.{TextNo}
 use Rattle.napi_types.specs.declared.entry.Phase.{Phase}
 use Rattle.napi_types.specs.declared.entry.Phase.TheVariants as phase
 use Rattle.napi_types.specs.declared.status.Status.{Status}
 use Rattle.napi_types.specs.declared.status.Status.TheVariants as status
 use Rattle.napi_types.specs.Environment.{Environment}
 use Rattle.napi_types.specs.Frames.{Frame, most_frames}
-use Rattle.napi_types.specs.FunctionCalls.{argument_handles}
 use Rattle.napi_types.specs.Guards.{is_guarded, is_registering}
 use Rattle.napi_types.specs.Heap.{Heap, handle_body, handle_properties}
-use Rattle.napi_types.specs.Lists.{one, when, unless}
+use Rattle.napi_types.specs.Lists.{when, unless}
 use Rattle.napi_types.specs.References.{ReferenceMap, has_reference, value_of, count_of, most_count}
 use Rattle.napi_types.specs.Scopes.{gives, opened_scopes, closing, escaping}
 use Rattle.napi_types.specs.Values.{is_object_like, is_string, is_number, is_bigint, is_boolean, is_array, is_function, is_external, is_referable, is_taggable}
@@ -45,60 +44,13 @@ abbrev pub moment_refusal : Environment → Call → Option Status
 moment_refusal e c = option_or (guard_refusal e c) (registering_refusal e c)
 
 -- A HANDLE OR A TEXT THAT IS UNKNOWN
--- the handle of an argument that may be left out
-abbrev pub handle_if : Option HandleId → List ℕ
-handle_if None = []
-handle_if (Some h) = one h.0
-
 -- the handles that a call names
 abbrev pub handles_of : Call → List ℕ
-handles_of (call.CreateSymbol h) = handle_if h
-handles_of (call.CreateError code message) = handle_if code ++ one message.0
-handles_of (call.Typeof h) = one h.0
-handles_of (call.IsArray h) = one h.0
-handles_of (call.IsError h) = one h.0
-handles_of (call.GetValueInt64 h) = one h.0
-handles_of (call.GetValueBigintInt64 h) = one h.0
-handles_of (call.GetValueBool h) = one h.0
-handles_of (call.GetValueStringUtf8 h) = one h.0
-handles_of (call.GetValueExternal h) = one h.0
-handles_of (call.GetArrayLength h) = one h.0
-handles_of (call.StrictEquals g h) = g.0 ∷ one h.0
-handles_of (call.SetNamedProperty h _ v) = h.0 ∷ one v.0
-handles_of (call.GetNamedProperty h _) = one h.0
-handles_of (call.HasNamedProperty h _) = one h.0
-handles_of (call.DeleteProperty h _) = one h.0
-handles_of (call.GetPropertyNames h) = one h.0
-handles_of (call.SetElement h _ v) = h.0 ∷ one v.0
-handles_of (call.GetElement h _) = one h.0
-handles_of (call.HasElement h _) = one h.0
-handles_of (call.EscapeHandle _ h) = one h.0
-handles_of (call.CreateReference h _) = one h.0
-handles_of (call.Wrap h _ _ _ _) = one h.0
-handles_of (call.Unwrap h) = one h.0
-handles_of (call.RemoveWrap h) = one h.0
-handles_of (call.TypeTagObject h _ _) = one h.0
-handles_of (call.CheckObjectTypeTag h _ _) = one h.0
-handles_of (call.AddFinalizer h _ _ _ _) = one h.0
-handles_of (call.CallFunction receiver f args) = handle_if receiver ++ f.0 ∷ argument_handles args
-handles_of (call.Throw h) = one h.0
-handles_of (call.CreateThreadsafeFunction f _ _ _ _ _) = handle_if f
-handles_of _ = []
-
--- the text of an argument that may be left out
-abbrev pub text_if : Option TextNo → List ℕ
-text_if None = []
-text_if (Some t) = one t.0
+handles_of c = (facts_of c).handles
 
 -- the texts that a call names
 abbrev pub texts_of : Call → List ℕ
-texts_of (call.CreateStringUtf8 t) = one t.0
-texts_of (call.SetNamedProperty _ name _) = one name.0
-texts_of (call.GetNamedProperty _ name) = one name.0
-texts_of (call.HasNamedProperty _ name) = one name.0
-texts_of (call.DeleteProperty _ name) = one name.0
-texts_of (call.ThrowError code message) = text_if code ++ one message.0
-texts_of _ = []
+texts_of c = (facts_of c).texts
 
 -- each handle that the call names lies in an open scope, and each text that it names stands in the table, of so many texts
 abbrev pub is_known : ℕ → Heap → Call → Bool
@@ -166,11 +118,7 @@ refusal_in texts heap c = option_or (unknown_refusal texts heap c) (option_or (k
 -- REFERENCES
 -- the references that a call names. No call names a handle or a text beside one
 abbrev pub references_of : Call → List ℕ
-references_of (call.DeleteReference r) = one r.0
-references_of (call.ReferenceRef r) = one r.0
-references_of (call.ReferenceUnref r) = one r.0
-references_of (call.GetReferenceValue r) = one r.0
-references_of _ = []
+references_of c = (facts_of c).references
 
 -- one that was deleted, and one that was never made, is an invalid argument
 abbrev pub unknown_reference : ReferenceMap → Call → Option Status

@@ -1,10 +1,9 @@
 -- The room in the journal and in the history: places that entries take, places that are reserved, and what a call needs.
-use Rattle.std.specs.Prelude.{ℕ, ◌+◌, ◌-◌, ◌*◌, Bool, true, false, cond, not, ◌||◌, nat_lt, min, length, Option, Some, None, is_some}
+use Rattle.std.specs.Prelude.{ℕ, ◌+◌, ◌-◌, ◌*◌, Bool, true, false, cond, not, ◌||◌, nat_lt, min, length}
+use Rattle.napi_types.specs.CallFacts.{facts_of}
 use Rattle.napi_types.specs.declared.call.Call.{Call}
 use Rattle.napi_types.specs.declared.entry.Phase.{Phase}
 use Rattle.napi_types.specs.declared.entry.Phase.TheVariants as phase
-use Rattle.napi_types.specs.declared.call.Call.TheVariants as call
-use Rattle.napi_types.specs.Built.{is_creating}
 use Rattle.napi_types.specs.Environment.{Environment}
 use Rattle.napi_types.specs.Guards.{is_shared}
 use Rattle.napi_types.specs.Hub.{Hub, Stage, Before, Going, Looped, Drained, Final}
@@ -53,29 +52,11 @@ history_room h shareds limit = record { limit = limit; taken = shareds + reserve
 abbrev pub room_of : Machine → Call → Room
 room_of m c = cond (is_shared c) (history_room m.hub m.shareds m.limits.history) (journal_room m.env m.locals m.limits.journal)
 
--- the places of a duty's frame, its begin and its end
-abbrev pub duty_places : ℕ
-duty_places = 2
-
--- the same where there is a finalizer
-abbrev pub finalizer_places : Option ℕ → ℕ
-finalizer_places None = 0
-finalizer_places (Some entry) = duty_places
-
 -- the places that a call needs in the list in which its entry stands, counted as if it were accepted: one for its entry, and those of the events that it
 -- owes: the end of the frame that it enters, the frame of the duty that it makes, the start and the finish of a queued work, the close and the finish of a
 -- thread-safe function. A work owes nothing until it is queued
 abbrev pub need : Call → ℕ
-need (call.CreateExternal _ finalizer _) = 1 + finalizer_places finalizer
-need (call.Wrap _ _ finalizer _ _) = 1 + finalizer_places finalizer
-need (call.AddFinalizer _ _ _ _ _) = 1 + duty_places
-need (call.CallFunction _ _ _) = 2
-need (call.SetInstanceData _ finalizer _) = 1 + finalizer_places finalizer
-need (call.AddEnvCleanupHook _ _) = 1 + duty_places
-need (call.QueueAsyncWork _) = 3 + duty_places
-need (call.CreateThreadsafeFunction _ _ _ _ finalizer _) = 3 + finalizer_places finalizer
-need (call.CallThreadsafeFunction _ _ _) = 1 + duty_places
-need _ = 1
+need c = (facts_of c).need
 
 -- how many entries a list may have at most
 abbrev pub most_entries : ℕ
@@ -93,29 +74,7 @@ is_full r c = nat_lt r.limit (r.taken + need c)
 -- place was kept when the scope opened; one that registers, `queue_async_work` excepted; one that sets a property or an element, wraps or tags, or makes an
 -- error; and a collection
 abbrev pub is_growing : Call → Bool
-is_growing (call.CreateExternal _ _ _) = true
-is_growing (call.SetNamedProperty _ _ _) = true
-is_growing (call.GetNamedProperty _ _) = true
-is_growing (call.GetPropertyNames _) = true
-is_growing (call.SetElement _ _ _) = true
-is_growing (call.GetElement _ _) = true
-is_growing call.OpenHandleScope = true
-is_growing call.OpenEscapableHandleScope = true
-is_growing (call.CreateReference _ _) = true
-is_growing (call.GetReferenceValue _) = true
-is_growing (call.Wrap _ _ _ _ _) = true
-is_growing (call.TypeTagObject _ _ _) = true
-is_growing (call.AddFinalizer _ _ _ _ _) = true
-is_growing (call.CallFunction _ _ _) = true
-is_growing (call.ThrowError _ _) = true
-is_growing call.GetAndClearLastException = true
-is_growing (call.SetInstanceData _ finalizer _) = is_some finalizer
-is_growing (call.AddEnvCleanupHook _ _) = true
-is_growing (call.CreateAsyncWork _ _ _) = true
-is_growing (call.CreateThreadsafeFunction _ _ _ _ _ _) = true
-is_growing (call.CallThreadsafeFunction _ _ _) = true
-is_growing call.Collect = true
-is_growing c = is_creating c
+is_growing c = (facts_of c).grows
 
 -- the call grows, or entries, reserved places and its need pass the first places
 abbrev pub may_want_memory : Room → Call → Bool
