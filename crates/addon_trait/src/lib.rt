@@ -7,7 +7,7 @@ mod list;
 
 ghost use Rattle.std.specs.Prelude.{◌≡◌, ℕ, List, Option, None, IfSome, option_map};
 ghost use Rattle.napi_types.specs.declared.op.Op.{Op};
-ghost use Rattle.napi_types.specs.Registers.{plan_ask, kept, blank_registers, gifted};
+ghost use Rattle.napi_types.specs.Registers.{plan_ask, registers_after_reply, blank_registers, with_gifts};
 
 pub use list::{ask_at, enter_at, load_at, note_at};
 use napi_types::{AddonPlan, Ask, Reply};
@@ -35,7 +35,7 @@ pub trait Addon: Drop {
     /// Tells the addon that a frame of this entry begins, with the numbers that go to registers 24 to 31.
     fn enter(&mut self, entry: u32, gifts: &[u64; 8])
         ensures plan { plan self.new ≡ plan self.old }
-        ensures regs { regs self.new ≡ gifted gifts.now (regs self.old) };
+        ensures regs { regs self.new ≡ with_gifts gifts.now (regs self.old) };
 
     /// What the frame of this entry does at this step, counted from 0: a call, or to leave.
     ///
@@ -52,5 +52,5 @@ pub trait Addon: Drop {
     fn note(&mut self, entry: u32, step: u32, reply: &Reply)
         ensures plan { plan self.new ≡ plan self.old }
         ensures kept { IfSome (plan self.old)
-            (λ p. regs self.new ≡ kept p (regs self.old) entry step reply.now) };
+            (λ p. regs self.new ≡ registers_after_reply p (regs self.old) entry step reply.now) };
 }

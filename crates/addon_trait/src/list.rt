@@ -1,7 +1,7 @@
 //! Calls of one addon of a list. Contracts see the list as the list of its addons' plans and the list of their registers.
 //! An addon is named by its place in the list, from 0.
 ghost use Rattle.std.specs.Prelude.{◌≡◌, ◌<◌, IfSome, length, map, set, option_map};
-ghost use Rattle.napi_types.specs.Registers.{plan_ask, kept, blank_registers, gifted};
+ghost use Rattle.napi_types.specs.Registers.{plan_ask, registers_after_reply, blank_registers, with_gifts};
 ghost use Rattle.napi_types.specs.Plan.{plan_of, registers_of};
 ghost use Rattle.addon_trait.specs.Addons.{loaded_at, OthersStay};
 
@@ -19,7 +19,7 @@ fn load(addon: &mut Box<dyn Addon>, given: AddonPlan)
 /// Tells an addon that a frame begins.
 fn enter(addon: &mut Box<dyn Addon>, entry: u32, gifts: &[u64; 8])
     ensures plan { plan addon.new ≡ plan addon.old }
-    ensures regs { regs addon.new ≡ gifted gifts.now (regs addon.old) }
+    ensures regs { regs addon.new ≡ with_gifts gifts.now (regs addon.old) }
 {
     addon.enter(entry, gifts);
 }
@@ -37,7 +37,7 @@ fn ask(addon: &mut Box<dyn Addon>, entry: u32, step: u32) -> Ask
 fn note(addon: &mut Box<dyn Addon>, entry: u32, step: u32, reply: &Reply)
     ensures plan { plan addon.new ≡ plan addon.old }
     ensures kept { IfSome (plan addon.old)
-        (λ p. regs addon.new ≡ kept p (regs addon.old) entry step reply.now) }
+        (λ p. regs addon.new ≡ registers_after_reply p (regs addon.old) entry step reply.now) }
 {
     addon.note(entry, step, reply);
 }
@@ -62,7 +62,7 @@ pub fn enter_at(addons: &mut Vec<Box<dyn Addon>>, which: usize, entry: u32, gift
     ensures plans { map (λ b. plan b) addons.new.items ≡ map (λ b. plan b) addons.old.items }
     ensures regs { let registers = map (λ b. regs b) addons.old.items in
         map (λ b. regs b) addons.new.items
-        ≡ set registers which (gifted gifts.now (registers_of registers which)) }
+        ≡ set registers which (with_gifts gifts.now (registers_of registers which)) }
 {
     enter(&mut addons[which], entry, gifts);
 }
@@ -91,7 +91,7 @@ pub fn note_at(addons: &mut Vec<Box<dyn Addon>>, which: usize, entry: u32, step:
     ensures kept { let before = registers_of (map (λ b. regs b) addons.old.items) which in
         let after = registers_of (map (λ b. regs b) addons.new.items) which in
         IfSome (plan_of (map (λ b. plan b) addons.old.items) which)
-        (λ p. after ≡ kept p before entry step reply.now) }
+        (λ p. after ≡ registers_after_reply p before entry step reply.now) }
 {
     note(&mut addons[which], entry, step, reply);
 }

@@ -7,8 +7,8 @@ use Rattle.napi_types.specs.declared.entry.Local.{Local}
 use Rattle.napi_types.specs.declared.entry.Why.{Why}
 use Rattle.napi_types.specs.declared.ids.HandleId.{HandleId}
 use Rattle.napi_types.specs.Built.{is_built, is_calling}
-use Rattle.napi_types.specs.Changes.{called, number_of}
-use Rattle.napi_types.specs.Ends.{frame_ended}
+use Rattle.napi_types.specs.Changes.{call_change, number_of}
+use Rattle.napi_types.specs.Ends.{end_change}
 use Rattle.napi_types.specs.Entering.{is_entering}
 use Rattle.napi_types.specs.Environment.{Environment}
 use Rattle.napi_types.specs.Frames.{Frame}
@@ -16,7 +16,7 @@ use Rattle.napi_types.specs.Lists.{tail}
 use Rattle.napi_types.specs.Refusals.{refusal}
 use Rattle.napi_types.specs.Room.{reserved_journal, need, is_full}
 use Rattle.env_core.specs.Journal.{Pages}
-use Rattle.env_core.specs.Core.{Core, IsCore, wrote, room_in}
+use Rattle.env_core.specs.Core.{Core, IsCore, after_change, room_in}
 use Rattle.env_core.specs.State.{Calls}
 use Rattle.env_core.specs.Steps.{Replies}
 use Rattle.napi_types.proofs.Answers.{course-parts, KeepsButAsk}
@@ -53,9 +53,9 @@ core-pushed old new pages after x k c e promised room handles scopes references 
 pub reserved-kept : (old new : Environment) → KeepsButAsk old new → reserved_journal new ≡ reserved_journal old
 reserved-kept old new k = let course = course-parts old new k.course in rw (course.opened, course.phase, course.addons, course.inits, k.depth) refl
 
-pub core-called : (old new : Environment) (pages after : Pages) (x : Entry) (n : ℕ) → IsCore old pages → KeepsButAsk old new
+pub core-call_change : (old new : Environment) (pages after : Pages) (x : Entry) (n : ℕ) → IsCore old pages → KeepsButAsk old new
     → length pages.entries + pages.promised + 1 ≤ pages.limit → n ≡ pages.promised → after ≡ written x n pages → IsCore new after
-core-called old new pages after x n c k room same e =
+core-call_change old new pages after x n c k room same e =
     let kept : reserved_journal new ≡ reserved_journal old = reserved-kept old new k in
     core-pushed old new pages after x n c e (same ∙ c.reserved ∙ sym kept) (omega (arith, same, room)) k.heap.handles k.heap.scopes k.references k.heap.made
 
@@ -71,7 +71,7 @@ reserved-ended old new stands k =
     rw (course.opened, course.phase, course.addons, course.inits, k.frames) (omega (arith, left))
 
 pub core-ended : (old new : Environment) (pages after : Pages) (x : Entry) (v : Option HandleId) (cut : Option Why) → IsCore old pages → old.frames ≢ []
-    → new ≡ (frame_ended v cut old).after → after ≡ written x (pages.promised - 1) pages → IsCore new after
+    → new ≡ (end_change v cut old).after → after ≡ written x (pages.promised - 1) pages → IsCore new after
 core-ended old new pages after x v cut c stands h e =
     let K : Environment → Type 0 = λ s. KeepsButFrame old s in
     let k : KeepsButFrame old new = subst K (sym h) (ended-keeps v cut old) in
@@ -108,9 +108,9 @@ pub never-full : {X : Type 0} (b : Bool) → b ≡ false → IsTrue b → X
 never-full true h t = cc
 never-full false h t = cc
 
-wrote-as : (env new : Environment) (pages after : Pages) (x : Entry) (k : ℕ) → after ≡ written x k pages
-    → core_of new after ≡ wrote (record { entry = x; after = new }) (core_of env pages)
-wrote-as env new pages after x k e = ap (core_of new) e
+after_change-as : (env new : Environment) (pages after : Pages) (x : Entry) (k : ℕ) → after ≡ written x k pages
+    → core_of new after ≡ after_change (record { entry = x; after = new }) (core_of env pages)
+after_change-as env new pages after x k e = ap (core_of new) e
 
 -- a reply is the machine's answer
 pub replied : (env new : Environment) (pages after : Pages) (c : Call) (x : Entry) (k : ℕ) → after ≡ written x k pages → is_entering env c ≡ false
@@ -121,7 +121,7 @@ replied env new pages after c x k e once fits calls = record {
   fresh = calls.fresh;
   answer = ap (λ (y : Entry). y.reply) calls.entry;
   after =
-      wrote-as env new pages after x k e
-      ∙ ap (λ y. wrote (record { entry = y; after = new }) (core_of env pages)) calls.entry
-      ∙ ap (λ s. wrote (record { entry = (called env c (number_of x.reply.out)).entry; after = s }) (core_of env pages)) calls.after;
+      after_change-as env new pages after x k e
+      ∙ ap (λ y. after_change (record { entry = y; after = new }) (core_of env pages)) calls.entry
+      ∙ ap (λ s. after_change (record { entry = (call_change env c (number_of x.reply.out)).entry; after = s }) (core_of env pages)) calls.after;
 }

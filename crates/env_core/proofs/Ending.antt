@@ -6,7 +6,7 @@ use Rattle.napi_types.specs.Graph.{StoreState, IsLive}
 use Rattle.napi_types.specs.References.{ReferenceMap}
 use Rattle.napi_types.specs.Lists.{tail}
 use Rattle.napi_types.specs.Scopes.{Held, FrameScopes, held_by_scopes, held_by_frames, hold_in}
-use Rattle.handle_scope.specs.HandleScopes.{HandleScopes, frame_left, call_left, handle_issued}
+use Rattle.handle_scope.specs.HandleScopes.{HandleScopes, without_frame_scopes, without_call_scopes, with_issued_handle}
 use Rattle.env_values.proofs.Giving.{issued-live}
 use Rattle.env_core.specs.State.{IsState, is_by_call}
 use Rattle.env_core.proofs.Scopes.{length-changed}
@@ -25,7 +25,7 @@ all-left P (f ∷ fs) h = All-front P (held_by_frames fs) (f.own ++ held_by_scop
 
 -- a frame and its scopes are gone
 pub state-left : {m : ReferenceMap} (store : StoreState) (old new : HandleScopes) (standing left : List Frame) (thrown pending : Option ℕ) → IsState store old standing thrown m
-    → new ≡ frame_left old → left ≡ tail standing → IfSome pending (IsLive store) → IsState store new left pending m
+    → new ≡ without_frame_scopes old → left ≡ tail standing → IfSome pending (IsLive store) → IsState store new left pending m
 state-left store old new standing left thrown pending s scopes frames live = rw (scopes, frames) (record {
   live = all-left (λ p. IsLive store p.value) old.frames s.live;
   frames = length-tail old.frames standing s.frames;
@@ -36,11 +36,11 @@ state-left store old new standing left thrown pending s scopes frames live = rw 
 
 -- and the caller holds a handle of a live value
 pub state-given : {m : ReferenceMap} (store : StoreState) (old new : HandleScopes) (standing left : List Frame) (thrown pending : Option ℕ) (v : ℕ) → IsState store old standing thrown m
-    → new ≡ call_left (Some v) old → left ≡ tail standing → IfSome pending (IsLive store) → IsLive store v → IsState store new left pending m
+    → new ≡ without_call_scopes (Some v) old → left ≡ tail standing → IfSome pending (IsLive store) → IsLive store v → IsState store new left pending m
 state-given {m = m} store old new standing left thrown pending v s scopes frames live alive =
-    let mid : IsState store (frame_left old) (tail standing) thrown m = state-left store old (frame_left old) standing (tail standing) thrown thrown s refl refl s.pending in
+    let mid : IsState store (without_frame_scopes old) (tail standing) thrown m = state-left store old (without_frame_scopes old) standing (tail standing) thrown thrown s refl refl s.pending in
     rw (scopes, frames) (record {
-      live = issued-live store (frame_left old) (handle_issued v (frame_left old)) v refl alive mid.live;
+      live = issued-live store (without_frame_scopes old) (with_issued_handle v (without_frame_scopes old)) v refl alive mid.live;
       frames = length-changed (hold_in (record { handle = old.handles + 1; value = v })) (tail old.frames) ∙ mid.frames;
       calls = mid.calls;
       pending = live;

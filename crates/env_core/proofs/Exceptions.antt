@@ -10,7 +10,7 @@ use Rattle.napi_types.specs.declared.ids.TextNo.{TextNo}
 use Rattle.napi_types.specs.declared.ids.ValueId.{ValueId}
 use Rattle.napi_types.specs.declared.status.Status.{Status}
 use Rattle.napi_types.specs.declared.status.Status.TheVariants as status
-use Rattle.napi_types.specs.Calls.{answer_given, answer_at, answer}
+use Rattle.napi_types.specs.Calls.{answer_unless, answer_unless_deep, answer}
 use Rattle.napi_types.specs.Built.{is_calling}
 use Rattle.napi_types.specs.Changes.{number_of}
 use Rattle.napi_types.specs.Environment.{Environment, with_heap}
@@ -21,10 +21,10 @@ use Rattle.napi_types.specs.Heap.{Heap, handle_value, with_handle, with_thrown, 
 use Rattle.napi_types.specs.Lists.{unless}
 use Rattle.napi_types.specs.References.{ReferenceMap}
 use Rattle.napi_types.specs.Refusals.{is_known, moment_refusal, refusal_in, timely_refusal, early_refusal, depth_refusal}
-use Rattle.napi_types.specs.Replies.{Answer, answered, plain}
+use Rattle.napi_types.specs.Replies.{Answer, accepts, plain}
 use Rattle.napi_types.specs.Scopes.{gives, hold_in}
 use Rattle.napi_types.specs.Values.{undefined_value}
-use Rattle.handle_scope.specs.HandleScopes.{HandleScopes, handle_issued}
+use Rattle.handle_scope.specs.HandleScopes.{HandleScopes, with_issued_handle}
 use Rattle.env_values.specs.Seen.{heap_of}
 use Rattle.env_values.proofs.Giving.{issued-live}
 use Rattle.env_values.proofs.HandleValues.{unknown-handle}
@@ -38,14 +38,14 @@ no-depth fs (call.CallFunction receiver f args) h = cc
 no-depth fs _ h = refl
 
 -- every other call answers what the refusals before the depth limit give
-given-answer : (e : Environment) (c : Call) (n : ℕ) → is_calling c ≡ false → answer_given e c n (early_refusal e c) ≡ answer e c n
-given-answer e c n h = ap (answer_at e c n (early_refusal e c)) (sym (no-depth e.frames c h))
+given-answer : (e : Environment) (c : Call) (n : ℕ) → is_calling c ≡ false → answer_unless e c n (early_refusal e c) ≡ answer e c n
+given-answer e c n h = ap (answer_unless_deep e c n (early_refusal e c)) (sym (no-depth e.frames c h))
 
 -- a call at a right moment answers what the other refusals give
 answers-in-time : (e new : Environment) (c : Call) (r : Reply) → is_calling c ≡ false → None ≡ moment_refusal e c → AnswersInTime e c r new → Answers e c r new
 answers-in-time e new c r other h a =
-    let same : answer_given e c (number_of r.out) (timely_refusal e c) ≡ answer e c (number_of r.out) =
-    ap (λ o. answer_given e c (number_of r.out) (option_or o (timely_refusal e c))) h ∙ given-answer e c (number_of r.out) other in
+    let same : answer_unless e c (number_of r.out) (timely_refusal e c) ≡ answer e c (number_of r.out) =
+    ap (λ o. answer_unless e c (number_of r.out) (option_or o (timely_refusal e c))) h ∙ given-answer e c (number_of r.out) other in
     record {
       fresh = a.fresh;
       reply = a.reply ∙ ap (λ (x : Answer Environment). x.reply) same;
@@ -60,7 +60,7 @@ in-time e new c (Err x) other h a = tt
 pub out-of-time : (e : Environment) (c : Call) (s : Status) → is_calling c ≡ false → Some s ≡ moment_refusal e c → Answers e c (plain s out.Nothing) e
 out-of-time e c s other h =
     let why : Some s ≡ early_refusal e c = ap (λ o. option_or o (timely_refusal e c)) h in
-    let same : answer_given e c 0 (Some s) ≡ answer e c 0 = ap (answer_given e c 0) why ∙ given-answer e c 0 other in
+    let same : answer_unless e c 0 (Some s) ≡ answer e c 0 = ap (answer_unless e c 0) why ∙ given-answer e c 0 other in
     record {
       fresh = refl;
       reply = ap (λ (x : Answer Environment). x.reply) same;
@@ -89,8 +89,8 @@ accepted-throw e store scopes h v given =
     let known : gives (heap_of store scopes).scopes h.0 ≡ Some (number_in store v) = known-handle store scopes h.0 v given in
     let none : refusal_in e.texts (heap_of store scopes) (call.Throw h) ≡ None = throw-refusal e.texts (heap_of store scopes) h true (ap is_some known) in
     let value : handle_value (heap_of store scopes) h.0 ≡ number_in store v = ap (λ o. unwrap_or o undefined_value) known in
-    let answer : answer_given env (call.Throw h) 0 (refusal_in e.texts (heap_of store scopes) (call.Throw h)) ≡ answered out.Nothing (with_pending (Some (number_in store v)) env) =
-    ap (answer_given env (call.Throw h) 0) none ∙ ap (λ n. answered out.Nothing (with_pending (Some n) env)) value in
+    let answer : answer_unless env (call.Throw h) 0 (refusal_in e.texts (heap_of store scopes) (call.Throw h)) ≡ accepts out.Nothing (with_pending (Some (number_in store v)) env) =
+    ap (answer_unless env (call.Throw h) 0) none ∙ ap (λ n. accepts out.Nothing (with_pending (Some n) env)) value in
     record { fresh = refl; reply = ap (λ (a : Answer Environment). a.reply) (sym answer); after = ap (λ (a : Answer Environment). a.after) (sym answer) }
 
 -- THROW_ERROR
@@ -112,9 +112,9 @@ pub accepted-thrown : (e : Environment) (s t : StoreState) (scopes : HandleScope
 accepted-thrown e s t scopes code message id known heap number =
     let env : Environment = with_parts e s scopes in
     let none : refusal_in e.texts (heap_of s scopes) (call.ThrowError code message) ≡ None = thrown-refusal e.texts (heap_of s scopes) code message true known in
-    let answer : answer_given env (call.ThrowError code message) 0 (refusal_in e.texts (heap_of s scopes) (call.ThrowError code message))
-    ≡ answered out.Nothing (with_pending (Some (thrown_number code message (heap_of s scopes))) (with_heap env (with_thrown code message (heap_of s scopes)))) =
-    ap (answer_given env (call.ThrowError code message) 0) none in
+    let answer : answer_unless env (call.ThrowError code message) 0 (refusal_in e.texts (heap_of s scopes) (call.ThrowError code message))
+    ≡ accepts out.Nothing (with_pending (Some (thrown_number code message (heap_of s scopes))) (with_heap env (with_thrown code message (heap_of s scopes)))) =
+    ap (answer_unless env (call.ThrowError code message) 0) none in
     record {
       fresh = refl;
       reply = ap (λ (a : Answer Environment). a.reply) (sym answer);
@@ -156,7 +156,7 @@ taken-pending e store old new n h value next heap = record {
 
 -- the scopes hold one handle more
 pub state-issued : {m : ReferenceMap} (store : StoreState) (old new : HandleScopes) (frame : List Frame) (thrown : Option ℕ) (v : ℕ)
-    → IsState store old frame thrown m → IsLive store v → new ≡ handle_issued v old → IsState store new frame thrown m
+    → IsState store old frame thrown m → IsLive store v → new ≡ with_issued_handle v old → IsState store new frame thrown m
 state-issued store old new frame thrown v s live is = record {
   live = issued-live store old new v is live s.live;
   frames = ap (λ (x : HandleScopes). length x.frames) is ∙ length-changed (hold_in (record { handle = old.handles + 1; value = v })) old.frames ∙ s.frames;
@@ -167,7 +167,7 @@ state-issued store old new frame thrown v s live is = record {
 
 -- and no exception is pending
 pub state-taken : {m : ReferenceMap} (store : StoreState) (old new : HandleScopes) (frame : List Frame) (thrown : Option ℕ) (v : ℕ)
-    → IsState store old frame thrown m → IsLive store v → new ≡ handle_issued v old → IsState store new frame None m
+    → IsState store old frame thrown m → IsLive store v → new ≡ with_issued_handle v old → IsState store new frame None m
 state-taken {m = m} store old new frame thrown v s live is =
     let i : IsState store new frame thrown m = state-issued store old new frame thrown v s live is in
     record { live = i.live; frames = i.frames; calls = i.calls; pending = tt; referred = i.referred }

@@ -12,22 +12,22 @@ use Rattle.napi_types.specs.declared.ids.HandleId.{HandleId}
 use Rattle.napi_types.specs.declared.ids.RefId.{RefId}
 use Rattle.napi_types.specs.declared.status.Status.{Status}
 use Rattle.napi_types.specs.declared.status.Status.TheVariants as status
-use Rattle.napi_types.specs.Calls.{accepted_by, answer_given}
-use Rattle.napi_types.specs.Changes.{number_of, is_fresh}
+use Rattle.napi_types.specs.Calls.{effect, answer_unless}
+use Rattle.napi_types.specs.Changes.{number_of, is_fresh_result}
 use Rattle.napi_types.specs.Environment.{Environment, in_heap}
 use Rattle.napi_types.specs.Graph.{StoreState, IsLive, number_in}
 use Rattle.napi_types.specs.Heap.{Heap, handle_value, with_handle, handle_of}
 use Rattle.napi_types.specs.Lists.{found, has, has_number, with_number}
 use Rattle.napi_types.specs.ReferenceCalls.{counted_up, value_told}
-use Rattle.napi_types.specs.References.{Reference, ReferenceMap, has_reference, reference_at, value_of, count_of, with_reference, without_reference, with_count}
+use Rattle.napi_types.specs.References.{Reference, ReferenceMap, has_reference, reference_at, referred_value, reference_count, with_reference, without_reference, with_count}
 use Rattle.napi_types.specs.Refusals.{references_of, count_refusal, reference_refusal, refusal_in, timely_refusal}
-use Rattle.napi_types.specs.Replies.{Answer, answered, plain}
+use Rattle.napi_types.specs.Replies.{Answer, accepts, plain}
 use Rattle.napi_types.proofs.Maps.{map-filter, map-with_record}
 use Rattle.handle_scope.specs.HandleScopes.{HandleScopes}
 use Rattle.env_values.specs.Seen.{heap_of}
 use Rattle.env_values.proofs.Giving.{given-answer}
 use Rattle.napi_reference.specs.Places.{ReferencePlaces, map_of}
-use Rattle.napi_reference.proofs.Keeping.{AllValues-with_count, value_of-AllValues}
+use Rattle.napi_reference.proofs.Keeping.{AllValues-with_count, referred_value-AllValues}
 use Rattle.env_core.specs.Referring.{seen_reference, references_seen, RefersToLive}
 use Rattle.env_core.specs.State.{AnswersInTime}
 
@@ -53,14 +53,14 @@ module _ (s : StoreState) where
   value-at None = refl
   value-at (Some r) = refl
 
-  pub seen-value : (m : ReferenceMap) (n : ℕ) → value_of (references_seen s m) n ≡ option_map (number_in s) (value_of m n)
+  pub seen-value : (m : ReferenceMap) (n : ℕ) → referred_value (references_seen s m) n ≡ option_map (number_in s) (referred_value m n)
   seen-value m n = ap (λ o. unwrap_or (option_map (λ (r : Reference). r.value) o) None) (rows-found m.rows n) ∙ value-at (reference_at m n)
 
   count-at : (o : Option Reference) → unwrap_or (option_map (λ (r : Reference). r.count) (option_map (seen_reference s) o)) 0 ≡ unwrap_or (option_map (λ (r : Reference). r.count) o) 0
   count-at None = refl
   count-at (Some r) = refl
 
-  pub seen-count : (m : ReferenceMap) (n : ℕ) → count_of (references_seen s m) n ≡ count_of m n
+  pub seen-count : (m : ReferenceMap) (n : ℕ) → reference_count (references_seen s m) n ≡ reference_count m n
   seen-count m n = ap (λ o. unwrap_or (option_map (λ (r : Reference). r.count) o) 0) (rows-found m.rows n) ∙ count-at (reference_at m n)
 
   is_some-map : (o : Option ℕ) → is_some (option_map (number_in s) o) ≡ is_some o
@@ -72,7 +72,7 @@ module _ (s : StoreState) where
   all-has m (n ∷ ns) = rw (seen-has m n, all-has m ns) refl
 
   counts-seen : (m : ReferenceMap) (c : Call) → count_refusal (references_seen s m) c ≡ count_refusal m c
-  counts-seen m (call.ReferenceRef r) = rw (seen-value m r.0, seen-count m r.0, is_some-map (value_of m r.0)) refl
+  counts-seen m (call.ReferenceRef r) = rw (seen-value m r.0, seen-count m r.0, is_some-map (referred_value m r.0)) refl
   counts-seen m (call.ReferenceUnref r) = rw (seen-count m r.0) refl
   counts-seen m _ = refl
 
@@ -108,14 +108,14 @@ module _ (s : StoreState) where
 pub refused-timely : (e : Environment) (c : Call) (s : Status) → timely_refusal e c ≡ Some s → AnswersInTime e c (plain s out.Nothing) e
 refused-timely e c s why = record {
   fresh = refl;
-  reply = ap (λ (o : Option Status). (answer_given e c 0 o).reply) (sym why);
-  after = ap (λ (o : Option Status). (answer_given e c 0 o).after) (sym why);
+  reply = ap (λ (o : Option Status). (answer_unless e c 0 o).reply) (sym why);
+  after = ap (λ (o : Option Status). (answer_unless e c 0 o).after) (sym why);
 }
 
 -- one that is accepted
-pub accepted-timely : (e new : Environment) (c : Call) (o : Out) → timely_refusal e c ≡ None → is_fresh e o ≡ true → accepted_by e c (number_of o) ≡ answered o new → AnswersInTime e c (plain status.Ok o) new
+pub accepted-timely : (e new : Environment) (c : Call) (o : Out) → timely_refusal e c ≡ None → is_fresh_result e o ≡ true → effect e c (number_of o) ≡ accepts o new → AnswersInTime e c (plain status.Ok o) new
 accepted-timely e new c o none fresh is =
-    let answer : answer_given e c (number_of o) (timely_refusal e c) ≡ answered o new = ap (answer_given e c (number_of o)) none ∙ is in
+    let answer : answer_unless e c (number_of o) (timely_refusal e c) ≡ accepts o new = ap (answer_unless e c (number_of o)) none ∙ is in
     record {
       fresh = fresh;
       reply = ap (λ (a : Answer Environment). a.reply) (sym answer);
@@ -142,8 +142,8 @@ refused-answers e s m n c st h k same =
     let P : ReferenceMap → Type 0 = λ x. AnswersInTime (referring e s m) c (plain st out.Nothing) (referring e s x) in
     subst P (sym same) (refused-timely (referring e s m) c st (by-reference (referring e s m) c (Some st) (seen-refusal s m c ∙ sym h) k))
 
-accepted-answers : (e : Environment) (s : StoreState) (m n : ReferenceMap) (c : Call) (o : Out) → None ≡ reference_refusal m c → refusal_in e.texts e.heap c ≡ None → is_fresh (referring e s m) o ≡ true
-    → accepted_by (referring e s m) c (number_of o) ≡ answered o (referring e s n) → AnswersInTime (referring e s m) c (plain status.Ok o) (referring e s n)
+accepted-answers : (e : Environment) (s : StoreState) (m n : ReferenceMap) (c : Call) (o : Out) → None ≡ reference_refusal m c → refusal_in e.texts e.heap c ≡ None → is_fresh_result (referring e s m) o ≡ true
+    → effect (referring e s m) c (number_of o) ≡ accepts o (referring e s n) → AnswersInTime (referring e s m) c (plain status.Ok o) (referring e s n)
 accepted-answers e s m n c o h k fresh is =
     accepted-timely (referring e s m) (referring e s n) c o (by-reference (referring e s m) c None (seen-refusal s m c ∙ sym h) k) fresh is
 
@@ -152,48 +152,48 @@ pub made-answers : (e : Environment) (s : StoreState) (m n : ReferenceMap) (h : 
     → AnswersInTime (referring e s m) (call.CreateReference h count) (plain status.Ok (out.Ref r)) (referring e s n)
 made-answers e s m n h v count r none fresh is made =
     accepted-answers e s m n (call.CreateReference h count) (out.Ref r) refl none (ap not fresh)
-    (ap (λ w. answered (out.Ref r) (record e { references = with_reference r.0 w count (references_seen s m) })) (sym is)
-    ∙ ap (λ (x : ReferenceMap). answered (out.Ref r) (record e { references = x })) (sym (ap (references_seen s) made ∙ seen-with s r.0 v count m)))
+    (ap (λ w. accepts (out.Ref r) (record e { references = with_reference r.0 w count (references_seen s m) })) (sym is)
+    ∙ ap (λ (x : ReferenceMap). accepts (out.Ref r) (record e { references = x })) (sym (ap (references_seen s) made ∙ seen-with s r.0 v count m)))
 
 pub deleted-answers : (e : Environment) (s : StoreState) (m n : ReferenceMap) (r : RefId) → None ≡ reference_refusal m (call.DeleteReference r) → n ≡ without_reference r.0 m
     → AnswersInTime (referring e s m) (call.DeleteReference r) (plain status.Ok out.Nothing) (referring e s n)
 deleted-answers e s m n r h is =
     accepted-answers e s m n (call.DeleteReference r) out.Nothing h refl refl
-    (ap (λ (x : ReferenceMap). answered out.Nothing (record e { references = x })) (sym (ap (references_seen s) is ∙ seen-without s r.0 m)))
+    (ap (λ (x : ReferenceMap). accepts out.Nothing (record e { references = x })) (sym (ap (references_seen s) is ∙ seen-without s r.0 m)))
 
 pub lowered-answers : (e : Environment) (s : StoreState) (m n : ReferenceMap) (r : RefId) (count : ℕ) → None ≡ reference_refusal m (call.ReferenceUnref r)
-    → count ≡ count_of m r.0 - 1 → n ≡ with_count r.0 count m
+    → count ≡ reference_count m r.0 - 1 → n ≡ with_count r.0 count m
     → AnswersInTime (referring e s m) (call.ReferenceUnref r) (plain status.Ok (out.Unsigned count)) (referring e s n)
 lowered-answers e s m n r count h counted is =
     accepted-answers e s m n (call.ReferenceUnref r) (out.Unsigned count) h refl refl
-    (ap (λ k. answered (out.Unsigned (k - 1)) (record e { references = with_count r.0 (k - 1) (references_seen s m) })) (seen-count s m r.0)
-    ∙ ap (λ k. answered (out.Unsigned k) (record e { references = with_count r.0 k (references_seen s m) })) (sym counted)
-    ∙ ap (λ (x : ReferenceMap). answered (out.Unsigned count) (record e { references = x })) (sym (ap (references_seen s) is ∙ seen-counted s r.0 count m)))
+    (ap (λ k. accepts (out.Unsigned (k - 1)) (record e { references = with_count r.0 (k - 1) (references_seen s m) })) (seen-count s m r.0)
+    ∙ ap (λ k. accepts (out.Unsigned k) (record e { references = with_count r.0 k (references_seen s m) })) (sym counted)
+    ∙ ap (λ (x : ReferenceMap). accepts (out.Unsigned count) (record e { references = x })) (sym (ap (references_seen s) is ∙ seen-counted s r.0 count m)))
 
 pub raised-answers : (e : Environment) (s : StoreState) (m n : ReferenceMap) (r : RefId) (count : ℕ) → None ≡ reference_refusal m (call.ReferenceRef r)
-    → (IsSome (value_of m r.0) → count ≡ count_of m r.0 + 1) → (IsSome (value_of m r.0) → n ≡ with_count r.0 count m)
-    → (value_of m r.0 ≡ None → count ≡ 0) → (value_of m r.0 ≡ None → n ≡ m)
+    → (IsSome (referred_value m r.0) → count ≡ reference_count m r.0 + 1) → (IsSome (referred_value m r.0) → n ≡ with_count r.0 count m)
+    → (referred_value m r.0 ≡ None → count ≡ 0) → (referred_value m r.0 ≡ None → n ≡ m)
     → AnswersInTime (referring e s m) (call.ReferenceRef r) (plain status.Ok (out.Unsigned count)) (referring e s n)
-raised-answers e s m n r count h counted is none same = accepted-answers e s m n (call.ReferenceRef r) (out.Unsigned count) h refl refl (ap (counted_up r.0 (referring e s m)) (seen-value s m r.0) ∙ by (value_of m r.0) refl)
+raised-answers e s m n r count h counted is none same = accepted-answers e s m n (call.ReferenceRef r) (out.Unsigned count) h refl refl (ap (counted_up r.0 (referring e s m)) (seen-value s m r.0) ∙ by (referred_value m r.0) refl)
   where
-    by : (v : Option ℕ) → value_of m r.0 ≡ v → counted_up r.0 (referring e s m) (option_map (number_in s) v) ≡ answered (out.Unsigned count) (referring e s n)
+    by : (v : Option ℕ) → referred_value m r.0 ≡ v → counted_up r.0 (referring e s m) (option_map (number_in s) v) ≡ accepts (out.Unsigned count) (referring e s n)
     by None e1 =
-        ap (λ k. answered (out.Unsigned k) (referring e s m)) (sym (none e1)) ∙ ap (λ x. answered (out.Unsigned count) (referring e s x)) (sym (same e1))
+        ap (λ k. accepts (out.Unsigned k) (referring e s m)) (sym (none e1)) ∙ ap (λ x. accepts (out.Unsigned count) (referring e s x)) (sym (same e1))
     by (Some v) e1 =
-        let there : IsSome (value_of m r.0) = subst (λ (o : Option ℕ). IsSome o) (sym e1) refl in
-        ap (λ k. answered (out.Unsigned (k + 1)) (record e { references = with_count r.0 (k + 1) (references_seen s m) })) (seen-count s m r.0)
-        ∙ ap (λ k. answered (out.Unsigned k) (record e { references = with_count r.0 k (references_seen s m) })) (sym (counted there))
-        ∙ ap (λ (x : ReferenceMap). answered (out.Unsigned count) (record e { references = x })) (sym (ap (references_seen s) (is there) ∙ seen-counted s r.0 count m))
+        let there : IsSome (referred_value m r.0) = subst (λ (o : Option ℕ). IsSome o) (sym e1) refl in
+        ap (λ k. accepts (out.Unsigned (k + 1)) (record e { references = with_count r.0 (k + 1) (references_seen s m) })) (seen-count s m r.0)
+        ∙ ap (λ k. accepts (out.Unsigned k) (record e { references = with_count r.0 k (references_seen s m) })) (sym (counted there))
+        ∙ ap (λ (x : ReferenceMap). accepts (out.Unsigned count) (record e { references = x })) (sym (ap (references_seen s) (is there) ∙ seen-counted s r.0 count m))
 
 -- the value of a reference was collected
-pub gone-answers : (e : Environment) (s : StoreState) (m : ReferenceMap) (r : RefId) → None ≡ reference_refusal m (call.GetReferenceValue r) → None ≡ value_of m r.0
+pub gone-answers : (e : Environment) (s : StoreState) (m : ReferenceMap) (r : RefId) → None ≡ reference_refusal m (call.GetReferenceValue r) → None ≡ referred_value m r.0
     → AnswersInTime (referring e s m) (call.GetReferenceValue r) (plain status.Ok out.NoHandle) (referring e s m)
 gone-answers e s m r h none =
     accepted-answers e s m m (call.GetReferenceValue r) out.NoHandle h refl refl (ap (value_told (referring e s m)) (seen-value s m r.0 ∙ ap (option_map (number_in s)) (sym none)))
 
 -- or it is there, and gets a handle
 pub told-answers : (e : Environment) (s : StoreState) (m : ReferenceMap) (old new : HandleScopes) (r : RefId) (h : HandleId) (v : ℕ)
-    → e.heap ≡ heap_of s old → None ≡ reference_refusal m (call.GetReferenceValue r) → Some v ≡ value_of m r.0
+    → e.heap ≡ heap_of s old → None ≡ reference_refusal m (call.GetReferenceValue r) → Some v ≡ referred_value m r.0
     → h.0 ≡ old.handles + 1 → heap_of s new ≡ with_handle (number_in s v) (heap_of s old)
     → AnswersInTime (referring e s m) (call.GetReferenceValue r) (plain status.Ok (out.Handle h)) (record (referring e s m) { heap = heap_of s new })
 told-answers e s m old new r h v heap none some next held =
@@ -205,7 +205,7 @@ told-answers e s m old new r h v heap none some next held =
 
 -- the same of a count that is told or refused
 pub lowered-told : (e : Environment) (s : StoreState) (m n : ReferenceMap) (r : RefId) (o : Result ℕ Status) (reply : Reply) → result_err o ≡ reference_refusal m (call.ReferenceUnref r)
-    → IfOk o (λ count. count ≡ count_of m r.0 - 1) → IfOk o (λ count. n ≡ with_count r.0 count m) → OnErr o (n ≡ m)
+    → IfOk o (λ count. count ≡ reference_count m r.0 - 1) → IfOk o (λ count. n ≡ with_count r.0 count m) → OnErr o (n ≡ m)
     → IfOk o (λ count. reply ≡ plain status.Ok (out.Unsigned count)) → IfErr o (λ st. reply ≡ plain st out.Nothing)
     → AnswersInTime (referring e s m) (call.ReferenceUnref r) reply (referring e s n)
 lowered-told e s m n r (Ok count) reply h counted is err ok why =
@@ -214,8 +214,8 @@ lowered-told e s m n r (Err st) reply h counted is err ok why =
     subst (λ (x : Reply). AnswersInTime (referring e s m) (call.ReferenceUnref r) x (referring e s n)) (sym why) (refused-answers e s m n (call.ReferenceUnref r) st h refl err)
 
 pub raised-told : (e : Environment) (s : StoreState) (m n : ReferenceMap) (r : RefId) (o : Result ℕ Status) (reply : Reply) → result_err o ≡ reference_refusal m (call.ReferenceRef r)
-    → (IsSome (value_of m r.0) → IfOk o (λ count. count ≡ count_of m r.0 + 1)) → (IsSome (value_of m r.0) → IfOk o (λ count. n ≡ with_count r.0 count m))
-    → (value_of m r.0 ≡ None → IfOk o (λ count. count ≡ 0)) → (value_of m r.0 ≡ None → n ≡ m) → OnErr o (n ≡ m)
+    → (IsSome (referred_value m r.0) → IfOk o (λ count. count ≡ reference_count m r.0 + 1)) → (IsSome (referred_value m r.0) → IfOk o (λ count. n ≡ with_count r.0 count m))
+    → (referred_value m r.0 ≡ None → IfOk o (λ count. count ≡ 0)) → (referred_value m r.0 ≡ None → n ≡ m) → OnErr o (n ≡ m)
     → IfOk o (λ count. reply ≡ plain status.Ok (out.Unsigned count)) → IfErr o (λ st. reply ≡ plain st out.Nothing)
     → AnswersInTime (referring e s m) (call.ReferenceRef r) reply (referring e s n)
 raised-told e s m n r (Ok count) reply h counted is none same err ok why =
@@ -224,13 +224,13 @@ raised-told e s m n r (Err st) reply h counted is none same err ok why =
     subst (λ (x : Reply). AnswersInTime (referring e s m) (call.ReferenceRef r) x (referring e s n)) (sym why) (refused-answers e s m n (call.ReferenceRef r) st h refl err)
 
 -- WHAT STAYS LIVE
-pub raised-live : (s : StoreState) (m n : ReferenceMap) (r count : ℕ) → RefersToLive s m → (IsSome (value_of m r) → n ≡ with_count r count m) → (value_of m r ≡ None → n ≡ m) → RefersToLive s n
-raised-live s m n r count live counted same = by (value_of m r) refl
+pub raised-live : (s : StoreState) (m n : ReferenceMap) (r count : ℕ) → RefersToLive s m → (IsSome (referred_value m r) → n ≡ with_count r count m) → (referred_value m r ≡ None → n ≡ m) → RefersToLive s n
+raised-live s m n r count live counted same = by (referred_value m r) refl
   where
-    by : (v : Option ℕ) → value_of m r ≡ v → RefersToLive s n
+    by : (v : Option ℕ) → referred_value m r ≡ v → RefersToLive s n
     by None h = subst (RefersToLive s) (sym (same h)) live
     by (Some v) h =
-        let there : IsSome (value_of m r) = subst (λ (o : Option ℕ). IsSome o) (sym h) refl in
+        let there : IsSome (referred_value m r) = subst (λ (o : Option ℕ). IsSome o) (sym h) refl in
         subst (RefersToLive s) (sym (counted there)) (AllValues-with_count (IsLive s) r count m live)
 
 -- what an error leaves as it was, the map of it too
@@ -243,11 +243,11 @@ pub lowered-told-live : (s : StoreState) (m n : ReferenceMap) (r : ℕ) (o : Res
 lowered-told-live s m n r (Ok count) live is err = subst (RefersToLive s) (sym is) (AllValues-with_count (IsLive s) r count m live)
 lowered-told-live s m n r (Err st) live is err = subst (RefersToLive s) (sym err) live
 
-pub raised-told-live : (s : StoreState) (m n : ReferenceMap) (r : ℕ) (o : Result ℕ Status) → RefersToLive s m → (IsSome (value_of m r) → IfOk o (λ count. n ≡ with_count r count m))
-    → (value_of m r ≡ None → n ≡ m) → OnErr o (n ≡ m) → RefersToLive s n
+pub raised-told-live : (s : StoreState) (m n : ReferenceMap) (r : ℕ) (o : Result ℕ Status) → RefersToLive s m → (IsSome (referred_value m r) → IfOk o (λ count. n ≡ with_count r count m))
+    → (referred_value m r ≡ None → n ≡ m) → OnErr o (n ≡ m) → RefersToLive s n
 raised-told-live s m n r (Ok count) live counted same err = raised-live s m n r count live counted same
 raised-told-live s m n r (Err st) live counted same err = subst (RefersToLive s) (sym err) live
 
 -- the value that a reference has is live
-pub value-live : (s : StoreState) (m : ReferenceMap) (r v : ℕ) → Some v ≡ value_of m r → RefersToLive s m → IsLive s v
-value-live s m r v h live = subst (λ (o : Option ℕ). IfSome o (IsLive s)) (sym h) (value_of-AllValues (IsLive s) m r live)
+pub value-live : (s : StoreState) (m : ReferenceMap) (r v : ℕ) → Some v ≡ referred_value m r → RefersToLive s m → IsLive s v
+value-live s m r v h live = subst (λ (o : Option ℕ). IfSome o (IsLive s)) (sym h) (referred_value-AllValues (IsLive s) m r live)

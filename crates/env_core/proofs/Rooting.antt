@@ -14,7 +14,7 @@ use Rattle.napi_types.specs.References.{Reference, ReferenceMap, strong_value, s
 use Rattle.napi_types.specs.Roots.{roots}
 use Rattle.napi_types.specs.Scopes.{Held, Scope, FrameScopes, held_by_scopes, held_by_frame, held_by_frames}
 use Rattle.napi_types.specs.Values.{starting_values}
-use Rattle.handle_scope.specs.HandleScopes.{HandleScopes, filled, free_place, frame_places, handle_places}
+use Rattle.handle_scope.specs.HandleScopes.{HandleScopes, held_places, free_place, frame_places, handle_places}
 use Rattle.env_values.specs.Seen.{seen_held, seen_scope, seen_frame, heap_of, HoldsLive}
 use Rattle.napi_reference.specs.Places.{strong_in}
 use Rattle.napi_reference.proofs.Keeping.{strong_values-AllValues}
@@ -168,9 +168,9 @@ roots-start s scopes m p ids r which h =
 
 -- WHAT IS PUSHED
 -- the places of handles that are filled have the values that scopes hold
-filled-values : (hs : List Held) → filter_map (λ place. place) (filled hs) ≡ values_of hs
-filled-values [] = refl
-filled-values (h ∷ hs) = ap (λ l. h.value ∷ l) (filled-values hs)
+held_places-values : (hs : List Held) → filter_map (λ place. place) (held_places hs) ≡ values_of hs
+held_places-values [] = refl
+held_places-values (h ∷ hs) = ap (λ l. h.value ∷ l) (held_places-values hs)
 
 free-none : (x : Scope) → filter_map (λ place. place) (free_place x) ≡ []
 free-none x = by x.used
@@ -180,12 +180,12 @@ free-none x = by x.used
     by false = refl
 
 frame-values : (own : List Held) (ss : List Scope) → filter_map (λ place. place) (frame_places own ss) ≡ values_of (own ++ held_by_scopes ss)
-frame-values own [] = filled-values own ∙ ap values_of (sym (append-nil own))
+frame-values own [] = held_places-values own ∙ ap values_of (sym (append-nil own))
 frame-values own (x ∷ ss) =
     let f : List (Option ℕ) → List ℕ = filter_map (λ place. place) in
-    let split : f ((frame_places own ss ++ free_place x) ++ filled x.held) ≡ f (frame_places own ss ++ free_place x) ++ f (filled x.held) = filter_map-append (λ place. place) (frame_places own ss ++ free_place x) (filled x.held) in
+    let split : f ((frame_places own ss ++ free_place x) ++ held_places x.held) ≡ f (frame_places own ss ++ free_place x) ++ f (held_places x.held) = filter_map-append (λ place. place) (frame_places own ss ++ free_place x) (held_places x.held) in
     let inner : f (frame_places own ss ++ free_place x) ≡ f (frame_places own ss) = filter_map-append (λ place. place) (frame_places own ss) (free_place x) ∙ ap (λ l. f (frame_places own ss) ++ l) (free-none x) ∙ append-nil (f (frame_places own ss)) in
-    split ∙ ap (λ l. l ++ f (filled x.held)) (inner ∙ frame-values own ss) ∙ ap (λ l. values_of (own ++ held_by_scopes ss) ++ l) (filled-values x.held)
+    split ∙ ap (λ l. l ++ f (held_places x.held)) (inner ∙ frame-values own ss) ∙ ap (λ l. values_of (own ++ held_by_scopes ss) ++ l) (held_places-values x.held)
     ∙ sym (map-append (λ (h : Held). h.value) (own ++ held_by_scopes ss) x.held) ∙ ap values_of (append_assoc own (held_by_scopes ss) x.held)
 
 pub places-values : (fs : List FrameScopes) → filter_map (λ place. place) (handle_places fs) ≡ values_of (held_by_frames fs)

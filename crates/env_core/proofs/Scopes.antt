@@ -10,7 +10,7 @@ use Rattle.napi_types.specs.declared.ids.ScopeKind.{ScopeKind}
 use Rattle.napi_types.specs.declared.ids.ScopeKind.TheVariants as scope_kind
 use Rattle.napi_types.specs.declared.status.Status.{Status}
 use Rattle.napi_types.specs.declared.status.Status.TheVariants as status
-use Rattle.napi_types.specs.Calls.{accepted_by, answer_given}
+use Rattle.napi_types.specs.Calls.{effect, answer_unless}
 use Rattle.napi_types.specs.Environment.{Environment, with_heap, in_heap}
 use Rattle.napi_types.specs.Frames.{Frame}
 use Rattle.napi_types.specs.Graph.{StoreState, IsLive, number_in}
@@ -18,11 +18,11 @@ use Rattle.napi_types.specs.Heap.{Heap, handle_value, in_scopes}
 use Rattle.napi_types.specs.Lists.{first_changed, unless}
 use Rattle.napi_types.specs.References.{ReferenceMap}
 use Rattle.napi_types.specs.Refusals.{refusal_in, reference_refusal, timely_refusal}
-use Rattle.napi_types.specs.Replies.{Answer, answered, plain}
+use Rattle.napi_types.specs.Replies.{Answer, accepts, plain}
 use Rattle.napi_types.specs.ScopeCalls.{with_escaped}
 use Rattle.napi_types.specs.Scopes.{Held, FrameScopes, gives, open_in, close_in, escape_in, opened_scopes, closing, escaping}
 use Rattle.napi_types.specs.Values.{undefined_value}
-use Rattle.handle_scope.specs.HandleScopes.{HandleScopes, is_fresh, scope_opened, scope_closed, handle_escaped}
+use Rattle.handle_scope.specs.HandleScopes.{HandleScopes, is_fresh_scope, with_open_scope, without_innermost_scope, with_escaped_handle}
 use Rattle.env_values.specs.Seen.{heap_of}
 use Rattle.env_values.proofs.Held.{escaped-holds}
 use Rattle.env_values.proofs.HandleValues.{unknown-handle, given-live}
@@ -44,21 +44,21 @@ with_seen e store scopes fs = with_heap e (record (heap_of store scopes) { scope
 
 -- a scope opens inside the innermost one
 pub accepted-open : (e : Environment) (store : StoreState) (old new : HandleScopes) (kind : ScopeKind) (scope : ScopeId)
-    → IsTrue (is_fresh scope.0 old) → new ≡ scope_opened kind scope.0 old
+    → IsTrue (is_fresh_scope scope.0 old) → new ≡ with_open_scope kind scope.0 old
     → AnswersInTime (with_parts e store old) (opening_call kind) (plain status.Ok (out.Scope scope)) (with_parts e store new)
 accepted-open e store old new scope_kind.Plain scope fresh opened = record {
   fresh = fresh;
   reply = refl;
   after =
       ap (λ k. with_parts e store k) opened
-      ∙ ap (with_seen e store (scope_opened scope_kind.Plain scope.0 old)) (seen-opened store scope_kind.Plain scope.0 old.frames);
+      ∙ ap (with_seen e store (with_open_scope scope_kind.Plain scope.0 old)) (seen-opened store scope_kind.Plain scope.0 old.frames);
 }
 accepted-open e store old new scope_kind.Escapable scope fresh opened = record {
   fresh = fresh;
   reply = refl;
   after =
       ap (λ k. with_parts e store k) opened
-      ∙ ap (with_seen e store (scope_opened scope_kind.Escapable scope.0 old)) (seen-opened store scope_kind.Escapable scope.0 old.frames);
+      ∙ ap (with_seen e store (with_open_scope scope_kind.Escapable scope.0 old)) (seen-opened store scope_kind.Escapable scope.0 old.frames);
 }
 
 -- what a call on scopes answers whose first refusal is known
@@ -68,8 +68,8 @@ by-refusal e store old new c s none why same =
     let first : Some s ≡ timely_refusal (with_parts e store old) c = sym why ∙ ap (λ o. option_or o (refusal_in e.texts (heap_of store old) c)) (sym none) in
     record {
       fresh = refl;
-      reply = ap (λ (o : Option Status). (answer_given (with_parts e store old) c 0 o).reply) first;
-      after = ap (λ k. with_parts e store k) same ∙ ap (λ (o : Option Status). (answer_given (with_parts e store old) c 0 o).after) first;
+      reply = ap (λ (o : Option Status). (answer_unless (with_parts e store old) c 0 o).reply) first;
+      after = ap (λ k. with_parts e store k) same ∙ ap (λ (o : Option Status). (answer_unless (with_parts e store old) c 0 o).after) first;
     }
 
 -- a close that is refused answers why, and leaves all as it was
@@ -83,13 +83,13 @@ refused-close e store old new scope_kind.Escapable scope s h same =
 
 -- what a close answers that nothing refuses
 by-close : (e : Environment) (store : StoreState) (old new : HandleScopes) (c : Call)
-    → reference_refusal e.references c ≡ None → refusal_in e.texts (heap_of store old) c ≡ None → accepted_by (with_parts e store old) c 0 ≡ in_heap (with_parts e store old) (answered out.Nothing (in_scopes close_in (heap_of store old))) → new ≡ scope_closed old
+    → reference_refusal e.references c ≡ None → refusal_in e.texts (heap_of store old) c ≡ None → effect (with_parts e store old) c 0 ≡ in_heap (with_parts e store old) (accepts out.Nothing (in_scopes close_in (heap_of store old))) → new ≡ without_innermost_scope old
     → AnswersInTime (with_parts e store old) c (plain status.Ok out.Nothing) (with_parts e store new)
 by-close e store old new c none why is closed =
     let env : Environment = with_parts e store old in
     let first : timely_refusal env c ≡ None = ap (λ o. option_or o (refusal_in e.texts (heap_of store old) c)) none ∙ why in
-    let answer : answer_given env c 0 (timely_refusal env c) ≡ in_heap env (answered out.Nothing (in_scopes close_in (heap_of store old))) =
-    ap (answer_given env c 0) first ∙ is in
+    let answer : answer_unless env c 0 (timely_refusal env c) ≡ in_heap env (accepts out.Nothing (in_scopes close_in (heap_of store old))) =
+    ap (answer_unless env c 0) first ∙ is in
     record {
       fresh = refl;
       reply = ap (λ (a : Answer Environment). a.reply) (sym answer);
@@ -101,7 +101,7 @@ by-close e store old new c none why is closed =
 
 -- one that is accepted closes the innermost scope
 pub accepted-close : (e : Environment) (store : StoreState) (old new : HandleScopes) (kind : ScopeKind) (scope : ScopeId)
-    → None ≡ closing scope.0 kind (opened_scopes old.frames) → new ≡ scope_closed old
+    → None ≡ closing scope.0 kind (opened_scopes old.frames) → new ≡ without_innermost_scope old
     → AnswersInTime (with_parts e store old) (closing_call kind scope) (plain status.Ok out.Nothing) (with_parts e store new)
 accepted-close e store old new scope_kind.Plain scope h closed =
     by-close e store old new (call.CloseHandleScope scope) refl (closing-seen store scope.0 scope_kind.Plain old.frames ∙ sym h) refl closed
@@ -135,7 +135,7 @@ refused-escape e store old new scope h v s given why same =
 
 -- one that is accepted gives the next handle to the scope outside
 pub accepted-escape : (e : Environment) (store : StoreState) (old new : HandleScopes) (scope : ScopeId) (h made : HandleId) (v : ℕ)
-    → Some v ≡ gives old.frames h.0 → None ≡ escaping scope.0 (opened_scopes old.frames) → made.0 ≡ old.handles + 1 → new ≡ handle_escaped scope.0 v old
+    → Some v ≡ gives old.frames h.0 → None ≡ escaping scope.0 (opened_scopes old.frames) → made.0 ≡ old.handles + 1 → new ≡ with_escaped_handle scope.0 v old
     → AnswersInTime (with_parts e store old) (call.EscapeHandle scope h) (plain status.Ok (out.Handle made)) (with_parts e store new)
 accepted-escape e store old new scope h made v given why next escaped =
     let heap : Heap = heap_of store old in
@@ -144,20 +144,20 @@ accepted-escape e store old new scope h made v given why next escaped =
     escape-refusal e.texts heap scope h true (ap is_some known) ∙ escaping-seen store scope.0 old.frames ∙ sym why in
     let value : handle_value heap h.0 ≡ number_in store v = ap (λ o. unwrap_or o undefined_value) known in
     let env : Environment = with_parts e store old in
-    let given_handle : ℕ → Answer Environment = λ n. in_heap env (answered (out.Handle (record { 0 = old.handles + 1 })) (with_escaped scope.0 n heap)) in
-    let answer : answer_given env (call.EscapeHandle scope h) 0 (refusal_in e.texts heap (call.EscapeHandle scope h)) ≡ given_handle (number_in store v) =
-    ap (answer_given env (call.EscapeHandle scope h) 0) none ∙ ap given_handle value in
+    let given_handle : ℕ → Answer Environment = λ n. in_heap env (accepts (out.Handle (record { 0 = old.handles + 1 })) (with_escaped scope.0 n heap)) in
+    let answer : answer_unless env (call.EscapeHandle scope h) 0 (refusal_in e.texts heap (call.EscapeHandle scope h)) ≡ given_handle (number_in store v) =
+    ap (answer_unless env (call.EscapeHandle scope h) 0) none ∙ ap given_handle value in
     record {
       fresh = refl;
       reply = ap (λ n. plain status.Ok (out.Handle (record { 0 = n }))) next ∙ ap (λ (a : Answer Environment). a.reply) (sym answer);
       after =
           ap (λ k. with_parts e store k) escaped
-          ∙ ap (with_seen e store (handle_escaped scope.0 v old)) (escaped-seen store scope.0 (record { handle = old.handles + 1; value = v }) old.frames)
+          ∙ ap (with_seen e store (with_escaped_handle scope.0 v old)) (escaped-seen store scope.0 (record { handle = old.handles + 1; value = v }) old.frames)
           ∙ ap (λ (a : Answer Environment). a.after) (sym answer);
     }
 
 -- a scope that opens leaves each frame its scopes, and what they hold live
-pub state-opened : {m : ReferenceMap} (store : StoreState) (old new : HandleScopes) (frame : List Frame) (pending : Option ℕ) (kind : ScopeKind) (n : ℕ) → IsState store old frame pending m → new ≡ scope_opened kind n old → IsState store new frame pending m
+pub state-opened : {m : ReferenceMap} (store : StoreState) (old new : HandleScopes) (frame : List Frame) (pending : Option ℕ) (kind : ScopeKind) (n : ℕ) → IsState store old frame pending m → new ≡ with_open_scope kind n old → IsState store new frame pending m
 state-opened store old new frame pending kind n s opened = rw opened (record {
   live = all-opened (λ p. IsLive store p.value) kind n old.frames s.live;
   frames = length-changed (open_in kind n) old.frames ∙ s.frames;
@@ -167,7 +167,7 @@ state-opened store old new frame pending kind n s opened = rw opened (record {
 })
 
 -- so does a handle that escapes
-pub state-escaped : {m : ReferenceMap} (store : StoreState) (old new : HandleScopes) (frame : List Frame) (pending : Option ℕ) (n h v : ℕ) → IsState store old frame pending m → Some v ≡ gives old.frames h → new ≡ handle_escaped n v old → IsState store new frame pending m
+pub state-escaped : {m : ReferenceMap} (store : StoreState) (old new : HandleScopes) (frame : List Frame) (pending : Option ℕ) (n h v : ℕ) → IsState store old frame pending m → Some v ≡ gives old.frames h → new ≡ with_escaped_handle n v old → IsState store new frame pending m
 state-escaped store old new frame pending n h v s given escaped =
     let p : Held = record { handle = old.handles + 1; value = v } in
     rw escaped (record {
@@ -180,12 +180,12 @@ state-escaped store old new frame pending n h v s given escaped =
 
 -- also where it may be refused
 pub state-escaped-or-not : {A E : Type 0} {m : ReferenceMap} (store : StoreState) (old new : HandleScopes) (frame : List Frame) (pending : Option ℕ) (n h v : ℕ) (r : Result A E)
-    → IsState store old frame pending m → Some v ≡ gives old.frames h → OnOk r (new ≡ handle_escaped n v old) → OnErr r (new ≡ old) → IsState store new frame pending m
+    → IsState store old frame pending m → Some v ≡ gives old.frames h → OnOk r (new ≡ with_escaped_handle n v old) → OnErr r (new ≡ old) → IsState store new frame pending m
 state-escaped-or-not store old new frame pending n h v (Ok x) s given ok err = state-escaped store old new frame pending n h v s given ok
 state-escaped-or-not store old new frame pending n h v (Err x) s given ok err = rw err s
 
 -- a close leaves each frame its scopes, and what they hold live
-pub state-closed : {m : ReferenceMap} (store : StoreState) (old new : HandleScopes) (frame : List Frame) (pending : Option ℕ) → IsState store old frame pending m → new ≡ scope_closed old → IsState store new frame pending m
+pub state-closed : {m : ReferenceMap} (store : StoreState) (old new : HandleScopes) (frame : List Frame) (pending : Option ℕ) → IsState store old frame pending m → new ≡ without_innermost_scope old → IsState store new frame pending m
 state-closed store old new frame pending s closed = rw closed (record {
   live = all-closed (λ p. IsLive store p.value) old.frames s.live;
   frames = length-changed close_in old.frames ∙ s.frames;

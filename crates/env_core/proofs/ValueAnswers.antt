@@ -13,10 +13,10 @@ use Rattle.napi_types.specs.Frames.{caller_of}
 use Rattle.napi_types.specs.Graph.{StoreState, IsLive}
 use Rattle.napi_types.specs.Replies.{Answer}
 use Rattle.napi_types.specs.Environment.{Environment, with_heap, in_heap}
-use Rattle.napi_types.specs.Calls.{accepted_of, answer_by, answer_in, accepted_by, answer_given}
+use Rattle.napi_types.specs.Calls.{addon_effect, heap_answer_unless, heap_answer, effect, answer_unless}
 use Rattle.napi_types.specs.References.{Reference, ReferenceMap}
 use Rattle.napi_types.specs.Refusals.{refusal_in, reference_refusal, timely_refusal}
-use Rattle.napi_types.specs.Changes.{is_fresh, number_of}
+use Rattle.napi_types.specs.Changes.{is_fresh_result, number_of}
 use Rattle.std.specs.Option.{option_or}
 use Rattle.handle_scope.specs.HandleScopes.{HandleScopes}
 use Rattle.env_values.specs.Seen.{seen_frame, heap_of, KeepsValues}
@@ -24,34 +24,34 @@ use Rattle.env_core.specs.Referring.{seen_reference, references_seen, RefersToLi
 use Rattle.env_core.specs.State.{pending_seen, AnswersInTime}
 use Rattle.napi_types.proofs.Answers.{answer_in-keeps}
 
-accepted-any : (addon : ℕ) (heap : Heap) (c : Call) (n : ℕ) → is_value_call c ≡ true → accepted_of addon heap c 0 ≡ accepted_of addon heap c n
+accepted-any : (addon : ℕ) (heap : Heap) (c : Call) (n : ℕ) → is_value_call c ≡ true → addon_effect addon heap c 0 ≡ addon_effect addon heap c n
 accepted-any addon heap call.OpenHandleScope n h = cc
 accepted-any addon heap call.OpenEscapableHandleScope n h = cc
 accepted-any addon heap _ n h = refl
 
-by-any : (addon : ℕ) (heap : Heap) (c : Call) (n : ℕ) (s : Option Status) → is_value_call c ≡ true → answer_by addon heap c 0 s ≡ answer_by addon heap c n s
+by-any : (addon : ℕ) (heap : Heap) (c : Call) (n : ℕ) (s : Option Status) → is_value_call c ≡ true → heap_answer_unless addon heap c 0 s ≡ heap_answer_unless addon heap c n s
 by-any addon heap c n None h = accepted-any addon heap c n h
 by-any addon heap c n (Some s) h = refl
 
 -- the number that a call may be given is not read
-pub answer-any : (texts addon : ℕ) (heap : Heap) (c : Call) (n : ℕ) → is_value_call c ≡ true → answer_in texts addon heap c 0 ≡ answer_in texts addon heap c n
+pub answer-any : (texts addon : ℕ) (heap : Heap) (c : Call) (n : ℕ) → is_value_call c ≡ true → heap_answer texts addon heap c 0 ≡ heap_answer texts addon heap c n
 answer-any texts addon heap c n h = by-any addon heap c n (refusal_in texts heap c) h
 
-accepted-fresh : (e : Environment) (addon : ℕ) (heap : Heap) (c : Call) (n : ℕ) → is_value_call c ≡ true → is_fresh e (accepted_of addon heap c n).reply.out ≡ true
+accepted-fresh : (e : Environment) (addon : ℕ) (heap : Heap) (c : Call) (n : ℕ) → is_value_call c ≡ true → is_fresh_result e (addon_effect addon heap c n).reply.out ≡ true
 accepted-fresh e addon heap call.OpenHandleScope n h = cc
 accepted-fresh e addon heap call.OpenEscapableHandleScope n h = cc
 accepted-fresh e addon heap _ n h = refl
 
-by-fresh : (e : Environment) (addon : ℕ) (heap : Heap) (c : Call) (n : ℕ) (s : Option Status) → is_value_call c ≡ true → is_fresh e (answer_by addon heap c n s).reply.out ≡ true
+by-fresh : (e : Environment) (addon : ℕ) (heap : Heap) (c : Call) (n : ℕ) (s : Option Status) → is_value_call c ≡ true → is_fresh_result e (heap_answer_unless addon heap c n s).reply.out ≡ true
 by-fresh e addon heap c n None h = accepted-fresh e addon heap c n h
 by-fresh e addon heap c n (Some s) h = refl
 
 -- no scope number is told
-pub answer-fresh : (e : Environment) (texts addon : ℕ) (heap : Heap) (c : Call) (n : ℕ) → is_value_call c ≡ true → is_fresh e (answer_in texts addon heap c n).reply.out ≡ true
+pub answer-fresh : (e : Environment) (texts addon : ℕ) (heap : Heap) (c : Call) (n : ℕ) → is_value_call c ≡ true → is_fresh_result e (heap_answer texts addon heap c n).reply.out ≡ true
 answer-fresh e texts addon heap c n h = by-fresh e addon heap c n (refusal_in texts heap c) h
 
 -- such a call answers in the environment what it answers in the heap
-accepted-in_heap : (e : Environment) (c : Call) (n : ℕ) → is_value_call c ≡ true → accepted_by e c n ≡ in_heap e (accepted_of (caller_of e.frames) e.heap c n)
+accepted-in_heap : (e : Environment) (c : Call) (n : ℕ) → is_value_call c ≡ true → effect e c n ≡ in_heap e (addon_effect (caller_of e.frames) e.heap c n)
 accepted-in_heap e (call.Throw h) n v = cc
 accepted-in_heap e (call.ThrowError code message) n v = cc
 accepted-in_heap e call.IsExceptionPending n v = cc
@@ -65,7 +65,7 @@ accepted-in_heap e (call.GetReferenceValue r) n v = cc
 accepted-in_heap e call.Collect n v = cc
 accepted-in_heap e _ n v = refl
 
-given-in_heap : (e : Environment) (c : Call) (n : ℕ) (s : Option Status) → is_value_call c ≡ true → answer_given e c n s ≡ in_heap e (answer_by (caller_of e.frames) e.heap c n s)
+given-in_heap : (e : Environment) (c : Call) (n : ℕ) (s : Option Status) → is_value_call c ≡ true → answer_unless e c n s ≡ in_heap e (heap_answer_unless (caller_of e.frames) e.heap c n s)
 given-in_heap e c n None v = accepted-in_heap e c n v
 given-in_heap e c n (Some s) v = refl
 
@@ -82,30 +82,30 @@ timely-value e c h = ap (λ o. option_or o (refusal_in e.texts e.heap c)) (no-re
 
 -- the reply of such a call, and the heap that it leaves, are the machine's answer in the environment
 pub value-answers : {E : Type 0} (e : Environment) (addon : ℕ) (c : Call) (heap : Heap) (result : Result Reply E) → is_value_call c ≡ true → addon ≡ caller_of e.frames
-    → IfOk result (λ reply. reply ≡ (answer_in e.texts addon e.heap c 0).reply) → OnOk result (heap ≡ (answer_in e.texts addon e.heap c 0).after)
+    → IfOk result (λ reply. reply ≡ (heap_answer e.texts addon e.heap c 0).reply) → OnOk result (heap ≡ (heap_answer e.texts addon e.heap c 0).after)
     → IfOk result (λ reply. AnswersInTime e c reply (with_heap e heap))
 value-answers e addon c heap (Err x) h caller replies leaves = tt
 value-answers e addon c heap (Ok r) h caller replies leaves =
     let n = number_of r.out in
-    let any : answer_in e.texts addon e.heap c 0 ≡ answer_in e.texts (caller_of e.frames) e.heap c n =
-    answer-any e.texts addon e.heap c n h ∙ ap (λ a. answer_in e.texts a e.heap c n) caller in
-    let given : answer_given e c n (timely_refusal e c) ≡ in_heap e (answer_in e.texts (caller_of e.frames) e.heap c n) =
-    ap (answer_given e c n) (timely-value e c h) ∙ given-in_heap e c n (refusal_in e.texts e.heap c) h in
+    let any : heap_answer e.texts addon e.heap c 0 ≡ heap_answer e.texts (caller_of e.frames) e.heap c n =
+    answer-any e.texts addon e.heap c n h ∙ ap (λ a. heap_answer e.texts a e.heap c n) caller in
+    let given : answer_unless e c n (timely_refusal e c) ≡ in_heap e (heap_answer e.texts (caller_of e.frames) e.heap c n) =
+    ap (answer_unless e c n) (timely-value e c h) ∙ given-in_heap e c n (refusal_in e.texts e.heap c) h in
     record {
-      fresh = ap (λ (q : Reply). is_fresh e q.out) replies ∙ answer-fresh e e.texts addon e.heap c 0 h;
+      fresh = ap (λ (q : Reply). is_fresh_result e q.out) replies ∙ answer-fresh e e.texts addon e.heap c 0 h;
       reply = replies ∙ ap (λ (a : Answer Heap). a.reply) any ∙ ap (λ (a : Answer Environment). a.reply) (sym given);
       after = ap (with_heap e) leaves ∙ ap (λ (a : Answer Heap). with_heap e a.after) any ∙ ap (λ (a : Answer Environment). a.after) (sym given);
     }
 
 -- such a call leaves as many frames their scopes
 pub value-frames : {X E : Type 0} (texts addon : ℕ) (c : Call) (store after_store : StoreState) (old new : HandleScopes) (result : Result X E)
-    → OnOk result (heap_of after_store new ≡ (answer_in texts addon (heap_of store old) c 0).after) → OnErr result (heap_of after_store new ≡ heap_of store old)
+    → OnOk result (heap_of after_store new ≡ (heap_answer texts addon (heap_of store old) c 0).after) → OnErr result (heap_of after_store new ≡ heap_of store old)
     → length new.frames ≡ length old.frames
 value-frames texts addon c store after_store old new result leaves stays =
     sym (length-map new.frames (seen_frame after_store)) ∙ seen result leaves stays ∙ length-map old.frames (seen_frame store)
   where
     seen : {X E : Type 0} (result : Result X E)
-        → OnOk result (heap_of after_store new ≡ (answer_in texts addon (heap_of store old) c 0).after) → OnErr result (heap_of after_store new ≡ heap_of store old)
+        → OnOk result (heap_of after_store new ≡ (heap_answer texts addon (heap_of store old) c 0).after) → OnErr result (heap_of after_store new ≡ heap_of store old)
         → length (map (seen_frame after_store) new.frames) ≡ length (map (seen_frame store) old.frames)
     seen (Ok r) leaves stays = ap (λ (h : Heap). length h.scopes) leaves ∙ (answer_in-keeps texts addon (heap_of store old) c 0).depth
     seen (Err x) leaves stays = ap (λ (h : Heap). length h.scopes) stays

@@ -5,7 +5,7 @@ use Rattle.napi_types.specs.declared.entry.Phase.{Phase}
 use Rattle.napi_types.specs.declared.entry.Phase.TheVariants as phase
 use Rattle.napi_types.specs.Environment.{Environment, new_environment}
 use Rattle.napi_types.specs.Room.{Room, journal_room, reserved_journal, most_entries}
-use Rattle.napi_types.specs.Changes.{Change, opened, gone, in_phase}
+use Rattle.napi_types.specs.Changes.{Change, opening_change, gone_change, in_phase}
 use Rattle.env_core.specs.Journal.{Pages}
 
 -- the environment, its journal, the journal's limit, and the length of the history as it was noted last
@@ -16,18 +16,18 @@ pub record Core : Type 0 where
   pub position : ℕ
 
 -- a change of the environment leaves its entry in the journal
-abbrev pub wrote : Change → Core → Core
-wrote c core = record core { env = c.after; journal = core.journal ++ record { at = core.position; entry = c.entry } ∷ [] }
+abbrev pub after_change : Change → Core → Core
+after_change c core = record core { env = c.after; journal = core.journal ++ record { at = core.position; entry = c.entry } ∷ [] }
 
 -- a core as it opens
 abbrev pub opened_core : ℕ → ℕ → ℕ → Core
 opened_core addons texts limit =
-    wrote (opened (new_environment addons texts)) (record { env = new_environment addons texts; journal = []; limit = limit; position = 0 })
+    after_change (opening_change (new_environment addons texts)) (record { env = new_environment addons texts; journal = []; limit = limit; position = 0 })
 
 -- a phase starts at an event of the hub, after which the history has that length; the last one starts at an entry of its own
-abbrev pub advanced : Phase → ℕ → Core → Core
-advanced phase.Gone position core = wrote (gone core.env) core
-advanced p position core = record core { env = in_phase p core.env; position = position }
+abbrev pub after_phase : Phase → ℕ → Core → Core
+after_phase phase.Gone position core = after_change (gone_change core.env) core
+after_phase p position core = record core { env = in_phase p core.env; position = position }
 
 -- the addon whose init frame is next, where one is to come
 abbrev pub next_init : Environment → Option ℕ

@@ -11,11 +11,11 @@ pub record Pages : Type 0 where
   pub position : ℕ
 
 -- so many places more pass a bound
-abbrev pub passes : Pages → ℕ → ℕ → Type 0
-passes p places bound = bound < length p.entries + p.promised + places
+abbrev pub Exceeds : Pages → ℕ → ℕ → Type 0
+Exceeds p places bound = bound < length p.entries + p.promised + places
 
 -- entries and promised places stay within the limit and have their memory, and so have the first places
-pub record IsKept (entries promised limit capacity : ℕ) : Type 0 where
+pub record FitsJournal (entries promised limit capacity : ℕ) : Type 0 where
   pub within : entries + promised ≤ limit
   pub small : limit ≤ most_entries
   pub memory : entries + promised ≤ capacity

@@ -14,12 +14,12 @@ use Rattle.napi_types.specs.declared.entry.Reply.{Reply}
 use Rattle.napi_types.specs.declared.entry.Target.{Target}
 use Rattle.napi_types.specs.Frames.{Frame}
 use Rattle.napi_types.specs.Environment.{Environment}
-use Rattle.napi_types.specs.Calls.{answer_given, answer}
-use Rattle.napi_types.specs.Changes.{called, number_of, is_fresh}
+use Rattle.napi_types.specs.Calls.{answer_unless, answer}
+use Rattle.napi_types.specs.Changes.{call_change, number_of, is_fresh_result}
 use Rattle.napi_types.specs.Graph.{StoreState, IsLive, number_in}
-use Rattle.napi_types.specs.Entering.{is_entering, entered}
+use Rattle.napi_types.specs.Entering.{is_entering, enter_change}
 use Rattle.napi_types.specs.FunctionCalls.{callee_of, call_gifts, receiver_handle, with_receiver}
-use Rattle.napi_types.specs.Heap.{frame_entered}
+use Rattle.napi_types.specs.Heap.{with_frame}
 use Rattle.napi_types.specs.References.{ReferenceMap}
 use Rattle.napi_types.specs.Refusals.{timely_refusal, refusal}
 use Rattle.napi_types.specs.Replies.{Answer}
@@ -66,13 +66,13 @@ closing_call scope_kind.Escapable scope = call.CloseEscapableHandleScope scope
 
 -- the call's entry is the machine's, with a fresh number where it gives one, and the environment is the one after it
 pub record Calls (old : Environment) (c : Call) (x : Entry) (new : Environment) : Type 0 where
-  pub fresh : IsTrue (is_fresh old x.reply.out)
-  pub entry : x ≡ (called old c (number_of x.reply.out)).entry
-  pub after : new ≡ (called old c (number_of x.reply.out)).after
+  pub fresh : IsTrue (is_fresh_result old x.reply.out)
+  pub entry : x ≡ (call_change old c (number_of x.reply.out)).entry
+  pub after : new ≡ (call_change old c (number_of x.reply.out)).after
 
 -- a reply is the one of this answer, with a fresh number where it gives one, and the environment is what the answer leaves
 pub record AnswersBy (told : ℕ → Answer Environment) (old : Environment) (r : Reply) (new : Environment) : Type 0 where
-  pub fresh : IsTrue (is_fresh old r.out)
+  pub fresh : IsTrue (is_fresh_result old r.out)
   pub reply : r ≡ (told (number_of r.out)).reply
   pub after : new ≡ (told (number_of r.out)).after
 
@@ -82,7 +82,7 @@ Answers old c r new = AnswersBy (answer old c) old r new
 
 -- the same where the call comes at a right moment, so that it is not asked whether it is guarded or registers
 abbrev pub AnswersInTime : Environment → Call → Reply → Environment → Type 0
-AnswersInTime old c r new = AnswersBy (λ n. answer_given old c n (timely_refusal old c)) old r new
+AnswersInTime old c r new = AnswersBy (λ n. answer_unless old c n (timely_refusal old c)) old r new
 
 -- CALLS OF FUNCTIONS
 -- a call that is refused answers at once, as every other call does
@@ -101,8 +101,8 @@ pub record IsAccepted (e : Environment) (receiver : Option HandleId) (f : Handle
 -- one that is accepted enters the frame of the function
 pub record EntersCall (old : Environment) (receiver : Option HandleId) (f : HandleId) (args : Args) (x : Entry) (target : Target) (gifts : List ℕ) (new : Environment) : Type 0 where
   pub called : IsAccepted old receiver f args target gifts
-  pub begun : x ≡ (entered receiver f args old).entry
-  pub after : new ≡ (entered receiver f args old).after
+  pub begun : x ≡ (enter_change receiver f args old).entry
+  pub after : new ≡ (enter_change receiver f args old).after
 
 abbrev pub CallsFunction : Environment → Option HandleId → HandleId → Args → Called → Environment → Type 0
 CallsFunction old receiver f args (called_of.Refused x) new = RefusesCall old (call.CallFunction receiver f args) x new
@@ -110,7 +110,7 @@ CallsFunction old receiver f args (called_of.Entered x target gifts) new = Enter
 
 -- the scopes of the frame that a call begins: a handle of undefined lies in them where the call names no receiver, and this is the receiver's handle
 pub record BeginsScopes (store : StoreState) (old : HandleScopes) (receiver : Option HandleId) (h : HandleId) (new : HandleScopes) : Type 0 where
-  pub heap : heap_of store new ≡ with_receiver receiver (frame_entered (heap_of store old))
+  pub heap : heap_of store new ≡ with_receiver receiver (with_frame (heap_of store old))
   pub frames : length new.frames ≡ length old.frames + 1
   pub calls : new.by_call ≡ true ∷ old.by_call
   pub live : HoldsLive store new

@@ -10,13 +10,13 @@ use Rattle.napi_types.specs.declared.ids.HandleId.{HandleId}
 use Rattle.napi_types.specs.declared.status.Status.{Status}
 use Rattle.napi_types.specs.declared.status.Status.TheVariants as status
 use Rattle.napi_types.specs.Room.{Room, is_full, may_want_memory}
-use Rattle.napi_types.specs.Changes.{Change, called, call_entry, noted, number_of, is_fresh}
-use Rattle.napi_types.specs.Entering.{is_entering, entered}
+use Rattle.napi_types.specs.Changes.{Change, call_change, call_entry, with_noted_status, number_of, is_fresh_result}
+use Rattle.napi_types.specs.Entering.{is_entering, enter_change}
 use Rattle.napi_types.specs.Environment.{Environment}
 use Rattle.napi_types.specs.Replies.{plain}
 use Rattle.env_core.specs.declared.env.Stepped.{Stepped}
 use Rattle.env_core.specs.declared.env.Stepped.TheVariants as stepped
-use Rattle.env_core.specs.Core.{Core, wrote, room_in}
+use Rattle.env_core.specs.Core.{Core, after_change, room_in}
 use Rattle.env_core.specs.State.{IsAccepted}
 
 -- a fact of the reply, where the step is one
@@ -55,15 +55,15 @@ StopsBy room c _ = ⊥
 pub record Replies (old : Core) (c : Call) (r : Reply) (new : Core) : Type 0 where
   pub at_once : is_entering old.env c ≡ false
   pub fits : is_full (room_in old) c ≡ false
-  pub fresh : IsTrue (is_fresh old.env r.out)
-  pub answer : r ≡ (called old.env c (number_of r.out)).entry.reply
-  pub after : new ≡ wrote (called old.env c (number_of r.out)) old
+  pub fresh : IsTrue (is_fresh_result old.env r.out)
+  pub answer : r ≡ (call_change old.env c (number_of r.out)).entry.reply
+  pub after : new ≡ after_change (call_change old.env c (number_of r.out)) old
 
 -- a call of a function is accepted and fits, and the core wrote the begin of the frame that it enters: this entry of this addon, which is given these gifts
 pub record EntersBy (old : Core) (receiver : Option HandleId) (f : HandleId) (args : Args) (target : Target) (gifts : List ℕ) (new : Core) : Type 0 where
   pub called : IsAccepted old.env receiver f args target gifts
   pub fits : is_full (room_in old) (call.CallFunction receiver f args) ≡ false
-  pub after : new ≡ wrote (entered receiver f args old.env) old
+  pub after : new ≡ after_change (enter_change receiver f args old.env) old
 
 -- no other call enters a frame
 abbrev pub Enters : Core → Call → Target → List ℕ → Core → Type 0
@@ -72,9 +72,9 @@ Enters old _ target gifts new = ⊥
 
 -- a call's entry with a status and no result, where the environment is this one; its status is noted and its ask is counted
 abbrev pub refused_call : Core → Call → Status → Environment → Change
-refused_call old c s e = record { entry = call_entry old.env c (plain s out.Nothing); after = noted c s e }
+refused_call old c s e = record { entry = call_entry old.env c (plain s out.Nothing); after = with_noted_status c s e }
 
 -- the reply is this status with no result, and all that changed besides is that this is the environment
 pub record RefusedAs (old : Core) (c : Call) (s : Status) (e : Environment) (r : Reply) (new : Core) : Type 0 where
   pub reply : r ≡ plain s out.Nothing
-  pub after : new ≡ wrote (refused_call old c s e) old
+  pub after : new ≡ after_change (refused_call old c s e) old

@@ -3,16 +3,16 @@ ghost use Rattle.std.specs.Prelude.{◌≡◌, ◌≢◌, ℕ, ◌+◌, ◌-◌,
 ghost use Rattle.napi_types.specs.Room.{is_full, most_entries};
 ghost use Rattle.napi_types.specs.declared.call.Call.TheVariants as call_of;
 ghost use Rattle.napi_types.specs.Built.{is_built, is_calling};
-ghost use Rattle.napi_types.specs.Calls.{at_depth_limit};
-ghost use Rattle.napi_types.specs.Changes.{called, init_begun};
+ghost use Rattle.napi_types.specs.Calls.{with_depth_error};
+ghost use Rattle.napi_types.specs.Changes.{call_change, init_change};
 ghost use Rattle.napi_types.specs.Frames.{asks_made, most_asks};
-ghost use Rattle.napi_types.specs.Ends.{frame_ended};
+ghost use Rattle.napi_types.specs.Ends.{end_change};
 ghost use Rattle.napi_types.specs.Lists.{head};
 ghost use Rattle.napi_types.specs.Numbers.{napi_version};
 ghost use Rattle.napi_types.specs.Refusals.{early_refusal, depth_refusal};
 ghost use Rattle.napi_types.specs.Phases.{next_phase};
-ghost use Rattle.env_core.specs.Standing.{frame_seen};
-ghost use Rattle.env_core.specs.Core.{opened_core, wrote, advanced, next_init, room_in};
+ghost use Rattle.env_core.specs.Standing.{machine_frame};
+ghost use Rattle.env_core.specs.Core.{opened_core, after_change, after_phase, next_init, room_in};
 ghost use Rattle.env_core.specs.Steps.{IfReply, IfEnter, IfStop, Replies, Enters, EntersBy, RefusedAs, StopsBy, IsAtOnce, IsLocal};
 
 use crate::frames::StandingFrame;
@@ -106,7 +106,7 @@ impl EnvCore {
         ensures refused { (s : Status) → early_refusal self.old.env call.now ≡ Some s
             → IfReply result (λ reply. RefusedAs self.old call.now s self.old.env reply self.new) }
         ensures depth_limit { (s : Status) → early_refusal self.old.env call.now ≡ None → depth_refusal self.old.env.frames call.now ≡ Some s
-            → IfReply result (λ reply. RefusedAs self.old call.now s (at_depth_limit self.old.env) reply self.new) }
+            → IfReply result (λ reply. RefusedAs self.old call.now s (with_depth_error self.old.env) reply self.new) }
 
         // A call that stops changes nothing, and says why it stopped.
         ensures stop { IfStop result (λ status. self.new ≡ self.old) }
@@ -197,7 +197,7 @@ impl EnvCore {
         requires alone { self.old.env.frames ≡ [] }
         requires next { addon ≡ self.old.env.inits }
         requires there { addon < self.old.env.addons }
-        ensures { self.new ≡ wrote (init_begun addon self.old.env) self.old }
+        ensures { self.new ≡ after_change (init_change addon self.old.env) self.old }
     {
         let entry = self.state.begin_init();
         self.journal.push(entry);
@@ -210,8 +210,8 @@ impl EnvCore {
     pub fn leave(&mut self, value: Option<HandleId>, cut: Option<Why>) -> Reply
         requires standing { self.old.env.frames ≢ [] }
         requires asks { cut ≡ Some Why.Asks → asks_made self.old.env.frames ≡ most_asks }
-        ensures reply { result ≡ (frame_ended value cut self.old.env).entry.reply }
-        ensures ended { self.new ≡ wrote (frame_ended value cut self.old.env) self.old }
+        ensures reply { result ≡ (end_change value cut self.old.env).entry.reply }
+        ensures ended { self.new ≡ after_change (end_change value cut self.old.env) self.old }
     {
         let entry = self.state.leave(value, cut);
         self.journal.push(entry);
@@ -225,7 +225,7 @@ impl EnvCore {
     pub fn advance(&mut self, phase: Phase, position: u64)
         requires alone { self.old.env.frames ≡ [] }
         requires next { next_phase self.old.env.phase ≡ Some phase }
-        ensures { self.new ≡ advanced phase position self.old }
+        ensures { self.new ≡ after_phase phase position self.old }
     {
         match phase {
             Phase::Gone => {
@@ -248,8 +248,8 @@ impl EnvCore {
 
     /// The innermost frame. The places that the journal owes, the end of each frame among them, are within its limit.
     pub fn frame(&self) -> Option<StandingFrame>
-        ensures frame { option_map frame_seen result ≡ head self.now.env.frames }
-        ensures room { (room_in self.now).taken ≤ self.now.limit }
+        ensures frame { option_map machine_frame result ≡ head self.now.env.frames }
+        ensures room { (room_in self.now).occupied ≤ self.now.limit }
     {
         self.state.frame()
     }
@@ -285,7 +285,7 @@ impl EnvCore {
 
     /// How many places of the journal are left, the reserved ones left aside.
     pub fn room(&self) -> u32
-        ensures { result + (room_in self.now).taken ≡ (room_in self.now).limit }
+        ensures { result + (room_in self.now).occupied ≡ (room_in self.now).limit }
     {
         self.journal.room()
     }

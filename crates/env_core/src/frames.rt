@@ -2,7 +2,7 @@
 ghost use Rattle.std.specs.Prelude.{◌≡◌, ◌<◌, ◌≤◌, [], ◌∷◌, length, IfOk, option_map};
 ghost use Rattle.napi_types.specs.Frames.{most_frames, ask_counted, asks_made, most_asks};
 ghost use Rattle.napi_types.specs.Lists.{head, tail};
-ghost use Rattle.env_core.specs.Standing.{frame_seen};
+ghost use Rattle.env_core.specs.Standing.{machine_frame};
 
 use napi_types::{Cause, NoMemory};
 use std::alloc::Global;
@@ -30,7 +30,7 @@ pub struct Frames {
 impl Model for Frames {
     ghost use Rattle.std.specs.Prelude.{List, map, reverse, vec_capacity};
     ghost use Rattle.napi_types.specs.Frames.{Frame};
-    ghost use Rattle.env_core.specs.Standing.{frame_seen as seen, IsStanding};
+    ghost use Rattle.env_core.specs.Standing.{machine_frame as seen, IsStanding};
 
     ghost Value = { List Frame };
 
@@ -51,7 +51,7 @@ impl Frames {
     /// A frame begins inside the innermost one. It takes no memory.
     pub fn push(&mut self, frame: StandingFrame)
         requires { length self.old < most_frames }
-        ensures { self.new ≡ frame_seen frame ∷ self.old }
+        ensures { self.new ≡ machine_frame frame ∷ self.old }
     {
         self.frames.push_reserved(frame);
     }
@@ -78,7 +78,7 @@ impl Frames {
 
     /// The innermost frame.
     pub fn innermost(&self) -> Option<StandingFrame>
-        ensures { option_map frame_seen result ≡ head self.now }
+        ensures { option_map machine_frame result ≡ head self.now }
     {
         self.frames.last().copied()
     }

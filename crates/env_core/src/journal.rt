@@ -1,7 +1,7 @@
 //! The journal: the entries of the environment's local events, and the places that are promised to further ones.
 ghost use Rattle.std.specs.Prelude.{◌≡◌, ℕ, ◌+◌, ◌-◌, ◌<◌, ◌≤◌, [], ◌∷◌, ◌++◌, length, min, IfOk, OnOk, OnErr, IfErr, ◌↔◌, ◌⊎◌};
 ghost use Rattle.napi_types.specs.Room.{first_places, most_entries};
-ghost use Rattle.env_core.specs.Journal.{passes};
+ghost use Rattle.env_core.specs.Journal.{Exceeds};
 
 use napi_types::{Entry, Listed, Local, LocalList, NoMemory, Status};
 use std::alloc::Global;
@@ -21,7 +21,7 @@ pub struct Journal {
 
 impl Model for Journal {
     ghost use Rattle.std.specs.Prelude.{◌≡◌, ◌+◌, ◌≤◌, length, vec_capacity, min};
-    ghost use Rattle.env_core.specs.Journal.{Pages, IsKept};
+    ghost use Rattle.env_core.specs.Journal.{Pages, FitsJournal};
 
     ghost Value = { Pages };
 
@@ -32,7 +32,7 @@ impl Model for Journal {
       position = journal.position;
     } };
 
-    ghost invariant = { λ journal. IsKept (length journal.entries.items) journal.promised journal.limit (vec_capacity journal.entries) };
+    ghost invariant = { λ journal. FitsJournal (length journal.entries.items) journal.promised journal.limit (vec_capacity journal.entries) };
 }
 
 impl Journal {
@@ -57,10 +57,10 @@ impl Journal {
     pub fn promise(&mut self, places: u32) -> Result<(), Status>
         ensures ok { OnOk result (self.new ≡ record self.old { promised = self.old.promised + places }) }
         ensures err { OnErr result (self.new ≡ self.old) }
-        ensures full { (result ≡ Err Status.TraceFull) ↔ passes self.old places self.old.limit }
+        ensures full { (result ≡ Err Status.TraceFull) ↔ Exceeds self.old places self.old.limit }
         ensures room { OnOk result (length self.old.entries + self.old.promised + places ≤ self.old.limit) }
         ensures cause { IfErr result (λ status. (status ≡ Status.TraceFull) ⊎ (status ≡ Status.NoMemory)) }
-        ensures memory { result ≡ Err Status.NoMemory → passes self.old places (min first_places self.old.limit) }
+        ensures memory { result ≡ Err Status.NoMemory → Exceeds self.old places (min first_places self.old.limit) }
     {
         if self.room() < places {
             return Err(Status::TraceFull);

@@ -2,12 +2,12 @@
 ghost use Rattle.std.specs.Prelude.{◌≡◌, ◌≢◌, ◌+◌, ◌<◌, ◌^◌, [], length, true, false, option_map, Some, None, IfOk, OnErr, IsTrue};
 ghost use Rattle.napi_types.specs.declared.call.Call.TheVariants as call_of;
 ghost use Rattle.napi_types.specs.Built.{is_built, is_calling, is_value_call};
-ghost use Rattle.napi_types.specs.Changes.{opened, init_begun, gone, in_phase, noted, call_entry, host_entry as entry_of, host_told as told_of};
+ghost use Rattle.napi_types.specs.Changes.{opening_change, init_change, gone_change, in_phase, with_noted_status, call_entry, host_entry as entry_of, host_told as told_of};
 ghost use Rattle.napi_types.specs.Environment.{new_environment};
 ghost use Rattle.napi_types.specs.Frames.{caller_of, asks_made, most_asks};
 ghost use Rattle.napi_types.specs.Lists.{head};
 ghost use Rattle.napi_types.specs.Numbers.{napi_version};
-ghost use Rattle.env_core.specs.Standing.{frame_seen};
+ghost use Rattle.env_core.specs.Standing.{machine_frame};
 ghost use Rattle.napi_types.specs.Refusals.{is_known, is_tearing, moment_refusal};
 ghost use Rattle.napi_types.specs.Room.{is_growing};
 ghost use Rattle.napi_types.specs.Values.{most_names};
@@ -103,8 +103,8 @@ impl State {
     /// The opening, which tells the version.
     pub fn open(&mut self, version: u32) -> Entry
         requires { version ≡ napi_version }
-        ensures entry { result ≡ (opened self.old).entry }
-        ensures after { self.new ≡ (opened self.old).after }
+        ensures entry { result ≡ (opening_change self.old).entry }
+        ensures after { self.new ≡ (opening_change self.old).after }
     {
         self.opened = true;
         host_entry(HostStep::Opened, Out::Unsigned(u64::from(version)))
@@ -114,8 +114,8 @@ impl State {
     pub fn begin_init(&mut self) -> Entry
         requires alone { self.old.frames ≡ [] }
         requires there { self.old.inits < self.old.addons }
-        ensures entry { result ≡ (init_begun self.old.inits self.old).entry }
-        ensures after { self.new ≡ (init_begun self.old.inits self.old).after }
+        ensures entry { result ≡ (init_change self.old.inits self.old).entry }
+        ensures after { self.new ≡ (init_change self.old.inits self.old).after }
     {
         prove!(self.inits < self.addons);
         let addon = self.inits;
@@ -151,7 +151,7 @@ impl State {
         requires ask { step ≡ asks_made self.old.frames }
         requires within { step < most_asks }
         ensures entry { result ≡ call_entry self.old call.now reply }
-        ensures after { self.new ≡ noted call.now reply.status self.old }
+        ensures after { self.new ≡ with_noted_status call.now reply.status self.old }
     {
         let depth = self.frames.depth();
         self.note(call, reply.status);
@@ -185,7 +185,7 @@ impl State {
 
     /// The innermost frame.
     pub fn frame(&self) -> Option<StandingFrame>
-        ensures { option_map frame_seen result ≡ head self.now.frames }
+        ensures { option_map machine_frame result ≡ head self.now.frames }
     {
         self.frames.innermost()
     }
@@ -338,7 +338,7 @@ impl State {
     /// Notes a call's status as the last one, unless the call asks for the last one, and counts its ask.
     fn note(&mut self, call: &Call, status: Status)
         requires { asks_made self.old.frames < most_asks }
-        ensures { self.new ≡ noted call.now status self.old }
+        ensures { self.new ≡ with_noted_status call.now status self.old }
     {
         if !matches!(call, Call::GetLastErrorInfo) {
             self.exceptions.note(status);
@@ -348,8 +348,8 @@ impl State {
 
     /// The environment is gone.
     pub fn gone(&mut self) -> Entry
-        ensures entry { result ≡ (gone self.old).entry }
-        ensures after { self.new ≡ (gone self.old).after }
+        ensures entry { result ≡ (gone_change self.old).entry }
+        ensures after { self.new ≡ (gone_change self.old).after }
     {
         self.phase = Phase::Gone;
         host_entry(HostStep::Gone, Out::Nothing)

@@ -10,101 +10,101 @@ use Rattle.napi_types.specs.declared.entry.Reply.{Reply}
 use Rattle.napi_types.specs.declared.entry.Target.{Target}
 use Rattle.napi_types.specs.declared.entry.Out.{Out}
 use Rattle.napi_types.specs.declared.ids.HandleId.{HandleId}
-use Rattle.napi_types.specs.Built.{taken}
-use Rattle.napi_types.specs.Changes.{Change, number_of, is_fresh, called}
-use Rattle.napi_types.specs.Entering.{entered, asked_for}
+use Rattle.napi_types.specs.Built.{built_ask}
+use Rattle.napi_types.specs.Changes.{Change, number_of, is_fresh_result, call_change}
+use Rattle.napi_types.specs.Entering.{enter_change, asked_change}
 use Rattle.napi_types.specs.Frames.{Frame, most_asks}
 use Rattle.napi_types.specs.FunctionCalls.{callee_of, call_gifts}
 use Rattle.napi_types.specs.Lists.{tail}
 use Rattle.napi_types.specs.Machine.{Machine}
 use Rattle.napi_types.specs.Phases.{stage_of}
-use Rattle.napi_types.specs.Plan.{Plan, plan_of, kept_in_frames, gifts_given, given_by, Registers, registers_of}
+use Rattle.napi_types.specs.Plan.{Plan, plan_of, caller_after_reply, with_addon_gifts, with_callee_gifts, Registers, registers_of}
 use Rattle.napi_types.specs.Refusals.{early_refusal, depth_refusal}
-use Rattle.napi_types.specs.Registers.{kept, gifted}
+use Rattle.napi_types.specs.Registers.{registers_after_reply, with_gifts}
 use Rattle.napi_types.specs.Room.{room_of, is_full, need}
 use Rattle.napi_types.specs.Step.{locally}
 use Rattle.addon_trait.specs.Addons.{OthersStay}
-use Rattle.env_core.specs.Core.{Core, wrote}
+use Rattle.env_core.specs.Core.{Core, after_change}
 use Rattle.env_core.specs.Steps.{Replies, EntersBy, Enters}
 use Rattle.env_loop.specs.Recording.{machine_of, Continues}
-use Rattle.env_loop.specs.Runs.{IsSound}
+use Rattle.env_loop.specs.Runs.{IsSoundEnvironment}
 use Rattle.env_loop.specs.Turns.{IsTold, IsTurn}
 use Rattle.napi_types.proofs.Answers.{course-parts, called-keeps}
-use Rattle.napi_types.proofs.FrameChanges.{entered-keeps, asked_for-called, asked_for-entered, KeepsButFrames, asked_for-fits}
+use Rattle.napi_types.proofs.FrameChanges.{enter_change-keeps, asked_change-call_change, asked_change-enter_change, KeepsButFrames, asked_change-fits}
 use Rattle.napi_types.proofs.Owners.{callee-owned}
 use Rattle.env_loop.proofs.Recordings.{local-grown}
-use Rattle.env_loop.proofs.Steps.{reply-uncut, taken-built, taken-asked, call-next, same-room}
+use Rattle.env_loop.proofs.Steps.{reply-uncut, built_ask-built, built_ask-asked, call-next, same-room}
 use Rattle.env_loop.proofs.Frames.{InFrame, in-stands, in-calls, sound-asked}
-use Rattle.env_loop.proofs.Registers.{agrees-gifted, agrees-set, Kept, told-others, asked-in, kept-in}
-use Rattle.env_loop.proofs.Turns.{wrote-turn}
+use Rattle.env_loop.proofs.Registers.{agrees-with_gifts, agrees-set, Kept, told-others, asked-in, registers_after_reply-in}
+use Rattle.env_loop.proofs.Turns.{after_change-turn}
 
 -- A REPLY
-called-goes : {ps : List Plan} {core : Core} {all : Registers} {f : Frame} {a : Ask} → InFrame ps core.env all f a
+call_change-goes : {ps : List Plan} {core : Core} {all : Registers} {f : Frame} {a : Ask} → InFrame ps core.env all f a
     → (c : Call) (r : Reply) (new : Core) (now : Registers) → f.asks < most_asks
-    → ask.Do c ≡ taken a → Replies core c r new → IsTold ps all core.env.frames r now
-    → Continues ps core all (wrote (called core.env c (number_of r.out)) core) now
-called-goes {ps} {core} {all} {f} {a} i c r new now below made reply told = λ s history of rec.
+    → ask.Do c ≡ built_ask a → Replies core c r new → IsTold ps all core.env.frames r now
+    → Continues ps core all (after_change (call_change core.env c (number_of r.out)) core) now
+call_change-goes {ps} {core} {all} {f} {a} i c r new now below made reply told = λ s history of rec.
     let k : ℕ = number_of r.out in
-    let change : Change = called core.env c k in
+    let change : Change = call_change core.env c k in
     let m : Machine = machine_of s.limits core history in
     let o : Out = change.entry.reply.out in
     let same_out : r.out ≡ o = ap (λ (x : Reply). x.out) reply.answer in
     let number : number_of o ≡ k = ap number_of (sym same_out) in
-    let fresh_o : is_fresh core.env o ≡ true = ap (is_fresh core.env) (sym same_out) ∙ reply.fresh in
-    let room : is_full (room_of m c) c ≡ false = ap (λ x. is_full x c) (sym (same-room s core history c (taken-built a c made) rec.limit)) ∙ reply.fits in
+    let fresh_o : is_fresh_result core.env o ≡ true = ap (is_fresh_result core.env) (sym same_out) ∙ reply.fresh in
+    let room : is_full (room_of m c) c ≡ false = ap (λ x. is_full x c) (sym (same-room s core history c (built_ask-built a c made) rec.limit)) ∙ reply.fits in
     let told_here : IsTold ps all core.env.frames change.entry.reply now = subst (λ (x : Reply). IsTold ps all core.env.frames x now) reply.answer told in
-    let next : Kept s.plans now (kept_in_frames s.plans rec.own core.env.frames change.entry.reply) =
-    kept-in s ps core history all now core.env.frames change.entry.reply of rec i.sound.owned.frames told_here in
-    local-grown s core history all rec a change (kept_in_frames s.plans rec.own core.env.frames change.entry.reply) now
+    let next : Kept s.plans now (caller_after_reply s.plans rec.own core.env.frames change.entry.reply) =
+    registers_after_reply-in s ps core history all now core.env.frames change.entry.reply of rec i.sound.owned.frames told_here in
+    local-grown s core history all rec a change (caller_after_reply s.plans rec.own core.env.frames change.entry.reply) now
     (call-next m a c o k f (tail core.env.frames) (in-stands i) made (reply-uncut core.env c k (early_refusal core.env c) (depth_refusal core.env.frames c)) number
     (in-calls i below) fresh_o room
-    ∙ ap (λ x. locally m x true) (asked_for-called core.env c k reply.at_once))
+    ∙ ap (λ x. locally m x true) (asked_change-call_change core.env c k reply.at_once))
     refl (asked-in i s history of rec) refl next.count next.agrees
-    (ap stage_of (course-parts core.env (called core.env c k).after (called-keeps core.env c k).course).phase)
+    (ap stage_of (course-parts core.env (call_change core.env c k).after (called-keeps core.env c k).course).phase)
 
 -- a turn of a call, which comes to this change
 asked-turn : {ps : List Plan} {core : Core} {all : Registers} {f : Frame} {a : Ask} → InFrame ps core.env all f a
     → (c : Call) (n : ℕ) (change : Change) (new : Core) (now : Registers)
-    → f.asks < most_asks → asked_for core.env c n ≡ change → new ≡ wrote change core → drop core.env.addons now ≡ drop core.env.addons all
-    → Continues ps core all (wrote change core) now → IsTurn ps core all new now
+    → f.asks < most_asks → asked_change core.env c n ≡ change → new ≡ after_change change core → drop core.env.addons now ≡ drop core.env.addons all
+    → Continues ps core all (after_change change core) now → IsTurn ps core all new now
 asked-turn {ps} {core} {all} {f} {a} i c n change new now below same made others goes =
-    let k : KeepsButFrames core.env (asked_for core.env c n).after (need c) = asked_for-fits core.env c n in
-    let course = course-parts core.env (asked_for core.env c n).after k.course in
-    let Q : Change → Type 0 = λ x. Continues ps core all (wrote x core) now in
-    wrote-turn ps core new all now (asked_for core.env c n) (made ∙ ap (λ x. wrote x core) (sym same)) others (sound-asked i below c n) course.addons (ap stage_of course.phase) (subst Q (sym same) goes)
+    let k : KeepsButFrames core.env (asked_change core.env c n).after (need c) = asked_change-fits core.env c n in
+    let course = course-parts core.env (asked_change core.env c n).after k.course in
+    let Q : Change → Type 0 = λ x. Continues ps core all (after_change x core) now in
+    after_change-turn ps core new all now (asked_change core.env c n) (made ∙ ap (λ x. after_change x core) (sym same)) others (sound-asked i below c n) course.addons (ap stage_of course.phase) (subst Q (sym same) goes)
 
 pub replied-turn : (ps : List Plan) (core new : Core) (all now : Registers) (f : Frame) (a : Ask) (c : Call) (r : Reply) → InFrame ps core.env all f a
-    → f.asks < most_asks → ask.Do c ≡ taken a
+    → f.asks < most_asks → ask.Do c ≡ built_ask a
     → Replies core c r new → OthersStay all now f.addon
-    → IfSome (plan_of ps f.addon) (λ p. registers_of now f.addon ≡ kept p (registers_of all f.addon) f.entry f.asks r)
+    → IfSome (plan_of ps f.addon) (λ p. registers_of now f.addon ≡ registers_after_reply p (registers_of all f.addon) f.entry f.asks r)
     → IsTurn ps core all new now
 replied-turn ps core new all now f a c r i below made reply others keeps =
     let k : ℕ = number_of r.out in
     let told : IsTold ps all core.env.frames r now = subst (λ (l : List Frame). IsTold ps all l r now) (sym (in-stands i)) (others, keeps) in
-    asked-turn i c k (called core.env c k) new now below (asked_for-called core.env c k reply.at_once) reply.after
-    (told-others core.env.addons ps all now core.env.frames r i.sound.owned.frames told) (called-goes i c r new now below made reply told)
+    asked-turn i c k (call_change core.env c k) new now below (asked_change-call_change core.env c k reply.at_once) reply.after
+    (told-others core.env.addons ps all now core.env.frames r i.sound.owned.frames told) (call_change-goes i c r new now below made reply told)
 
 -- A FRAME IS ENTERED
 -- the registers of an addon that was given its gifts, and those of the others
-given-there : (all now : Registers) (i : ℕ) (gifts : List ℕ) → i < length all → now ≡ gifts_given all i gifts
-    → registers_of now i ≡ gifted gifts (registers_of all i)
-given-there all now i gifts inside e = ap (λ l. registers_of l i) e ∙ get_or-set_same all i (gifted gifts (registers_of all i)) [] inside
+given-there : (all now : Registers) (i : ℕ) (gifts : List ℕ) → i < length all → now ≡ with_addon_gifts all i gifts
+    → registers_of now i ≡ with_gifts gifts (registers_of all i)
+given-there all now i gifts inside e = ap (λ l. registers_of l i) e ∙ get_or-set_same all i (with_gifts gifts (registers_of all i)) [] inside
 
-others-given : (all now : Registers) (i : ℕ) (gifts : List ℕ) → i < length all → now ≡ gifts_given all i gifts → OthersStay all now i
+others-given : (all now : Registers) (i : ℕ) (gifts : List ℕ) → i < length all → now ≡ with_addon_gifts all i gifts → OthersStay all now i
 others-given all now i gifts inside e = e ∙ ap (λ v. set all i v) (sym (given-there all now i gifts inside e))
 
 -- what was given, where the registers are those of before
-pub given-from : (all mid now : Registers) (i : ℕ) (gifts : List ℕ) → mid ≡ all → now ≡ gifts_given mid i gifts → now ≡ gifts_given all i gifts
-given-from all mid now i gifts registers given = given ∙ ap (λ x. gifts_given x i gifts) registers
+pub given-from : (all mid now : Registers) (i : ℕ) (gifts : List ℕ) → mid ≡ all → now ≡ with_addon_gifts mid i gifts → now ≡ with_addon_gifts all i gifts
+given-from all mid now i gifts registers given = given ∙ ap (λ x. with_addon_gifts x i gifts) registers
 
-entered-goes : {ps : List Plan} {core : Core} {all : Registers} {f : Frame} {a : Ask} → InFrame ps core.env all f a
+enter_change-goes : {ps : List Plan} {core : Core} {all : Registers} {f : Frame} {a : Ask} → InFrame ps core.env all f a
     → (receiver : Option HandleId) (g : HandleId) (args : Args) (target : Target)
-    (gifts : List ℕ) (new : Core) (now : Registers) → f.asks < most_asks → ask.Do (call.CallFunction receiver g args) ≡ taken a → EntersBy core receiver g args target gifts new
-    → core.env.addons ≤ length all → now ≡ gifts_given all (callee_of core.env.heap g).addon (call_gifts core.env.heap receiver g args)
-    → Continues ps core all (wrote (entered receiver g args core.env) core) now
-entered-goes {ps} {core} {all} {f} {a} e receiver g args target given_gifts new now below made enters enough given = λ s history of rec.
+    (gifts : List ℕ) (new : Core) (now : Registers) → f.asks < most_asks → ask.Do (call.CallFunction receiver g args) ≡ built_ask a → EntersBy core receiver g args target gifts new
+    → core.env.addons ≤ length all → now ≡ with_addon_gifts all (callee_of core.env.heap g).addon (call_gifts core.env.heap receiver g args)
+    → Continues ps core all (after_change (enter_change receiver g args core.env) core) now
+enter_change-goes {ps} {core} {all} {f} {a} e receiver g args target given_gifts new now below made enters enough given = λ s history of rec.
     let c : Call = call.CallFunction receiver g args in
-    let change : Change = entered receiver g args core.env in
+    let change : Change = enter_change receiver g args core.env in
     let m : Machine = machine_of s.limits core history in
     let room : is_full (room_of m c) c ≡ false = ap (λ x. is_full x c) (sym (same-room s core history c refl rec.limit)) ∙ enters.fits in
     let i : ℕ = (callee_of core.env.heap g).addon in
@@ -112,41 +112,41 @@ entered-goes {ps} {core} {all} {f} {a} e receiver g args target given_gifts new 
     let callee : i < core.env.addons = callee-owned core.env.addons core.env receiver g args enters.called.accepted e.sound.owned in
     let inside : i < length s.plans = omega (arith, of.count, callee) in
     let there : i < length all = omega (arith, callee, enough) in
-    let v : List ℕ = gifted gifts (registers_of rec.own i) in
+    let v : List ℕ = with_gifts gifts (registers_of rec.own i) in
     local-grown s core history all rec a change (set rec.own i v) now
     (call-next m a c change.entry.reply.out 0 f (tail core.env.frames) (in-stands e) made refl refl (in-calls e below) refl room
-    ∙ ap (λ x. locally m x true) (asked_for-entered core.env receiver g args 0 enters.called.accepted))
+    ∙ ap (λ x. locally m x true) (asked_change-enter_change core.env receiver g args 0 enters.called.accepted))
     refl (asked-in e s history of rec)
-    (ap (λ b. given_by rec.own core.env.heap b) (taken-asked a c made))
+    (ap (λ b. with_callee_gifts rec.own core.env.heap b) (built_ask-asked a c made))
     (length-set rec.own i v ∙ rec.count)
     (agrees-set s.plans all now rec.own i v rec.count rec.agrees (others-given all now i gifts there given)
-    (agrees-gifted (plan_of s.plans i) gifts (registers_of all i) (registers_of rec.own i) (registers_of now i) (rec.agrees i inside) (given-there all now i gifts there given)))
-    (ap stage_of (course-parts core.env (entered receiver g args core.env).after (entered-keeps receiver g args core.env).course).phase)
+    (agrees-with_gifts (plan_of s.plans i) gifts (registers_of all i) (registers_of rec.own i) (registers_of now i) (rec.agrees i inside) (given-there all now i gifts there given)))
+    (ap stage_of (course-parts core.env (enter_change receiver g args core.env).after (enter_change-keeps receiver g args core.env).course).phase)
 
 entering-turn : {ps : List Plan} {core : Core} {all : Registers} {f : Frame} {a : Ask} → InFrame ps core.env all f a
     → (receiver : Option HandleId) (g : HandleId) (args : Args) (target : Target)
-    (gifts : List ℕ) (new : Core) (now : Registers) → f.asks < most_asks → ask.Do (call.CallFunction receiver g args) ≡ taken a → EntersBy core receiver g args target gifts new
-    → core.env.addons ≤ length all → now ≡ gifts_given all target.addon gifts → IsTurn ps core all new now
+    (gifts : List ℕ) (new : Core) (now : Registers) → f.asks < most_asks → ask.Do (call.CallFunction receiver g args) ≡ built_ask a → EntersBy core receiver g args target gifts new
+    → core.env.addons ≤ length all → now ≡ with_addon_gifts all target.addon gifts → IsTurn ps core all new now
 entering-turn {ps} {core} {all} {f} {a} e receiver g args target gifts new now below made enters enough given =
     let i : ℕ = (callee_of core.env.heap g).addon in
     let own : List ℕ = call_gifts core.env.heap receiver g args in
     let callee : i < core.env.addons = callee-owned core.env.addons core.env receiver g args enters.called.accepted e.sound.owned in
-    let given_there : now ≡ gifts_given all i own = given ∙ ap (λ n. gifts_given all n gifts) enters.called.addon
-    ∙ ap (λ l. gifts_given all i l) enters.called.gifts_are in
-    asked-turn e (call.CallFunction receiver g args) 0 (entered receiver g args core.env) new now below (asked_for-entered core.env receiver g args 0 enters.called.accepted) enters.after
-    (ap (drop core.env.addons) given_there ∙ drop-set-lt core.env.addons all i (gifted own (registers_of all i)) callee)
-    (entered-goes e receiver g args target gifts new now below made enters enough given_there)
+    let given_there : now ≡ with_addon_gifts all i own = given ∙ ap (λ n. with_addon_gifts all n gifts) enters.called.addon
+    ∙ ap (λ l. with_addon_gifts all i l) enters.called.gifts_are in
+    asked-turn e (call.CallFunction receiver g args) 0 (enter_change receiver g args core.env) new now below (asked_change-enter_change core.env receiver g args 0 enters.called.accepted) enters.after
+    (ap (drop core.env.addons) given_there ∙ drop-set-lt core.env.addons all i (with_gifts own (registers_of all i)) callee)
+    (enter_change-goes e receiver g args target gifts new now below made enters enough given_there)
 
-pub entered-turn : (ps : List Plan) (core new : Core) (all now : Registers) (f : Frame) (a : Ask) (c : Call) (target : Target) (gifts : List ℕ)
+pub enter_change-turn : (ps : List Plan) (core new : Core) (all now : Registers) (f : Frame) (a : Ask) (c : Call) (target : Target) (gifts : List ℕ)
     → InFrame ps core.env all f a
-    → core.env.addons ≤ length all → f.asks < most_asks → ask.Do c ≡ taken a → Enters core c target gifts new → now ≡ gifts_given all target.addon gifts
+    → core.env.addons ≤ length all → f.asks < most_asks → ask.Do c ≡ built_ask a → Enters core c target gifts new → now ≡ with_addon_gifts all target.addon gifts
     → IsTurn ps core all new now
-entered-turn ps core new all now f a (call.CallFunction receiver g args) target gifts i enough below made enters given =
+enter_change-turn ps core new all now f a (call.CallFunction receiver g args) target gifts i enough below made enters given =
     entering-turn i receiver g args target gifts new now below made enters enough given
-entered-turn ps core new all now f a c target gifts i enough below made enters given = absurd enters
+enter_change-turn ps core new all now f a c target gifts i enough below made enters given = absurd enters
 
 -- the addon whose frame a call enters is there
-pub target-there : (core : Core) (c : Call) (target : Target) (gifts : List ℕ) (new : Core) → IsSound core.env → Enters core c target gifts new
+pub target-there : (core : Core) (c : Call) (target : Target) (gifts : List ℕ) (new : Core) → IsSoundEnvironment core.env → Enters core c target gifts new
     → target.addon < core.env.addons
 target-there core (call.CallFunction receiver g args) target gifts new sound enters =
     let callee : (callee_of core.env.heap g).addon < core.env.addons = callee-owned core.env.addons core.env receiver g args enters.called.accepted sound.owned in

@@ -8,9 +8,9 @@ use Rattle.napi_types.specs.declared.entry.Why.{Why}
 use Rattle.napi_types.specs.declared.entry.Why.TheVariants as why
 use Rattle.napi_types.specs.declared.status.Status.{Status}
 use Rattle.napi_types.specs.declared.status.Status.TheVariants as status
-use Rattle.napi_types.specs.Built.{taken}
+use Rattle.napi_types.specs.Built.{built_ask}
 use Rattle.napi_types.specs.Changes.{may_call}
-use Rattle.napi_types.specs.Ends.{frame_ended}
+use Rattle.napi_types.specs.Ends.{end_change}
 use Rattle.napi_types.specs.Frames.{Frame, asks_made, most_asks}
 use Rattle.napi_types.specs.Lists.{head, tail}
 use Rattle.napi_types.specs.Plan.{Plan, plan_of, Registers, registers_of}
@@ -18,37 +18,37 @@ use Rattle.napi_types.specs.Registers.{plan_ask}
 use Rattle.napi_types.specs.Room.{Room, room_of, is_full, may_want_memory}
 use Rattle.napi_types.specs.Step.{may_cut}
 use Rattle.napi_types.specs.Whole.{Setting}
-use Rattle.env_core.specs.Core.{Core, wrote, room_in}
+use Rattle.env_core.specs.Core.{Core, after_change, room_in}
 use Rattle.env_core.specs.Steps.{StopsBy}
 use Rattle.env_loop.specs.Recording.{machine_of, why_stopped}
-use Rattle.env_loop.specs.Runs.{IsSound}
+use Rattle.env_loop.specs.Runs.{IsSoundEnvironment}
 use Rattle.env_loop.specs.Turns.{IsAsked, IsTurn}
 use Rattle.napi_types.proofs.FrameEnds.{ended-ends}
-use Rattle.env_loop.proofs.Steps.{two_may, both_may, taken-built, cut-next, same-room}
+use Rattle.env_loop.proofs.Steps.{two_may, both_may, built_ask-built, cut-next, same-room}
 use Rattle.env_loop.proofs.Frames.{InFrame, in-stands, in-calls}
 use Rattle.env_loop.proofs.Registers.{told-from}
 use Rattle.env_loop.proofs.Ends.{callers_of, IsToldEnd, ended-turn}
 
 -- the frame may be cut so, in every script of these addons
 abbrev MayCut : Core → Ask → Why → Type 0
-MayCut core a w = (s : Setting) (history : List Entry) → core.limit ≡ s.limits.journal → may_cut (machine_of s.limits core history) (taken a) w ≡ true
+MayCut core a w = (s : Setting) (history : List Entry) → core.limit ≡ s.limits.journal → may_cut (machine_of s.limits core history) (built_ask a) w ≡ true
 
 cut-turn : {ps : List Plan} {core : Core} {all : Registers} {f : Frame} {a : Ask} → InFrame ps core.env all f a → (w : Why) (new : Core) (now : Registers)
     → MayCut core a w
-    → new ≡ wrote (frame_ended None (Some w) core.env) core → IsToldEnd ps all core.env None (Some w) now → IsTurn ps core all new now
+    → new ≡ after_change (end_change None (Some w) core.env) core → IsToldEnd ps all core.env None (Some w) now → IsTurn ps core all new now
 cut-turn {ps} {core} {all} {f} {a} i w new now may made told =
     ended-turn i None (Some w) new now
-    (λ s history limit. cut-next (machine_of s.limits core history) a w (frame_ended None (Some w) core.env).entry.reply.out f (tail core.env.frames) (in-stands i)
+    (λ s history limit. cut-next (machine_of s.limits core history) a w (end_change None (Some w) core.env).entry.reply.out f (tail core.env.frames) (in-stands i)
     (ended-ends None (Some w) core.env).told (may s history limit)) made told
 
 -- ITS CALL STOPPED
 -- a frame may be cut where its call stopped, for the reason that the status gives
 stopped-may : (s : Setting) (core : Core) (history : List Entry) (a : Ask) (c : Call) (t : Status) → core.limit ≡ s.limits.journal → may_call core.env ≡ true
-    → ask.Do c ≡ taken a
-    → StopsBy (room_in core) c t → may_cut (machine_of s.limits core history) (taken a) (why_stopped t) ≡ true
+    → ask.Do c ≡ built_ask a
+    → StopsBy (room_in core) c t → may_cut (machine_of s.limits core history) (built_ask a) (why_stopped t) ≡ true
 stopped-may s core history a c t limit may made stops =
     ap (λ b. may_cut (machine_of s.limits core history) b (why_stopped t)) (sym made)
-    ∙ by t (subst (λ (x : Room). StopsBy x c t) (same-room s core history c (taken-built a c made) limit) stops)
+    ∙ by t (subst (λ (x : Room). StopsBy x c t) (same-room s core history c (built_ask-built a c made) limit) stops)
   where
     by : (t : Status) → StopsBy (room_of (machine_of s.limits core history) c) c t → may_cut (machine_of s.limits core history) (ask.Do c) (why_stopped t) ≡ true
     by status.TraceFull stops = two_may (may_call core.env) (is_full (room_of (machine_of s.limits core history) c) c) may stops
@@ -57,23 +57,23 @@ stopped-may s core history a c t limit may made stops =
     by _ stops = absurd stops
 
 stopped-turn : (ps : List Plan) (core new : Core) (all now : Registers) (f : Frame) (a : Ask) (c : Call) (t : Status) (w : Why) → InFrame ps core.env all f a
-    → f.asks < most_asks → ask.Do c ≡ taken a
-    → StopsBy (room_in core) c t → w ≡ why_stopped t → new ≡ wrote (frame_ended None (Some w) core.env) core → IsToldEnd ps all core.env None (Some w) now
+    → f.asks < most_asks → ask.Do c ≡ built_ask a
+    → StopsBy (room_in core) c t → w ≡ why_stopped t → new ≡ after_change (end_change None (Some w) core.env) core → IsToldEnd ps all core.env None (Some w) now
     → IsTurn ps core all new now
 stopped-turn ps core new all now f a c t w i below made stops reason ended told =
     cut-turn i w new now
-    (λ s history limit. ap (λ x. may_cut (machine_of s.limits core history) (taken a) x) reason ∙ stopped-may s core history a c t limit (in-calls i below) made stops) ended told
+    (λ s history limit. ap (λ x. may_cut (machine_of s.limits core history) (built_ask a) x) reason ∙ stopped-may s core history a c t limit (in-calls i below) made stops) ended told
 
 -- a call that stopped changed nothing, so its frame ends where it stood
 pub stopped-turn-at : (ps qs : List Plan) (core stopped new : Core) (all mid now : Registers) (f : Frame) (a : Ask) (c : Call) (t : Status) (w : Why)
-    → InFrame ps core.env all f a → f.asks < most_asks → ask.Do c ≡ taken a → StopsBy (room_in core) c t → w ≡ why_stopped t
-    → stopped ≡ core → new ≡ wrote (frame_ended None (Some w) stopped.env) stopped → qs ≡ ps → mid ≡ all → IsToldEnd qs mid stopped.env None (Some w) now
+    → InFrame ps core.env all f a → f.asks < most_asks → ask.Do c ≡ built_ask a → StopsBy (room_in core) c t → w ≡ why_stopped t
+    → stopped ≡ core → new ≡ after_change (end_change None (Some w) stopped.env) stopped → qs ≡ ps → mid ≡ all → IsToldEnd qs mid stopped.env None (Some w) now
     → IsTurn ps core all new now
 stopped-turn-at ps qs core stopped new all mid now f a c t w i below made stops reason same ended plans registers told =
-    let P : Core → Type 0 = λ x. new ≡ wrote (frame_ended None (Some w) x.env) x in
+    let P : Core → Type 0 = λ x. new ≡ after_change (end_change None (Some w) x.env) x in
     let Q : Core → Type 0 = λ x. IsToldEnd ps all x.env None (Some w) now in
     stopped-turn ps core new all now f a c t w i below made stops reason (subst P same ended)
-    (subst Q same (told-from ps qs all mid now (callers_of stopped.env) (frame_ended None (Some w) stopped.env).entry.reply plans registers told))
+    (subst Q same (told-from ps qs all mid now (callers_of stopped.env) (end_change None (Some w) stopped.env).entry.reply plans registers told))
 
 -- IT HAS MADE ALL ITS ASKS
 -- an ask that the plan gives, where one is told
@@ -84,9 +84,9 @@ some-ask ps all f = by (plan_of ps f.addon)
     by None = (ask.Leave None, tt)
     by (Some p) = (plan_ask p (registers_of all f.addon) f.entry f.asks, refl)
 
-pub spent-turn : (ps : List Plan) (core new : Core) (all now : Registers) (f : Frame) → IsSound core.env → head core.env.frames ≡ Some f → f.makes_asks ≡ true
+pub spent-turn : (ps : List Plan) (core new : Core) (all now : Registers) (f : Frame) → IsSoundEnvironment core.env → head core.env.frames ≡ Some f → f.makes_asks ≡ true
     → f.asks ≡ most_asks
-    → new ≡ wrote (frame_ended None (Some why.Asks) core.env) core → IsToldEnd ps all core.env None (Some why.Asks) now → IsTurn ps core all new now
+    → new ≡ after_change (end_change None (Some why.Asks) core.env) core → IsToldEnd ps all core.env None (Some why.Asks) now → IsTurn ps core all new now
 spent-turn ps core new all now f sound top makes spent made told =
     let would = some-ask ps all f in
     let i : InFrame ps core.env all f would.0 = record { sound = sound; top = top; makes = makes; asked = would.1 } in

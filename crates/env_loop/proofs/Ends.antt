@@ -7,22 +7,22 @@ use Rattle.napi_types.specs.declared.entry.Entry.{Entry}
 use Rattle.napi_types.specs.declared.entry.Reply.{Reply}
 use Rattle.napi_types.specs.declared.entry.Why.{Why}
 use Rattle.napi_types.specs.declared.ids.HandleId.{HandleId}
-use Rattle.napi_types.specs.Built.{taken}
+use Rattle.napi_types.specs.Built.{built_ask}
 use Rattle.napi_types.specs.Changes.{Change}
-use Rattle.napi_types.specs.Ends.{frame_ended}
+use Rattle.napi_types.specs.Ends.{end_change}
 use Rattle.napi_types.specs.Environment.{Environment}
 use Rattle.napi_types.specs.Frames.{Frame, at_last_ask, most_asks}
 use Rattle.napi_types.specs.Lists.{head, tail}
 use Rattle.napi_types.specs.Machine.{Machine}
 use Rattle.napi_types.specs.Phases.{stage_of}
-use Rattle.napi_types.specs.Plan.{Plan, plan_of, kept_in_frames, kept_at, Registers, registers_of}
-use Rattle.napi_types.specs.Registers.{kept}
+use Rattle.napi_types.specs.Plan.{Plan, plan_of, caller_after_reply, after_event, Registers, registers_of}
+use Rattle.napi_types.specs.Registers.{registers_after_reply}
 use Rattle.napi_types.specs.Step.{locally, env_step}
 use Rattle.napi_types.specs.Whole.{Setting}
 use Rattle.addon_trait.specs.Addons.{OthersStay}
-use Rattle.env_core.specs.Core.{Core, wrote}
+use Rattle.env_core.specs.Core.{Core, after_change}
 use Rattle.env_loop.specs.Recording.{machine_of, Continues}
-use Rattle.env_loop.specs.Runs.{IsSound}
+use Rattle.env_loop.specs.Runs.{IsSoundEnvironment}
 use Rattle.env_loop.specs.Turns.{IsTold, IsTurn}
 use Rattle.napi_types.proofs.Answers.{course-parts}
 use Rattle.napi_types.proofs.FrameChanges.{KeepsButFrame, ended-keeps}
@@ -31,8 +31,8 @@ use Rattle.napi_types.proofs.Owners.{owned-ended}
 use Rattle.env_loop.proofs.Recordings.{local-grown}
 use Rattle.env_loop.proofs.Steps.{leave-next, by-env}
 use Rattle.env_loop.proofs.Frames.{head-stands, head-below, tail-below, InFrame, in-stands, in-asks, sound-ended}
-use Rattle.env_loop.proofs.Registers.{Kept, told-others, asked-in, kept-in}
-use Rattle.env_loop.proofs.Turns.{wrote-turn}
+use Rattle.env_loop.proofs.Registers.{Kept, told-others, asked-in, registers_after_reply-in}
+use Rattle.env_loop.proofs.Turns.{after_change-turn}
 
 -- the frame around the innermost one, whose addon is told the reply to the ask that it made last
 abbrev pub callers_of : Environment → List Frame
@@ -40,71 +40,71 @@ callers_of e = at_last_ask (tail e.frames)
 
 -- its addon is told how the innermost frame ended
 abbrev pub IsToldEnd : List Plan → Registers → Environment → Option HandleId → Option Why → Registers → Type 0
-IsToldEnd ps all e v cut now = IsTold ps all (callers_of e) (frame_ended v cut e).entry.reply now
+IsToldEnd ps all e v cut now = IsTold ps all (callers_of e) (end_change v cut e).entry.reply now
 
 -- the frame's end is the step that comes, in every script of these addons
 abbrev pub EndIsNext : Core → Ask → Option HandleId → Option Why → Type 0
 EndIsNext core a v cut = (s : Setting) (history : List Entry) → core.limit ≡ s.limits.journal
-    → env_step (machine_of s.limits core history) a (frame_ended v cut core.env).entry.reply.out core.env.frames ≡ locally (machine_of s.limits core history) (frame_ended v cut core.env) true
+    → env_step (machine_of s.limits core history) a (end_change v cut core.env).entry.reply.out core.env.frames ≡ locally (machine_of s.limits core history) (end_change v cut core.env) true
 
 ended-goes : {ps : List Plan} {core : Core} {all : Registers} {f : Frame} {a : Ask} → InFrame ps core.env all f a
     → (v : Option HandleId) (cut : Option Why) (now : Registers)
-    → EndIsNext core a v cut → IsToldEnd ps all core.env v cut now → Continues ps core all (wrote (frame_ended v cut core.env) core) now
+    → EndIsNext core a v cut → IsToldEnd ps all core.env v cut now → Continues ps core all (after_change (end_change v cut core.env) core) now
 ended-goes {ps} {core} {all} {f} {a} i v cut now next told = λ s history of rec.
-    let change : Change = frame_ended v cut core.env in
+    let change : Change = end_change v cut core.env in
     let m : Machine = machine_of s.limits core history in
     let x : Entry = change.entry in
     let e : Ends cut x = ended-ends v cut core.env in
     let callers : List Frame = callers_of core.env in
-    let keeps : Kept s.plans now (kept_in_frames s.plans rec.own callers x.reply) =
-    kept-in s ps core history all now callers x.reply of rec (tail-below core.env.addons core.env.frames i.sound.owned.frames) told in
-    local-grown s core history all rec a change (kept_in_frames s.plans rec.own callers x.reply) now
+    let keeps : Kept s.plans now (caller_after_reply s.plans rec.own callers x.reply) =
+    registers_after_reply-in s ps core history all now callers x.reply of rec (tail-below core.env.addons core.env.frames i.sound.owned.frames) told in
+    local-grown s core history all rec a change (caller_after_reply s.plans rec.own callers x.reply) now
     (by-env m a x (locally m change true) e.who (next s history rec.limit))
     e.who (asked-in i s history of rec)
-    (ap (λ w. kept_at s.plans rec.own core.env a x.reply w) e.is)
+    (ap (λ w. after_event s.plans rec.own core.env a x.reply w) e.is)
     keeps.count keeps.agrees
-    (ap stage_of (course-parts core.env (frame_ended v cut core.env).after (ended-keeps v cut core.env).course).phase)
+    (ap stage_of (course-parts core.env (end_change v cut core.env).after (ended-keeps v cut core.env).course).phase)
 
 pub ended-turn : {ps : List Plan} {core : Core} {all : Registers} {f : Frame} {a : Ask} → InFrame ps core.env all f a
     → (v : Option HandleId) (cut : Option Why) (new : Core) (now : Registers)
-    → EndIsNext core a v cut → new ≡ wrote (frame_ended v cut core.env) core → IsToldEnd ps all core.env v cut now → IsTurn ps core all new now
+    → EndIsNext core a v cut → new ≡ after_change (end_change v cut core.env) core → IsToldEnd ps all core.env v cut now → IsTurn ps core all new now
 ended-turn {ps} {core} {all} {f} {a} i v cut new now next made told =
-    let k : KeepsButFrame core.env (frame_ended v cut core.env).after = ended-keeps v cut core.env in
-    let course = course-parts core.env (frame_ended v cut core.env).after k.course in
+    let k : KeepsButFrame core.env (end_change v cut core.env).after = ended-keeps v cut core.env in
+    let course = course-parts core.env (end_change v cut core.env).after k.course in
     let there : All (λ g. g.addon < core.env.addons) (callers_of core.env) = tail-below core.env.addons core.env.frames i.sound.owned.frames in
-    wrote-turn ps core new all now (frame_ended v cut core.env) made
-    (told-others core.env.addons ps all now (callers_of core.env) (frame_ended v cut core.env).entry.reply there told)
+    after_change-turn ps core new all now (end_change v cut core.env) made
+    (told-others core.env.addons ps all now (callers_of core.env) (end_change v cut core.env).entry.reply there told)
     (sound-ended i v cut) course.addons (ap stage_of course.phase) (ended-goes i v cut now next told)
 
 -- the frame leaves
 pub left-turn : (ps : List Plan) (core new : Core) (all now : Registers) (f : Frame) (a : Ask) (v : Option HandleId) → InFrame ps core.env all f a
-    → f.asks < most_asks → ask.Leave v ≡ taken a
-    → new ≡ wrote (frame_ended v None core.env) core → IsToldEnd ps all core.env v None now → IsTurn ps core all new now
+    → f.asks < most_asks → ask.Leave v ≡ built_ask a
+    → new ≡ after_change (end_change v None core.env) core → IsToldEnd ps all core.env v None now → IsTurn ps core all new now
 left-turn ps core new all now f a v i below left made told =
     ended-turn i v None new now
-    (λ s history limit. leave-next (machine_of s.limits core history) a v (frame_ended v None core.env).entry.reply.out f (tail core.env.frames) (in-stands i) left
+    (λ s history limit. leave-next (machine_of s.limits core history) a v (end_change v None core.env).entry.reply.out f (tail core.env.frames) (in-stands i) left
     (ended-ends v None core.env).told (in-asks i below)) made told
 
 -- THE CALLER IS TOLD
-frames-left : (core new : Core) (v : Option HandleId) (cut : Option Why) → new ≡ wrote (frame_ended v cut core.env) core → new.env.frames ≡ tail core.env.frames
+frames-left : (core new : Core) (v : Option HandleId) (cut : Option Why) → new ≡ after_change (end_change v cut core.env) core → new.env.frames ≡ tail core.env.frames
 frames-left core new v cut made = ap (λ (c : Core). c.env.frames) made ∙ (ended-keeps v cut core.env).frames
 
 -- the caller's addon is there
-pub caller-there : (core new : Core) (v : Option HandleId) (cut : Option Why) (f : Frame) → IsSound core.env → new ≡ wrote (frame_ended v cut core.env) core
+pub caller-there : (core new : Core) (v : Option HandleId) (cut : Option Why) (f : Frame) → IsSoundEnvironment core.env → new ≡ after_change (end_change v cut core.env) core
     → Some f ≡ head new.env.frames
     → f.addon < core.env.addons
 caller-there core new v cut f sound made top =
-    let all : All (λ x. x.addon < core.env.addons) (frame_ended v cut core.env).after.frames = (owned-ended core.env.addons core.env v cut sound.owned).frames in
+    let all : All (λ x. x.addon < core.env.addons) (end_change v cut core.env).after.frames = (owned-ended core.env.addons core.env v cut sound.owned).frames in
     let P : List Frame → Type 0 = λ l. All (λ x. x.addon < core.env.addons) l in
     head-below core.env.addons new.env.frames f (sym top) (subst P (ap (λ (c : Core). c.env.frames) (sym made)) all)
 
 -- it is told the reply to the ask that it made last
 pub told-caller : (ps : List Plan) (all now : Registers) (core new : Core) (v : Option HandleId) (cut : Option Why) (f : Frame) (n : ℕ) (r : Reply)
-    → new ≡ wrote (frame_ended v cut core.env) core → Some f ≡ head new.env.frames → n ≡ f.asks - 1 → r ≡ (frame_ended v cut core.env).entry.reply
-    → OthersStay all now f.addon → IfSome (plan_of ps f.addon) (λ p. registers_of now f.addon ≡ kept p (registers_of all f.addon) f.entry n r)
-    → IsTold ps all (at_last_ask (tail core.env.frames)) (frame_ended v cut core.env).entry.reply now
+    → new ≡ after_change (end_change v cut core.env) core → Some f ≡ head new.env.frames → n ≡ f.asks - 1 → r ≡ (end_change v cut core.env).entry.reply
+    → OthersStay all now f.addon → IfSome (plan_of ps f.addon) (λ p. registers_of now f.addon ≡ registers_after_reply p (registers_of all f.addon) f.entry n r)
+    → IsTold ps all (at_last_ask (tail core.env.frames)) (end_change v cut core.env).entry.reply now
 told-caller ps all now core new v cut f n r made top counted answer others keeps =
     let callers : tail core.env.frames ≡ f ∷ tail new.env.frames = sym (frames-left core new v cut made) ∙ head-stands new.env.frames f (sym top) in
-    let P : List Frame → Type 0 = λ l. IsTold ps all (at_last_ask l) (frame_ended v cut core.env).entry.reply now in
-    let K : ℕ → Reply → Type 0 = λ k x. IfSome (plan_of ps f.addon) (λ p. registers_of now f.addon ≡ kept p (registers_of all f.addon) f.entry k x) in
+    let P : List Frame → Type 0 = λ l. IsTold ps all (at_last_ask l) (end_change v cut core.env).entry.reply now in
+    let K : ℕ → Reply → Type 0 = λ k x. IfSome (plan_of ps f.addon) (λ p. registers_of now f.addon ≡ registers_after_reply p (registers_of all f.addon) f.entry k x) in
     subst P (sym callers) (others, subst (λ (x : Reply). K (f.asks - 1) x) answer (subst (λ (k : ℕ). K k r) counted keeps))

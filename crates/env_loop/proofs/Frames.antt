@@ -6,19 +6,19 @@ use Rattle.napi_types.specs.declared.call.Ask.{Ask}
 use Rattle.napi_types.specs.declared.call.Call.{Call}
 use Rattle.napi_types.specs.declared.entry.Why.{Why}
 use Rattle.napi_types.specs.declared.ids.HandleId.{HandleId}
-use Rattle.napi_types.specs.Changes.{may_ask, may_call, gone}
-use Rattle.napi_types.specs.Ends.{frame_ended}
-use Rattle.napi_types.specs.Entering.{asked_for}
+use Rattle.napi_types.specs.Changes.{may_ask, may_call, gone_change}
+use Rattle.napi_types.specs.Ends.{end_change}
+use Rattle.napi_types.specs.Entering.{asked_change}
 use Rattle.napi_types.specs.Environment.{Environment}
 use Rattle.napi_types.specs.Frames.{Frame, at_last_ask, is_asking, asks_made, most_asks}
 use Rattle.napi_types.specs.Lists.{head, tail}
 use Rattle.napi_types.specs.Owners.{IsOwned}
 use Rattle.napi_types.specs.Plan.{Plan, Registers}
 use Rattle.napi_types.specs.Room.{need}
-use Rattle.env_loop.specs.Runs.{IsSound}
+use Rattle.env_loop.specs.Runs.{IsSoundEnvironment}
 use Rattle.env_loop.specs.Turns.{IsAsked}
 use Rattle.napi_types.proofs.Answers.{course-parts}
-use Rattle.napi_types.proofs.FrameChanges.{KeepsButFrame, ended-keeps, KeepsButFrames, asked_for-fits}
+use Rattle.napi_types.proofs.FrameChanges.{KeepsButFrame, ended-keeps, KeepsButFrames, asked_change-fits}
 use Rattle.napi_types.proofs.Owners.{owned-asked, owned-ended, within-asked, within-ended}
 use Rattle.env_loop.proofs.Steps.{two_may}
 
@@ -61,7 +61,7 @@ below-most fs n e h = ap (λ k. nat_lt k most_asks) e ∙ lt-true n most_asks h
 -- IN A FRAME
 -- the innermost frame of a sound environment asks this, as its plan gives it where one is told
 pub record InFrame (ps : List Plan) (e : Environment) (all : Registers) (f : Frame) (a : Ask) : Type 0 where
-  pub sound : IsSound e
+  pub sound : IsSoundEnvironment e
   pub top : head e.frames ≡ Some f
   pub makes : f.makes_asks ≡ true
   pub asked : IsAsked ps all f a
@@ -89,8 +89,8 @@ in-calls {ps} {e} {all} {f} {a} i below = two_may (may_ask e) (is_asking e.frame
 
 -- THE ENVIRONMENT STAYS SOUND
 -- where its frames do
-sound-after : (old new : Environment) → old.frames ≢ [] → IsSound old → new.opened ≡ old.opened → new.addons ≡ old.addons → new.phase ≡ old.phase
-    → IsOwned old.addons new → All (λ x. x.asks ≤ most_asks) new.frames → IsSound new
+sound-after : (old new : Environment) → old.frames ≢ [] → IsSoundEnvironment old → new.opened ≡ old.opened → new.addons ≡ old.addons → new.phase ≡ old.phase
+    → IsOwned old.addons new → All (λ x. x.asks ≤ most_asks) new.frames → IsSoundEnvironment new
 sound-after old new some s opened addons same owned asks =
     let P : ℕ → Type 0 = λ n. IsOwned n new in
     record {
@@ -102,16 +102,16 @@ sound-after old new some s opened addons same owned asks =
 
 -- after a call, ..
 pub sound-asked : {ps : List Plan} {e : Environment} {all : Registers} {f : Frame} {a : Ask} → InFrame ps e all f a → f.asks < most_asks → (c : Call) (n : ℕ)
-    → IsSound (asked_for e c n).after
+    → IsSoundEnvironment (asked_change e c n).after
 sound-asked {ps} {e} {all} {f} {a} i below c n =
-    let k : KeepsButFrames e (asked_for e c n).after (need c) = asked_for-fits e c n in
-    let course = course-parts e (asked_for e c n).after k.course in
-    sound-after e (asked_for e c n).after (in-some i) i.sound course.opened course.addons course.phase (owned-asked e.addons e c n (in-some i) i.sound.owned) (within-asked e c n (in-spare i below) i.sound.asks)
+    let k : KeepsButFrames e (asked_change e c n).after (need c) = asked_change-fits e c n in
+    let course = course-parts e (asked_change e c n).after k.course in
+    sound-after e (asked_change e c n).after (in-some i) i.sound course.opened course.addons course.phase (owned-asked e.addons e c n (in-some i) i.sound.owned) (within-asked e c n (in-spare i below) i.sound.asks)
 
 -- .. and after the end of a frame
 pub sound-ended : {ps : List Plan} {e : Environment} {all : Registers} {f : Frame} {a : Ask} → InFrame ps e all f a → (v : Option HandleId) (cut : Option Why)
-    → IsSound (frame_ended v cut e).after
+    → IsSoundEnvironment (end_change v cut e).after
 sound-ended {ps} {e} {all} {f} {a} i v cut =
-    let k : KeepsButFrame e (frame_ended v cut e).after = ended-keeps v cut e in
-    let course = course-parts e (frame_ended v cut e).after k.course in
-    sound-after e (frame_ended v cut e).after (in-some i) i.sound course.opened course.addons course.phase (owned-ended e.addons e v cut i.sound.owned) (within-ended e v cut i.sound.asks)
+    let k : KeepsButFrame e (end_change v cut e).after = ended-keeps v cut e in
+    let course = course-parts e (end_change v cut e).after k.course in
+    sound-after e (end_change v cut e).after (in-some i) i.sound course.opened course.addons course.phase (owned-ended e.addons e v cut i.sound.owned) (within-ended e v cut i.sound.asks)

@@ -16,14 +16,14 @@ use Rattle.napi_types.specs.Machine.{Machine}
 use Rattle.napi_types.specs.Parting.{sides_along}
 use Rattle.napi_types.specs.Step.{Step, step, locally}
 use Rattle.napi_types.specs.Run.{after, IsNext}
-use Rattle.napi_types.specs.Changes.{Change, host_entry, in_phase, gone, init_begun}
+use Rattle.napi_types.specs.Changes.{Change, host_entry, in_phase, gone_change, init_change}
 use Rattle.napi_types.specs.Registers.{blank_registers}
 use Rattle.napi_types.specs.declared.entry.Reply.{Reply}
 use Rattle.napi_types.specs.Environment.{Environment}
-use Rattle.napi_types.specs.Plan.{Plan, kept_by_host, kept_at, kept_by_actor, plan_of, registers_of, frames_ask, asked, registers_after, Registers, loaded_registers}
+use Rattle.napi_types.specs.Plan.{Plan, after_host_event, after_event, after_entry, plan_of, registers_of, frames_ask, asked, registers_after, Registers, loaded_registers}
 use Rattle.napi_types.specs.Weave.{Side, Journal, History, weave, sides, RisesBetween}
 use Rattle.napi_types.specs.Whole.{Setting, opening_of, RunsBy, final_of, final_registers, planned_asks}
-use Rattle.env_core.specs.Core.{Core, wrote, opened_core}
+use Rattle.env_core.specs.Core.{Core, after_change, opened_core}
 use Rattle.napi_types.specs.Phases.{stage_of}
 use Rattle.env_loop.specs.Recording.{machine_of, AgreesWhereTold, AgreesWith, IsRecorded, IsEnded}
 use Rattle.napi_types.proofs.Runs.{run-more, final-more, asked-more, registers-more, sides-more}
@@ -71,11 +71,11 @@ pub local-grown : (s : Setting) (core : Core) (history : List Entry) (all : Regi
     → step (machine_of s.limits core history) a c.entry ≡ locally (machine_of s.limits core history) c true
     → c.entry.actor ≡ actor.Env
     → a ≡ frames_ask s.plans r.own core.env.frames a
-    → kept_at s.plans r.own core.env a c.entry.reply c.entry.what ≡ own
+    → after_event s.plans r.own core.env a c.entry.reply c.entry.what ≡ own
     → length own ≡ length s.plans
     → AgreesWith s.plans after_all own
     → stage_of c.after.phase ≡ stage_of core.env.phase
-    → IsRecorded s (wrote c core) history after_all
+    → IsRecorded s (after_change c core) history after_all
 local-grown s core history all r a c own after_all next who here kept count agrees staged =
     let m : Machine = machine_of s.limits core history in
     let xs : List Entry = weave core.journal history in
@@ -92,9 +92,9 @@ local-grown s core history all r a c own after_all next who here kept count agre
       run = subst R (sym woven) g.run;
       final =
           ap (λ ys. final_of s (r.asks ++ a ∷ []) ys) woven ∙ g.final
-          ∙ ap (λ n. record m { env = c.after; locals = n }) longer
-          ∙ ap (λ t. record m { env = c.after; hub = record { stage = t }; locals = length (core.journal ++ record { at = core.position; entry = c.entry } ∷ []) }) (sym staged);
-      registers = ap (λ ys. final_registers s (r.asks ++ a ∷ []) ys) woven ∙ g.registers_are ∙ ap (kept_by_actor s.plans r.own core.env a c.entry) who ∙ kept;
+          ∙ ap (λ n. record m { env = c.after; journal_length = n }) longer
+          ∙ ap (λ t. record m { env = c.after; hub = record { stage = t }; journal_length = length (core.journal ++ record { at = core.position; entry = c.entry } ∷ []) }) (sym staged);
+      registers = ap (λ ys. final_registers s (r.asks ++ a ∷ []) ys) woven ∙ g.registers_are ∙ ap (after_entry s.plans r.own core.env a c.entry) who ∙ kept;
       count = count;
       agrees = agrees;
       limit = r.limit;
@@ -107,7 +107,7 @@ local-grown s core history all r a c own after_all next who here kept count agre
 
 -- what an event of the hub leaves
 abbrev pub hub_left : Machine → Phase → Machine
-hub_left m p = record m { env = in_phase p m.env; hub = record { stage = stage_of p }; shareds = m.shareds + 1 }
+hub_left m p = record m { env = in_phase p m.env; hub = record { stage = stage_of p }; history_length = m.history_length + 1 }
 
 -- an event of the hub goes into the history, and its phase starts; it leaves the registers
 pub shared-grown : (s : Setting) (core : Core) (history : List Entry) (all : Registers) (r : IsRecorded s core history all)
@@ -115,7 +115,7 @@ pub shared-grown : (s : Setting) (core : Core) (history : List Entry) (all : Reg
     → core.env.frames ≡ []
     → step (machine_of s.limits core history) (ask.Leave None) (host_entry event o)
     ≡ record { entry = host_entry event o; side = History; after = hub_left (machine_of s.limits core history) p; may = true }
-    → ((rss : Registers) (reply : Reply) → kept_by_host s.plans rss core.env (ask.Leave None) reply event ≡ rss)
+    → ((rss : Registers) (reply : Reply) → after_host_event s.plans rss core.env (ask.Leave None) reply event ≡ rss)
     → IsRecorded s (record core { env = in_phase p core.env; position = length history + 1 }) (history ++ host_entry event o ∷ []) all
 shared-grown s core history all r event o p alone next leaves =
     let m : Machine = machine_of s.limits core history in
@@ -135,7 +135,7 @@ shared-grown s core history all r event o p alone next leaves =
       run = subst R (sym woven) g.run;
       final =
           ap (λ ys. final_of s (r.asks ++ ask.Leave None ∷ []) ys) woven ∙ g.final
-          ∙ ap (λ n. record m { env = in_phase p core.env; hub = record { stage = stage_of p }; shareds = n }) (sym longer);
+          ∙ ap (λ n. record m { env = in_phase p core.env; hub = record { stage = stage_of p }; history_length = n }) (sym longer);
       registers = ap (λ ys. final_registers s (r.asks ++ ask.Leave None ∷ []) ys) woven ∙ g.registers_are ∙ leaves r.own x.reply;
       count = r.count;
       agrees = r.agrees;
@@ -169,11 +169,11 @@ pub finals-grown : (s : Setting) (core : Core) (history : List Entry) (all : Reg
     → IsRecorded s (record core { env = in_phase phase.Finals core.env; position = length history + 1 }) (history ++ host_entry host.Finals out.Nothing ∷ []) all
 finals-grown s core history all r alone here = shared-grown s core history all r host.Finals out.Nothing phase.Finals alone (rw (alone, here) refl) (λ rss reply. refl)
 
-pub gone-grown : (s : Setting) (core : Core) (history : List Entry) (all : Registers) → IsRecorded s core history all
+pub gone_change-grown : (s : Setting) (core : Core) (history : List Entry) (all : Registers) → IsRecorded s core history all
     → core.env.frames ≡ [] → core.env.phase ≡ phase.Finals
-    → IsRecorded s (wrote (gone core.env) core) history all
-gone-grown s core history all r alone here =
-    local-grown s core history all r (ask.Leave None) (gone core.env) r.own all (rw (alone, here) refl) refl (rw alone refl) refl r.count r.agrees (rw here refl)
+    → IsRecorded s (after_change (gone_change core.env) core) history all
+gone_change-grown s core history all r alone here =
+    local-grown s core history all r (ask.Leave None) (gone_change core.env) r.own all (rw (alone, here) refl) refl (rw alone refl) refl r.count r.agrees (rw here refl)
 
 -- THE INIT FRAMES
 -- blank registers are those that the run starts from
@@ -202,19 +202,19 @@ opened-recorded s all blank = record {
 -- the next addon's init frame begins
 pub init-grown : (s : Setting) (core : Core) (history : List Entry) (all : Registers) → IsRecorded s core history all
     → core.env.frames ≡ [] → core.env.phase ≡ phase.Init → core.env.opened ≡ true → nat_lt core.env.inits core.env.addons ≡ true
-    → IsRecorded s (wrote (init_begun core.env.inits core.env) core) history all
+    → IsRecorded s (after_change (init_change core.env.inits core.env) core) history all
 init-grown s core history all r alone here opened more =
-    local-grown s core history all r (ask.Leave None) (init_begun core.env.inits core.env) r.own all (rw (alone, here, opened, more) refl) refl (rw alone refl) refl r.count r.agrees refl
+    local-grown s core history all r (ask.Leave None) (init_change core.env.inits core.env) r.own all (rw (alone, here, opened, more) refl) refl (rw alone refl) refl r.count r.agrees refl
 
 -- THE END
 -- a recorded run whose environment is gone came to its end
-pub gone-ended : (s : Setting) (core : Core) (history : List Entry) (all : Registers) → IsRecorded s core history all → core.env.phase ≡ phase.Gone
+pub gone_change-ended : (s : Setting) (core : Core) (history : List Entry) (all : Registers) → IsRecorded s core history all → core.env.phase ≡ phase.Gone
     → IsEnded s core.journal history all
-gone-ended s core history all r here = record {
+gone_change-ended s core history all r here = record {
   asks = r.asks;
   ended = record { run = r.run; gone = ap (λ (m : Machine). m.env.phase) r.final ∙ here };
-  locals = ap (λ (m : Machine). m.locals) r.final;
-  shareds = ap (λ (m : Machine). m.shareds) r.final;
+  journal_length = ap (λ (m : Machine). m.journal_length) r.final;
+  history_length = ap (λ (m : Machine). m.history_length) r.final;
   rises = r.rises;
   parted = r.parted;
   agrees = subst (λ (own : Registers). AgreesWith s.plans all own) (sym r.registers) r.agrees;

@@ -9,8 +9,8 @@ use Rattle.napi_types.specs.declared.call.Ask.TheVariants as ask
 use Rattle.napi_types.specs.declared.entry.Entry.{Entry}
 use Rattle.napi_types.specs.declared.entry.Reply.{Reply}
 use Rattle.napi_types.specs.Frames.{Frame}
-use Rattle.napi_types.specs.Plan.{Plan, plan_of, frame_ask, frames_ask, kept_by, kept_in_frames, Registers, registers_of}
-use Rattle.napi_types.specs.Registers.{plan_ask, kept, gifted}
+use Rattle.napi_types.specs.Plan.{Plan, plan_of, frame_ask, frames_ask, addon_after_reply, caller_after_reply, Registers, registers_of}
+use Rattle.napi_types.specs.Registers.{plan_ask, registers_after_reply, with_gifts}
 use Rattle.napi_types.specs.Whole.{Setting}
 use Rattle.addon_trait.specs.Addons.{OthersStay}
 use Rattle.env_core.specs.Core.{Core}
@@ -26,15 +26,15 @@ frame-asked None q f mine own a e agrees told = rw e refl
 frame-asked (Some p) None f mine own a e agrees told = cc
 frame-asked (Some p) (Some q) f mine own a e agrees told = told ∙ cc
 
-agrees-kept : (p q : Plan) (f : Frame) (mine own now : List ℕ) (r : Reply) → q ≡ p → AgreesWhereTold q mine own
-    → IfSome p (λ t. now ≡ kept t mine f.entry f.asks r) → AgreesWhereTold q now (kept_by q own f r)
-agrees-kept p None f mine own now r e agrees told = tt
-agrees-kept None (Some q) f mine own now r e agrees told = cc
-agrees-kept (Some p) (Some q) f mine own now r e agrees told = told ∙ cc
+agrees-registers_after_reply : (p q : Plan) (f : Frame) (mine own now : List ℕ) (r : Reply) → q ≡ p → AgreesWhereTold q mine own
+    → IfSome p (λ t. now ≡ registers_after_reply t mine f.entry f.asks r) → AgreesWhereTold q now (addon_after_reply q own f r)
+agrees-registers_after_reply p None f mine own now r e agrees told = tt
+agrees-registers_after_reply None (Some q) f mine own now r e agrees told = cc
+agrees-registers_after_reply (Some p) (Some q) f mine own now r e agrees told = told ∙ cc
 
-pub agrees-gifted : (q : Plan) (gifts mine own now : List ℕ) → AgreesWhereTold q mine own → now ≡ gifted gifts mine → AgreesWhereTold q now (gifted gifts own)
-agrees-gifted None gifts mine own now agrees e = tt
-agrees-gifted (Some q) gifts mine own now agrees e = e ∙ ap (gifted gifts) agrees
+pub agrees-with_gifts : (q : Plan) (gifts mine own now : List ℕ) → AgreesWhereTold q mine own → now ≡ with_gifts gifts mine → AgreesWhereTold q now (with_gifts gifts own)
+agrees-with_gifts None gifts mine own now agrees e = tt
+agrees-with_gifts (Some q) gifts mine own now agrees e = e ∙ ap (with_gifts gifts) agrees
 
 -- the registers still agree where those of one addon agree anew, and the others are as they were
 pub agrees-set : (ps : List Plan) (all now own : Registers) (i : ℕ) (v : List ℕ) → length own ≡ length ps → AgreesWith ps all own
@@ -57,20 +57,20 @@ pub record Kept (ps : List Plan) (now : Registers) (own : Registers) : Type 0 wh
   pub count : length own ≡ length ps
   pub agrees : AgreesWith ps now own
 
-told-kept : (ps plans : List Plan) (all own now : Registers) (fs : List Frame) (r : Reply) → All (λ f. f.addon < length ps) fs
+told-registers_after_reply : (ps plans : List Plan) (all own now : Registers) (fs : List Frame) (r : Reply) → All (λ f. f.addon < length ps) fs
     → ((addon : ℕ) → addon < length ps → plan_of ps addon ≡ plan_of plans addon) → length own ≡ length ps → AgreesWith ps all own
-    → IsTold plans all fs r now → Kept ps now (kept_in_frames ps own fs r)
-told-kept ps plans all own now [] r there first count agrees told =
+    → IsTold plans all fs r now → Kept ps now (caller_after_reply ps own fs r)
+told-registers_after_reply ps plans all own now [] r there first count agrees told =
     let P : Registers → Type 0 = λ x. AgreesWith ps x own in
     record { count = count; agrees = subst P (sym told) agrees }
-told-kept ps plans all own now (f ∷ fs) r there first count agrees told =
+told-registers_after_reply ps plans all own now (f ∷ fs) r there first count agrees told =
     let i : ℕ = f.addon in
     let below : i < length ps = All-head (λ (x : Frame). x.addon < length ps) f fs there in
-    let v : List ℕ = kept_by (plan_of ps i) (registers_of own i) f r in
+    let v : List ℕ = addon_after_reply (plan_of ps i) (registers_of own i) f r in
     record {
       count = length-set own i v ∙ count;
       agrees = agrees-set ps all now own i v count agrees told.0
-          (agrees-kept (plan_of plans i) (plan_of ps i) f (registers_of all i) (registers_of own i) (registers_of now i) r (first i below) (agrees i below) told.1);
+          (agrees-registers_after_reply (plan_of plans i) (plan_of ps i) f (registers_of all i) (registers_of own i) (registers_of now i) r (first i below) (agrees i below) told.1);
     }
 
 -- the addons that are no addons of the script keep their registers
@@ -101,9 +101,9 @@ asked-in {ps} {core} {all} {f} {a} i s history of r =
     ∙ ap (λ gs. frames_ask s.plans r.own gs a) (sym (in-stands i))
 
 -- what is told to the innermost of these frames is what the run's registers keep
-pub kept-in : (s : Setting) (ps : List Plan) (core : Core) (history : List Entry) (all now : Registers) (fs : List Frame) (r : Reply) → IsOf s ps core
+pub registers_after_reply-in : (s : Setting) (ps : List Plan) (core : Core) (history : List Entry) (all now : Registers) (fs : List Frame) (r : Reply) → IsOf s ps core
     → (rec : IsRecorded s core history all) → All (λ f. f.addon < core.env.addons) fs → IsTold ps all fs r now
-    → Kept s.plans now (kept_in_frames s.plans rec.own fs r)
-kept-in s ps core history all now fs r of rec there told =
+    → Kept s.plans now (caller_after_reply s.plans rec.own fs r)
+registers_after_reply-in s ps core history all now fs r of rec there told =
     let below : All (λ f. f.addon < length s.plans) fs = subst (λ (n : ℕ). All (λ f. f.addon < n) fs) (sym of.count) there in
-    told-kept s.plans ps all rec.own now fs r below of.first rec.count rec.agrees told
+    told-registers_after_reply s.plans ps all rec.own now fs r below of.first rec.count rec.agrees told

@@ -24,7 +24,7 @@ use Rattle.napi_types.specs.Whole.{Setting}
 use Rattle.env_core.specs.Core.{Core}
 use Rattle.env_loop.specs.declared.turn.LocalTurn.TheVariants as turn
 use Rattle.env_loop.specs.Recording.{IsOf, IsRecorded}
-use Rattle.env_loop.specs.Runs.{Run, IsSound, OneMore, Extends, GoesOn, MovesOn}
+use Rattle.env_loop.specs.Runs.{Run, IsSoundEnvironment, OneMore, Extends, GoesOn, MovesOn}
 use Rattle.env_loop.specs.Turns.{turn_at, side_of, uncounted, turn_of, turns_left}
 use Rattle.env_loop.proofs.Recordings.{go-grown, loop_end-grown, drain-grown, finals-grown}
 
@@ -57,7 +57,7 @@ ready-to-go e here h =
     ready-in e m e.opened (nat_lt e.inits e.addons) refl refl next
 
 -- the environment stays sound in the phase that starts
-moved-sound : (e : Environment) (p : Phase) → (p ≡ phase.Gone → ⊥) → IsSound e → IsSound (in_phase p e)
+moved-sound : (e : Environment) (p : Phase) → (p ≡ phase.Gone → ⊥) → IsSoundEnvironment e → IsSoundEnvironment (in_phase p e)
 moved-sound e p other s = record { opened = s.opened; owned = record { frames = s.owned.frames; functions = s.owned.functions }; asks = s.asks; gone = λ g. absurd (other g) }
 
 abbrev moved_core : Core → Phase → List Entry → Core

@@ -10,11 +10,11 @@ use Rattle.napi_types.specs.declared.entry.Out.{Out}
 use Rattle.napi_types.specs.declared.entry.Why.{Why}
 use Rattle.napi_types.specs.declared.status.Status.{Status}
 use Rattle.napi_types.specs.declared.ids.HandleId.{HandleId}
-use Rattle.napi_types.specs.Built.{is_built, taken}
-use Rattle.napi_types.specs.Calls.{accepted_of, accepted_by, answer_given, answer_at}
-use Rattle.napi_types.specs.Changes.{number_of, is_fresh, may_ask, may_call}
-use Rattle.napi_types.specs.Ends.{frame_ended}
-use Rattle.napi_types.specs.Entering.{asked_for}
+use Rattle.napi_types.specs.Built.{is_built, built_ask}
+use Rattle.napi_types.specs.Calls.{addon_effect, effect, answer_unless, answer_unless_deep}
+use Rattle.napi_types.specs.Changes.{number_of, is_fresh_result, may_ask, may_call}
+use Rattle.napi_types.specs.Ends.{end_change}
+use Rattle.napi_types.specs.Entering.{asked_change}
 use Rattle.napi_types.specs.Environment.{Environment}
 use Rattle.napi_types.specs.Frames.{Frame}
 use Rattle.napi_types.specs.Heap.{Heap}
@@ -26,11 +26,11 @@ use Rattle.napi_types.proofs.Rooms.{built-room}
 use Rattle.env_core.specs.Core.{Core, room_in}
 use Rattle.env_loop.specs.Recording.{machine_of}
 use Rattle.napi_types.specs.ReferenceCalls.{counted_up, value_told}
-use Rattle.napi_types.specs.References.{value_of}
+use Rattle.napi_types.specs.References.{referred_value}
 
 -- WHAT IS TOLD
 -- what a call answers is no cut
-heap-uncut : (addon : ℕ) (heap : Heap) (c : Call) (n : ℕ) → cut_of (accepted_of addon heap c n).reply.out ≡ None
+heap-uncut : (addon : ℕ) (heap : Heap) (c : Call) (n : ℕ) → cut_of (addon_effect addon heap c n).reply.out ≡ None
 heap-uncut addon heap call.OpenHandleScope n = refl
 heap-uncut addon heap _ n = refl
 
@@ -42,16 +42,16 @@ told-uncut : (e : Environment) (v : Option ℕ) → cut_of (value_told e v).repl
 told-uncut e None = refl
 told-uncut e (Some v) = refl
 
-by-uncut : (e : Environment) (c : Call) (n : ℕ) → cut_of (accepted_by e c n).reply.out ≡ None
-by-uncut e (call.ReferenceRef r) n = raised-uncut r.0 e (value_of e.references r.0)
-by-uncut e (call.GetReferenceValue r) n = told-uncut e (value_of e.references r.0)
+by-uncut : (e : Environment) (c : Call) (n : ℕ) → cut_of (effect e c n).reply.out ≡ None
+by-uncut e (call.ReferenceRef r) n = raised-uncut r.0 e (referred_value e.references r.0)
+by-uncut e (call.GetReferenceValue r) n = told-uncut e (referred_value e.references r.0)
 by-uncut e c n = refl
 
-given-uncut : (e : Environment) (c : Call) (n : ℕ) (x : Option Status) → cut_of (answer_given e c n x).reply.out ≡ None
+given-uncut : (e : Environment) (c : Call) (n : ℕ) (x : Option Status) → cut_of (answer_unless e c n x).reply.out ≡ None
 given-uncut e c n (Some x) = refl
 given-uncut e c n None = by-uncut e c n
 
-pub reply-uncut : (e : Environment) (c : Call) (n : ℕ) (early deep : Option Status) → cut_of (answer_at e c n early deep).reply.out ≡ None
+pub reply-uncut : (e : Environment) (c : Call) (n : ℕ) (early deep : Option Status) → cut_of (answer_unless_deep e c n early deep).reply.out ≡ None
 reply-uncut e c n early None = given-uncut e c n early
 reply-uncut e c n None (Some d) = refl
 reply-uncut e c n (Some s) (Some d) = refl
@@ -64,47 +64,47 @@ pub both_may : (a b c : Bool) → a ≡ true → b ≡ true → c ≡ false → 
 both_may a b c p q r = rw (p, q, r) refl
 
 -- a call that a frame is taken to make is built, and is the one that it asks
-pub taken-built : (a : Ask) (c : Call) → ask.Do c ≡ taken a → is_built c ≡ true
-taken-built (ask.Leave v) c h = cc
-taken-built (ask.Do d) c h = by (is_built d) refl h
+pub built_ask-built : (a : Ask) (c : Call) → ask.Do c ≡ built_ask a → is_built c ≡ true
+built_ask-built (ask.Leave v) c h = cc
+built_ask-built (ask.Do d) c h = by (is_built d) refl h
   where
     by : (b : Bool) → is_built d ≡ b → ask.Do c ≡ cond b (ask.Do d) (ask.Leave None) → is_built c ≡ true
     by true built same = let e : c ≡ d = cc in ap is_built e ∙ built
     by false built same = cc
 
-pub taken-asked : (a : Ask) (c : Call) → ask.Do c ≡ taken a → a ≡ ask.Do c
-taken-asked (ask.Leave v) c h = cc
-taken-asked (ask.Do d) c h = by (is_built d) h
+pub built_ask-asked : (a : Ask) (c : Call) → ask.Do c ≡ built_ask a → a ≡ ask.Do c
+built_ask-asked (ask.Leave v) c h = cc
+built_ask-asked (ask.Do d) c h = by (is_built d) h
   where
     by : (b : Bool) → ask.Do c ≡ cond b (ask.Do d) (ask.Leave None) → ask.Do d ≡ ask.Do c
     by true same = sym same
     by false same = cc
 
-pub call-next : (m : Machine) (a : Ask) (c : Call) (o : Out) (n : ℕ) (f : Frame) (fs : List Frame) → m.env.frames ≡ f ∷ fs → ask.Do c ≡ taken a
+pub call-next : (m : Machine) (a : Ask) (c : Call) (o : Out) (n : ℕ) (f : Frame) (fs : List Frame) → m.env.frames ≡ f ∷ fs → ask.Do c ≡ built_ask a
     → cut_of o ≡ None → number_of o ≡ n
-    → may_call m.env ≡ true → is_fresh m.env o ≡ true → is_full (room_of m c) c ≡ false
-    → env_step m a o m.env.frames ≡ locally m (asked_for m.env c n) true
+    → may_call m.env ≡ true → is_fresh_result m.env o ≡ true → is_full (room_of m c) c ≡ false
+    → env_step m a o m.env.frames ≡ locally m (asked_change m.env c n) true
 call-next m a c o n f fs stands made uncut number may fresh fits =
     ap (env_step m a o) stands
     ∙ ap (λ b. frame_step m b o (cut_of o)) (sym made)
     ∙ ap (frame_step m (ask.Do c) o) uncut
-    ∙ ap (λ k. locally m (asked_for m.env c k) (may_call m.env && is_fresh m.env o && not (is_full (room_of m c) c))) number
-    ∙ ap (locally m (asked_for m.env c n)) (both_may (may_call m.env) (is_fresh m.env o) (is_full (room_of m c) c) may fresh fits)
+    ∙ ap (λ k. locally m (asked_change m.env c k) (may_call m.env && is_fresh_result m.env o && not (is_full (room_of m c) c))) number
+    ∙ ap (locally m (asked_change m.env c n)) (both_may (may_call m.env) (is_fresh_result m.env o) (is_full (room_of m c) c) may fresh fits)
 
-pub leave-next : (m : Machine) (a : Ask) (v : Option HandleId) (o : Out) (f : Frame) (fs : List Frame) → m.env.frames ≡ f ∷ fs → ask.Leave v ≡ taken a
+pub leave-next : (m : Machine) (a : Ask) (v : Option HandleId) (o : Out) (f : Frame) (fs : List Frame) → m.env.frames ≡ f ∷ fs → ask.Leave v ≡ built_ask a
     → cut_of o ≡ None → may_ask m.env ≡ true
-    → env_step m a o m.env.frames ≡ locally m (frame_ended v None m.env) true
+    → env_step m a o m.env.frames ≡ locally m (end_change v None m.env) true
 leave-next m a v o f fs stands left uncut may =
     ap (env_step m a o) stands
     ∙ ap (λ b. frame_step m b o (cut_of o)) (sym left)
     ∙ ap (frame_step m (ask.Leave v) o) uncut
-    ∙ ap (locally m (frame_ended v None m.env)) may
+    ∙ ap (locally m (end_change v None m.env)) may
 
 pub cut-next : (m : Machine) (a : Ask) (w : Why) (o : Out) (f : Frame) (fs : List Frame) → m.env.frames ≡ f ∷ fs → cut_of o ≡ Some w
-    → may_cut m (taken a) w ≡ true
-    → env_step m a o m.env.frames ≡ locally m (frame_ended None (Some w) m.env) true
+    → may_cut m (built_ask a) w ≡ true
+    → env_step m a o m.env.frames ≡ locally m (end_change None (Some w) m.env) true
 cut-next m a w o f fs stands told may =
-    ap (env_step m a o) stands ∙ ap (frame_step m (taken a) o) told ∙ ap (locally m (frame_ended None (Some w) m.env)) may
+    ap (env_step m a o) stands ∙ ap (frame_step m (built_ask a) o) told ∙ ap (locally m (end_change None (Some w) m.env)) may
 
 -- an entry of the environment is read as one
 pub by-env : (m : Machine) (a : Ask) (x : Entry) (st : Step) → x.actor ≡ actor.Env → env_step m a x.reply.out m.env.frames ≡ st → step m a x ≡ st

@@ -1,24 +1,24 @@
 -- A turn, and the turns of events with no frame.
 use Rattle.std.proofs.Common.{◌≡◌, ◌<◌, ℕ, nat_lt, Bool, true, false, cond, List, [], drop, refl, ap, subst, sym, ◌∙◌, arith, Some, None}
 use Rattle.napi_types.specs.declared.entry.Phase.TheVariants as phase
-use Rattle.napi_types.specs.Changes.{Change, init_begun, gone}
+use Rattle.napi_types.specs.Changes.{Change, init_change, gone_change}
 use Rattle.napi_types.specs.Phases.{stage_of}
 use Rattle.napi_types.specs.Plan.{Plan, Registers}
-use Rattle.napi_types.specs.Registers.{kept}
-use Rattle.env_core.specs.Core.{Core, wrote, next_init}
+use Rattle.napi_types.specs.Registers.{registers_after_reply}
+use Rattle.env_core.specs.Core.{Core, after_change, next_init}
 use Rattle.env_loop.specs.Recording.{Continues}
-use Rattle.env_loop.specs.Runs.{IsSound}
+use Rattle.env_loop.specs.Runs.{IsSoundEnvironment}
 use Rattle.env_loop.specs.Turns.{IsTurn}
 use Rattle.napi_types.proofs.Owners.{owned-init, within-init}
-use Rattle.env_loop.proofs.Recordings.{init-grown, gone-grown}
+use Rattle.env_loop.proofs.Recordings.{init-grown, gone_change-grown}
 
 -- a turn that writes down a change
-pub wrote-turn : (ps : List Plan) (core new : Core) (all now : Registers) (change : Change) → new ≡ wrote change core
+pub after_change-turn : (ps : List Plan) (core new : Core) (all now : Registers) (change : Change) → new ≡ after_change change core
     → drop core.env.addons now ≡ drop core.env.addons all
-    → IsSound change.after → change.after.addons ≡ core.env.addons → stage_of change.after.phase ≡ stage_of core.env.phase
-    → Continues ps core all (wrote change core) now
+    → IsSoundEnvironment change.after → change.after.addons ≡ core.env.addons → stage_of change.after.phase ≡ stage_of core.env.phase
+    → Continues ps core all (after_change change core) now
     → IsTurn ps core all new now
-wrote-turn ps core new all now change made others sound addons stage goes =
+after_change-turn ps core new all now change made others sound addons stage goes =
     let P : Core → Type 0 = λ c. IsTurn ps core all c now in
     subst P (sym made) (record {
       others = others;
@@ -39,30 +39,30 @@ below-of : (a b : ℕ) → nat_lt a b ≡ true → a < b
 below-of a b h = grind arith
 
 -- the next init frame begins
-pub init-turn : (ps : List Plan) (all : Registers) (core new : Core) (i : ℕ) → IsSound core.env → core.env.frames ≡ [] → core.env.phase ≡ phase.Init
+pub init-turn : (ps : List Plan) (all : Registers) (core new : Core) (i : ℕ) → IsSoundEnvironment core.env → core.env.frames ≡ [] → core.env.phase ≡ phase.Init
     → Some i ≡ next_init core.env
-    → new ≡ wrote (init_begun i core.env) core → IsTurn ps core all new all
+    → new ≡ after_change (init_change i core.env) core → IsTurn ps core all new all
 init-turn ps all core new i sound alone here next made =
     let more = lt-of core i next in
     let there : i < core.env.addons = omega (arith, below-of core.env.inits core.env.addons more.0, more.1) in
-    let R : ℕ → Type 0 = λ k. Continues ps core all (wrote (init_begun k core.env) core) all in
-    let begun : IsSound (init_begun i core.env).after = record {
+    let R : ℕ → Type 0 = λ k. Continues ps core all (after_change (init_change k core.env) core) all in
+    let begun : IsSoundEnvironment (init_change i core.env).after = record {
       opened = sound.opened;
       owned = owned-init core.env.addons core.env i there sound.owned;
       asks = within-init core.env i sound.asks;
       gone = λ g. let z : phase.Init ≡ phase.Gone = sym here ∙ g in cc;
     } in
-    wrote-turn ps core new all all (init_begun i core.env) made refl begun refl refl
+    after_change-turn ps core new all all (init_change i core.env) made refl begun refl refl
     (subst R (sym more.1) (λ s history of r. init-grown s core history all r alone here sound.opened more.0))
 
 -- the environment is gone
-pub gone-turn : (ps : List Plan) (all : Registers) (core new : Core) → IsSound core.env → core.env.frames ≡ [] → core.env.phase ≡ phase.Finals
-    → new ≡ wrote (gone core.env) core → IsTurn ps core all new all
-gone-turn ps all core new sound alone here made =
-    let left : IsSound (gone core.env).after = record {
+pub gone_change-turn : (ps : List Plan) (all : Registers) (core new : Core) → IsSoundEnvironment core.env → core.env.frames ≡ [] → core.env.phase ≡ phase.Finals
+    → new ≡ after_change (gone_change core.env) core → IsTurn ps core all new all
+gone_change-turn ps all core new sound alone here made =
+    let left : IsSoundEnvironment (gone_change core.env).after = record {
       opened = sound.opened;
       owned = record { frames = sound.owned.frames; functions = sound.owned.functions };
       asks = sound.asks;
       gone = λ g. alone;
     } in
-    wrote-turn ps core new all all (gone core.env) made refl left refl (ap stage_of (sym here)) (λ s history of r. gone-grown s core history all r alone here)
+    after_change-turn ps core new all all (gone_change core.env) made refl left refl (ap stage_of (sym here)) (λ s history of r. gone_change-grown s core history all r alone here)

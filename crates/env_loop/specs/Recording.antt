@@ -27,8 +27,8 @@ abbrev pub machine_of : Limits → Core → List Entry → Machine
 machine_of limits core history = record {
   env = core.env;
   hub = hub_of core.env;
-  locals = length core.journal;
-  shareds = length history;
+  journal_length = length core.journal;
+  history_length = length history;
   limits = limits;
 }
 
@@ -61,8 +61,8 @@ pub record IsRecorded (s : Setting) (core : Core) (history : List Entry) (all : 
 pub record IsEnded (s : Setting) (journal : List Local) (history : List Entry) (all : Registers) : Type 0 where
   pub asks : List Ask
   pub ended : EndsBy s asks (weave journal history)
-  pub locals : (final_of s asks (weave journal history)).locals ≡ length journal
-  pub shareds : (final_of s asks (weave journal history)).shareds ≡ length history
+  pub journal_length : (final_of s asks (weave journal history)).journal_length ≡ length journal
+  pub history_length : (final_of s asks (weave journal history)).history_length ≡ length history
   pub rises : RisesBetween 0 (length history) journal
   pub parted : IsParted (opening_of s) asks journal history
   pub agrees : AgreesWith s.plans all (final_registers s asks (weave journal history))

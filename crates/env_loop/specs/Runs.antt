@@ -28,7 +28,7 @@ IsOpened core = core ≡ opened_core core.env.addons core.env.texts core.limit
 
 -- what the frames of a run keep: each runs an addon of the script and makes no more asks than it may, each function belongs to an addon of the script, and
 -- no frame stands once the environment is gone
-pub record IsSound (e : Environment) : Type 0 where
+pub record IsSoundEnvironment (e : Environment) : Type 0 where
   pub opened : e.opened ≡ true
   pub owned : IsOwned e.addons e
   pub asks : AsksWithin e
@@ -36,7 +36,7 @@ pub record IsSound (e : Environment) : Type 0 where
 
 -- the same of a run, and its history has an entry for each of the hub's events that happened
 pub record IsRunning (core : Core) (history : List Entry) : Type 0 where
-  pub sound : IsSound core.env
+  pub sound : IsSoundEnvironment core.env
   pub events : length history + stage_places (stage_of core.env.phase) ≡ 4
 
 -- the second list has one entry more at its end
@@ -64,5 +64,5 @@ pub record MovesOn (old new : Run) : Type 0 where
   pub addons : new.core.env.addons ≡ old.core.env.addons
   pub limit : new.core.limit ≡ old.core.limit
   pub journal : new.core.journal ≡ old.core.journal
-  pub sound : IsSound old.core.env → IsSound new.core.env
+  pub sound : IsSoundEnvironment old.core.env → IsSoundEnvironment new.core.env
   pub recorded : (plans : List Plan) (all : Registers) → GoesOn plans old all new all

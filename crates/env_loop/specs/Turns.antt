@@ -9,7 +9,7 @@ use Rattle.napi_types.specs.Loop.{Event}
 use Rattle.napi_types.specs.Machine.{Machine}
 use Rattle.napi_types.specs.Phases.{stage_of}
 use Rattle.napi_types.specs.Plan.{Plan, plan_of, Registers, registers_of}
-use Rattle.napi_types.specs.Registers.{plan_ask, kept}
+use Rattle.napi_types.specs.Registers.{plan_ask, registers_after_reply}
 use Rattle.napi_types.specs.Room.{stage_places}
 use Rattle.napi_types.specs.Step.{event_step}
 use Rattle.napi_types.specs.Weave.{Side, Journal, History}
@@ -18,7 +18,7 @@ use Rattle.env_core.specs.Core.{Core}
 use Rattle.env_loop.specs.declared.turn.LocalTurn.{LocalTurn}
 use Rattle.env_loop.specs.declared.turn.LocalTurn.TheVariants as turn
 use Rattle.env_loop.specs.Recording.{hub_of, Continues}
-use Rattle.env_loop.specs.Runs.{Run, IsSound, OneMore}
+use Rattle.env_loop.specs.Runs.{Run, IsSoundEnvironment, OneMore}
 
 -- a turn makes an entry where a frame stands, and else where the entry of the next event stands in the journal; where it stands in the history, the hub has to
 -- make its turn; where no event is next the environment is gone
@@ -34,7 +34,7 @@ side_of m event = option_map (λ v. (event_step m v).side) event
 
 -- the machine of an environment and its hub; what it counts decides no event
 abbrev pub uncounted : Environment → Machine
-uncounted e = record { env = e; hub = hub_of e; locals = 0; shareds = 0; limits = record { journal = 0; history = 0 } }
+uncounted e = record { env = e; hub = hub_of e; journal_length = 0; history_length = 0; limits = record { journal = 0; history = 0 } }
 
 -- the turn of an environment
 abbrev pub turn_of : Environment → LocalTurn
@@ -53,7 +53,7 @@ IsAsked plans all f a = IfSome (plan_of plans f.addon) (λ p. a ≡ plan_ask p (
 abbrev pub IsTold : List Plan → Registers → List Frame → Reply → Registers → Type 0
 IsTold plans all [] r now = now ≡ all
 IsTold plans all (f ∷ fs) r now =
-    OthersStay all now f.addon × IfSome (plan_of plans f.addon) (λ p. registers_of now f.addon ≡ kept p (registers_of all f.addon) f.entry f.asks r)
+    OthersStay all now f.addon × IfSome (plan_of plans f.addon) (λ p. registers_of now f.addon ≡ registers_after_reply p (registers_of all f.addon) f.entry f.asks r)
 
 -- a turn keeps the addons and the journal's limit and makes no event of the hub; it leaves one entry
 pub record KeepsRun (old new : Core) : Type 0 where
@@ -65,6 +65,6 @@ pub record KeepsRun (old new : Core) : Type 0 where
 -- a turn: the addons that are no addons of the script keep their registers, and a run that was recorded goes on
 pub record IsTurn (plans : List Plan) (old : Core) (all : Registers) (new : Core) (now : Registers) : Type 0 where
   pub others : drop old.env.addons now ≡ drop old.env.addons all
-  pub sound : IsSound new.env
+  pub sound : IsSoundEnvironment new.env
   pub kept : KeepsRun old new
   pub recorded : Continues plans old all new now

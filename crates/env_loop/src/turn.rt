@@ -1,14 +1,14 @@
 //! One turn of the environment: an ask of the innermost frame, or the next event where no frame stands.
 ghost use Rattle.std.specs.Prelude.{◌≡◌, ◌≢◌, ◌<◌, ◌≤◌, [], length, map, List, Some};
-ghost use Rattle.napi_types.specs.Built.{taken};
+ghost use Rattle.napi_types.specs.Built.{built_ask};
 ghost use Rattle.napi_types.specs.Lists.{head, tail};
 ghost use Rattle.napi_types.specs.Plan.{Plan, Registers};
-ghost use Rattle.env_core.specs.Standing.{frame_seen};
+ghost use Rattle.env_core.specs.Standing.{machine_frame};
 ghost use Rattle.env_loop.specs.Recording.{why_stopped};
-ghost use Rattle.env_loop.specs.Runs.{IsSound};
-ghost use Rattle.napi_types.specs.Ends.{frame_ended};
+ghost use Rattle.env_loop.specs.Runs.{IsSoundEnvironment};
+ghost use Rattle.napi_types.specs.Ends.{end_change};
 ghost use Rattle.napi_types.specs.Frames.{at_last_ask, asks_made, most_asks};
-ghost use Rattle.env_core.specs.Core.{wrote};
+ghost use Rattle.env_core.specs.Core.{after_change};
 ghost use Rattle.env_loop.specs.Turns.{turn_of, IsTold, IsTurn};
 
 use addon_trait::{Addon, ask_at, enter_at, note_at};
@@ -41,7 +41,7 @@ fn why(status: Status) -> Why
 
 /// What a frame is taken to ask: a call that is not built is never made, and the addon that asks it is taken to leave.
 fn taken(ask: Ask) -> Ask
-    ensures { result ≡ taken ask }
+    ensures { result ≡ built_ask ask }
 {
     match ask {
         Ask::Do(call) if !call.is_built() => Ask::Leave(None),
@@ -56,17 +56,17 @@ fn end_frame(
     value: Option<HandleId>,
     cut: Option<Why>,
 )
-    requires sound { IsSound core.old.env }
+    requires sound { IsSoundEnvironment core.old.env }
     requires enough { core.old.env.addons ≤ length addons.old.items }
     requires standing { core.old.env.frames ≢ [] }
     requires asks { cut ≡ Some Why.Asks → asks_made core.old.env.frames ≡ most_asks }
     ensures count { length addons.new.items ≡ length addons.old.items }
     ensures plans { map (λ b. plan b) addons.new.items ≡ map (λ b. plan b) addons.old.items }
-    ensures ended { core.new ≡ wrote (frame_ended value cut core.old.env) core.old }
+    ensures ended { core.new ≡ after_change (end_change value cut core.old.env) core.old }
     ensures told { let before = map (λ b. regs b) addons.old.items in
         let after = map (λ b. regs b) addons.new.items in
         let caller = at_last_ask (tail core.old.env.frames) in
-        IsTold (map (λ b. plan b) addons.old.items) before caller (frame_ended value cut core.old.env).entry.reply after }
+        IsTold (map (λ b. plan b) addons.old.items) before caller (end_change value cut core.old.env).entry.reply after }
 {
     let reply = core.leave(value, cut);
     let Some(caller) = core.frame() else {
@@ -79,9 +79,9 @@ fn end_frame(
 
 /// What the innermost frame asks: its call, or its end. A call that stops cuts the frame.
 fn ask_turn(core: &mut EnvCore, addons: &mut Vec<Box<dyn Addon>>, frame: StandingFrame)
-    requires sound { IsSound core.old.env }
+    requires sound { IsSoundEnvironment core.old.env }
     requires enough { core.old.env.addons ≤ length addons.old.items }
-    requires stands { head core.old.env.frames ≡ Some (frame_seen frame) }
+    requires stands { head core.old.env.frames ≡ Some (machine_frame frame) }
     requires within { frame.asks < most_asks }
     ensures count { length addons.new.items ≡ length addons.old.items }
     ensures plans { map (λ b. plan b) addons.new.items ≡ map (λ b. plan b) addons.old.items }
@@ -106,9 +106,9 @@ fn ask_turn(core: &mut EnvCore, addons: &mut Vec<Box<dyn Addon>>, frame: Standin
 
 /// A turn of the innermost frame: what it asks, or its end where it has made all its asks.
 fn frame_turn(core: &mut EnvCore, addons: &mut Vec<Box<dyn Addon>>, frame: StandingFrame)
-    requires sound { IsSound core.old.env }
+    requires sound { IsSoundEnvironment core.old.env }
     requires enough { core.old.env.addons ≤ length addons.old.items }
-    requires stands { head core.old.env.frames ≡ Some (frame_seen frame) }
+    requires stands { head core.old.env.frames ≡ Some (machine_frame frame) }
     ensures count { length addons.new.items ≡ length addons.old.items }
     ensures plans { map (λ b. plan b) addons.new.items ≡ map (λ b. plan b) addons.old.items }
     ensures turn { let before = map (λ b. regs b) addons.old.items in
@@ -124,7 +124,7 @@ fn frame_turn(core: &mut EnvCore, addons: &mut Vec<Box<dyn Addon>>, frame: Stand
 
 /// A turn where no frame stands: the next event, if it is one of the environment alone.
 fn event_turn(core: &mut EnvCore) -> LocalTurn
-    requires sound { IsSound core.old.env }
+    requires sound { IsSoundEnvironment core.old.env }
     requires alone { core.old.env.frames ≡ [] }
     ensures turn { result ≡ turn_of core.old.env }
     ensures made { result ≡ LocalTurn.Made → (plans : List Plan) (all : Registers) → IsTurn plans core.old all core.new all }
@@ -150,7 +150,7 @@ fn event_turn(core: &mut EnvCore) -> LocalTurn
 
 /// One turn, over the core of a run. See `EnvRun::local_turn`.
 pub(crate) fn turn(core: &mut EnvCore, addons: &mut Vec<Box<dyn Addon>>) -> LocalTurn
-    requires sound { IsSound core.old.env }
+    requires sound { IsSoundEnvironment core.old.env }
     requires enough { core.old.env.addons ≤ length addons.old.items }
     ensures count { length addons.new.items ≡ length addons.old.items }
     ensures plans { map (λ b. plan b) addons.new.items ≡ map (λ b. plan b) addons.old.items }

@@ -5,7 +5,7 @@ use Rattle.std.specs.declared.result.Result.{Result}
 use Rattle.std.specs.declared.result.Result.TheVariants.{Ok, Err}
 use Rattle.napi_types.specs.declared.call.Call.{Call}
 use Rattle.napi_types.specs.declared.entry.Out.{Out}
-use Rattle.napi_types.specs.Calls.{accepted}
+use Rattle.napi_types.specs.Calls.{heap_effect}
 use Rattle.napi_types.specs.FunctionCalls.{on_functions}
 use Rattle.napi_types.specs.Heap.{Heap}
 use Rattle.napi_types.specs.Replies.{Answer}
@@ -16,7 +16,7 @@ use Rattle.env_values.specs.Steps.{Comes, ComesOf}
 -- a call that creates no function comes to the same, whichever addon calls
 comes-of-any : (texts addon : ℕ) (before : Heap) (c : Call) (r : Result Out Stop) (after : Heap) → on_functions addon before c ≡ None → Comes texts before c r after
     → ComesOf texts addon before c r after
-comes-of-any texts addon before c (Ok o) after none (unrefused, is) = (unrefused, ap (λ (a : Option (Answer Heap)). unwrap_or a (accepted before c 0)) none ∙ is)
+comes-of-any texts addon before c (Ok o) after none (unrefused, is) = (unrefused, ap (λ (a : Option (Answer Heap)). unwrap_or a (heap_effect before c 0)) none ∙ is)
 comes-of-any texts addon before c (Err (stop.Refused s)) after none comes = comes
 comes-of-any texts addon before c (Err stop.NoMemory) after none comes = comes
 

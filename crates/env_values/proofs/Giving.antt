@@ -6,13 +6,13 @@ use Rattle.napi_types.specs.declared.body.Body.{Body}
 use Rattle.napi_types.specs.declared.entry.Out.TheVariants as out
 use Rattle.napi_types.specs.declared.ids.HandleId.{HandleId}
 use Rattle.napi_types.specs.declared.ids.TextNo.{TextNo}
-use Rattle.napi_types.specs.Graph.{StoreState, IsLive, IsSound, value_of, number_in, graph_of}
+use Rattle.napi_types.specs.Graph.{StoreState, IsLive, IsSoundStore, value_of, number_in, graph_of}
 use Rattle.napi_types.specs.Heap.{Heap, handle_of, with_handle, with_list, with_thrown}
 use Rattle.napi_types.specs.Lists.{first_changed, has_number}
-use Rattle.napi_types.specs.Replies.{answered}
+use Rattle.napi_types.specs.Replies.{accepts}
 use Rattle.napi_types.specs.Scopes.{Held, hold_in, held_by_frames}
 use Rattle.napi_types.specs.Values.{Value, list_of, thrown_strings, thrown_of}
-use Rattle.handle_scope.specs.HandleScopes.{HandleScopes, handle_issued}
+use Rattle.handle_scope.specs.HandleScopes.{HandleScopes, with_issued_handle}
 use Rattle.value_store.specs.Changes.{MakesValue, MakesList}
 use Rattle.value_store.proofs.Callers.{makes-live}
 use Rattle.env_values.specs.Seen.{seen_frame, heap_of, HoldsLive}
@@ -20,7 +20,7 @@ use Rattle.env_values.proofs.Held.{held-holds}
 use Rattle.env_values.proofs.Seen.{IsSame, seen-same, held-seen}
 
 -- HELD VALUES STAY LIVE
-pub issued-live : (s : StoreState) (scopes after : HandleScopes) (v : ℕ) → after ≡ handle_issued v scopes → IsLive s v → HoldsLive s scopes → HoldsLive s after
+pub issued-live : (s : StoreState) (scopes after : HandleScopes) (v : ℕ) → after ≡ with_issued_handle v scopes → IsLive s v → HoldsLive s scopes → HoldsLive s after
 issued-live s scopes after v is live held =
     let P : HandleScopes → Type 0 = λ x. HoldsLive s x in
     subst P (sym is) (held-holds (λ n. IsLive s n) (record { handle = scopes.handles + 1; value = v }) scopes.frames live held)
@@ -38,25 +38,25 @@ seen-alike s t scopes agrees held =
     seen-same s t scopes.frames (All-weaker (λ (p : Held). IsLive s p.value) (λ p. IsSame s t p) (λ p. agrees p.value) (held_by_frames scopes.frames) held)
 
 -- a handle of a value under the number n is given, where the store came to another state
-pub given-heap : (s t : StoreState) (scopes after : HandleScopes) (id n : ℕ) → Agrees s t → HoldsLive s scopes → number_in t id ≡ n → after ≡ handle_issued id scopes
+pub given-heap : (s t : StoreState) (scopes after : HandleScopes) (id n : ℕ) → Agrees s t → HoldsLive s scopes → number_in t id ≡ n → after ≡ with_issued_handle id scopes
     → heap_of t after ≡ with_handle n (record (heap_of s scopes) { values = graph_of t; made = t.made })
 given-heap s t scopes after id n agrees held number is =
     ap (heap_of t) is
-    ∙ ap (λ fs. record (heap_of t (handle_issued id scopes)) { scopes = fs }) (held-seen t (record { handle = scopes.handles + 1; value = id }) scopes.frames)
-    ∙ ap (λ m. record (heap_of t (handle_issued id scopes)) { scopes = first_changed (hold_in (record { handle = scopes.handles + 1; value = m })) (map (seen_frame t) scopes.frames) }) number
-    ∙ ap (λ fs. record (heap_of t (handle_issued id scopes)) { scopes = first_changed (hold_in (record { handle = scopes.handles + 1; value = n })) fs }) (seen-alike s t scopes agrees held)
+    ∙ ap (λ fs. record (heap_of t (with_issued_handle id scopes)) { scopes = fs }) (held-seen t (record { handle = scopes.handles + 1; value = id }) scopes.frames)
+    ∙ ap (λ m. record (heap_of t (with_issued_handle id scopes)) { scopes = first_changed (hold_in (record { handle = scopes.handles + 1; value = m })) (map (seen_frame t) scopes.frames) }) number
+    ∙ ap (λ fs. record (heap_of t (with_issued_handle id scopes)) { scopes = first_changed (hold_in (record { handle = scopes.handles + 1; value = n })) fs }) (seen-alike s t scopes agrees held)
 
 -- the answer that gives it
-pub given-answer : (before after : Heap) (v : ℕ) (h : HandleId) → h.0 ≡ before.handles + 1 → after ≡ with_handle v before → handle_of v before ≡ answered (out.Handle h) after
+pub given-answer : (before after : Heap) (v : ℕ) (h : HandleId) → h.0 ≡ before.handles + 1 → after ≡ with_handle v before → handle_of v before ≡ accepts (out.Handle h) after
 given-answer before after v h number is =
-    ap (λ n. answered (out.Handle (record { 0 = n })) (with_handle v before)) (sym number) ∙ ap (λ (heap : Heap). answered (out.Handle h) heap) (sym is)
+    ap (λ n. accepts (out.Handle (record { 0 = n })) (with_handle v before)) (sym number) ∙ ap (λ (heap : Heap). accepts (out.Handle h) heap) (sym is)
 
 -- A NEW VALUE
 never : (a c : Bool) → (a || c) ≡ false → c ≡ false
 never true c h = let no : ⊥ = cc in absurd no
 never false c h = h
 
-pub makes-agrees : (s t : StoreState) (id : ℕ) (v : Value) → IsSound s → MakesValue s t id v → Agrees s t
+pub makes-agrees : (s t : StoreState) (id : ℕ) (v : Value) → IsSoundStore s → MakesValue s t id v → Agrees s t
 makes-agrees s t id v sound step n live =
     let apart : n ≢ id = λ same. stands same in ap (λ o. unwrap_or (option_map (λ (v : Value). v.number) o) 0) (step.others n apart)
   where
@@ -68,37 +68,37 @@ makes-agrees s t id v sound step n live =
         cc
 
 -- the store has it as v, and its graph as w
-pub made-heap : (s t : StoreState) (scopes after : HandleScopes) (id : ℕ) (v w : Value) → IsSound s → MakesValue s t id v → v.number ≡ s.made + 1 → graph_of t ≡ graph_of s ++ w ∷ []
-    → HoldsLive s scopes → after ≡ handle_issued id scopes → heap_of t after ≡ with_handle (s.made + 1) (record (heap_of s scopes) { values = graph_of s ++ w ∷ []; made = s.made + 1 })
+pub made-heap : (s t : StoreState) (scopes after : HandleScopes) (id : ℕ) (v w : Value) → IsSoundStore s → MakesValue s t id v → v.number ≡ s.made + 1 → graph_of t ≡ graph_of s ++ w ∷ []
+    → HoldsLive s scopes → after ≡ with_issued_handle id scopes → heap_of t after ≡ with_handle (s.made + 1) (record (heap_of s scopes) { values = graph_of s ++ w ∷ []; made = s.made + 1 })
 made-heap s t scopes after id v w sound step number graph held is =
     given-heap s t scopes after id (s.made + 1) (makes-agrees s t id v sound step) held (ap (λ o. unwrap_or (option_map (λ (u : Value). u.number) o) 0) step.named ∙ number) is
     ∙ ap (λ vs. with_handle (s.made + 1) (record (heap_of s scopes) { values = vs; made = t.made })) graph
     ∙ ap (λ m. with_handle (s.made + 1) (record (heap_of s scopes) { values = graph_of s ++ w ∷ []; made = m })) step.made
 
 -- a value under a new number is live, and every held value with it
-pub made-live : (s t : StoreState) (scopes after : HandleScopes) (id : ℕ) (v : Value) → MakesValue s t id v → HoldsLive s scopes → after ≡ handle_issued id scopes → HoldsLive t after
+pub made-live : (s t : StoreState) (scopes after : HandleScopes) (id : ℕ) (v : Value) → MakesValue s t id v → HoldsLive s scopes → after ≡ with_issued_handle id scopes → HoldsLive t after
 made-live s t scopes after id v step held is =
     issued-live t scopes after id is (subst (λ (o : Option Value). IsSome o) (sym step.named) refl) (more-live s t scopes (makes-live s t id v step) held)
 
 -- A NEW LIST
-pub list-agrees : (s t : StoreState) (id n : ℕ) → IsSound s → MakesList s t id n → Agrees s t
+pub list-agrees : (s t : StoreState) (id n : ℕ) → IsSoundStore s → MakesList s t id n → Agrees s t
 list-agrees s t id n sound step m live = ap (λ o. unwrap_or (option_map (λ (v : Value). v.number) o) 0) (step.others m (sound.given m live))
 
-pub list-live : (s t : StoreState) (id n : ℕ) → IsSound s → MakesList s t id n → (m : ℕ) → IsLive s m → IsLive t m
+pub list-live : (s t : StoreState) (id n : ℕ) → IsSoundStore s → MakesList s t id n → (m : ℕ) → IsLive s m → IsLive t m
 list-live s t id n sound step m live = subst (λ (o : Option Value). IsSome o) (sym (step.others m (sound.given m live))) live
 
 pub some-live : (o : Option Value) (n : ℕ) → option_map (λ (v : Value). v.number) o ≡ Some n → IsSome o
 some-live None n e = cc
 some-live (Some v) n e = refl
 
-pub listed-heap : (s t : StoreState) (scopes after : HandleScopes) (id : ℕ) (bs : List Body) → IsSound s → MakesList s t id (length bs) → graph_of t ≡ graph_of s ++ list_of s.made bs
-    → HoldsLive s scopes → after ≡ handle_issued id scopes → heap_of t after ≡ with_handle (s.made + length bs + 1) (with_list bs (heap_of s scopes))
+pub listed-heap : (s t : StoreState) (scopes after : HandleScopes) (id : ℕ) (bs : List Body) → IsSoundStore s → MakesList s t id (length bs) → graph_of t ≡ graph_of s ++ list_of s.made bs
+    → HoldsLive s scopes → after ≡ with_issued_handle id scopes → heap_of t after ≡ with_handle (s.made + length bs + 1) (with_list bs (heap_of s scopes))
 listed-heap s t scopes after id bs sound step graph held is =
     given-heap s t scopes after id (s.made + length bs + 1) (list-agrees s t id (length bs) sound step) held (ap (λ o. unwrap_or o 0) step.number) is
     ∙ ap (λ vs. with_handle (s.made + length bs + 1) (record (heap_of s scopes) { values = vs; made = t.made })) graph
     ∙ ap (λ m. with_handle (s.made + length bs + 1) (record (heap_of s scopes) { values = graph_of s ++ list_of s.made bs; made = m })) step.made
 
-pub listed-live : (s t : StoreState) (scopes after : HandleScopes) (id n : ℕ) → IsSound s → MakesList s t id n → HoldsLive s scopes → after ≡ handle_issued id scopes → HoldsLive t after
+pub listed-live : (s t : StoreState) (scopes after : HandleScopes) (id n : ℕ) → IsSoundStore s → MakesList s t id n → HoldsLive s scopes → after ≡ with_issued_handle id scopes → HoldsLive t after
 listed-live s t scopes after id n sound step held is =
     issued-live t scopes after id is (some-live (value_of t id) (s.made + n + 1) step.number) (more-live s t scopes (list-live s t id n sound step) held)
 

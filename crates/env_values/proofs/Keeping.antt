@@ -2,7 +2,7 @@
 use Rattle.std.proofs.Common.{◌≡◌, ℕ, ◌+◌, refl, ap, Result, Ok, Err, IfOk, OnOk, OnErr}
 use Rattle.std.specs.Option.{unwrap_or}
 use Rattle.napi_types.specs.declared.ids.ValueId.{ValueId}
-use Rattle.napi_types.specs.Graph.{StoreState, IsSound, IsLive, value_of, number_in}
+use Rattle.napi_types.specs.Graph.{StoreState, IsSoundStore, IsLive, value_of, number_in}
 use Rattle.napi_types.specs.Values.{Value}
 use Rattle.value_store.specs.Changes.{ChangesOnly, MakesValue, MakesList}
 use Rattle.value_store.proofs.Callers.{changes-live, makes-live}
@@ -15,15 +15,15 @@ pub keeps_same : (s : StoreState) → KeepsValues s s
 keeps_same s = record { live = λ id here. here; numbers = λ id here. refl }
 
 -- where a value is made
-pub keeps_made : (s t : StoreState) (id : ℕ) (v : Value) → IsSound s → MakesValue s t id v → KeepsValues s t
+pub keeps_made : (s t : StoreState) (id : ℕ) (v : Value) → IsSoundStore s → MakesValue s t id v → KeepsValues s t
 keeps_made s t id v sound step = record { live = makes-live s t id v step; numbers = makes-agrees s t id v sound step }
 
 -- where a list is made
-pub keeps_listed : (s t : StoreState) (id n : ℕ) → IsSound s → MakesList s t id n → KeepsValues s t
+pub keeps_listed : (s t : StoreState) (id n : ℕ) → IsSoundStore s → MakesList s t id n → KeepsValues s t
 keeps_listed s t id n sound step = record { live = list-live s t id n sound step; numbers = list-agrees s t id n sound step }
 
 -- also where the result may be want of memory
-pub keeps_listed_or_not : {E : Type 0} (s t : StoreState) (n : ℕ) (r : Result ValueId E) → IsSound s → IfOk r (λ id. MakesList s t id.0 n) → OnErr r (t ≡ s) → KeepsValues s t
+pub keeps_listed_or_not : {E : Type 0} (s t : StoreState) (n : ℕ) (r : Result ValueId E) → IsSoundStore s → IfOk r (λ id. MakesList s t id.0 n) → OnErr r (t ≡ s) → KeepsValues s t
 keeps_listed_or_not s t n (Ok id) sound ok err = keeps_listed s t id.0 n sound ok
 keeps_listed_or_not s t n (Err e) sound ok err = rw err (keeps_same s)
 

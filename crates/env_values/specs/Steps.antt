@@ -6,11 +6,11 @@ use Rattle.napi_types.specs.declared.call.Call.{Call}
 use Rattle.napi_types.specs.declared.entry.NoMemory.{NoMemory}
 use Rattle.napi_types.specs.declared.entry.Out.{Out}
 use Rattle.napi_types.specs.declared.status.Status.{Status}
-use Rattle.napi_types.specs.Calls.{accepted, accepted_of}
+use Rattle.napi_types.specs.Calls.{heap_effect, addon_effect}
 use Rattle.napi_types.specs.Graph.{StoreState, value_of, number_in, renamed}
 use Rattle.napi_types.specs.Heap.{Heap, handle_value}
 use Rattle.napi_types.specs.Refusals.{refusal_in}
-use Rattle.napi_types.specs.Replies.{Answer, answered}
+use Rattle.napi_types.specs.Replies.{Answer, accepts}
 use Rattle.napi_types.specs.Room.{is_growing}
 use Rattle.napi_types.specs.Scopes.{gives}
 use Rattle.napi_types.specs.Values.{value_at}
@@ -34,19 +34,19 @@ pub record IsValueOf (store : StoreState) (scopes : HandleScopes) (h : ℕ) (v :
 -- what a call comes to, where an accepted one has this effect: its result where nothing refuses it, and the heap that it leaves; or the first refusal; or
 -- want of memory. The last two leave the heap as it was
 abbrev pub ComesBy : (Heap → Call → ℕ → Answer Heap) → ℕ → Heap → Call → Result Out Stop → Heap → Type 0
-ComesBy effect texts before c (Ok o) after = (refusal_in texts before c ≡ None) × (effect before c 0 ≡ answered o after)
+ComesBy effect texts before c (Ok o) after = (refusal_in texts before c ≡ None) × (effect before c 0 ≡ accepts o after)
 ComesBy effect texts before c (Err (stop.Refused s)) after = (refusal_in texts before c ≡ Some s) × (after ≡ before)
 ComesBy effect texts before c (Err stop.NoMemory) after = IsTrue (is_growing c) × (after ≡ before)
 
 -- what a call that creates no function comes to
 abbrev pub Comes : ℕ → Heap → Call → Result Out Stop → Heap → Type 0
-Comes texts before c r after = ComesBy accepted texts before c r after
+Comes texts before c r after = ComesBy heap_effect texts before c r after
 
 -- what a call of this addon comes to
 abbrev pub ComesOf : ℕ → ℕ → Heap → Call → Result Out Stop → Heap → Type 0
-ComesOf texts addon before c r after = ComesBy (accepted_of addon) texts before c r after
+ComesOf texts addon before c r after = ComesBy (addon_effect addon) texts before c r after
 
 -- what gives a handle comes to: this answer and what it leaves; or want of memory, which leaves the heap as it was
 abbrev pub Gives : Answer Heap → Heap → Result Out NoMemory → Heap → Type 0
-Gives answer before (Ok o) after = answer ≡ answered o after
+Gives answer before (Ok o) after = answer ≡ accepts o after
 Gives answer before (Err e) after = after ≡ before

@@ -1,6 +1,6 @@
 //! The values of handles, and what a call may expect of a value.
 ghost use Rattle.std.specs.Prelude.{◌≡◌, true, false, is_some, nat_lt, option_map, IfSome, IfOk, IfErr, OnOk};
-ghost use Rattle.napi_types.specs.Graph.{number_in, IsLive, IsSound};
+ghost use Rattle.napi_types.specs.Graph.{number_in, IsLive, IsSoundStore};
 ghost use Rattle.napi_types.specs.Scopes.{gives};
 ghost use Rattle.napi_types.specs.Values.{is_object_like, is_string, is_number, is_bigint, is_boolean, is_array, is_error_body, signed_of, flag_of, text_of, strictly_equal, element_at, undefined_value};
 ghost use Rattle.std.specs.Option.{unwrap_or};
@@ -147,7 +147,7 @@ pub(crate) fn is_error_value(body: Body) -> bool
 
 /// Recalls what holds of every store, which a store tells where it gives a value.
 pub(crate) fn recall(store: &Store)
-    ensures { IsSound store.now }
+    ensures { IsSoundStore store.now }
 {
     let _ = store.get(store.starting(0));
 }

@@ -1,7 +1,7 @@
 //! One call on values, properties or elements.
 ghost use Rattle.std.specs.Prelude.{◌≡◌, ◌≢◌, ◌+◌, ◌<◌, ◌^◌, true, cond, [], IsTrue, IfOk, OnOk, OnErr};
 ghost use Rattle.napi_types.specs.Built.{is_creating, is_value_call};
-ghost use Rattle.napi_types.specs.Calls.{answer_in};
+ghost use Rattle.napi_types.specs.Calls.{heap_answer};
 ghost use Rattle.napi_types.specs.Room.{is_growing};
 ghost use Rattle.napi_types.specs.Values.{true_value, false_value};
 ghost use Rattle.env_values.specs.Numbering.{HasNumbersLeft};
@@ -148,8 +148,8 @@ pub fn value_step(
     requires live { HoldsLive store.old scopes.old }
     requires values { HasNumbersLeft store.old }
     requires handles { scopes.old.handles < 2 ^ 62 }
-    ensures reply { IfOk result (λ reply. reply ≡ (answer_in texts addon (heap_of store.old scopes.old) call.now 0).reply) }
-    ensures after { OnOk result (heap_of store.new scopes.new ≡ (answer_in texts addon (heap_of store.old scopes.old) call.now 0).after) }
+    ensures reply { IfOk result (λ reply. reply ≡ (heap_answer texts addon (heap_of store.old scopes.old) call.now 0).reply) }
+    ensures after { OnOk result (heap_of store.new scopes.new ≡ (heap_answer texts addon (heap_of store.old scopes.old) call.now 0).after) }
     ensures live { HoldsLive store.new scopes.new }
     ensures calls { scopes.new.by_call ≡ scopes.old.by_call }
     ensures kept { KeepsValues store.old store.new }

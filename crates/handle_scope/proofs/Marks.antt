@@ -12,7 +12,7 @@ use Rattle.napi_types.specs.Scopes.{Held, FrameScopes, hold_in, open_in, close_i
 use Rattle.handle_scope.specs.declared.scopes.HeldHandle.{HeldHandle}
 use Rattle.handle_scope.specs.declared.scopes.ScopeMark.{ScopeMark}
 use Rattle.handle_scope.specs.declared.scopes.FrameMark.{FrameMark}
-use Rattle.handle_scope.specs.Marks.{held_of, waiting, with_scope, scopes_above, frames_marked, AreScopesWithin, AreFramesWithin, ArePlaced, Rises, AreInOrder, AreScopesInOrder, AreFramesInOrder}
+use Rattle.handle_scope.specs.Marks.{held_of, waiting, with_marked_scope, scopes_above, frames_marked, AreScopesWithin, AreFramesWithin, ArePlaced, Rises, AreInOrder, AreScopesInOrder, AreFramesInOrder}
 use Rattle.handle_scope.proofs.Numbers.{Rises-push, AreAtMost-push, AreAtMost-more, Lacks, Lacks-tail, HasAt, Lacks-after, Lacks-reverse}
 
 -- A FRAME'S SCOPES
@@ -42,8 +42,8 @@ scopes-hold : (p : Held) (start : ℕ) (ss : List ScopeMark) (hs : List Held) �
     → scopes_above start ss (hs ++ p ∷ []) ≡ hold_in p (scopes_above start ss hs)
 scopes-hold p start [] hs w = ap (λ own. record { own = own; opened = [] }) (drop-append-le start hs (p ∷ []) w)
 scopes-hold p start (s ∷ ss) hs w =
-    ap (λ held. with_scope s held (scopes_above start ss (take s.start (hs ++ p ∷ []) ++ waiting s))) (drop-append-le s.start hs (p ∷ []) w.0)
-    ∙ ap (λ rest. with_scope s (drop s.start hs ++ p ∷ []) (scopes_above start ss (rest ++ waiting s))) (take-append-le s.start hs (p ∷ []) w.0)
+    ap (λ held. with_marked_scope s held (scopes_above start ss (take s.start (hs ++ p ∷ []) ++ waiting s))) (drop-append-le s.start hs (p ∷ []) w.0)
+    ∙ ap (λ rest. with_marked_scope s (drop s.start hs ++ p ∷ []) (scopes_above start ss (rest ++ waiting s))) (take-append-le s.start hs (p ∷ []) w.0)
 
 -- ORDER
 order-push : (p : Held) (hs : List Held) (most more : ℕ) → AreInOrder hs most → most < p.handle → p.handle ≤ more → AreInOrder (hs ++ p ∷ []) more
@@ -134,8 +134,8 @@ frames-open n kind at place (f ∷ fs) ss hs w e =
     let rest : List ScopeMark → List FrameScopes = λ x. frames_marked fs x (take f.start hs) in
     ap (λ x. scopes_above f.start x hs ∷ rest (take f.scopes (ss ++ m ∷ []))) (marks-push f.scopes ss m w.0)
     ∙ ap (λ x. scopes_above f.start (m ∷ ms) hs ∷ rest x) (take-append-le f.scopes ss (m ∷ []) w.0)
-    ∙ ap (λ x. with_scope m x (scopes_above f.start ms (take at hs ++ [])) ∷ rest (take f.scopes ss)) (ap (λ k. drop k hs) e ∙ drop-length hs)
-    ∙ ap (λ x. with_scope m [] (scopes_above f.start ms x) ∷ rest (take f.scopes ss)) (all-taken hs at e)
+    ∙ ap (λ x. with_marked_scope m x (scopes_above f.start ms (take at hs ++ [])) ∷ rest (take f.scopes ss)) (ap (λ k. drop k hs) e ∙ drop-length hs)
+    ∙ ap (λ x. with_marked_scope m [] (scopes_above f.start ms x) ∷ rest (take f.scopes ss)) (all-taken hs at e)
 
 pub within-open : (m : ScopeMark) (fs : List FrameMark) (ss : List ScopeMark) (n : ℕ) → fs ≢ [] → AreFramesWithin fs ss n → m.start ≡ n
     → AreFramesWithin fs (ss ++ m ∷ []) n
@@ -255,11 +255,11 @@ escaped_mark m x = record m { escaped = Some x }
 
 -- a scope that is not the one that is looked for stays as it is
 passed-by : (n : ℕ) (s : ScopeMark) (hs : List Held) (p : Held) (f : FrameScopes) → (s.number == n) ≡ false
-    → with_scope s hs (escape_in n p f) ≡ escape_in n p (with_scope s hs f)
+    → with_marked_scope s hs (escape_in n p f) ≡ escape_in n p (with_marked_scope s hs f)
 passed-by n s hs p f e = rw e refl
 
 found-here : (n : ℕ) (m : ScopeMark) (x : HeldHandle) (hs : List Held) (f : FrameScopes) → (m.number == n) ≡ true → m.escaped ≡ None
-    → with_scope (escaped_mark m x) hs (hold_in (held_of x) f) ≡ escape_in n (held_of x) (with_scope m hs f)
+    → with_marked_scope (escaped_mark m x) hs (hold_in (held_of x) f) ≡ escape_in n (held_of x) (with_marked_scope m hs f)
 found-here n m x hs f e none = rw e refl
 
 scopes-escape : (n start : ℕ) (ys : List ScopeMark) (m : ScopeMark) (xs : List ScopeMark) (x : HeldHandle) (hs : List Held) → Lacks (λ s. s.number) ys n → m.number ≡ n → m.escaped ≡ None
@@ -270,13 +270,13 @@ scopes-escape n start [] m xs x hs l e none w =
     let below : List Held = take m.start hs in
     let within : AreScopesWithin start xs (length below) = subst P (sym (length-take-le m.start hs w.0)) w.1 in
     let before : scopes_above start xs below ≡ scopes_above start xs (below ++ waiting m) = ap (scopes_above start xs) (sym (append-nil below) ∙ ap (λ o. below ++ waiting (record m { escaped = o })) (sym none)) in
-    ap (with_scope (escaped_mark m x) (drop m.start hs)) (scopes-hold (held_of x) start xs below within)
+    ap (with_marked_scope (escaped_mark m x) (drop m.start hs)) (scopes-hold (held_of x) start xs below within)
     ∙ found-here n m x (drop m.start hs) (scopes_above start xs below) (grind (arith, nat_tests)) none
-    ∙ ap (λ f. escape_in n (held_of x) (with_scope m (drop m.start hs) f)) before
+    ∙ ap (λ f. escape_in n (held_of x) (with_marked_scope m (drop m.start hs) f)) before
 scopes-escape n start (y ∷ ys) m xs x hs l e none w =
     let below : List Held = take y.start hs ++ waiting y in
     let other : (y.number == n) ≡ false = grind (arith, nat_tests, l.at 0 y (omega arith)) in
-    ap (with_scope y (drop y.start hs)) (scopes-escape n start ys m xs x below (Lacks-tail (λ (s : ScopeMark). s.number) y ys n l) e none (within-closed start y (ys ++ m ∷ xs) hs w))
+    ap (with_marked_scope y (drop y.start hs)) (scopes-escape n start ys m xs x below (Lacks-tail (λ (s : ScopeMark). s.number) y ys n l) e none (within-closed start y (ys ++ m ∷ xs) hs w))
     ∙ passed-by n y (drop y.start hs) (held_of x) (scopes_above start (ys ++ m ∷ xs) below) other
 
 scopes-within-escape : (start : ℕ) (ys : List ScopeMark) (m : ScopeMark) (xs : List ScopeMark) (x : HeldHandle) (end : ℕ)

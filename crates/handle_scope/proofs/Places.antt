@@ -6,7 +6,7 @@ use Rattle.std.specs.Ordering.{nat_cmp}
 use Rattle.std.proofs.lemmas.Bool.{cases_lt}
 use Rattle.std.proofs.lemmas.List.{take-append-le, drop-append-le, take-take, take-append-drop, reverse-append, length-append, length-take-le, length-reverse, length-map, length-drop, map-append, get_or_append_left, get_or-append-add, get_or-append_right, get_or-map, get_or-drop, get_or-take, reverse-reverse}
 use Rattle.napi_types.specs.Scopes.{Held, FrameScopes}
-use Rattle.handle_scope.specs.HandleScopes.{filled, frame_places, handle_places}
+use Rattle.handle_scope.specs.HandleScopes.{held_places, frame_places, handle_places}
 use Rattle.handle_scope.specs.declared.scopes.HeldHandle.{HeldHandle}
 use Rattle.handle_scope.specs.declared.scopes.ScopeMark.{ScopeMark}
 use Rattle.handle_scope.specs.declared.scopes.FrameMark.{FrameMark}
@@ -36,19 +36,19 @@ joined : (n m : ℕ) (hs : List Held) → n ≤ m → m ≤ length hs → drop n
 joined n m hs le within =
     sym (drop-append-le n (take m hs) (drop m hs) (omega (arith, length-take-le m hs within))) ∙ ap (drop n) (take-append-drop m hs)
 
-filled-append : (xs ys : List Held) → filled xs ++ filled ys ≡ filled (xs ++ ys)
-filled-append xs ys = sym (map-append (λ (p : Held). Some p.value) xs ys)
+held_places-append : (xs ys : List Held) → held_places xs ++ held_places ys ≡ held_places (xs ++ ys)
+held_places-append xs ys = sym (map-append (λ (p : Held). Some p.value) xs ys)
 
 -- one handle more at the end is one place more
 places-push : (p : Held) (ms : List ScopeMark) (hs : List Held) → AreStartsWithin ms (length hs)
     → places_marked ms (hs ++ p ∷ []) ≡ places_marked ms hs ++ Some p.value ∷ []
-places-push p [] hs w = sym (filled-append hs (p ∷ []))
+places-push p [] hs w = sym (held_places-append hs (p ∷ []))
 places-push p (m ∷ ms) hs w =
     let v : Option ℕ = option_map (λ (e : HeldHandle). e.value.0) m.escaped in
-    ap (λ l. places_marked ms l ++ v ∷ filled (drop m.start (hs ++ p ∷ []))) (take-append-le m.start hs (p ∷ []) w.0)
-    ∙ ap (λ l. places_marked ms (take m.start hs) ++ v ∷ filled l) (drop-append-le m.start hs (p ∷ []) w.0)
-    ∙ ap (λ l. places_marked ms (take m.start hs) ++ v ∷ l) (sym (filled-append (drop m.start hs) (p ∷ [])))
-    ∙ sym (append_assoc (places_marked ms (take m.start hs)) (v ∷ filled (drop m.start hs)) (Some p.value ∷ []))
+    ap (λ l. places_marked ms l ++ v ∷ held_places (drop m.start (hs ++ p ∷ []))) (take-append-le m.start hs (p ∷ []) w.0)
+    ∙ ap (λ l. places_marked ms (take m.start hs) ++ v ∷ held_places l) (drop-append-le m.start hs (p ∷ []) w.0)
+    ∙ ap (λ l. places_marked ms (take m.start hs) ++ v ∷ l) (sym (held_places-append (drop m.start hs) (p ∷ [])))
+    ∙ sym (append_assoc (places_marked ms (take m.start hs)) (v ∷ held_places (drop m.start hs)) (Some p.value ∷ []))
 
 -- the place of a scope's mark is free, or the handle that waits there has it
 places-waiting : (o : Option HeldHandle) (ms : List ScopeMark) (hs : List Held) → AreStartsWithin ms (length hs)
@@ -57,14 +57,14 @@ places-waiting None ms hs w = ap (λ l. places_marked ms l ++ None ∷ []) (appe
 places-waiting (Some e) ms hs w = append-nil (places_marked ms (hs ++ held_of e ∷ [])) ∙ places-push (held_of e) ms hs w
 
 places-split : (rs : List ScopeMark) (start : ℕ) (hs : List Held) → AreStartsWithin rs start → start ≤ length hs
-    → places_marked rs (take start hs) ++ filled (drop start hs) ≡ places_marked rs hs
-places-split [] start hs w le = filled-append (take start hs) (drop start hs) ∙ ap filled (take-append-drop start hs)
+    → places_marked rs (take start hs) ++ held_places (drop start hs) ≡ places_marked rs hs
+places-split [] start hs w le = held_places-append (take start hs) (drop start hs) ∙ ap held_places (take-append-drop start hs)
 places-split (r ∷ rs) start hs w le =
     let v : Option ℕ = option_map (λ (e : HeldHandle). e.value.0) r.escaped in
-    append_assoc (places_marked rs (take r.start (take start hs))) (v ∷ filled (drop r.start (take start hs))) (filled (drop start hs))
-    ∙ ap (λ l. places_marked rs (take r.start (take start hs)) ++ v ∷ l) (filled-append (drop r.start (take start hs)) (drop start hs))
-    ∙ ap (λ l. places_marked rs (take r.start (take start hs)) ++ v ∷ filled l) (joined r.start start hs w.0 le)
-    ∙ ap (λ l. places_marked rs l ++ v ∷ filled (drop r.start hs)) (take-take r.start start hs w.0)
+    append_assoc (places_marked rs (take r.start (take start hs))) (v ∷ held_places (drop r.start (take start hs))) (held_places (drop start hs))
+    ∙ ap (λ l. places_marked rs (take r.start (take start hs)) ++ v ∷ l) (held_places-append (drop r.start (take start hs)) (drop start hs))
+    ∙ ap (λ l. places_marked rs (take r.start (take start hs)) ++ v ∷ held_places l) (joined r.start start hs w.0 le)
+    ∙ ap (λ l. places_marked rs l ++ v ∷ held_places (drop r.start hs)) (take-take r.start start hs w.0)
 
 -- the places of a frame come after those of the frames around it
 places-scopes : (start : ℕ) (ms rs : List ScopeMark) (hs : List Held) → AreScopesWithin start ms (length hs) → AreStartsWithin rs start
@@ -75,7 +75,7 @@ places-scopes start (m ∷ ms) rs hs w r =
     let inner : FrameScopes = scopes_above start ms closed in
     let outer : List (Option ℕ) = places_marked rs (take start hs) in
     let free : List (Option ℕ) = cond (is_some m.escaped) [] (None ∷ []) in
-    let last : List (Option ℕ) = filled (drop m.start hs) in
+    let last : List (Option ℕ) = held_places (drop m.start hs) in
     let v : Option ℕ = option_map (λ (e : HeldHandle). e.value.0) m.escaped in
     let begins : start ≤ m.start = start-le start ms m.start w.1 in
     let N : ℕ → Type 0 = λ n. AreStartsWithin (ms ++ rs) n in
@@ -112,7 +112,7 @@ length-places (m ∷ ms) hs w =
     let len : length below ≡ m.start = length-take-le m.start hs w.0 in
     let N : ℕ → Type 0 = λ n. AreStartsWithin ms n in
     let inner : length (places_marked ms below) ≡ length below + length ms = length-places ms below (subst N (sym len) w.1) in
-    omega (arith, inner, length-append (places_marked ms below) (v ∷ filled (drop m.start hs)), length-map (drop m.start hs) (λ (p : Held). Some p.value), length-drop m.start hs, w.0)
+    omega (arith, inner, length-append (places_marked ms below) (v ∷ held_places (drop m.start hs)), length-map (drop m.start hs) (λ (p : Held). Some p.value), length-drop m.start hs, w.0)
 
 -- WHAT STANDS AT A PLACE
 pub reverse-cons : {A : Type 0} (x : A) (xs : List A) → reverse (x ∷ xs) ≡ reverse xs ++ x ∷ []
@@ -146,7 +146,7 @@ place-mark [] hs i at d w p inside e = absurd (omega arith)
 place-mark (m ∷ ms) hs i at d w p inside e =
     let v : Option ℕ = option_map (λ (x : HeldHandle). x.value.0) m.escaped in
     let below : List Held = take m.start hs in
-    let last : List (Option ℕ) = v ∷ filled (drop m.start hs) in
+    let last : List (Option ℕ) = v ∷ held_places (drop m.start hs) in
     let len : length below ≡ m.start = length-take-le m.start hs w.0 in
     let N : ℕ → Type 0 = λ n. AreStartsWithin ms n in
     let within : AreStartsWithin ms (length below) = subst N (sym len) w.1 in
@@ -209,8 +209,8 @@ gap-last m ms at gap g =
       below = λ e. subst (λ (s : ScopeMark). s.place < at) last (whole.below (length (reverse ms) + 0) m (omega arith));
     }
 
-filled-at : (hs : List Held) (i : ℕ) (d : Held) → i < length hs → get_or (filled hs) i None ≡ Some (get_or hs i d).value
-filled-at hs i d inside = get_or-map (λ (p : Held). Some p.value) hs i d None inside
+held_places-at : (hs : List Held) (i : ℕ) (d : Held) → i < length hs → get_or (held_places hs) i None ≡ Some (get_or hs i d).value
+held_places-at hs i d inside = get_or-map (λ (p : Held). Some p.value) hs i d None inside
 
 place-held : (ms : List ScopeMark) (hs : List Held) (at gap : ℕ) (d : Held) → AreStartsWithin ms (length hs) → ArePlaced ms → at < length hs + length ms
     → IsGap (λ s. s.place) (reverse ms) at gap → IsHeldPlace ms hs at gap d
@@ -220,12 +220,12 @@ place-held [] hs at gap d w p inside g =
     record {
       back = omega arith;
       inside = omega arith;
-      value = filled-at hs at d (omega arith) ∙ ap (λ k. Some (get_or hs k d).value) (sym here);
+      value = held_places-at hs at d (omega arith) ∙ ap (λ k. Some (get_or hs k d).value) (sym here);
     }
 place-held (m ∷ ms) hs at gap d w p inside g =
     let v : Option ℕ = option_map (λ (x : HeldHandle). x.value.0) m.escaped in
     let below : List Held = take m.start hs in
-    let last : List (Option ℕ) = v ∷ filled (drop m.start hs) in
+    let last : List (Option ℕ) = v ∷ held_places (drop m.start hs) in
     let len : length below ≡ m.start = length-take-le m.start hs w.0 in
     let N : ℕ → Type 0 = λ n. AreStartsWithin ms n in
     let within : AreStartsWithin ms (length below) = subst N (sym len) w.1 in
@@ -245,7 +245,7 @@ place-held (m ∷ ms) hs at gap d w p inside g =
             value =
                 get_or-append_right (places_marked ms below) last (length (places_marked ms below)) at None refl (omega arith)
                 ∙ ap (λ k. get_or last k None) index
-                ∙ filled-at (drop m.start hs) (at - gap - m.start) d rest
+                ∙ held_places-at (drop m.start hs) (at - gap - m.start) d rest
                 ∙ ap (λ (q : Held). Some q.value) (get_or-drop m.start hs (at - gap - m.start) d)
                 ∙ ap (λ k. Some (get_or hs k d).value) whole;
           }

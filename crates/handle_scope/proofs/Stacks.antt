@@ -13,7 +13,7 @@ use Rattle.handle_scope.specs.declared.scopes.HeldHandle.{HeldHandle}
 use Rattle.handle_scope.specs.declared.scopes.ScopeMark.{ScopeMark}
 use Rattle.handle_scope.specs.declared.scopes.FrameMark.{FrameMark}
 use Rattle.handle_scope.specs.declared.scopes.Escape.{Escape}
-use Rattle.handle_scope.specs.Marks.{held_of, waiting, all_waiting, scopes_above, frames_marked, frames_of, places_marked, call_places, place_left, free_escapes, AreFramesWithin, AreStartsWithin, ArePlaced, AreCallsInside, Rises, AreAtMost, AreFramesInOrder, IsStack, IsTracked, IsEscapable, IsKept}
+use Rattle.handle_scope.specs.Marks.{held_of, waiting, all_waiting, scopes_above, frames_marked, frames_of, places_marked, call_places, place_left, free_escapes, AreFramesWithin, AreStartsWithin, ArePlaced, AreCallsInside, Rises, AreAtMost, AreFramesInOrder, IsStack, IsTracked, IsEscapable, FitsStack}
 use Rattle.handle_scope.proofs.Numbers.{Rises-take, Rises-drop, Rises-front, Rises-push, Rises-same, AreAtMost-take, AreAtMost-front, AreAtMost-push, AreAtMost-more, AreAtMost-same, HasAt}
 use Rattle.handle_scope.proofs.Marks.{reverse-push, start-le, frames-hold, within-hold, order-hold, frames-open, opened_mark, within-open, order-open, placed-open, Closes, frames-close, none-opened, within-enter, order-enter, frames-order-first, placed-left, Escapes, frames-escape, escaped_mark, placed-escape}
 use Rattle.handle_scope.proofs.Places.{starts-frames, places-frames, length-places}
@@ -275,9 +275,9 @@ no-marks [] ss hs some e = some refl
 no-marks (f ∷ fs) ss hs some e = cc
 
 module _ (fs : List FrameMark) (ss : List ScopeMark) (hs : List HeldHandle) (es : List Escape) (handles numbers spare calls frame_places held_places escape_places : ℕ)
-    (k : IsKept fs ss hs es handles numbers spare calls frame_places held_places escape_places) where
+    (k : FitsStack fs ss hs es handles numbers spare calls frame_places held_places escape_places) where
   pub kept-issued : (x : HeldHandle) → frames_of fs ss hs ≢ [] → x.handle ≡ handles + 1 → 0 < spare
-      → IsKept fs ss (hs ++ x ∷ []) es (handles + 1) numbers (spare - 1) calls frame_places held_places escape_places
+      → FitsStack fs ss (hs ++ x ∷ []) es (handles + 1) numbers (spare - 1) calls frame_places held_places escape_places
   kept-issued x some e more = record {
     stack = stack-issued fs ss hs handles numbers k.stack x some e;
     tracked = k.tracked;
@@ -291,7 +291,7 @@ module _ (fs : List FrameMark) (ss : List ScopeMark) (hs : List HeldHandle) (es 
 
   pub kept-opened : (n : ℕ) (kind : ScopeKind) (at place held_more escapes_more : ℕ) → frames_of fs ss hs ≢ [] → at ≡ length hs → place ≡ at + length ss → n ≡ numbers + 1
       → length hs + (length ss + calls + spare + 1) ≤ held_more → length es + (length ss + 1) ≤ escapes_more
-      → IsKept fs (ss ++ opened_mark n kind at place ∷ []) hs es handles (numbers + 1) spare calls frame_places held_more escapes_more
+      → FitsStack fs (ss ++ opened_mark n kind at place ∷ []) hs es handles (numbers + 1) spare calls frame_places held_more escapes_more
   kept-opened n kind at place held_more escapes_more some e there next held_room escape_room =
       let m : ScopeMark = opened_mark n kind at place in
       record {
@@ -309,7 +309,7 @@ module _ (fs : List FrameMark) (ss : List ScopeMark) (hs : List HeldHandle) (es 
 
   kept-entered-by : (f : FrameMark) (held_more : ℕ) → f.start ≡ length hs → f.scopes ≡ length ss → (f.by_call ≡ true → frames_of fs ss hs ≢ [])
       → length hs + (length ss + (calls + call_places f.by_call + spare)) ≤ held_more
-      → IsKept (fs ++ f ∷ []) ss hs es handles numbers spare (calls + call_places f.by_call) frame_places held_more escape_places
+      → FitsStack (fs ++ f ∷ []) ss hs es handles numbers spare (calls + call_places f.by_call) frame_places held_more escape_places
   kept-entered-by f held_more e g inside room =
       let C : List FrameMark → Type 0 = λ l. AreCallsInside l in
       record {
@@ -324,15 +324,15 @@ module _ (fs : List FrameMark) (ss : List ScopeMark) (hs : List HeldHandle) (es 
       }
 
   pub kept-entered : (start scopes : ℕ) → start ≡ length hs → scopes ≡ length ss
-      → IsKept (fs ++ record { start = start; scopes = scopes; by_call = false } ∷ []) ss hs es handles numbers spare calls frame_places held_places escape_places
+      → FitsStack (fs ++ record { start = start; scopes = scopes; by_call = false } ∷ []) ss hs es handles numbers spare calls frame_places held_places escape_places
   kept-entered start scopes e g =
       let f : FrameMark = record { start = start; scopes = scopes; by_call = false } in
-      let P : ℕ → Type 0 = λ n. IsKept (fs ++ f ∷ []) ss hs es handles numbers spare n frame_places held_places escape_places in
+      let P : ℕ → Type 0 = λ n. FitsStack (fs ++ f ∷ []) ss hs es handles numbers spare n frame_places held_places escape_places in
       let same : calls + 0 ≡ calls = omega arith in
       subst P same (kept-entered-by f held_places e g (λ called. cc) (omega (arith, k.held_fits)))
 
   pub kept-called : (start scopes held_more : ℕ) → start ≡ length hs → scopes ≡ length ss → frames_of fs ss hs ≢ [] → length hs + (length ss + calls + spare + 1) ≤ held_more
-      → IsKept (fs ++ record { start = start; scopes = scopes; by_call = true } ∷ []) ss hs es handles numbers spare (calls + 1) frame_places held_more escape_places
+      → FitsStack (fs ++ record { start = start; scopes = scopes; by_call = true } ∷ []) ss hs es handles numbers spare (calls + 1) frame_places held_more escape_places
   kept-called start scopes held_more e g some room =
       kept-entered-by (record { start = start; scopes = scopes; by_call = true }) held_more e g (λ called. some) (omega arith)
 
@@ -343,8 +343,8 @@ pub record Forgets (ss : List ScopeMark) (es left : List Escape) : Type 0 where
   pub shorter : length left ≤ length es
 
 pub kept-closed : (fs : List FrameMark) (ss : List ScopeMark) (m : ScopeMark) (hs : List HeldHandle) (es left : List Escape) (handles numbers spare calls frame_places held_places escape_places : ℕ)
-    → IsKept fs (ss ++ m ∷ []) hs es handles numbers spare calls frame_places held_places escape_places → opened_scopes (frames_of fs (ss ++ m ∷ []) hs) ≢ [] → Forgets ss es left
-    → IsKept fs ss (take m.start hs ++ option_to_list m.escaped) left handles numbers spare calls frame_places held_places escape_places
+    → FitsStack fs (ss ++ m ∷ []) hs es handles numbers spare calls frame_places held_places escape_places → opened_scopes (frames_of fs (ss ++ m ∷ []) hs) ≢ [] → Forgets ss es left
+    → FitsStack fs ss (take m.start hs ++ option_to_list m.escaped) left handles numbers spare calls frame_places held_places escape_places
 kept-closed fs ss m hs es left handles numbers spare calls frame_places held_places escape_places k some g = record {
   stack = stack-closed fs ss m hs handles numbers k.stack some;
   tracked = g.tracked (tracked-front ss m es k.tracked);
@@ -358,7 +358,7 @@ kept-closed fs ss m hs es left handles numbers spare calls frame_places held_pla
 
 -- a scope that closes begins where there is memory
 pub kept-cut : (fs : List FrameMark) (ss : List ScopeMark) (m : ScopeMark) (hs : List HeldHandle) (es : List Escape) (handles numbers spare calls frame_places held_places escape_places : ℕ)
-    → IsKept fs (ss ++ m ∷ []) hs es handles numbers spare calls frame_places held_places escape_places → opened_scopes (frames_of fs (ss ++ m ∷ []) hs) ≢ [] → m.start < held_places
+    → FitsStack fs (ss ++ m ∷ []) hs es handles numbers spare calls frame_places held_places escape_places → opened_scopes (frames_of fs (ss ++ m ∷ []) hs) ≢ [] → m.start < held_places
 kept-cut fs ss m hs es handles numbers spare calls frame_places held_places escape_places k some =
     let c : Closes (reverse fs) ss m (map held_of hs) = closes fs ss m hs handles numbers k.stack some in
     omega (arith, c.inside, length-map hs held_of, k.held_fits, length-append ss (m ∷ []))
@@ -372,9 +372,9 @@ called-of true more = refl
 called-of false more = absurd (omega arith)
 
 pub kept-left : (fs : List FrameMark) (f : FrameMark) (ss : List ScopeMark) (hs : List HeldHandle) (es left : List Escape) (handles numbers spare calls ended spared frame_places held_places escape_places : ℕ)
-    → IsKept (fs ++ f ∷ []) ss hs es handles numbers spare calls frame_places held_places escape_places → Forgets (take f.scopes ss) es left
+    → FitsStack (fs ++ f ∷ []) ss hs es handles numbers spare calls frame_places held_places escape_places → Forgets (take f.scopes ss) es left
     → ended ≡ call_places f.by_call → spared ≤ call_places f.by_call
-    → IsKept fs (take f.scopes ss) (take f.start hs) left handles numbers (spare + spared) (calls - ended) frame_places held_places escape_places
+    → FitsStack fs (take f.scopes ss) (take f.start hs) left handles numbers (spare + spared) (calls - ended) frame_places held_places escape_places
 kept-left fs f ss hs es left handles numbers spare calls ended spared frame_places held_places escape_places k g e le =
     let C : List FrameMark → Type 0 = λ l. AreCallsInside l in
     record {
@@ -396,8 +396,8 @@ caller-stands fs f ss hs c called none =
     no-marks (reverse fs) ss (map held_of hs) outer none
 
 pub kept-escaped : (n : ℕ) (fs : List FrameMark) (ss : List ScopeMark) (at : ℕ) (x : HeldHandle) (d : ScopeMark) (hs : List HeldHandle) (es : List Escape) (handles numbers spare calls frame_places held_places escape_places : ℕ)
-    → IsKept fs ss hs es handles numbers spare calls frame_places held_places escape_places → x.handle ≡ handles + 1 → Escaped n fs ss at x d hs handles numbers
-    → IsKept fs (set ss at (escaped_mark (get_or ss at d) x)) hs (es ++ record { handle = x.handle; scope = at } ∷ []) (handles + 1) numbers spare calls frame_places held_places escape_places
+    → FitsStack fs ss hs es handles numbers spare calls frame_places held_places escape_places → x.handle ≡ handles + 1 → Escaped n fs ss at x d hs handles numbers
+    → FitsStack fs (set ss at (escaped_mark (get_or ss at d) x)) hs (es ++ record { handle = x.handle; scope = at } ∷ []) (handles + 1) numbers spare calls frame_places held_places escape_places
 kept-escaped n fs ss at x d hs es handles numbers spare calls frame_places held_places escape_places k e s =
     let m : ScopeMark = escaped_mark (get_or ss at d) x in
     let y : Escape = record { handle = x.handle; scope = at } in

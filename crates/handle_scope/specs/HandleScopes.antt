@@ -21,49 +21,49 @@ abbrev pub no_scopes : HandleScopes
 no_scopes = record { frames = []; by_call = []; handles = 0; scope_numbers = []; spare = 0 }
 
 -- a frame begins inside the innermost one
-abbrev pub frame_entered : HandleScopes → HandleScopes
-frame_entered s = record s { frames = no_handles ∷ s.frames; by_call = false ∷ s.by_call }
+abbrev pub with_frame_scopes : HandleScopes → HandleScopes
+with_frame_scopes s = record s { frames = no_handles ∷ s.frames; by_call = false ∷ s.by_call }
 
 -- the same by a call of the innermost one, in which there is a place for the handle of what the call gives
-abbrev pub call_entered : HandleScopes → HandleScopes
-call_entered s = record s { frames = no_handles ∷ s.frames; by_call = true ∷ s.by_call }
+abbrev pub with_call_scopes : HandleScopes → HandleScopes
+with_call_scopes s = record s { frames = no_handles ∷ s.frames; by_call = true ∷ s.by_call }
 
 -- the innermost frame is gone, with all its scopes and the handles in them
-abbrev pub frame_left : HandleScopes → HandleScopes
-frame_left s = record s { frames = tail s.frames; by_call = tail s.by_call }
+abbrev pub without_frame_scopes : HandleScopes → HandleScopes
+without_frame_scopes s = record s { frames = tail s.frames; by_call = tail s.by_call }
 
 -- a scope of this kind and that number is open inside the innermost one
-abbrev pub scope_opened : ScopeKind → ℕ → HandleScopes → HandleScopes
-scope_opened kind n s = record s { frames = first_changed (open_in kind n) s.frames; scope_numbers = with_number n s.scope_numbers }
+abbrev pub with_open_scope : ScopeKind → ℕ → HandleScopes → HandleScopes
+with_open_scope kind n s = record s { frames = first_changed (open_in kind n) s.frames; scope_numbers = with_number n s.scope_numbers }
 
 -- the innermost scope of the innermost frame is gone, with the handles in it
-abbrev pub scope_closed : HandleScopes → HandleScopes
-scope_closed s = record s { frames = first_changed close_in s.frames }
+abbrev pub without_innermost_scope : HandleScopes → HandleScopes
+without_innermost_scope s = record s { frames = first_changed close_in s.frames }
 
 -- there is memory for one more handle at least
-abbrev pub place_reserved : HandleScopes → HandleScopes
-place_reserved s = record s { spare = max 1 s.spare }
+abbrev pub with_reserved_place : HandleScopes → HandleScopes
+with_reserved_place s = record s { spare = max 1 s.spare }
 
 -- the innermost scope of the innermost frame holds the next handle, of that value
-abbrev pub next_held : ℕ → HandleScopes → HandleScopes
-next_held v s = record s { frames = first_changed (hold_in (record { handle = s.handles + 1; value = v })) s.frames; handles = s.handles + 1 }
+abbrev pub with_next_handle : ℕ → HandleScopes → HandleScopes
+with_next_handle v s = record s { frames = first_changed (hold_in (record { handle = s.handles + 1; value = v })) s.frames; handles = s.handles + 1 }
 
 -- the same at a spare place, where there was one
-abbrev pub handle_issued : ℕ → HandleScopes → HandleScopes
-handle_issued v s = record (next_held v s) { spare = s.spare - 1 }
+abbrev pub with_issued_handle : ℕ → HandleScopes → HandleScopes
+with_issued_handle v s = record (with_next_handle v s) { spare = s.spare - 1 }
 
 -- the frame that a call entered is gone, and the innermost scope of its caller holds the next handle, of the value that the call gives, if it gives one
-abbrev pub call_left : Option ℕ → HandleScopes → HandleScopes
-call_left None s = frame_left s
-call_left (Some v) s = next_held v (frame_left s)
+abbrev pub without_call_scopes : Option ℕ → HandleScopes → HandleScopes
+without_call_scopes None s = without_frame_scopes s
+without_call_scopes (Some v) s = with_next_handle v (without_frame_scopes s)
 
 -- the next handle, of that value, escapes from the innermost frame's scope of that number
-abbrev pub handle_escaped : ℕ → ℕ → HandleScopes → HandleScopes
-handle_escaped n v s = record s { frames = first_changed (escape_in n (record { handle = s.handles + 1; value = v })) s.frames; handles = s.handles + 1 }
+abbrev pub with_escaped_handle : ℕ → ℕ → HandleScopes → HandleScopes
+with_escaped_handle n v s = record s { frames = first_changed (escape_in n (record { handle = s.handles + 1; value = v })) s.frames; handles = s.handles + 1 }
 
 -- the values that handles hold, at places that are filled
-abbrev pub filled : List Held → List (Option ℕ)
-filled hs = map (λ p. Some p.value) hs
+abbrev pub held_places : List Held → List (Option ℕ)
+held_places hs = map (λ p. Some p.value) hs
 
 -- the place for a handle that escapes from a scope, which lies in the scope that encloses it, as long as none has escaped
 abbrev pub free_place : Scope → List (Option ℕ)
@@ -71,8 +71,8 @@ free_place s = cond s.used [] (None ∷ [])
 
 -- the handle places of a frame: those of an outer scope first, and in each scope in the order of their issue
 abbrev pub frame_places : List Held → List Scope → List (Option ℕ)
-frame_places own [] = filled own
-frame_places own (s ∷ ss) = (frame_places own ss ++ free_place s) ++ filled s.held
+frame_places own [] = held_places own
+frame_places own (s ∷ ss) = (frame_places own ss ++ free_place s) ++ held_places s.held
 
 -- the handle places of all frames, those of an outer frame first. Each scope that a call opened has a place for a handle that escapes from it; that of a plain scope stays free
 abbrev pub handle_places : List FrameScopes → List (Option ℕ)
@@ -80,5 +80,5 @@ handle_places [] = []
 handle_places (f ∷ fs) = handle_places fs ++ frame_places f.own f.opened
 
 -- a scope number is above 0 and was never issued
-abbrev pub is_fresh : ℕ → HandleScopes → Bool
-is_fresh n s = not (has_number n (0 ∷ s.scope_numbers))
+abbrev pub is_fresh_scope : ℕ → HandleScopes → Bool
+is_fresh_scope n s = not (has_number n (0 ∷ s.scope_numbers))

@@ -4,7 +4,7 @@ use Rattle.std.specs.Option.{is_some, option_to_list}
 use Rattle.std.specs.List.{list_any}
 use Rattle.napi_types.specs.Frames.{most_frames}
 use Rattle.napi_types.specs.Scopes.{Held, FrameScopes, inside, value_in}
-use Rattle.handle_scope.specs.HandleScopes.{HandleScopes, filled}
+use Rattle.handle_scope.specs.HandleScopes.{HandleScopes, held_places}
 use Rattle.handle_scope.specs.declared.scopes.HeldHandle.{HeldHandle}
 use Rattle.handle_scope.specs.declared.scopes.ScopeMark.{ScopeMark}
 use Rattle.handle_scope.specs.declared.scopes.FrameMark.{FrameMark}
@@ -19,14 +19,14 @@ abbrev pub waiting : ScopeMark → List Held
 waiting s = map held_of (option_to_list s.escaped)
 
 -- a frame with one scope more inside its innermost one, the one of this mark, which holds these handles
-abbrev pub with_scope : ScopeMark → List Held → FrameScopes → FrameScopes
-with_scope s hs f = inside (record { number = s.number; kind = s.kind; used = is_some s.escaped; held = hs }) f
+abbrev pub with_marked_scope : ScopeMark → List Held → FrameScopes → FrameScopes
+with_marked_scope s hs f = inside (record { number = s.number; kind = s.kind; used = is_some s.escaped; held = hs }) f
 
 -- the scopes of a frame that begins at a place of the stack, by the marks of the scopes opened in it, the innermost first:
 -- each scope holds what stands from its mark on, and the scope around it also the handle that waits there
 abbrev pub scopes_above : ℕ → List ScopeMark → List Held → FrameScopes
 scopes_above start [] hs = record { own = drop start hs; opened = [] }
-scopes_above start (s ∷ ss) hs = with_scope s (drop s.start hs) (scopes_above start ss (take s.start hs ++ waiting s))
+scopes_above start (s ∷ ss) hs = with_marked_scope s (drop s.start hs) (scopes_above start ss (take s.start hs ++ waiting s))
 
 -- the scopes of all frames, the marks of the frames with the innermost first, those of the scopes with the innermost last
 abbrev pub frames_marked : List FrameMark → List ScopeMark → List Held → List FrameScopes
@@ -39,8 +39,8 @@ frames_of fs ss hs = frames_marked (reverse fs) ss (map held_of hs)
 
 -- the handle places by the marks of all scopes, the innermost first: each mark stands for a place before the handles of its scope
 abbrev pub places_marked : List ScopeMark → List Held → List (Option ℕ)
-places_marked [] hs = filled hs
-places_marked (s ∷ ss) hs = places_marked ss (take s.start hs) ++ option_map (λ e. e.value.0) s.escaped ∷ filled (drop s.start hs)
+places_marked [] hs = held_places hs
+places_marked (s ∷ ss) hs = places_marked ss (take s.start hs) ++ option_map (λ e. e.value.0) s.escaped ∷ held_places (drop s.start hs)
 
 -- the marks of a frame's scopes, the innermost first, lie in order between the frame's place and the stack's end
 abbrev pub AreScopesWithin : ℕ → List ScopeMark → ℕ → Type 0
@@ -122,7 +122,7 @@ free_escapes s = cond (is_some s.escaped) 0 1
 
 -- the stack and what stands beside it, where there is memory for that many frames, handles and escapes:
 -- a place for each scope and each call is promised in the stack, and one for each scope from which no handle escaped among the escapes
-pub record IsKept (frames : List FrameMark) (scopes : List ScopeMark) (held : List HeldHandle) (escapes : List Escape) (handles numbers spare calls frame_places held_places escape_places : ℕ) : Type 0 where
+pub record FitsStack (frames : List FrameMark) (scopes : List ScopeMark) (held : List HeldHandle) (escapes : List Escape) (handles numbers spare calls frame_places held_places escape_places : ℕ) : Type 0 where
   pub stack : IsStack frames scopes held handles numbers
   pub tracked : IsTracked scopes escapes
   pub escapes_issued : AreAtMost (λ e. e.handle) escapes handles

@@ -6,7 +6,7 @@ ghost use Rattle.std.specs.List.{list_any};
 ghost use Rattle.napi_types.specs.Frames.{most_frames};
 ghost use Rattle.napi_types.specs.Lists.{head};
 ghost use Rattle.napi_types.specs.Scopes.{gives, value_in, opened_scopes, is_kind, closing, escaping};
-ghost use Rattle.handle_scope.specs.HandleScopes.{no_scopes, frame_entered, call_entered, frame_left, call_left, scope_opened, scope_closed, place_reserved, handle_issued, handle_escaped, handle_places, is_fresh};
+ghost use Rattle.handle_scope.specs.HandleScopes.{no_scopes, with_frame_scopes, with_call_scopes, without_frame_scopes, without_call_scopes, with_open_scope, without_innermost_scope, with_reserved_place, with_issued_handle, with_escaped_handle, handle_places, is_fresh_scope};
 ghost use Rattle.handle_scope.specs.Marks.{Rises, AreAtMost, AreStartsWithin, ArePlaced, IsTracked, IsEscapable, held_of, scopes_above, places_marked, all_waiting, waiting_value, place_left, with_spare};
 
 use napi_types::{HandleId, NoMemory, ScopeId, ScopeKind, Status, ValueId};
@@ -79,7 +79,7 @@ impl Model for Scopes {
 
     ghost use Rattle.std.specs.Prelude.{map, reverse, vec_capacity};
     ghost use Rattle.napi_types.specs.Lists.{up_to};
-    ghost use Rattle.handle_scope.specs.Marks.{frames_of, IsKept};
+    ghost use Rattle.handle_scope.specs.Marks.{frames_of, FitsStack};
 
     ghost view = { λ s. record {
       frames = frames_of s.frames.items s.scopes.items s.held.items;
@@ -89,7 +89,7 @@ impl Model for Scopes {
       spare = s.spare;
     } };
 
-    ghost invariant = { λ s. IsKept s.frames.items s.scopes.items s.held.items s.escapes.items s.handles s.numbers s.spare s.calls (vec_capacity s.frames) (vec_capacity s.held) (vec_capacity s.escapes) };
+    ghost invariant = { λ s. FitsStack s.frames.items s.scopes.items s.held.items s.escapes.items s.handles s.numbers s.spare s.calls (vec_capacity s.frames) (vec_capacity s.held) (vec_capacity s.escapes) };
 }
 
 impl Scopes {
@@ -113,7 +113,7 @@ impl Scopes {
     /// A frame begins, inside those that stand, with a scope of its own. It takes no memory, and constant time.
     pub fn enter_frame(&mut self)
         requires { length self.old.frames < most_frames }
-        ensures { self.new ≡ frame_entered self.old }
+        ensures { self.new ≡ with_frame_scopes self.old }
     {
         self.frames.push_reserved(FrameMark {
             start: self.held.len(),
@@ -126,7 +126,7 @@ impl Scopes {
     /// so too, where the call gives nothing. It takes no memory, and amortized time linear in what it closes.
     pub fn leave_frame(&mut self)
         requires { self.old.frames ≢ [] }
-        ensures { self.new ≡ frame_left self.old }
+        ensures { self.new ≡ without_frame_scopes self.old }
     {
         self.leave(0);
     }
@@ -137,7 +137,7 @@ impl Scopes {
     pub fn enter_call(&mut self) -> Result<(), NoMemory>
         requires standing { self.old.frames ≢ [] }
         requires room { length self.old.frames < most_frames }
-        ensures ok { OnOk result (self.new ≡ call_entered self.old) }
+        ensures ok { OnOk result (self.new ≡ with_call_scopes self.old) }
         ensures err { OnErr result (self.new ≡ self.old) }
     {
         let more = self.scopes.len() + self.calls + self.spare + 1;
@@ -157,7 +157,7 @@ impl Scopes {
     pub fn leave_call(&mut self, value: Option<ValueId>) -> Option<HandleId>
         requires called { head self.old.by_call ≡ Some true }
         requires handles { self.old.handles < 2 ^ 62 }
-        ensures left { self.new ≡ call_left (option_map (λ value. value.0) value) self.old }
+        ensures left { self.new ≡ without_call_scopes (option_map (λ value. value.0) value) self.old }
         ensures handle { option_map (λ handle. handle.0) result ≡ option_map (λ value. self.old.handles + 1) value }
     {
         match value {
@@ -178,8 +178,8 @@ impl Scopes {
     pub fn open_scope(&mut self, kind: ScopeKind) -> Result<ScopeId, NoMemory>
         requires standing { self.old.frames ≢ [] }
         requires numbers { length self.old.scope_numbers < 2 ^ 62 }
-        ensures fresh { IfOk result (λ scope. IsTrue (is_fresh scope.0 self.old)) }
-        ensures ok { IfOk result (λ scope. self.new ≡ scope_opened kind scope.0 self.old) }
+        ensures fresh { IfOk result (λ scope. IsTrue (is_fresh_scope scope.0 self.old)) }
+        ensures ok { IfOk result (λ scope. self.new ≡ with_open_scope kind scope.0 self.old) }
         ensures err { OnErr result (self.new ≡ self.old) }
     {
         let more = self.scopes.len() + self.calls + self.spare + 1;
@@ -205,7 +205,7 @@ impl Scopes {
     /// the handles that it closes; a refusal takes time logarithmic in the frame's open scopes.
     pub fn close_scope(&mut self, scope: ScopeId, kind: ScopeKind) -> Result<(), Status>
         ensures refusal { result_err result ≡ closing scope.0 kind (opened_scopes self.old.frames) }
-        ensures ok { OnOk result (self.new ≡ scope_closed self.old) }
+        ensures ok { OnOk result (self.new ≡ without_innermost_scope self.old) }
         ensures err { OnErr result (self.new ≡ self.old) }
     {
         if let Some(status) = self.why_not_closing(scope, kind) {
@@ -224,7 +224,7 @@ impl Scopes {
         requires handles { self.old.handles < 2 ^ 62 }
         ensures refusal { result_err result ≡ escaping scope.0 (opened_scopes self.old.frames) }
         ensures handle { IfOk result (λ handle. handle.0 ≡ self.old.handles + 1) }
-        ensures ok { OnOk result (self.new ≡ handle_escaped scope.0 value.0 self.old) }
+        ensures ok { OnOk result (self.new ≡ with_escaped_handle scope.0 value.0 self.old) }
         ensures err { OnErr result (self.new ≡ self.old) }
     {
         match innermost(&self.frames) {
@@ -251,7 +251,7 @@ impl Scopes {
         requires standing { self.old.frames ≢ [] }
         requires handles { self.old.handles < 2 ^ 62 }
         ensures handle { IfOk result (λ handle. handle.0 ≡ self.old.handles + 1) }
-        ensures ok { OnOk result (self.new ≡ handle_issued value.0 self.old) }
+        ensures ok { OnOk result (self.new ≡ with_issued_handle value.0 self.old) }
         ensures err { OnErr result (self.new ≡ self.old) }
     {
         self.reserve()?;
@@ -261,7 +261,7 @@ impl Scopes {
     /// Takes the memory for one handle, so that `issue_reserved` can issue it later. A place that is spare already is
     /// enough. It takes amortized constant time.
     pub fn reserve(&mut self) -> Result<(), NoMemory>
-        ensures ok { OnOk result (self.new ≡ place_reserved self.old) }
+        ensures ok { OnOk result (self.new ≡ with_reserved_place self.old) }
         ensures err { OnErr result (self.new ≡ self.old) }
     {
         if self.spare > 0 {
@@ -279,7 +279,7 @@ impl Scopes {
         requires handles { self.old.handles < 2 ^ 62 }
         requires spare { 0 < self.old.spare }
         ensures handle { result.0 ≡ self.old.handles + 1 }
-        ensures issued { self.new ≡ handle_issued value.0 self.old }
+        ensures issued { self.new ≡ with_issued_handle value.0 self.old }
     {
         let handle = self.handles + 1;
         self.held.push_reserved(HeldHandle { handle, value });
@@ -329,7 +329,7 @@ impl Scopes {
     /// Closes the innermost scope.
     fn close_innermost(&mut self)
         requires { opened_scopes self.old.frames ≢ [] }
-        ensures { self.new ≡ scope_closed self.old }
+        ensures { self.new ≡ without_innermost_scope self.old }
     {
         if let Some(scope) = self.scopes.pop() {
             cut_back(&mut self.held, scope.start, scope.escaped);
@@ -340,7 +340,7 @@ impl Scopes {
     /// Leaves the innermost frame, and makes so many of the places spare that it leaves to its caller.
     fn leave(&mut self, spared: usize)
         requires { spared ≤ place_left self.old.by_call }
-        ensures left { self.new ≡ with_spare spared (frame_left self.old) }
+        ensures left { self.new ≡ with_spare spared (without_frame_scopes self.old) }
         ensures caller { 0 < spared → self.new.frames ≢ [] }
     {
         if let Some(frame) = self.frames.pop() {

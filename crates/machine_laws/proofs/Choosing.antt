@@ -20,11 +20,11 @@ use Rattle.napi_types.specs.declared.entry.What.TheVariants as what
 use Rattle.napi_types.specs.declared.entry.Why.{Why}
 use Rattle.napi_types.specs.declared.ids.HandleId.{HandleId}
 use Rattle.napi_types.specs.declared.status.Status.{Status}
-use Rattle.napi_types.specs.Built.{taken}
+use Rattle.napi_types.specs.Built.{built_ask}
 use Rattle.napi_types.specs.Changes.{number_of}
 use Rattle.napi_types.specs.Choice.{local_choice, local_choice_in, hub_choice, hub_choice_at, choice}
-use Rattle.napi_types.specs.Ends.{frame_ended}
-use Rattle.napi_types.specs.Entering.{calling, asked_for}
+use Rattle.napi_types.specs.Ends.{end_change}
+use Rattle.napi_types.specs.Entering.{function_change, asked_change}
 use Rattle.napi_types.specs.Environment.{Environment}
 use Rattle.napi_types.specs.Frames.{Frame}
 use Rattle.napi_types.specs.Hub.{Hub, Stage, Before, Going, Looped, Drained, Final, stage_after, staged, hub_next}
@@ -37,7 +37,7 @@ use Rattle.napi_types.specs.Step.{Step, locally, hub_moved, event_step, chosen, 
 use Rattle.napi_types.specs.Whole.{opening_of, final_of}
 use Rattle.machine_laws.specs.Choices.{is_of_frames, NoneIsChosenInFrames, TellsFrame, BeginsTellTheirFrames, OwnEventsComeFirst, IsOfHub, HubEventsComeLast, MayGo, GoComesAfterInitFrames, GoneComesAfterFinals, HubIsInPhase, GoComesOnlyAfterInitFrames, GoneComesOnlyAfterFinals}
 use Rattle.napi_types.proofs.Answers.{course-parts}
-use Rattle.napi_types.proofs.FrameChanges.{ended-keeps, asked_for-fits}
+use Rattle.napi_types.proofs.FrameChanges.{ended-keeps, asked_change-fits}
 use Rattle.napi_types.proofs.FrameEnds.{ended-ends}
 use Rattle.machine_laws.proofs.Cutting.{frame-step}
 
@@ -46,15 +46,15 @@ use Rattle.machine_laws.proofs.Cutting.{frame-step}
 abbrev OfFrames : Entry → Type 0
 OfFrames x = is_of_frames x.what x.reply.out ≡ true
 
-ended-of : (v : Option HandleId) (cut : Option Why) (e : Environment) → OfFrames (frame_ended v cut e).entry
-ended-of v cut e = ap (λ w. is_of_frames w (frame_ended v cut e).entry.reply.out) (ended-ends v cut e).is
+ended-of : (v : Option HandleId) (cut : Option Why) (e : Environment) → OfFrames (end_change v cut e).entry
+ended-of v cut e = ap (λ w. is_of_frames w (end_change v cut e).entry.reply.out) (ended-ends v cut e).is
 
-calling-of : (receiver : Option HandleId) (f : HandleId) (args : Args) (n : ℕ) (e : Environment) (s : Option Status) → OfFrames (calling receiver f args n e s).entry
-calling-of receiver f args n e None = refl
-calling-of receiver f args n e (Some s) = refl
+function_change-of : (receiver : Option HandleId) (f : HandleId) (args : Args) (n : ℕ) (e : Environment) (s : Option Status) → OfFrames (function_change receiver f args n e s).entry
+function_change-of receiver f args n e None = refl
+function_change-of receiver f args n e (Some s) = refl
 
-asked-of : (e : Environment) (c : Call) (n : ℕ) → OfFrames (asked_for e c n).entry
-asked-of e (call.CallFunction receiver f args) n = calling-of receiver f args n e (refusal e (call.CallFunction receiver f args))
+asked-of : (e : Environment) (c : Call) (n : ℕ) → OfFrames (asked_change e c n).entry
+asked-of e (call.CallFunction receiver f args) n = function_change-of receiver f args n e (refusal e (call.CallFunction receiver f args))
 asked-of e c n = refl
 
 frame-of : (m : Machine) (a : Ask) (o : Out) (cut : Option Why) → OfFrames (frame_step m a o cut).entry
@@ -66,7 +66,7 @@ pub none-in-frames : NoneIsChosenInFrames
 none-in-frames m f fs a x stands next =
     ap (λ (y : Entry). is_of_frames y.what y.reply.out) next.0
     ∙ ap (λ (t : Step). is_of_frames t.entry.what t.entry.reply.out) (frame-step m a x x.actor f fs stands next.1)
-    ∙ frame-of m (taken a) x.reply.out (cut_of x.reply.out)
+    ∙ frame-of m (built_ask a) x.reply.out (cut_of x.reply.out)
 
 -- WHAT A BEGIN TELLS
 -- where the entry of the step is a begin, it tells of the frame that the step leaves innermost, whether or not it may stand
@@ -90,16 +90,16 @@ chosen-tells : (m : Machine) (v : Option Event) → Tells (chosen m v)
 chosen-tells m None is = cc
 chosen-tells m (Some v) is = event-tells m v is
 
-ended-tells : (m : Machine) (v : Option HandleId) (cut : Option Why) → Tells (locally m (frame_ended v cut m.env) true)
+ended-tells : (m : Machine) (v : Option HandleId) (cut : Option Why) → Tells (locally m (end_change v cut m.env) true)
 ended-tells m v cut is = let z : what.Host host.End ≡ what.Host host.Begin = sym (ended-ends v cut m.env).is ∙ is in cc
 
-calling-tells : (m : Machine) (receiver : Option HandleId) (f : HandleId) (args : Args) (n : ℕ) (s : Option Status)
-    → Tells (locally m (calling receiver f args n m.env s) true)
-calling-tells m receiver f args n None is = record { frame = _; outer = _; stands = refl; told = refl }
-calling-tells m receiver f args n (Some s) is = cc
+function_change-tells : (m : Machine) (receiver : Option HandleId) (f : HandleId) (args : Args) (n : ℕ) (s : Option Status)
+    → Tells (locally m (function_change receiver f args n m.env s) true)
+function_change-tells m receiver f args n None is = record { frame = _; outer = _; stands = refl; told = refl }
+function_change-tells m receiver f args n (Some s) is = cc
 
-asked-tells : (m : Machine) (c : Call) (n : ℕ) → Tells (locally m (asked_for m.env c n) true)
-asked-tells m (call.CallFunction receiver f args) n is = calling-tells m receiver f args n (refusal m.env (call.CallFunction receiver f args)) is
+asked-tells : (m : Machine) (c : Call) (n : ℕ) → Tells (locally m (asked_change m.env c n) true)
+asked-tells m (call.CallFunction receiver f args) n is = function_change-tells m receiver f args n (refusal m.env (call.CallFunction receiver f args)) is
 asked-tells m c n is = cc
 
 frame-tells : (m : Machine) (a : Ask) (o : Out) (cut : Option Why) → Tells (frame_step m a o cut)
@@ -109,7 +109,7 @@ frame-tells m (ask.Leave v) o None is = ended-tells m v None is
 
 env-tells : (m : Machine) (a : Ask) (o : Out) (fs : List Frame) → Tells (env_step m a o fs)
 env-tells m a o [] is = chosen-tells m (choice m) is
-env-tells m a o (f ∷ fs) is = frame-tells m (taken a) o (cut_of o) is
+env-tells m a o (f ∷ fs) is = frame-tells m (built_ask a) o (cut_of o) is
 
 step-tells : (m : Machine) (a : Ask) (x : Entry) (who : Actor) → Tells (step_of m a x who)
 step-tells m a x actor.Env is = env-tells m a x.reply.out m.env.frames is
@@ -350,18 +350,18 @@ gone-final e phase.Drain s h = absurd (hub-not-gone s h)
 
 frame-in : (m : Machine) (a : Ask) (o : Out) (cut : Option Why) → InPhase m → InPhase (frame_step m a o cut).after
 frame-in m a o (Some w) here =
-    let d : Environment = (frame_ended None (Some w) m.env).after in
+    let d : Environment = (end_change None (Some w) m.env).after in
     here ∙ ap stage_of (sym (course-parts m.env d (ended-keeps None (Some w) m.env).course).phase)
 frame-in m (ask.Leave v) o None here =
-    let d : Environment = (frame_ended v None m.env).after in
+    let d : Environment = (end_change v None m.env).after in
     here ∙ ap stage_of (sym (course-parts m.env d (ended-keeps v None m.env).course).phase)
 frame-in m (ask.Do c) o None here =
-    let d : Environment = (asked_for m.env c (number_of o)).after in
-    here ∙ ap stage_of (sym (course-parts m.env d (asked_for-fits m.env c (number_of o)).course).phase)
+    let d : Environment = (asked_change m.env c (number_of o)).after in
+    here ∙ ap stage_of (sym (course-parts m.env d (asked_change-fits m.env c (number_of o)).course).phase)
 
 env-in : (m : Machine) (a : Ask) (o : Out) (fs : List Frame) → InPhase m → InPhase (env_step m a o fs).after
 env-in m a o [] here = chosen-in m (choice m) (λ is. here ∙ gone-final m.env m.env.phase m.hub.stage is) here
-env-in m a o (f ∷ fs) here = frame-in m (taken a) o (cut_of o) here
+env-in m a o (f ∷ fs) here = frame-in m (built_ask a) o (cut_of o) here
 
 step-in : (m : Machine) (a : Ask) (x : Entry) (who : Actor) → InPhase m → InPhase (step_of m a x who).after
 step-in m a x actor.Env here = env-in m a x.reply.out m.env.frames here

@@ -14,7 +14,7 @@ use Rattle.napi_types.specs.References.{Reference, strong_values, value_left}
 use Rattle.napi_types.specs.Roots.{roots, reach}
 use Rattle.napi_types.specs.Values.{Value, children, value_at, starting_values}
 use Rattle.napi_types.proofs.Reaching.{reach-roots, reach-closed, numbers-kept}
-use Rattle.machine_laws.specs.Consistency.{held_values, IsLive}
+use Rattle.machine_laws.specs.Consistency.{values_of_handles, IsLiveAmong}
 use Rattle.machine_laws.proofs.Children.{OfChildren}
 use Rattle.machine_laws.proofs.Counting.{Within, within-map, count-cons, issued-fewer}
 use Rattle.machine_laws.proofs.ConsistentHeaps.{IsConsistentHeap}
@@ -56,65 +56,65 @@ each-found (v ∷ vs) apart =
 -- a starting value, the value of a handle that is held, and the pending exception are roots
 root-starting : (e : Environment) (n : ℕ) → has_number n (numbers starting_values) ≡ true → has_number n (roots e) ≡ true
 root-starting e n h =
-    let held : List ℕ = held_values e.heap.scopes in
+    let held : List ℕ = values_of_handles e.heap.scopes in
     let strong : List ℕ = strong_values e.references in
     in-left n (numbers starting_values ++ held ++ strong) (option_to_list e.pending)
     (in-left n (numbers starting_values ++ held) strong (in-left n (numbers starting_values) held h))
 
-root-held : (e : Environment) (n : ℕ) → has_number n (held_values e.heap.scopes) ≡ true → has_number n (roots e) ≡ true
+root-held : (e : Environment) (n : ℕ) → has_number n (values_of_handles e.heap.scopes) ≡ true → has_number n (roots e) ≡ true
 root-held e n h =
-    let held : List ℕ = held_values e.heap.scopes in
+    let held : List ℕ = values_of_handles e.heap.scopes in
     let strong : List ℕ = strong_values e.references in
     in-left n (numbers starting_values ++ held ++ strong) (option_to_list e.pending)
     (in-left n (numbers starting_values ++ held) strong (in-right n (numbers starting_values) held h))
 
 root-pending : (e : Environment) (n : ℕ) → has_number n (option_to_list e.pending) ≡ true → has_number n (roots e) ≡ true
-root-pending e n h = in-right n (numbers starting_values ++ held_values e.heap.scopes ++ strong_values e.references) (option_to_list e.pending) h
+root-pending e n h = in-right n (numbers starting_values ++ values_of_handles e.heap.scopes ++ strong_values e.references) (option_to_list e.pending) h
 
 -- WHAT IS KEPT
 -- the values after a collection
 abbrev kept : Environment → List Value
 kept e = those_of (reach e) e.heap.values
 
-live-reached : (e : Environment) (n : ℕ) → has_number n (reach e) ≡ true → IsLive (kept e) n
+live-reached : (e : Environment) (n : ℕ) → has_number n (reach e) ≡ true → IsLiveAmong (kept e) n
 live-reached e n h = ap (has_number n) (numbers-kept e.heap.values (roots e)) ∙ h
 
-live-root : (e : Environment) (n : ℕ) → IsLive e.heap.values n → has_number n (roots e) ≡ true → IsLive (kept e) n
+live-root : (e : Environment) (n : ℕ) → IsLiveAmong e.heap.values n → has_number n (roots e) ≡ true → IsLiveAmong (kept e) n
 live-root e n live root = live-reached e n (reach-roots e.heap.values (roots e) n live root)
 
-live-child : (e : Environment) (v : Value) → value_at e.heap.values v.number ≡ Some v → OfChildren (IsLive e.heap.values) v
-    → has_number v.number (reach e) ≡ true → OfChildren (IsLive (kept e)) v
+live-child : (e : Environment) (v : Value) → value_at e.heap.values v.number ≡ Some v → OfChildren (IsLiveAmong e.heap.values) v
+    → has_number v.number (reach e) ≡ true → OfChildren (IsLiveAmong (kept e)) v
 live-child e v found all reached k d below =
     let m : ℕ = slice_index_or (children v) k d in
     let child : has_number m (children_at e.heap.values v.number) ≡ true = rw found (all-there (children v) k d below) in
     live-reached e m (reach-closed e.heap.values (roots e) v.number m reached child (all k d below))
 
-pub pending-kept : (e : Environment) (o : Option ℕ) → e.pending ≡ o → IfSome o (IsLive e.heap.values) → IfSome o (IsLive (kept e))
+pub pending-kept : (e : Environment) (o : Option ℕ) → e.pending ≡ o → IfSome o (IsLiveAmong e.heap.values) → IfSome o (IsLiveAmong (kept e))
 pending-kept e None is live = tt
 pending-kept e (Some n) is live =
     let here : has_number n (option_to_list e.pending) ≡ true = rw is (or_left (n == n) false (eq-eqb n n refl)) in
     live-root e n live (root-pending e n here)
 
-left-live : (e : Environment) (o : Option ℕ) → IfSome (value_left (λ v. not (has_number v (reach e))) o) (IsLive (kept e))
+left-live : (e : Environment) (o : Option ℕ) → IfSome (value_left (λ v. not (has_number v (reach e))) o) (IsLiveAmong (kept e))
 left-live e None = tt
 left-live e (Some n) = by (has_number n (reach e)) refl
   where
-    by : (b : Bool) → has_number n (reach e) ≡ b → IfSome (cond (not b) None (Some n)) (IsLive (kept e))
+    by : (b : Bool) → has_number n (reach e) ≡ b → IfSome (cond (not b) None (Some n)) (IsLiveAmong (kept e))
     by true h = live-reached e n h
     by false h = tt
 
-pub referred-kept : (e : Environment) → All (λ (r : Reference). IfSome r.value (IsLive (kept e))) (collected (reach e) e).references.rows
+pub referred-kept : (e : Environment) → All (λ (r : Reference). IfSome r.value (IsLiveAmong (kept e))) (collected (reach e) e).references.rows
 referred-kept e =
     let empty : Reference → Reference = λ r. record r { value = value_left (λ v. not (has_number v (reach e))) r.value } in
     let rows : List Reference = e.references.rows in
-    All-map (λ (r : Reference). IfSome r.value (IsLive (kept e))) empty rows (λ k d below. left-live e (slice_index_or rows k d).value)
+    All-map (λ (r : Reference). IfSome r.value (IsLiveAmong (kept e))) empty rows (λ k d below. left-live e (slice_index_or rows k d).value)
 
 pub heap-kept : (e : Environment) → IsConsistentHeap e.heap → IsConsistentHeap (collected (reach e) e).heap
 heap-kept e g =
     let vs : List Value = e.heap.values in
-    let hs : List ℕ = held_values e.heap.scopes in
+    let hs : List ℕ = values_of_handles e.heap.scopes in
     let ns : List ℕ = numbers starting_values in
-    let P : Value → Type 0 = λ v. has_number v.number (reach e) ≡ true → OfChildren (IsLive (kept e)) v in
+    let P : Value → Type 0 = λ v. has_number v.number (reach e) ≡ true → OfChildren (IsLiveAmong (kept e)) v in
     let test : Value → Bool = λ v. has_number v.number (reach e) in
     let found : All (λ v. value_at vs v.number ≡ Some v) vs = each-found vs g.values.apart in
     let closed : All P vs = λ k d below. live-child e (slice_index_or vs k d) (found k d below) (g.children k d below) in

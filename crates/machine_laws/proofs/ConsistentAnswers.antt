@@ -8,19 +8,19 @@ use Rattle.napi_types.specs.declared.call.Call.{Call}
 use Rattle.napi_types.specs.declared.call.Call.TheVariants as call
 use Rattle.napi_types.specs.declared.ids.TextNo.{TextNo}
 use Rattle.napi_types.specs.declared.status.Status.{Status}
-use Rattle.napi_types.specs.Calls.{accepted_by, answer_given, answer_at}
-use Rattle.napi_types.specs.Changes.{called}
+use Rattle.napi_types.specs.Calls.{effect, answer_unless, answer_unless_deep}
+use Rattle.napi_types.specs.Changes.{call_change}
 use Rattle.napi_types.specs.Environment.{Environment, with_heap}
 use Rattle.napi_types.specs.ExceptionCalls.{with_pending, with_thrown_error}
 use Rattle.napi_types.specs.Frames.{caller_of, most_frames}
 use Rattle.napi_types.specs.Heap.{Heap, handle_value, with_handle, with_thrown, thrown_number}
 use Rattle.napi_types.specs.Lists.{found}
 use Rattle.napi_types.specs.ReferenceCalls.{with_references, counted_up, value_told}
-use Rattle.napi_types.specs.References.{Reference, ReferenceMap, value_of, with_reference, without_reference, with_count}
+use Rattle.napi_types.specs.References.{Reference, ReferenceMap, referred_value, with_reference, without_reference, with_count}
 use Rattle.napi_types.specs.Refusals.{early_refusal, depth_refusal}
 use Rattle.napi_types.specs.Values.{undefined_value}
 use Rattle.napi_types.proofs.Answers.{KeepsButAsk, called-keeps}
-use Rattle.machine_laws.specs.Consistency.{IsConsistent, IsLive, IsMap}
+use Rattle.machine_laws.specs.Consistency.{IsConsistent, IsLiveAmong, IsMap}
 use Rattle.machine_laws.proofs.Collected.{heap-kept, referred-kept, pending-kept}
 use Rattle.machine_laws.proofs.ConsistentCalls.{heap-call, handle-live, or-undefined}
 use Rattle.machine_laws.proofs.ConsistentHeaps.{IsConsistentHeap, HandlesStay, ComesTo, stays, with-handle}
@@ -30,9 +30,9 @@ use Rattle.machine_laws.proofs.Rising.{more-map, fewer-map, counted-map, emptied
 -- what holds of an environment, but what is said of its frames
 pub record IsConsistentButFrames (e : Environment) : Type 0 where
   pub heap : IsConsistentHeap e.heap
-  pub referred : All (λ r. IfSome r.value (IsLive e.heap.values)) e.references.rows
+  pub referred : All (λ r. IfSome r.value (IsLiveAmong e.heap.values)) e.references.rows
   pub references : IsMap e.references
-  pub pending : IfSome e.pending (IsLive e.heap.values)
+  pub pending : IfSome e.pending (IsLiveAmong e.heap.values)
 
 -- one environment leads to another, which is good
 pub record LeadsTo (old new : Environment) : Type 0 where
@@ -68,8 +68,8 @@ unmoved e g = record { good = g; stay = stays e.heap }
 -- another heap
 pub in-heap : (e : Environment) (heap : Heap) → IsConsistentButFrames e → ComesTo e.heap heap → LeadsTo e (with_heap e heap)
 in-heap e heap g c =
-    let P : Reference → Type 0 = λ r. IfSome r.value (IsLive e.heap.values) in
-    let Q : Reference → Type 0 = λ r. IfSome r.value (IsLive heap.values) in
+    let P : Reference → Type 0 = λ r. IfSome r.value (IsLiveAmong e.heap.values) in
+    let Q : Reference → Type 0 = λ r. IfSome r.value (IsLiveAmong heap.values) in
     record {
       good = record {
         heap = c.good;
@@ -81,7 +81,7 @@ in-heap e heap g c =
     }
 
 -- another pending exception
-pub with-pending : (e : Environment) (o : Option ℕ) → IsConsistentButFrames e → IfSome o (IsLive e.heap.values) → IsConsistentButFrames (with_pending o e)
+pub with-pending : (e : Environment) (o : Option ℕ) → IsConsistentButFrames e → IfSome o (IsLiveAmong e.heap.values) → IsConsistentButFrames (with_pending o e)
 with-pending e o g live = record { heap = g.heap; referred = g.referred; references = g.references; pending = live }
 
 thrown-good : (e : Environment) (code : Option TextNo) (message : TextNo) → IsConsistentButFrames e → LeadsTo e (with_thrown_error code message e)
@@ -124,25 +124,25 @@ row-of P n (r ∷ rs) none all = by (r.number == n) refl (row-of P n rs none (Al
     by false other later = rw other later
 
 -- other references, of live values
-referring : (e : Environment) (m : ReferenceMap) → IsConsistentButFrames e → OfRows (λ o. IfSome o (IsLive e.heap.values)) m → IsMap m
+referring : (e : Environment) (m : ReferenceMap) → IsConsistentButFrames e → OfRows (λ o. IfSome o (IsLiveAmong e.heap.values)) m → IsMap m
     → LeadsTo e (with_references m e)
 referring e m g all map = record { good = record { heap = g.heap; referred = all; references = map; pending = g.pending }; stay = stays e.heap }
 
 counted-good : (e : Environment) (r count : ℕ) → IsConsistentButFrames e → LeadsTo e (with_references (with_count r count e.references) e)
 counted-good e r count g =
-    referring e (with_count r count e.references) g (rows-counted (λ o. IfSome o (IsLive e.heap.values)) r count e.references g.referred)
+    referring e (with_count r count e.references) g (rows-counted (λ o. IfSome o (IsLiveAmong e.heap.values)) r count e.references g.referred)
     (counted-map r count e.references g.references)
 
 counted-up-good : (e : Environment) (r : ℕ) (o : Option ℕ) → IsConsistentButFrames e → LeadsTo e (counted_up r e o).after
 counted-up-good e r None g = unmoved e g
 counted-up-good e r (Some v) g = counted-good e r _ g
 
-told-good : (e : Environment) (o : Option ℕ) → IfSome o (IsLive e.heap.values) → IsConsistentButFrames e → LeadsTo e (value_told e o).after
+told-good : (e : Environment) (o : Option ℕ) → IfSome o (IsLiveAmong e.heap.values) → IsConsistentButFrames e → LeadsTo e (value_told e o).after
 told-good e None live g = unmoved e g
 told-good e (Some v) live g = in-heap e (with_handle v e.heap) g (with-handle e.heap v g.heap live)
 
 -- CALLS
-by-call : (e : Environment) (c : Call) (k : ℕ) → IsConsistentButFrames e → LeadsTo e (accepted_by e c k).after
+by-call : (e : Environment) (c : Call) (k : ℕ) → IsConsistentButFrames e → LeadsTo e (effect e c k).after
 by-call e (call.Throw v) k g = record { good = with-pending e (Some (handle_value e.heap v.0)) g (handle-live e.heap v.0 g.heap); stay = stays e.heap }
 by-call e (call.ThrowError code message) k g = thrown-good e code message g
 by-call e call.IsExceptionPending k g = unmoved e g
@@ -154,14 +154,14 @@ by-call e call.GetAndClearLastException k g =
     let led : LeadsTo (with_pending None e) _ = in-heap (with_pending None e) (with_handle v e.heap) none comes in
     record { good = led.good; stay = led.stay }
 by-call e (call.CreateReference v count) k g =
-    referring e _ g (rows-more (λ o. IfSome o (IsLive e.heap.values)) k (handle_value e.heap v.0) count e.references (handle-live e.heap v.0 g.heap) g.referred)
+    referring e _ g (rows-more (λ o. IfSome o (IsLiveAmong e.heap.values)) k (handle_value e.heap v.0) count e.references (handle-live e.heap v.0 g.heap) g.referred)
     (more-map k (handle_value e.heap v.0) count e.references g.references)
 by-call e (call.DeleteReference r) k g =
-    referring e _ g (rows-fewer (λ o. IfSome o (IsLive e.heap.values)) r.0 e.references g.referred) (fewer-map r.0 e.references g.references)
-by-call e (call.ReferenceRef r) k g = counted-up-good e r.0 (value_of e.references r.0) g
+    referring e _ g (rows-fewer (λ o. IfSome o (IsLiveAmong e.heap.values)) r.0 e.references g.referred) (fewer-map r.0 e.references g.references)
+by-call e (call.ReferenceRef r) k g = counted-up-good e r.0 (referred_value e.references r.0) g
 by-call e (call.ReferenceUnref r) k g = counted-good e r.0 _ g
 by-call e (call.GetReferenceValue r) k g =
-    told-good e (value_of e.references r.0) (row-of (λ o. IfSome o (IsLive e.heap.values)) r.0 e.references.rows tt g.referred) g
+    told-good e (referred_value e.references r.0) (row-of (λ o. IfSome o (IsLiveAmong e.heap.values)) r.0 e.references.rows tt g.referred) g
 by-call e call.Collect k g = record {
   good = record {
     heap = heap-kept e g.heap;
@@ -173,11 +173,11 @@ by-call e call.Collect k g = record {
 }
 by-call e c k g = in-heap e _ g (heap-call (caller_of e.frames) e.heap c k g.heap)
 
-given-good : (e : Environment) (c : Call) (k : ℕ) (s : Option Status) → IsConsistentButFrames e → LeadsTo e (answer_given e c k s).after
+given-good : (e : Environment) (c : Call) (k : ℕ) (s : Option Status) → IsConsistentButFrames e → LeadsTo e (answer_unless e c k s).after
 given-good e c k (Some s) g = unmoved e g
 given-good e c k None g = by-call e c k g
 
-at-good : (e : Environment) (c : Call) (k : ℕ) (early deep : Option Status) → IsConsistentButFrames e → LeadsTo e (answer_at e c k early deep).after
+at-good : (e : Environment) (c : Call) (k : ℕ) (early deep : Option Status) → IsConsistentButFrames e → LeadsTo e (answer_unless_deep e c k early deep).after
 at-good e c k early None g = given-good e c k early g
 at-good e c k (Some r) (Some s) g = unmoved e g
 at-good e c k None (Some s) g = thrown-good e None _ g
@@ -187,10 +187,10 @@ pub record Follows (old new : Environment) : Type 0 where
   pub good : IsConsistent new
   pub stay : HandlesStay old.heap new.heap
 
-pub called-follows : (e : Environment) (c : Call) (k : ℕ) → IsConsistent e → Follows e (called e c k).after
-called-follows e c k old =
+pub call_change-follows : (e : Environment) (c : Call) (k : ℕ) → IsConsistent e → Follows e (call_change e c k).after
+call_change-follows e c k old =
     let led : LeadsTo e _ = at-good e c k (early_refusal e c) (depth_refusal e.frames c) (parts-of e old) in
-    let new : Environment = (called e c k).after in
+    let new : Environment = (call_change e c k).after in
     let keeps : KeepsButAsk e new = called-keeps e c k in
     let good : IsConsistentButFrames new = record {
       heap = led.good.heap;

@@ -3,12 +3,12 @@ use Rattle.std.proofs.Common.{◌≡◌, ◌≤◌, arith, ℕ, ◌+◌, ◌==�
 use Rattle.std.specs.List.{All, count_by}
 use Rattle.std.proofs.lemmas.Bool.{ne_eqb, and_left}
 use Rattle.std.proofs.lemmas.List.Elements.{All-nil, All-cons}
-use Rattle.napi_types.specs.Heap.{Heap, with_handle, frame_entered, frame_left}
+use Rattle.napi_types.specs.Heap.{Heap, with_handle, with_frame, without_frame}
 use Rattle.napi_types.specs.Lists.{one, tail, first_changed}
 use Rattle.napi_types.specs.Reach.{numbers}
 use Rattle.napi_types.specs.Scopes.{Held, FrameScopes, no_handles, held_by_frames, hold_in}
 use Rattle.napi_types.specs.Values.{starting_values}
-use Rattle.machine_laws.specs.Consistency.{AreIssued, held_handles, held_values, IsLive}
+use Rattle.machine_laws.specs.Consistency.{AreIssued, held_handles, values_of_handles, IsLiveAmong}
 use Rattle.machine_laws.proofs.Children.{OfChildren}
 use Rattle.machine_laws.proofs.Counting.{Within, counted, within-all, count-cons, issued-fewer, issued-next}
 use Rattle.machine_laws.proofs.Holding.{is_held, within-handles, within-values, holds-in, holds-first, holds-entered, holds-left}
@@ -17,9 +17,9 @@ use Rattle.machine_laws.proofs.Holding.{is_held, within-handles, within-values, 
 pub record IsConsistentHeap (heap : Heap) : Type 0 where
   pub handles : AreIssued heap.handles (held_handles heap.scopes)
   pub values : AreIssued heap.made (numbers heap.values)
-  pub held : All (IsLive heap.values) (held_values heap.scopes)
-  pub children : All (OfChildren (IsLive heap.values)) heap.values
-  pub starting : All (IsLive heap.values) (numbers starting_values)
+  pub held : All (IsLiveAmong heap.values) (values_of_handles heap.scopes)
+  pub children : All (OfChildren (IsLiveAmong heap.values)) heap.values
+  pub starting : All (IsLiveAmong heap.values) (numbers starting_values)
 
 -- a number that was issued before is held after only if it was held before, to the same value
 pub record HandlesStay (old new : Heap) : Type 0 where
@@ -29,7 +29,7 @@ pub record HandlesStay (old new : Heap) : Type 0 where
 -- one heap comes to another, which is good: what was live is
 pub record ComesTo (old new : Heap) : Type 0 where
   pub good : IsConsistentHeap new
-  pub live : (n : ℕ) → IsLive old.values n → IsLive new.values n
+  pub live : (n : ℕ) → IsLiveAmong old.values n → IsLiveAmong new.values n
   pub stay : HandlesStay old new
 
 pub stays : (heap : Heap) → HandlesStay heap heap
@@ -56,7 +56,7 @@ with-scopes heap fs ns g w = record {
     handles = issued-fewer heap.handles (held_handles fs) (held_handles heap.scopes) (within-handles fs heap.scopes [] w) g.handles;
     values = g.values;
     held =
-        within-all (IsLive heap.values) (held_values fs) (held_values heap.scopes) [] (within-values fs heap.scopes [] w) g.held (All-nil (IsLive heap.values));
+        within-all (IsLiveAmong heap.values) (values_of_handles fs) (values_of_handles heap.scopes) [] (within-values fs heap.scopes [] w) g.held (All-nil (IsLiveAmong heap.values));
     children = g.children;
     starting = g.starting;
   };
@@ -68,15 +68,15 @@ with-scopes heap fs ns g w = record {
 abbrev next_held : Heap → ℕ → Held
 next_held heap v = record { handle = heap.handles + 1; value = v }
 
-pub with-held : (heap : Heap) (fs : List FrameScopes) (v : ℕ) → IsConsistentHeap heap → IsLive heap.values v
+pub with-held : (heap : Heap) (fs : List FrameScopes) (v : ℕ) → IsConsistentHeap heap → IsLiveAmong heap.values v
     → Within (held_by_frames fs) (held_by_frames heap.scopes) (one (next_held heap v)) → ComesTo heap (record heap { scopes = fs; handles = heap.handles + 1 })
 with-held heap fs v g live w = record {
   good = record {
     handles = issued-next heap.handles (held_handles fs) (held_handles heap.scopes) (within-handles fs heap.scopes (one (next_held heap v)) w) g.handles;
     values = g.values;
     held =
-        within-all (IsLive heap.values) (held_values fs) (held_values heap.scopes) (one v) (within-values fs heap.scopes (one (next_held heap v)) w) g.held
-        (All-cons (IsLive heap.values) v [] live (All-nil (IsLive heap.values)));
+        within-all (IsLiveAmong heap.values) (values_of_handles fs) (values_of_handles heap.scopes) (one v) (within-values fs heap.scopes (one (next_held heap v)) w) g.held
+        (All-cons (IsLiveAmong heap.values) v [] live (All-nil (IsLiveAmong heap.values)));
     children = g.children;
     starting = g.starting;
   };
@@ -90,13 +90,13 @@ with-held heap fs v g live w = record {
         let new : is_held h k (next_held heap v) ≡ false = and_left (heap.handles + 1 == h) (v == k) other in
         omega (arith, w (is_held h k), count-cons (is_held h k) (next_held heap v) [], ap counted new)
 
-pub with-handle : (heap : Heap) (v : ℕ) → IsConsistentHeap heap → IsLive heap.values v → ComesTo heap (with_handle v heap)
+pub with-handle : (heap : Heap) (v : ℕ) → IsConsistentHeap heap → IsLiveAmong heap.values v → ComesTo heap (with_handle v heap)
 with-handle heap v g live =
     with-held heap (first_changed (hold_in (next_held heap v)) heap.scopes) v g live
     (holds-first (one (next_held heap v)) (hold_in (next_held heap v)) heap.scopes (holds-in (next_held heap v)))
 
-pub with-frame : (heap : Heap) → IsConsistentHeap heap → ComesTo heap (frame_entered heap)
+pub with-frame : (heap : Heap) → IsConsistentHeap heap → ComesTo heap (with_frame heap)
 with-frame heap g = with-scopes heap (no_handles ∷ heap.scopes) heap.scope_numbers g (holds-entered heap.scopes)
 
-pub without-frame : (heap : Heap) → IsConsistentHeap heap → ComesTo heap (frame_left heap)
+pub without-frame : (heap : Heap) → IsConsistentHeap heap → ComesTo heap (without_frame heap)
 without-frame heap g = with-scopes heap (tail heap.scopes) heap.scope_numbers g (holds-left heap.scopes)

@@ -8,7 +8,7 @@ use Rattle.napi_types.specs.Heap.{new_heap}
 use Rattle.napi_types.specs.Reach.{numbers}
 use Rattle.napi_types.specs.Values.{Value, children, starting_values}
 use Rattle.napi_types.specs.Whole.{opening_of}
-use Rattle.machine_laws.specs.Consistency.{AreIssued, IsConsistent, IsLive}
+use Rattle.machine_laws.specs.Consistency.{AreIssued, IsConsistent, IsLiveAmong}
 use Rattle.machine_laws.specs.HandleLaws.{EnvironmentsAreConsistent}
 use Rattle.machine_laws.proofs.Children.{OfChildren}
 use Rattle.machine_laws.proofs.Counting.{count-append, none-issued, issued-next}
@@ -45,8 +45,8 @@ pub new-heap-good : IsConsistentHeap new_heap
 new-heap-good = record {
   handles = none-issued 0;
   values = starting-issued;
-  held = All-nil (IsLive starting_values);
-  children = no-children (IsLive starting_values) starting_values refl;
+  held = All-nil (IsLiveAmong starting_values);
+  children = no-children (IsLiveAmong starting_values) starting_values refl;
   starting = all-there (numbers starting_values);
 }
 

@@ -22,14 +22,14 @@ use Rattle.napi_types.specs.declared.entry.Why.{Why}
 use Rattle.napi_types.specs.declared.ids.HandleId.{HandleId}
 use Rattle.napi_types.specs.declared.status.Status.{Status}
 use Rattle.napi_types.specs.declared.status.Status.TheVariants as status
-use Rattle.napi_types.specs.Built.{taken}
-use Rattle.napi_types.specs.Changes.{opened, init_begun, gone, in_phase, number_of}
-use Rattle.napi_types.specs.Ends.{ended_by, call_left, frame_ended}
-use Rattle.napi_types.specs.Entering.{entered, calling, asked_for}
+use Rattle.napi_types.specs.Built.{built_ask}
+use Rattle.napi_types.specs.Changes.{opening_change, init_change, gone_change, in_phase, number_of}
+use Rattle.napi_types.specs.Ends.{end_change_by, uncut_call_end, end_change}
+use Rattle.napi_types.specs.Entering.{enter_change, function_change, asked_change}
 use Rattle.napi_types.specs.Environment.{Environment}
 use Rattle.napi_types.specs.Frames.{Frame, cause_of, most_frames, ask_counted}
 use Rattle.napi_types.specs.FunctionCalls.{left_value, with_receiver}
-use Rattle.napi_types.specs.Heap.{Heap, with_handle, frame_entered, frame_left}
+use Rattle.napi_types.specs.Heap.{Heap, with_handle, with_frame, without_frame}
 use Rattle.napi_types.specs.Hub.{Hub, hub_next}
 use Rattle.napi_types.specs.Lists.{first_changed, tail, when}
 use Rattle.napi_types.specs.Loop.{Event, Opens, Inits, Goes, EndsLoop, Drains, FinalsCome, IsGone}
@@ -38,8 +38,8 @@ use Rattle.napi_types.specs.Refusals.{refusal, early_refusal, depth_refusal}
 use Rattle.napi_types.specs.Run.{after, final}
 use Rattle.napi_types.specs.Step.{Step, hub_moved, event_step, chosen, asked_step, frame_step, env_step, step_of, cut_of}
 use Rattle.napi_types.specs.Values.{undefined_value}
-use Rattle.machine_laws.specs.Consistency.{IsConsistent, IsLive}
-use Rattle.machine_laws.proofs.ConsistentAnswers.{IsConsistentButFrames, Follows, parts-of, whole-of, in-heap, called-follows}
+use Rattle.machine_laws.specs.Consistency.{IsConsistent, IsLiveAmong}
+use Rattle.machine_laws.proofs.ConsistentAnswers.{IsConsistentButFrames, Follows, parts-of, whole-of, in-heap, call_change-follows}
 use Rattle.machine_laws.proofs.ConsistentCalls.{handle-live}
 use Rattle.machine_laws.proofs.ConsistentHeaps.{IsConsistentHeap, ComesTo, HandlesStay, stays, stays-then, and-then, unchanged, with-handle, with-frame, without-frame}
 
@@ -84,28 +84,28 @@ kept-ended e heap s c comes same =
     let g : IsConsistentButFrames (record e { heap = heap }) = (in-heap e heap (parts-of e c) comes).good in
     ended-follows e heap e.pending s c comes same (record { heap = g.heap; referred = g.referred; references = g.references; pending = g.pending })
 
-left-live : (e : Environment) (v : Option HandleId) → IsConsistentHeap e.heap → IsLive e.heap.values (left_value e.heap v)
+left-live : (e : Environment) (v : Option HandleId) → IsConsistentHeap e.heap → IsLiveAmong e.heap.values (left_value e.heap v)
 left-live e None g = g.starting 0 0 (omega arith)
 left-live e (Some h) g = handle-live e.heap h.0 g
 
-left-follows : (v : Option HandleId) (e : Environment) (pending : Option ℕ) → IsConsistent e → Follows e (call_left v e pending).after
-left-follows v e (Some p) c = kept-ended e (frame_left e.heap) status.PendingException c (without-frame e.heap (parts-of e c).heap) refl
+left-follows : (v : Option HandleId) (e : Environment) (pending : Option ℕ) → IsConsistent e → Follows e (uncut_call_end v e pending).after
+left-follows v e (Some p) c = kept-ended e (without_frame e.heap) status.PendingException c (without-frame e.heap (parts-of e c).heap) refl
 left-follows v e None c =
     let good : IsConsistentHeap e.heap = (parts-of e c).heap in
-    let left : ComesTo e.heap (frame_left e.heap) = without-frame e.heap good in
-    let heap : Heap = with_handle (left_value e.heap v) (frame_left e.heap) in
-    let given : ComesTo (frame_left e.heap) heap = with-handle (frame_left e.heap) (left_value e.heap v) left.good (left-live e v good) in
-    kept-ended e heap status.Ok c (and-then e.heap (frame_left e.heap) heap left given) (length-changed _ (tail e.heap.scopes))
+    let left : ComesTo e.heap (without_frame e.heap) = without-frame e.heap good in
+    let heap : Heap = with_handle (left_value e.heap v) (without_frame e.heap) in
+    let given : ComesTo (without_frame e.heap) heap = with-handle (without_frame e.heap) (left_value e.heap v) left.good (left-live e v good) in
+    kept-ended e heap status.Ok c (and-then e.heap (without_frame e.heap) heap left given) (length-changed _ (tail e.heap.scopes))
 
-by-cause : (v : Option HandleId) (cut : Option Why) (e : Environment) (why : Cause) → IsConsistent e → Follows e (ended_by v cut e why).after
-by-cause v (Some w) e cause.Call c = kept-ended e (frame_left e.heap) status.GenericFailure c (without-frame e.heap (parts-of e c).heap) refl
+by-cause : (v : Option HandleId) (cut : Option Why) (e : Environment) (why : Cause) → IsConsistent e → Follows e (end_change_by v cut e why).after
+by-cause v (Some w) e cause.Call c = kept-ended e (without_frame e.heap) status.GenericFailure c (without-frame e.heap (parts-of e c).heap) refl
 by-cause v None e cause.Call c = left-follows v e e.pending c
 by-cause v cut e _ c =
-    let left : ComesTo e.heap (frame_left e.heap) = without-frame e.heap (parts-of e c).heap in
-    let g : IsConsistentButFrames (record e { heap = frame_left e.heap }) = (in-heap e (frame_left e.heap) (parts-of e c) left).good in
-    ended-follows e (frame_left e.heap) None e.last c left refl (record { heap = g.heap; referred = g.referred; references = g.references; pending = tt })
+    let left : ComesTo e.heap (without_frame e.heap) = without-frame e.heap (parts-of e c).heap in
+    let g : IsConsistentButFrames (record e { heap = without_frame e.heap }) = (in-heap e (without_frame e.heap) (parts-of e c) left).good in
+    ended-follows e (without_frame e.heap) None e.last c left refl (record { heap = g.heap; referred = g.referred; references = g.references; pending = tt })
 
-frame-follows : (v : Option HandleId) (cut : Option Why) (e : Environment) → IsConsistent e → Follows e (frame_ended v cut e).after
+frame-follows : (v : Option HandleId) (cut : Option Why) (e : Environment) → IsConsistent e → Follows e (end_change v cut e).after
 frame-follows v cut e c = by-cause v cut e (cause_of e.frames) c
 
 -- THE BEGIN OF A FRAME
@@ -134,31 +134,31 @@ below-limit e receiver f args h =
     let shallow : nat_le most_frames (length e.frames) ≡ false = not-when (nat_le most_frames (length e.frames)) status.PendingException no_refusal in
     omega (arith, leb-false most_frames (length e.frames) shallow)
 
-entered-follows : (e : Environment) (receiver : Option HandleId) (f : HandleId) (args : Args) → refusal e (call.CallFunction receiver f args) ≡ None
-    → IsConsistent e → Follows e (entered receiver f args e).after
-entered-follows e receiver f args h c =
+enter_change-follows : (e : Environment) (receiver : Option HandleId) (f : HandleId) (args : Args) → refusal e (call.CallFunction receiver f args) ≡ None
+    → IsConsistent e → Follows e (enter_change receiver f args e).after
+enter_change-follows e receiver f args h c =
     let g : IsConsistentButFrames e = parts-of e c in
-    let frame : ComesTo e.heap (frame_entered e.heap) = with-frame e.heap g.heap in
-    let heap : Heap = with_receiver receiver (frame_entered e.heap) in
-    let comes : ComesTo e.heap heap = and-then e.heap (frame_entered e.heap) heap frame (with-receiver (frame_entered e.heap) receiver frame.good) in
+    let frame : ComesTo e.heap (with_frame e.heap) = with-frame e.heap g.heap in
+    let heap : Heap = with_receiver receiver (with_frame e.heap) in
+    let comes : ComesTo e.heap heap = and-then e.heap (with_frame e.heap) heap frame (with-receiver (with_frame e.heap) receiver frame.good) in
     let led : IsConsistentButFrames (record e { heap = heap }) = (in-heap e heap g comes).good in
-    let new : Environment = (entered receiver f args e).after in
+    let new : Environment = (enter_change receiver f args e).after in
     let good : IsConsistentButFrames new = record { heap = led.heap; referred = led.referred; references = led.references; pending = led.pending } in
     let asks : length (ask_counted e.frames) ≡ length e.frames = length-changed _ e.frames in
-    let scopes : length heap.scopes ≡ length (frame_entered e.heap).scopes = length-receiver (frame_entered e.heap) receiver in
+    let scopes : length heap.scopes ≡ length (with_frame e.heap).scopes = length-receiver (with_frame e.heap) receiver in
     record {
       good = whole-of new good (omega (arith, scopes, c.frames, asks)) (omega (arith, below-limit e receiver f args h, asks));
       stay = comes.stay;
     }
 
-calling-follows : (e : Environment) (receiver : Option HandleId) (f : HandleId) (args : Args) (k : ℕ) (s : Option Status)
-    → refusal e (call.CallFunction receiver f args) ≡ s → IsConsistent e → Follows e (calling receiver f args k e s).after
-calling-follows e receiver f args k None h c = entered-follows e receiver f args h c
-calling-follows e receiver f args k (Some s) h c = called-follows e (call.CallFunction receiver f args) k c
+function_change-follows : (e : Environment) (receiver : Option HandleId) (f : HandleId) (args : Args) (k : ℕ) (s : Option Status)
+    → refusal e (call.CallFunction receiver f args) ≡ s → IsConsistent e → Follows e (function_change receiver f args k e s).after
+function_change-follows e receiver f args k None h c = enter_change-follows e receiver f args h c
+function_change-follows e receiver f args k (Some s) h c = call_change-follows e (call.CallFunction receiver f args) k c
 
-asked-follows : (e : Environment) (c : Call) (k : ℕ) → IsConsistent e → Follows e (asked_for e c k).after
-asked-follows e (call.CallFunction receiver f args) k c = calling-follows e receiver f args k (refusal e (call.CallFunction receiver f args)) refl c
-asked-follows e c k old = called-follows e c k old
+asked-follows : (e : Environment) (c : Call) (k : ℕ) → IsConsistent e → Follows e (asked_change e c k).after
+asked-follows e (call.CallFunction receiver f args) k c = function_change-follows e receiver f args k (refusal e (call.CallFunction receiver f args)) refl c
+asked-follows e c k old = call_change-follows e c k old
 
 -- EVENTS WITH NO FRAME
 -- what is neither heap, references, pending exception nor frames may change
@@ -166,12 +166,12 @@ other-follows : (e new : Environment) → IsConsistentButFrames new → length n
     → HandlesStay e.heap new.heap → IsConsistent e → Follows e new
 other-follows e new g scopes frames stay c = record { good = whole-of new g (scopes ∙ c.frames ∙ sym frames) (omega (arith, frames, c.depth)); stay = stay }
 
-init-follows : (e : Environment) (n : ℕ) → e.frames ≡ [] → IsConsistent e → Follows e (init_begun n e).after
+init-follows : (e : Environment) (n : ℕ) → e.frames ≡ [] → IsConsistent e → Follows e (init_change n e).after
 init-follows e n none c =
     let g : IsConsistentButFrames e = parts-of e c in
-    let frame : ComesTo e.heap (frame_entered e.heap) = with-frame e.heap g.heap in
-    let led : IsConsistentButFrames (record e { heap = frame_entered e.heap }) = (in-heap e (frame_entered e.heap) g frame).good in
-    let new : Environment = (init_begun n e).after in
+    let frame : ComesTo e.heap (with_frame e.heap) = with-frame e.heap g.heap in
+    let led : IsConsistentButFrames (record e { heap = with_frame e.heap }) = (in-heap e (with_frame e.heap) g frame).good in
+    let new : Environment = (init_change n e).after in
     let good : IsConsistentButFrames new = record { heap = led.heap; referred = led.referred; references = led.references; pending = led.pending } in
     record { good = whole-of new good (ap suc c.frames) (omega (arith, ap length none)); stay = frame.stay }
 
@@ -189,8 +189,8 @@ hub-follows m event p o (Some h) c =
 event-follows : (m : Machine) (event : Event) → m.env.frames ≡ [] → IsConsistent m.env → StepFollows m (event_step m event)
 event-follows m Opens none c =
     let g : IsConsistentButFrames m.env = parts-of m.env c in
-    let good : IsConsistentButFrames (opened m.env).after = record { heap = g.heap; referred = g.referred; references = g.references; pending = g.pending } in
-    other-follows m.env (opened m.env).after good refl refl (stays m.env.heap) c
+    let good : IsConsistentButFrames (opening_change m.env).after = record { heap = g.heap; referred = g.referred; references = g.references; pending = g.pending } in
+    other-follows m.env (opening_change m.env).after good refl refl (stays m.env.heap) c
 event-follows m (Inits n) none c = init-follows m.env n none c
 event-follows m Goes none c = hub-follows m host.Go phase.Live out.Nothing (hub_next m.hub host.Go) c
 event-follows m (EndsLoop w) none c = hub-follows m host.LoopEnd phase.Hooks (out.Ended w) (hub_next m.hub host.LoopEnd) c
@@ -198,8 +198,8 @@ event-follows m Drains none c = hub-follows m host.Drain phase.Drain (out.Unsign
 event-follows m FinalsCome none c = hub-follows m host.Finals phase.Finals out.Nothing (hub_next m.hub host.Finals) c
 event-follows m IsGone none c =
     let g : IsConsistentButFrames m.env = parts-of m.env c in
-    let good : IsConsistentButFrames (gone m.env).after = record { heap = g.heap; referred = g.referred; references = g.references; pending = g.pending } in
-    other-follows m.env (gone m.env).after good refl refl (stays m.env.heap) c
+    let good : IsConsistentButFrames (gone_change m.env).after = record { heap = g.heap; referred = g.referred; references = g.references; pending = g.pending } in
+    other-follows m.env (gone_change m.env).after good refl refl (stays m.env.heap) c
 
 chosen-follows : (m : Machine) (event : Option Event) → m.env.frames ≡ [] → IsConsistent m.env → StepFollows m (chosen m event)
 chosen-follows m None none c = same-follows m.env c
@@ -215,7 +215,7 @@ frame-step-follows m a o (Some w) c = frame-follows None (Some w) m.env c
 
 env-step-follows : (m : Machine) (a : Ask) (o : Out) (fs : List Frame) → m.env.frames ≡ fs → IsConsistent m.env → StepFollows m (env_step m a o fs)
 env-step-follows m a o [] none c = chosen-follows m _ none c
-env-step-follows m a o (f ∷ fs) is c = frame-step-follows m (taken a) o (cut_of o) c
+env-step-follows m a o (f ∷ fs) is c = frame-step-follows m (built_ask a) o (cut_of o) c
 
 step-follows : (m : Machine) (a : Ask) (x : Entry) (who : Actor) → IsConsistent m.env → StepFollows m (step_of m a x who)
 step-follows m a x actor.Env c = env-step-follows m a x.reply.out m.env.frames refl c

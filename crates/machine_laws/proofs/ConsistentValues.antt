@@ -10,7 +10,7 @@ use Rattle.napi_types.specs.Heap.{Heap, handle_value, with_handle, with_value, w
 use Rattle.napi_types.specs.Lists.{has_number}
 use Rattle.napi_types.specs.Reach.{numbers}
 use Rattle.napi_types.specs.Values.{Value, fresh_value, starting_values, made_after, array_of, list_of, error_of, code_property, thrown_of, thrown_strings, value_changed}
-use Rattle.machine_laws.specs.Consistency.{AreIssued, held_values, IsLive}
+use Rattle.machine_laws.specs.Consistency.{AreIssued, values_of_handles, IsLiveAmong}
 use Rattle.machine_laws.proofs.Children.{OfChildren, Keeps, named, children-of}
 use Rattle.machine_laws.proofs.Counting.{issued-next}
 use Rattle.machine_laws.proofs.ConsistentHeaps.{IsConsistentHeap, ComesTo, unchanged, and-then, with-handle}
@@ -21,17 +21,17 @@ abbrev with_values : Heap → List Value → ℕ → Heap
 with_values heap vs n = record heap { values = vs; made = n }
 
 -- one value more
-pub with-pushed : (heap : Heap) (x : Value) → x.number ≡ heap.made + 1 → OfChildren (IsLive (heap.values ++ x ∷ [])) x → IsConsistentHeap heap
+pub with-pushed : (heap : Heap) (x : Value) → x.number ≡ heap.made + 1 → OfChildren (IsLiveAmong (heap.values ++ x ∷ [])) x → IsConsistentHeap heap
     → ComesTo heap (with_values heap (heap.values ++ x ∷ []) (heap.made + 1))
 with-pushed heap x number own g =
-    let P : ℕ → Type 0 = IsLive heap.values in
-    let Q : ℕ → Type 0 = IsLive (heap.values ++ x ∷ []) in
+    let P : ℕ → Type 0 = IsLiveAmong heap.values in
+    let Q : ℕ → Type 0 = IsLiveAmong (heap.values ++ x ∷ []) in
     let wider : (n : ℕ) → P n → Q n = λ n h. live-more n heap.values (x ∷ []) h in
     record {
       good = record {
         handles = g.handles;
         values = issued-next heap.made (numbers (heap.values ++ x ∷ [])) (numbers heap.values) (within-pushed heap.values x (heap.made + 1) number) g.values;
-        held = All-weaker P Q wider (held_values heap.scopes) g.held;
+        held = All-weaker P Q wider (values_of_handles heap.scopes) g.held;
         children =
             All-push (OfChildren Q) heap.values x (All-weaker (OfChildren P) (OfChildren Q) (λ v all. All-weaker P Q wider _ all) heap.values g.children) own;
         starting = All-weaker P Q wider (numbers starting_values) g.starting;
@@ -41,7 +41,7 @@ with-pushed heap x number own g =
     }
 
 pub with-value : (heap : Heap) (b : Body) → IsConsistentHeap heap → ComesTo heap (with_value b heap)
-with-value heap b g = with-pushed heap (fresh_value (heap.made + 1) b) refl (All-nil (IsLive (with_value b heap).values)) g
+with-value heap b g = with-pushed heap (fresh_value (heap.made + 1) b) refl (All-nil (IsLiveAmong (with_value b heap).values)) g
 
 -- a new value and its handle
 pub with-new : (heap : Heap) (b : Body) → IsConsistentHeap heap → ComesTo heap (with_handle (heap.made + 1) (with_value b heap))
@@ -51,10 +51,10 @@ with-new heap b g =
     (with-handle (with_value b heap) (heap.made + 1) made.good (live-pushed heap.values (fresh_value (heap.made + 1) b)))
 
 -- a value that is changed
-pub with-changed : (heap : Heap) (h : ℕ) (change : Value → Value) → Keeps (IsLive heap.values) change → IsConsistentHeap heap
+pub with-changed : (heap : Heap) (h : ℕ) (change : Value → Value) → Keeps (IsLiveAmong heap.values) change → IsConsistentHeap heap
     → ComesTo heap (with_changed h change heap)
 with-changed heap h change keeps g =
-    let P : ℕ → Type 0 = IsLive heap.values in
+    let P : ℕ → Type 0 = IsLiveAmong heap.values in
     let new : List Value = value_changed (handle_value heap h) change heap.values in
     let own : All (OfChildren P) new = children-changed P (handle_value heap h) change heap.values keeps g.children in
     let same : numbers heap.values ≡ numbers new = sym (numbers-changed P (handle_value heap h) change heap.values keeps) in
@@ -62,11 +62,11 @@ with-changed heap h change keeps g =
       good = record {
         handles = g.handles;
         values = subst (λ ns. AreIssued heap.made ns) same g.values;
-        held = subst (λ ns. All (λ n. has_number n ns ≡ true) (held_values heap.scopes)) same g.held;
+        held = subst (λ ns. All (λ n. has_number n ns ≡ true) (values_of_handles heap.scopes)) same g.held;
         children = subst (λ ns. All (OfChildren (λ n. has_number n ns ≡ true)) new) same own;
         starting = subst (λ ns. All (λ n. has_number n ns ≡ true) (numbers starting_values)) same g.starting;
       };
-      live = λ n. subst (λ ns. IsLive heap.values n → has_number n ns ≡ true) same (λ k. k);
+      live = λ n. subst (λ ns. IsLiveAmong heap.values n → has_number n ns ≡ true) same (λ k. k);
       stay = record { rises = omega arith; held = λ k v below. omega arith };
     }
 
@@ -96,8 +96,8 @@ with-list heap bs g =
     let made : ComesTo heap one = with-made heap bs g in
     let ns : List ℕ = range_with_len (heap.made + 1) (length bs) in
     let x : Value = array_of (heap.made + length bs + 1) ns in
-    let Q : ℕ → Type 0 = IsLive (one.values ++ x ∷ []) in
-    let all : All Q ns = All-weaker (IsLive one.values) Q (λ n h. live-more n one.values (x ∷ []) h) ns (all-made heap.values heap.made bs) in
+    let Q : ℕ → Type 0 = IsLiveAmong (one.values ++ x ∷ []) in
+    let all : All Q ns = All-weaker (IsLiveAmong one.values) Q (λ n h. live-more n one.values (x ∷ []) h) ns (all-made heap.values heap.made bs) in
     let own : OfChildren Q x = children-of Q x (All-nil Q) (subst (λ ms. All Q ms) (sym (filter_map-Some ns)) all) in
     let two : Heap = with_values one (one.values ++ x ∷ []) (one.made + 1) in
     subst (λ vs. ComesTo heap (with_values heap vs (heap.made + length bs + 1))) (append_assoc heap.values ws (x ∷ []))
@@ -109,19 +109,19 @@ with-new-list heap bs g =
     and-then heap (with_list bs heap) (with_handle (heap.made + length bs + 1) (with_list bs heap)) made
     (with-handle (with_list bs heap) (heap.made + length bs + 1) made.good (listed heap.values))
   where
-    listed : (vs : List Value) → IsLive (vs ++ list_of heap.made bs) (heap.made + length bs + 1)
+    listed : (vs : List Value) → IsLiveAmong (vs ++ list_of heap.made bs) (heap.made + length bs + 1)
     listed vs =
         let x : Value = array_of (heap.made + length bs + 1) (range_with_len (heap.made + 1) (length bs)) in
         live-made (heap.made + length bs + 1) vs (list_of heap.made bs) (live-pushed (made_after heap.made bs) x)
 
 -- ERRORS
 -- an error of live values
-pub with-error : (heap : Heap) (code : Option ℕ) (message : ℕ) → IfSome code (IsLive heap.values) → IsLive heap.values message → IsConsistentHeap heap
+pub with-error : (heap : Heap) (code : Option ℕ) (message : ℕ) → IfSome code (IsLiveAmong heap.values) → IsLiveAmong heap.values message → IsConsistentHeap heap
     → ComesTo heap (with_error code message heap)
 with-error heap code message known live g =
     let x : Value = error_of (heap.made + 1) code message in
-    let P : ℕ → Type 0 = IsLive heap.values in
-    let Q : ℕ → Type 0 = IsLive (heap.values ++ x ∷ []) in
+    let P : ℕ → Type 0 = IsLiveAmong heap.values in
+    let Q : ℕ → Type 0 = IsLiveAmong (heap.values ++ x ∷ []) in
     let wider : (n : ℕ) → P n → Q n = λ n h. live-more n heap.values (x ∷ []) h in
     let codes : List ℕ = named (code_property code) in
     let rest : All Q codes = All-weaker P Q wider codes (of-code P code known) in
@@ -132,7 +132,7 @@ with-error heap code message known live g =
     of-code P None h = All-nil P
     of-code P (Some n) h = All-cons P n [] h (All-nil P)
 
-pub with-new-error : (heap : Heap) (code : Option ℕ) (message : ℕ) → IfSome code (IsLive heap.values) → IsLive heap.values message → IsConsistentHeap heap
+pub with-new-error : (heap : Heap) (code : Option ℕ) (message : ℕ) → IfSome code (IsLiveAmong heap.values) → IsLiveAmong heap.values message → IsConsistentHeap heap
     → ComesTo heap (with_handle (heap.made + 1) (with_error code message heap))
 with-new-error heap code message known live g =
     let made : ComesTo heap (with_error code message heap) = with-error heap code message known live g in
@@ -153,13 +153,13 @@ with-thrown heap code message g =
     let ws : List Value = made_after heap.made bs in
     let one : Heap = with_values heap (heap.values ++ ws) (heap.made + length bs) in
     let made : ComesTo heap one = with-made heap bs g in
-    let live = strings-live (IsLive one.values) heap.made code message (all-made heap.values heap.made bs) in
+    let live = strings-live (IsLiveAmong one.values) heap.made code message (all-made heap.values heap.made bs) in
     let two : Heap = with_error (option_map (λ c. heap.made + 2) code) (heap.made + 1) one in
     subst (λ vs. ComesTo heap (with_values heap vs (thrown_number code message heap)))
     (append_assoc heap.values ws (error_of (heap.made + length bs + 1) (option_map (λ c. heap.made + 2) code) (heap.made + 1) ∷ []))
     (and-then heap one two made (with-error one (option_map (λ c. heap.made + 2) code) (heap.made + 1) live.1 live.0 made.good))
 
-pub thrown-live : (heap : Heap) (code : Option TextNo) (message : TextNo) → IsLive (with_thrown code message heap).values (thrown_number code message heap)
+pub thrown-live : (heap : Heap) (code : Option TextNo) (message : TextNo) → IsLiveAmong (with_thrown code message heap).values (thrown_number code message heap)
 thrown-live heap code message =
     let bs : List Body = thrown_strings code message in
     live-made (thrown_number code message heap) heap.values (thrown_of heap.made code message)

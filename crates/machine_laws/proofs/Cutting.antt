@@ -9,12 +9,12 @@ use Rattle.napi_types.specs.declared.entry.Entry.{Entry}
 use Rattle.napi_types.specs.declared.entry.Out.{Out}
 use Rattle.napi_types.specs.declared.entry.Why.{Why}
 use Rattle.napi_types.specs.declared.entry.Why.TheVariants as why
-use Rattle.napi_types.specs.Built.{is_built, taken}
-use Rattle.napi_types.specs.Changes.{is_fresh, may_ask, may_call}
+use Rattle.napi_types.specs.Built.{is_built, built_ask}
+use Rattle.napi_types.specs.Changes.{is_fresh_result, may_ask, may_call}
 use Rattle.machine_laws.specs.Cuts.{cut_by, first_called}
 use Rattle.napi_types.specs.declared.entry.Cause.{Cause}
 use Rattle.napi_types.specs.declared.entry.Cause.TheVariants as cause
-use Rattle.napi_types.specs.Ends.{ended_by, frame_ended}
+use Rattle.napi_types.specs.Ends.{end_change_by, end_change}
 use Rattle.napi_types.specs.Environment.{Environment}
 use Rattle.napi_types.specs.Machine.{Machine}
 use Rattle.napi_types.specs.Room.{room_of, may_want_memory, need, is_full}
@@ -27,17 +27,17 @@ use Rattle.napi_types.proofs.Runs.{and-left, and-right}
 
 -- the step is that of the frame
 pub frame-step : (m : Machine) (a : Ask) (x : Entry) (who : Actor) (f : Frame) (fs : List Frame) → m.env.frames ≡ f ∷ fs
-    → IsTrue (step_of m a x who).may → step_of m a x who ≡ frame_step m (taken a) x.reply.out (cut_of x.reply.out)
+    → IsTrue (step_of m a x who).may → step_of m a x who ≡ frame_step m (built_ask a) x.reply.out (cut_of x.reply.out)
 frame-step m a x actor.Env f fs e h = ap (λ l. env_step m a x.reply.out l) e
 frame-step m a x (actor.Thread n) f fs e h = cc
 frame-step m a x (actor.Worker n) f fs e h = cc
 
 -- whatever a frame may leave is one entry: so it is the only one that may come
 pub only-in-frame : (m : Machine) (a : Ask) (f : Frame) (fs : List Frame) (y : Entry) → m.env.frames ≡ f ∷ fs
-    → ((o : Out) (w : Option Why) → IsTrue (frame_step m (taken a) o w).may → (frame_step m (taken a) o w).entry ≡ y)
+    → ((o : Out) (w : Option Why) → IsTrue (frame_step m (built_ask a) o w).may → (frame_step m (built_ask a) o w).entry ≡ y)
     → (x : Entry) → IsNext m a x → x ≡ y
 only-in-frame m a f fs y e k x n =
-    let s : step_of m a x x.actor ≡ frame_step m (taken a) x.reply.out (cut_of x.reply.out) = frame-step m a x x.actor f fs e n.1 in
+    let s : step_of m a x x.actor ≡ frame_step m (built_ask a) x.reply.out (cut_of x.reply.out) = frame-step m a x x.actor f fs e n.1 in
     let P : Step → Type 0 = λ t. IsTrue t.may in
     n.0 ∙ ap (λ t. t.entry) s ∙ k x.reply.out (cut_of x.reply.out) (subst P s n.1)
 
@@ -50,11 +50,11 @@ spent-calls : (e : Environment) → asks_made e.frames ≡ 65536 → IsTrue (may
 spent-calls e s h = spent-asks e s (and-left (may_ask e) (is_asking e.frames) h)
 
 -- a frame that is cut ends so
-ended-cut : (e : Environment) (w : Why) (c : Cause) → (ended_by None (Some w) e c).entry ≡ cut_by c w
+ended-cut : (e : Environment) (w : Why) (c : Cause) → (end_change_by None (Some w) e c).entry ≡ cut_by c w
 ended-cut e w cause.Call = refl
 ended-cut e w c = refl
 
-pub cut-entry : (e : Environment) (w : Why) (f : Frame) (fs : List Frame) → e.frames ≡ f ∷ fs → (frame_ended None (Some w) e).entry ≡ cut_by f.cause w
+pub cut-entry : (e : Environment) (w : Why) (f : Frame) (fs : List Frame) → e.frames ≡ f ∷ fs → (end_change None (Some w) e).entry ≡ cut_by f.cause w
 cut-entry e w f fs s = ended-cut e w (cause_of e.frames) ∙ ap (λ l. cut_by (cause_of l) w) s
 
 pub spent-only : (m : Machine) (a : Ask) (f : Frame) (fs : List Frame) → m.env.frames ≡ f ∷ fs → asks_made m.env.frames ≡ 65536 → (o : Out) (w : Option Why)
@@ -64,7 +64,7 @@ spent-only m (ask.Do c) f fs e s o (Some why.Full) h = absurd (spent-calls m.env
 spent-only m (ask.Do c) f fs e s o (Some why.Memory) h =
     absurd (spent-calls m.env s (and-left (may_call m.env) (may_want_memory (room_of m c) c) (and-left (may_call m.env && may_want_memory (room_of m c) c) _ h)))
 spent-only m (ask.Do c) f fs e s o None h =
-    absurd (spent-calls m.env s (and-left (may_call m.env) (is_fresh m.env o) (and-left (may_call m.env && is_fresh m.env o) _ h)))
+    absurd (spent-calls m.env s (and-left (may_call m.env) (is_fresh_result m.env o) (and-left (may_call m.env && is_fresh_result m.env o) _ h)))
 spent-only m (ask.Leave v) f fs e s o (Some why.Full) h = cc
 spent-only m (ask.Leave v) f fs e s o (Some why.Memory) h = cc
 spent-only m (ask.Leave v) f fs e s o None h = absurd (spent-asks m.env s h)
@@ -89,8 +89,8 @@ full-only m c f fs e full early o (Some why.Memory) h =
     let P : Bool → Type 0 = λ b. IsTrue (may_call m.env && may_want_memory (room_of m c) c && not b) in
     let k : IsTrue false = and-right (may_call m.env && may_want_memory (room_of m c) c) false (subst P full h) in cc
 full-only m c f fs e full early o None h =
-    let P : Bool → Type 0 = λ b. IsTrue (may_call m.env && is_fresh m.env o && not b) in
-    let k : IsTrue false = and-right (may_call m.env && is_fresh m.env o) false (subst P full h) in cc
+    let P : Bool → Type 0 = λ b. IsTrue (may_call m.env && is_fresh_result m.env o && not b) in
+    let k : IsTrue false = and-right (may_call m.env && is_fresh_result m.env o) false (subst P full h) in cc
 
 -- at this ask, after the first call in the tight journal: whatever may come is the entry, ..
 abbrev pub Steps : Entry → Ask → Type 0
@@ -110,11 +110,11 @@ told-actor cause.Call w = refl
 told-actor c w = refl
 
 asks-step : (m : Machine) (a : Ask) (f : Frame) (fs : List Frame) (c : Cause) → m.env.frames ≡ f ∷ fs
-    → step_of m a (cut_by c why.Asks) (cut_by c why.Asks).actor ≡ frame_step m (taken a) (cut_by c why.Asks).reply.out (Some why.Asks)
+    → step_of m a (cut_by c why.Asks) (cut_by c why.Asks).actor ≡ frame_step m (built_ask a) (cut_by c why.Asks).reply.out (Some why.Asks)
 asks-step m a f fs c e =
     ap (λ who. step_of m a (cut_by c why.Asks) who) (told-actor c why.Asks)
     ∙ ap (λ l. env_step m a (cut_by c why.Asks).reply.out l) e
-    ∙ ap (λ w. frame_step m (taken a) (cut_by c why.Asks).reply.out w) (told-cut c why.Asks)
+    ∙ ap (λ w. frame_step m (built_ask a) (cut_by c why.Asks).reply.out w) (told-cut c why.Asks)
 
 pub asks-next : (m : Machine) (f : Frame) (fs : List Frame) (a : Ask) → m.env.frames ≡ f ∷ fs → asks_made m.env.frames ≡ 65536 → IsNext m a (cut_by f.cause why.Asks)
 asks-next m f fs a e s =

@@ -8,7 +8,7 @@ use Rattle.std.proofs.lemmas.Option.{same_Some, none-some}
 use Rattle.napi_types.specs.declared.ids.ScopeKind.{ScopeKind}
 use Rattle.napi_types.specs.Lists.{first_changed, tail, one, found}
 use Rattle.napi_types.specs.Scopes.{Held, Scope, FrameScopes, no_handles, value_in, value_in_scopes, gives, hold_at, hold_in, open_in, close_in, inside, escape_at, escape_in, held_by_scopes, held_by_frame, held_by_frames}
-use Rattle.machine_laws.specs.Consistency.{held_handles, held_values}
+use Rattle.machine_laws.specs.Consistency.{held_handles, values_of_handles}
 use Rattle.machine_laws.proofs.Counting.{Within, within-map, counted, count-append, count-cons}
 
 -- ONE FRAME
@@ -91,7 +91,7 @@ pub within-handles : (fs gs : List FrameScopes) (more : List Held) → Within (h
 within-handles fs gs more w = within-map (λ (x : Held). x.handle) (held_by_frames fs) (held_by_frames gs) more w
 
 pub within-values : (fs gs : List FrameScopes) (more : List Held) → Within (held_by_frames fs) (held_by_frames gs) more
-    → Within (held_values fs) (held_values gs) (map (λ x. x.value) more)
+    → Within (values_of_handles fs) (values_of_handles gs) (map (λ x. x.value) more)
 within-values fs gs more w = within-map (λ (x : Held). x.value) (held_by_frames fs) (held_by_frames gs) more w
 
 -- THE VALUE OF A HANDLE

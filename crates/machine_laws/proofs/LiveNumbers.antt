@@ -9,7 +9,7 @@ use Rattle.napi_types.specs.declared.body.Body.{Body}
 use Rattle.napi_types.specs.Lists.{has_number}
 use Rattle.napi_types.specs.Reach.{numbers}
 use Rattle.napi_types.specs.Values.{Value, made_after, value_changed}
-use Rattle.machine_laws.specs.Consistency.{IsLive}
+use Rattle.machine_laws.specs.Consistency.{IsLiveAmong}
 use Rattle.machine_laws.proofs.Children.{OfChildren, Keeps}
 use Rattle.machine_laws.proofs.Counting.{Within, within-map, count-append}
 
@@ -18,14 +18,14 @@ live-append : (n : ℕ) (vs ws : List Value) → has_number n (numbers (vs ++ ws
 live-append n vs ws = ap (has_number n) (map-append (λ (v : Value). v.number) vs ws) ∙ list_any-append (λ m. m == n) (numbers vs) (numbers ws)
 
 -- what was live is, ..
-pub live-more : (n : ℕ) (vs ws : List Value) → IsLive vs n → IsLive (vs ++ ws) n
+pub live-more : (n : ℕ) (vs ws : List Value) → IsLiveAmong vs n → IsLiveAmong (vs ++ ws) n
 live-more n vs ws h = live-append n vs ws ∙ or_left (has_number n (numbers vs)) (has_number n (numbers ws)) h
 
 -- .. and so is what was made
-pub live-made : (n : ℕ) (vs ws : List Value) → IsLive ws n → IsLive (vs ++ ws) n
+pub live-made : (n : ℕ) (vs ws : List Value) → IsLiveAmong ws n → IsLiveAmong (vs ++ ws) n
 live-made n vs ws h = live-append n vs ws ∙ or_right (has_number n (numbers vs)) (has_number n (numbers ws)) h
 
-pub live-pushed : (vs : List Value) (v : Value) → IsLive (vs ++ v ∷ []) v.number
+pub live-pushed : (vs : List Value) (v : Value) → IsLiveAmong (vs ++ v ∷ []) v.number
 live-pushed vs v = live-made v.number vs (v ∷ []) (or_left (v.number == v.number) false (eq-eqb v.number v.number refl))
 
 pub within-pushed : (vs : List Value) (v : Value) (n : ℕ) → v.number ≡ n → Within (numbers (vs ++ v ∷ [])) (numbers vs) (n ∷ [])
@@ -46,11 +46,11 @@ numbers-made n [] = refl
 numbers-made n (b ∷ bs) = ap (λ ns. (n + 1) ∷ ns) (numbers-made (n + 1) bs)
 
 -- values that are made one after another are live
-pub all-made : (vs : List Value) (n : ℕ) (bs : List Body) → All (IsLive (vs ++ made_after n bs)) (range_with_len (n + 1) (length bs))
+pub all-made : (vs : List Value) (n : ℕ) (bs : List Body) → All (IsLiveAmong (vs ++ made_after n bs)) (range_with_len (n + 1) (length bs))
 all-made vs n bs =
     let ws : List Value = made_after n bs in
-    let there : All (IsLive ws) (range_with_len (n + 1) (length bs)) = subst (λ ns. All (IsLive ws) ns) (numbers-made n bs) (all-there (numbers ws)) in
-    All-weaker (IsLive ws) (IsLive (vs ++ ws)) (λ k h. live-made k vs ws h) (range_with_len (n + 1) (length bs)) there
+    let there : All (IsLiveAmong ws) (range_with_len (n + 1) (length bs)) = subst (λ ns. All (IsLiveAmong ws) ns) (numbers-made n bs) (all-there (numbers ws)) in
+    All-weaker (IsLiveAmong ws) (IsLiveAmong (vs ++ ws)) (λ k h. live-made k vs ws h) (range_with_len (n + 1) (length bs)) there
 
 -- VALUES THAT ARE CHANGED
 pub numbers-changed : (P : ℕ → Type 0) (k : ℕ) (change : Value → Value) (vs : List Value) → Keeps P change → numbers (value_changed k change vs) ≡ numbers vs

@@ -13,7 +13,7 @@ use Rattle.napi_types.specs.declared.ids.TsfnId.{TsfnId}
 use Rattle.napi_types.specs.declared.ids.WorkId.{WorkId}
 use Rattle.napi_types.specs.declared.status.Status.{Status}
 use Rattle.napi_types.specs.declared.status.Status.TheVariants as status
-use Rattle.napi_types.specs.Calls.{answer, at_depth_limit, by_groups}
+use Rattle.napi_types.specs.Calls.{answer, with_depth_error, groups}
 use Rattle.napi_types.specs.Built.{is_built, is_calling}
 use Rattle.napi_types.specs.Environment.{Environment}
 use Rattle.napi_types.specs.Guards.{is_registering, is_shared}
@@ -123,14 +123,14 @@ pub record NeedsAndGrowth : Type 0 where
 
 -- each call that is built, but the call of a function, which enters a frame, has a row: exactly one group of calls answers it, and none answers another call
 abbrev pub EveryCallHasARow : Type 0
-EveryCallHasARow = (e : Environment) (c : Call) (n : ℕ) → length (filter is_some (by_groups e c n)) ≡ one_if (is_built c && not (is_calling c))
+EveryCallHasARow = (e : Environment) (c : Call) (n : ℕ) → length (filter is_some (groups e c n)) ≡ one_if (is_built c && not (is_calling c))
 
 -- a refused call answers the first refusal that applies and tells nothing; it leaves the environment as it was, but that the depth limit leaves its error
 -- pending
 pub record RefusalsChangeNothing (e : Environment) (c : Call) (n : ℕ) (s : Status) : Type 0 where
   pub reply : refusal e c ≡ Some s → (answer e c n).reply ≡ plain s out.Nothing
   pub after : early_refusal e c ≡ Some s → (answer e c n).after ≡ e
-  pub depth : early_refusal e c ≡ None → depth_refusal e.frames c ≡ Some s → (answer e c n).after ≡ at_depth_limit e
+  pub depth : early_refusal e c ≡ None → depth_refusal e.frames c ≡ Some s → (answer e c n).after ≡ with_depth_error e
 
 abbrev pub RefusedCallsChangeNothing : Type 0
 RefusedCallsChangeNothing = (e : Environment) (c : Call) (n : ℕ) (s : Status) → RefusalsChangeNothing e c n s

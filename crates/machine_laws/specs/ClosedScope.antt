@@ -19,8 +19,8 @@ abbrev pub setting : Setting
 setting = script_of (op.OpenHandleScope 0 ∷ op.CreateObject 1 ∷ op.CloseHandleScope 0 ∷ op.Typeof 1 2 ∷ [])
 
 -- the call of `typeof` on the handle, with this status and this result
-abbrev pub typeof_entry : Status → Out → Entry
-typeof_entry s o = call_at 3 (call.Typeof (record { 0 = 1 })) s o
+abbrev pub typeof_first : Status → Out → Entry
+typeof_first s o = call_at 3 (call.Typeof (record { 0 = 1 })) s o
 
 -- the whole run
 abbrev pub trace : List Entry
@@ -28,7 +28,7 @@ trace = run_of_calls (
     call_at 0 call.OpenHandleScope status.Ok (out.Scope (record { 0 = 1 }))
     ∷ call_at 1 call.CreateObject status.Ok (out.Handle (record { 0 = 1 }))
     ∷ call_at 2 (call.CloseHandleScope (record { 0 = 1 })) status.Ok out.Nothing
-    ∷ typeof_entry status.InvalidArg out.Nothing
+    ∷ typeof_first status.InvalidArg out.Nothing
     ∷ []
     )
 
@@ -54,5 +54,5 @@ Prints = text fixed_texts trace ≡
 
 -- `typeof` has no other status there, and tells no kind, whatever is asked
 pub record IsStrict : Type 0 where
-  pub status : (s : Status) → IsRun setting (set trace 5 (typeof_entry s out.Nothing)) → s ≡ status.InvalidArg
-  pub kind : (s : Status) (k : Kind) → IsRun setting (set trace 5 (typeof_entry s (out.Kind k))) → ⊥
+  pub status : (s : Status) → IsRun setting (set trace 5 (typeof_first s out.Nothing)) → s ≡ status.InvalidArg
+  pub kind : (s : Status) (k : Kind) → IsRun setting (set trace 5 (typeof_first s (out.Kind k))) → ⊥

@@ -19,12 +19,12 @@ pub record AreIssued (last : ℕ) (ns : List ℕ) : Type 0 where
 abbrev pub held_handles : List FrameScopes → List ℕ
 held_handles fs = map (λ h. h.handle) (held_by_frames fs)
 
-abbrev pub held_values : List FrameScopes → List ℕ
-held_values fs = map (λ h. h.value) (held_by_frames fs)
+abbrev pub values_of_handles : List FrameScopes → List ℕ
+values_of_handles fs = map (λ h. h.value) (held_by_frames fs)
 
 -- one of the values has the creation number
-abbrev pub IsLive : List Value → ℕ → Type 0
-IsLive vs n = has_number n (numbers vs) ≡ true
+abbrev pub IsLiveAmong : List Value → ℕ → Type 0
+IsLiveAmong vs n = has_number n (numbers vs) ≡ true
 
 -- records by rising number: each is below all that come after it
 abbrev pub RisesBy : {A : Type 0} → (A → ℕ) → List A → Type 0
@@ -43,14 +43,14 @@ pub record IsConsistent (e : Environment) : Type 0 where
   pub handles : AreIssued e.heap.handles (held_handles e.heap.scopes)
   pub values : AreIssued e.heap.made (numbers e.heap.values)
   -- the value of a handle in an open scope is live, and so is what a reference refers to, and the pending exception
-  pub held : All (IsLive e.heap.values) (held_values e.heap.scopes)
-  pub referred : All (λ r. IfSome r.value (IsLive e.heap.values)) e.references.rows
-  pub pending : IfSome e.pending (IsLive e.heap.values)
+  pub held : All (IsLiveAmong e.heap.values) (values_of_handles e.heap.scopes)
+  pub referred : All (λ r. IfSome r.value (IsLiveAmong e.heap.values)) e.references.rows
+  pub pending : IfSome e.pending (IsLiveAmong e.heap.values)
   -- the references are a finite map
   pub references : IsMap e.references
   -- what the properties and elements of a value name is live, and so are the starting values
-  pub children : All (λ v. All (IsLive e.heap.values) (children v)) e.heap.values
-  pub starting : All (IsLive e.heap.values) (numbers starting_values)
+  pub children : All (λ v. All (IsLiveAmong e.heap.values) (children v)) e.heap.values
+  pub starting : All (IsLiveAmong e.heap.values) (numbers starting_values)
   -- each frame that stands has its scopes, and no more stand than may
   pub frames : length e.heap.scopes ≡ length e.frames
   pub depth : length e.frames ≤ most_frames

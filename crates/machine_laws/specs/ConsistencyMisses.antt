@@ -23,8 +23,8 @@ abbrev pub holding : List Held → Heap
 holding hs = record new_heap { scopes = record { own = hs; opened = [] } ∷ []; handles = 2 }
 
 -- an environment with such a heap, and one frame
-abbrev pub standing : Heap → Environment
-standing heap = record (new_environment 1 3) { heap = heap; frames = init_frame ∷ [] }
+abbrev pub in_init_frame : Heap → Environment
+in_init_frame heap = record (new_environment 1 3) { heap = heap; frames = init_frame ∷ [] }
 
 -- two handles, of undefined and of null
 abbrev pub two_held : List Held
@@ -39,7 +39,7 @@ abbrev pub reference : ℕ → Reference
 reference n = record { number = n; value = Some undefined_value; count = 0 }
 
 abbrev pub referring : List Reference → List ℕ → Environment
-referring rs ns = record (standing (holding two_held)) { references = record { rows = rs; issued = ns } }
+referring rs ns = record (in_init_frame (holding two_held)) { references = record { rows = rs; issued = ns } }
 
 -- an environment with so many frames, each with its scopes
 abbrev pub deep : ℕ → Environment
@@ -48,21 +48,21 @@ deep n = record (new_environment 1 3) { heap = record new_heap { scopes = replic
 -- near misses are not consistent
 pub record IsStrict : Type 0 where
   -- two handles of two values are consistent, and so are as many frames as may stand
-  pub fits : IsConsistent (standing (holding two_held))
+  pub fits : IsConsistent (in_init_frame (holding two_held))
   pub fits_deep : IsConsistent (deep most_frames)
   -- no handle stands twice, not of one value either, and none was not issued
-  pub twice : (v w : ℕ) → IsConsistent (standing (holding (handle_to v 1 ∷ handle_to w 1 ∷ []))) → ⊥
-  pub unissued : IsConsistent (standing (holding (handle_to undefined_value 1 ∷ handle_to null_value 3 ∷ []))) → ⊥
+  pub twice : (v w : ℕ) → IsConsistent (in_init_frame (holding (handle_to v 1 ∷ handle_to w 1 ∷ []))) → ⊥
+  pub unissued : IsConsistent (in_init_frame (holding (handle_to undefined_value 1 ∷ handle_to null_value 3 ∷ []))) → ⊥
   -- nor is 0 a handle
-  pub nought : IsConsistent (standing (holding (handle_to undefined_value 0 ∷ []))) → ⊥
+  pub nought : IsConsistent (in_init_frame (holding (handle_to undefined_value 0 ∷ []))) → ⊥
   -- no value stands twice, and none was not made
-  pub doubled : IsConsistent (standing (record (holding two_held) { values = starting_values ++ fresh_value null_value body.Null ∷ [] })) → ⊥
-  pub unmade : IsConsistent (standing (record (holding two_held) { values = starting_values ++ fresh_value no_value body.Null ∷ [] })) → ⊥
+  pub doubled : IsConsistent (in_init_frame (record (holding two_held) { values = starting_values ++ fresh_value null_value body.Null ∷ [] })) → ⊥
+  pub unmade : IsConsistent (in_init_frame (record (holding two_held) { values = starting_values ++ fresh_value no_value body.Null ∷ [] })) → ⊥
   -- what a handle holds, a reference refers to, is pending or is a child is no number that no value has
-  pub held : IsConsistent (standing (holding (handle_to no_value 1 ∷ []))) → ⊥
-  pub referred : IsConsistent (record (standing (holding two_held)) { references = with_reference 1 no_value 0 no_references }) → ⊥
-  pub pending : IsConsistent (record (standing (holding two_held)) { pending = Some no_value }) → ⊥
-  pub child : IsConsistent (standing (record (holding two_held) {
+  pub held : IsConsistent (in_init_frame (holding (handle_to no_value 1 ∷ []))) → ⊥
+  pub referred : IsConsistent (record (in_init_frame (holding two_held)) { references = with_reference 1 no_value 0 no_references }) → ⊥
+  pub pending : IsConsistent (record (in_init_frame (holding two_held)) { pending = Some no_value }) → ⊥
+  pub child : IsConsistent (in_init_frame (record (holding two_held) {
     values = starting_values ++ array_of no_value ((no_value + 1) ∷ []) ∷ [];
     made = no_value;
   })) → ⊥
@@ -71,7 +71,7 @@ pub record IsStrict : Type 0 where
   pub falling_numbers : IsConsistent (referring (reference 1 ∷ reference 2 ∷ []) (2 ∷ 1 ∷ [])) → ⊥
   pub uncounted : IsConsistent (referring (reference 1 ∷ []) (2 ∷ [])) → ⊥
   -- a starting value is there
-  pub starting : IsConsistent (standing (record (holding []) { values = [] })) → ⊥
+  pub starting : IsConsistent (in_init_frame (record (holding []) { values = [] })) → ⊥
   -- no frame is without scopes, and one more than may stand does not
-  pub scopes : IsConsistent (standing new_heap) → ⊥
+  pub scopes : IsConsistent (in_init_frame new_heap) → ⊥
   pub depth : IsConsistent (deep (most_frames + 1)) → ⊥

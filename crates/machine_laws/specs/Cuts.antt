@@ -17,7 +17,7 @@ use Rattle.napi_types.specs.declared.ids.HandleId.{HandleId}
 use Rattle.napi_types.specs.declared.status.Status.TheVariants as status
 use Rattle.napi_types.specs.Built.{is_built}
 use Rattle.napi_types.specs.Changes.{host_told, host_entry}
-use Rattle.napi_types.specs.Ends.{frame_ended}
+use Rattle.napi_types.specs.Ends.{end_change}
 use Rattle.napi_types.specs.Machine.{Machine}
 use Rattle.napi_types.specs.Plan.{Plan, Registers, asked}
 use Rattle.napi_types.specs.Room.{need}
@@ -95,7 +95,7 @@ pub record OnlyLeaves (m : Machine) : Type 0 where
   -- its plan, whichever it is, asks nothing but that
   pub asked : (ps : List Plan) (rss : Registers) (a : Ask) → asked ps rss m a actor.Env ≡ ask.Leave None
   -- then its end comes, without a cut, and nothing else may come
-  pub leaves : (v : Option HandleId) → IsOnlyNext m (ask.Leave v) (frame_ended v None m.env).entry
+  pub leaves : (v : Option HandleId) → IsOnlyNext m (ask.Leave v) (end_change v None m.env).entry
   -- at a call nothing may come: not its entry, not the begin of a frame, and no cut
   pub calls : (c : Call) → is_built c ≡ true → (x : Entry) → IsNext m (ask.Do c) x → ⊥
 

@@ -18,12 +18,12 @@ abbrev pub function : HandleId
 function = record { 0 = 1 }
 
 -- a call of the function without receiver and arguments
-abbrev pub calls : Op
-calls = op.CallFunction None 0 (record { count = 0; regs = 0 ∷ 0 ∷ 0 ∷ 0 ∷ [] }) 1
+abbrev pub call_itself : Op
+call_itself = op.CallFunction None 0 (record { count = 0; regs = 0 ∷ 0 ∷ 0 ∷ 0 ∷ [] }) 1
 
 -- the first entry makes a function of the second one and calls it; the second one calls it too
 abbrev pub setting : Setting
-setting = script_of_entries ((op.CreateFunction 1 0 0 ∷ calls ∷ []) ∷ (calls ∷ []) ∷ [])
+setting = script_of_entries ((op.CreateFunction 1 0 0 ∷ call_itself ∷ []) ∷ (call_itself ∷ []) ∷ [])
 
 -- no arguments
 abbrev pub no_arguments : Args

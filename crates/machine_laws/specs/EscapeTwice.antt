@@ -35,8 +35,8 @@ abbrev pub outside : Status → Out → Entry
 outside s o = call_at 5 (call.Typeof (record { 0 = 2 })) s o
 
 -- the same by the handle that did not escape
-abbrev pub within : Status → Out → Entry
-within s o = call_at 6 (call.Typeof (record { 0 = 1 })) s o
+abbrev pub entry_within : Status → Out → Entry
+entry_within s o = call_at 6 (call.Typeof (record { 0 = 1 })) s o
 
 -- the whole run
 abbrev pub trace : List Entry
@@ -47,7 +47,7 @@ trace = run_of_calls (
     ∷ escape_again status.EscapeCalledTwice out.Nothing
     ∷ call_at 4 (call.CloseEscapableHandleScope (record { 0 = 1 })) status.Ok out.Nothing
     ∷ outside status.Ok (out.Kind kind.Object)
-    ∷ within status.InvalidArg out.Nothing
+    ∷ entry_within status.InvalidArg out.Nothing
     ∷ []
     )
 
@@ -83,4 +83,4 @@ pub record IsStrict : Type 0 where
   pub again : (s : Status) → IsRun setting (set trace 5 (escape_again s out.Nothing)) → s ≡ status.EscapeCalledTwice
   -- the handle that escaped is good after the close, and the other one is not
   pub outside : (s : Status) → IsRun setting (set trace 7 (outside s out.Nothing)) → ⊥
-  pub within : (s : Status) → IsRun setting (set trace 8 (within s out.Nothing)) → s ≡ status.InvalidArg
+  pub within : (s : Status) → IsRun setting (set trace 8 (entry_within s out.Nothing)) → s ≡ status.InvalidArg

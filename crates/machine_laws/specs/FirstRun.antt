@@ -30,8 +30,8 @@ abbrev pub typeof_entry : Kind → Entry
 typeof_entry k = call_at 2 (call.Typeof (record { 0 = 1 })) status.Ok (out.Kind k)
 
 -- the four calls
-abbrev pub calls : List Entry
-calls =
+abbrev pub four_calls : List Entry
+four_calls =
     call_at 0 call.OpenHandleScope status.Ok (out.Scope (record { 0 = 1 }))
     ∷ call_at 1 call.CreateObject status.Ok (out.Handle (record { 0 = 1 }))
     ∷ typeof_entry kind.Object
@@ -48,7 +48,7 @@ journal_of xs n = map (λ x. local_entry 0 x) xs ++ local_entry n gone_entry ∷
 
 -- the journal: all entries up to the frame's end, and the end of the run behind the history's last
 abbrev pub journal : List Local
-journal = journal_of (opening_entries ++ calls ++ frame_end ∷ []) 4
+journal = journal_of (opening_entries ++ four_calls ++ frame_end ∷ []) 4
 
 -- the history: the four events of the hub
 abbrev pub history : List Entry
@@ -88,11 +88,11 @@ Keeps = registers_of (final_registers setting asks trace) 0 ≡ 1 ∷ 1 ∷ 6 �
 
 -- the same entries on other lists: `go` in the journal, ..
 abbrev pub journal_with_go : List Local
-journal_with_go = journal_of (opening_entries ++ calls ++ frame_end ∷ take 1 great_events) 3
+journal_with_go = journal_of (opening_entries ++ four_calls ++ frame_end ∷ take 1 great_events) 3
 
 -- .. or the end of the init frame in the history
 abbrev pub journal_without_end : List Local
-journal_without_end = journal_of (opening_entries ++ calls) 5
+journal_without_end = journal_of (opening_entries ++ four_calls) 5
 
 -- each entry stands on its list, and on no other, though the weave has the same entries in the same order
 pub record IsPartedSo : Type 0 where

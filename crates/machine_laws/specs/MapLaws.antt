@@ -40,11 +40,11 @@ pub record MapsRise : Type 0 where
   pub falling : as_map (λ r. r.number) (second_reference ∷ first_reference ∷ []) ≢ second_reference ∷ first_reference ∷ []
 
 -- a reference is put into a place, and its number is issued
-abbrev pub put_at : ℕ → Reference → ReferencePlaces → ReferencePlaces
-put_at at r p = record { places = slice_set p.places at (Some r); issued = with_number r.number p.issued }
+abbrev pub with_reference_at : ℕ → Reference → ReferencePlaces → ReferencePlaces
+with_reference_at at r p = record { places = slice_set p.places at (Some r); issued = with_number r.number p.issued }
 
 -- one of a new number that is put into an empty place, whichever that is, makes one reference more
 abbrev pub PlacesHaveNoOrder : Type 0
 PlacesHaveNoOrder = (p : ReferencePlaces) (at n value count : ℕ) → at < length p.places → slice_index_or p.places at None ≡ None
     → has (λ r. r.number) n (standing p.places) ≡ false
-    → map_of (put_at at (record { number = n; value = Some value; count = count }) p) ≡ with_reference n value count (map_of p)
+    → map_of (with_reference_at at (record { number = n; value = Some value; count = count }) p) ≡ with_reference n value count (map_of p)

@@ -36,8 +36,8 @@ setting = script_of (
     )
 
 -- the counting up from the greatest count, with this status and this result
-abbrev pub counted_up : Status → Out → Entry
-counted_up s o = call_at 2 (call.ReferenceRef (reference 1)) s o
+abbrev pub count_up_entry : Status → Out → Entry
+count_up_entry s o = call_at 2 (call.ReferenceRef (reference 1)) s o
 
 -- the counting down, which tells this count
 abbrev pub down_told : ℕ → Entry
@@ -56,7 +56,7 @@ abbrev pub trace : List Entry
 trace = run_of_calls (
     call_at 0 call.CreateObject status.Ok (out.Handle (handle 1))
     ∷ call_at 1 (call.CreateReference (handle 1) 4294967295) status.Ok (out.Ref (reference 1))
-    ∷ counted_up status.GenericFailure out.Nothing
+    ∷ count_up_entry status.GenericFailure out.Nothing
     ∷ down_told 4294967294
     ∷ call_at 4 (call.DeleteReference (reference 1)) status.Ok out.Nothing
     ∷ deleted_again status.InvalidArg
@@ -92,8 +92,8 @@ Prints = text fixed_texts trace ≡
 -- near misses are no runs
 pub record IsStrict : Type 0 where
   -- the greatest count is not passed: the call has no other status, and tells no count
-  pub greatest : (s : Status) → IsRun setting (set trace 4 (counted_up s out.Nothing)) → s ≡ status.GenericFailure
-  pub untold : (s : Status) (n : ℕ) → IsRun setting (set trace 4 (counted_up s (out.Unsigned n))) → ⊥
+  pub greatest : (s : Status) → IsRun setting (set trace 4 (count_up_entry s out.Nothing)) → s ≡ status.GenericFailure
+  pub untold : (s : Status) (n : ℕ) → IsRun setting (set trace 4 (count_up_entry s (out.Unsigned n))) → ⊥
   -- and it is left as it was
   pub kept : (n : ℕ) → IsRun setting (set trace 5 (down_told n)) → n ≡ 4294967294
   -- what was deleted is deleted once

@@ -26,8 +26,8 @@ FrontsAreRuns = (s : Setting) (bs : List Ask) (xs : List Entry) (n : ℕ) → Ru
 
 -- one entry more on this list, and none on the other
 abbrev pub GrowsOn : Side → Machine → Machine → Type 0
-GrowsOn Journal old new = (new.locals ≡ old.locals + 1) × (new.shareds ≡ old.shareds)
-GrowsOn History old new = (new.shareds ≡ old.shareds + 1) × (new.locals ≡ old.locals)
+GrowsOn Journal old new = (new.journal_length ≡ old.journal_length + 1) × (new.history_length ≡ old.history_length)
+GrowsOn History old new = (new.history_length ≡ old.history_length + 1) × (new.journal_length ≡ old.journal_length)
 
 -- the machine counts each entry on the list on which its step says that it stands
 abbrev pub EntriesCountOnTheirList : Type 0

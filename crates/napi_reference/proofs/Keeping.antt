@@ -4,7 +4,7 @@ use Rattle.std.specs.List.{All, filter_map, cons_option}
 use Rattle.std.specs.Option.{unwrap_or}
 use Rattle.std.proofs.lemmas.List.Elements.{All-nil, All-cons, All-head, All-tail, All-filter}
 use Rattle.napi_types.specs.Lists.{found}
-use Rattle.napi_types.specs.References.{Reference, ReferenceMap, no_references, with_reference, without_reference, with_count, value_of, value_left, emptied, strong_value, strong_values}
+use Rattle.napi_types.specs.References.{Reference, ReferenceMap, no_references, with_reference, without_reference, with_count, referred_value, value_left, emptied, strong_value, strong_values}
 use Rattle.napi_types.proofs.Maps.{All-with_record}
 use Rattle.napi_reference.specs.Places.{AllValues}
 
@@ -55,8 +55,8 @@ value-found P n (r ∷ rs) all = by (r.number == n) (value-found P n rs (All-tai
     by false rest = rest
 
 -- the value of a reference is one of which P holds
-pub value_of-AllValues : (P : ℕ → Type 0) (m : ReferenceMap) (n : ℕ) → AllValues P m → IfSome (value_of m n) P
-value_of-AllValues P m n all = value-found P n m.rows all
+pub referred_value-AllValues : (P : ℕ → Type 0) (m : ReferenceMap) (n : ℕ) → AllValues P m → IfSome (referred_value m n) P
+referred_value-AllValues P m n all = value-found P n m.rows all
 
 strong-holds : (P : ℕ → Type 0) (r : Reference) → IfSome r.value P → IfSome (strong_value r) P
 strong-holds P r here = by (r.count == 0)

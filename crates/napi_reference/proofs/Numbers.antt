@@ -5,7 +5,7 @@ use Rattle.std.proofs.lemmas.List.Elements.{All-nil, All-cons}
 use Rattle.std.proofs.lemmas.Map.Keys.{IsDistinct-cons}
 use Rattle.napi_types.specs.declared.ids.ValueId.{ValueId}
 use Rattle.napi_types.specs.Lists.{found, has, with_record, as_map}
-use Rattle.napi_types.specs.References.{Reference, ReferenceMap, reference_at, has_reference, value_of, count_of}
+use Rattle.napi_types.specs.References.{Reference, ReferenceMap, reference_at, has_reference, referred_value, reference_count}
 use Rattle.napi_types.proofs.Maps.{with_record-first}
 use Rattle.napi_reference.specs.declared.rows.Row.{Row}
 use Rattle.napi_reference.specs.Places.{ReferencePlaces, map_of}
@@ -93,8 +93,8 @@ has-found number n (x ∷ xs) = by (number x == n) (has-found number n xs)
 -- what is told of a reference by its row
 pub record IsRow (m : ReferenceMap) (n : ℕ) (row : Row) : Type 0 where
   pub there : has_reference m n ≡ true
-  pub value : value_of m n ≡ option_map (λ v. v.0) row.value
-  pub count : count_of m n ≡ row.count
+  pub value : referred_value m n ≡ option_map (λ v. v.0) row.value
+  pub count : reference_count m n ≡ row.count
 
 -- xs are the rows as they were read
 pub row-read : (rows xs : List (Option Row)) (p : ReferencePlaces) → places_of rows ≡ p → xs ≡ rows → (n : ℕ) (row : Row) → Some row ≡ row_of xs n → IsRow (map_of p) n row
@@ -118,11 +118,11 @@ some-numbered None = refl
 some-numbered (Some v) = refl
 
 -- the map says whether the row has a value
-pub valued : (m : ReferenceMap) (n : ℕ) (row : Row) → IsRow m n row → is_some (value_of m n) ≡ is_some row.value
+pub valued : (m : ReferenceMap) (n : ℕ) (row : Row) → IsRow m n row → is_some (referred_value m n) ≡ is_some row.value
 valued m n row is = ap is_some is.value ∙ some-numbered row.value
 
-pub value-gone : (m : ReferenceMap) (n : ℕ) (row : Row) → IsRow m n row → is_some row.value ≡ false → IsSome (value_of m n) → ⊥
+pub value-gone : (m : ReferenceMap) (n : ℕ) (row : Row) → IsRow m n row → is_some row.value ≡ false → IsSome (referred_value m n) → ⊥
 value-gone m n row is gone some = let has = valued m n row is in cc
 
-pub value-there : (m : ReferenceMap) (n : ℕ) (row : Row) → IsRow m n row → is_some row.value ≡ true → value_of m n ≡ None → ⊥
+pub value-there : (m : ReferenceMap) (n : ℕ) (row : Row) → IsRow m n row → is_some row.value ≡ true → referred_value m n ≡ None → ⊥
 value-there m n row is here none = let has = valued m n row is in let no = ap is_some none in cc

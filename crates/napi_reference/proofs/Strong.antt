@@ -7,7 +7,7 @@ use Rattle.napi_types.specs.Lists.{has_number, HaveSameNumbers, as_map}
 use Rattle.napi_types.specs.References.{Reference, strong_value, strong_values}
 use Rattle.napi_types.proofs.Maps.{list_any-as_map}
 use Rattle.napi_reference.specs.declared.rows.Row.{Row}
-use Rattle.napi_reference.specs.Places.{ReferencePlaces, map_of, standing, EachStandsOnce, strong_in}
+use Rattle.napi_reference.specs.Places.{ReferencePlaces, map_of, standing, EachReferenceStandsOnce, strong_in}
 use Rattle.napi_reference.specs.Rows.{reference_of, references_from}
 
 strong-listed : (places : List (Option Reference)) → filter_map strong_value (standing places) ≡ filter_map strong_in places
@@ -30,7 +30,7 @@ any-keeps n (r ∷ rs) =
     ∙ ap (λ b. keeps n r || b) (any-keeps n rs)
 
 -- going over the places gives the values that strong references keep, in any order
-pub strong_values-places : (p : ReferencePlaces) → EachStandsOnce p → HaveSameNumbers (strong_values (map_of p)) (filter_map strong_in p.places)
+pub strong_values-places : (p : ReferencePlaces) → EachReferenceStandsOnce p → HaveSameNumbers (strong_values (map_of p)) (filter_map strong_in p.places)
 strong_values-places p once = λ n.
     any-keeps n (as_map (λ r. r.number) (standing p.places)) ∙ list_any-as_map (λ (r : Reference). r.number) (keeps n) (standing p.places) once
     ∙ sym (any-keeps n (standing p.places)) ∙ ap (has_number n) (strong-listed p.places)

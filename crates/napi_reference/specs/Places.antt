@@ -18,8 +18,8 @@ abbrev pub map_of : ReferencePlaces → ReferenceMap
 map_of p = record { rows = as_map (λ r. r.number) (standing p.places); issued = p.issued }
 
 -- no two references stand at places under one number
-abbrev pub EachStandsOnce : ReferencePlaces → Type 0
-EachStandsOnce p = IsDistinct nat_eq (map (λ r. r.number) (standing p.places))
+abbrev pub EachReferenceStandsOnce : ReferencePlaces → Type 0
+EachReferenceStandsOnce p = IsDistinct nat_eq (map (λ r. r.number) (standing p.places))
 
 -- the value that a strong reference at a place keeps
 abbrev pub strong_in : Option Reference → Option ℕ

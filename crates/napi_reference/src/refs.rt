@@ -3,10 +3,10 @@ ghost use Rattle.std.specs.Prelude.{◌≡◌, ◌+◌, ◌-◌, ◌<◌, ◌^�
 ghost use Rattle.std.specs.List.{All};
 ghost use Rattle.std.specs.Result.{result_err};
 ghost use Rattle.napi_types.specs.Lists.{has_number};
-ghost use Rattle.napi_types.specs.References.{no_references, with_reference, without_reference, with_count, value_of, count_of, strong_values, emptied};
+ghost use Rattle.napi_types.specs.References.{no_references, with_reference, without_reference, with_count, referred_value, reference_count, strong_values, emptied};
 ghost use Rattle.napi_types.specs.Refusals.{reference_refusal};
 ghost use Rattle.napi_types.specs.declared.call.Call.TheVariants as call;
-ghost use Rattle.napi_reference.specs.Places.{map_of, EachStandsOnce, strong_in};
+ghost use Rattle.napi_reference.specs.Places.{map_of, EachReferenceStandsOnce, strong_in};
 
 use crate::rows::{self, Row};
 use napi_types::{NoMemory, RefId, Status, ValueId};
@@ -80,10 +80,10 @@ impl Refs {
     /// Constant time. It takes no memory.
     pub fn add(&mut self, id: RefId) -> Result<u32, Status>
         ensures refusal { result_err result ≡ reference_refusal (map_of self.old) (call.ReferenceRef id) }
-        ensures count { IsSome (value_of (map_of self.old) id.0) → IfOk result (λ count. count ≡ count_of (map_of self.old) id.0 + 1) }
-        ensures counted { IsSome (value_of (map_of self.old) id.0) → IfOk result (λ count. map_of self.new ≡ with_count id.0 count (map_of self.old)) }
-        ensures gone { value_of (map_of self.old) id.0 ≡ None → IfOk result (λ count. count ≡ 0) }
-        ensures gone_stays { value_of (map_of self.old) id.0 ≡ None → self.new ≡ self.old }
+        ensures count { IsSome (referred_value (map_of self.old) id.0) → IfOk result (λ count. count ≡ reference_count (map_of self.old) id.0 + 1) }
+        ensures counted { IsSome (referred_value (map_of self.old) id.0) → IfOk result (λ count. map_of self.new ≡ with_count id.0 count (map_of self.old)) }
+        ensures gone { referred_value (map_of self.old) id.0 ≡ None → IfOk result (λ count. count ≡ 0) }
+        ensures gone_stays { referred_value (map_of self.old) id.0 ≡ None → self.new ≡ self.old }
         ensures err { OnErr result (self.new ≡ self.old) }
     {
         let row = rows::row_at(&self.rows, id.0).ok_or(Status::InvalidArg)?;
@@ -101,7 +101,7 @@ impl Refs {
     /// Constant time. It takes no memory.
     pub fn take(&mut self, id: RefId) -> Result<u32, Status>
         ensures refusal { result_err result ≡ reference_refusal (map_of self.old) (call.ReferenceUnref id) }
-        ensures count { IfOk result (λ count. count ≡ count_of (map_of self.old) id.0 - 1) }
+        ensures count { IfOk result (λ count. count ≡ reference_count (map_of self.old) id.0 - 1) }
         ensures counted { IfOk result (λ count. map_of self.new ≡ with_count id.0 count (map_of self.old)) }
         ensures err { OnErr result (self.new ≡ self.old) }
     {
@@ -117,7 +117,7 @@ impl Refs {
     /// Constant time. It takes no memory.
     pub fn value(&self, id: RefId) -> Result<Option<ValueId>, Status>
         ensures refusal { result_err result ≡ reference_refusal (map_of self.now) (call.GetReferenceValue id) }
-        ensures value { IfOk result (λ value. option_map (λ v. v.0) value ≡ value_of (map_of self.now) id.0) }
+        ensures value { IfOk result (λ value. option_map (λ v. v.0) value ≡ referred_value (map_of self.now) id.0) }
     {
         let row = rows::row_at(&self.rows, id.0).ok_or(Status::InvalidArg)?;
         Ok(row.value)
@@ -137,7 +137,7 @@ impl Refs {
     /// How many places there are. Each reference stands at exactly one, whichever that is. Constant time.
     pub fn rows(&self) -> usize
         ensures places { result ≡ length self.now.places }
-        ensures once { EachStandsOnce self.now }
+        ensures once { EachReferenceStandsOnce self.now }
     {
         self.rows.len()
     }

@@ -13,13 +13,13 @@ use Rattle.napi_types.specs.Environment.{Environment}
 use Rattle.napi_types.specs.Frames.{caller_of}
 use Rattle.napi_types.specs.Heap.{Heap, handle_properties, with_handle, with_thrown}
 use Rattle.napi_types.specs.PropertyCalls.{names_of}
-use Rattle.napi_types.specs.References.{ReferenceMap, value_of}
+use Rattle.napi_types.specs.References.{ReferenceMap, referred_value}
 use Rattle.napi_types.specs.ReferenceCalls.{value_told, counted_up}
 use Rattle.napi_types.specs.Collection.{collected}
 use Rattle.napi_types.specs.Roots.{reach}
 use Rattle.napi_types.specs.Refusals.{unknown_refusal, kind_refusal, row_refusal, moment_refusal, refusal_in, reference_refusal, timely_refusal, early_refusal, depth_refusal}
-use Rattle.napi_types.specs.Calls.{accepted, accepted_of, answer_by, answer_in, accepted_by, answer_given, answer_at, at_depth_limit, answer}
-use Rattle.napi_types.specs.Changes.{called}
+use Rattle.napi_types.specs.Calls.{heap_effect, addon_effect, heap_answer_unless, heap_answer, effect, answer_unless, answer_unless_deep, with_depth_error, answer}
+use Rattle.napi_types.specs.Changes.{call_change}
 use Rattle.napi_types.proofs.Maps.{length-with_record}
 
 length-changed : {A : Type 0} (f : A → A) (xs : List A) → length (first_changed f xs) ≡ length xs
@@ -67,7 +67,7 @@ few n h = grind arith
 named : (old : Heap) (n k : ℕ) → n ≡ k → k ≤ 65536 → old.made + n + 1 ≤ old.made + 65537
 named old n k e h = omega arith
 
-accepted-keeps : (texts : ℕ) (heap : Heap) (c : Call) (n : ℕ) → refusal_in texts heap c ≡ None → HeapKeeps heap (accepted heap c n).after
+accepted-keeps : (texts : ℕ) (heap : Heap) (c : Call) (n : ℕ) → refusal_in texts heap c ≡ None → HeapKeeps heap (heap_effect heap c n).after
 accepted-keeps texts heap call.GetUndefined n h = handled heap heap _ refl refl refl (omega arith)
 accepted-keeps texts heap call.GetNull n h = handled heap heap _ refl refl refl (omega arith)
 accepted-keeps texts heap call.GetGlobal n h = handled heap heap _ refl refl refl (omega arith)
@@ -96,15 +96,15 @@ accepted-keeps texts heap (call.DeleteProperty o name) n h = in-scopes heap _ re
 accepted-keeps texts heap (call.SetElement o at v) n h = in-scopes heap _ refl (omega arith) (omega arith) refl
 accepted-keeps texts heap _ n h = same heap
 
-accepted_of-keeps : (texts addon : ℕ) (heap : Heap) (c : Call) (n : ℕ) → refusal_in texts heap c ≡ None → HeapKeeps heap (accepted_of addon heap c n).after
+accepted_of-keeps : (texts addon : ℕ) (heap : Heap) (c : Call) (n : ℕ) → refusal_in texts heap c ≡ None → HeapKeeps heap (addon_effect addon heap c n).after
 accepted_of-keeps texts addon heap (call.CreateFunction entry payload) n h = handled heap _ _ refl refl refl (omega arith)
 accepted_of-keeps texts addon heap c n h = accepted-keeps texts heap c n h
 
-by-refusal : (texts addon : ℕ) (heap : Heap) (c : Call) (n : ℕ) (s : Option Status) → refusal_in texts heap c ≡ s → HeapKeeps heap (answer_by addon heap c n s).after
+by-refusal : (texts addon : ℕ) (heap : Heap) (c : Call) (n : ℕ) (s : Option Status) → refusal_in texts heap c ≡ s → HeapKeeps heap (heap_answer_unless addon heap c n s).after
 by-refusal texts addon heap c n None h = accepted_of-keeps texts addon heap c n h
 by-refusal texts addon heap c n (Some s) h = same heap
 
-pub answer_in-keeps : (texts addon : ℕ) (heap : Heap) (c : Call) (n : ℕ) → HeapKeeps heap (answer_in texts addon heap c n).after
+pub answer_in-keeps : (texts addon : ℕ) (heap : Heap) (c : Call) (n : ℕ) → HeapKeeps heap (heap_answer texts addon heap c n).after
 answer_in-keeps texts addon heap c n = by-refusal texts addon heap c n (refusal_in texts heap c) refl
 
 -- what no call and no frame changes: how many addons there are, whether the opening stands, the init frames that began, and the phase. A field more of the
@@ -142,7 +142,7 @@ pub record Keeps (old new : Environment) : Type 0 where
 keeps-all : (e : Environment) → Keeps e e
 keeps-all e = record { course = refl; frames = refl; heap = same e.heap; references = omega arith }
 
-keeps-heap : (e : Environment) (c : Call) (n : ℕ) → refusal_in e.texts e.heap c ≡ None → Keeps e (record e { heap = (accepted_of (caller_of e.frames) e.heap c n).after })
+keeps-heap : (e : Environment) (c : Call) (n : ℕ) → refusal_in e.texts e.heap c ≡ None → Keeps e (record e { heap = (addon_effect (caller_of e.frames) e.heap c n).after })
 keeps-heap e c n h = record { course = refl; frames = refl; heap = accepted_of-keeps e.texts (caller_of e.frames) e.heap c n h; references = omega arith }
 
 thrown-keeps : (heap : Heap) (code : Option TextNo) (message : TextNo) → HeapKeeps heap (with_thrown code message heap)
@@ -164,7 +164,7 @@ told-keeps e (Some v) = record { course = refl; frames = refl; heap = handled e.
 collected-keeps : (e : Environment) (alive : List ℕ) → Keeps e (collected alive e)
 collected-keeps e alive = record { course = refl; frames = refl; heap = in-scopes e.heap _ refl (omega arith) (omega arith) refl; references = omega arith }
 
-accepted_by-keeps : (e : Environment) (c : Call) (n : ℕ) → refusal_in e.texts e.heap c ≡ None → Keeps e (accepted_by e c n).after
+accepted_by-keeps : (e : Environment) (c : Call) (n : ℕ) → refusal_in e.texts e.heap c ≡ None → Keeps e (effect e c n).after
 accepted_by-keeps e (call.Throw v) n h = record { course = refl; frames = refl; heap = same e.heap; references = omega arith }
 accepted_by-keeps e (call.ThrowError code message) n h = record { course = refl; frames = refl; heap = thrown-keeps e.heap code message; references = omega arith }
 accepted_by-keeps e call.IsExceptionPending n h = keeps-all e
@@ -172,9 +172,9 @@ accepted_by-keeps e call.GetLastErrorInfo n h = keeps-all e
 accepted_by-keeps e call.GetAndClearLastException n h = record { course = refl; frames = refl; heap = handled e.heap e.heap _ refl refl refl (omega arith); references = omega arith }
 accepted_by-keeps e (call.CreateReference v count) n h = keeps-references e _ (length-with_record (λ m. m) n e.references.issued)
 accepted_by-keeps e (call.DeleteReference r) n h = keeps-references e _ (omega arith)
-accepted_by-keeps e (call.ReferenceRef r) n h = counted-keeps r.0 e (value_of e.references r.0)
+accepted_by-keeps e (call.ReferenceRef r) n h = counted-keeps r.0 e (referred_value e.references r.0)
 accepted_by-keeps e (call.ReferenceUnref r) n h = keeps-references e _ (omega arith)
-accepted_by-keeps e (call.GetReferenceValue r) n h = told-keeps e (value_of e.references r.0)
+accepted_by-keeps e (call.GetReferenceValue r) n h = told-keeps e (referred_value e.references r.0)
 accepted_by-keeps e call.Collect n h = collected-keeps e (reach e)
 accepted_by-keeps e c n h = keeps-heap e c n h
 
@@ -182,14 +182,14 @@ none-right : (a b : Option Status) → option_or a b ≡ None → b ≡ None
 none-right None b h = h
 none-right (Some s) b h = cc
 
-given-keeps : (e : Environment) (c : Call) (n : ℕ) (s : Option Status) → early_refusal e c ≡ s → Keeps e (answer_given e c n s).after
+given-keeps : (e : Environment) (c : Call) (n : ℕ) (s : Option Status) → early_refusal e c ≡ s → Keeps e (answer_unless e c n s).after
 given-keeps e c n None h = accepted_by-keeps e c n (none-right (reference_refusal e.references c) (refusal_in e.texts e.heap c) (none-right (moment_refusal e c) (timely_refusal e c) h))
 given-keeps e c n (Some s) h = keeps-all e
 
-limit-keeps : (e : Environment) → Keeps e (at_depth_limit e)
+limit-keeps : (e : Environment) → Keeps e (with_depth_error e)
 limit-keeps e = record { course = refl; frames = refl; heap = thrown-keeps e.heap None _; references = omega arith }
 
-at-keeps : (e : Environment) (c : Call) (n : ℕ) (early deep : Option Status) → early_refusal e c ≡ early → Keeps e (answer_at e c n early deep).after
+at-keeps : (e : Environment) (c : Call) (n : ℕ) (early deep : Option Status) → early_refusal e c ≡ early → Keeps e (answer_unless_deep e c n early deep).after
 at-keeps e c n early None h = given-keeps e c n early h
 at-keeps e c n None (Some s) h = limit-keeps e
 at-keeps e c n (Some r) (Some s) h = keeps-all e
@@ -204,7 +204,7 @@ pub record KeepsButAsk (old new : Environment) : Type 0 where
   pub heap : HeapKeeps old.heap new.heap
   pub references : length new.references.issued ≤ length old.references.issued + 1
 
-pub called-keeps : (e : Environment) (c : Call) (n : ℕ) → KeepsButAsk e (called e c n).after
+pub called-keeps : (e : Environment) (c : Call) (n : ℕ) → KeepsButAsk e (call_change e c n).after
 called-keeps e c n = record {
   course = (answer-keeps e c n).course;
   depth = length-changed _ (answer e c n).after.frames ∙ ap length (answer-keeps e c n).frames;

@@ -8,9 +8,9 @@ use Rattle.napi_types.specs.declared.entry.Cause.TheVariants as cause
 use Rattle.napi_types.specs.declared.entry.Why.{Why}
 use Rattle.napi_types.specs.declared.ids.HandleId.{HandleId}
 use Rattle.napi_types.specs.declared.status.Status.{Status}
-use Rattle.napi_types.specs.Changes.{called}
-use Rattle.napi_types.specs.Ends.{ended_by, call_left, frame_ended}
-use Rattle.napi_types.specs.Entering.{is_entering, entered, calling, asked_for}
+use Rattle.napi_types.specs.Changes.{call_change}
+use Rattle.napi_types.specs.Ends.{end_change_by, uncut_call_end, end_change}
+use Rattle.napi_types.specs.Entering.{is_entering, enter_change, function_change, asked_change}
 use Rattle.napi_types.specs.Environment.{Environment}
 use Rattle.napi_types.specs.Frames.{cause_of, ask_counted}
 use Rattle.napi_types.specs.FunctionCalls.{callee_of}
@@ -30,16 +30,16 @@ pub record KeepsButFrame (old new : Environment) : Type 0 where
   pub scope_numbers : new.heap.scope_numbers ≡ old.heap.scope_numbers
   pub references : new.references ≡ old.references
 
-left-keeps : (v : Option HandleId) (e : Environment) (pending : Option ℕ) → KeepsButFrame e (call_left v e pending).after
+left-keeps : (v : Option HandleId) (e : Environment) (pending : Option ℕ) → KeepsButFrame e (uncut_call_end v e pending).after
 left-keeps v e (Some p) = record { course = refl; frames = refl; values = refl; made = refl; handles = omega arith; scope_numbers = refl; references = refl }
 left-keeps v e None = record { course = refl; frames = refl; values = refl; made = refl; handles = omega arith; scope_numbers = refl; references = refl }
 
-by-cause : (v : Option HandleId) (cut : Option Why) (e : Environment) (c : Cause) → KeepsButFrame e (ended_by v cut e c).after
+by-cause : (v : Option HandleId) (cut : Option Why) (e : Environment) (c : Cause) → KeepsButFrame e (end_change_by v cut e c).after
 by-cause v (Some w) e cause.Call = record { course = refl; frames = refl; values = refl; made = refl; handles = omega arith; scope_numbers = refl; references = refl }
 by-cause v None e cause.Call = left-keeps v e e.pending
 by-cause v cut e _ = record { course = refl; frames = refl; values = refl; made = refl; handles = omega arith; scope_numbers = refl; references = refl }
 
-pub ended-keeps : (v : Option HandleId) (cut : Option Why) (e : Environment) → KeepsButFrame e (frame_ended v cut e).after
+pub ended-keeps : (v : Option HandleId) (cut : Option Why) (e : Environment) → KeepsButFrame e (end_change v cut e).after
 ended-keeps v cut e = by-cause v cut e (cause_of e.frames)
 
 -- THE BEGIN OF A CALL'S FRAME
@@ -53,25 +53,25 @@ pub record KeepsAndEnters (old new : Environment) (f : HandleId) : Type 0 where
   pub scope_numbers : new.heap.scope_numbers ≡ old.heap.scope_numbers
   pub references : new.references ≡ old.references
 
-pub entered-keeps : (receiver : Option HandleId) (f : HandleId) (args : Args) (e : Environment) → KeepsAndEnters e (entered receiver f args e).after f
-entered-keeps None f args e = record { course = refl; frames = refl; values = refl; made = refl; handles = omega arith; scope_numbers = refl; references = refl }
-entered-keeps (Some h) f args e = record { course = refl; frames = refl; values = refl; made = refl; handles = omega arith; scope_numbers = refl; references = refl }
+pub enter_change-keeps : (receiver : Option HandleId) (f : HandleId) (args : Args) (e : Environment) → KeepsAndEnters e (enter_change receiver f args e).after f
+enter_change-keeps None f args e = record { course = refl; frames = refl; values = refl; made = refl; handles = omega arith; scope_numbers = refl; references = refl }
+enter_change-keeps (Some h) f args e = record { course = refl; frames = refl; values = refl; made = refl; handles = omega arith; scope_numbers = refl; references = refl }
 
 -- WHAT A CALL COMES TO
 -- a call that enters no frame answers at once
 at-once : (receiver : Option HandleId) (f : HandleId) (args : Args) (n : ℕ) (e : Environment) (s : Option Status) → is_none s ≡ false
-    → calling receiver f args n e s ≡ called e (call.CallFunction receiver f args) n
+    → function_change receiver f args n e s ≡ call_change e (call.CallFunction receiver f args) n
 at-once receiver f args n e (Some s) h = refl
 at-once receiver f args n e None h = cc
 
-pub asked_for-called : (e : Environment) (c : Call) (n : ℕ) → is_entering e c ≡ false → asked_for e c n ≡ called e c n
-asked_for-called e (call.CallFunction receiver f args) n h = at-once receiver f args n e (refusal e (call.CallFunction receiver f args)) h
-asked_for-called e c n h = refl
+pub asked_change-call_change : (e : Environment) (c : Call) (n : ℕ) → is_entering e c ≡ false → asked_change e c n ≡ call_change e c n
+asked_change-call_change e (call.CallFunction receiver f args) n h = at-once receiver f args n e (refusal e (call.CallFunction receiver f args)) h
+asked_change-call_change e c n h = refl
 
 -- an accepted call of a function enters its frame
-pub asked_for-entered : (e : Environment) (receiver : Option HandleId) (f : HandleId) (args : Args) (n : ℕ) → refusal e (call.CallFunction receiver f args) ≡ None
-    → asked_for e (call.CallFunction receiver f args) n ≡ entered receiver f args e
-asked_for-entered e receiver f args n h = ap (λ s. calling receiver f args n e s) h
+pub asked_change-enter_change : (e : Environment) (receiver : Option HandleId) (f : HandleId) (args : Args) (n : ℕ) → refusal e (call.CallFunction receiver f args) ≡ None
+    → asked_change e (call.CallFunction receiver f args) n ≡ enter_change receiver f args e
+asked_change-enter_change e receiver f args n h = ap (λ s. function_change receiver f args n e s) h
 
 -- what a call keeps, and how many frames stand after it: it owes no more ends than it has places for
 pub record KeepsButFrames (old new : Environment) (places : ℕ) : Type 0 where
@@ -85,19 +85,19 @@ length-changed f (x ∷ xs) = refl
 counted : (a b c : ℕ) → a ≡ b → 1 ≤ c → a + 1 ≤ b + c
 counted a b c e h = omega (arith, e, h)
 
-called-fits : (e : Environment) (c : Call) (n : ℕ) → 1 ≤ need c → KeepsButFrames e (called e c n).after (need c)
-called-fits e c n one =
-    let k : KeepsButAsk e (called e c n).after = called-keeps e c n in
-    record { course = k.course; depth = counted (length (called e c n).after.frames) (length e.frames) (need c) k.depth one }
+call_change-fits : (e : Environment) (c : Call) (n : ℕ) → 1 ≤ need c → KeepsButFrames e (call_change e c n).after (need c)
+call_change-fits e c n one =
+    let k : KeepsButAsk e (call_change e c n).after = called-keeps e c n in
+    record { course = k.course; depth = counted (length (call_change e c n).after.frames) (length e.frames) (need c) k.depth one }
 
-calling-fits : (receiver : Option HandleId) (f : HandleId) (args : Args) (n : ℕ) (e : Environment) (s : Option Status)
-    → KeepsButFrames e (calling receiver f args n e s).after 2
-calling-fits receiver f args n e (Some s) = called-fits e (call.CallFunction receiver f args) n (omega arith)
-calling-fits receiver f args n e None =
-    let k : KeepsAndEnters e (entered receiver f args e).after f = entered-keeps receiver f args e in
+function_change-fits : (receiver : Option HandleId) (f : HandleId) (args : Args) (n : ℕ) (e : Environment) (s : Option Status)
+    → KeepsButFrames e (function_change receiver f args n e s).after 2
+function_change-fits receiver f args n e (Some s) = call_change-fits e (call.CallFunction receiver f args) n (omega arith)
+function_change-fits receiver f args n e None =
+    let k : KeepsAndEnters e (enter_change receiver f args e).after f = enter_change-keeps receiver f args e in
     record {
       course = k.course;
-      depth = two (length (entered receiver f args e).after.frames) (length e.frames) (length (ask_counted e.frames)) (ap length k.frames) (length-changed _ e.frames);
+      depth = two (length (enter_change receiver f args e).after.frames) (length e.frames) (length (ask_counted e.frames)) (ap length k.frames) (length-changed _ e.frames);
     }
   where
     two : (a b c : ℕ) → a ≡ suc c → c ≡ b → a + 1 ≤ b + 2
@@ -108,6 +108,6 @@ pub needs-place : (c : Call) → 1 ≤ need c
 needs-place (call.CallFunction receiver f args) = omega arith
 needs-place c = omega arith
 
-pub asked_for-fits : (e : Environment) (c : Call) (n : ℕ) → KeepsButFrames e (asked_for e c n).after (need c)
-asked_for-fits e (call.CallFunction receiver f args) n = calling-fits receiver f args n e (refusal e (call.CallFunction receiver f args))
-asked_for-fits e c n = called-fits e c n (needs-place c)
+pub asked_change-fits : (e : Environment) (c : Call) (n : ℕ) → KeepsButFrames e (asked_change e c n).after (need c)
+asked_change-fits e (call.CallFunction receiver f args) n = function_change-fits receiver f args n e (refusal e (call.CallFunction receiver f args))
+asked_change-fits e c n = call_change-fits e c n (needs-place c)

@@ -8,7 +8,7 @@ use Rattle.napi_types.specs.declared.entry.HostStep.TheVariants as host
 use Rattle.napi_types.specs.declared.entry.What.TheVariants as what
 use Rattle.napi_types.specs.declared.entry.Why.{Why}
 use Rattle.napi_types.specs.declared.ids.HandleId.{HandleId}
-use Rattle.napi_types.specs.Ends.{end_out, call_left, ended_by, frame_ended}
+use Rattle.napi_types.specs.Ends.{end_out, uncut_call_end, end_change_by, end_change}
 use Rattle.napi_types.specs.Environment.{Environment}
 use Rattle.napi_types.specs.Frames.{cause_of}
 use Rattle.napi_types.specs.Step.{cut_of}
@@ -19,7 +19,7 @@ pub record Ends (cut : Option Why) (x : Entry) : Type 0 where
   pub is : x.what ≡ what.Host host.End
   pub told : cut_of x.reply.out ≡ cut
 
-left-ends : (v : Option HandleId) (e : Environment) (p : Option ℕ) → Ends None (call_left v e p).entry
+left-ends : (v : Option HandleId) (e : Environment) (p : Option ℕ) → Ends None (uncut_call_end v e p).entry
 left-ends v e None = record { who = refl; is = refl; told = refl }
 left-ends v e (Some p) = record { who = refl; is = refl; told = refl }
 
@@ -28,10 +28,10 @@ end-told (Some w) p = refl
 end-told None None = refl
 end-told None (Some v) = refl
 
-by-ends : (v : Option HandleId) (cut : Option Why) (e : Environment) (c : Cause) → Ends cut (ended_by v cut e c).entry
+by-ends : (v : Option HandleId) (cut : Option Why) (e : Environment) (c : Cause) → Ends cut (end_change_by v cut e c).entry
 by-ends v (Some w) e cause.Call = record { who = refl; is = refl; told = refl }
 by-ends v None e cause.Call = left-ends v e e.pending
 by-ends v cut e _ = record { who = refl; is = refl; told = end-told cut e.pending }
 
-pub ended-ends : (v : Option HandleId) (cut : Option Why) (e : Environment) → Ends cut (frame_ended v cut e).entry
+pub ended-ends : (v : Option HandleId) (cut : Option Why) (e : Environment) → Ends cut (end_change v cut e).entry
 ended-ends v cut e = by-ends v cut e (cause_of e.frames)

@@ -20,11 +20,11 @@ use Rattle.napi_types.specs.declared.entry.What.TheVariants as what
 use Rattle.napi_types.specs.declared.entry.Why.{Why}
 use Rattle.napi_types.specs.declared.ids.HandleId.{HandleId}
 use Rattle.napi_types.specs.declared.status.Status.{Status}
-use Rattle.napi_types.specs.Built.{taken}
+use Rattle.napi_types.specs.Built.{built_ask}
 use Rattle.napi_types.specs.Changes.{number_of}
 use Rattle.napi_types.specs.Choice.{choice}
-use Rattle.napi_types.specs.Ends.{call_left, call_over, ended_by}
-use Rattle.napi_types.specs.Entering.{calling, asked_for}
+use Rattle.napi_types.specs.Ends.{uncut_call_end, call_end_change, end_change_by}
+use Rattle.napi_types.specs.Entering.{function_change, asked_change}
 use Rattle.napi_types.specs.Environment.{Environment}
 use Rattle.napi_types.specs.Frames.{Frame, cause_of}
 use Rattle.napi_types.specs.Hub.{Hub, hub_next}
@@ -59,26 +59,26 @@ chosen-other : (m : Machine) (event : Option Event) → IsCollection (chosen m e
 chosen-other m None is = cc
 chosen-other m (Some event) is = event-other m event is
 
-left-other : (v : Option HandleId) (e : Environment) (pending : Option ℕ) → IsCollection (call_left v e pending).entry → ⊥
+left-other : (v : Option HandleId) (e : Environment) (pending : Option ℕ) → IsCollection (uncut_call_end v e pending).entry → ⊥
 left-other v e None is = cc
 left-other v e (Some p) is = cc
 
-over-other : (v : Option HandleId) (cut : Option Why) (e : Environment) → IsCollection (call_over v cut e).entry → ⊥
+over-other : (v : Option HandleId) (cut : Option Why) (e : Environment) → IsCollection (call_end_change v cut e).entry → ⊥
 over-other v None e is = left-other v e e.pending is
 over-other v (Some w) e is = cc
 
-ended-other : (v : Option HandleId) (cut : Option Why) (e : Environment) (c : Cause) → IsCollection (ended_by v cut e c).entry → ⊥
+ended-other : (v : Option HandleId) (cut : Option Why) (e : Environment) (c : Cause) → IsCollection (end_change_by v cut e c).entry → ⊥
 ended-other v cut e cause.Call is = over-other v cut e is
 ended-other v cut e _ is = cc
 
-calling-other : (receiver : Option HandleId) (f : HandleId) (args : Args) (n : ℕ) (e : Environment) (s : Option Status) → IsCollection (calling receiver f args n e s).entry → ⊥
-calling-other receiver f args n e None is = cc
-calling-other receiver f args n e (Some s) is = cc
+function_change-other : (receiver : Option HandleId) (f : HandleId) (args : Args) (n : ℕ) (e : Environment) (s : Option Status) → IsCollection (function_change receiver f args n e s).entry → ⊥
+function_change-other receiver f args n e None is = cc
+function_change-other receiver f args n e (Some s) is = cc
 
 -- COLLECTIONS
 -- nothing refuses one
-asked-kept : (e : Environment) (c : Call) (n : ℕ) → IsCollection (asked_for e c n).entry → Collects e (asked_for e c n).after (asked_for e c n).entry
-asked-kept e (call.CallFunction receiver f args) n is = absurd (calling-other receiver f args n e (refusal e (call.CallFunction receiver f args)) is)
+asked-kept : (e : Environment) (c : Call) (n : ℕ) → IsCollection (asked_change e c n).entry → Collects e (asked_change e c n).after (asked_change e c n).entry
+asked-kept e (call.CallFunction receiver f args) n is = absurd (function_change-other receiver f args n e (refusal e (call.CallFunction receiver f args)) is)
 asked-kept e call.Collect n is = record { values = numbers-kept e.heap.values (roots e); unchanged = refl; references = refl; told = refl }
 asked-kept e c n is = cc
 
@@ -96,7 +96,7 @@ frame-step-kept m a o (Some w) is = absurd (ended-other None (Some w) m.env (cau
 
 env-step-kept : (m : Machine) (a : Ask) (o : Out) (fs : List Frame) → StepKeeps m (env_step m a o fs)
 env-step-kept m a o [] is = absurd (chosen-other m (choice m) is)
-env-step-kept m a o (f ∷ fs) is = frame-step-kept m (taken a) o (cut_of o) is
+env-step-kept m a o (f ∷ fs) is = frame-step-kept m (built_ask a) o (cut_of o) is
 
 step-kept : (m : Machine) (a : Ask) (x : Entry) (who : Actor) → StepKeeps m (step_of m a x who)
 step-kept m a x actor.Env is = env-step-kept m a x.reply.out m.env.frames is

@@ -14,10 +14,10 @@ use Rattle.napi_types.specs.declared.ids.TextNo.{TextNo}
 use Rattle.napi_types.specs.declared.status.Status.{Status}
 use Rattle.napi_types.specs.declared.status.Status.TheVariants as status
 use Rattle.napi_types.specs.Asks.{AsksWithin}
-use Rattle.napi_types.specs.Calls.{accepted_of, accepted_by, answer_given, answer_at}
-use Rattle.napi_types.specs.Changes.{called, init_begun}
-use Rattle.napi_types.specs.Ends.{frame_ended}
-use Rattle.napi_types.specs.Entering.{entered, calling, asked_for}
+use Rattle.napi_types.specs.Calls.{addon_effect, effect, answer_unless, answer_unless_deep}
+use Rattle.napi_types.specs.Changes.{call_change, init_change}
+use Rattle.napi_types.specs.Ends.{end_change}
+use Rattle.napi_types.specs.Entering.{enter_change, function_change, asked_change}
 use Rattle.napi_types.specs.Environment.{Environment}
 use Rattle.napi_types.specs.declared.entry.Cause.TheVariants as cause
 use Rattle.napi_types.specs.Frames.{Frame, frame_of, caller_of, ask_counted, asks_made, most_asks}
@@ -27,14 +27,14 @@ use Rattle.napi_types.specs.Lists.{tail, unless, has_number}
 use Rattle.napi_types.specs.Owners.{BelongsTo, IsOwned}
 use Rattle.napi_types.specs.PropertyCalls.{names_of}
 use Rattle.napi_types.specs.Collection.{those_of}
-use Rattle.napi_types.specs.References.{value_of}
+use Rattle.napi_types.specs.References.{referred_value}
 use Rattle.napi_types.specs.ReferenceCalls.{value_told, counted_up}
 use Rattle.napi_types.specs.Roots.{reach}
 use Rattle.napi_types.specs.Refusals.{moment_refusal, reference_refusal, timely_refusal, unknown_refusal, kind_refusal, row_refusal, refusal_in, early_refusal, depth_refusal, refusal}
 use Rattle.napi_types.specs.Values.{Value, Property, fresh_value, starting_values, value_changed, made_after, list_of, thrown_strings, thrown_of, is_function, function_addon, body_of, text_of}
 use Rattle.napi_types.proofs.Answers.{answer-keeps}
 use Rattle.napi_types.proofs.Runs.{and-left, and-right}
-use Rattle.napi_types.proofs.FrameChanges.{KeepsButFrame, ended-keeps, KeepsAndEnters, entered-keeps}
+use Rattle.napi_types.proofs.FrameChanges.{KeepsButFrame, ended-keeps, KeepsAndEnters, enter_change-keeps}
 
 -- VALUES
 abbrev Ours : ℕ → Value → Type 0
@@ -97,7 +97,7 @@ body-owned n k (v ∷ vs) all = here (v.number == k) refl (body-owned n k vs (Al
     here false h later = rw h later
 
 -- CALLS
-heap-owned : (n addon : ℕ) (heap : Heap) (c : Call) (k : ℕ) → addon < n → AreOwned n heap.values → AreOwned n (accepted_of addon heap c k).after.values
+heap-owned : (n addon : ℕ) (heap : Heap) (c : Call) (k : ℕ) → addon < n → AreOwned n heap.values → AreOwned n (addon_effect addon heap c k).after.values
 heap-owned n addon heap (call.CreateFunction entry payload) k there all = one-more n _ _ heap.values all (λ h. there)
 heap-owned n addon heap (call.CreateInt64 i) k there all = one-more n _ _ heap.values all (no-function n (body.Number i) refl)
 heap-owned n addon heap (call.CreateBigintInt64 i) k there all = one-more n _ _ heap.values all (no-function n (body.Bigint i) refl)
@@ -129,7 +129,7 @@ told-owned : (n : ℕ) (e : Environment) (v : Option ℕ) → AreOwned n e.heap.
 told-owned n e None all = all
 told-owned n e (Some v) all = all
 
-by-owned : (n : ℕ) (e : Environment) (c : Call) (k : ℕ) → caller_of e.frames < n → AreOwned n e.heap.values → AreOwned n (accepted_by e c k).after.heap.values
+by-owned : (n : ℕ) (e : Environment) (c : Call) (k : ℕ) → caller_of e.frames < n → AreOwned n e.heap.values → AreOwned n (effect e c k).after.heap.values
 by-owned n e (call.Throw v) k there all = all
 by-owned n e (call.ThrowError code message) k there all = thrown-owned n e.heap code message all
 by-owned n e call.IsExceptionPending k there all = all
@@ -137,18 +137,18 @@ by-owned n e call.GetLastErrorInfo k there all = all
 by-owned n e call.GetAndClearLastException k there all = all
 by-owned n e (call.CreateReference v count) k there all = all
 by-owned n e (call.DeleteReference r) k there all = all
-by-owned n e (call.ReferenceRef r) k there all = counted-up-owned n r.0 e (value_of e.references r.0) all
+by-owned n e (call.ReferenceRef r) k there all = counted-up-owned n r.0 e (referred_value e.references r.0) all
 by-owned n e (call.ReferenceUnref r) k there all = all
-by-owned n e (call.GetReferenceValue r) k there all = told-owned n e (value_of e.references r.0) all
+by-owned n e (call.GetReferenceValue r) k there all = told-owned n e (referred_value e.references r.0) all
 by-owned n e call.Collect k there all = kept-owned n (reach e) e.heap.values all
 by-owned n e c k there all = heap-owned n (caller_of e.frames) e.heap c k there all
 
-given-owned : (n : ℕ) (e : Environment) (c : Call) (k : ℕ) (s : Option Status) → caller_of e.frames < n → AreOwned n e.heap.values → AreOwned n (answer_given e c k s).after.heap.values
+given-owned : (n : ℕ) (e : Environment) (c : Call) (k : ℕ) (s : Option Status) → caller_of e.frames < n → AreOwned n e.heap.values → AreOwned n (answer_unless e c k s).after.heap.values
 given-owned n e c k (Some s) there all = all
 given-owned n e c k None there all = by-owned n e c k there all
 
 at-owned : (n : ℕ) (e : Environment) (c : Call) (k : ℕ) (early deep : Option Status) → caller_of e.frames < n → AreOwned n e.heap.values
-    → AreOwned n (answer_at e c k early deep).after.heap.values
+    → AreOwned n (answer_unless_deep e c k early deep).after.heap.values
 at-owned n e c k early None there all = given-owned n e c k early there all
 at-owned n e c k (Some r) (Some s) there all = all
 at-owned n e c k None (Some s) there all = thrown-owned n e.heap None _ all
@@ -166,8 +166,8 @@ pub caller-owned : (n : ℕ) (fs : List Frame) → fs ≢ [] → All (Below n) f
 caller-owned n [] stands all = absurd (stands refl)
 caller-owned n (f ∷ fs) stands all = All-head (Below n) f fs all
 
-called-owned : (n : ℕ) (e : Environment) (c : Call) (k : ℕ) → e.frames ≢ [] → IsOwned n e → IsOwned n (called e c k).after
-called-owned n e c k stands o =
+call_change-owned : (n : ℕ) (e : Environment) (c : Call) (k : ℕ) → e.frames ≢ [] → IsOwned n e → IsOwned n (call_change e c k).after
+call_change-owned n e c k stands o =
     let P : List Frame → Type 0 = λ fs. All (Below n) (ask_counted fs) in
     record {
       frames = subst P (sym (answer-keeps e c k).frames) (counted-owned n e.frames o.frames);
@@ -187,9 +187,9 @@ not-unless true s h = refl
 not-unless false s h = cc
 
 -- only a function is called
-pub function-called : (e : Environment) (receiver : Option HandleId) (f : HandleId) (args : Args) → refusal e (call.CallFunction receiver f args) ≡ None
+pub function-call_change : (e : Environment) (receiver : Option HandleId) (f : HandleId) (args : Args) → refusal e (call.CallFunction receiver f args) ≡ None
     → is_function (handle_body e.heap f.0) ≡ true
-function-called e receiver f args h =
+function-call_change e receiver f args h =
     let c : Call = call.CallFunction receiver f args in
     let early : early_refusal e c ≡ None = none-first (early_refusal e c) (depth_refusal e.frames c) h in
     let timely : timely_refusal e c ≡ None = none-last (moment_refusal e c) (timely_refusal e c) early in
@@ -200,12 +200,12 @@ function-called e receiver f args h =
 -- an accepted call of a function enters a frame of an addon that is there
 pub callee-owned : (n : ℕ) (e : Environment) (receiver : Option HandleId) (f : HandleId) (args : Args) → refusal e (call.CallFunction receiver f args) ≡ None → IsOwned n e
     → function_addon (handle_body e.heap f.0) < n
-callee-owned n e receiver f args h o = body-owned n _ e.heap.values o.functions (function-called e receiver f args h)
+callee-owned n e receiver f args h o = body-owned n _ e.heap.values o.functions (function-call_change e receiver f args h)
 
-entered-owned : (n : ℕ) (e : Environment) (receiver : Option HandleId) (f : HandleId) (args : Args) → refusal e (call.CallFunction receiver f args) ≡ None → IsOwned n e
-    → IsOwned n (entered receiver f args e).after
-entered-owned n e receiver f args h o =
-    let k : KeepsAndEnters e (entered receiver f args e).after f = entered-keeps receiver f args e in
+enter_change-owned : (n : ℕ) (e : Environment) (receiver : Option HandleId) (f : HandleId) (args : Args) → refusal e (call.CallFunction receiver f args) ≡ None → IsOwned n e
+    → IsOwned n (enter_change receiver f args e).after
+enter_change-owned n e receiver f args h o =
+    let k : KeepsAndEnters e (enter_change receiver f args e).after f = enter_change-keeps receiver f args e in
     let P : List Frame → Type 0 = λ fs. All (Below n) fs in
     let Q : List Value → Type 0 = λ vs. AreOwned n vs in
     record {
@@ -213,24 +213,24 @@ entered-owned n e receiver f args h o =
       functions = subst Q (sym k.values) o.functions;
     }
 
-calling-owned : (n : ℕ) (e : Environment) (receiver : Option HandleId) (f : HandleId) (args : Args) (k : ℕ) (s : Option Status)
-    → refusal e (call.CallFunction receiver f args) ≡ s → e.frames ≢ [] → IsOwned n e → IsOwned n (calling receiver f args k e s).after
-calling-owned n e receiver f args k None h stands o = entered-owned n e receiver f args h o
-calling-owned n e receiver f args k (Some s) h stands o = called-owned n e (call.CallFunction receiver f args) k stands o
+function_change-owned : (n : ℕ) (e : Environment) (receiver : Option HandleId) (f : HandleId) (args : Args) (k : ℕ) (s : Option Status)
+    → refusal e (call.CallFunction receiver f args) ≡ s → e.frames ≢ [] → IsOwned n e → IsOwned n (function_change receiver f args k e s).after
+function_change-owned n e receiver f args k None h stands o = enter_change-owned n e receiver f args h o
+function_change-owned n e receiver f args k (Some s) h stands o = call_change-owned n e (call.CallFunction receiver f args) k stands o
 
 -- EVERY EVENT
-pub owned-asked : (n : ℕ) (e : Environment) (c : Call) (k : ℕ) → e.frames ≢ [] → IsOwned n e → IsOwned n (asked_for e c k).after
-owned-asked n e (call.CallFunction receiver f args) k stands o = calling-owned n e receiver f args k (refusal e (call.CallFunction receiver f args)) refl stands o
-owned-asked n e c k stands o = called-owned n e c k stands o
+pub owned-asked : (n : ℕ) (e : Environment) (c : Call) (k : ℕ) → e.frames ≢ [] → IsOwned n e → IsOwned n (asked_change e c k).after
+owned-asked n e (call.CallFunction receiver f args) k stands o = function_change-owned n e receiver f args k (refusal e (call.CallFunction receiver f args)) refl stands o
+owned-asked n e c k stands o = call_change-owned n e c k stands o
 
-pub owned-ended : (n : ℕ) (e : Environment) (v : Option HandleId) (cut : Option Why) → IsOwned n e → IsOwned n (frame_ended v cut e).after
+pub owned-ended : (n : ℕ) (e : Environment) (v : Option HandleId) (cut : Option Why) → IsOwned n e → IsOwned n (end_change v cut e).after
 owned-ended n e v cut o =
-    let k : KeepsButFrame e (frame_ended v cut e).after = ended-keeps v cut e in
+    let k : KeepsButFrame e (end_change v cut e).after = ended-keeps v cut e in
     let P : List Frame → Type 0 = λ fs. All (Below n) fs in
     let Q : List Value → Type 0 = λ vs. AreOwned n vs in
     record { frames = subst P (sym k.frames) (tail-owned n e.frames o.frames); functions = subst Q (sym k.values) o.functions }
 
-pub owned-init : (n : ℕ) (e : Environment) (addon : ℕ) → addon < n → IsOwned n e → IsOwned n (init_begun addon e).after
+pub owned-init : (n : ℕ) (e : Environment) (addon : ℕ) → addon < n → IsOwned n e → IsOwned n (init_change addon e).after
 owned-init n e addon there o = record { frames = All-cons (Below n) (frame_of cause.Init addon 0) e.frames there o.frames; functions = o.functions }
 
 -- the starting values are no functions
@@ -259,26 +259,26 @@ tail-within : (fs : List Frame) → All Spare fs → All Spare (tail fs)
 tail-within [] all = All-nil Spare
 tail-within (f ∷ fs) all = All-tail Spare f fs all
 
-called-within : (e : Environment) (c : Call) (k : ℕ) → asks_made e.frames < most_asks → AsksWithin e → AsksWithin (called e c k).after
-called-within e c k below all =
+call_change-within : (e : Environment) (c : Call) (k : ℕ) → asks_made e.frames < most_asks → AsksWithin e → AsksWithin (call_change e c k).after
+call_change-within e c k below all =
     let P : List Frame → Type 0 = λ fs. All Spare (ask_counted fs) in
     subst P (sym (answer-keeps e c k).frames) (counted-within e.frames below all)
 
-calling-within : (e : Environment) (receiver : Option HandleId) (f : HandleId) (args : Args) (k : ℕ) (s : Option Status) → asks_made e.frames < most_asks → AsksWithin e
-    → AsksWithin (calling receiver f args k e s).after
-calling-within e receiver f args k (Some s) below all = called-within e (call.CallFunction receiver f args) k below all
-calling-within e receiver f args k None below all =
+function_change-within : (e : Environment) (receiver : Option HandleId) (f : HandleId) (args : Args) (k : ℕ) (s : Option Status) → asks_made e.frames < most_asks → AsksWithin e
+    → AsksWithin (function_change receiver f args k e s).after
+function_change-within e receiver f args k (Some s) below all = call_change-within e (call.CallFunction receiver f args) k below all
+function_change-within e receiver f args k None below all =
     let P : List Frame → Type 0 = λ fs. All Spare fs in
-    subst P (sym (entered-keeps receiver f args e).frames) (All-cons Spare (callee_of e.heap f) (ask_counted e.frames) (omega arith) (counted-within e.frames below all))
+    subst P (sym (enter_change-keeps receiver f args e).frames) (All-cons Spare (callee_of e.heap f) (ask_counted e.frames) (omega arith) (counted-within e.frames below all))
 
-pub within-asked : (e : Environment) (c : Call) (k : ℕ) → asks_made e.frames < most_asks → AsksWithin e → AsksWithin (asked_for e c k).after
-within-asked e (call.CallFunction receiver f args) k below all = calling-within e receiver f args k (refusal e (call.CallFunction receiver f args)) below all
-within-asked e c k below all = called-within e c k below all
+pub within-asked : (e : Environment) (c : Call) (k : ℕ) → asks_made e.frames < most_asks → AsksWithin e → AsksWithin (asked_change e c k).after
+within-asked e (call.CallFunction receiver f args) k below all = function_change-within e receiver f args k (refusal e (call.CallFunction receiver f args)) below all
+within-asked e c k below all = call_change-within e c k below all
 
-pub within-ended : (e : Environment) (v : Option HandleId) (cut : Option Why) → AsksWithin e → AsksWithin (frame_ended v cut e).after
+pub within-ended : (e : Environment) (v : Option HandleId) (cut : Option Why) → AsksWithin e → AsksWithin (end_change v cut e).after
 within-ended e v cut all =
     let P : List Frame → Type 0 = λ fs. All Spare fs in
     subst P (sym (ended-keeps v cut e).frames) (tail-within e.frames all)
 
-pub within-init : (e : Environment) (addon : ℕ) → AsksWithin e → AsksWithin (init_begun addon e).after
+pub within-init : (e : Environment) (addon : ℕ) → AsksWithin e → AsksWithin (init_change addon e).after
 within-init e addon all = All-cons Spare (frame_of cause.Init addon 0) e.frames (omega arith) all

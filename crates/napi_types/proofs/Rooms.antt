@@ -15,11 +15,11 @@ use Rattle.napi_types.specs.declared.entry.Out.{Out}
 use Rattle.napi_types.specs.declared.entry.Phase.{Phase}
 use Rattle.napi_types.specs.declared.entry.Phase.TheVariants as phase
 use Rattle.napi_types.specs.declared.entry.Why.{Why}
-use Rattle.napi_types.specs.Changes.{opened, may_ask, may_call, is_fresh, number_of}
+use Rattle.napi_types.specs.Changes.{opening_change, may_ask, may_call, is_fresh_result, number_of}
 use Rattle.napi_types.specs.Choice.{local_choice, local_choice_in, hub_choice_at, choice}
-use Rattle.napi_types.specs.Ends.{frame_ended}
-use Rattle.napi_types.specs.Entering.{asked_for}
-use Rattle.napi_types.specs.Built.{is_built, taken}
+use Rattle.napi_types.specs.Ends.{end_change}
+use Rattle.napi_types.specs.Entering.{asked_change}
+use Rattle.napi_types.specs.Built.{is_built, built_ask}
 use Rattle.napi_types.specs.declared.ids.HandleId.{HandleId}
 use Rattle.napi_types.specs.Environment.{Environment}
 use Rattle.napi_types.specs.Guards.{is_shared}
@@ -36,7 +36,7 @@ use Rattle.napi_types.specs.Whole.{Setting, final_of, opening_of}
 use Rattle.napi_types.specs.Phases.{stage_of}
 use Rattle.napi_types.proofs.Runs.{and-right}
 use Rattle.napi_types.proofs.Answers.{SameCourse, course-parts}
-use Rattle.napi_types.proofs.FrameChanges.{KeepsButFrame, ended-keeps, KeepsButFrames, asked_for-fits}
+use Rattle.napi_types.proofs.FrameChanges.{KeepsButFrame, ended-keeps, KeepsButFrames, asked_change-fits}
 
 abbrev pub is_init : Phase → Bool
 is_init phase.Init = true
@@ -45,8 +45,8 @@ is_init _ = false
 -- what holds at every moment of a run within these limits
 record Roomy (l : Limits) (m : Machine) : Type 0 where
   pub limits : m.limits ≡ l
-  pub journal : m.locals + reserved_journal m.env ≤ l.journal
-  pub history : m.shareds + reserved_history m.hub ≤ l.history
+  pub journal : m.journal_length + reserved_journal m.env ≤ l.journal
+  pub history : m.history_length + reserved_history m.hub ≤ l.history
   pub stage : m.hub.stage ≡ stage_of m.env.phase
   -- once the init frames are over the opening stands, and each addon had its frame
   pub opened : is_init m.env.phase ≡ false → m.env.opened ≡ true
@@ -71,7 +71,7 @@ built-local (call.GetThreadsafeFunctionContext f) h = cc
 built-local _ h = refl
 
 -- .. so a call that is built has its entry in the journal
-pub built-room : (m : Machine) (c : Call) → is_built c ≡ true → room_of m c ≡ journal_room m.env m.locals m.limits.journal
+pub built-room : (m : Machine) (c : Call) → is_built c ≡ true → room_of m c ≡ journal_room m.env m.journal_length m.limits.journal
 built-room m c built = rw (built-local c built) refl
 
 call-fits : (j b d f n x : ℕ) → nat_lt x (j + (b + f) + n) ≡ false → d + 1 ≤ f + n → j + 1 + (b + d) ≤ x
@@ -92,17 +92,17 @@ call-room : (l : Limits) (m : Machine) (c : Call) (o : Out) (f : Frame) (fs : Li
     → Roomy l m → IsTrue (call_step m c o).may → Roomy l (call_step m c o).after
 call-room l m c o f fs built e r h =
     let n : ℕ = number_of o in
-    let d : Environment = (asked_for m.env c n).after in
-    let k : KeepsButFrames m.env d (need c) = asked_for-fits m.env c n in
+    let d : Environment = (asked_change m.env c n).after in
+    let k : KeepsButFrames m.env d (need c) = asked_change-fits m.env c n in
     let course : SameCourse m.env d = course-parts m.env d k.course in
-    let free : is_full (journal_room m.env m.locals m.limits.journal) c ≡ false =
-    ap (λ x. is_full x c) (sym (built-room m c built)) ∙ not-full _ (and-right (may_call m.env && is_fresh m.env o) (not (is_full (room_of m c) c)) h) in
-    let P : Limits → Type 0 = λ q. m.locals + 1 + reserved_journal d ≤ q.journal in
-    let Q : ℕ → Type 0 = λ b. m.locals + 1 + (b + length d.frames) ≤ m.limits.journal in
+    let free : is_full (journal_room m.env m.journal_length m.limits.journal) c ≡ false =
+    ap (λ x. is_full x c) (sym (built-room m c built)) ∙ not-full _ (and-right (may_call m.env && is_fresh_result m.env o) (not (is_full (room_of m c) c)) h) in
+    let P : Limits → Type 0 = λ q. m.journal_length + 1 + reserved_journal d ≤ q.journal in
+    let Q : ℕ → Type 0 = λ b. m.journal_length + 1 + (b + length d.frames) ≤ m.limits.journal in
     record {
       limits = r.limits;
       journal = subst P r.limits (subst Q (sym (same-others d m.env (need c) k))
-          (call-fits m.locals (other_places m.env) (length d.frames) (length m.env.frames) (need c) m.limits.journal free k.depth));
+          (call-fits m.journal_length (other_places m.env) (length d.frames) (length m.env.frames) (need c) m.limits.journal free k.depth));
       history = r.history;
       stage = r.stage ∙ ap stage_of (sym course.phase);
       opened = λ p. course.opened ∙ r.opened (ap is_init (sym course.phase) ∙ p);
@@ -115,17 +115,17 @@ end-fits : (j b n x : ℕ) → j + (b + suc n) ≤ x → j + 1 + (b + n) ≤ x
 end-fits j b n x h = omega (arith, h)
 
 end-room : (l : Limits) (m : Machine) (v : Option HandleId) (w : Option Why) (b : Bool) (f : Frame) (fs : List Frame) → m.env.frames ≡ f ∷ fs
-    → Roomy l m → Roomy l (locally m (frame_ended v w m.env) b).after
+    → Roomy l m → Roomy l (locally m (end_change v w m.env) b).after
 end-room l m v w b f fs e r =
-    let d : Environment = (frame_ended v w m.env).after in
+    let d : Environment = (end_change v w m.env).after in
     let k : KeepsButFrame m.env d = ended-keeps v w m.env in
     let course : SameCourse m.env d = course-parts m.env d k.course in
     let left : d.frames ≡ fs = k.frames ∙ ap tail e in
-    let j : m.locals + (other_places m.env + length (f ∷ fs)) ≤ l.journal = rw e at r.journal in
+    let j : m.journal_length + (other_places m.env + length (f ∷ fs)) ≤ l.journal = rw e at r.journal in
     let same : other_places d ≡ other_places m.env = rw (course.opened, course.phase, course.addons, course.inits) refl in
     record {
       limits = r.limits;
-      journal = rw (same, left) (end-fits m.locals (other_places m.env) (length fs) l.journal j);
+      journal = rw (same, left) (end-fits m.journal_length (other_places m.env) (length fs) l.journal j);
       history = r.history;
       stage = r.stage ∙ ap stage_of (sym course.phase);
       opened = λ p. course.opened ∙ r.opened (ap is_init (sym course.phase) ∙ p);
@@ -141,21 +141,21 @@ moved-room : (l : Limits) (m : Machine) (event : HostStep) (p : Phase) (o : Out)
     → stage_after m.hub.stage event ≡ Some s → suc (stage_places s) ≡ stage_places m.hub.stage → s ≡ stage_of p
     → gone_place p ≡ gone_place m.env.phase → (p ≡ phase.Gone → ⊥)
     → m.env.opened ≡ true → nat_lt m.env.inits m.env.addons ≡ false → Roomy l m → Roomy l (by_hub m event p o).after
-moved-room l m event p o s e places stands g never opened inits r =
+moved-room l m event p o s e places stands g never opening_change inits r =
     let P : Option Stage → Type 0 = λ n. Roomy l (hub_moved m event p o (staged m.hub n)).after in
     subst P (sym e) (record {
       limits = r.limits;
       journal = rw g r.journal;
-      history = hub-fits (stage_places m.hub.stage) m.shareds (stage_places s) l.history r.history places;
+      history = hub-fits (stage_places m.hub.stage) m.history_length (stage_places s) l.history r.history places;
       stage = stands;
-      opened = λ q. opened;
+      opened = λ q. opening_change;
       inits = λ q. inits;
       bare = λ q. absurd (never q);
     })
 
 -- EVENTS WITH NO FRAME
-opened-fits : (j a x : ℕ) → j + (1 + 1 + a + 0) ≤ x → j + 1 + (0 + 1 + a + 0) ≤ x
-opened-fits j a x h = omega (arith, h)
+opening_change-fits : (j a x : ℕ) → j + (1 + 1 + a + 0) ≤ x → j + 1 + (0 + 1 + a + 0) ≤ x
+opening_change-fits j a x h = omega (arith, h)
 
 init-fits : (j k g a i x : ℕ) → nat_lt i a ≡ true → j + (k + g + 2 * (a - i) + 0) ≤ x → j + 1 + (k + g + 2 * (a - (i + 1)) + 1) ≤ x
 init-fits j k g a i x n h = grind arith
@@ -167,10 +167,10 @@ gone-fits j k a x h = omega (arith, h)
 init-room : (l : Limits) (m : Machine) (b c : Bool) → m.env.opened ≡ b → nat_lt m.env.inits m.env.addons ≡ c → m.env.phase ≡ phase.Init → m.env.frames ≡ []
     → Roomy l m → Roomy l (chosen m (option_or (cond b (cond c (Some (Inits m.env.inits)) None) (Some Opens)) (Some Goes))).after
 init-room l m false c o i p f r =
-    let j : m.locals + (1 + 1 + 2 * (m.env.addons - m.env.inits) + 0) ≤ l.journal = rw (o, p, f) at r.journal in
+    let j : m.journal_length + (1 + 1 + 2 * (m.env.addons - m.env.inits) + 0) ≤ l.journal = rw (o, p, f) at r.journal in
     record {
       limits = r.limits;
-      journal = rw (p, f) (opened-fits m.locals (2 * (m.env.addons - m.env.inits)) l.journal j);
+      journal = rw (p, f) (opening_change-fits m.journal_length (2 * (m.env.addons - m.env.inits)) l.journal j);
       history = r.history;
       stage = r.stage;
       opened = λ q. refl;
@@ -178,10 +178,10 @@ init-room l m false c o i p f r =
       bare = r.bare;
     }
 init-room l m true true o i p f r =
-    let j : m.locals + (one_if (not m.env.opened) + gone_place m.env.phase + 2 * (m.env.addons - m.env.inits) + 0) ≤ l.journal = rw f at r.journal in
+    let j : m.journal_length + (one_if (not m.env.opened) + gone_place m.env.phase + 2 * (m.env.addons - m.env.inits) + 0) ≤ l.journal = rw f at r.journal in
     record {
       limits = r.limits;
-      journal = rw f (init-fits m.locals (one_if (not m.env.opened)) (gone_place m.env.phase) m.env.addons m.env.inits l.journal i j);
+      journal = rw f (init-fits m.journal_length (one_if (not m.env.opened)) (gone_place m.env.phase) m.env.addons m.env.inits l.journal i j);
       history = r.history;
       stage = r.stage;
       opened = r.opened;
@@ -192,8 +192,8 @@ init-room l m true false o i p f r =
     let s : m.hub.stage ≡ Before = r.stage ∙ ap stage_of p in
     moved-room l m host.Go phase.Live _ Going (rw s refl) (rw s refl) refl (rw p refl) (λ e. cc) o i r
 
-later-opened : (l : Limits) (m : Machine) (p : Phase) → m.env.phase ≡ p → is_init p ≡ false → Roomy l m → m.env.opened ≡ true
-later-opened l m p e n r = r.opened (ap is_init e ∙ n)
+later-opening_change : (l : Limits) (m : Machine) (p : Phase) → m.env.phase ≡ p → is_init p ≡ false → Roomy l m → m.env.opened ≡ true
+later-opening_change l m p e n r = r.opened (ap is_init e ∙ n)
 
 later-inits : (l : Limits) (m : Machine) (p : Phase) → m.env.phase ≡ p → is_init p ≡ false → Roomy l m → nat_lt m.env.inits m.env.addons ≡ false
 later-inits l m p e n r = r.inits (ap is_init e ∙ n)
@@ -202,21 +202,21 @@ event-room : (l : Limits) (m : Machine) (p : Phase) → m.env.phase ≡ p → m.
 event-room l m phase.Init e f r = init-room l m m.env.opened (nat_lt m.env.inits m.env.addons) refl refl e f r
 event-room l m phase.Live e f r =
     let s : m.hub.stage ≡ Going = r.stage ∙ ap stage_of e in
-    moved-room l m host.LoopEnd phase.Hooks _ Looped (rw s refl) (rw s refl) refl (rw e refl) (λ q. cc) (later-opened l m phase.Live e refl r) (later-inits l m phase.Live e refl r) r
+    moved-room l m host.LoopEnd phase.Hooks _ Looped (rw s refl) (rw s refl) refl (rw e refl) (λ q. cc) (later-opening_change l m phase.Live e refl r) (later-inits l m phase.Live e refl r) r
 event-room l m phase.Hooks e f r =
     let s : m.hub.stage ≡ Looped = r.stage ∙ ap stage_of e in
-    moved-room l m host.Drain phase.Drain _ Drained (rw s refl) (rw s refl) refl (rw e refl) (λ q. cc) (later-opened l m phase.Hooks e refl r) (later-inits l m phase.Hooks e refl r) r
+    moved-room l m host.Drain phase.Drain _ Drained (rw s refl) (rw s refl) refl (rw e refl) (λ q. cc) (later-opening_change l m phase.Hooks e refl r) (later-inits l m phase.Hooks e refl r) r
 event-room l m phase.Drain e f r =
     let s : m.hub.stage ≡ Drained = r.stage ∙ ap stage_of e in
-    moved-room l m host.Finals phase.Finals _ Final (rw s refl) (rw s refl) refl (rw e refl) (λ q. cc) (later-opened l m phase.Drain e refl r) (later-inits l m phase.Drain e refl r) r
+    moved-room l m host.Finals phase.Finals _ Final (rw s refl) (rw s refl) refl (rw e refl) (λ q. cc) (later-opening_change l m phase.Drain e refl r) (later-inits l m phase.Drain e refl r) r
 event-room l m phase.Finals e f r =
-    let j : m.locals + (one_if (not m.env.opened) + 1 + 2 * (m.env.addons - m.env.inits) + 0) ≤ l.journal = rw (e, f) at r.journal in
+    let j : m.journal_length + (one_if (not m.env.opened) + 1 + 2 * (m.env.addons - m.env.inits) + 0) ≤ l.journal = rw (e, f) at r.journal in
     record {
       limits = r.limits;
-      journal = rw f (gone-fits m.locals (one_if (not m.env.opened)) (2 * (m.env.addons - m.env.inits)) l.journal j);
+      journal = rw f (gone-fits m.journal_length (one_if (not m.env.opened)) (2 * (m.env.addons - m.env.inits)) l.journal j);
       history = r.history;
       stage = r.stage ∙ ap stage_of e;
-      opened = λ q. later-opened l m phase.Finals e refl r;
+      opened = λ q. later-opening_change l m phase.Finals e refl r;
       inits = λ q. later-inits l m phase.Finals e refl r;
       bare = λ q. ap length f;
     }
@@ -224,7 +224,7 @@ event-room l m phase.Gone e f r = r
 
 -- EACH STEP
 asked-room : (l : Limits) (m : Machine) (a : Ask) (o : Out) (f : Frame) (fs : List Frame) → m.env.frames ≡ f ∷ fs
-    → Roomy l m → IsTrue (asked_step m (taken a) o).may → Roomy l (asked_step m (taken a) o).after
+    → Roomy l m → IsTrue (asked_step m (built_ask a) o).may → Roomy l (asked_step m (built_ask a) o).after
 asked-room l m (ask.Leave v) o f fs e r h = end-room l m v None (may_ask m.env) f fs e r
 asked-room l m (ask.Do c) o f fs e r h = by (is_built c) refl h
   where
@@ -234,8 +234,8 @@ asked-room l m (ask.Do c) o f fs e r h = by (is_built c) refl h
     by false left h = end-room l m None None (may_ask m.env) f fs e r
 
 frame-room : (l : Limits) (m : Machine) (a : Ask) (o : Out) (w : Option Why) (f : Frame) (fs : List Frame) → m.env.frames ≡ f ∷ fs
-    → Roomy l m → IsTrue (frame_step m (taken a) o w).may → Roomy l (frame_step m (taken a) o w).after
-frame-room l m a o (Some w) f fs e r h = end-room l m None (Some w) (frame_step m (taken a) o (Some w)).may f fs e r
+    → Roomy l m → IsTrue (frame_step m (built_ask a) o w).may → Roomy l (frame_step m (built_ask a) o w).after
+frame-room l m a o (Some w) f fs e r h = end-room l m None (Some w) (frame_step m (built_ask a) o (Some w)).may f fs e r
 frame-room l m a o None f fs e r h = asked-room l m a o f fs e r h
 
 env-room : (l : Limits) (m : Machine) (a : Ask) (o : Out) (fs : List Frame) → m.env.frames ≡ fs
@@ -259,7 +259,7 @@ run-room l m (a ∷ bs) [] r n = r
 -- THE ENTRIES ARE COUNTED
 -- how many entries both lists have
 abbrev pub entries : Machine → ℕ
-entries m = m.locals + m.shareds
+entries m = m.journal_length + m.history_length
 
 one-local : (j k : ℕ) → j + 1 + k ≡ suc (j + k)
 one-local j k = omega arith
@@ -270,32 +270,32 @@ one-shared j k = omega arith
 moved-counted : (m : Machine) (event : HostStep) (p : Phase) (o : Out) (h : Option Hub)
     → IsTrue (hub_moved m event p o h).may → entries (hub_moved m event p o h).after ≡ suc (entries m)
 moved-counted m event p o None t = cc
-moved-counted m event p o (Some h) t = one-shared m.locals m.shareds
+moved-counted m event p o (Some h) t = one-shared m.journal_length m.history_length
 
 event-counted : (m : Machine) (v : Event) → IsTrue (event_step m v).may → entries (event_step m v).after ≡ suc (entries m)
-event-counted m Opens t = one-local m.locals m.shareds
-event-counted m (Inits n) t = one-local m.locals m.shareds
+event-counted m Opens t = one-local m.journal_length m.history_length
+event-counted m (Inits n) t = one-local m.journal_length m.history_length
 event-counted m Goes t = moved-counted m host.Go phase.Live _ (hub_next m.hub host.Go) t
 event-counted m (EndsLoop w) t = moved-counted m host.LoopEnd phase.Hooks _ (hub_next m.hub host.LoopEnd) t
 event-counted m Drains t = moved-counted m host.Drain phase.Drain _ (hub_next m.hub host.Drain) t
 event-counted m FinalsCome t = moved-counted m host.Finals phase.Finals _ (hub_next m.hub host.Finals) t
-event-counted m IsGone t = one-local m.locals m.shareds
+event-counted m IsGone t = one-local m.journal_length m.history_length
 
 chosen-counted : (m : Machine) (v : Option Event) → IsTrue (chosen m v).may → entries (chosen m v).after ≡ suc (entries m)
 chosen-counted m None t = cc
 chosen-counted m (Some v) t = event-counted m v t
 
 asked-counted : (m : Machine) (a : Ask) (o : Out) → entries (asked_step m a o).after ≡ suc (entries m)
-asked-counted m (ask.Do c) o = one-local m.locals m.shareds
-asked-counted m (ask.Leave v) o = one-local m.locals m.shareds
+asked-counted m (ask.Do c) o = one-local m.journal_length m.history_length
+asked-counted m (ask.Leave v) o = one-local m.journal_length m.history_length
 
 frame-counted : (m : Machine) (a : Ask) (o : Out) (w : Option Why) → entries (frame_step m a o w).after ≡ suc (entries m)
-frame-counted m a o (Some w) = one-local m.locals m.shareds
+frame-counted m a o (Some w) = one-local m.journal_length m.history_length
 frame-counted m a o None = asked-counted m a o
 
 env-counted : (m : Machine) (a : Ask) (o : Out) (fs : List Frame) → IsTrue (env_step m a o fs).may → entries (env_step m a o fs).after ≡ suc (entries m)
 env-counted m a o [] t = chosen-counted m (choice m) t
-env-counted m a o (f ∷ fs) t = frame-counted m (taken a) o (cut_of o)
+env-counted m a o (f ∷ fs) t = frame-counted m (built_ask a) o (cut_of o)
 
 step-counted : (m : Machine) (a : Ask) (x : Entry) (who : Actor) → IsTrue (step_of m a x who).may → entries (step_of m a x who).after ≡ suc (entries m)
 step-counted m a x actor.Env t = env-counted m a x.reply.out m.env.frames t

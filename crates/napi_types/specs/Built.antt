@@ -93,6 +93,6 @@ abbrev pub is_built : Call → Bool
 is_built c = is_scope_or_version c || is_exception_call c || is_reference_call c || is_collecting c || is_calling c || is_value_call c
 
 -- what a frame is taken to ask: a call that is not built is never made, and the addon that asks it is taken to leave
-abbrev pub taken : Ask → Ask
-taken (ask.Do c) = cond (is_built c) (ask.Do c) (ask.Leave None)
-taken (ask.Leave v) = ask.Leave v
+abbrev pub built_ask : Ask → Ask
+built_ask (ask.Do c) = cond (is_built c) (ask.Do c) (ask.Leave None)
+built_ask (ask.Leave v) = ask.Leave v

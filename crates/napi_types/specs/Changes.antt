@@ -18,7 +18,7 @@ use Rattle.napi_types.specs.declared.entry.Phase.TheVariants as phase
 use Rattle.napi_types.specs.Lists.{has_number}
 use Rattle.napi_types.specs.Numbers.{napi_version}
 use Rattle.napi_types.specs.Frames.{frame_of, begin_told, ask_counted, is_asking, asks_made, most_asks}
-use Rattle.napi_types.specs.Heap.{frame_entered}
+use Rattle.napi_types.specs.Heap.{with_frame}
 use Rattle.napi_types.specs.Environment.{Environment}
 use Rattle.napi_types.specs.Replies.{plain}
 use Rattle.napi_types.specs.Calls.{answer}
@@ -37,14 +37,14 @@ abbrev pub host_entry : HostStep → Out → Entry
 host_entry h o = host_told h status.Ok o
 
 -- `opened` tells the version
-abbrev pub opened : Environment → Change
-opened e = record { entry = host_entry host.Opened (out.Unsigned napi_version); after = record e { opened = true } }
+abbrev pub opening_change : Environment → Change
+opening_change e = record { entry = host_entry host.Opened (out.Unsigned napi_version); after = record e { opened = true } }
 
 -- the init frame of an addon begins at the addon's entry 0, with a scope of its own
-abbrev pub init_begun : ℕ → Environment → Change
-init_begun n e = record {
+abbrev pub init_change : ℕ → Environment → Change
+init_change n e = record {
   entry = host_entry host.Begin (begin_told (frame_of cause.Init n 0));
-  after = record e { inits = e.inits + 1; heap = frame_entered e.heap; frames = frame_of cause.Init n 0 ∷ e.frames };
+  after = record e { inits = e.inits + 1; heap = with_frame e.heap; frames = frame_of cause.Init n 0 ∷ e.frames };
 }
 
 -- the last status after a call: the call's own, but that `get_last_error_info` leaves the one that it tells
@@ -53,8 +53,8 @@ last_after call.GetLastErrorInfo s last = last
 last_after _ s last = s
 
 -- a call's status is noted as the last one, and its frame made one ask more
-abbrev pub noted : Call → Status → Environment → Environment
-noted c s e = record e { last = last_after c s e.last; frames = ask_counted e.frames }
+abbrev pub with_noted_status : Call → Status → Environment → Environment
+with_noted_status c s e = record e { last = last_after c s e.last; frames = ask_counted e.frames }
 
 -- a call's entry tells how many frames stand and the number of the ask in its frame
 abbrev pub call_entry : Environment → Call → Reply → Entry
@@ -67,10 +67,10 @@ number_of (out.Ref r) = r.0
 number_of _ = 0
 
 -- a number that the environment chooses is above 0 and was never issued
-abbrev pub is_fresh : Environment → Out → Bool
-is_fresh e (out.Scope s) = not (has_number s.0 (0 ∷ e.heap.scope_numbers))
-is_fresh e (out.Ref r) = not (has_number r.0 (0 ∷ e.references.issued))
-is_fresh e _ = true
+abbrev pub is_fresh_result : Environment → Out → Bool
+is_fresh_result e (out.Scope s) = not (has_number s.0 (0 ∷ e.heap.scope_numbers))
+is_fresh_result e (out.Ref r) = not (has_number r.0 (0 ∷ e.references.issued))
+is_fresh_result e _ = true
 
 -- whether the innermost frame may make a further ask
 abbrev pub may_ask : Environment → Bool
@@ -81,12 +81,12 @@ abbrev pub may_call : Environment → Bool
 may_call e = may_ask e && is_asking e.frames
 
 -- a call that answers at once, with the number that its result newly gives
-abbrev pub called : Environment → Call → ℕ → Change
-called e c n = record { entry = call_entry e c (answer e c n).reply; after = noted c (answer e c n).reply.status (answer e c n).after }
+abbrev pub call_change : Environment → Call → ℕ → Change
+call_change e c n = record { entry = call_entry e c (answer e c n).reply; after = with_noted_status c (answer e c n).reply.status (answer e c n).after }
 
 -- the environment is gone
-abbrev pub gone : Environment → Change
-gone e = record { entry = host_entry host.Gone out.Nothing; after = record e { phase = phase.Gone } }
+abbrev pub gone_change : Environment → Change
+gone_change e = record { entry = host_entry host.Gone out.Nothing; after = record e { phase = phase.Gone } }
 
 -- the environment after the hub's event that starts the phase
 abbrev pub in_phase : Phase → Environment → Environment

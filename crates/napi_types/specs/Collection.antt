@@ -6,7 +6,7 @@ use Rattle.napi_types.specs.declared.entry.Out.TheVariants as out
 use Rattle.napi_types.specs.Environment.{Environment}
 use Rattle.napi_types.specs.Lists.{has_number}
 use Rattle.napi_types.specs.References.{emptied}
-use Rattle.napi_types.specs.Replies.{Answer, answered}
+use Rattle.napi_types.specs.Replies.{Answer, accepts}
 use Rattle.napi_types.specs.Roots.{reach}
 use Rattle.napi_types.specs.Values.{Value}
 
@@ -26,5 +26,5 @@ collected alive e = record e {
 
 -- `collect` keeps what the roots reach, and tells how many values it freed
 abbrev pub on_collection : Environment → Call → Option (Answer Environment)
-on_collection e call.Collect = Some (answered (out.Unsigned (length (all_but (reach e) e.heap.values))) (collected (reach e) e))
+on_collection e call.Collect = Some (accepts (out.Unsigned (length (all_but (reach e) e.heap.values))) (collected (reach e) e))
 on_collection e _ = None

@@ -13,28 +13,28 @@ use Rattle.napi_types.specs.Changes.{Change, host_told, host_entry}
 use Rattle.napi_types.specs.Environment.{Environment}
 use Rattle.napi_types.specs.Frames.{cause_of}
 use Rattle.napi_types.specs.FunctionCalls.{left_value}
-use Rattle.napi_types.specs.Heap.{Heap, with_handle, frame_left}
+use Rattle.napi_types.specs.Heap.{Heap, with_handle, without_frame}
 use Rattle.napi_types.specs.Lists.{tail}
 
 -- the innermost frame is gone, with all its scopes
-abbrev pub frame_gone : Environment → Environment
-frame_gone e = record e { heap = frame_left e.heap; frames = tail e.frames }
+abbrev pub without_innermost_frame : Environment → Environment
+without_innermost_frame e = record e { heap = without_frame e.heap; frames = tail e.frames }
 
 -- THE FRAME OF A CALL
 -- its end has the call's status, which is then the last one
-abbrev pub call_ended : Status → Out → Heap → Environment → Change
-call_ended s o heap e = record { entry = host_told host.End s o; after = record (frame_gone e) { heap = heap; last = s } }
+abbrev pub call_end_with : Status → Out → Heap → Environment → Change
+call_end_with s o heap e = record { entry = host_told host.End s o; after = record (without_innermost_frame e) { heap = heap; last = s } }
 
 -- the call of a frame that was not cut: while an exception is pending it gives nothing, and the exception stays; else the caller's innermost scope holds
 -- a new handle of the value that the frame left, which is read before the frame's scopes close
-abbrev pub call_left : Option HandleId → Environment → Option ℕ → Change
-call_left v e (Some pending) = call_ended status.PendingException out.Nothing (frame_left e.heap) e
-call_left v e None = call_ended status.Ok (out.Handle (record { 0 = e.heap.handles + 1 })) (with_handle (left_value e.heap v) (frame_left e.heap)) e
+abbrev pub uncut_call_end : Option HandleId → Environment → Option ℕ → Change
+uncut_call_end v e (Some pending) = call_end_with status.PendingException out.Nothing (without_frame e.heap) e
+uncut_call_end v e None = call_end_with status.Ok (out.Handle (record { 0 = e.heap.handles + 1 })) (with_handle (left_value e.heap v) (without_frame e.heap)) e
 
 -- the call of a frame that was cut has failed
-abbrev pub call_over : Option HandleId → Option Why → Environment → Change
-call_over v (Some w) e = call_ended status.GenericFailure (out.Cut w) (frame_left e.heap) e
-call_over v None e = call_left v e e.pending
+abbrev pub call_end_change : Option HandleId → Option Why → Environment → Change
+call_end_change v (Some w) e = call_end_with status.GenericFailure (out.Cut w) (without_frame e.heap) e
+call_end_change v None e = uncut_call_end v e e.pending
 
 -- AN OUTERMOST FRAME
 -- its end tells the cut, where it was cut, or else that an exception was pending
@@ -44,14 +44,14 @@ end_out None (Some v) = out.Uncaught
 end_out None None = out.Nothing
 
 -- a pending exception is cleared
-abbrev pub outermost_over : Option Why → Environment → Change
-outermost_over cut e = record { entry = host_entry host.End (end_out cut e.pending); after = record (frame_gone e) { pending = None } }
+abbrev pub outermost_end_change : Option Why → Environment → Change
+outermost_end_change cut e = record { entry = host_entry host.End (end_out cut e.pending); after = record (without_innermost_frame e) { pending = None } }
 
 -- a frame that began for this reason ends
-abbrev pub ended_by : Option HandleId → Option Why → Environment → Cause → Change
-ended_by v cut e cause.Call = call_over v cut e
-ended_by v cut e _ = outermost_over cut e
+abbrev pub end_change_by : Option HandleId → Option Why → Environment → Cause → Change
+end_change_by v cut e cause.Call = call_end_change v cut e
+end_change_by v cut e _ = outermost_end_change cut e
 
 -- the innermost frame ends, cut or not, and leaves the value of a handle where it names one
-abbrev pub frame_ended : Option HandleId → Option Why → Environment → Change
-frame_ended v cut e = ended_by v cut e (cause_of e.frames)
+abbrev pub end_change : Option HandleId → Option Why → Environment → Change
+end_change v cut e = end_change_by v cut e (cause_of e.frames)

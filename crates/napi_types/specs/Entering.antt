@@ -8,11 +8,11 @@ use Rattle.napi_types.specs.declared.ids.HandleId.{HandleId}
 use Rattle.napi_types.specs.declared.status.Status.{Status}
 use Rattle.napi_types.specs.declared.status.Status.TheVariants as status
 use Rattle.napi_types.specs.Built.{is_calling}
-use Rattle.napi_types.specs.Changes.{Change, host_entry, noted, called}
+use Rattle.napi_types.specs.Changes.{Change, host_entry, with_noted_status, call_change}
 use Rattle.napi_types.specs.Environment.{Environment}
 use Rattle.napi_types.specs.Frames.{Frame, begin_told}
 use Rattle.napi_types.specs.FunctionCalls.{callee_of, with_receiver}
-use Rattle.napi_types.specs.Heap.{frame_entered}
+use Rattle.napi_types.specs.Heap.{with_frame}
 use Rattle.napi_types.specs.Refusals.{refusal}
 
 -- a call of a function that nothing refuses
@@ -20,22 +20,22 @@ abbrev pub is_entering : Environment → Call → Bool
 is_entering e c = is_calling c && is_none (refusal e c)
 
 -- a frame begins inside the innermost one, with a scope of its own; the entry tells why, the addon and the entry that it runs, and the duty that began it
-abbrev pub call_begun : Frame → Option HandleId → Environment → Change
-call_begun f receiver e = record {
+abbrev pub begin_change : Frame → Option HandleId → Environment → Change
+begin_change f receiver e = record {
   entry = host_entry host.Begin (begin_told f);
-  after = record e { heap = with_receiver receiver (frame_entered e.heap); frames = f ∷ e.frames };
+  after = record e { heap = with_receiver receiver (with_frame e.heap); frames = f ∷ e.frames };
 }
 
 -- an accepted call of a function: it counts as an ask of the caller's, sets the last status to 0, and its frame begins
-abbrev pub entered : Option HandleId → HandleId → Args → Environment → Change
-entered receiver f args e = call_begun (callee_of e.heap f) receiver (noted (call.CallFunction receiver f args) status.Ok e)
+abbrev pub enter_change : Option HandleId → HandleId → Args → Environment → Change
+enter_change receiver f args e = begin_change (callee_of e.heap f) receiver (with_noted_status (call.CallFunction receiver f args) status.Ok e)
 
 -- a call of a function, given the first refusal that applies, if one does
-abbrev pub calling : Option HandleId → HandleId → Args → ℕ → Environment → Option Status → Change
-calling receiver f args n e None = entered receiver f args e
-calling receiver f args n e (Some s) = called e (call.CallFunction receiver f args) n
+abbrev pub function_change : Option HandleId → HandleId → Args → ℕ → Environment → Option Status → Change
+function_change receiver f args n e None = enter_change receiver f args e
+function_change receiver f args n e (Some s) = call_change e (call.CallFunction receiver f args) n
 
 -- what a call comes to, where n is the number that it newly gives: an accepted call of a function enters a frame, every other call answers at once
-abbrev pub asked_for : Environment → Call → ℕ → Change
-asked_for e (call.CallFunction receiver f args) n = calling receiver f args n e (refusal e (call.CallFunction receiver f args))
-asked_for e c n = called e c n
+abbrev pub asked_change : Environment → Call → ℕ → Change
+asked_change e (call.CallFunction receiver f args) n = function_change receiver f args n e (refusal e (call.CallFunction receiver f args))
+asked_change e c n = call_change e c n

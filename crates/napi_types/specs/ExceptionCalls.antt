@@ -8,7 +8,7 @@ use Rattle.napi_types.specs.declared.ids.TextNo.{TextNo}
 use Rattle.napi_types.specs.Environment.{Environment, with_heap, in_heap}
 use Rattle.napi_types.specs.Heap.{handle_value, handle_of, with_thrown, thrown_number}
 use Rattle.napi_types.specs.Numbers.{status_number}
-use Rattle.napi_types.specs.Replies.{Answer, answered}
+use Rattle.napi_types.specs.Replies.{Answer, accepts}
 use Rattle.napi_types.specs.Values.{undefined_value}
 
 -- the value of this creation number is the pending exception; or none is
@@ -22,9 +22,9 @@ with_thrown_error code message e = with_pending (Some (thrown_number code messag
 -- `throw` makes the value of a handle the pending exception, and `throw_error` a new error of new strings; `get_and_clear_last_exception` gives the pending
 -- one, or undefined where none is pending, and none is pending then; the others tell whether one is, and the last status
 abbrev pub on_exceptions : Environment → Call → Option (Answer Environment)
-on_exceptions e (call.Throw h) = Some (answered out.Nothing (with_pending (Some (handle_value e.heap h.0)) e))
-on_exceptions e (call.ThrowError code message) = Some (answered out.Nothing (with_thrown_error code message e))
-on_exceptions e call.IsExceptionPending = Some (answered (out.Flag (is_some e.pending)) e)
+on_exceptions e (call.Throw h) = Some (accepts out.Nothing (with_pending (Some (handle_value e.heap h.0)) e))
+on_exceptions e (call.ThrowError code message) = Some (accepts out.Nothing (with_thrown_error code message e))
+on_exceptions e call.IsExceptionPending = Some (accepts (out.Flag (is_some e.pending)) e)
 on_exceptions e call.GetAndClearLastException = Some (in_heap (with_pending None e) (handle_of (unwrap_or e.pending undefined_value) e.heap))
-on_exceptions e call.GetLastErrorInfo = Some (answered (out.Unsigned (status_number e.last)) e)
+on_exceptions e call.GetLastErrorInfo = Some (accepts (out.Unsigned (status_number e.last)) e)
 on_exceptions e _ = None

@@ -61,5 +61,5 @@ pub record IsSoundMap (values : ℕ → Option Value) (issued : List ℕ) (made 
   pub closed : (id : ℕ) (v : Value) → values id ≡ Some v → All (λ m. IsSome (values m)) (children v)
 
 -- the same of a state
-abbrev pub IsSound : StoreState → Type 0
-IsSound s = IsSoundMap (value_of s) s.issued s.made
+abbrev pub IsSoundStore : StoreState → Type 0
+IsSoundStore s = IsSoundMap (value_of s) s.issued s.made

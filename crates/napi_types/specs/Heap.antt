@@ -5,7 +5,7 @@ use Rattle.napi_types.specs.declared.body.Body.{Body}
 use Rattle.napi_types.specs.declared.entry.Out.TheVariants as out
 use Rattle.napi_types.specs.declared.ids.TextNo.{TextNo}
 use Rattle.napi_types.specs.Lists.{first_changed, tail}
-use Rattle.napi_types.specs.Replies.{Answer, answered}
+use Rattle.napi_types.specs.Replies.{Answer, accepts}
 use Rattle.napi_types.specs.Scopes.{FrameScopes, no_handles, gives, hold_in}
 use Rattle.napi_types.specs.Values.{Value, Property, body_of, properties_of, elements_of, fresh_value, starting_values, undefined_value, value_changed, list_of, error_of, thrown_of, thrown_strings}
 
@@ -44,7 +44,7 @@ with_handle v heap = record heap { handles = heap.handles + 1; scopes = first_ch
 
 -- the answer is a new handle of a value
 abbrev pub handle_of : ℕ → Heap → Answer Heap
-handle_of v heap = answered (out.Handle (record { 0 = heap.handles + 1 })) (with_handle v heap)
+handle_of v heap = accepts (out.Handle (record { 0 = heap.handles + 1 })) (with_handle v heap)
 
 -- a value with the next creation number
 abbrev pub with_value : Body → Heap → Heap
@@ -87,9 +87,9 @@ abbrev pub in_scopes : (FrameScopes → FrameScopes) → Heap → Heap
 in_scopes change heap = record heap { scopes = first_changed change heap.scopes }
 
 -- a frame begins inside the innermost one, with a scope of its own
-abbrev pub frame_entered : Heap → Heap
-frame_entered heap = record heap { scopes = no_handles ∷ heap.scopes }
+abbrev pub with_frame : Heap → Heap
+with_frame heap = record heap { scopes = no_handles ∷ heap.scopes }
 
 -- the innermost frame is gone, with all its scopes
-abbrev pub frame_left : Heap → Heap
-frame_left heap = record heap { scopes = tail heap.scopes }
+abbrev pub without_frame : Heap → Heap
+without_frame heap = record heap { scopes = tail heap.scopes }

@@ -11,9 +11,9 @@ use Rattle.napi_types.specs.Run.{IsRunBy}
 
 -- the machine counts the entries of the run; entries and reserved places of each list are within its limit, and at the end of the run no place is left reserved
 pub record HasRoom (s : Setting) (xs : List Entry) (m : Machine) : Type 0 where
-  pub counted : m.locals + m.shareds ≡ length xs
-  pub journal : m.locals + reserved_journal m.env ≤ s.limits.journal
-  pub history : m.shareds + reserved_history m.hub ≤ s.limits.history
+  pub counted : m.journal_length + m.history_length ≡ length xs
+  pub journal : m.journal_length + reserved_journal m.env ≤ s.limits.journal
+  pub history : m.history_length + reserved_history m.hub ≤ s.limits.history
   pub none_left : m.env.phase ≡ phase.Gone → (reserved_journal m.env ≡ 0) × (reserved_history m.hub ≡ 0)
 
 -- where the limits have room for the events that every run has, the room suffices at the end of every run, and so at every moment

@@ -8,10 +8,10 @@ use Rattle.napi_types.specs.Hub.{Hub, new_hub}
 pub record Machine : Type 0 where
   pub env : Environment
   pub hub : Hub
-  pub locals : ℕ
-  pub shareds : ℕ
+  pub journal_length : ℕ
+  pub history_length : ℕ
   pub limits : Limits
 
 -- the opening state of a script with so many addons and texts
 abbrev pub opening : ℕ → ℕ → Limits → Machine
-opening addons texts limits = record { env = new_environment addons texts; hub = new_hub; locals = 0; shareds = 0; limits = limits }
+opening addons texts limits = record { env = new_environment addons texts; hub = new_hub; journal_length = 0; history_length = 0; limits = limits }

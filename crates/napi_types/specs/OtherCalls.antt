@@ -5,9 +5,9 @@ use Rattle.napi_types.specs.declared.call.Call.TheVariants as call
 use Rattle.napi_types.specs.declared.entry.Out.TheVariants as out
 use Rattle.napi_types.specs.Heap.{Heap}
 use Rattle.napi_types.specs.Numbers.{napi_version}
-use Rattle.napi_types.specs.Replies.{Answer, answered}
+use Rattle.napi_types.specs.Replies.{Answer, accepts}
 
 -- `get_version` tells the version of Node-API
-abbrev pub on_others : Heap → Call → Option (Answer Heap)
-on_others heap call.GetVersion = Some (answered (out.Unsigned napi_version) heap)
-on_others heap _ = None
+abbrev pub on_version : Heap → Call → Option (Answer Heap)
+on_version heap call.GetVersion = Some (accepts (out.Unsigned napi_version) heap)
+on_version heap _ = None

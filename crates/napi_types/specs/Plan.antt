@@ -19,7 +19,7 @@ use Rattle.napi_types.specs.Heap.{Heap}
 use Rattle.napi_types.specs.Lists.{tail}
 use Rattle.napi_types.specs.Machine.{Machine}
 use Rattle.napi_types.specs.Run.{after}
-use Rattle.napi_types.specs.Registers.{plan_ask, kept, gifted, blank_registers}
+use Rattle.napi_types.specs.Registers.{plan_ask, registers_after_reply, with_gifts, blank_registers}
 
 -- what an addon tells of its plan: for each entry its operations; none where it tells nothing
 abbrev pub Plan : Type 0
@@ -59,43 +59,43 @@ asked ps rss m a _ = ask.Leave None
 
 -- WHAT THE REGISTERS KEEP
 -- the registers of a frame's addon after a reply; where no plan is told they stay as they are, and nothing is said of them
-abbrev pub kept_by : Plan → List ℕ → Frame → Reply → List ℕ
-kept_by None rs f r = rs
-kept_by (Some p) rs f r = kept p rs f.entry f.asks r
+abbrev pub addon_after_reply : Plan → List ℕ → Frame → Reply → List ℕ
+addon_after_reply None rs f r = rs
+addon_after_reply (Some p) rs f r = registers_after_reply p rs f.entry f.asks r
 
 -- the result of a call of the innermost frame in its register
-abbrev pub kept_in_frames : List Plan → Registers → List Frame → Reply → Registers
-kept_in_frames ps rss [] r = rss
-kept_in_frames ps rss (f ∷ fs) r = set rss f.addon (kept_by (plan_of ps f.addon) (registers_of rss f.addon) f r)
+abbrev pub caller_after_reply : List Plan → Registers → List Frame → Reply → Registers
+caller_after_reply ps rss [] r = rss
+caller_after_reply ps rss (f ∷ fs) r = set rss f.addon (addon_after_reply (plan_of ps f.addon) (registers_of rss f.addon) f r)
 
 -- the gifts of a frame go to registers 24 to 31 of its addon
-abbrev pub gifts_given : Registers → ℕ → List ℕ → Registers
-gifts_given rss addon gifts = set rss addon (gifted gifts (registers_of rss addon))
+abbrev pub with_addon_gifts : Registers → ℕ → List ℕ → Registers
+with_addon_gifts rss addon gifts = set rss addon (with_gifts gifts (registers_of rss addon))
 
 -- the gifts of the frame that a call of a function enters; an init frame is given nothing, and its registers stay
-abbrev pub given_by : Registers → Heap → Ask → Registers
-given_by rss heap (ask.Do (call.CallFunction receiver f args)) = gifts_given rss (callee_of heap f).addon (call_gifts heap receiver f args)
-given_by rss heap _ = rss
+abbrev pub with_callee_gifts : Registers → Heap → Ask → Registers
+with_callee_gifts rss heap (ask.Do (call.CallFunction receiver f args)) = with_addon_gifts rss (callee_of heap f).addon (call_gifts heap receiver f args)
+with_callee_gifts rss heap _ = rss
 
 -- a call's result goes to its register, that of a call of a function at the end of its frame: it is then the last ask that the caller made
-abbrev pub kept_by_host : List Plan → Registers → Environment → Ask → Reply → HostStep → Registers
-kept_by_host ps rss e a r host.Begin = given_by rss e.heap a
-kept_by_host ps rss e a r host.End = kept_in_frames ps rss (at_last_ask (tail e.frames)) r
-kept_by_host ps rss e a r _ = rss
+abbrev pub after_host_event : List Plan → Registers → Environment → Ask → Reply → HostStep → Registers
+after_host_event ps rss e a r host.Begin = with_callee_gifts rss e.heap a
+after_host_event ps rss e a r host.End = caller_after_reply ps rss (at_last_ask (tail e.frames)) r
+after_host_event ps rss e a r _ = rss
 
 -- what happened is a call, or an event of the host
-abbrev pub kept_at : List Plan → Registers → Environment → Ask → Reply → What → Registers
-kept_at ps rss e a r (what.Call c) = kept_in_frames ps rss e.frames r
-kept_at ps rss e a r (what.Host h) = kept_by_host ps rss e a r h
+abbrev pub after_event : List Plan → Registers → Environment → Ask → Reply → What → Registers
+after_event ps rss e a r (what.Call c) = caller_after_reply ps rss e.frames r
+after_event ps rss e a r (what.Host h) = after_host_event ps rss e a r h
 
 -- an entry of the environment changes them so; one of a thread or a worker changes none, whatever it tells
-abbrev pub kept_by_actor : List Plan → Registers → Environment → Ask → Entry → Actor → Registers
-kept_by_actor ps rss e a x actor.Env = kept_at ps rss e a x.reply x.what
-kept_by_actor ps rss e a x _ = rss
+abbrev pub after_entry : List Plan → Registers → Environment → Ask → Entry → Actor → Registers
+after_entry ps rss e a x actor.Env = after_event ps rss e a x.reply x.what
+after_entry ps rss e a x _ = rss
 
 -- the registers after an entry, at this ask
 abbrev pub registers_after : List Plan → Registers → Machine → Ask → Entry → Registers
-registers_after ps rss m a x = kept_by_actor ps rss m.env a x x.actor
+registers_after ps rss m a x = after_entry ps rss m.env a x x.actor
 
 -- the registers after entries
 abbrev pub registers_along : List Plan → Registers → Machine → List Ask → List Entry → Registers

@@ -31,12 +31,12 @@ abbrev pub has_reference : ReferenceMap → ℕ → Bool
 has_reference m n = has (λ r. r.number) n m.rows
 
 -- the value of a reference, none where it was collected; a number that no reference has, which each call refuses, reads so too
-abbrev pub value_of : ReferenceMap → ℕ → Option ℕ
-value_of m n = unwrap_or (option_map (λ r. r.value) (reference_at m n)) None
+abbrev pub referred_value : ReferenceMap → ℕ → Option ℕ
+referred_value m n = unwrap_or (option_map (λ r. r.value) (reference_at m n)) None
 
 -- its count, likewise 0
-abbrev pub count_of : ReferenceMap → ℕ → ℕ
-count_of m n = unwrap_or (option_map (λ r. r.count) (reference_at m n)) 0
+abbrev pub reference_count : ReferenceMap → ℕ → ℕ
+reference_count m n = unwrap_or (option_map (λ r. r.count) (reference_at m n)) 0
 
 -- one reference more, of this number, to a value
 abbrev pub with_reference : ℕ → ℕ → ℕ → ReferenceMap → ReferenceMap

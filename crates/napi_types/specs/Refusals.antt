@@ -17,7 +17,7 @@ use Rattle.napi_types.specs.Frames.{Frame, most_frames}
 use Rattle.napi_types.specs.Guards.{is_guarded, is_registering}
 use Rattle.napi_types.specs.Heap.{Heap, handle_body, handle_properties}
 use Rattle.napi_types.specs.Lists.{when, unless}
-use Rattle.napi_types.specs.References.{ReferenceMap, has_reference, value_of, count_of, most_count}
+use Rattle.napi_types.specs.References.{ReferenceMap, has_reference, referred_value, reference_count, most_count}
 use Rattle.napi_types.specs.Scopes.{gives, opened_scopes, closing, escaping}
 use Rattle.napi_types.specs.Values.{is_object_like, is_string, is_number, is_bigint, is_boolean, is_array, is_function, is_external, is_referable, is_taggable}
 use Rattle.napi_types.specs.Values.{most_names, most_index}
@@ -126,8 +126,8 @@ unknown_reference m c = unless (list_all (has_reference m) (references_of c)) st
 
 -- a reference is not counted above the greatest count, where its value was not collected, nor below 0
 abbrev pub count_refusal : ReferenceMap → Call → Option Status
-count_refusal m (call.ReferenceRef r) = when (is_some (value_of m r.0) && (count_of m r.0 == most_count)) status.GenericFailure
-count_refusal m (call.ReferenceUnref r) = when (count_of m r.0 == 0) status.GenericFailure
+count_refusal m (call.ReferenceRef r) = when (is_some (referred_value m r.0) && (reference_count m r.0 == most_count)) status.GenericFailure
+count_refusal m (call.ReferenceUnref r) = when (reference_count m r.0 == 0) status.GenericFailure
 count_refusal m _ = None
 
 -- the first of both that applies

@@ -36,82 +36,82 @@ arguments_in rs list = record {
 }
 
 -- an operation filled from registers
-abbrev pub filled : Op → List ℕ → Ask
-filled (op.GetUndefined w) rs = ask.Do call.GetUndefined
-filled (op.GetNull w) rs = ask.Do call.GetNull
-filled (op.GetGlobal w) rs = ask.Do call.GetGlobal
-filled (op.GetBoolean flag w) rs = ask.Do (call.GetBoolean flag)
-filled (op.CreateInt64 number w) rs = ask.Do (call.CreateInt64 number)
-filled (op.CreateBigintInt64 number w) rs = ask.Do (call.CreateBigintInt64 number)
-filled (op.CreateStringUtf8 text w) rs = ask.Do (call.CreateStringUtf8 text)
-filled (op.CreateSymbol description w) rs = ask.Do (call.CreateSymbol (option_map (handle_in rs) description))
-filled (op.CreateObject w) rs = ask.Do call.CreateObject
-filled (op.CreateArray w) rs = ask.Do call.CreateArray
-filled (op.CreateFunction entry payload w) rs = ask.Do (call.CreateFunction entry payload)
-filled (op.CreateExternal payload entry hint w) rs = ask.Do (call.CreateExternal payload entry hint)
-filled (op.CreateError code message w) rs = ask.Do (call.CreateError (option_map (handle_in rs) code) (handle_in rs message))
-filled (op.Typeof value w) rs = ask.Do (call.Typeof (handle_in rs value))
-filled (op.IsArray value w) rs = ask.Do (call.IsArray (handle_in rs value))
-filled (op.IsError value w) rs = ask.Do (call.IsError (handle_in rs value))
-filled (op.GetValueInt64 value w) rs = ask.Do (call.GetValueInt64 (handle_in rs value))
-filled (op.GetValueBigintInt64 value w) rs = ask.Do (call.GetValueBigintInt64 (handle_in rs value))
-filled (op.GetValueBool value w) rs = ask.Do (call.GetValueBool (handle_in rs value))
-filled (op.GetValueStringUtf8 value w) rs = ask.Do (call.GetValueStringUtf8 (handle_in rs value))
-filled (op.GetValueExternal value w) rs = ask.Do (call.GetValueExternal (handle_in rs value))
-filled (op.GetArrayLength value w) rs = ask.Do (call.GetArrayLength (handle_in rs value))
-filled (op.StrictEquals left right w) rs = ask.Do (call.StrictEquals (handle_in rs left) (handle_in rs right))
-filled (op.SetNamedProperty object name value) rs = ask.Do (call.SetNamedProperty (handle_in rs object) name (handle_in rs value))
-filled (op.GetNamedProperty object name w) rs = ask.Do (call.GetNamedProperty (handle_in rs object) name)
-filled (op.HasNamedProperty object name w) rs = ask.Do (call.HasNamedProperty (handle_in rs object) name)
-filled (op.DeleteProperty object name w) rs = ask.Do (call.DeleteProperty (handle_in rs object) name)
-filled (op.GetPropertyNames object w) rs = ask.Do (call.GetPropertyNames (handle_in rs object))
-filled (op.SetElement object index value) rs = ask.Do (call.SetElement (handle_in rs object) index (handle_in rs value))
-filled (op.GetElement object index w) rs = ask.Do (call.GetElement (handle_in rs object) index)
-filled (op.HasElement object index w) rs = ask.Do (call.HasElement (handle_in rs object) index)
-filled (op.OpenHandleScope w) rs = ask.Do call.OpenHandleScope
-filled (op.OpenEscapableHandleScope w) rs = ask.Do call.OpenEscapableHandleScope
-filled (op.CloseHandleScope scope) rs = ask.Do (call.CloseHandleScope (record { 0 = register_at rs scope }))
-filled (op.CloseEscapableHandleScope scope) rs = ask.Do (call.CloseEscapableHandleScope (record { 0 = register_at rs scope }))
-filled (op.EscapeHandle scope value w) rs = ask.Do (call.EscapeHandle (record { 0 = register_at rs scope }) (handle_in rs value))
-filled (op.CreateReference value count w) rs = ask.Do (call.CreateReference (handle_in rs value) count)
-filled (op.DeleteReference reference) rs = ask.Do (call.DeleteReference (record { 0 = register_at rs reference }))
-filled (op.ReferenceRef reference w) rs = ask.Do (call.ReferenceRef (record { 0 = register_at rs reference }))
-filled (op.ReferenceUnref reference w) rs = ask.Do (call.ReferenceUnref (record { 0 = register_at rs reference }))
-filled (op.GetReferenceValue reference w) rs = ask.Do (call.GetReferenceValue (record { 0 = register_at rs reference }))
-filled (op.Wrap object payload entry hint w) rs = ask.Do (call.Wrap (handle_in rs object) payload entry hint (is_some w))
-filled (op.Unwrap object w) rs = ask.Do (call.Unwrap (handle_in rs object))
-filled (op.RemoveWrap object w) rs = ask.Do (call.RemoveWrap (handle_in rs object))
-filled (op.TypeTagObject object lower upper) rs = ask.Do (call.TypeTagObject (handle_in rs object) lower upper)
-filled (op.CheckObjectTypeTag object lower upper w) rs = ask.Do (call.CheckObjectTypeTag (handle_in rs object) lower upper)
-filled (op.AddFinalizer object payload entry hint w) rs = ask.Do (call.AddFinalizer (handle_in rs object) payload entry hint (is_some w))
-filled (op.CallFunction receiver function arguments w) rs = ask.Do (call.CallFunction (option_map (handle_in rs) receiver) (handle_in rs function) (arguments_in rs arguments))
-filled (op.Throw error) rs = ask.Do (call.Throw (handle_in rs error))
-filled (op.ThrowError code message) rs = ask.Do (call.ThrowError code message)
-filled (op.IsExceptionPending w) rs = ask.Do call.IsExceptionPending
-filled (op.GetAndClearLastException w) rs = ask.Do call.GetAndClearLastException
-filled (op.GetLastErrorInfo w) rs = ask.Do call.GetLastErrorInfo
-filled (op.SetInstanceData payload entry hint) rs = ask.Do (call.SetInstanceData payload entry hint)
-filled (op.GetInstanceData w) rs = ask.Do call.GetInstanceData
-filled (op.AddEnvCleanupHook entry argument) rs = ask.Do (call.AddEnvCleanupHook entry argument)
-filled (op.RemoveEnvCleanupHook entry argument) rs = ask.Do (call.RemoveEnvCleanupHook entry argument)
-filled (op.CreateAsyncWork job entry payload w) rs = ask.Do (call.CreateAsyncWork job entry payload)
-filled (op.DeleteAsyncWork work) rs = ask.Do (call.DeleteAsyncWork (record { 0 = register_at rs work }))
-filled (op.CancelAsyncWork work) rs = ask.Do (call.CancelAsyncWork (record { 0 = register_at rs work }))
-filled (op.QueueAsyncWork work) rs = ask.Do (call.QueueAsyncWork (record { 0 = register_at rs work }))
-filled (op.CreateThreadsafeFunction function entry maximum count finalizer context w) rs = ask.Do (call.CreateThreadsafeFunction (option_map (handle_in rs) function) entry maximum count finalizer context)
-filled (op.CallThreadsafeFunction function payload mode) rs = ask.Do (call.CallThreadsafeFunction (record { 0 = register_at rs function }) payload mode)
-filled (op.AcquireThreadsafeFunction function) rs = ask.Do (call.AcquireThreadsafeFunction (record { 0 = register_at rs function }))
-filled (op.ReleaseThreadsafeFunction function mode) rs = ask.Do (call.ReleaseThreadsafeFunction (record { 0 = register_at rs function }) mode)
-filled (op.RefThreadsafeFunction function) rs = ask.Do (call.RefThreadsafeFunction (record { 0 = register_at rs function }))
-filled (op.UnrefThreadsafeFunction function) rs = ask.Do (call.UnrefThreadsafeFunction (record { 0 = register_at rs function }))
-filled (op.GetThreadsafeFunctionContext function w) rs = ask.Do (call.GetThreadsafeFunctionContext (record { 0 = register_at rs function }))
-filled (op.GetVersion w) rs = ask.Do call.GetVersion
-filled (op.Collect w) rs = ask.Do call.Collect
-filled op.Exit rs = ask.Do call.Exit
-filled (op.Return r) rs = ask.Leave (option_map (handle_in rs) r)
-filled (op.ThreadCall f n m) rs = ask.Do (call.CallThreadsafeFunction (record { 0 = f }) n m)
-filled (op.ThreadAcquire f) rs = ask.Do (call.AcquireThreadsafeFunction (record { 0 = f }))
-filled (op.ThreadRelease f m) rs = ask.Do (call.ReleaseThreadsafeFunction (record { 0 = f }) m)
+abbrev pub operation_ask : Op → List ℕ → Ask
+operation_ask (op.GetUndefined w) rs = ask.Do call.GetUndefined
+operation_ask (op.GetNull w) rs = ask.Do call.GetNull
+operation_ask (op.GetGlobal w) rs = ask.Do call.GetGlobal
+operation_ask (op.GetBoolean flag w) rs = ask.Do (call.GetBoolean flag)
+operation_ask (op.CreateInt64 number w) rs = ask.Do (call.CreateInt64 number)
+operation_ask (op.CreateBigintInt64 number w) rs = ask.Do (call.CreateBigintInt64 number)
+operation_ask (op.CreateStringUtf8 text w) rs = ask.Do (call.CreateStringUtf8 text)
+operation_ask (op.CreateSymbol description w) rs = ask.Do (call.CreateSymbol (option_map (handle_in rs) description))
+operation_ask (op.CreateObject w) rs = ask.Do call.CreateObject
+operation_ask (op.CreateArray w) rs = ask.Do call.CreateArray
+operation_ask (op.CreateFunction entry payload w) rs = ask.Do (call.CreateFunction entry payload)
+operation_ask (op.CreateExternal payload entry hint w) rs = ask.Do (call.CreateExternal payload entry hint)
+operation_ask (op.CreateError code message w) rs = ask.Do (call.CreateError (option_map (handle_in rs) code) (handle_in rs message))
+operation_ask (op.Typeof value w) rs = ask.Do (call.Typeof (handle_in rs value))
+operation_ask (op.IsArray value w) rs = ask.Do (call.IsArray (handle_in rs value))
+operation_ask (op.IsError value w) rs = ask.Do (call.IsError (handle_in rs value))
+operation_ask (op.GetValueInt64 value w) rs = ask.Do (call.GetValueInt64 (handle_in rs value))
+operation_ask (op.GetValueBigintInt64 value w) rs = ask.Do (call.GetValueBigintInt64 (handle_in rs value))
+operation_ask (op.GetValueBool value w) rs = ask.Do (call.GetValueBool (handle_in rs value))
+operation_ask (op.GetValueStringUtf8 value w) rs = ask.Do (call.GetValueStringUtf8 (handle_in rs value))
+operation_ask (op.GetValueExternal value w) rs = ask.Do (call.GetValueExternal (handle_in rs value))
+operation_ask (op.GetArrayLength value w) rs = ask.Do (call.GetArrayLength (handle_in rs value))
+operation_ask (op.StrictEquals left right w) rs = ask.Do (call.StrictEquals (handle_in rs left) (handle_in rs right))
+operation_ask (op.SetNamedProperty object name value) rs = ask.Do (call.SetNamedProperty (handle_in rs object) name (handle_in rs value))
+operation_ask (op.GetNamedProperty object name w) rs = ask.Do (call.GetNamedProperty (handle_in rs object) name)
+operation_ask (op.HasNamedProperty object name w) rs = ask.Do (call.HasNamedProperty (handle_in rs object) name)
+operation_ask (op.DeleteProperty object name w) rs = ask.Do (call.DeleteProperty (handle_in rs object) name)
+operation_ask (op.GetPropertyNames object w) rs = ask.Do (call.GetPropertyNames (handle_in rs object))
+operation_ask (op.SetElement object index value) rs = ask.Do (call.SetElement (handle_in rs object) index (handle_in rs value))
+operation_ask (op.GetElement object index w) rs = ask.Do (call.GetElement (handle_in rs object) index)
+operation_ask (op.HasElement object index w) rs = ask.Do (call.HasElement (handle_in rs object) index)
+operation_ask (op.OpenHandleScope w) rs = ask.Do call.OpenHandleScope
+operation_ask (op.OpenEscapableHandleScope w) rs = ask.Do call.OpenEscapableHandleScope
+operation_ask (op.CloseHandleScope scope) rs = ask.Do (call.CloseHandleScope (record { 0 = register_at rs scope }))
+operation_ask (op.CloseEscapableHandleScope scope) rs = ask.Do (call.CloseEscapableHandleScope (record { 0 = register_at rs scope }))
+operation_ask (op.EscapeHandle scope value w) rs = ask.Do (call.EscapeHandle (record { 0 = register_at rs scope }) (handle_in rs value))
+operation_ask (op.CreateReference value count w) rs = ask.Do (call.CreateReference (handle_in rs value) count)
+operation_ask (op.DeleteReference reference) rs = ask.Do (call.DeleteReference (record { 0 = register_at rs reference }))
+operation_ask (op.ReferenceRef reference w) rs = ask.Do (call.ReferenceRef (record { 0 = register_at rs reference }))
+operation_ask (op.ReferenceUnref reference w) rs = ask.Do (call.ReferenceUnref (record { 0 = register_at rs reference }))
+operation_ask (op.GetReferenceValue reference w) rs = ask.Do (call.GetReferenceValue (record { 0 = register_at rs reference }))
+operation_ask (op.Wrap object payload entry hint w) rs = ask.Do (call.Wrap (handle_in rs object) payload entry hint (is_some w))
+operation_ask (op.Unwrap object w) rs = ask.Do (call.Unwrap (handle_in rs object))
+operation_ask (op.RemoveWrap object w) rs = ask.Do (call.RemoveWrap (handle_in rs object))
+operation_ask (op.TypeTagObject object lower upper) rs = ask.Do (call.TypeTagObject (handle_in rs object) lower upper)
+operation_ask (op.CheckObjectTypeTag object lower upper w) rs = ask.Do (call.CheckObjectTypeTag (handle_in rs object) lower upper)
+operation_ask (op.AddFinalizer object payload entry hint w) rs = ask.Do (call.AddFinalizer (handle_in rs object) payload entry hint (is_some w))
+operation_ask (op.CallFunction receiver function arguments w) rs = ask.Do (call.CallFunction (option_map (handle_in rs) receiver) (handle_in rs function) (arguments_in rs arguments))
+operation_ask (op.Throw error) rs = ask.Do (call.Throw (handle_in rs error))
+operation_ask (op.ThrowError code message) rs = ask.Do (call.ThrowError code message)
+operation_ask (op.IsExceptionPending w) rs = ask.Do call.IsExceptionPending
+operation_ask (op.GetAndClearLastException w) rs = ask.Do call.GetAndClearLastException
+operation_ask (op.GetLastErrorInfo w) rs = ask.Do call.GetLastErrorInfo
+operation_ask (op.SetInstanceData payload entry hint) rs = ask.Do (call.SetInstanceData payload entry hint)
+operation_ask (op.GetInstanceData w) rs = ask.Do call.GetInstanceData
+operation_ask (op.AddEnvCleanupHook entry argument) rs = ask.Do (call.AddEnvCleanupHook entry argument)
+operation_ask (op.RemoveEnvCleanupHook entry argument) rs = ask.Do (call.RemoveEnvCleanupHook entry argument)
+operation_ask (op.CreateAsyncWork job entry payload w) rs = ask.Do (call.CreateAsyncWork job entry payload)
+operation_ask (op.DeleteAsyncWork work) rs = ask.Do (call.DeleteAsyncWork (record { 0 = register_at rs work }))
+operation_ask (op.CancelAsyncWork work) rs = ask.Do (call.CancelAsyncWork (record { 0 = register_at rs work }))
+operation_ask (op.QueueAsyncWork work) rs = ask.Do (call.QueueAsyncWork (record { 0 = register_at rs work }))
+operation_ask (op.CreateThreadsafeFunction function entry maximum count finalizer context w) rs = ask.Do (call.CreateThreadsafeFunction (option_map (handle_in rs) function) entry maximum count finalizer context)
+operation_ask (op.CallThreadsafeFunction function payload mode) rs = ask.Do (call.CallThreadsafeFunction (record { 0 = register_at rs function }) payload mode)
+operation_ask (op.AcquireThreadsafeFunction function) rs = ask.Do (call.AcquireThreadsafeFunction (record { 0 = register_at rs function }))
+operation_ask (op.ReleaseThreadsafeFunction function mode) rs = ask.Do (call.ReleaseThreadsafeFunction (record { 0 = register_at rs function }) mode)
+operation_ask (op.RefThreadsafeFunction function) rs = ask.Do (call.RefThreadsafeFunction (record { 0 = register_at rs function }))
+operation_ask (op.UnrefThreadsafeFunction function) rs = ask.Do (call.UnrefThreadsafeFunction (record { 0 = register_at rs function }))
+operation_ask (op.GetThreadsafeFunctionContext function w) rs = ask.Do (call.GetThreadsafeFunctionContext (record { 0 = register_at rs function }))
+operation_ask (op.GetVersion w) rs = ask.Do call.GetVersion
+operation_ask (op.Collect w) rs = ask.Do call.Collect
+operation_ask op.Exit rs = ask.Do call.Exit
+operation_ask (op.Return r) rs = ask.Leave (option_map (handle_in rs) r)
+operation_ask (op.ThreadCall f n m) rs = ask.Do (call.CallThreadsafeFunction (record { 0 = f }) n m)
+operation_ask (op.ThreadAcquire f) rs = ask.Do (call.AcquireThreadsafeFunction (record { 0 = f }))
+operation_ask (op.ThreadRelease f m) rs = ask.Do (call.ReleaseThreadsafeFunction (record { 0 = f }) m)
 
 -- the register that keeps an operation's result
 abbrev pub result_register : Op → Option ℕ
@@ -195,35 +195,35 @@ operation plan entry step = option_and_then (λ ops. slice_get ops step) (slice_
 -- what is asked at an operation: after the last one a frame leaves without a handle
 abbrev pub next_ask : Option Op → List ℕ → Ask
 next_ask None rs = ask.Leave None
-next_ask (Some o) rs = filled o rs
+next_ask (Some o) rs = operation_ask o rs
 
 -- what an addon of this plan and these registers asks in a frame of that entry at that step
 abbrev pub plan_ask : List (List Op) → List ℕ → ℕ → ℕ → Ask
 plan_ask plan rs entry step = next_ask (operation plan entry step) rs
 
 -- the registers with a number in one of them; they stay where there is no number, and where there is no such register
-abbrev pub kept_number : List ℕ → ℕ → Option ℕ → List ℕ
-kept_number rs r None = rs
-kept_number rs r (Some n) = set rs r n
+abbrev pub put_number : List ℕ → ℕ → Option ℕ → List ℕ
+put_number rs r None = rs
+put_number rs r (Some n) = set rs r n
 
 -- the registers with a result in the register that keeps it, if there is one
-abbrev pub kept_out : List ℕ → Out → Option ℕ → List ℕ
-kept_out rs o None = rs
-kept_out rs o (Some r) = kept_number rs r (register_value o)
+abbrev pub put_result : List ℕ → Out → Option ℕ → List ℕ
+put_result rs o None = rs
+put_result rs o (Some r) = put_number rs r (register_value o)
 
 -- the registers with the result of a call in the register that keeps it; they stay where the call was refused
-abbrev pub kept_where_ok : List ℕ → Option ℕ → Out → Status → List ℕ
-kept_where_ok rs w o status.Ok = kept_out rs o w
-kept_where_ok rs w o _ = rs
+abbrev pub put_accepted_result : List ℕ → Option ℕ → Out → Status → List ℕ
+put_accepted_result rs w o status.Ok = put_result rs o w
+put_accepted_result rs w o _ = rs
 
 -- the registers after the reply to what the plan asked in a frame of that entry at that step
-abbrev pub kept : List (List Op) → List ℕ → ℕ → ℕ → Reply → List ℕ
-kept plan rs entry step reply = kept_where_ok rs (option_and_then result_register (operation plan entry step)) reply.out reply.status
+abbrev pub registers_after_reply : List (List Op) → List ℕ → ℕ → ℕ → Reply → List ℕ
+registers_after_reply plan rs entry step reply = put_accepted_result rs (option_and_then result_register (operation plan entry step)) reply.out reply.status
 
 -- the registers of an addon that was loaded
 abbrev pub blank_registers : List ℕ
 blank_registers = replicate 32 0
 
 -- the registers with a frame's eight gifts in registers 24 to 31
-abbrev pub gifted : List ℕ → List ℕ → List ℕ
-gifted gifts rs = take 24 rs ++ gifts
+abbrev pub with_gifts : List ℕ → List ℕ → List ℕ
+with_gifts gifts rs = take 24 rs ++ gifts

@@ -16,9 +16,9 @@ pub record Answer (S : Type 0) : Type 0 where
   pub after : S
 
 -- a call that is accepted
-abbrev pub answered : {S : Type 0} → Out → S → Answer S
-answered o after = record { reply = plain status.Ok o; after = after }
+abbrev pub accepts : {S : Type 0} → Out → S → Answer S
+accepts o after = record { reply = plain status.Ok o; after = after }
 
 -- a call that is refused leaves everything as it was
-abbrev pub refused : {S : Type 0} → Status → S → Answer S
-refused s before = record { reply = plain s out.Nothing; after = before }
+abbrev pub refuses : {S : Type 0} → Status → S → Answer S
+refuses s before = record { reply = plain s out.Nothing; after = before }

@@ -12,7 +12,7 @@ use Rattle.napi_types.specs.Machine.{Machine}
 -- a list's room: its limit, and the places that its entries and its reserved places take
 pub record Room : Type 0 where
   pub limit : ℕ
-  pub taken : ℕ
+  pub occupied : ℕ
 
 -- one place where a test holds
 abbrev pub one_if : Bool → ℕ
@@ -42,15 +42,15 @@ reserved_history h = stage_places h.stage
 
 -- the room in a journal with so many entries and this limit
 abbrev pub journal_room : Environment → ℕ → ℕ → Room
-journal_room e locals limit = record { limit = limit; taken = locals + reserved_journal e }
+journal_room e journal_length limit = record { limit = limit; occupied = journal_length + reserved_journal e }
 
 -- the room in a history with so many entries and this limit
 abbrev pub history_room : Hub → ℕ → ℕ → Room
-history_room h shareds limit = record { limit = limit; taken = shareds + reserved_history h }
+history_room h history_length limit = record { limit = limit; occupied = history_length + reserved_history h }
 
 -- the room of the list in which the call's entry would stand: the history for a shared call, and the journal for every other
 abbrev pub room_of : Machine → Call → Room
-room_of m c = cond (is_shared c) (history_room m.hub m.shareds m.limits.history) (journal_room m.env m.locals m.limits.journal)
+room_of m c = cond (is_shared c) (history_room m.hub m.history_length m.limits.history) (journal_room m.env m.journal_length m.limits.journal)
 
 -- the places that a call needs in the list in which its entry stands, counted as if it were accepted: one for its entry, and those of the events that it
 -- owes: the end of the frame that it enters, the frame of the duty that it makes, the start and the finish of a queued work, the close and the finish of a
@@ -68,7 +68,7 @@ first_places = 65536
 
 -- entries, reserved places and the call's need pass the limit
 abbrev pub is_full : Room → Call → Bool
-is_full r c = nat_lt r.limit (r.taken + need c)
+is_full r c = nat_lt r.limit (r.occupied + need c)
 
 -- a call that takes memory beside that of its places in the list of its entry: one whose result is a newly issued number, `escape_handle` excepted, whose
 -- place was kept when the scope opened; one that registers, `queue_async_work` excepted; one that sets a property or an element, wraps or tags, or makes an
@@ -78,4 +78,4 @@ is_growing c = (facts_of c).grows
 
 -- the call grows, or entries, reserved places and its need pass the first places
 abbrev pub may_want_memory : Room → Call → Bool
-may_want_memory r c = is_growing c || nat_lt (min first_places r.limit) (r.taken + need c)
+may_want_memory r c = is_growing c || nat_lt (min first_places r.limit) (r.occupied + need c)

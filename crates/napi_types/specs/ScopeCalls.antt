@@ -7,7 +7,7 @@ use Rattle.napi_types.specs.declared.ids.ScopeKind.{ScopeKind}
 use Rattle.napi_types.specs.declared.ids.ScopeKind.TheVariants as scope_kind
 use Rattle.napi_types.specs.Heap.{Heap, handle_value, in_scopes}
 use Rattle.napi_types.specs.Lists.{with_number}
-use Rattle.napi_types.specs.Replies.{Answer, answered}
+use Rattle.napi_types.specs.Replies.{Answer, accepts}
 use Rattle.napi_types.specs.Scopes.{open_in, close_in, escape_in}
 
 -- a scope of this kind and the number n is open inside the innermost one
@@ -21,9 +21,9 @@ with_escaped n v heap = in_scopes (escape_in n (record { handle = heap.handles +
 -- `open_handle_scope` and `open_escapable_handle_scope` open a scope of the number n; `close_handle_scope` and `close_escapable_handle_scope` end the
 -- innermost one; `escape_handle` gives the value of a handle a new one outside of a scope
 abbrev pub on_scopes : Heap → Call → ℕ → Option (Answer Heap)
-on_scopes heap call.OpenHandleScope n = Some (answered (out.Scope (record { 0 = n })) (with_scope scope_kind.Plain n heap))
-on_scopes heap call.OpenEscapableHandleScope n = Some (answered (out.Scope (record { 0 = n })) (with_scope scope_kind.Escapable n heap))
-on_scopes heap (call.CloseHandleScope s) n = Some (answered out.Nothing (in_scopes close_in heap))
-on_scopes heap (call.CloseEscapableHandleScope s) n = Some (answered out.Nothing (in_scopes close_in heap))
-on_scopes heap (call.EscapeHandle s h) n = Some (answered (out.Handle (record { 0 = heap.handles + 1 })) (with_escaped s.0 (handle_value heap h.0) heap))
+on_scopes heap call.OpenHandleScope n = Some (accepts (out.Scope (record { 0 = n })) (with_scope scope_kind.Plain n heap))
+on_scopes heap call.OpenEscapableHandleScope n = Some (accepts (out.Scope (record { 0 = n })) (with_scope scope_kind.Escapable n heap))
+on_scopes heap (call.CloseHandleScope s) n = Some (accepts out.Nothing (in_scopes close_in heap))
+on_scopes heap (call.CloseEscapableHandleScope s) n = Some (accepts out.Nothing (in_scopes close_in heap))
+on_scopes heap (call.EscapeHandle s h) n = Some (accepts (out.Handle (record { 0 = heap.handles + 1 })) (with_escaped s.0 (handle_value heap h.0) heap))
 on_scopes heap _ n = None

@@ -56,14 +56,14 @@ when_formed place true = Ok tt
 when_formed place false = Err (wrong.Shape place)
 
 -- a number within its limit
-abbrev pub within : LimitName → ℕ → ℕ → Reading (Unit {0})
-within which most n = if nat_le n most then Ok tt else Err (wrong.Limit which)
+abbrev pub within_limit : LimitName → ℕ → ℕ → Reading (Unit {0})
+within_limit which most n = if nat_le n most then Ok tt else Err (wrong.Limit which)
 
 -- the items of an array with at most so many
 unfoldable pub list_at : Place → LimitName → ℕ → Option Data → Reading Items
 list_at place which most found = do
   ds ← formed place (option_and_then as_array found)
-  _ ← within which most (items_len ds)
+  _ ← within_limit which most (items_len ds)
   Ok ds
 
 -- what each item is, with its place in the list
@@ -150,13 +150,13 @@ schedule_in threads workers (Some d) = do
 
 -- THE SCRIPT
 -- one where there is a member of this name, else none
-abbrev pub count_of : List ℕ → Data → ℕ
-count_of name d = if is_some (get name d) then 1 else 0
+abbrev pub members_named : List ℕ → Data → ℕ
+members_named name d = if is_some (get name d) then 1 else 0
 
 -- an object that has no other member: as many members as it has of these
 unfoldable pub is_root : Data → Bool
-is_root d = has_members (count_of (codes "version") d + count_of (codes "workers") d + count_of (codes "addons") d
-    + count_of (codes "threads") d + count_of (codes "schedule") d) d
+is_root d = has_members (members_named (codes "version") d + members_named (codes "workers") d + members_named (codes "addons") d
+    + members_named (codes "threads") d + members_named (codes "schedule") d) d
 
 -- the version of Node-API
 unfoldable pub version_in : Option Data → Reading (Unit {0})
@@ -166,7 +166,7 @@ version_in found = when_formed place.Version (unwrap_or (option_map (λ n. n == 
 unfoldable pub workers_in : Option Data → Reading ℕ
 workers_in found = do
   n ← formed place.Workers (option_and_then whole found)
-  _ ← within limit.Workers 8 n
+  _ ← within_limit limit.Workers 8 n
   Ok n
 
 -- the addons, at most 8, with the texts of their operations

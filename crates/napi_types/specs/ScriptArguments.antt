@@ -32,8 +32,8 @@ unfoldable pub flag : Data → Option Bool
 flag d = as_bool d
 
 -- a text
-unfoldable pub text : Data → Option (List ℕ)
-text d = as_str d
+unfoldable pub text_argument : Data → Option (List ℕ)
+text_argument d = as_str d
 
 -- the number -1, which stands for none
 unfoldable pub is_none : Data → Bool
@@ -66,7 +66,7 @@ entry_or_none entries d = or_none (entry_number entries d) d
 
 -- a text, or -1 for none
 unfoldable pub text_or_none : Data → Option (Option (List ℕ))
-text_or_none d = or_none (text d) d
+text_or_none d = or_none (text_argument d) d
 
 -- how a thread-safe function is called: 0 does not wait, 1 does
 abbrev pub mode_of : ℕ → Mode
@@ -92,11 +92,11 @@ job_size d = whole_below 1000001 d
 
 -- the word `sum` and a number: the sum of the numbers up to it
 unfoldable pub sum_job : Data → Data → Option JobSpec
-sum_job word n = text word >>= λ t. if bytes_eq t (codes "sum") then option_map job.Sum (job_size n) else None
+sum_job word n = text_argument word >>= λ t. if bytes_eq t (codes "sum") then option_map job.Sum (job_size n) else None
 
 -- the word `mix` and two numbers: the first, mixed so many times
 unfoldable pub mix_job : Data → Data → Data → Option JobSpec
-mix_job word n times = text word >>= λ t. if bytes_eq t (codes "mix") then (whole n >>= λ m. option_map (job.Mix m) (job_size times)) else None
+mix_job word n times = text_argument word >>= λ t. if bytes_eq t (codes "mix") then (whole n >>= λ m. option_map (job.Mix m) (job_size times)) else None
 
 -- the parts of a job
 unfoldable pub job_of : Items → Option JobSpec
@@ -109,30 +109,30 @@ unfoldable pub job_in : Data → Option JobSpec
 job_in d = as_array d >>= job_of
 
 -- a list of so many registers, of which the places from the count on are 0
-abbrev pub registers_of : ℕ → ℕ → ℕ → ℕ → ℕ → Regs
-registers_of count a b c d = record { count = count; regs = a ∷ b ∷ c ∷ d ∷ [] }
+abbrev pub register_list : ℕ → ℕ → ℕ → ℕ → ℕ → Regs
+register_list count a b c d = record { count = count; regs = a ∷ b ∷ c ∷ d ∷ [] }
 
 -- zero to four registers
 unfoldable pub registers_among : Items → Option Regs
-registers_among no_items = Some (registers_of 0 0 0 0 0)
+registers_among no_items = Some (register_list 0 0 0 0 0)
 registers_among (item a no_items) = do
   p ← register a
-  Some (registers_of 1 p 0 0 0)
+  Some (register_list 1 p 0 0 0)
 registers_among (item a (item b no_items)) = do
   p ← register a
   q ← register b
-  Some (registers_of 2 p q 0 0)
+  Some (register_list 2 p q 0 0)
 registers_among (item a (item b (item c no_items))) = do
   p ← register a
   q ← register b
   r ← register c
-  Some (registers_of 3 p q r 0)
+  Some (register_list 3 p q r 0)
 registers_among (item a (item b (item c (item d no_items)))) = do
   p ← register a
   q ← register b
   r ← register c
   s ← register d
-  Some (registers_of 4 p q r s)
+  Some (register_list 4 p q r s)
 registers_among _ = None
 
 -- an array of zero to four registers

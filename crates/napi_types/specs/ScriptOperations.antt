@@ -13,9 +13,9 @@ use Rattle.napi_types.specs.declared.op.Op.{Op}
 use Rattle.napi_types.specs.declared.op.Op.TheVariants as op
 use Rattle.napi_types.specs.Built.{is_built}
 use Rattle.napi_types.specs.Names.{call_name}
-use Rattle.napi_types.specs.Registers.{filled, blank_registers}
+use Rattle.napi_types.specs.Registers.{operation_ask, blank_registers}
 use Rattle.napi_types.specs.Texts.{text_number, with_text}
-use Rattle.napi_types.specs.ScriptArguments.{◌>>=◌, whole, signed, flag, text, register, register_or_none, short, entry_number, entry_or_none, text_or_none, mode_number, release_number, job_in, registers_in, registers_of}
+use Rattle.napi_types.specs.ScriptArguments.{◌>>=◌, whole, signed, flag, text_argument, register, register_or_none, short, entry_number, entry_or_none, text_or_none, mode_number, release_number, job_in, registers_in, register_list}
 
 -- the name by which a script asks this
 abbrev pub ask_name : Ask → List ℕ
@@ -24,7 +24,7 @@ ask_name (ask.Leave v) = codes "return"
 
 -- the name of an operation: that of its call, and `return`
 abbrev pub operation_name : Op → List ℕ
-operation_name o = ask_name (filled o blank_registers)
+operation_name o = ask_name (operation_ask o blank_registers)
 
 -- whether what is asked is built so far; leaving a frame is
 abbrev pub is_built_ask : Ask → Bool
@@ -33,7 +33,7 @@ is_built_ask (ask.Leave v) = true
 
 -- whether an operation's call is built so far
 abbrev pub is_built_operation : Op → Bool
-is_built_operation o = is_built_ask (filled o blank_registers)
+is_built_operation o = is_built_ask (operation_ask o blank_registers)
 
 -- the operation of a name among some
 unfoldable pub named : List ℕ → List Op → Option Op
@@ -53,7 +53,7 @@ operations = op.Exit ∷ op.GetUndefined 0 ∷ op.GetNull 0 ∷ op.GetGlobal 0 �
     ∷ op.ReleaseThreadsafeFunction 0 release.Release ∷ op.StrictEquals 0 0 0 ∷ op.EscapeHandle 0 0 0 ∷ op.CreateFunction 0 0 0 ∷ op.CreateError None 0 0
     ∷ op.SetElement 0 0 0 ∷ op.GetElement 0 0 0 ∷ op.HasElement 0 0 0 ∷ op.CreateReference 0 0 0 ∷ op.TypeTagObject 0 0 0 ∷ op.SetInstanceData 0 None 0
     ∷ op.CallThreadsafeFunction 0 0 mode.Nonblocking ∷ op.CreateExternal 0 None 0 0 ∷ op.CheckObjectTypeTag 0 0 0 0
-    ∷ op.CallFunction None 0 (registers_of 0 0 0 0 0) 0 ∷ op.CreateAsyncWork (job.Sum 0) 0 0 0 ∷ op.Wrap 0 0 None 0 None ∷ op.AddFinalizer 0 0 0 0 None
+    ∷ op.CallFunction None 0 (register_list 0 0 0 0 0) 0 ∷ op.CreateAsyncWork (job.Sum 0) 0 0 0 ∷ op.Wrap 0 0 None 0 None ∷ op.AddFinalizer 0 0 0 0 None
     ∷ op.CreateThreadsafeFunction None None 0 0 None 0 0 ∷ op.CreateStringUtf8 (record { 0 = 0 }) 0 ∷ op.SetNamedProperty 0 (record { 0 = 0 }) 0
     ∷ op.GetNamedProperty 0 (record { 0 = 0 }) 0 ∷ op.HasNamedProperty 0 (record { 0 = 0 }) 0 ∷ op.DeleteProperty 0 (record { 0 = 0 }) 0
     ∷ op.ThrowError None (record { 0 = 0 }) ∷ []
@@ -214,25 +214,25 @@ numbered table o = record { operation = o; texts = table }
 -- a string of a text
 unfoldable pub with_string : List (List ℕ) → Data → Data → Option Numbered
 with_string table a b = do
-  x ← text a
+  x ← text_argument a
   y ← register b
   Some (numbered (with_text table x) (op.CreateStringUtf8 (record { 0 = text_number table x }) y))
 
 -- a register, the number of a text and a register
-unfoldable pub with_property : Op → ℕ → TextNo → ℕ → Option Op
-with_property (op.SetNamedProperty _ _ _) x y z = Some (op.SetNamedProperty x y z)
-with_property (op.GetNamedProperty _ _ _) x y z = Some (op.GetNamedProperty x y z)
-with_property (op.HasNamedProperty _ _ _) x y z = Some (op.HasNamedProperty x y z)
-with_property (op.DeleteProperty _ _ _) x y z = Some (op.DeleteProperty x y z)
-with_property _ x y z = None
+unfoldable pub with_object_and_name : Op → ℕ → TextNo → ℕ → Option Op
+with_object_and_name (op.SetNamedProperty _ _ _) x y z = Some (op.SetNamedProperty x y z)
+with_object_and_name (op.GetNamedProperty _ _ _) x y z = Some (op.GetNamedProperty x y z)
+with_object_and_name (op.HasNamedProperty _ _ _) x y z = Some (op.HasNamedProperty x y z)
+with_object_and_name (op.DeleteProperty _ _ _) x y z = Some (op.DeleteProperty x y z)
+with_object_and_name _ x y z = None
 
 -- a register, a text and a register
 unfoldable pub with_name : List (List ℕ) → Op → Data → Data → Data → Option Numbered
 with_name table kind a b c = do
   x ← register a
-  y ← text b
+  y ← text_argument b
   z ← register c
-  option_map (numbered (with_text table y)) (with_property kind x (record { 0 = text_number table y }) z)
+  option_map (numbered (with_text table y)) (with_object_and_name kind x (record { 0 = text_number table y }) z)
 
 -- an error with a message whose text comes after the code's
 unfoldable pub thrown : List (List ℕ) → Option TextNo → List ℕ → Numbered
@@ -247,7 +247,7 @@ thrown_with table (Some code) message = thrown (with_text table code) (Some (rec
 unfoldable pub with_error_texts : List (List ℕ) → Data → Data → Option Numbered
 with_error_texts table a b = do
   x ← text_or_none a
-  y ← text b
+  y ← text_argument b
   Some (thrown_with table x y)
 
 -- two arguments of which one is a text

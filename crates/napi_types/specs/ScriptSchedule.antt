@@ -3,7 +3,7 @@ use Rattle.std.specs.Prelude.{ℕ, ◌+◌, ◌-◌, ◌==◌, ◌&&◌, nat_le,
 use Rattle.serde_json.specs.Data.{Data}
 use Rattle.napi_types.specs.declared.entry.Actor.{Actor}
 use Rattle.napi_types.specs.declared.entry.Actor.TheVariants as actor
-use Rattle.napi_types.specs.ScriptArguments.{◌>>=◌, text}
+use Rattle.napi_types.specs.ScriptArguments.{◌>>=◌, text_argument}
 
 -- the value of a digit
 unfoldable pub digit : ℕ → Option ℕ
@@ -32,4 +32,4 @@ actor_named threads workers word = if bytes_eq word (codes "env") then Some acto
 
 -- the actor that a value names
 unfoldable pub actor_in : ℕ → ℕ → Data → Option Actor
-actor_in threads workers d = text d >>= actor_named threads workers
+actor_in threads workers d = text_argument d >>= actor_named threads workers

@@ -14,15 +14,15 @@ use Rattle.napi_types.specs.declared.entry.Why.{Why}
 use Rattle.napi_types.specs.declared.entry.Why.TheVariants as why
 use Rattle.napi_types.specs.declared.entry.Phase.{Phase}
 use Rattle.napi_types.specs.declared.entry.Phase.TheVariants as phase
-use Rattle.napi_types.specs.Built.{taken}
+use Rattle.napi_types.specs.Built.{built_ask}
 use Rattle.napi_types.specs.Frames.{Frame, asks_made, most_asks}
 use Rattle.napi_types.specs.Hub.{Hub, hub_next}
 use Rattle.napi_types.specs.Machine.{Machine}
 use Rattle.napi_types.specs.Room.{room_of, is_full, may_want_memory}
-use Rattle.napi_types.specs.Changes.{Change, host_entry, opened, init_begun, number_of, is_fresh, may_ask, may_call, gone, in_phase}
+use Rattle.napi_types.specs.Changes.{Change, host_entry, opening_change, init_change, number_of, is_fresh_result, may_ask, may_call, gone_change, in_phase}
 use Rattle.napi_types.specs.Choice.{choice}
-use Rattle.napi_types.specs.Ends.{frame_ended}
-use Rattle.napi_types.specs.Entering.{asked_for}
+use Rattle.napi_types.specs.Ends.{end_change}
+use Rattle.napi_types.specs.Entering.{asked_change}
 use Rattle.napi_types.specs.Loop.{Event, Opens, Inits, Goes, EndsLoop, Drains, FinalsCome, IsGone}
 use Rattle.napi_types.specs.Weave.{Side, Journal, History}
 
@@ -39,7 +39,7 @@ no_step m = record { entry = host_entry host.Gone out.Nothing; side = Journal; a
 
 -- a local event is one entry more in the journal
 abbrev pub locally : Machine → Change → Bool → Step
-locally m c may = record { entry = c.entry; side = Journal; after = record m { env = c.after; locals = m.locals + 1 }; may = may }
+locally m c may = record { entry = c.entry; side = Journal; after = record m { env = c.after; journal_length = m.journal_length + 1 }; may = may }
 
 -- an event of the hub is one entry more in the history, and moves the environment's phase
 abbrev pub hub_moved : Machine → HostStep → Phase → Out → Option Hub → Step
@@ -47,7 +47,7 @@ hub_moved m event p o None = no_step m
 hub_moved m event p o (Some h) = record {
   entry = host_entry event o;
   side = History;
-  after = record m { env = in_phase p m.env; hub = h; shareds = m.shareds + 1 };
+  after = record m { env = in_phase p m.env; hub = h; history_length = m.history_length + 1 };
   may = true;
 }
 
@@ -58,14 +58,14 @@ by_hub m event p o = hub_moved m event p o (hub_next m.hub event)
 -- EVENTS WITH NO FRAME
 -- the step of each event with no frame
 abbrev pub event_step : Machine → Event → Step
-event_step m Opens = locally m (opened m.env) true
-event_step m (Inits n) = locally m (init_begun n m.env) true
+event_step m Opens = locally m (opening_change m.env) true
+event_step m (Inits n) = locally m (init_change n m.env) true
 event_step m Goes = by_hub m host.Go phase.Live out.Nothing
 event_step m (EndsLoop w) = by_hub m host.LoopEnd phase.Hooks (out.Ended w)
 -- no work is queued, so none is cancelled
 event_step m Drains = by_hub m host.Drain phase.Drain (out.Unsigned 0)
 event_step m FinalsCome = by_hub m host.Finals phase.Finals out.Nothing
-event_step m IsGone = locally m (gone m.env) true
+event_step m IsGone = locally m (gone_change m.env) true
 
 -- the step of the event that was chosen; where none was, nothing may come
 abbrev pub chosen : Machine → Option Event → Step
@@ -82,12 +82,12 @@ may_cut m (ask.Leave v) _ = false
 
 -- a call leaves its entry, or enters its frame, where its frame makes asks and there is room for it
 abbrev pub call_step : Machine → Call → Out → Step
-call_step m c o = locally m (asked_for m.env c (number_of o)) (may_call m.env && is_fresh m.env o && not (is_full (room_of m c) c))
+call_step m c o = locally m (asked_change m.env c (number_of o)) (may_call m.env && is_fresh_result m.env o && not (is_full (room_of m c) c))
 
 -- the step of what a frame asks: its call, or its end
 abbrev pub asked_step : Machine → Ask → Out → Step
 asked_step m (ask.Do c) o = call_step m c o
-asked_step m (ask.Leave v) o = locally m (frame_ended v None m.env) (may_ask m.env)
+asked_step m (ask.Leave v) o = locally m (end_change v None m.env) (may_ask m.env)
 
 -- the cut that a result tells, if it tells one
 abbrev pub cut_of : Out → Option Why
@@ -96,13 +96,13 @@ cut_of _ = None
 
 -- the step of a frame: its end where it is cut, or else what it asks
 abbrev pub frame_step : Machine → Ask → Out → Option Why → Step
-frame_step m a o (Some w) = locally m (frame_ended None (Some w) m.env) (may_cut m a w)
+frame_step m a o (Some w) = locally m (end_change None (Some w) m.env) (may_cut m a w)
 frame_step m a o None = asked_step m a o
 
 -- the step of the environment: that of its innermost frame by what it is taken to ask, or of its next event where no frame stands
 abbrev pub env_step : Machine → Ask → Out → List Frame → Step
 env_step m a o [] = chosen m (choice m)
-env_step m a o (f ∷ fs) = frame_step m (taken a) o (cut_of o)
+env_step m a o (f ∷ fs) = frame_step m (built_ask a) o (cut_of o)
 
 -- threads and workers make no entry
 abbrev pub step_of : Machine → Ask → Entry → Actor → Step

@@ -5,7 +5,7 @@ use Rattle.napi_types.specs.declared.call.Call.TheVariants as call
 use Rattle.napi_types.specs.declared.body.Body.TheVariants as body
 use Rattle.napi_types.specs.declared.entry.Out.TheVariants as out
 use Rattle.napi_types.specs.Heap.{Heap, handle_value, handle_body, handle_elements, handle_of, new_value, new_error}
-use Rattle.napi_types.specs.Replies.{Answer, answered}
+use Rattle.napi_types.specs.Replies.{Answer, accepts}
 use Rattle.napi_types.specs.Values.{undefined_value, null_value, true_value, false_value, global_value, kind_of, is_array, is_error_body, signed_of, flag_of, text_of, strictly_equal}
 
 -- `get_*` of a starting value gives a new handle of it; `create_*` makes a value and gives its handle; the others tell what a handle's value is
@@ -21,14 +21,14 @@ on_values heap (call.CreateSymbol h) = Some (new_value (body.Symbol (option_map 
 on_values heap call.CreateObject = Some (new_value (body.Object false false) heap)
 on_values heap call.CreateArray = Some (new_value (body.Object true false) heap)
 on_values heap (call.CreateError code message) = Some (new_error (option_map (λ h. handle_value heap h.0) code) (handle_value heap message.0) heap)
-on_values heap (call.Typeof h) = Some (answered (out.Kind (kind_of (handle_body heap h.0))) heap)
-on_values heap (call.IsArray h) = Some (answered (out.Flag (is_array (handle_body heap h.0))) heap)
-on_values heap (call.IsError h) = Some (answered (out.Flag (is_error_body (handle_body heap h.0))) heap)
-on_values heap (call.GetValueInt64 h) = Some (answered (out.Signed (signed_of (handle_body heap h.0))) heap)
-on_values heap (call.GetValueBigintInt64 h) = Some (answered (out.Signed (signed_of (handle_body heap h.0))) heap)
-on_values heap (call.GetValueBool h) = Some (answered (out.Flag (flag_of (handle_body heap h.0))) heap)
-on_values heap (call.GetValueStringUtf8 h) = Some (answered (out.Text (text_of (handle_body heap h.0))) heap)
-on_values heap (call.GetArrayLength h) = Some (answered (out.Unsigned (length (handle_elements heap h.0))) heap)
+on_values heap (call.Typeof h) = Some (accepts (out.Kind (kind_of (handle_body heap h.0))) heap)
+on_values heap (call.IsArray h) = Some (accepts (out.Flag (is_array (handle_body heap h.0))) heap)
+on_values heap (call.IsError h) = Some (accepts (out.Flag (is_error_body (handle_body heap h.0))) heap)
+on_values heap (call.GetValueInt64 h) = Some (accepts (out.Signed (signed_of (handle_body heap h.0))) heap)
+on_values heap (call.GetValueBigintInt64 h) = Some (accepts (out.Signed (signed_of (handle_body heap h.0))) heap)
+on_values heap (call.GetValueBool h) = Some (accepts (out.Flag (flag_of (handle_body heap h.0))) heap)
+on_values heap (call.GetValueStringUtf8 h) = Some (accepts (out.Text (text_of (handle_body heap h.0))) heap)
+on_values heap (call.GetArrayLength h) = Some (accepts (out.Unsigned (length (handle_elements heap h.0))) heap)
 on_values heap (call.StrictEquals g h) =
-    Some (answered (out.Flag (strictly_equal (handle_body heap g.0) (handle_value heap g.0) (handle_body heap h.0) (handle_value heap h.0))) heap)
+    Some (accepts (out.Flag (strictly_equal (handle_body heap g.0) (handle_value heap g.0) (handle_body heap h.0) (handle_value heap h.0))) heap)
 on_values heap _ = None

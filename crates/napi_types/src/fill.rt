@@ -1,6 +1,6 @@
 //! How an operation of a script is filled from registers, and what a register keeps of its result.
 ghost use Rattle.std.specs.Prelude.{◌≡◌, option_map};
-ghost use Rattle.napi_types.specs.Registers.{register_at as number_in_register, handle_in, arguments_in, filled, result_register, register_value};
+ghost use Rattle.napi_types.specs.Registers.{register_at as number_in_register, handle_in, arguments_in, operation_ask, result_register, register_value};
 
 use crate::{Args, Ask, Call, HandleId, Op, Out, RefId, Regs, ScopeId, TsfnId, WorkId};
 
@@ -52,7 +52,7 @@ fn arguments_at(regs: &[u64; 32], list: Regs) -> Args
 impl Op {
     /// What an addon with these registers asks by this operation. A register above 31 reads as 0.
     pub fn fill(&self, regs: &[u64; 32]) -> Ask
-        ensures { result ≡ filled self.now regs.now }
+        ensures { result ≡ operation_ask self.now regs.now }
     {
         let call = match *self {
             Op::GetUndefined(_) => Call::GetUndefined,

@@ -33,14 +33,14 @@ pub journal-within : (given : List AddonPlan) (handed : List Plan) (texts : ℕ)
 journal-within given handed texts journal history all few e =
     let fewer : length (told_plans given handed) ≤ 8 = omega (arith, length-told-le given handed) in
     let room = lists-within (told_plans given handed) texts journal history all fewer e in
-    omega (arith, room.journal, e.locals)
+    omega (arith, room.journal, e.journal_length)
 
 pub history-within : (given : List AddonPlan) (handed : List Plan) (texts : ℕ) (journal : List Local) (history : List Entry) (all : Registers) → length given ≤ 8
     → IsEnded (setting_with (told_plans given handed) texts) journal history all → length history ≤ most_entries
 history-within given handed texts journal history all few e =
     let fewer : length (told_plans given handed) ≤ 8 = omega (arith, length-told-le given handed) in
     let room = lists-within (told_plans given handed) texts journal history all fewer e in
-    omega (arith, room.history, e.shareds)
+    omega (arith, room.history, e.history_length)
 
 -- a run of the script's addons, as the top call tells it
 pub ran-of : (script : Script) (texts : ℕ) (handed after : List Plan) (registers registers_after : Registers) (left : Record)

@@ -13,7 +13,7 @@ use Rattle.env_core.specs.Core.{Core, opened_core}
 use Rattle.addon_trait.specs.Addons.{loaded_at}
 use Rattle.env_loop.specs.Recording.{IsRecorded, IsEnded, IsOf}
 use Rattle.env_loop.specs.Runs.{Run, opened_run, GoesOn}
-use Rattle.env_loop.proofs.Recordings.{opened-recorded, gone-ended}
+use Rattle.env_loop.proofs.Recordings.{opened-recorded, gone_change-ended}
 use Rattle.script_host.specs.Loading.{told_plans, setting_with}
 
 -- LOADING
@@ -128,4 +128,4 @@ whole-ended given handed loaded texts count core start ran journal left all now 
     } in
     let J : List Local → Type 0 = λ x. IsEnded s x left now in
     let H : List Entry → Type 0 = λ x. IsEnded s ran.core.journal x now in
-    subst J (sym lists) (subst H (sym history) (gone-ended s ran.core ran.history now (from_core s of recorded) gone_there))
+    subst J (sym lists) (subst H (sym history) (gone_change-ended s ran.core ran.history now (from_core s of recorded) gone_there))

@@ -12,7 +12,7 @@ use Rattle.napi_types.specs.declared.script.Place.TheVariants as place
 use Rattle.napi_types.specs.declared.script.Script.{Script}
 use Rattle.napi_types.specs.declared.script.Wrong.TheVariants as wrong
 use Rattle.napi_types.specs.declared.lists.AddonPlan.{AddonPlan}
-use Rattle.napi_types.specs.Script.{Reading, ◌>>=◌, formed, list_at, within, each, Read, Table, read_with, addons_in, addon_at, when_formed, is_root, version_in, workers_in, threads_in, schedule_in, script_in, script, is_built_script, IsScript}
+use Rattle.napi_types.specs.Script.{Reading, ◌>>=◌, formed, list_at, within_limit, each, Read, Table, read_with, addons_in, addon_at, when_formed, is_root, version_in, workers_in, threads_in, schedule_in, script_in, script, is_built_script, IsScript}
 use Rattle.script_host.specs.Host.{IsSmall}
 use Rattle.script_host.specs.declared.words.Line.{Line}
 
@@ -35,8 +35,8 @@ each-length {A} f n table (item d ds) r e =
     let same : read_with rest.first.texts (one.first.found ∷ rest.first.found) ≡ r = cc in
     ap (λ (x : Read (List A)). length x.found) (sym same) ∙ ap suc (each-length f (n + 1) one.first.texts ds rest.first rest.was)
 
-within-limit : (which : LimitName) (most n : ℕ) (u : Unit {0}) → within which most n ≡ Ok u → n ≤ most
-within-limit which most n u e = by (nat_le n most) refl e
+within_limit-limit : (which : LimitName) (most n : ℕ) (u : Unit {0}) → within_limit which most n ≡ Ok u → n ≤ most
+within_limit-limit which most n u e = by (nat_le n most) refl e
   where
     by : (b : Bool) → nat_le n most ≡ b → cond b (Ok tt) (Err (wrong.Limit which)) ≡ Ok u → n ≤ most
     by true h k = grind arith
@@ -46,9 +46,9 @@ list-short : (p : Place) (which : LimitName) (most : ℕ) (found : Option Data) 
 unfolding list_at
 list-short p which most found ds e =
     let items : Both (formed p (option_and_then as_array found)) _ ds = both (formed p (option_and_then as_array found)) _ ds e in
-    let short : Both (within which most (items_len items.first)) _ ds = both (within which most (items_len items.first)) _ ds items.then in
+    let short : Both (within_limit which most (items_len items.first)) _ ds = both (within_limit which most (items_len items.first)) _ ds items.then in
     let same : items.first ≡ ds = cc in
-    subst (λ (l : Items). items_len l ≤ most) same (within-limit which most (items_len items.first) short.first short.was)
+    subst (λ (l : Items). items_len l ≤ most) same (within_limit-limit which most (items_len items.first) short.first short.was)
 
 addons-few : (found : Option Data) (r : Read (List AddonPlan)) → addons_in found ≡ Ok r → length r.found ≤ 8
 unfolding addons_in

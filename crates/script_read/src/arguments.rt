@@ -1,7 +1,7 @@
 //! The arguments of an operation, each form by itself: what a value is, `None` exactly where it has another form.
 ghost use Rattle.std.specs.Prelude.{◌≡◌, ℤ, option_map};
 ghost use Rattle.serde_json.specs.View.{view, items_view};
-ghost use Rattle.napi_types.specs.ScriptArguments.{whole, whole_below, signed, flag, text, is_none, or_none, register, register_or_none, short, entry_number, entry_or_none, text_or_none, mode_number, release_number, job_size, job_in, job_of, sum_job, mix_job, registers_in, registers_among, registers_of};
+ghost use Rattle.napi_types.specs.ScriptArguments.{whole, whole_below, signed, flag, text_argument, is_none, or_none, register, register_or_none, short, entry_number, entry_or_none, text_or_none, mode_number, release_number, job_size, job_in, job_of, sum_job, mix_job, registers_in, registers_among, register_list};
 
 use napi_types::{JobSpec, Mode, Regs, Release};
 use serde_json::Value;
@@ -40,9 +40,9 @@ pub(crate) fn flag(value: &Value) -> Option<bool>
 }
 
 /// A text.
-#[tactic(auto, unfolding(napi_types::specs::ScriptArguments::text))]
+#[tactic(auto, unfolding(napi_types::specs::ScriptArguments::text_argument))]
 pub(crate) fn text(value: &Value) -> Option<&str>
-    ensures { option_map (λ found. found.now) result ≡ text (view value.now) }
+    ensures { option_map (λ found. found.now) result ≡ text_argument (view value.now) }
 {
     value.as_str()
 }
@@ -209,7 +209,7 @@ pub(crate) fn job(value: &Value) -> Option<JobSpec>
 }
 
 fn list_of(count: u8, first: u8, second: u8, third: u8, fourth: u8) -> Regs
-    ensures { result ≡ registers_of count first second third fourth }
+    ensures { result ≡ register_list count first second third fourth }
 {
     Regs {
         count,

@@ -1,7 +1,7 @@
 //! The operation that a value is, in an addon.
 ghost use Rattle.std.specs.Prelude.{◌≡◌, IfOk, option_map};
 ghost use Rattle.serde_json.specs.View.{view, items_view};
-ghost use Rattle.napi_types.specs.ScriptOperations.{numbered, with_string, with_property, with_name, thrown_with, with_error_texts, with_texts, text_operation, operation_of, operation_named, operation_in};
+ghost use Rattle.napi_types.specs.ScriptOperations.{numbered, with_string, with_object_and_name, with_name, thrown_with, with_error_texts, with_texts, text_operation, operation_of, operation_named, operation_in};
 
 use crate::arguments::{register, text, text_or_none};
 use crate::forms::plain_operation;
@@ -31,9 +31,9 @@ fn with_string(
 }
 
 /// The operation of a register, the number of a text and a register.
-#[tactic(auto, unfolding(napi_types::specs::ScriptOperations::with_property))]
+#[tactic(auto, unfolding(napi_types::specs::ScriptOperations::with_object_and_name))]
 fn with_property(kind: Op, x: u8, y: TextNo, z: u8) -> Option<Op>
-    ensures { result ≡ with_property kind x y z }
+    ensures { result ≡ with_object_and_name kind x y z }
 {
     match kind {
         Op::SetNamedProperty(..) => Some(Op::SetNamedProperty(x, y, z)),

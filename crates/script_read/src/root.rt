@@ -1,7 +1,7 @@
 //! The script that a JSON value is.
 ghost use Rattle.std.specs.Prelude.{◌≡◌, IfOk, option_map};
 ghost use Rattle.serde_json.specs.View.{view};
-ghost use Rattle.napi_types.specs.Script.{read_with, is_root, version_in, workers_in, addons_in, threads_in, script_in, is_built_plan, is_built_script, script, count_of};
+ghost use Rattle.napi_types.specs.Script.{read_with, is_root, version_in, workers_in, addons_in, threads_in, script_in, is_built_plan, is_built_script, script, members_named};
 ghost use Rattle.napi_types.specs.Texts.{fixed_texts};
 ghost use Rattle.std.specs.List.{list_all};
 ghost use Rattle.napi_types.specs.ScriptOperations.{is_built_operation};
@@ -28,7 +28,7 @@ const MOST_WORKERS: u64 = 8;
 
 /// One where a value has a member of this name, else none.
 fn count_of(value: &Value, name: &str) -> usize
-    ensures { result ≡ count_of name.now (view value.now) }
+    ensures { result ≡ members_named name.now (view value.now) }
 {
     if value.get(name).is_some() { 1 } else { 0 }
 }

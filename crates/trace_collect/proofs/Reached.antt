@@ -6,7 +6,7 @@ use Rattle.std.proofs.lemmas.List.Elements.{All-weaker}
 use Rattle.napi_types.specs.Lists.{has_number}
 use Rattle.napi_types.specs.Reach.{numbers, children_at}
 use Rattle.napi_types.specs.Values.{Value, children, value_at}
-use Rattle.napi_types.specs.Graph.{StoreState, IsLive, IsSound, value_of, number_in, graph_of}
+use Rattle.napi_types.specs.Graph.{StoreState, IsLive, IsSoundStore, value_of, number_in, graph_of}
 use Rattle.napi_types.proofs.Reaching.{reach-roots, reach-closed, reach-least}
 use Rattle.value_store.specs.Changes.{id_at, child_places, EachStandsOnce}
 use Rattle.value_store.proofs.Children.{children-places}
@@ -27,7 +27,7 @@ none-marked zero place h = cc
 none-marked (suc many) zero h = cc
 none-marked (suc many) (suc place) h = none-marked many place h
 
-module _ (s : StoreState) (once : EachStandsOnce s) (sound : IsSound s) (roots : List ℕ) where
+module _ (s : StoreState) (once : EachStandsOnce s) (sound : IsSoundStore s) (roots : List ℕ) where
   -- a value is followed when its children are marked
   pub marking-turn : (old new : List Bool) (rest next : List ℕ) (x : ℕ) → IsMarking s roots old (rest ++ x ∷ []) → Marks s (children_in s x) old rest new next → IsMarking s roots new next
   marking-turn old new rest next x before more = record {

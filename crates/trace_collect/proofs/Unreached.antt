@@ -12,7 +12,7 @@ use Rattle.napi_types.specs.Collection.{those_of, all_but}
 use Rattle.napi_types.specs.Lists.{has_number}
 use Rattle.napi_types.specs.Reach.{numbers, children_at}
 use Rattle.napi_types.specs.Values.{Value, children}
-use Rattle.napi_types.specs.Graph.{Stored, StoreState, IsLive, IsSound, value_of, creation_number, number_in, graph_of}
+use Rattle.napi_types.specs.Graph.{Stored, StoreState, IsLive, IsSoundStore, value_of, creation_number, number_in, graph_of}
 use Rattle.napi_types.proofs.Reaching.{reach-roots, reach-closed, has_number-filter}
 use Rattle.value_store.specs.Changes.{id_at, numbers_of, EachStandsOnce, CanFree}
 use Rattle.value_store.proofs.LiveValues.{in-range, place-live, live-place, graph-live, live-graph, number-apart, number-value, graph-children, graph-distinct}
@@ -108,7 +108,7 @@ filter-agree p q (v ∷ vs) agree =
     ap (λ b. cond b (v ∷ filter (λ (w : Value). p w.number) vs) (filter (λ (w : Value). p w.number) vs)) (agree v.number (or_left (v.number == v.number) (has_number v.number (numbers vs)) (eq-eqb v.number v.number refl)))
     ∙ ap (λ l. cond (q v.number) (v ∷ l) l) (filter-agree p q vs (λ n h. agree n (or_right (v.number == n) (has_number n (numbers vs)) h)))
 
-module _ (s : StoreState) (once : EachStandsOnce s) (sound : IsSound s) (roots : List ℕ) (ids : List ℕ) (all : AreUnreached s roots ids) where
+module _ (s : StoreState) (once : EachStandsOnce s) (sound : IsSoundStore s) (roots : List ℕ) (ids : List ℕ) (all : AreUnreached s roots ids) where
   pub ids-live : All (IsLive s) ids
   ids-live = All-from_has (IsLive s) ids (λ id h. ((all id).0 h).0)
 

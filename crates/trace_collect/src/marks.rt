@@ -1,7 +1,7 @@
 //! The places of a store, marked where the roots reach the value that stands there.
 ghost use Rattle.std.specs.Prelude.{◌≡◌, ◌+◌, ◌≤◌, ◌++◌, [], ◌∷◌, not, count_by, length, replicate, false, vec_capacity, IfOk, OnOk, option_to_list};
 ghost use Rattle.std.specs.List.{All};
-ghost use Rattle.napi_types.specs.Graph.{IsLive, IsSound};
+ghost use Rattle.napi_types.specs.Graph.{IsLive, IsSoundStore};
 ghost use Rattle.value_store.specs.Changes.{numbers_of, EachStandsOnce};
 ghost use Rattle.trace_collect.specs.Marks.{unmarked_ids, children_in, AreMarked, Marks, Follows};
 
@@ -19,7 +19,7 @@ pub(crate) fn reached(
     ensures size { IfOk result (λ marks. length marks.items ≡ length store.now.places) }
     ensures marked { IfOk result (λ marks. AreMarked store.now (numbers_of roots.now) marks.items) }
     ensures once { OnOk result (EachStandsOnce store.now) }
-    ensures sound { OnOk result (IsSound store.now) }
+    ensures sound { OnOk result (IsSoundStore store.now) }
 {
     let places = store.places();
     let mut marks = Vec::from_elem(alloc, false, places)?;
@@ -31,7 +31,7 @@ pub(crate) fn reached(
 /// Marks what the roots reach, where nothing is marked and no value is left to follow.
 fn mark_reached(store: &Store, roots: &[ValueId], marks: &mut [bool], left: &mut Vec<ValueId>)
     requires once { EachStandsOnce store.now }
-    requires sound { IsSound store.now }
+    requires sound { IsSoundStore store.now }
     requires live { All (IsLive store.now) (numbers_of roots.now) }
     requires unmarked { marks.old ≡ replicate (length store.now.places) false }
     requires empty { left.old.items ≡ [] }
@@ -86,7 +86,7 @@ fn mark_each(store: &Store, ids: &[ValueId], marks: &mut [bool], left: &mut Vec<
 /// Follows the values that are left, and all that are marked on the way, until none is left.
 fn follow(store: &Store, marks: &mut [bool], left: &mut Vec<ValueId>)
     requires once { EachStandsOnce store.now }
-    requires sound { IsSound store.now }
+    requires sound { IsSoundStore store.now }
     requires size { length marks.old ≡ length store.now.places }
     requires room { length left.old.items + count_by not marks.old ≤ vec_capacity left.old }
     ensures { Follows store.now marks.old (numbers_of left.old.items) marks.new }

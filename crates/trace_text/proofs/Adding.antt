@@ -7,7 +7,7 @@ use Rattle.std.proofs.Math.Seq.{take-add}
 use Rattle.std.specs.declared.option.Option.{Option}
 use Rattle.std.specs.Io.KnownBytes.{append_known}
 use Rattle.napi_types.specs.Edge.{HasRisen, TookFront}
-use Rattle.trace_text.specs.Writing.{Adds, Held, Took, Stand, stand}
+use Rattle.trace_text.specs.Writing.{Adds, Waiting, Took, Stand, stand}
 
 -- what a sink took in two steps
 pub append_known-append : (had : Option (List ℕ)) (xs ys : List ℕ) →
@@ -116,45 +116,45 @@ pub took_front : (had : Option (List ℕ)) (bytes : List ℕ) (now : Stand) → 
 took_front had bytes now failed front = record { front = front; waiting = λ fine. cc }
 
 -- bytes that are held behind the others
-pub adds_held : (taken : Option (List ℕ)) (faults : ℕ) (old new : Held) (bytes : List ℕ) → old.failed ≡ false →
+pub adds_held : (taken : Option (List ℕ)) (faults : ℕ) (old new : Waiting) (bytes : List ℕ) → old.failed ≡ false →
     new ≡ record old { bytes = old.bytes ++ bytes } → Adds (stand taken faults old) bytes (stand taken faults new)
 adds_held taken faults old new bytes fine same =
-    let P : Held → Type 0 = λ held. Adds (stand taken faults old) bytes (stand taken faults held) in
+    let P : Waiting → Type 0 = λ held. Adds (stand taken faults old) bytes (stand taken faults held) in
     let b = stand taken faults (record old { bytes = old.bytes ++ bytes }) in
     subst P (sym same) (adds_by (stand taken faults old) b bytes fine (omega arith) (λ failed. cc) (took_none b))
 
 -- bytes that were written after the others
-pub adds_written : (t u : Option (List ℕ)) (f g : ℕ) (old new : Held) (bytes whole : List ℕ) → old.failed ≡ false →
+pub adds_written : (t u : Option (List ℕ)) (f g : ℕ) (old new : Waiting) (bytes whole : List ℕ) → old.failed ≡ false →
     new ≡ record { bytes = []; failed = false } → whole ≡ old.bytes ++ bytes → u ≡ append_known t whole → f ≤ g →
     Adds (stand t f old) bytes (stand u g new)
 adds_written t u f g old new bytes whole fine same parts took later =
-    let P : Held → Type 0 = λ held. Adds (stand t f old) bytes (stand u g held) in
+    let P : Waiting → Type 0 = λ held. Adds (stand t f old) bytes (stand u g held) in
     let b = stand u g (record { bytes = []; failed = false }) in
     subst P (sym same) (adds_by (stand t f old) b bytes fine later (λ failed. cc)
     (took_all t (old.bytes ++ bytes) b refl (took ∙ ap (append_known t) parts)))
 
 -- bytes at which the writing failed
-pub adds_cut : (t u : Option (List ℕ)) (f g : ℕ) (old new : Held) (bytes whole : List ℕ) → old.failed ≡ false →
+pub adds_cut : (t u : Option (List ℕ)) (f g : ℕ) (old new : Waiting) (bytes whole : List ℕ) → old.failed ≡ false →
     new ≡ record { bytes = []; failed = true } → whole ≡ old.bytes ++ bytes → TookFront t whole u → f ≤ g → HasRisen f g →
     Adds (stand t f old) bytes (stand u g new)
 adds_cut t u f g old new bytes whole fine same parts took later risen =
-    let P : Held → Type 0 = λ held. Adds (stand t f old) bytes (stand u g held) in
+    let P : Waiting → Type 0 = λ held. Adds (stand t f old) bytes (stand u g held) in
     let Q : List ℕ → Type 0 = λ xs. TookFront t xs u in
     let b = stand u g (record { bytes = []; failed = true }) in
     subst P (sym same) (adds_by (stand t f old) b bytes fine later (λ _. risen)
     (took_front t (old.bytes ++ bytes) b refl (subst Q parts took)))
 
 -- a text that was added and written out
-took_of : (had : Option (List ℕ)) (faults : ℕ) (first : Held) (mid end : Stand) (whole : List ℕ) →
+took_of : (had : Option (List ℕ)) (faults : ℕ) (first : Waiting) (mid end : Stand) (whole : List ℕ) →
     first ≡ record { bytes = []; failed = false } → Adds (stand had faults first) whole mid → Adds mid [] end → Took had whole end
 took_of had faults first mid end whole fresh adds out =
     let start = stand had faults (record { bytes = []; failed = false }) in
-    let P : Held → Type 0 = λ held. Adds (stand had faults held) whole mid in
+    let P : Waiting → Type 0 = λ held. Adds (stand had faults held) whole mid in
     let Q : List ℕ → Type 0 = λ bytes. Took had bytes end in
     subst Q (append-nil whole) ((adds_then (subst P fresh adds) out).goes_on had [] (took_none start))
 
 -- what a sink took of a text that was added and written out, in full where the writing did not fail
-pub adds_whole : (had : Option (List ℕ)) (faults : ℕ) (first : Held) (mid end : Stand) (whole : List ℕ) →
+pub adds_whole : (had : Option (List ℕ)) (faults : ℕ) (first : Waiting) (mid end : Stand) (whole : List ℕ) →
     first ≡ record { bytes = []; failed = false } → Adds (stand had faults first) whole mid → Adds mid [] end →
     end.held ≡ [] → end.failed ≡ false → end.taken ≡ append_known had whole
 adds_whole had faults first mid end whole fresh adds out none fine =
@@ -164,7 +164,7 @@ adds_whole had faults first mid end whole fresh adds out none fine =
     (sym (append-nil took.front.front) ∙ ap (λ xs. took.front.front ++ xs) (sym rest) ∙ took.front.whole_is)
 
 -- and a front in any case
-pub adds_front : (had : Option (List ℕ)) (faults : ℕ) (first : Held) (mid end : Stand) (whole : List ℕ) →
+pub adds_front : (had : Option (List ℕ)) (faults : ℕ) (first : Waiting) (mid end : Stand) (whole : List ℕ) →
     first ≡ record { bytes = []; failed = false } → Adds (stand had faults first) whole mid → Adds mid [] end →
     TookFront had whole end.taken
 adds_front had faults first mid end whole fresh adds out = (took_of had faults first mid end whole fresh adds out).front

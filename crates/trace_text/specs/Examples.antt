@@ -14,8 +14,8 @@ use Rattle.napi_types.specs.Text.{text}
 use Rattle.napi_types.specs.Weave.{weave}
 
 -- an accepted `create_object` of the environment with this result
-abbrev pub plain : Out → Entry
-plain result = record {
+abbrev pub object_entry : Out → Entry
+object_entry result = record {
   actor = actor.Env;
   depth = 1;
   step = 0;
@@ -44,11 +44,11 @@ busy = record {
 pub record Examples : Type 0 where
   -- the journal's entry stands behind the history's, since it was made at length 1
   pub order : text [] (weave
-      (record { at = 1; entry = plain (out.Handle (record { 0 = 1 })) } ∷ [])
-      (plain (out.Signed (negsuc 4)) ∷ []))
+      (record { at = 1; entry = object_entry (out.Handle (record { 0 = 1 })) } ∷ [])
+      (object_entry (out.Signed (negsuc 4)) ∷ []))
       ≡ codes "1 env create_object 0 -5\n2 env create_object 0 handle\n"
   -- the text `"\` with a newline, the byte 31 and an `a`, and a number past the end of the table
   pub escapes : text ((34 ∷ 92 ∷ 10 ∷ 31 ∷ 97 ∷ []) ∷ [])
-      (plain (out.Text (record { 0 = 0 })) ∷ plain (out.Text (record { 0 = 1 })) ∷ [])
+      (object_entry (out.Text (record { 0 = 0 })) ∷ object_entry (out.Text (record { 0 = 1 })) ∷ [])
       ≡ codes "1 env create_object 0 \"\\\"\\\\\\u000a\\u001fa\"\n2 env create_object 0 \"\"\n"
   pub duties : text [] (busy ∷ []) ≡ codes "1 w3 begin 11 complete:1.2:j7 -#4 +f2.7\n"

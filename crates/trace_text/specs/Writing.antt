@@ -4,7 +4,7 @@ use Rattle.std.specs.declared.option.Option.{Option}
 use Rattle.napi_types.specs.Edge.{HasRisen, TookFront}
 
 -- the bytes that wait to be written, and whether the writing failed
-pub record Held : Type 0 where
+pub record Waiting : Type 0 where
   pub bytes : List ℕ
   pub failed : Bool
 
@@ -16,7 +16,7 @@ pub record Stand : Type 0 where
   pub failed : Bool
 
 -- such a stand, from its parts
-abbrev pub stand : Option (List ℕ) → ℕ → Held → Stand
+abbrev pub stand : Option (List ℕ) → ℕ → Waiting → Stand
 stand taken faults pending = record { taken = taken; faults = faults; held = pending.bytes; failed = pending.failed }
 
 -- of these bytes the sink took a front after what it had, and all the others are held where the writing did not fail

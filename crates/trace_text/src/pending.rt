@@ -19,9 +19,9 @@ pub struct Pending {
 
 impl Model for Pending {
     ghost use Rattle.std.specs.Prelude.{◌≡◌, ◌≤◌, true, take};
-    ghost use Rattle.trace_text.specs.Writing.{Held};
+    ghost use Rattle.trace_text.specs.Writing.{Waiting};
 
-    ghost Value = { Held };
+    ghost Value = { Waiting };
 
     ghost view = { λ pending. record { bytes = take pending.filled pending.bytes; failed = pending.failed } };
 

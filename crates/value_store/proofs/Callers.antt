@@ -6,7 +6,7 @@ use borrow.Author.Tests.{eqb-true}
 use Rattle.napi_types.specs.declared.body.Body.{Body}
 use Rattle.napi_types.specs.Lists.{has_number}
 use Rattle.napi_types.specs.Values.{Value, children}
-use Rattle.napi_types.specs.Graph.{StoreState, IsSound, IsLive, value_of, creation_number}
+use Rattle.napi_types.specs.Graph.{StoreState, IsSoundStore, IsLive, value_of, creation_number}
 use Rattle.value_store.specs.Changes.{ChangesOnly, Makes, MakesValue, CanFree}
 use Rattle.value_store.proofs.Lookup.{other-number}
 
@@ -35,7 +35,7 @@ never true c h = let no : ⊥ = cc in absurd no
 never false c h = h
 
 -- a value that was just made may be freed again
-pub made-can-free : (s t : StoreState) (id : ℕ) (b : Body) → IsSound s → 5 ≤ s.made → Makes s t id b → CanFree t (id ∷ [])
+pub made-can-free : (s t : StoreState) (id : ℕ) (b : Body) → IsSoundStore s → 5 ≤ s.made → Makes s t id b → CanFree t (id ∷ [])
 unfolding IsDistinct
 made-can-free s t id b sound started step = record {
   live = All-cons (IsLive t) id [] (subst (λ (o : Option Value). IsSome o) (sym step.named) refl) (All-nil (IsLive t));

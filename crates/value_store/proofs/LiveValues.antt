@@ -7,7 +7,7 @@ use borrow.Author.Tests.{eqb-true}
 use Rattle.napi_types.specs.Lists.{found, has_number}
 use Rattle.napi_types.specs.Reach.{numbers, children_at}
 use Rattle.napi_types.specs.Values.{Value, Property, children, value_at}
-use Rattle.napi_types.specs.Graph.{Stored, StoreState, live, value_of, number_in, renamed, graph_of, IsLive, IsSound}
+use Rattle.napi_types.specs.Graph.{Stored, StoreState, live, value_of, number_in, renamed, graph_of, IsLive, IsSoundStore}
 use Rattle.value_store.specs.Changes.{id_at, EachStandsOnce}
 use Rattle.value_store.proofs.Lookup.{same-number, apart-number, other-number}
 use Rattle.value_store.proofs.Reading.{some-is}
@@ -196,7 +196,7 @@ module _ (s : StoreState) (once : EachStandsOnce s) where
       let r = value-place id v.0 v.1 in
       (r.0, ap (option_map (λ (x : Stored). x.id)) r.2 ∙ ap Some r.4)
 
-  module _ (sound : IsSound s) where
+  module _ (sound : IsSoundStore s) where
     value-listed : (id : ℕ) (v : Value) → value_of s id ≡ Some v → value_at (values s.places) v.number ≡ Some v
     value-listed id v is =
         let r = value-place id v is in

@@ -8,48 +8,48 @@ use Rattle.indexmap.specs.IndexMap.{insert_entry}
 use Rattle.napi_types.specs.declared.ids.ValueId.{ValueId}
 use Rattle.napi_types.specs.Lists.{found}
 use Rattle.napi_types.specs.Values.{Property, property_at, property_set, property_removed, HasDistinctNames}
-use Rattle.value_store.specs.Properties.{property_of, properties_of}
+use Rattle.value_store.specs.Properties.{property_of, listed_properties}
 
 pub same-flip : (a b : ℕ) → (a == b) ≡ (b == a)
 same-flip a b = grind arith
 
 -- an insert into the map is a property that is set
-pub properties_of-insert_entry : (name : ℕ) (to : ValueId) (es : List (ℕ × ValueId)) → properties_of (insert_entry nat_eq es name to) ≡ property_set name to.0 (properties_of es)
-properties_of-insert_entry name to [] = refl
-properties_of-insert_entry name to (e ∷ es) = rw (same-flip name e.0) (by (properties_of-insert_entry name to es) (e.0 == name))
+pub listed_properties-insert_entry : (name : ℕ) (to : ValueId) (es : List (ℕ × ValueId)) → listed_properties (insert_entry nat_eq es name to) ≡ property_set name to.0 (listed_properties es)
+listed_properties-insert_entry name to [] = refl
+listed_properties-insert_entry name to (e ∷ es) = rw (same-flip name e.0) (by (listed_properties-insert_entry name to es) (e.0 == name))
   where
-    by : properties_of (insert_entry nat_eq es name to) ≡ property_set name to.0 (properties_of es) → (b : Bool) → properties_of (if b then (e.0, to) ∷ es else e ∷ insert_entry nat_eq es name to) ≡ cond b (record { name = e.0; value = to.0 } ∷ properties_of es) (property_of e ∷ property_set name to.0 (properties_of es))
+    by : listed_properties (insert_entry nat_eq es name to) ≡ property_set name to.0 (listed_properties es) → (b : Bool) → listed_properties (if b then (e.0, to) ∷ es else e ∷ insert_entry nat_eq es name to) ≡ cond b (record { name = e.0; value = to.0 } ∷ listed_properties es) (property_of e ∷ property_set name to.0 (listed_properties es))
     by rest true = refl
     by rest false = ap (λ l. property_of e ∷ l) rest
 
 -- what the map has at a name is the property's value
-pub property_at-properties_of : (name : ℕ) (es : List (ℕ × ValueId)) → property_at name (properties_of es) ≡ option_map (λ v. v.0) (lookup (nat_eq name) es)
-property_at-properties_of name [] = refl
-property_at-properties_of name (e ∷ es) = rw (same-flip name e.0) (by (property_at-properties_of name es) (e.0 == name))
+pub property_at-listed_properties : (name : ℕ) (es : List (ℕ × ValueId)) → property_at name (listed_properties es) ≡ option_map (λ v. v.0) (lookup (nat_eq name) es)
+property_at-listed_properties name [] = refl
+property_at-listed_properties name (e ∷ es) = rw (same-flip name e.0) (by (property_at-listed_properties name es) (e.0 == name))
   where
-    by : property_at name (properties_of es) ≡ option_map (λ v. v.0) (lookup (nat_eq name) es) → (b : Bool) → option_map (λ (p : Property). p.value) (cond b (Some (property_of e)) (found (λ (p : Property). p.name) name (properties_of es))) ≡ option_map (λ (v : ValueId). v.0) (cond b (Some e.1) (lookup (nat_eq name) es))
+    by : property_at name (listed_properties es) ≡ option_map (λ v. v.0) (lookup (nat_eq name) es) → (b : Bool) → option_map (λ (p : Property). p.value) (cond b (Some (property_of e)) (found (λ (p : Property). p.name) name (listed_properties es))) ≡ option_map (λ (v : ValueId). v.0) (cond b (Some e.1) (lookup (nat_eq name) es))
     by rest true = refl
     by rest false = rest
 
 -- where no name is the one removed, all properties stay
-property_removed-absent : (name : ℕ) (es : List (ℕ × ValueId)) → AllByRecursion (λ y. nat_eq name y ≡ false) (keys_of es) → property_removed name (properties_of es) ≡ properties_of es
+property_removed-absent : (name : ℕ) (es : List (ℕ × ValueId)) → AllByRecursion (λ y. nat_eq name y ≡ false) (keys_of es) → property_removed name (listed_properties es) ≡ listed_properties es
 property_removed-absent name [] h = refl
 property_removed-absent name (e ∷ es) h = rw (same-flip e.0 name, h.0) (ap (λ l. property_of e ∷ l) (property_removed-absent name es h.1))
 
 -- an entry taken out of the map is a property removed
-pub properties_of-remove_entry : (name : ℕ) (es : List (ℕ × ValueId)) → IsDistinct nat_eq (keys_of es) → properties_of (remove_entry (nat_eq name) es) ≡ property_removed name (properties_of es)
-properties_of-remove_entry name [] h = refl
-properties_of-remove_entry name (e ∷ es) h = rw (same-flip e.0 name) (by (properties_of-remove_entry name es (IsDistinct-tail nat_eq e.0 (keys_of es) h)) (nat_eq name e.0) refl)
+pub listed_properties-remove_entry : (name : ℕ) (es : List (ℕ × ValueId)) → IsDistinct nat_eq (keys_of es) → listed_properties (remove_entry (nat_eq name) es) ≡ property_removed name (listed_properties es)
+listed_properties-remove_entry name [] h = refl
+listed_properties-remove_entry name (e ∷ es) h = rw (same-flip e.0 name) (by (listed_properties-remove_entry name es (IsDistinct-tail nat_eq e.0 (keys_of es) h)) (nat_eq name e.0) refl)
   where
-    by : properties_of (remove_entry (nat_eq name) es) ≡ property_removed name (properties_of es) → (b : Bool) → nat_eq name e.0 ≡ b → properties_of (cond b es (e ∷ remove_entry (nat_eq name) es)) ≡ cond (not b) (property_of e ∷ property_removed name (properties_of es)) (property_removed name (properties_of es))
+    by : listed_properties (remove_entry (nat_eq name) es) ≡ property_removed name (listed_properties es) → (b : Bool) → nat_eq name e.0 ≡ b → listed_properties (cond b es (e ∷ remove_entry (nat_eq name) es)) ≡ cond (not b) (property_of e ∷ property_removed name (listed_properties es)) (property_removed name (listed_properties es))
     by rest true same = let is : name ≡ e.0 = eqb-true name e.0 same in sym (rw is (property_removed-absent e.0 es (IsDistinct-head nat_eq e.0 (keys_of es) h)))
     by rest false same = ap (λ l. property_of e ∷ l) rest
 
 -- no property's name stands twice, as no key of the map does
-pub distinct_names : (es : List (ℕ × ValueId)) → IsDistinct nat_eq (keys_of es) → HasDistinctNames (properties_of es)
+pub distinct_names : (es : List (ℕ × ValueId)) → IsDistinct nat_eq (keys_of es) → HasDistinctNames (listed_properties es)
 distinct_names es h = rw (names es) h
   where
-    names : (es : List (ℕ × ValueId)) → map (λ (p : Property). p.name) (properties_of es) ≡ keys_of es
+    names : (es : List (ℕ × ValueId)) → map (λ (p : Property). p.name) (listed_properties es) ≡ keys_of es
     names [] = refl
     names (e ∷ es) = ap (λ l. e.0 ∷ l) (names es)
 
@@ -58,7 +58,7 @@ is_some-option_map f None = refl
 is_some-option_map f (Some x) = refl
 
 -- the entry at a place is the property whose value is the child there
-pub child_places-property : (es : List (ℕ × ValueId)) (elements : List (Option ℕ)) (at : ℕ) (e : ℕ × ValueId) → Some e ≡ slice_get es at → slice_index_or (map (λ (p : Property). Some p.value) (properties_of es) ++ elements) at None ≡ Some e.1.0
+pub child_places-property : (es : List (ℕ × ValueId)) (elements : List (Option ℕ)) (at : ℕ) (e : ℕ × ValueId) → Some e ≡ slice_get es at → slice_index_or (map (λ (p : Property). Some p.value) (listed_properties es) ++ elements) at None ≡ Some e.1.0
 child_places-property [] elements at e is = let no : ⊥ = cc in absurd no
 child_places-property (x ∷ es) elements zero e is = let same : e ≡ x = cc in ap (λ (y : ℕ × ValueId). Some y.1.0) (sym same)
 child_places-property (x ∷ es) elements (suc at) e is = child_places-property es elements at e is

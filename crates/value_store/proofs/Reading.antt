@@ -5,7 +5,7 @@ use Rattle.std.specs.Option.{unwrap_or}
 use Rattle.std.proofs.lemmas.List.{length-map}
 use Rattle.napi_types.specs.declared.ids.ValueId.{ValueId}
 use Rattle.napi_types.specs.Values.{Value, children, property_at, element_at, is_object_like, value_at, starting_values}
-use Rattle.napi_types.specs.Graph.{StoreState, Stored, IsSound, IsLive, value_of}
+use Rattle.napi_types.specs.Graph.{StoreState, Stored, IsSoundStore, IsLive, value_of}
 use Rattle.value_store.specs.Places.{state_of, stored_as, at_number, properties_at, elements_at, child_places_at, IsNumbered}
 use Rattle.value_store.specs.Changes.{properties_in, elements_in, child_places, child_places_in, id_at, EachStandsOnce, IsObject, IsStarting, StandsAt}
 use Rattle.value_store.proofs.Lookup.{value_of-state_of, number-within}
@@ -71,8 +71,8 @@ module _ (ps : List (Option Value)) (s : StoreState) (view : state_of ps ≡ s) 
   pub object-there : (n : ℕ) → IsObject s n → IsSome (at_number ps n)
   object-there n h = live-there n (some-and (value_of s n) h)
 
-  pub sound-view : IsSound s
-  sound-view = subst (λ (t : StoreState). IsSound t) view (sound ps all)
+  pub sound-view : IsSoundStore s
+  sound-view = subst (λ (t : StoreState). IsSoundStore t) view (sound ps all)
 
   -- the value of a property is live, and so is an element
   pub property-live : (n name : ℕ) (r : Option ValueId) → option_map (λ v. v.0) r ≡ property_at name (properties_at n ps) → IfSome r (λ v. IsLive s v.0)

@@ -6,7 +6,7 @@ use Rattle.std.proofs.lemmas.List.Elements.{All-weaker}
 use borrow.Author.Tests.{eqb-true}
 use Rattle.napi_types.specs.Lists.{has_number, up_to}
 use Rattle.napi_types.specs.Values.{Value, HasDistinctNames, children, value_at, starting_values}
-use Rattle.napi_types.specs.Graph.{IsSound, IsSoundMap, value_of}
+use Rattle.napi_types.specs.Graph.{IsSoundStore, IsSoundMap, value_of}
 use Rattle.napi_types.proofs.Issued.{has-up_to}
 use Rattle.value_store.specs.Places.{state_of, at_number, changed_at, IsNumbered}
 use Rattle.value_store.specs.Changes.{ChangesOnly}
@@ -66,7 +66,7 @@ zero-not-given zero = refl
 zero-not-given (suc n) = has-up_to 0 n ∙ rw (apart-above (suc n) 0 (omega arith)) (zero-not-given n)
 
 -- what holds of every state of a store
-pub sound : (ps : List (Option Value)) → IsNumbered (at_number ps) → IsSound (state_of ps)
+pub sound : (ps : List (Option Value)) → IsNumbered (at_number ps) → IsSoundStore (state_of ps)
 sound ps all =
     let same : value_of (state_of ps) ≡ at_number ps = λ i n. value_of-state_of ps all.numbered n i in
     let map_is : IsSoundMap (at_number ps) (up_to (length ps)) (length ps) = record {

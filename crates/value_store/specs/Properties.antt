@@ -10,12 +10,12 @@ abbrev pub property_of : ℕ × ValueId → Property
 property_of e = record { name = e.0; value = e.1.0 }
 
 -- the properties that the map's entries are, in their order
-abbrev pub properties_of : List (ℕ × ValueId) → List Property
-properties_of es = map property_of es
+abbrev pub listed_properties : List (ℕ × ValueId) → List Property
+listed_properties es = map property_of es
 
 -- the elements, each by the number of its value
-abbrev pub elements_of : List (Option ValueId) → List (Option ℕ)
-elements_of es = map (λ e. option_map (λ v. v.0) e) es
+abbrev pub listed_elements : List (Option ValueId) → List (Option ℕ)
+listed_elements es = map (λ e. option_map (λ v. v.0) e) es
 
 -- the elements of an array of the values of these numbers
 abbrev pub elements_named : List ℕ → List (Option ValueId)

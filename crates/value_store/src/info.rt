@@ -2,7 +2,7 @@
 ghost use Rattle.std.specs.Prelude.{◌≡◌, ◌+◌, ◌-◌, ◌<◌, ◌≤◌, ◌++◌, length, replicate, IfOk, OnOk, OnErr, option_map, slice_get, slice_index_or, is_some, Some, None, true, false};
 ghost use Rattle.napi_types.specs.Values.{fresh_value, error_of, most_index, property_at, element_at, with_property, without_property, with_element};
 ghost use Rattle.value_store.specs.Changes.{child_places};
-ghost use Rattle.value_store.specs.Properties.{elements_of};
+ghost use Rattle.value_store.specs.Properties.{listed_elements};
 
 use indexmap::IndexMap;
 use napi_types::{Body, NoMemory, TextNo, ValueId};
@@ -37,13 +37,13 @@ impl Model for ValueInfo {
 
     ghost Value = { GraphValue };
 
-    ghost use Rattle.value_store.specs.Properties.{properties_of, elements_of, AreLists};
+    ghost use Rattle.value_store.specs.Properties.{listed_properties, listed_elements, AreLists};
 
     ghost view = { λ info. record {
       number = info.number;
       body = info.body;
-      properties = properties_of info.properties.entries;
-      elements = elements_of info.elements.items;
+      properties = listed_properties info.properties.entries;
+      elements = listed_elements info.elements.items;
     } };
 
     ghost invariant = { λ info. AreLists info.properties.entries info.elements.items };
@@ -65,7 +65,7 @@ impl ValueInfo {
     /// An array of these elements, at most 65,536.
     pub(crate) fn array(alloc: Global, number: u64, elements: Vec<Option<ValueId>>) -> ValueInfo
         requires { length elements.items ≤ most_index + 1 }
-        ensures { result ≡ record (fresh_value number (Body.Object true false)) { elements = elements_of elements.items } }
+        ensures { result ≡ record (fresh_value number (Body.Object true false)) { elements = listed_elements elements.items } }
     {
         ValueInfo {
             number,

@@ -2,7 +2,7 @@
 ghost use Rattle.std.specs.Prelude.{◌≡◌, ◌+◌, ◌-◌, ◌<◌, ◌≤◌, ◌^◌, ◌++◌, [], ◌∷◌, not, filter, map, length, slice_get, slice_index_or, is_some, option_map, option_copied, IfSome, IfOk, OnOk, OnErr, Some, None};
 ghost use Rattle.napi_types.specs.Lists.{has_number};
 ghost use Rattle.napi_types.specs.Values.{value_at, value_changed, fresh_value, error_of, list_of, thrown_strings, thrown_of, most_index, property_at, element_at, with_property, without_property, with_element};
-ghost use Rattle.napi_types.specs.Graph.{value_of, number_in, renamed, graph_of, IsLive, IsSound};
+ghost use Rattle.napi_types.specs.Graph.{value_of, number_in, renamed, graph_of, IsLive, IsSoundStore};
 ghost use Rattle.value_store.specs.Changes.{properties_in, elements_in, child_places_in, id_at, EachStandsOnce, numbers_of, IsNew, IsStarting, IsObject, StandsAt, ChangesOnly, Makes, MakesValue, MakesList, Frees, CanFree};
 
 use crate::{ValueInfo, places};
@@ -57,7 +57,7 @@ impl Store {
         ensures made { IfOk result (λ id. Makes self.old self.new id.0 body) }
         ensures graph { OnOk result (graph_of self.new ≡ graph_of self.old ++ fresh_value (self.old.made + 1) body ∷ []) }
         ensures err { OnErr result (self.new ≡ self.old) }
-        ensures sound { IsSound self.old }
+        ensures sound { IsSoundStore self.old }
     {
         let number = self.values.len() as u64 + 1;
         let value = ValueInfo::new(self.alloc, number, body);
@@ -82,7 +82,7 @@ impl Store {
         ensures graph { let error = error_of (self.old.made + 1) (option_map (λ c. number_in self.old c.0) code) (number_in self.old message.0) in
             OnOk result (graph_of self.new ≡ graph_of self.old ++ error ∷ []) }
         ensures err { OnErr result (self.new ≡ self.old) }
-        ensures sound { IsSound self.old }
+        ensures sound { IsSoundStore self.old }
     {
         let number = self.values.len() as u64 + 1;
         let value = ValueInfo::error(self.alloc, number, code, message)?;
@@ -100,7 +100,7 @@ impl Store {
         ensures listed { IfOk result (λ id. MakesList self.old self.new id.0 (length bodies.now)) }
         ensures graph { OnOk result (graph_of self.new ≡ graph_of self.old ++ list_of self.old.made bodies.now) }
         ensures err { OnErr result (self.new ≡ self.old) }
-        ensures sound { IsSound self.old }
+        ensures sound { IsSoundStore self.old }
     {
         places::push_list(self.alloc, &mut self.values, bodies)?;
         Ok(ValueId(self.values.len() as u64))
@@ -119,7 +119,7 @@ impl Store {
         ensures listed { IfOk result (λ id. MakesList self.old self.new id.0 (length (thrown_strings code message))) }
         ensures graph { OnOk result (graph_of self.new ≡ graph_of self.old ++ thrown_of self.old.made code message) }
         ensures err { OnErr result (self.new ≡ self.old) }
-        ensures sound { IsSound self.old }
+        ensures sound { IsSoundStore self.old }
     {
         places::push_thrown(self.alloc, &mut self.values, code, message)?;
         let error = self.values.len() as u64;
@@ -130,7 +130,7 @@ impl Store {
     pub fn get(&self, id: ValueId) -> Option<&ValueInfo>
         ensures value { option_copied result ≡ value_of self.now id.0 }
         ensures graph { value_at (graph_of self.now) (number_in self.now id.0) ≡ option_map (renamed self.now) (value_of self.now id.0) }
-        ensures sound { IsSound self.now }
+        ensures sound { IsSoundStore self.now }
     {
         places::value_at(&self.values, id.0)
     }
@@ -243,7 +243,7 @@ impl Store {
     pub fn places(&self) -> usize
         ensures count { result ≡ length self.now.places }
         ensures once { EachStandsOnce self.now }
-        ensures sound { IsSound self.now }
+        ensures sound { IsSoundStore self.now }
     {
         self.values.len()
     }

@@ -2,7 +2,7 @@
 ghost use Rattle.std.specs.Prelude.{◌≡◌, ◌≢◌, ◌+◌, ◌<◌, ◌≤◌, ◌^◌, ◌&&◌, [], ◌∷◌, ◌++◌, length, take, replicate, Some, None, is_some, IfOk, OnOk, OnErr, IfErr};
 ghost use Rattle.std.specs.List.{list_all};
 ghost use Rattle.napi_types.specs.declared.call.Call.TheVariants as call_of;
-ghost use Rattle.napi_types.specs.Calls.{at_depth_limit};
+ghost use Rattle.napi_types.specs.Calls.{with_depth_error};
 ghost use Rattle.napi_types.specs.Frames.{most_frames, asks_made, most_asks};
 ghost use Rattle.napi_types.specs.FunctionCalls.{argument_handles};
 ghost use Rattle.napi_types.specs.CallFacts.{handle_if};
@@ -132,7 +132,7 @@ impl State {
     fn exceed_depth(&mut self) -> Result<Reply, NoMemory>
         requires { self.old.heap.made + most_names + 8 < 2 ^ 48 }
         ensures reply { IfOk result (λ reply. reply ≡ plain_reply Status.PendingException Out.Nothing) }
-        ensures after { OnOk result (self.new ≡ at_depth_limit self.old) }
+        ensures after { OnOk result (self.new ≡ with_depth_error self.old) }
         ensures err { OnErr result (self.new ≡ self.old) }
     {
         let error = thrown_value(&mut self.store, None, DEPTH_TEXT)?;

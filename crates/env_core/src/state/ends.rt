@@ -1,8 +1,8 @@
 //! Ends of frames.
 ghost use Rattle.std.specs.Prelude.{◌≡◌, ◌≢◌, ◌<◌, ◌^◌, [], Some, None};
-ghost use Rattle.napi_types.specs.Ends.{frame_ended, call_over, call_left, call_ended, outermost_over};
+ghost use Rattle.napi_types.specs.Ends.{end_change, call_end_change, uncut_call_end, call_end_with, outermost_end_change};
 ghost use Rattle.napi_types.specs.Frames.{cause_of};
-ghost use Rattle.napi_types.specs.Heap.{frame_left};
+ghost use Rattle.napi_types.specs.Heap.{without_frame};
 
 use super::{State, host_entry, host_told};
 use crate::handles::left_by;
@@ -13,8 +13,8 @@ impl State {
     pub fn leave(&mut self, value: Option<HandleId>, cut: Option<Why>) -> Entry
         requires standing { self.old.frames ≢ [] }
         requires handles { self.old.heap.handles < 2 ^ 62 }
-        ensures entry { result ≡ (frame_ended value cut self.old).entry }
-        ensures after { self.new ≡ (frame_ended value cut self.old).after }
+        ensures entry { result ≡ (end_change value cut self.old).entry }
+        ensures after { self.new ≡ (end_change value cut self.old).after }
     {
         let Some(frame) = self.frames.innermost() else {
             unreachable!()
@@ -28,8 +28,8 @@ impl State {
     /// A frame that no call began ends. An exception that is pending is cleared.
     fn leave_outermost(&mut self, cut: Option<Why>) -> Entry
         requires { self.old.frames ≢ [] }
-        ensures entry { result ≡ (outermost_over cut self.old).entry }
-        ensures after { self.new ≡ (outermost_over cut self.old).after }
+        ensures entry { result ≡ (outermost_end_change cut self.old).entry }
+        ensures after { self.new ≡ (outermost_end_change cut self.old).after }
     {
         self.scopes.leave_frame();
         self.frames.pop();
@@ -46,8 +46,8 @@ impl State {
         requires standing { self.old.frames ≢ [] }
         requires called { cause_of self.old.frames ≡ Cause.Call }
         requires handles { self.old.heap.handles < 2 ^ 62 }
-        ensures entry { result ≡ (call_over value cut self.old).entry }
-        ensures after { self.new ≡ (call_over value cut self.old).after }
+        ensures entry { result ≡ (call_end_change value cut self.old).entry }
+        ensures after { self.new ≡ (call_end_change value cut self.old).after }
     {
         if let Some(why) = cut {
             return self.give_nothing(Status::GenericFailure, Out::Cut(why));
@@ -61,8 +61,8 @@ impl State {
     /// The call of a frame gives nothing. An exception that is pending stays.
     fn give_nothing(&mut self, status: Status, out: Out) -> Entry
         requires { self.old.frames ≢ [] }
-        ensures entry { result ≡ (call_ended status out (frame_left self.old.heap) self.old).entry }
-        ensures after { self.new ≡ (call_ended status out (frame_left self.old.heap) self.old).after }
+        ensures entry { result ≡ (call_end_with status out (without_frame self.old.heap) self.old).entry }
+        ensures after { self.new ≡ (call_end_with status out (without_frame self.old.heap) self.old).after }
     {
         self.scopes.leave_frame();
         self.frames.pop();
@@ -75,8 +75,8 @@ impl State {
         requires standing { self.old.frames ≢ [] }
         requires called { cause_of self.old.frames ≡ Cause.Call }
         requires handles { self.old.heap.handles < 2 ^ 62 }
-        ensures entry { result ≡ (call_left value self.old None).entry }
-        ensures after { self.new ≡ (call_left value self.old None).after }
+        ensures entry { result ≡ (uncut_call_end value self.old None).entry }
+        ensures after { self.new ≡ (uncut_call_end value self.old None).after }
     {
         let left = left_by(&self.store, &self.scopes, value);
         let Some(handle) = self.scopes.leave_call(Some(left)) else {

@@ -1,6 +1,6 @@
 //! Each call of the handle scopes, with its refusals, where there is memory.
 ghost use Rattle.std.specs.Prelude.{◌≡◌};
-ghost use Rattle.handle_scope.specs.HandleScopes.{no_scopes, frame_entered};
+ghost use Rattle.handle_scope.specs.HandleScopes.{no_scopes, with_frame_scopes};
 
 use super::ample;
 use handle_scope::Scopes;
@@ -14,7 +14,7 @@ const ESCAPABLE: ScopeKind = ScopeKind::Escapable;
 
 /// The handle scopes of one frame.
 fn in_frame(rt: &impl Abort, alloc: Global) -> Scopes
-    ensures { result ≡ frame_entered no_scopes }
+    ensures { result ≡ with_frame_scopes no_scopes }
 {
     let mut scopes = ample(rt, Scopes::new(alloc));
     scopes.enter_frame();

@@ -1,5 +1,5 @@
 use Rattle.std.proofs.Common.{[]}
-use Rattle.napi_types.specs.Registers.{gifted}
+use Rattle.napi_types.specs.Registers.{with_gifts}
 use Rattle.addon_trait.proofs.Members.{map-set_alike, map-set_by}
 use Rattle.addon_trait.proofs.list.enter_at.Goals as goal
 
@@ -8,4 +8,4 @@ returns-clause-plans g c = map-set_alike _ _ _ _ _ c.index_mut.ensures.value c.e
 
 pub returns-clause-regs : goal.returns-clause-regs
 returns-clause-regs g c =
-    map-set_by _ (gifted c.args.gifts.now) _ _ _ _ [] c.index_mut.ensures.value c.requires c.enter.ensures.regs
+    map-set_by _ (with_gifts c.args.gifts.now) _ _ _ _ [] c.index_mut.ensures.value c.requires c.enter.ensures.regs

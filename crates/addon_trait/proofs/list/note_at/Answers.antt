@@ -1,5 +1,5 @@
 use Rattle.std.proofs.Common.{◌≡◌, [], IfSome, Some}
-use Rattle.napi_types.specs.Registers.{kept}
+use Rattle.napi_types.specs.Registers.{registers_after_reply}
 use Rattle.addon_trait.proofs.Members.{map-set_alike, map-set_others, fact_after}
 use Rattle.addon_trait.proofs.list.note_at.Goals as goal
 
@@ -11,5 +11,5 @@ returns-clause-others g c = map-set_others _ _ _ _ [] c.requires
 
 pub returns-clause-kept : goal.returns-clause-kept
 returns-clause-kept g c =
-    fact_after (λ plan before after. IfSome plan (λ p. after ≡ kept p before c.args.entry c.args.step c.args.reply.now))
+    fact_after (λ plan before after. IfSome plan (λ p. after ≡ registers_after_reply p before c.args.entry c.args.step c.args.reply.now))
     _ _ _ _ _ _ (Some []) [] c.index_mut.ensures.value c.requires c.note.ensures.kept

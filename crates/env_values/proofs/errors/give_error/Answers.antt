@@ -3,7 +3,7 @@ use Rattle.napi_types.specs.declared.ids.ValueId.{ValueId}
 use Rattle.napi_types.specs.Graph.{number_in}
 use Rattle.napi_types.specs.Heap.{with_error}
 use Rattle.napi_types.specs.Values.{error_of}
-use Rattle.handle_scope.specs.HandleScopes.{HandleScopes, handle_issued, place_reserved}
+use Rattle.handle_scope.specs.HandleScopes.{HandleScopes, with_issued_handle, with_reserved_place}
 use Rattle.env_values.specs.Seen.{heap_of}
 use Rattle.env_values.proofs.Giving.{given-answer, made-heap, made-live}
 use Rattle.env_values.proofs.Keeping.{keeps_made}
@@ -16,18 +16,18 @@ returns-clause-gives c =
     let after = c.issue_reserved.new.self in
     let code = option_map (λ (v : ValueId). number_in s v.0) c.args.code in
     let message = number_in s c.args.message.0 in
-    let issued : after ≡ handle_issued c.in_ok-error.error.0 (place_reserved scopes) = c.issue_reserved.ensures.issued ∙ ap (handle_issued c.in_ok-error.error.0) c.in_ok-reserve.ensures.ok in
+    let issued : after ≡ with_issued_handle c.in_ok-error.error.0 (with_reserved_place scopes) = c.issue_reserved.ensures.issued ∙ ap (with_issued_handle c.in_ok-error.error.0) c.in_ok-reserve.ensures.ok in
     given-answer (with_error code message (heap_of s scopes)) (heap_of c.error_value.new.store after) (s.made + 1) c.issue_reserved.result
     (c.issue_reserved.ensures.handle ∙ ap (λ (x : HandleScopes). x.handles + 1) c.in_ok-reserve.ensures.ok)
-    (made-heap s c.error_value.new.store (place_reserved scopes) after c.in_ok-error.error.0 (error_of (s.made + 1) (option_map (λ (v : ValueId). v.0) c.args.code) c.args.message.0) (error_of (s.made + 1) code message)
+    (made-heap s c.error_value.new.store (with_reserved_place scopes) after c.in_ok-error.error.0 (error_of (s.made + 1) (option_map (λ (v : ValueId). v.0) c.args.code) c.args.message.0) (error_of (s.made + 1) code message)
     c.recall.ensures c.in_ok-error.ensures.made refl c.in_ok-error.ensures.graph c.requires.able.give.live issued)
 
 pub returns-clause-keeps : goal.returns-clause-keeps
 returns-clause-keeps c =
     let scopes = c.args.scopes.now in
-    let issued : c.issue_reserved.new.self ≡ handle_issued c.in_ok-error.error.0 (place_reserved scopes) =
-    c.issue_reserved.ensures.issued ∙ ap (handle_issued c.in_ok-error.error.0) c.in_ok-reserve.ensures.ok in
+    let issued : c.issue_reserved.new.self ≡ with_issued_handle c.in_ok-error.error.0 (with_reserved_place scopes) =
+    c.issue_reserved.ensures.issued ∙ ap (with_issued_handle c.in_ok-error.error.0) c.in_ok-reserve.ensures.ok in
     record {
-      scopes = record { live = made-live c.args.store.now c.error_value.new.store (place_reserved scopes) c.issue_reserved.new.self c.in_ok-error.error.0 _ c.in_ok-error.ensures.made c.requires.able.give.live issued; calls = ap (λ (x : HandleScopes). x.by_call) issued };
+      scopes = record { live = made-live c.args.store.now c.error_value.new.store (with_reserved_place scopes) c.issue_reserved.new.self c.in_ok-error.error.0 _ c.in_ok-error.ensures.made c.requires.able.give.live issued; calls = ap (λ (x : HandleScopes). x.by_call) issued };
       values = keeps_made c.args.store.now c.error_value.new.store c.in_ok-error.error.0 _ c.recall.ensures c.in_ok-error.ensures.made;
     }

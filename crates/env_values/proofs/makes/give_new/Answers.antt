@@ -1,7 +1,7 @@
 use Rattle.std.proofs.Common.{◌≡◌, ◌∙◌, ◌+◌, ap, refl}
 use Rattle.napi_types.specs.Heap.{with_value}
 use Rattle.napi_types.specs.Values.{fresh_value}
-use Rattle.handle_scope.specs.HandleScopes.{HandleScopes, handle_issued, place_reserved}
+use Rattle.handle_scope.specs.HandleScopes.{HandleScopes, with_issued_handle, with_reserved_place}
 use Rattle.env_values.specs.Seen.{heap_of}
 use Rattle.env_values.proofs.Giving.{given-answer, made-heap, made-live}
 use Rattle.env_values.proofs.Keeping.{keeps_made}
@@ -13,17 +13,17 @@ returns-clause-gives c =
     let scopes = c.args.scopes.now in
     let after = c.issue_reserved.new.self in
     let value = fresh_value (s.made + 1) c.args.body in
-    let issued : after ≡ handle_issued c.in_ok-value.value.0 (place_reserved scopes) = c.issue_reserved.ensures.issued ∙ ap (handle_issued c.in_ok-value.value.0) c.in_ok-reserve.ensures.ok in
+    let issued : after ≡ with_issued_handle c.in_ok-value.value.0 (with_reserved_place scopes) = c.issue_reserved.ensures.issued ∙ ap (with_issued_handle c.in_ok-value.value.0) c.in_ok-reserve.ensures.ok in
     given-answer (with_value c.args.body (heap_of s scopes)) (heap_of c.make.new.self after) (s.made + 1) c.issue_reserved.result
     (c.issue_reserved.ensures.handle ∙ ap (λ (x : HandleScopes). x.handles + 1) c.in_ok-reserve.ensures.ok)
-    (made-heap s c.make.new.self (place_reserved scopes) after c.in_ok-value.value.0 value value c.recall.ensures c.in_ok-value.ensures.made refl c.in_ok-value.ensures.graph c.requires.able.give.live issued)
+    (made-heap s c.make.new.self (with_reserved_place scopes) after c.in_ok-value.value.0 value value c.recall.ensures c.in_ok-value.ensures.made refl c.in_ok-value.ensures.graph c.requires.able.give.live issued)
 
 pub returns-clause-keeps : goal.returns-clause-keeps
 returns-clause-keeps c =
     let scopes = c.args.scopes.now in
-    let issued : c.issue_reserved.new.self ≡ handle_issued c.in_ok-value.value.0 (place_reserved scopes) =
-    c.issue_reserved.ensures.issued ∙ ap (handle_issued c.in_ok-value.value.0) c.in_ok-reserve.ensures.ok in
+    let issued : c.issue_reserved.new.self ≡ with_issued_handle c.in_ok-value.value.0 (with_reserved_place scopes) =
+    c.issue_reserved.ensures.issued ∙ ap (with_issued_handle c.in_ok-value.value.0) c.in_ok-reserve.ensures.ok in
     record {
-      scopes = record { live = made-live c.args.store.now c.make.new.self (place_reserved scopes) c.issue_reserved.new.self c.in_ok-value.value.0 _ c.in_ok-value.ensures.made c.requires.able.give.live issued; calls = ap (λ (x : HandleScopes). x.by_call) issued };
+      scopes = record { live = made-live c.args.store.now c.make.new.self (with_reserved_place scopes) c.issue_reserved.new.self c.in_ok-value.value.0 _ c.in_ok-value.ensures.made c.requires.able.give.live issued; calls = ap (λ (x : HandleScopes). x.by_call) issued };
       values = keeps_made c.args.store.now c.make.new.self c.in_ok-value.value.0 _ c.recall.ensures c.in_ok-value.ensures.made;
     }

@@ -1,6 +1,6 @@
 use Rattle.std.proofs.Common.{◌≡◌, ◌∙◌, ◌+◌, length, ap}
 use Rattle.napi_types.specs.Heap.{with_list}
-use Rattle.handle_scope.specs.HandleScopes.{HandleScopes, handle_issued, place_reserved}
+use Rattle.handle_scope.specs.HandleScopes.{HandleScopes, with_issued_handle, with_reserved_place}
 use Rattle.env_values.specs.Seen.{heap_of}
 use Rattle.env_values.proofs.Giving.{given-answer, listed-heap, listed-live}
 use Rattle.env_values.proofs.Keeping.{keeps_listed}
@@ -12,17 +12,17 @@ returns-clause-gives c =
     let scopes = c.args.scopes.now in
     let bodies = c.args.bodies.now in
     let after = c.issue_reserved.new.self in
-    let issued : after ≡ handle_issued c.in_ok-value.value.0 (place_reserved scopes) = c.issue_reserved.ensures.issued ∙ ap (handle_issued c.in_ok-value.value.0) c.in_ok-reserve.ensures.ok in
+    let issued : after ≡ with_issued_handle c.in_ok-value.value.0 (with_reserved_place scopes) = c.issue_reserved.ensures.issued ∙ ap (with_issued_handle c.in_ok-value.value.0) c.in_ok-reserve.ensures.ok in
     given-answer (with_list bodies (heap_of s scopes)) (heap_of c.make_list.new.self after) (s.made + length bodies + 1) c.issue_reserved.result
     (c.issue_reserved.ensures.handle ∙ ap (λ (x : HandleScopes). x.handles + 1) c.in_ok-reserve.ensures.ok)
-    (listed-heap s c.make_list.new.self (place_reserved scopes) after c.in_ok-value.value.0 bodies c.recall.ensures c.in_ok-value.ensures.listed c.in_ok-value.ensures.graph c.requires.able.give.live issued)
+    (listed-heap s c.make_list.new.self (with_reserved_place scopes) after c.in_ok-value.value.0 bodies c.recall.ensures c.in_ok-value.ensures.listed c.in_ok-value.ensures.graph c.requires.able.give.live issued)
 
 pub returns-clause-keeps : goal.returns-clause-keeps
 returns-clause-keeps c =
     let scopes = c.args.scopes.now in
-    let issued : c.issue_reserved.new.self ≡ handle_issued c.in_ok-value.value.0 (place_reserved scopes) =
-    c.issue_reserved.ensures.issued ∙ ap (handle_issued c.in_ok-value.value.0) c.in_ok-reserve.ensures.ok in
+    let issued : c.issue_reserved.new.self ≡ with_issued_handle c.in_ok-value.value.0 (with_reserved_place scopes) =
+    c.issue_reserved.ensures.issued ∙ ap (with_issued_handle c.in_ok-value.value.0) c.in_ok-reserve.ensures.ok in
     record {
-      scopes = record { live = listed-live c.args.store.now c.make_list.new.self (place_reserved scopes) c.issue_reserved.new.self c.in_ok-value.value.0 (length c.args.bodies.now) c.recall.ensures c.in_ok-value.ensures.listed c.requires.able.give.live issued; calls = ap (λ (x : HandleScopes). x.by_call) issued };
+      scopes = record { live = listed-live c.args.store.now c.make_list.new.self (with_reserved_place scopes) c.issue_reserved.new.self c.in_ok-value.value.0 (length c.args.bodies.now) c.recall.ensures c.in_ok-value.ensures.listed c.requires.able.give.live issued; calls = ap (λ (x : HandleScopes). x.by_call) issued };
       values = keeps_listed c.args.store.now c.make_list.new.self c.in_ok-value.value.0 (length c.args.bodies.now) c.recall.ensures c.in_ok-value.ensures.listed;
     }

@@ -1,6 +1,6 @@
 use Rattle.std.proofs.Common.{◌≡◌, ◌∙◌, true, ap, sym, refl}
 use Rattle.napi_types.specs.Heap.{Heap, handle_body, handle_value, with_changed}
-use Rattle.napi_types.specs.Replies.{answered}
+use Rattle.napi_types.specs.Replies.{accepts}
 use Rattle.napi_types.specs.declared.entry.Out.TheVariants as out
 use Rattle.napi_types.specs.Values.{is_object_like, with_element}
 use Rattle.env_values.specs.Seen.{heap_of}
@@ -19,9 +19,9 @@ returns-clause-comes c = λ texts.
     let like : is_object_like (handle_body (heap_of s scopes) c.args.object.0) ≡ true =
     like-known s scopes c.args.object.0 c.in_ok-object.object object c.in_ok-object_like.ensures.ok in (
       rw (object.known, value.known, like, c.in_ok-index.ensures.within) refl,
-      ap (λ at. answered out.Nothing (with_changed c.args.object.0 (with_element at (handle_value (heap_of s scopes) c.args.value.0)) (heap_of s scopes))) (sym c.in_ok-index.ensures.ok)
-          ∙ ap (λ n. answered out.Nothing (with_changed c.args.object.0 (with_element c.in_ok-index.index n) (heap_of s scopes))) value.number
-          ∙ ap (λ (heap : Heap). answered out.Nothing heap)
+      ap (λ at. accepts out.Nothing (with_changed c.args.object.0 (with_element at (handle_value (heap_of s scopes) c.args.value.0)) (heap_of s scopes))) (sym c.in_ok-index.ensures.ok)
+          ∙ ap (λ n. accepts out.Nothing (with_changed c.args.object.0 (with_element c.in_ok-index.index n) (heap_of s scopes))) value.number
+          ∙ ap (λ (heap : Heap). accepts out.Nothing heap)
           (with_changed-heap s c.set_element.new.self scopes c.args.object.0 c.in_ok-object.object.id.0 _ _ (λ v. refl) c.in_ok-set_element.ensures.set c.in_ok-set_element.ensures.graph object.number),
     )
 

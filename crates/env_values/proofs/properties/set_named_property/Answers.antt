@@ -1,6 +1,6 @@
 use Rattle.std.proofs.Common.{◌≡◌, ◌∙◌, true, ap, refl}
 use Rattle.napi_types.specs.Heap.{Heap, handle_body, with_changed}
-use Rattle.napi_types.specs.Replies.{answered}
+use Rattle.napi_types.specs.Replies.{accepts}
 use Rattle.napi_types.specs.declared.entry.Out.TheVariants as out
 use Rattle.napi_types.specs.Values.{is_object_like, with_property}
 use Rattle.env_values.specs.Seen.{heap_of}
@@ -19,8 +19,8 @@ returns-clause-comes c =
     let like : is_object_like (handle_body (heap_of s scopes) c.args.object.0) ≡ true =
     like-known s scopes c.args.object.0 c.in_ok-object.object object c.in_ok-object_like.ensures.ok in (
       rw (object.known, value.known, c.in_ok-known_text.ensures.ok, like) refl,
-      ap (λ n. answered out.Nothing (with_changed c.args.object.0 (with_property c.args.name.0 n) (heap_of s scopes))) value.number
-          ∙ ap (λ (heap : Heap). answered out.Nothing heap)
+      ap (λ n. accepts out.Nothing (with_changed c.args.object.0 (with_property c.args.name.0 n) (heap_of s scopes))) value.number
+          ∙ ap (λ (heap : Heap). accepts out.Nothing heap)
           (with_changed-heap s c.set_prop.new.self scopes c.args.object.0 c.in_ok-object.object.id.0 _ _ (λ v. refl) c.in_ok-set_prop.ensures.set c.in_ok-set_prop.ensures.graph object.number),
     )
 

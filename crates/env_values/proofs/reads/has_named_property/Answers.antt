@@ -1,6 +1,6 @@
 use Rattle.std.proofs.Common.{◌≡◌, ◌∙◌, true, is_some, ap, sym, refl}
 use Rattle.napi_types.specs.Heap.{handle_body}
-use Rattle.napi_types.specs.Replies.{answered}
+use Rattle.napi_types.specs.Replies.{accepts}
 use Rattle.napi_types.specs.declared.entry.Out.TheVariants as out
 use Rattle.napi_types.specs.Values.{is_object_like}
 use Rattle.env_values.specs.Seen.{heap_of}
@@ -17,7 +17,7 @@ returns c =
     record {
       comes = (
         rw (k.known, c.in_ok-known_text.ensures.ok, like) refl,
-        ap (λ b. answered (out.Flag b) (heap_of s scopes))
+        ap (λ b. accepts (out.Flag b) (heap_of s scopes))
             (ap is_some (property-known s scopes c.args.object.0 c.in_ok-object.object k c.args.name.0) ∙ same-there s _ _ c.get_prop.ensures.value ∙ sym c.is_some.ensures),
       );
     }

@@ -6,7 +6,7 @@ use Rattle.napi_types.specs.declared.call.Call.TheVariants as call
 use Rattle.napi_types.specs.declared.entry.Out.TheVariants as out
 use Rattle.napi_types.specs.declared.status.Status.{Status}
 use Rattle.napi_types.specs.declared.status.Status.TheVariants as status
-use Rattle.napi_types.specs.Calls.{answer_at}
+use Rattle.napi_types.specs.Calls.{answer_unless_deep}
 use Rattle.napi_types.specs.Environment.{Environment}
 use Rattle.napi_types.specs.Lists.{has_number, one, unless}
 use Rattle.napi_types.specs.Refusals.{handles_of, texts_of, moment_refusal, timely_refusal, unknown_refusal, reference_refusal, kind_refusal, row_refusal, depth_refusal}
@@ -22,13 +22,13 @@ first-of (Some m) deep s = refl
 
 -- what a call answers that is refused before the depth limit
 reply-of : (e : Environment) (c : Call) (n : ℕ) (moment deep : Option Status) (s : Status)
-    → (answer_at e c n (option_or moment (Some s)) deep).reply ≡ plain (unwrap_or moment s) out.Nothing
+    → (answer_unless_deep e c n (option_or moment (Some s)) deep).reply ≡ plain (unwrap_or moment s) out.Nothing
 reply-of e c n None None s = refl
 reply-of e c n None (Some d) s = refl
 reply-of e c n (Some m) None s = refl
 reply-of e c n (Some m) (Some d) s = refl
 
-after-of : (e : Environment) (c : Call) (n : ℕ) (moment deep : Option Status) (s : Status) → (answer_at e c n (option_or moment (Some s)) deep).after ≡ e
+after-of : (e : Environment) (c : Call) (n : ℕ) (moment deep : Option Status) (s : Status) → (answer_unless_deep e c n (option_or moment (Some s)) deep).after ≡ e
 after-of e c n None None s = refl
 after-of e c n None (Some d) s = refl
 after-of e c n (Some m) None s = refl
@@ -51,8 +51,8 @@ unknown e c h here none =
     let deep : Option Status = depth_refusal e.frames c in
     record {
       refusal = ap (λ s. option_or (option_or (moment_refusal e c) s) deep) first ∙ first-of (moment_refusal e c) deep status.InvalidArg;
-      reply = λ n. ap (λ s. (answer_at e c n (option_or (moment_refusal e c) s) deep).reply) first ∙ reply-of e c n (moment_refusal e c) deep status.InvalidArg;
-      after = λ n. ap (λ s. (answer_at e c n (option_or (moment_refusal e c) s) deep).after) first ∙ after-of e c n (moment_refusal e c) deep status.InvalidArg;
+      reply = λ n. ap (λ s. (answer_unless_deep e c n (option_or (moment_refusal e c) s) deep).reply) first ∙ reply-of e c n (moment_refusal e c) deep status.InvalidArg;
+      after = λ n. ap (λ s. (answer_unless_deep e c n (option_or (moment_refusal e c) s) deep).after) first ∙ after-of e c n (moment_refusal e c) deep status.InvalidArg;
     }
 
 -- a handle is among those of a call that names it alone

@@ -6,7 +6,7 @@ use Rattle.napi_types.specs.declared.entry.Out.{Out}
 use Rattle.napi_types.specs.declared.entry.Out.TheVariants as out
 use Rattle.napi_types.specs.declared.entry.Why.{Why}
 use Rattle.napi_types.specs.declared.entry.Why.TheVariants as why
-use Rattle.napi_types.specs.Built.{is_built, taken}
+use Rattle.napi_types.specs.Built.{is_built, built_ask}
 use Rattle.napi_types.specs.Changes.{host_entry}
 use Rattle.napi_types.specs.Step.{frame_step}
 use Rattle.machine_laws.specs.Cuts.{first_called, IsOnlyNext}
@@ -14,7 +14,7 @@ use Rattle.machine_laws.proofs.Cutting.{Steps, MayStand, only-in-frame}
 use Rattle.machine_laws.proofs.cuts.leaves_at_unbuilt_call.Goals as goal
 
 -- what a call that is not built is taken for
-unbuilt : (c : Call) → is_built c ≡ false → taken (ask.Do c) ≡ ask.Leave None
+unbuilt : (c : Call) → is_built c ≡ false → built_ask (ask.Do c) ≡ ask.Leave None
 unbuilt c b = rw b refl
 
 leaves-only : (o : Out) (w : Option Why) → IsTrue (frame_step first_called (ask.Leave None) o w).may → (frame_step first_called (ask.Leave None) o w).entry ≡ host_entry host.End out.Nothing

@@ -8,9 +8,9 @@ use Rattle.napi_types.specs.declared.entry.Out.{Out}
 use Rattle.napi_types.specs.declared.entry.Why.{Why}
 use Rattle.napi_types.specs.declared.entry.Why.TheVariants as why
 use Rattle.napi_types.specs.declared.ids.HandleId.{HandleId}
-use Rattle.napi_types.specs.Built.{is_built, taken}
-use Rattle.napi_types.specs.Changes.{is_fresh, may_ask, may_call}
-use Rattle.napi_types.specs.Ends.{frame_ended}
+use Rattle.napi_types.specs.Built.{is_built, built_ask}
+use Rattle.napi_types.specs.Changes.{is_fresh_result, may_ask, may_call}
+use Rattle.napi_types.specs.Ends.{end_change}
 use Rattle.napi_types.specs.Environment.{Environment}
 use Rattle.napi_types.specs.Frames.{Frame, is_asking, asks_made}
 use Rattle.napi_types.specs.Machine.{Machine}
@@ -47,32 +47,32 @@ none-at-call m f fs stands silent below c o (Some why.Full) h = no-call m.env f 
 none-at-call m f fs stands silent below c o (Some why.Memory) h =
     no-call m.env f fs stands silent (and-left (may_call m.env) (may_want_memory (room_of m c) c) (and-left (may_call m.env && may_want_memory (room_of m c) c) (not (is_full (room_of m c) c)) h))
 none-at-call m f fs stands silent below c o None h =
-    no-call m.env f fs stands silent (and-left (may_call m.env) (is_fresh m.env o) (and-left (may_call m.env && is_fresh m.env o) (not (is_full (room_of m c) c)) h))
+    no-call m.env f fs stands silent (and-left (may_call m.env) (is_fresh_result m.env o) (and-left (may_call m.env && is_fresh_result m.env o) (not (is_full (room_of m c) c)) h))
 
-built : (c : Call) → is_built c ≡ true → taken (ask.Do c) ≡ ask.Do c
+built : (c : Call) → is_built c ≡ true → built_ask (ask.Do c) ≡ ask.Do c
 built c b = rw b refl
 
 calls : (m : Machine) (f : Frame) (fs : List Frame) → m.env.frames ≡ f ∷ fs → f.makes_asks ≡ false → f.asks < 65536 → (c : Call) → is_built c ≡ true
     → (x : Entry)
     → IsNext m (ask.Do c) x → ⊥
 calls m f fs stands silent below c b x next =
-    let s : step_of m (ask.Do c) x x.actor ≡ frame_step m (taken (ask.Do c)) x.reply.out (cut_of x.reply.out) = frame-step m (ask.Do c) x x.actor f fs stands next.1 in
+    let s : step_of m (ask.Do c) x x.actor ≡ frame_step m (built_ask (ask.Do c)) x.reply.out (cut_of x.reply.out) = frame-step m (ask.Do c) x x.actor f fs stands next.1 in
     let P : Step → Type 0 = λ t. IsTrue t.may in
     let Q : Ask → Type 0 = λ a. IsTrue (frame_step m a x.reply.out (cut_of x.reply.out)).may in
     none-at-call m f fs stands silent below c x.reply.out (cut_of x.reply.out) (subst Q (built c b) (subst P s next.1))
 
 -- its end may come
 only-end : (m : Machine) (f : Frame) (fs : List Frame) → m.env.frames ≡ f ∷ fs → f.asks < 65536 → (v : Option HandleId) (o : Out) (w : Option Why)
-    → IsTrue (frame_step m (ask.Leave v) o w).may → (frame_step m (ask.Leave v) o w).entry ≡ (frame_ended v None m.env).entry
+    → IsTrue (frame_step m (ask.Leave v) o w).may → (frame_step m (ask.Leave v) o w).entry ≡ (end_change v None m.env).entry
 only-end m f fs stands below v o None h = refl
 only-end m f fs stands below v o (Some why.Asks) h = absurd (not-spent m.env f fs stands below h)
 only-end m f fs stands below v o (Some why.Full) h = cc
 only-end m f fs stands below v o (Some why.Memory) h = cc
 
 leaves : (m : Machine) (f : Frame) (fs : List Frame) → m.env.frames ≡ f ∷ fs → f.asks < 65536 → (v : Option HandleId)
-    → IsOnlyNext m (ask.Leave v) (frame_ended v None m.env).entry
+    → IsOnlyNext m (ask.Leave v) (end_change v None m.env).entry
 leaves m f fs stands below v =
-    let y : Entry = (frame_ended v None m.env).entry in
+    let y : Entry = (end_change v None m.env).entry in
     let e : Ends None y = ended-ends v None m.env in
     let s : step_of m (ask.Leave v) y y.actor ≡ asked_step m (ask.Leave v) y.reply.out =
     ap (step_of m (ask.Leave v) y) e.who ∙ ap (env_step m (ask.Leave v) y.reply.out) stands ∙ ap (frame_step m (ask.Leave v) y.reply.out) e.told in

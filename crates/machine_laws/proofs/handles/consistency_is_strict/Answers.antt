@@ -3,10 +3,10 @@ use Rattle.std.proofs.lemmas.Bool.{false≢true}
 use Rattle.napi_types.specs.declared.body.Body.TheVariants as body
 use Rattle.napi_types.specs.Environment.{Environment}
 use Rattle.napi_types.specs.Frames.{most_frames}
-use Rattle.napi_types.specs.Heap.{new_heap, with_handle, frame_entered}
+use Rattle.napi_types.specs.Heap.{new_heap, with_handle, with_frame}
 use Rattle.napi_types.specs.Values.{undefined_value, null_value, fresh_value}
 use Rattle.machine_laws.specs.Consistency.{IsConsistent}
-use Rattle.machine_laws.specs.ConsistencyMisses.{IsStrict, standing, holding, two_held, deep, reference}
+use Rattle.machine_laws.specs.ConsistencyMisses.{IsStrict, in_init_frame, holding, two_held, deep, reference}
 use Rattle.machine_laws.proofs.ConsistentRuns.{new-heap-good}
 use Rattle.machine_laws.proofs.Counting.{distinct-times, none-issued}
 use Rattle.machine_laws.proofs.ConsistentAnswers.{whole-of}
@@ -16,13 +16,13 @@ use Rattle.machine_laws.proofs.handles.consistency_is_strict.Goals as goal
 
 two-good : IsConsistentHeap (holding two_held)
 two-good =
-    let one : ComesTo new_heap (frame_entered new_heap) = with-frame new_heap new-heap-good in
-    let two : ComesTo _ (with_handle undefined_value (frame_entered new_heap)) = with-handle (frame_entered new_heap) undefined_value one.good refl in
-    (with-handle (with_handle undefined_value (frame_entered new_heap)) null_value two.good refl).good
+    let one : ComesTo new_heap (with_frame new_heap) = with-frame new_heap new-heap-good in
+    let two : ComesTo _ (with_handle undefined_value (with_frame new_heap)) = with-handle (with_frame new_heap) undefined_value one.good refl in
+    (with-handle (with_handle undefined_value (with_frame new_heap)) null_value two.good refl).good
 
-two-fit : IsConsistent (standing (holding two_held))
+two-fit : IsConsistent (in_init_frame (holding two_held))
 two-fit =
-    let e : Environment = standing (holding two_held) in
+    let e : Environment = in_init_frame (holding two_held) in
     whole-of e (record { heap = two-good; referred = λ k d below. absurd (omega (arith, below)); references = none-map; pending = tt }) refl (omega arith)
 
 deep-good : IsConsistentHeap (deep most_frames).heap

@@ -11,7 +11,7 @@ use Rattle.napi_types.specs.declared.entry.Out.TheVariants as out
 use Rattle.napi_types.specs.declared.entry.Phase.{Phase}
 use Rattle.napi_types.specs.declared.entry.Phase.TheVariants as phase
 use Rattle.napi_types.specs.declared.entry.Why.{Why}
-use Rattle.napi_types.specs.Built.{taken}
+use Rattle.napi_types.specs.Built.{built_ask}
 use Rattle.napi_types.specs.Choice.{choice}
 use Rattle.napi_types.specs.Frames.{Frame}
 use Rattle.napi_types.specs.Hub.{Hub, hub_next}
@@ -47,7 +47,7 @@ frame-counts m (ask.Leave v) o None t = (refl, refl)
 
 env-counts : (m : Machine) (a : Ask) (o : Out) (fs : List Frame) → Counts m (env_step m a o fs)
 env-counts m a o [] t = chosen-counts m (choice m) t
-env-counts m a o (f ∷ fs) t = frame-counts m (taken a) o (cut_of o) t
+env-counts m a o (f ∷ fs) t = frame-counts m (built_ask a) o (cut_of o) t
 
 step-counts : (m : Machine) (a : Ask) (x : Entry) (who : Actor) → Counts m (step_of m a x who)
 step-counts m a x actor.Env t = env-counts m a x.reply.out m.env.frames t

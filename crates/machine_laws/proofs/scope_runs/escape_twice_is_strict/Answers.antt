@@ -3,7 +3,7 @@ use Rattle.napi_types.specs.declared.entry.Out.TheVariants as out
 use Rattle.napi_types.specs.declared.status.Kind.TheVariants as kind
 use Rattle.napi_types.specs.declared.status.Status.{Status}
 use Rattle.napi_types.specs.declared.status.Status.TheVariants as status
-use Rattle.machine_laws.specs.EscapeTwice.{setting, trace, escape, escape_again, outside, within}
+use Rattle.machine_laws.specs.EscapeTwice.{setting, trace, escape, escape_again, outside, entry_within}
 use Rattle.machine_laws.specs.Told.{IsRun}
 use Rattle.machine_laws.proofs.Asks.{told-run}
 use Rattle.machine_laws.proofs.Misses.{entry_at, told_handle}
@@ -25,8 +25,8 @@ good-outside s r =
     let told : out.Nothing ≡ out.Kind kind.Object = ap (λ xs. (entry_at 7 xs).reply.out) (told-run setting (set trace 7 (outside s out.Nothing)) refl r) in
     cc
 
-stale-within : (s : Status) → IsRun setting (set trace 8 (within s out.Nothing)) → s ≡ status.InvalidArg
-stale-within s r = ap (λ xs. (entry_at 8 xs).reply.status) (told-run setting (set trace 8 (within s out.Nothing)) refl r)
+stale-within : (s : Status) → IsRun setting (set trace 8 (entry_within s out.Nothing)) → s ≡ status.InvalidArg
+stale-within s r = ap (λ xs. (entry_at 8 xs).reply.status) (told-run setting (set trace 8 (entry_within s out.Nothing)) refl r)
 
 pub returns : goal.returns
 returns c = record { next = next-handle; handle = no-handle; again = escaped-twice; outside = good-outside; within = stale-within }

@@ -2,18 +2,18 @@ use Rattle.std.proofs.Common.{◌≡◌, ℕ, ap, set, refl}
 use Rattle.napi_types.specs.declared.entry.Out.TheVariants as out
 use Rattle.napi_types.specs.declared.status.Status.{Status}
 use Rattle.napi_types.specs.declared.status.Status.TheVariants as status
-use Rattle.machine_laws.specs.ReferenceCounts.{setting, trace, reference, counted_up, down_told, deleted_again, number_referred}
+use Rattle.machine_laws.specs.ReferenceCounts.{setting, trace, reference, count_up_entry, down_told, deleted_again, number_referred}
 use Rattle.machine_laws.specs.Told.{IsRun}
 use Rattle.machine_laws.proofs.Asks.{told-run}
 use Rattle.machine_laws.proofs.Misses.{entry_at, told_number}
 use Rattle.machine_laws.proofs.value_runs.reference_counts_is_strict.Goals as goal
 
-no-other-at-greatest : (s : Status) → IsRun setting (set trace 4 (counted_up s out.Nothing)) → s ≡ status.GenericFailure
-no-other-at-greatest s r = ap (λ xs. (entry_at 4 xs).reply.status) (told-run setting (set trace 4 (counted_up s out.Nothing)) refl r)
+no-other-at-greatest : (s : Status) → IsRun setting (set trace 4 (count_up_entry s out.Nothing)) → s ≡ status.GenericFailure
+no-other-at-greatest s r = ap (λ xs. (entry_at 4 xs).reply.status) (told-run setting (set trace 4 (count_up_entry s out.Nothing)) refl r)
 
-no-count : (s : Status) (n : ℕ) → IsRun setting (set trace 4 (counted_up s (out.Unsigned n))) → ⊥
+no-count : (s : Status) (n : ℕ) → IsRun setting (set trace 4 (count_up_entry s (out.Unsigned n))) → ⊥
 no-count s n r =
-    let told : out.Unsigned n ≡ out.Nothing = ap (λ xs. (entry_at 4 xs).reply.out) (told-run setting (set trace 4 (counted_up s (out.Unsigned n))) refl r) in
+    let told : out.Unsigned n ≡ out.Nothing = ap (λ xs. (entry_at 4 xs).reply.out) (told-run setting (set trace 4 (count_up_entry s (out.Unsigned n))) refl r) in
     cc
 
 one-below : (n : ℕ) → IsRun setting (set trace 5 (down_told n)) → n ≡ 4294967294

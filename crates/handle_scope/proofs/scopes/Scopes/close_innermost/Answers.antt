@@ -4,13 +4,13 @@ use Rattle.std.proofs.lemmas.List.{nil_from_length}
 use Rattle.napi_types.specs.Scopes.{opened_scopes}
 use Rattle.handle_scope.specs.declared.scopes.ScopeMark.{ScopeMark}
 use Rattle.handle_scope.specs.HandleScopes.{HandleScopes}
-use Rattle.handle_scope.specs.Marks.{IsKept, IsTracked, frames_of}
+use Rattle.handle_scope.specs.Marks.{FitsStack, IsTracked, frames_of}
 use Rattle.handle_scope.proofs.Stacks.{frames-closed, kept-cut, kept-closed, none-closed, Forgets}
 use Rattle.handle_scope.proofs.scopes.Scopes.close_innermost.Goals as goal
 
 pub cut_back-requires : goal.cut_back-requires
 cut_back-requires c =
-    let P : List ScopeMark → Type 0 = λ l. IsKept c.self.inside.frames.items l c.self.inside.held.items c.self.inside.escapes.items c.self.inside.handles c.self.inside.numbers c.self.inside.spare c.self.inside.calls (vec_capacity c.self.inside.frames) (vec_capacity c.self.inside.held) (vec_capacity c.self.inside.escapes) in
+    let P : List ScopeMark → Type 0 = λ l. FitsStack c.self.inside.frames.items l c.self.inside.held.items c.self.inside.escapes.items c.self.inside.handles c.self.inside.numbers c.self.inside.spare c.self.inside.calls (vec_capacity c.self.inside.frames) (vec_capacity c.self.inside.held) (vec_capacity c.self.inside.escapes) in
     let O : List ScopeMark → Type 0 = λ l. opened_scopes (frames_of c.self.inside.frames.items l c.self.inside.held.items) ≢ [] in
     let V : HandleScopes → Type 0 = λ s. opened_scopes s.frames ≢ [] in
     kept-cut _ c.pop.new.self.items c.in-Some.scope _ _ _ _ _ _ _ _ _
@@ -18,7 +18,7 @@ cut_back-requires c =
 
 pub invariant_of-self : goal.invariant_of-self
 invariant_of-self c =
-    let P : List ScopeMark → Type 0 = λ l. IsKept c.self.inside.frames.items l c.self.inside.held.items c.self.inside.escapes.items c.self.inside.handles c.self.inside.numbers c.self.inside.spare c.self.inside.calls (vec_capacity c.self.inside.frames) (vec_capacity c.self.inside.held) (vec_capacity c.self.inside.escapes) in
+    let P : List ScopeMark → Type 0 = λ l. FitsStack c.self.inside.frames.items l c.self.inside.held.items c.self.inside.escapes.items c.self.inside.handles c.self.inside.numbers c.self.inside.spare c.self.inside.calls (vec_capacity c.self.inside.frames) (vec_capacity c.self.inside.held) (vec_capacity c.self.inside.escapes) in
     let O : List ScopeMark → Type 0 = λ l. opened_scopes (frames_of c.self.inside.frames.items l c.self.inside.held.items) ≢ [] in
     let V : HandleScopes → Type 0 = λ s. opened_scopes s.frames ≢ [] in
     let T : List ScopeMark → Type 0 = λ l. IsTracked l c.self.inside.escapes.items → IsTracked l c.forget_closed.new.escapes.items in
@@ -33,7 +33,7 @@ invariant_of-self c =
 
 pub returns-in-Some : goal.returns-in-Some
 returns-in-Some c =
-    let P : List ScopeMark → Type 0 = λ l. IsKept c.self.inside.frames.items l c.self.inside.held.items c.self.inside.escapes.items c.self.inside.handles c.self.inside.numbers c.self.inside.spare c.self.inside.calls (vec_capacity c.self.inside.frames) (vec_capacity c.self.inside.held) (vec_capacity c.self.inside.escapes) in
+    let P : List ScopeMark → Type 0 = λ l. FitsStack c.self.inside.frames.items l c.self.inside.held.items c.self.inside.escapes.items c.self.inside.handles c.self.inside.numbers c.self.inside.spare c.self.inside.calls (vec_capacity c.self.inside.frames) (vec_capacity c.self.inside.held) (vec_capacity c.self.inside.escapes) in
     let O : List ScopeMark → Type 0 = λ l. opened_scopes (frames_of c.self.inside.frames.items l c.self.inside.held.items) ≢ [] in
     let V : HandleScopes → Type 0 = λ s. opened_scopes s.frames ≢ [] in
     let closed = frames-closed c.self.inside.frames.items c.pop.new.self.items c.in-Some.scope c.self.inside.held.items _ _

@@ -6,7 +6,7 @@ use Rattle.napi_types.specs.Scopes.{escaping, escape_in, opened_scopes}
 use Rattle.handle_scope.specs.HandleScopes.{HandleScopes}
 use Rattle.handle_scope.specs.declared.scopes.HeldHandle.{HeldHandle}
 use Rattle.handle_scope.specs.declared.scopes.ScopeMark.{ScopeMark}
-use Rattle.handle_scope.specs.Marks.{held_of, scopes_above, frames_of, IsKept, IsEscapable}
+use Rattle.handle_scope.specs.Marks.{held_of, scopes_above, frames_of, FitsStack, IsEscapable}
 use Rattle.handle_scope.proofs.Marks.{escaped_mark}
 use Rattle.handle_scope.proofs.Stacks.{escaping-frames, rest-slice, frames-escaped, kept-escaped, free-fewer}
 use Rattle.handle_scope.proofs.scopes.Scopes.escape.Goals as goal
@@ -34,7 +34,7 @@ invariant_of-self c =
     let last : head (reverse c.self.inside.frames.items) ≡ Some f = ap (λ l. head (reverse l)) (sym c.deref.ensures.value) ∙ sym c.in-Some.ensures in
     let found : IsEscapable (drop f.scopes c.self.inside.scopes.items) n c.in-Ok.at = subst E (rest-slice f.scopes c.deref-in-Some.result.now ∙ ap (drop f.scopes) c.deref-in-Some.ensures.value) c.in-Ok.ensures.found in
     let escaped = frames-escaped n f c.self.inside.frames.items c.self.inside.scopes.items c.in-Ok.at x r c.self.inside.held.items c.self.inside.handles c.self.inside.numbers c.self.invariant.stack last found refl in
-    let P : ScopeMark → Type 0 = λ m. IsKept c.self.inside.frames.items (set c.self.inside.scopes.items at (escaped_mark m x)) c.self.inside.held.items (c.self.inside.escapes.items ++ record { handle = x.handle; scope = at } ∷ []) (c.self.inside.handles + 1) c.self.inside.numbers c.self.inside.spare c.self.inside.calls (vec_capacity c.self.inside.frames) (vec_capacity c.self.inside.held) (vec_capacity c.self.inside.escapes) in
+    let P : ScopeMark → Type 0 = λ m. FitsStack c.self.inside.frames.items (set c.self.inside.scopes.items at (escaped_mark m x)) c.self.inside.held.items (c.self.inside.escapes.items ++ record { handle = x.handle; scope = at } ∷ []) (c.self.inside.handles + 1) c.self.inside.numbers c.self.inside.spare c.self.inside.calls (vec_capacity c.self.inside.frames) (vec_capacity c.self.inside.held) (vec_capacity c.self.inside.escapes) in
     rw (c.push_reserved.ensures.items, c.push_reserved.ensures.capacity)
     (subst P (sym c.index_mut.ensures.value)
     (kept-escaped n c.self.inside.frames.items c.self.inside.scopes.items at x r c.self.inside.held.items c.self.inside.escapes.items _ _ _ _ _ _ _ c.self.invariant refl escaped))

@@ -4,7 +4,7 @@ use Rattle.std.specs.Prelude.{vec_capacity}
 use Rattle.handle_scope.specs.declared.scopes.FrameMark.{FrameMark}
 use Rattle.handle_scope.specs.declared.scopes.ScopeMark.{ScopeMark}
 use Rattle.handle_scope.specs.HandleScopes.{HandleScopes}
-use Rattle.handle_scope.specs.Marks.{IsKept, IsTracked, AreCallsInside, call_places, place_left}
+use Rattle.handle_scope.specs.Marks.{FitsStack, IsTracked, AreCallsInside, call_places, place_left}
 use Rattle.handle_scope.proofs.Marks.{reverse-push}
 use Rattle.handle_scope.proofs.Stacks.{frames-left, kept-left, place-left, caller-stands, Forgets}
 use Rattle.handle_scope.proofs.scopes.Scopes.leave.Goals as goal
@@ -17,7 +17,7 @@ byte-places false = refl
 pub invariant_of-self : goal.invariant_of-self
 invariant_of-self c =
     let f : FrameMark = c.in-Some.frame in
-    let P : List FrameMark → Type 0 = λ l. IsKept l c.self.inside.scopes.items c.self.inside.held.items c.self.inside.escapes.items c.self.inside.handles c.self.inside.numbers c.self.inside.spare c.self.inside.calls (vec_capacity c.self.inside.frames) (vec_capacity c.self.inside.held) (vec_capacity c.self.inside.escapes) in
+    let P : List FrameMark → Type 0 = λ l. FitsStack l c.self.inside.scopes.items c.self.inside.held.items c.self.inside.escapes.items c.self.inside.handles c.self.inside.numbers c.self.inside.spare c.self.inside.calls (vec_capacity c.self.inside.frames) (vec_capacity c.self.inside.held) (vec_capacity c.self.inside.escapes) in
     let T : List ScopeMark → Type 0 = λ l. IsTracked l c.self.inside.escapes.items → IsTracked l c.forget_closed.new.escapes.items in
     let forgets : Forgets (take f.scopes c.self.inside.scopes.items) c.self.inside.escapes.items c.forget_closed.new.escapes.items = record {
       tracked = subst T (c.deref.ensures.value ∙ c.truncate.ensures.items) c.forget_closed.ensures.tracked;
