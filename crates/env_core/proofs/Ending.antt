@@ -5,7 +5,8 @@ use Rattle.napi_types.specs.Frames.{Frame}
 use Rattle.napi_types.specs.Graph.{StoreState, IsLive}
 use Rattle.napi_types.specs.References.{ReferenceMap}
 use Rattle.napi_types.specs.Lists.{tail}
-use Rattle.napi_types.specs.Scopes.{Held, FrameScopes, held_by_scopes, held_by_frames, hold_in}
+use Rattle.napi_types.specs.Scopes.{Held, FrameScopes, held_by_scopes, held_by_frames}
+use Rattle.napi_types.specs.ScopeChanges.{hold_in}
 use Rattle.handle_scope.specs.HandleScopes.{HandleScopes, without_frame_scopes, without_call_scopes, with_issued_handle}
 use Rattle.env_values.proofs.Giving.{issued-live}
 use Rattle.env_core.specs.State.{IsState, is_by_call}

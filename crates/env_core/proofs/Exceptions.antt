@@ -17,12 +17,16 @@ use Rattle.napi_types.specs.Environment.{Environment, with_heap}
 use Rattle.napi_types.specs.ExceptionCalls.{with_pending, with_thrown_error}
 use Rattle.napi_types.specs.Frames.{Frame}
 use Rattle.napi_types.specs.Graph.{StoreState, IsLive, number_in}
-use Rattle.napi_types.specs.Heap.{Heap, handle_value, with_handle, with_thrown, thrown_number}
+use Rattle.napi_types.specs.Heap.{Heap, handle_value}
+use Rattle.napi_types.specs.HeapChanges.{with_handle, with_thrown, thrown_number}
 use Rattle.napi_types.specs.Lists.{unless}
 use Rattle.napi_types.specs.References.{ReferenceMap}
-use Rattle.napi_types.specs.Refusals.{is_known, moment_refusal, refusal_in, timely_refusal, early_refusal, depth_refusal}
+use Rattle.napi_types.specs.NamedNumbers.{is_known}
+use Rattle.napi_types.specs.Moments.{moment_refusal}
+use Rattle.napi_types.specs.Refusals.{refusal_in, timely_refusal, early_refusal, depth_refusal}
 use Rattle.napi_types.specs.Replies.{Answer, accepts, plain}
-use Rattle.napi_types.specs.Scopes.{gives, hold_in}
+use Rattle.napi_types.specs.Scopes.{gives}
+use Rattle.napi_types.specs.ScopeChanges.{hold_in}
 use Rattle.napi_types.specs.Values.{undefined_value}
 use Rattle.handle_scope.specs.HandleScopes.{HandleScopes, with_issued_handle}
 use Rattle.env_values.specs.Seen.{heap_of}

@@ -6,7 +6,7 @@ use Rattle.napi_types.specs.declared.call.Call.TheVariants as call
 use Rattle.napi_types.specs.declared.ids.HandleId.{HandleId}
 use Rattle.napi_types.specs.Heap.{Heap}
 use Rattle.napi_types.specs.CallFacts.{handle_if}
-use Rattle.napi_types.specs.Refusals.{is_known}
+use Rattle.napi_types.specs.NamedNumbers.{is_known}
 use Rattle.napi_types.specs.Scopes.{gives}
 
 and-true : (a : Bool) → a && true ≡ a

@@ -14,13 +14,17 @@ use Rattle.napi_types.specs.Calls.{effect, answer_unless}
 use Rattle.napi_types.specs.Environment.{Environment, with_heap, in_heap}
 use Rattle.napi_types.specs.Frames.{Frame}
 use Rattle.napi_types.specs.Graph.{StoreState, IsLive, number_in}
-use Rattle.napi_types.specs.Heap.{Heap, handle_value, in_scopes}
+use Rattle.napi_types.specs.Heap.{Heap, handle_value}
+use Rattle.napi_types.specs.HeapChanges.{in_scopes}
 use Rattle.napi_types.specs.Lists.{first_changed, unless}
 use Rattle.napi_types.specs.References.{ReferenceMap}
-use Rattle.napi_types.specs.Refusals.{refusal_in, reference_refusal, timely_refusal}
+use Rattle.napi_types.specs.Refusals.{refusal_in, timely_refusal}
+use Rattle.napi_types.specs.ReferenceRefusals.{reference_refusal}
 use Rattle.napi_types.specs.Replies.{Answer, accepts, plain}
 use Rattle.napi_types.specs.ScopeCalls.{with_escaped}
-use Rattle.napi_types.specs.Scopes.{Held, FrameScopes, gives, open_in, close_in, escape_in, opened_scopes, closing, escaping}
+use Rattle.napi_types.specs.Scopes.{Held, FrameScopes, gives, opened_scopes}
+use Rattle.napi_types.specs.ScopeChanges.{open_in, close_in, escape_in}
+use Rattle.napi_types.specs.ScopeRefusals.{closing, escaping}
 use Rattle.napi_types.specs.Values.{undefined_value}
 use Rattle.handle_scope.specs.HandleScopes.{HandleScopes, is_fresh_scope, with_open_scope, without_innermost_scope, with_escaped_handle}
 use Rattle.env_values.specs.Seen.{heap_of}

@@ -15,7 +15,8 @@ use Rattle.napi_types.specs.Replies.{Answer}
 use Rattle.napi_types.specs.Environment.{Environment, with_heap, in_heap}
 use Rattle.napi_types.specs.Calls.{addon_effect, heap_answer_unless, heap_answer, effect, answer_unless}
 use Rattle.napi_types.specs.References.{Reference, ReferenceMap}
-use Rattle.napi_types.specs.Refusals.{refusal_in, reference_refusal, timely_refusal}
+use Rattle.napi_types.specs.Refusals.{refusal_in, timely_refusal}
+use Rattle.napi_types.specs.ReferenceRefusals.{reference_refusal}
 use Rattle.napi_types.specs.Changes.{is_fresh_result, number_of}
 use Rattle.std.specs.Option.{option_or}
 use Rattle.handle_scope.specs.HandleScopes.{HandleScopes}

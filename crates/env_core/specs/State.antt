@@ -19,11 +19,11 @@ use Rattle.napi_types.specs.Changes.{call_change, number_of, is_fresh_result}
 use Rattle.napi_types.specs.Graph.{StoreState, IsLive, number_in}
 use Rattle.napi_types.specs.Entering.{is_entering, enter_change}
 use Rattle.napi_types.specs.FunctionCalls.{callee_of, call_gifts, receiver_handle, with_receiver}
-use Rattle.napi_types.specs.Heap.{with_frame}
+use Rattle.napi_types.specs.HeapChanges.{with_frame}
 use Rattle.napi_types.specs.References.{ReferenceMap}
 use Rattle.napi_types.specs.Refusals.{timely_refusal, refusal}
 use Rattle.napi_types.specs.Replies.{Answer}
-use Rattle.napi_types.specs.Values.{most_names}
+use Rattle.napi_types.specs.Properties.{most_names}
 use Rattle.handle_scope.specs.HandleScopes.{HandleScopes}
 use Rattle.env_core.specs.declared.state.calling.Called.{Called}
 use Rattle.env_core.specs.declared.state.calling.Called.TheVariants as called_of

@@ -8,9 +8,10 @@ ghost use Rattle.napi_types.specs.Frames.{caller_of, asks_made, most_asks};
 ghost use Rattle.napi_types.specs.Lists.{head};
 ghost use Rattle.napi_types.specs.Numbers.{napi_version};
 ghost use Rattle.env_core.specs.Standing.{machine_frame};
-ghost use Rattle.napi_types.specs.Refusals.{is_known, is_tearing, moment_refusal};
+ghost use Rattle.napi_types.specs.NamedNumbers.{is_known};
+ghost use Rattle.napi_types.specs.Moments.{is_tearing, moment_refusal};
 ghost use Rattle.napi_types.specs.Room.{is_growing};
-ghost use Rattle.napi_types.specs.Values.{most_names};
+ghost use Rattle.napi_types.specs.Properties.{most_names};
 ghost use Rattle.env_core.specs.Core.{next_init};
 ghost use Rattle.env_core.specs.State.{HasNumbersFor, Calls, Answers, AnswersInTime, opening_call, closing_call};
 

@@ -17,7 +17,7 @@ use Rattle.napi_types.specs.Plan.{Plan, plan_of, Registers, registers_of}
 use Rattle.napi_types.specs.Registers.{plan_ask}
 use Rattle.napi_types.specs.Room.{Room, room_of, is_full, may_want_memory}
 use Rattle.napi_types.specs.Step.{may_cut}
-use Rattle.napi_types.specs.Whole.{Setting}
+use Rattle.napi_types.specs.Setting.{Setting}
 use Rattle.env_core.specs.Core.{Core, after_change, room_in}
 use Rattle.env_core.specs.Steps.{StopsBy}
 use Rattle.env_loop.specs.Recording.{machine_of, why_stopped}

@@ -18,7 +18,7 @@ use Rattle.napi_types.specs.Phases.{stage_of}
 use Rattle.napi_types.specs.Plan.{Plan, plan_of, caller_after_reply, after_event, Registers, registers_of}
 use Rattle.napi_types.specs.Registers.{registers_after_reply}
 use Rattle.napi_types.specs.Step.{locally, env_step}
-use Rattle.napi_types.specs.Whole.{Setting}
+use Rattle.napi_types.specs.Setting.{Setting}
 use Rattle.addon_trait.specs.Addons.{OthersStay}
 use Rattle.env_core.specs.Core.{Core, after_change}
 use Rattle.env_loop.specs.Recording.{machine_of, Continues}

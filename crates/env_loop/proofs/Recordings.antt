@@ -22,7 +22,7 @@ use Rattle.napi_types.specs.declared.entry.Reply.{Reply}
 use Rattle.napi_types.specs.Environment.{Environment}
 use Rattle.napi_types.specs.Plan.{Plan, after_host_event, after_event, after_entry, plan_of, registers_of, frames_ask, asked, registers_after, Registers, loaded_registers}
 use Rattle.napi_types.specs.Weave.{Side, Journal, History, weave, sides, RisesBetween}
-use Rattle.napi_types.specs.Whole.{Setting, opening_of, RunsBy, final_of, final_registers, planned_asks}
+use Rattle.napi_types.specs.Setting.{Setting, opening_of, RunsBy, final_of, final_registers, planned_asks}
 use Rattle.env_core.specs.Core.{Core, after_change, opened_core}
 use Rattle.napi_types.specs.Phases.{stage_of}
 use Rattle.env_loop.specs.Recording.{machine_of, AgreesWhereTold, AgreesWith, IsRecorded, IsEnded}

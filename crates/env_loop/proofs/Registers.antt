@@ -11,7 +11,7 @@ use Rattle.napi_types.specs.declared.entry.Reply.{Reply}
 use Rattle.napi_types.specs.Frames.{Frame}
 use Rattle.napi_types.specs.Plan.{Plan, plan_of, frame_ask, frames_ask, addon_after_reply, caller_after_reply, Registers, registers_of}
 use Rattle.napi_types.specs.Registers.{plan_ask, registers_after_reply, with_gifts}
-use Rattle.napi_types.specs.Whole.{Setting}
+use Rattle.napi_types.specs.Setting.{Setting}
 use Rattle.addon_trait.specs.Addons.{OthersStay}
 use Rattle.env_core.specs.Core.{Core}
 use Rattle.env_loop.specs.Recording.{IsOf, AgreesWhereTold, AgreesWith, IsRecorded}

@@ -21,7 +21,7 @@ use Rattle.napi_types.specs.Heap.{Heap}
 use Rattle.napi_types.specs.Machine.{Machine}
 use Rattle.napi_types.specs.Room.{journal_room, room_of, is_full}
 use Rattle.napi_types.specs.Step.{Step, step, step_of, locally, env_step, frame_step, cut_of, may_cut}
-use Rattle.napi_types.specs.Whole.{Setting}
+use Rattle.napi_types.specs.Setting.{Setting}
 use Rattle.napi_types.proofs.Rooms.{built-room}
 use Rattle.env_core.specs.Core.{Core, room_in}
 use Rattle.env_loop.specs.Recording.{machine_of}

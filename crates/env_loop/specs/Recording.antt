@@ -15,7 +15,7 @@ use Rattle.napi_types.specs.Phases.{stage_of}
 use Rattle.napi_types.specs.Machine.{Machine}
 use Rattle.napi_types.specs.Plan.{Plan, plan_of, Registers, registers_of}
 use Rattle.napi_types.specs.Weave.{weave, RisesBetween}
-use Rattle.napi_types.specs.Whole.{Setting, RunsBy, EndsBy, opening_of, final_of, final_registers}
+use Rattle.napi_types.specs.Setting.{Setting, RunsBy, EndsBy, opening_of, final_of, final_registers}
 use Rattle.env_core.specs.Core.{Core}
 
 -- the hub of a run without other actors: its events so far are told by the phase

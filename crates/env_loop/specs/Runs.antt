@@ -9,7 +9,7 @@ use Rattle.napi_types.specs.Owners.{IsOwned}
 use Rattle.napi_types.specs.Phases.{stage_of}
 use Rattle.napi_types.specs.Plan.{Plan, Registers}
 use Rattle.napi_types.specs.Room.{stage_places}
-use Rattle.napi_types.specs.Whole.{Setting}
+use Rattle.napi_types.specs.Setting.{Setting}
 use Rattle.env_core.specs.Core.{Core, opened_core}
 use Rattle.env_loop.specs.Recording.{IsOf, IsRecorded}
 

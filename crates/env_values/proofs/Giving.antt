@@ -7,11 +7,14 @@ use Rattle.napi_types.specs.declared.entry.Out.TheVariants as out
 use Rattle.napi_types.specs.declared.ids.HandleId.{HandleId}
 use Rattle.napi_types.specs.declared.ids.TextNo.{TextNo}
 use Rattle.napi_types.specs.Graph.{StoreState, IsLive, IsSoundStore, value_of, number_in, graph_of}
-use Rattle.napi_types.specs.Heap.{Heap, handle_of, with_handle, with_list, with_thrown}
+use Rattle.napi_types.specs.Heap.{Heap}
+use Rattle.napi_types.specs.HeapChanges.{handle_of, with_handle, with_list, with_thrown}
 use Rattle.napi_types.specs.Lists.{first_changed, has_number}
 use Rattle.napi_types.specs.Replies.{accepts}
-use Rattle.napi_types.specs.Scopes.{Held, hold_in, held_by_frames}
-use Rattle.napi_types.specs.Values.{Value, list_of, thrown_strings, thrown_of}
+use Rattle.napi_types.specs.Scopes.{Held, held_by_frames}
+use Rattle.napi_types.specs.ScopeChanges.{hold_in}
+use Rattle.napi_types.specs.Values.{Value}
+use Rattle.napi_types.specs.NewValues.{list_of, thrown_strings, thrown_of}
 use Rattle.handle_scope.specs.HandleScopes.{HandleScopes, with_issued_handle}
 use Rattle.value_store.specs.Changes.{MakesValue, MakesList}
 use Rattle.value_store.proofs.Callers.{makes-live}

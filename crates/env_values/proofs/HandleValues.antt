@@ -7,7 +7,9 @@ use Rattle.napi_types.specs.Graph.{StoreState, IsLive, value_of, number_in, rena
 use Rattle.napi_types.specs.Heap.{handle_body, handle_properties, handle_elements}
 use Rattle.napi_types.specs.Lists.{found}
 use Rattle.napi_types.specs.Scopes.{FrameScopes, gives}
-use Rattle.napi_types.specs.Values.{Value, Property, value_at, undefined_value, is_object_like, property_at, element_at}
+use Rattle.napi_types.specs.Values.{Value, value_at, undefined_value}
+use Rattle.napi_types.specs.Properties.{Property, property_at, element_at}
+use Rattle.napi_types.specs.Bodies.{is_object_like}
 use Rattle.handle_scope.specs.HandleScopes.{HandleScopes}
 use Rattle.value_store.specs.Changes.{properties_in, elements_in}
 use Rattle.env_values.specs.declared.known.HandleValue.{HandleValue}

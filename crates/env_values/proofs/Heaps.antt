@@ -4,7 +4,8 @@ use Rattle.std.specs.Option.{unwrap_or}
 use Rattle.std.proofs.lemmas.List.Elements.{All-weaker}
 use borrow.Author.Tests.{eqb-true}
 use Rattle.napi_types.specs.Graph.{StoreState, IsLive, value_of, number_in, graph_of}
-use Rattle.napi_types.specs.Heap.{handle_value, with_changed}
+use Rattle.napi_types.specs.Heap.{handle_value}
+use Rattle.napi_types.specs.HeapChanges.{with_changed}
 use Rattle.napi_types.specs.Scopes.{Held, held_by_frames}
 use Rattle.napi_types.specs.Values.{Value, value_changed}
 use Rattle.handle_scope.specs.HandleScopes.{HandleScopes}

@@ -3,7 +3,8 @@ use Rattle.std.specs.Prelude.{◌≡◌, ◌≢◌, ℕ, ◌+◌, ◌<◌, ◌�
 use Rattle.std.specs.Option.{is_some, option_to_list}
 use Rattle.std.specs.List.{list_any}
 use Rattle.napi_types.specs.Frames.{most_frames}
-use Rattle.napi_types.specs.Scopes.{Held, FrameScopes, inside, value_in}
+use Rattle.napi_types.specs.Scopes.{Held, FrameScopes, value_in}
+use Rattle.napi_types.specs.ScopeChanges.{inside}
 use Rattle.handle_scope.specs.HandleScopes.{HandleScopes, held_places}
 use Rattle.handle_scope.specs.declared.scopes.HeldHandle.{HeldHandle}
 use Rattle.handle_scope.specs.declared.scopes.ScopeMark.{ScopeMark}

@@ -14,7 +14,7 @@ use Rattle.napi_types.specs.Run.{after, IsRunBy}
 use Rattle.machine_laws.specs.Computing.{steps, entries_of}
 use Rattle.napi_types.specs.Plan.{Plan, plan_of, Registers, registers_of, frame_ask, frames_ask, asked, asked_along, registers_after, loaded_registers}
 use Rattle.machine_laws.specs.Told.{told_asks_along}
-use Rattle.napi_types.specs.Whole.{Setting, opening_of}
+use Rattle.napi_types.specs.Setting.{Setting, opening_of}
 use Rattle.machine_laws.specs.Told.{IsRun, all_told, told_asks}
 use Rattle.napi_types.proofs.Runs.{and-left, and-right}
 use Rattle.machine_laws.proofs.Computing.{entries-of}

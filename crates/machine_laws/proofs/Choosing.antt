@@ -34,7 +34,7 @@ use Rattle.napi_types.specs.Refusals.{refusal}
 use Rattle.napi_types.specs.Phases.{stage_of}
 use Rattle.napi_types.specs.Run.{IsNext, after, final}
 use Rattle.napi_types.specs.Step.{Step, locally, hub_moved, event_step, chosen, frame_step, env_step, step_of, step, cut_of}
-use Rattle.napi_types.specs.Whole.{opening_of, final_of}
+use Rattle.napi_types.specs.Setting.{opening_of, final_of}
 use Rattle.machine_laws.specs.Choices.{is_of_frames, NoneIsChosenInFrames, TellsFrame, BeginsTellTheirFrames, OwnEventsComeFirst, IsOfHub, HubEventsComeLast, MayGo, GoComesAfterInitFrames, GoneComesAfterFinals, HubIsInPhase, GoComesOnlyAfterInitFrames, GoneComesOnlyAfterFinals}
 use Rattle.napi_types.proofs.Answers.{course-parts}
 use Rattle.napi_types.proofs.FrameChanges.{ended-keeps, asked_change-fits}

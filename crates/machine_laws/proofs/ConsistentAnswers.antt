@@ -13,7 +13,8 @@ use Rattle.napi_types.specs.Changes.{call_change}
 use Rattle.napi_types.specs.Environment.{Environment, with_heap}
 use Rattle.napi_types.specs.ExceptionCalls.{with_pending, with_thrown_error}
 use Rattle.napi_types.specs.Frames.{caller_of, most_frames}
-use Rattle.napi_types.specs.Heap.{Heap, handle_value, with_handle, with_thrown, thrown_number}
+use Rattle.napi_types.specs.Heap.{Heap, handle_value}
+use Rattle.napi_types.specs.HeapChanges.{with_handle, with_thrown, thrown_number}
 use Rattle.napi_types.specs.Lists.{found}
 use Rattle.napi_types.specs.ReferenceCalls.{with_references, counted_up, value_told}
 use Rattle.napi_types.specs.References.{Reference, ReferenceMap, referred_value, with_reference, without_reference, with_count}

@@ -7,7 +7,7 @@ use Rattle.napi_types.specs.Environment.{Environment, new_environment}
 use Rattle.napi_types.specs.Heap.{new_heap}
 use Rattle.napi_types.specs.Reach.{numbers}
 use Rattle.napi_types.specs.Values.{Value, children, starting_values}
-use Rattle.napi_types.specs.Whole.{opening_of}
+use Rattle.napi_types.specs.Setting.{opening_of}
 use Rattle.machine_laws.specs.Consistency.{AreIssued, IsConsistent, IsLiveAmong}
 use Rattle.machine_laws.specs.HandleLaws.{EnvironmentsAreConsistent}
 use Rattle.machine_laws.proofs.Children.{OfChildren}

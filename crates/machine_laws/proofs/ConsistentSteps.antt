@@ -29,7 +29,8 @@ use Rattle.napi_types.specs.Entering.{enter_change, function_change, asked_chang
 use Rattle.napi_types.specs.Environment.{Environment}
 use Rattle.napi_types.specs.Frames.{Frame, cause_of, most_frames, ask_counted}
 use Rattle.napi_types.specs.FunctionCalls.{left_value, with_receiver}
-use Rattle.napi_types.specs.Heap.{Heap, with_handle, with_frame, without_frame}
+use Rattle.napi_types.specs.Heap.{Heap}
+use Rattle.napi_types.specs.HeapChanges.{with_handle, with_frame, without_frame}
 use Rattle.napi_types.specs.Hub.{Hub, hub_next}
 use Rattle.napi_types.specs.Lists.{first_changed, tail, when}
 use Rattle.napi_types.specs.Loop.{Event, Opens, Inits, Goes, EndsLoop, Drains, FinalsCome, IsGone}

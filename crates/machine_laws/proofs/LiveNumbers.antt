@@ -8,7 +8,8 @@ use Rattle.std.proofs.lemmas.List.Folds.{list_any-append}
 use Rattle.napi_types.specs.declared.body.Body.{Body}
 use Rattle.napi_types.specs.Lists.{has_number}
 use Rattle.napi_types.specs.Reach.{numbers}
-use Rattle.napi_types.specs.Values.{Value, made_after, value_changed}
+use Rattle.napi_types.specs.Values.{Value, value_changed}
+use Rattle.napi_types.specs.NewValues.{made_after}
 use Rattle.machine_laws.specs.Consistency.{IsLiveAmong}
 use Rattle.machine_laws.proofs.Children.{OfChildren, Keeps}
 use Rattle.machine_laws.proofs.Counting.{Within, within-map, count-append}

@@ -16,7 +16,7 @@ use Rattle.napi_types.specs.Machine.{Machine}
 use Rattle.napi_types.specs.Run.{IsNext, IsRunBy}
 use Rattle.napi_types.specs.Step.{step_of}
 use Rattle.napi_types.specs.Plan.{loaded_registers}
-use Rattle.napi_types.specs.Whole.{Setting, opening_of}
+use Rattle.napi_types.specs.Setting.{Setting, opening_of}
 use Rattle.machine_laws.specs.Told.{IsRun, all_told, told_asks}
 use Rattle.machine_laws.proofs.Asks.{asks-unique}
 

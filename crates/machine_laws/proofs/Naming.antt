@@ -7,7 +7,8 @@ use Rattle.std.specs.Option.{option_or}
 use Rattle.napi_types.specs.declared.call.Call.TheVariants as call
 use Rattle.napi_types.specs.declared.status.Status.{Status}
 use Rattle.napi_types.specs.Lists.{has_number}
-use Rattle.napi_types.specs.Refusals.{reference_refusal, refusal_in}
+use Rattle.napi_types.specs.ReferenceRefusals.{reference_refusal}
+use Rattle.napi_types.specs.Refusals.{refusal_in}
 use Rattle.machine_laws.specs.CallLaws.{ReferencesAreNamedAlone}
 
 option_or-none : (s : Option Status) → option_or s None ≡ s

@@ -20,7 +20,12 @@ use Rattle.napi_types.specs.Guards.{is_registering, is_shared}
 use Rattle.napi_types.specs.Heap.{Heap, handle_body}
 use Rattle.napi_types.specs.Lists.{has_number}
 use Rattle.napi_types.specs.Replies.{plain}
-use Rattle.napi_types.specs.Refusals.{references_of, handles_of, texts_of, moment_refusal, reference_refusal, unknown_refusal, kind_refusal, row_refusal, refusal_in}
+use Rattle.napi_types.specs.ReferenceRefusals.{references_of, reference_refusal}
+use Rattle.napi_types.specs.NamedNumbers.{handles_of, texts_of, unknown_refusal}
+use Rattle.napi_types.specs.Moments.{moment_refusal}
+use Rattle.napi_types.specs.ExpectedKinds.{kind_refusal}
+use Rattle.napi_types.specs.OwnRefusals.{row_refusal}
+use Rattle.napi_types.specs.Refusals.{refusal_in}
 use Rattle.napi_types.specs.Refusals.{early_refusal, depth_refusal, refusal}
 use Rattle.napi_types.specs.Room.{one_if, need, is_growing}
 use Rattle.napi_types.specs.Scopes.{gives}

@@ -17,7 +17,7 @@ use Rattle.napi_types.specs.Machine.{Machine}
 use Rattle.napi_types.specs.Phases.{stage_of}
 use Rattle.napi_types.specs.Run.{after, IsNext, IsRunBy}
 use Rattle.napi_types.specs.Step.{event_step}
-use Rattle.napi_types.specs.Whole.{Setting, opening_of, final_of}
+use Rattle.napi_types.specs.Setting.{Setting, opening_of, final_of}
 
 -- FRAMES
 -- what the begin of a call's frame tells

@@ -10,8 +10,8 @@ use Rattle.napi_types.specs.declared.status.Status.TheVariants as status
 use Rattle.napi_types.specs.declared.entry.Out.{Out}
 use Rattle.napi_types.specs.Text.{text}
 use Rattle.napi_types.specs.Texts.{fixed_texts}
-use Rattle.machine_laws.specs.Traces.{script_of, call_at, run_of_calls}
-use Rattle.napi_types.specs.Whole.{Setting, EndsBy}
+use Rattle.machine_laws.specs.RunWords.{script_of, call_at, run_of_calls}
+use Rattle.napi_types.specs.Setting.{Setting, EndsBy}
 use Rattle.machine_laws.specs.Told.{IsRun, told_asks}
 
 -- the script makes an object in a scope, closes the scope, and asks for the kind of the object

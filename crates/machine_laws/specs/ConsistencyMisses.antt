@@ -7,7 +7,8 @@ use Rattle.napi_types.specs.Frames.{Frame, frame_of, most_frames}
 use Rattle.napi_types.specs.Heap.{Heap, new_heap}
 use Rattle.napi_types.specs.References.{Reference, with_reference, no_references}
 use Rattle.napi_types.specs.Scopes.{Held, no_handles}
-use Rattle.napi_types.specs.Values.{undefined_value, null_value, starting_values, fresh_value, array_of}
+use Rattle.napi_types.specs.Values.{undefined_value, null_value, starting_values, fresh_value}
+use Rattle.napi_types.specs.NewValues.{array_of}
 use Rattle.machine_laws.specs.Consistency.{IsConsistent}
 
 -- a handle of this number to a value

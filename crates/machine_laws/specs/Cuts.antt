@@ -23,8 +23,8 @@ use Rattle.napi_types.specs.Plan.{Plan, Registers, asked}
 use Rattle.napi_types.specs.Room.{need}
 use Rattle.napi_types.specs.Run.{IsNext}
 use Rattle.napi_types.specs.Frames.{Frame}
-use Rattle.machine_laws.specs.Traces.{call_at, opening_entries}
-use Rattle.napi_types.specs.Whole.{Setting, RunsBy, final_of}
+use Rattle.machine_laws.specs.RunWords.{call_at, opening_entries}
+use Rattle.napi_types.specs.Setting.{Setting, RunsBy, final_of}
 
 -- the end by a cut of a frame that began for this reason: that of a call's frame says that the call failed
 abbrev pub cut_by : Cause → Why → Entry

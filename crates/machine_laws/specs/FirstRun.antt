@@ -16,9 +16,9 @@ use Rattle.napi_types.specs.Parting.{IsParted}
 use Rattle.napi_types.specs.Plan.{registers_of}
 use Rattle.napi_types.specs.Text.{text}
 use Rattle.napi_types.specs.Texts.{fixed_texts}
-use Rattle.machine_laws.specs.Traces.{script_of, call_at, opening_entries, frame_end, great_events, gone_entry, loop_ended, left_out}
+use Rattle.machine_laws.specs.RunWords.{script_of, call_at, opening_entries, frame_end, great_events, gone_entry, loop_ended, left_out}
 use Rattle.napi_types.specs.Weave.{weave}
-use Rattle.napi_types.specs.Whole.{Setting, EndsBy, opening_of, final_registers}
+use Rattle.napi_types.specs.Setting.{Setting, EndsBy, opening_of, final_registers}
 use Rattle.machine_laws.specs.Told.{IsRun, told_asks}
 
 -- the script: the scope's number goes to register 0, the handle's to register 1, the kind's to register 2

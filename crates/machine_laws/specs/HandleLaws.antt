@@ -5,10 +5,11 @@ use Rattle.napi_types.specs.declared.call.Call.{Call}
 use Rattle.napi_types.specs.declared.entry.Entry.{Entry}
 use Rattle.napi_types.specs.Environment.{Environment}
 use Rattle.napi_types.specs.Lists.{has_number}
-use Rattle.napi_types.specs.Refusals.{handles_of, refusal}
+use Rattle.napi_types.specs.NamedNumbers.{handles_of}
+use Rattle.napi_types.specs.Refusals.{refusal}
 use Rattle.napi_types.specs.Run.{IsRunBy}
 use Rattle.napi_types.specs.Scopes.{FrameScopes, gives}
-use Rattle.napi_types.specs.Whole.{Setting, opening_of, final_of}
+use Rattle.napi_types.specs.Setting.{Setting, opening_of, final_of}
 use Rattle.machine_laws.specs.Consistency.{IsConsistent}
 
 -- the environment after the first n entries of a run

@@ -16,9 +16,9 @@ pub mod NextHandle
 pub mod PendingException
 pub mod ReferenceCounts
 pub mod RunLaws
+pub mod RunWords
 pub mod ScopeOrder
 pub mod StaleHandle
 pub mod StrongAndWeak
 pub mod Told
-pub mod Traces
 pub mod TwoAddons

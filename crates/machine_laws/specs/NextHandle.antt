@@ -7,9 +7,9 @@ use Rattle.napi_types.specs.declared.entry.Out.TheVariants as out
 use Rattle.napi_types.specs.declared.status.Status.TheVariants as status
 use Rattle.napi_types.specs.Text.{text}
 use Rattle.napi_types.specs.Texts.{fixed_texts}
-use Rattle.napi_types.specs.Whole.{Setting, EndsBy}
+use Rattle.napi_types.specs.Setting.{Setting, EndsBy}
 use Rattle.machine_laws.specs.Told.{IsRun, told_asks}
-use Rattle.machine_laws.specs.Traces.{script_of, call_at, run_of_calls}
+use Rattle.machine_laws.specs.RunWords.{script_of, call_at, run_of_calls}
 
 -- the script makes a number in a scope, closes the scope, and makes another one
 abbrev pub setting : Setting

@@ -14,8 +14,8 @@ use Rattle.napi_types.specs.declared.status.Status.TheVariants as status
 use Rattle.napi_types.specs.Changes.{host_entry}
 use Rattle.napi_types.specs.Text.{text}
 use Rattle.napi_types.specs.Texts.{fixed_texts}
-use Rattle.machine_laws.specs.Traces.{script_of, call_at, opening_entries, great_events, gone_entry, run_of_calls}
-use Rattle.napi_types.specs.Whole.{Setting, EndsBy}
+use Rattle.machine_laws.specs.RunWords.{script_of, call_at, opening_entries, great_events, gone_entry, run_of_calls}
+use Rattle.napi_types.specs.Setting.{Setting, EndsBy}
 use Rattle.machine_laws.specs.Told.{IsRun, told_asks}
 
 abbrev pub handle : ℕ → HandleId

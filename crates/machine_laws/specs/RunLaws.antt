@@ -9,7 +9,7 @@ use Rattle.napi_types.specs.Lists.{has_number}
 use Rattle.napi_types.specs.Machine.{Machine}
 use Rattle.napi_types.specs.Plan.{Plan, Registers, asked, registers_after}
 use Rattle.napi_types.specs.Reach.{numbers, children_at, reach_from}
-use Rattle.napi_types.specs.Whole.{Setting, RunsBy}
+use Rattle.napi_types.specs.Setting.{Setting, RunsBy}
 use Rattle.napi_types.specs.Run.{after, IsNext, IsRunBy}
 use Rattle.napi_types.specs.Step.{step}
 use Rattle.machine_laws.specs.Computing.{ComputesBy}

@@ -7,7 +7,7 @@ use Rattle.napi_types.specs.declared.entry.Entry.{Entry}
 use Rattle.napi_types.specs.Machine.{Machine}
 use Rattle.napi_types.specs.Plan.{Plan, Registers, asked, registers_after, loaded_registers}
 use Rattle.napi_types.specs.Run.{after}
-use Rattle.napi_types.specs.Whole.{Setting, RunsBy, opening_of}
+use Rattle.napi_types.specs.Setting.{Setting, RunsBy, opening_of}
 
 -- a run of the script, by some asks
 abbrev pub IsRun : Setting → List Entry → Type 0

@@ -7,9 +7,9 @@ use Rattle.napi_types.specs.declared.entry.HostStep.TheVariants as host
 use Rattle.napi_types.specs.declared.entry.Out.TheVariants as out
 use Rattle.napi_types.specs.Changes.{host_entry}
 use Rattle.napi_types.specs.Room.{most_entries}
-use Rattle.napi_types.specs.Whole.{Setting, EndsBy}
+use Rattle.napi_types.specs.Setting.{Setting, EndsBy}
 use Rattle.machine_laws.specs.Told.{IsRun, told_asks}
-use Rattle.machine_laws.specs.Traces.{opening_entries, frame_end, great_events, gone_entry}
+use Rattle.machine_laws.specs.RunWords.{opening_entries, frame_end, great_events, gone_entry}
 
 -- the script: each addon has one entry without operations
 abbrev pub setting : Setting

@@ -11,13 +11,19 @@ use Rattle.napi_types.specs.declared.status.Status.TheVariants as status
 use Rattle.napi_types.specs.Lists.{first_changed, when}
 use Rattle.napi_types.specs.Environment.{Environment}
 use Rattle.napi_types.specs.Frames.{caller_of}
-use Rattle.napi_types.specs.Heap.{Heap, handle_properties, with_handle, with_thrown}
+use Rattle.napi_types.specs.Heap.{Heap, handle_properties}
+use Rattle.napi_types.specs.HeapChanges.{with_handle, with_thrown}
 use Rattle.napi_types.specs.PropertyCalls.{names_of}
 use Rattle.napi_types.specs.References.{ReferenceMap, referred_value}
 use Rattle.napi_types.specs.ReferenceCalls.{value_told, counted_up}
 use Rattle.napi_types.specs.Collection.{collected}
 use Rattle.napi_types.specs.Roots.{reach}
-use Rattle.napi_types.specs.Refusals.{unknown_refusal, kind_refusal, row_refusal, moment_refusal, refusal_in, reference_refusal, timely_refusal, early_refusal, depth_refusal}
+use Rattle.napi_types.specs.NamedNumbers.{unknown_refusal}
+use Rattle.napi_types.specs.ExpectedKinds.{kind_refusal}
+use Rattle.napi_types.specs.OwnRefusals.{row_refusal}
+use Rattle.napi_types.specs.Moments.{moment_refusal}
+use Rattle.napi_types.specs.Refusals.{refusal_in, timely_refusal, early_refusal, depth_refusal}
+use Rattle.napi_types.specs.ReferenceRefusals.{reference_refusal}
 use Rattle.napi_types.specs.Calls.{heap_effect, addon_effect, heap_answer_unless, heap_answer, effect, answer_unless, answer_unless_deep, with_depth_error, answer}
 use Rattle.napi_types.specs.Changes.{call_change}
 use Rattle.napi_types.proofs.Maps.{length-with_record}

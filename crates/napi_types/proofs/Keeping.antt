@@ -28,7 +28,7 @@ use Rattle.napi_types.specs.Entering.{function_change, asked_change}
 use Rattle.napi_types.specs.Environment.{Environment}
 use Rattle.napi_types.specs.Frames.{Frame, cause_of}
 use Rattle.napi_types.specs.Hub.{Hub, hub_next}
-use Rattle.napi_types.specs.Kept.{Collects, KeepsReached}
+use Rattle.napi_types.specs.CollectionLaw.{Collects, KeepsReached}
 use Rattle.napi_types.specs.Loop.{Event, Opens, Inits, Goes, EndsLoop, Drains, FinalsCome, IsGone}
 use Rattle.napi_types.specs.Machine.{Machine}
 use Rattle.napi_types.specs.Refusals.{refusal}

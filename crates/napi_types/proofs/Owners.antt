@@ -22,7 +22,8 @@ use Rattle.napi_types.specs.Environment.{Environment}
 use Rattle.napi_types.specs.declared.entry.Cause.TheVariants as cause
 use Rattle.napi_types.specs.Frames.{Frame, frame_of, caller_of, ask_counted, asks_made, most_asks}
 use Rattle.napi_types.specs.FunctionCalls.{callee_of}
-use Rattle.napi_types.specs.Heap.{Heap, handle_body, handle_properties, with_thrown}
+use Rattle.napi_types.specs.Heap.{Heap, handle_body, handle_properties}
+use Rattle.napi_types.specs.HeapChanges.{with_thrown}
 use Rattle.napi_types.specs.Lists.{tail, unless, has_number}
 use Rattle.napi_types.specs.Owners.{BelongsTo, IsOwned}
 use Rattle.napi_types.specs.PropertyCalls.{names_of}
@@ -30,8 +31,16 @@ use Rattle.napi_types.specs.Collection.{those_of}
 use Rattle.napi_types.specs.References.{referred_value}
 use Rattle.napi_types.specs.ReferenceCalls.{value_told, counted_up}
 use Rattle.napi_types.specs.Roots.{reach}
-use Rattle.napi_types.specs.Refusals.{moment_refusal, reference_refusal, timely_refusal, unknown_refusal, kind_refusal, row_refusal, refusal_in, early_refusal, depth_refusal, refusal}
-use Rattle.napi_types.specs.Values.{Value, Property, fresh_value, starting_values, value_changed, made_after, list_of, thrown_strings, thrown_of, is_function, function_addon, body_of, text_of}
+use Rattle.napi_types.specs.Moments.{moment_refusal}
+use Rattle.napi_types.specs.ReferenceRefusals.{reference_refusal}
+use Rattle.napi_types.specs.Refusals.{timely_refusal, refusal_in, early_refusal, depth_refusal, refusal}
+use Rattle.napi_types.specs.NamedNumbers.{unknown_refusal}
+use Rattle.napi_types.specs.ExpectedKinds.{kind_refusal}
+use Rattle.napi_types.specs.OwnRefusals.{row_refusal}
+use Rattle.napi_types.specs.Values.{Value, fresh_value, starting_values, value_changed, body_of}
+use Rattle.napi_types.specs.Properties.{Property}
+use Rattle.napi_types.specs.NewValues.{made_after, list_of, thrown_strings, thrown_of}
+use Rattle.napi_types.specs.Bodies.{is_function, function_addon, text_of}
 use Rattle.napi_types.proofs.Answers.{answer-keeps}
 use Rattle.napi_types.proofs.Runs.{and-left, and-right}
 use Rattle.napi_types.proofs.FrameChanges.{KeepsButFrame, ended-keeps, KeepsAndEnters, enter_change-keeps}

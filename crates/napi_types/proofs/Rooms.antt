@@ -32,7 +32,7 @@ use Rattle.napi_types.specs.Room.{one_if, gone_place, stage_places, reserved_jou
 use Rattle.napi_types.specs.Run.{IsRunBy, after, final}
 use Rattle.napi_types.specs.Frames.{Frame}
 use Rattle.napi_types.specs.Step.{locally, hub_moved, by_hub, event_step, chosen, call_step, asked_step, cut_of, frame_step, env_step, step_of}
-use Rattle.napi_types.specs.Whole.{Setting, final_of, opening_of}
+use Rattle.napi_types.specs.Setting.{Setting, final_of, opening_of}
 use Rattle.napi_types.specs.Phases.{stage_of}
 use Rattle.napi_types.proofs.Runs.{and-right}
 use Rattle.napi_types.proofs.Answers.{SameCourse, course-parts}

@@ -11,7 +11,7 @@ use Rattle.napi_types.specs.Frames.{caller_of}
 use Rattle.napi_types.specs.FunctionCalls.{on_functions}
 use Rattle.napi_types.specs.Heap.{Heap}
 use Rattle.napi_types.specs.Lists.{first_some}
-use Rattle.napi_types.specs.OtherCalls.{on_version}
+use Rattle.napi_types.specs.VersionCall.{on_version}
 use Rattle.napi_types.specs.PropertyCalls.{on_properties}
 use Rattle.napi_types.specs.ReferenceCalls.{on_references}
 use Rattle.napi_types.specs.Refusals.{refusal_in, early_refusal, depth_refusal}

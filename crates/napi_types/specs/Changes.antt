@@ -18,7 +18,7 @@ use Rattle.napi_types.specs.declared.entry.Phase.TheVariants as phase
 use Rattle.napi_types.specs.Lists.{has_number}
 use Rattle.napi_types.specs.Numbers.{napi_version}
 use Rattle.napi_types.specs.Frames.{frame_of, begin_told, ask_counted, is_asking, asks_made, most_asks}
-use Rattle.napi_types.specs.Heap.{with_frame}
+use Rattle.napi_types.specs.HeapChanges.{with_frame}
 use Rattle.napi_types.specs.Environment.{Environment}
 use Rattle.napi_types.specs.Replies.{plain}
 use Rattle.napi_types.specs.Calls.{answer}

@@ -13,7 +13,8 @@ use Rattle.napi_types.specs.Changes.{Change, host_told, host_entry}
 use Rattle.napi_types.specs.Environment.{Environment}
 use Rattle.napi_types.specs.Frames.{cause_of}
 use Rattle.napi_types.specs.FunctionCalls.{left_value}
-use Rattle.napi_types.specs.Heap.{Heap, with_handle, without_frame}
+use Rattle.napi_types.specs.Heap.{Heap}
+use Rattle.napi_types.specs.HeapChanges.{with_handle, without_frame}
 use Rattle.napi_types.specs.Lists.{tail}
 
 -- the innermost frame is gone, with all its scopes

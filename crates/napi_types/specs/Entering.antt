@@ -12,7 +12,7 @@ use Rattle.napi_types.specs.Changes.{Change, host_entry, with_noted_status, call
 use Rattle.napi_types.specs.Environment.{Environment}
 use Rattle.napi_types.specs.Frames.{Frame, begin_told}
 use Rattle.napi_types.specs.FunctionCalls.{callee_of, with_receiver}
-use Rattle.napi_types.specs.Heap.{with_frame}
+use Rattle.napi_types.specs.HeapChanges.{with_frame}
 use Rattle.napi_types.specs.Refusals.{refusal}
 
 -- a call of a function that nothing refuses

@@ -6,7 +6,8 @@ use Rattle.napi_types.specs.declared.call.Call.TheVariants as call
 use Rattle.napi_types.specs.declared.entry.Out.TheVariants as out
 use Rattle.napi_types.specs.declared.ids.TextNo.{TextNo}
 use Rattle.napi_types.specs.Environment.{Environment, with_heap, in_heap}
-use Rattle.napi_types.specs.Heap.{handle_value, handle_of, with_thrown, thrown_number}
+use Rattle.napi_types.specs.Heap.{handle_value}
+use Rattle.napi_types.specs.HeapChanges.{handle_of, with_thrown, thrown_number}
 use Rattle.napi_types.specs.Numbers.{status_number}
 use Rattle.napi_types.specs.Replies.{Answer, accepts}
 use Rattle.napi_types.specs.Values.{undefined_value}

@@ -7,9 +7,11 @@ use Rattle.napi_types.specs.declared.call.Call.TheVariants as call
 use Rattle.napi_types.specs.declared.entry.Cause.TheVariants as cause
 use Rattle.napi_types.specs.declared.ids.HandleId.{HandleId}
 use Rattle.napi_types.specs.Frames.{Frame, frame_of}
-use Rattle.napi_types.specs.Heap.{Heap, handle_value, handle_body, new_value, with_handle}
+use Rattle.napi_types.specs.Heap.{Heap, handle_value, handle_body}
+use Rattle.napi_types.specs.HeapChanges.{new_value, with_handle}
 use Rattle.napi_types.specs.Replies.{Answer}
-use Rattle.napi_types.specs.Values.{undefined_value, function_addon, function_entry, function_payload}
+use Rattle.napi_types.specs.Values.{undefined_value}
+use Rattle.napi_types.specs.Bodies.{function_addon, function_entry, function_payload}
 
 -- `create_function` makes a function: an entry of the calling addon, with a payload that its frames are given
 abbrev pub on_functions : ℕ → Heap → Call → Option (Answer Heap)

@@ -3,7 +3,8 @@ use Rattle.std.specs.Prelude.{◌≡◌, ℕ, ◌<◌, ◌≤◌, false, true, I
 use Rattle.std.specs.List.{All, range_with_len}
 use Rattle.std.specs.Option.{unwrap_or}
 use Rattle.napi_types.specs.Lists.{found, has_number}
-use Rattle.napi_types.specs.Values.{Value, Property, HasDistinctNames, children, value_at}
+use Rattle.napi_types.specs.Values.{Value, children, value_at}
+use Rattle.napi_types.specs.Properties.{Property, HasDistinctNames}
 
 -- a value that stands in a store: the number that names it, and the value. Its properties and elements name other values by such numbers
 pub record Stored : Type 0 where

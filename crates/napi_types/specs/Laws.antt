@@ -3,10 +3,10 @@ use Rattle.std.specs.Prelude.{◌≡◌, ◌+◌, ◌*◌, ◌≤◌, List, leng
 use Rattle.napi_types.specs.declared.call.Ask.{Ask}
 use Rattle.napi_types.specs.declared.entry.Entry.{Entry}
 use Rattle.napi_types.specs.declared.entry.Phase.TheVariants as phase
-use Rattle.napi_types.specs.Kept.{KeepsReached}
+use Rattle.napi_types.specs.CollectionLaw.{KeepsReached}
 use Rattle.napi_types.specs.Machine.{Machine}
 use Rattle.napi_types.specs.Room.{reserved_journal, reserved_history}
-use Rattle.napi_types.specs.Whole.{Setting, RunsBy, final_of}
+use Rattle.napi_types.specs.Setting.{Setting, RunsBy, final_of}
 use Rattle.napi_types.specs.Run.{IsRunBy}
 
 -- the machine counts the entries of the run; entries and reserved places of each list are within its limit, and at the end of the run no place is left reserved

@@ -3,7 +3,7 @@ use Rattle.std.specs.Prelude.{◌≡◌, ◌<◌, ℕ, true}
 use Rattle.std.specs.List.{All}
 use Rattle.napi_types.specs.declared.body.Body.{Body}
 use Rattle.napi_types.specs.Environment.{Environment}
-use Rattle.napi_types.specs.Values.{is_function, function_addon}
+use Rattle.napi_types.specs.Bodies.{is_function, function_addon}
 
 -- a value that is a function belongs to one of so many addons
 abbrev pub BelongsTo : ℕ → Body → Type 0

@@ -6,9 +6,11 @@ use Rattle.napi_types.specs.declared.call.Call.TheVariants as call
 use Rattle.napi_types.specs.declared.body.Body.{Body}
 use Rattle.napi_types.specs.declared.body.Body.TheVariants as body
 use Rattle.napi_types.specs.declared.entry.Out.TheVariants as out
-use Rattle.napi_types.specs.Heap.{Heap, handle_value, handle_properties, handle_elements, handle_of, new_list, with_changed}
+use Rattle.napi_types.specs.Heap.{Heap, handle_value, handle_properties, handle_elements}
+use Rattle.napi_types.specs.HeapChanges.{handle_of, new_list, with_changed}
 use Rattle.napi_types.specs.Replies.{Answer, accepts}
-use Rattle.napi_types.specs.Values.{Property, undefined_value, property_at, element_at, with_property, without_property, with_element}
+use Rattle.napi_types.specs.Properties.{Property, property_at, element_at}
+use Rattle.napi_types.specs.Values.{undefined_value, with_property, without_property, with_element}
 
 -- the names of properties, as strings, in the order in which they were first set
 abbrev pub names_of : List Property → List Body

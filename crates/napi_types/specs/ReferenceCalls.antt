@@ -4,7 +4,8 @@ use Rattle.napi_types.specs.declared.call.Call.{Call}
 use Rattle.napi_types.specs.declared.call.Call.TheVariants as call
 use Rattle.napi_types.specs.declared.entry.Out.TheVariants as out
 use Rattle.napi_types.specs.Environment.{Environment, in_heap}
-use Rattle.napi_types.specs.Heap.{handle_value, handle_of}
+use Rattle.napi_types.specs.Heap.{handle_value}
+use Rattle.napi_types.specs.HeapChanges.{handle_of}
 use Rattle.napi_types.specs.References.{ReferenceMap, referred_value, reference_count, with_reference, without_reference, with_count}
 use Rattle.napi_types.specs.Replies.{Answer, accepts}
 

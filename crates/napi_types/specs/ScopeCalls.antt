@@ -5,10 +5,11 @@ use Rattle.napi_types.specs.declared.call.Call.TheVariants as call
 use Rattle.napi_types.specs.declared.entry.Out.TheVariants as out
 use Rattle.napi_types.specs.declared.ids.ScopeKind.{ScopeKind}
 use Rattle.napi_types.specs.declared.ids.ScopeKind.TheVariants as scope_kind
-use Rattle.napi_types.specs.Heap.{Heap, handle_value, in_scopes}
+use Rattle.napi_types.specs.Heap.{Heap, handle_value}
+use Rattle.napi_types.specs.HeapChanges.{in_scopes}
 use Rattle.napi_types.specs.Lists.{with_number}
 use Rattle.napi_types.specs.Replies.{Answer, accepts}
-use Rattle.napi_types.specs.Scopes.{open_in, close_in, escape_in}
+use Rattle.napi_types.specs.ScopeChanges.{open_in, close_in, escape_in}
 
 -- a scope of this kind and the number n is open inside the innermost one
 abbrev pub with_scope : ScopeKind → ℕ → Heap → Heap

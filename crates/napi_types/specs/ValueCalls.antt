@@ -4,9 +4,11 @@ use Rattle.napi_types.specs.declared.call.Call.{Call}
 use Rattle.napi_types.specs.declared.call.Call.TheVariants as call
 use Rattle.napi_types.specs.declared.body.Body.TheVariants as body
 use Rattle.napi_types.specs.declared.entry.Out.TheVariants as out
-use Rattle.napi_types.specs.Heap.{Heap, handle_value, handle_body, handle_elements, handle_of, new_value, new_error}
+use Rattle.napi_types.specs.Heap.{Heap, handle_value, handle_body, handle_elements}
+use Rattle.napi_types.specs.HeapChanges.{handle_of, new_value, new_error}
 use Rattle.napi_types.specs.Replies.{Answer, accepts}
-use Rattle.napi_types.specs.Values.{undefined_value, null_value, true_value, false_value, global_value, kind_of, is_array, is_error_body, signed_of, flag_of, text_of, strictly_equal}
+use Rattle.napi_types.specs.Values.{undefined_value, null_value, true_value, false_value, global_value}
+use Rattle.napi_types.specs.Bodies.{kind_of, is_array, is_error_body, signed_of, flag_of, text_of, strictly_equal}
 
 -- `get_*` of a starting value gives a new handle of it; `create_*` makes a value and gives its handle; the others tell what a handle's value is
 abbrev pub on_values : Heap → Call → Option (Answer Heap)

@@ -5,7 +5,8 @@ use Rattle.serde_json.specs.Data.{Data}
 use Rattle.napi_types.specs.declared.script.Script.{Script}
 use Rattle.napi_types.specs.declared.script.Wrong.{Wrong}
 use Rattle.napi_types.specs.declared.script.Wrong.TheVariants as wrong
-use Rattle.napi_types.specs.Script.{IsJson, IsNoJson, IsScript, IsWrong, script}
+use Rattle.napi_types.specs.ScriptReading.{IsJson, IsNoJson}
+use Rattle.napi_types.specs.Script.{IsScript, IsWrong, script}
 use Rattle.script_host.specs.Reading.{longest_source}
 use Rattle.napi_types.specs.Edge.{HasRisen}
 use Rattle.script_host.specs.Host.{Gave, IsRunnable, Causes, WroteTrace, is_whole}

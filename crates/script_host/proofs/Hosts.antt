@@ -9,7 +9,7 @@ use Rattle.napi_types.specs.Laws.{HasRoom}
 use Rattle.napi_types.specs.Plan.{Plan, Registers}
 use Rattle.napi_types.specs.Room.{most_entries}
 use Rattle.napi_types.specs.Weave.{weave}
-use Rattle.napi_types.specs.Whole.{opening_of, final_of}
+use Rattle.napi_types.specs.Setting.{opening_of, final_of}
 use Rattle.napi_types.proofs.Keeping.{kept-run}
 use Rattle.napi_types.proofs.Rooms.{room-suffices}
 use Rattle.env_loop.specs.Recording.{IsEnded}

@@ -8,7 +8,7 @@ use Rattle.napi_types.specs.declared.entry.Phase.TheVariants as phase
 use Rattle.napi_types.specs.Registers.{blank_registers}
 use Rattle.napi_types.specs.Plan.{Plan, plan_of, Registers, registers_of}
 use Rattle.napi_types.specs.Room.{most_entries}
-use Rattle.napi_types.specs.Whole.{Setting}
+use Rattle.napi_types.specs.Setting.{Setting}
 use Rattle.env_core.specs.Core.{Core, opened_core}
 use Rattle.addon_trait.specs.Addons.{loaded_at}
 use Rattle.env_loop.specs.Recording.{IsRecorded, IsEnded, IsOf}

@@ -9,13 +9,14 @@ use Rattle.napi_types.specs.declared.script.Script.{Script}
 use Rattle.napi_types.specs.declared.script.Wrong.{Wrong}
 use Rattle.napi_types.specs.declared.script.Wrong.TheVariants as wrong
 use Rattle.napi_types.specs.Edge.{HasRisen, TookFront}
-use Rattle.napi_types.specs.Kept.{KeepsReached}
+use Rattle.napi_types.specs.CollectionLaw.{KeepsReached}
 use Rattle.napi_types.specs.Parting.{IsParted}
 use Rattle.napi_types.specs.Plan.{Plan, plan_of, registers_of}
-use Rattle.napi_types.specs.Script.{IsNoJson, IsScript, IsWrong, HasWrongShape}
+use Rattle.napi_types.specs.ScriptReading.{IsNoJson}
+use Rattle.napi_types.specs.Script.{IsScript, IsWrong, HasWrongShape}
 use Rattle.napi_types.specs.Text.{text}
 use Rattle.napi_types.specs.Weave.{weave, RisesBetween}
-use Rattle.napi_types.specs.Whole.{Setting, EndsBy, opening_of, final_registers}
+use Rattle.napi_types.specs.Setting.{Setting, EndsBy, opening_of, final_registers}
 use Rattle.script_host.specs.Reading.{longest_source, GaveTooMany}
 use Rattle.env_loop.specs.Recording.{AgreesWhereTold}
 use Rattle.script_host.specs.Loading.{told_plans, setting_with}

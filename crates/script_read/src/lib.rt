@@ -4,7 +4,8 @@
 #![tactic(auto)]
 
 ghost use Rattle.std.specs.Prelude.{◌≡◌, IfOk, List, ℕ};
-ghost use Rattle.napi_types.specs.Script.{IsNoJson, IsScript, IsWrong, HasWrongShape};
+ghost use Rattle.napi_types.specs.ScriptReading.{IsNoJson};
+ghost use Rattle.napi_types.specs.Script.{IsScript, IsWrong, HasWrongShape};
 ghost use Rattle.napi_types.specs.ScriptPaths.{path as path_of};
 ghost use Rattle.napi_types.specs.declared.script.Wrong.TheVariants as wrong;
 

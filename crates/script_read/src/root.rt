@@ -1,7 +1,8 @@
 //! The script that a JSON value is.
 ghost use Rattle.std.specs.Prelude.{◌≡◌, IfOk, option_map};
 ghost use Rattle.serde_json.specs.View.{view};
-ghost use Rattle.napi_types.specs.Script.{read_with, is_root, version_in, workers_in, addons_in, threads_in, script_in, is_built_plan, is_built_script, script, members_named};
+ghost use Rattle.napi_types.specs.ScriptReading.{read_with};
+ghost use Rattle.napi_types.specs.Script.{is_root, version_in, workers_in, addons_in, threads_in, script_in, is_built_plan, is_built_script, script, members_named};
 ghost use Rattle.napi_types.specs.Texts.{fixed_texts};
 ghost use Rattle.std.specs.List.{list_all};
 ghost use Rattle.napi_types.specs.ScriptOperations.{is_built_operation};

@@ -1,7 +1,8 @@
 //! The schedule of a script.
 ghost use Rattle.std.specs.Prelude.{◌≡◌, ◌<◌, IfSome, option_map};
 ghost use Rattle.serde_json.specs.View.{view, items_view};
-ghost use Rattle.napi_types.specs.Script.{every, word_at, schedule_in};
+ghost use Rattle.napi_types.specs.ScriptReading.{every};
+ghost use Rattle.napi_types.specs.ScriptThreads.{word_at, schedule_in};
 ghost use Rattle.napi_types.specs.ScriptSchedule.{digit, small_number, number_below, lettered, actor_named, actor_in};
 ghost use Rattle.script_read.specs.Reads.{Reads};
 
@@ -98,7 +99,7 @@ fn actor_in(threads: usize, workers: usize, value: &Value) -> Option<Actor>
 }
 
 /// A word of the schedule.
-#[tactic(auto, unfolding(napi_types::specs::Script::word_at))]
+#[tactic(auto, unfolding(napi_types::specs::ScriptThreads::word_at))]
 fn word_at(threads: usize, workers: usize, s: usize, value: &Value) -> Result<Actor, Stop>
     ensures { Reads result (word_at threads workers s (view value.now)) }
 {
@@ -123,7 +124,7 @@ fn each_word(alloc: Global, threads: usize, workers: usize, items: &[Value]) -> 
 }
 
 /// The schedule, where there is one.
-#[tactic(auto, unfolding(napi_types::specs::Script::schedule_in))]
+#[tactic(auto, unfolding(napi_types::specs::ScriptThreads::schedule_in))]
 pub(crate) fn schedule_in(
     alloc: Global,
     threads: usize,

@@ -1,7 +1,8 @@
 //! The threads of a script and their operations.
 ghost use Rattle.std.specs.Prelude.{◌≡◌};
 ghost use Rattle.serde_json.specs.View.{view, items_view};
-ghost use Rattle.napi_types.specs.Script.{every, thread_operation_at, thread_at};
+ghost use Rattle.napi_types.specs.ScriptReading.{every};
+ghost use Rattle.napi_types.specs.ScriptThreads.{thread_operation_at, thread_at};
 ghost use Rattle.napi_types.specs.ScriptOperations.{thread_acquire, thread_release, thread_call, thread_operation_named, thread_operation};
 ghost use Rattle.script_read.specs.Reads.{Reads};
 
@@ -73,7 +74,7 @@ fn thread_operation(value: &Value) -> Option<Op>
 }
 
 /// An operation of a thread.
-#[tactic(auto, unfolding(napi_types::specs::Script::thread_operation_at))]
+#[tactic(auto, unfolding(napi_types::specs::ScriptThreads::thread_operation_at))]
 fn thread_operation_at(t: usize, o: usize, value: &Value) -> Result<Op, Stop>
     ensures { Reads result (thread_operation_at t o (view value.now)) }
 {
@@ -98,7 +99,7 @@ fn each_operation(alloc: Global, t: usize, items: &[Value]) -> Result<OpList, St
 }
 
 /// A thread.
-#[tactic(auto, unfolding(napi_types::specs::Script::thread_at))]
+#[tactic(auto, unfolding(napi_types::specs::ScriptThreads::thread_at))]
 fn thread_at(alloc: Global, t: usize, value: &Value) -> Result<OpList, Stop>
     ensures { Reads result (thread_at t (view value.now)) }
 {

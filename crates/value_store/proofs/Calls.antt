@@ -7,7 +7,8 @@ use Rattle.std.proofs.lemmas.List.Elements.{All-nil, All-head, All-tail, All-wea
 use borrow.Author.Tests.{eqb-true}
 use Rattle.napi_types.specs.declared.body.Body.{Body}
 use Rattle.napi_types.specs.Lists.{has_number, up_to}
-use Rattle.napi_types.specs.Values.{Value, HasDistinctNames, fresh_value, children, with_property, without_property, with_element}
+use Rattle.napi_types.specs.Values.{Value, fresh_value, children, with_property, without_property, with_element}
+use Rattle.napi_types.specs.Properties.{HasDistinctNames}
 use Rattle.napi_types.specs.Graph.{StoreState, value_of, creation_number}
 use Rattle.napi_types.proofs.Issued.{above-up_to, has-up_to}
 use Rattle.value_store.specs.Places.{state_of, at_number, changed_at, IsNumbered, IsCleared}

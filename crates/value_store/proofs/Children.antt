@@ -3,7 +3,8 @@ use Rattle.std.proofs.Common.{◌≡◌, ℕ, zero, suc, ◌+◌, ◌-◌, ◌==
 use Rattle.std.specs.List.{All, filter_map}
 use Rattle.std.proofs.lemmas.List.Elements.{filter_map-append, All-nil, All-cons, All-head, All-tail, All-append, All-set, All-replicate}
 use Rattle.napi_types.specs.Lists.{found}
-use Rattle.napi_types.specs.Values.{Value, Property, property_set, property_removed, property_at, element_at, element_set, children, with_property, without_property, with_element}
+use Rattle.napi_types.specs.Values.{Value, children, with_property, without_property, with_element}
+use Rattle.napi_types.specs.Properties.{Property, property_set, property_removed, property_at, element_at, element_set}
 use Rattle.value_store.specs.Changes.{child_places}
 
 -- the children are what stands at their places

@@ -2,7 +2,7 @@
 use Rattle.std.proofs.Common.{◌≡◌, ℕ, zero, suc, ◌+◌, ◌-◌, List, [], ◌∷◌, ◌++◌, length, replicate, set, Option, Some, None, option_map, refl, ap, sym, ◌∙◌}
 use Rattle.std.proofs.lemmas.List.{map-set, length-map}
 use Rattle.napi_types.specs.declared.ids.ValueId.{ValueId}
-use Rattle.napi_types.specs.Values.{element_set}
+use Rattle.napi_types.specs.Properties.{element_set}
 use Rattle.value_store.specs.Properties.{listed_elements}
 
 listed_elements-holes : (n : ℕ) → listed_elements (replicate n None) ≡ replicate n None

@@ -9,7 +9,8 @@ use Rattle.napi_types.specs.declared.body.Body.{Body}
 use Rattle.napi_types.specs.declared.body.Body.TheVariants as body
 use Rattle.napi_types.specs.declared.ids.ValueId.{ValueId}
 use Rattle.napi_types.specs.Lists.{has_number, up_to}
-use Rattle.napi_types.specs.Values.{Value, fresh_value, children, made_after, array_of, list_of}
+use Rattle.napi_types.specs.Values.{Value, fresh_value, children}
+use Rattle.napi_types.specs.NewValues.{made_after, array_of, list_of}
 use Rattle.napi_types.specs.Graph.{StoreState, graph_of}
 use Rattle.napi_types.proofs.Issued.{above-up_to, has-up_to}
 use Rattle.value_store.specs.Places.{state_of, at_number, IsNumbered}

@@ -7,7 +7,7 @@ use borrow.Author.Tests.{eqb-true}
 use Rattle.indexmap.specs.IndexMap.{insert_entry}
 use Rattle.napi_types.specs.declared.ids.ValueId.{ValueId}
 use Rattle.napi_types.specs.Lists.{found}
-use Rattle.napi_types.specs.Values.{Property, property_at, property_set, property_removed, HasDistinctNames}
+use Rattle.napi_types.specs.Properties.{Property, property_at, property_set, property_removed, HasDistinctNames}
 use Rattle.value_store.specs.Properties.{property_of, listed_properties}
 
 pub same-flip : (a b : ℕ) → (a == b) ≡ (b == a)

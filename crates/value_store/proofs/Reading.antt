@@ -4,7 +4,9 @@ use Rattle.std.specs.List.{All}
 use Rattle.std.specs.Option.{unwrap_or}
 use Rattle.std.proofs.lemmas.List.{length-map}
 use Rattle.napi_types.specs.declared.ids.ValueId.{ValueId}
-use Rattle.napi_types.specs.Values.{Value, children, property_at, element_at, is_object_like, value_at, starting_values}
+use Rattle.napi_types.specs.Values.{Value, children, value_at, starting_values}
+use Rattle.napi_types.specs.Properties.{property_at, element_at}
+use Rattle.napi_types.specs.Bodies.{is_object_like}
 use Rattle.napi_types.specs.Graph.{StoreState, Stored, IsSoundStore, IsLive, value_of}
 use Rattle.value_store.specs.Places.{state_of, stored_as, at_number, properties_at, elements_at, child_places_at, IsNumbered}
 use Rattle.value_store.specs.Changes.{properties_in, elements_in, child_places, child_places_in, id_at, EachStandsOnce, IsObject, IsStarting, StandsAt}

@@ -6,7 +6,8 @@ use Rattle.std.proofs.lemmas.List.Elements.{All-nil, All-cons, filter_map-append
 use Rattle.napi_types.specs.declared.body.Body.{Body}
 use Rattle.napi_types.specs.declared.ids.TextNo.{TextNo}
 use Rattle.napi_types.specs.Lists.{has_number, up_to}
-use Rattle.napi_types.specs.Values.{Value, children, made_after, error_of, thrown_strings, thrown_of}
+use Rattle.napi_types.specs.Values.{Value, children}
+use Rattle.napi_types.specs.NewValues.{made_after, error_of, thrown_strings, thrown_of}
 use Rattle.napi_types.specs.Graph.{StoreState, graph_of}
 use Rattle.napi_types.proofs.Issued.{above-up_to}
 use Rattle.value_store.specs.Places.{state_of, at_number, IsNumbered}

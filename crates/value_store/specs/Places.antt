@@ -1,7 +1,8 @@
 -- How the list of a store's values stands for the store's state.
 use Rattle.std.specs.Prelude.{◌≡◌, ℕ, zero, suc, ◌+◌, ◌-◌, ◌<◌, cond, List, [], length, map, Option, Some, None, option_map, IsSome, slice_index_or, slice_set}
 use Rattle.std.specs.List.{All}
-use Rattle.napi_types.specs.Values.{Value, Property, HasDistinctNames, children, value_at, starting_values}
+use Rattle.napi_types.specs.Values.{Value, children, value_at, starting_values}
+use Rattle.napi_types.specs.Properties.{Property, HasDistinctNames}
 use Rattle.std.specs.Option.{unwrap_or}
 use Rattle.napi_types.specs.Lists.{has_number, up_to}
 use Rattle.napi_types.specs.Graph.{Stored, StoreState}

@@ -3,7 +3,7 @@ use Rattle.std.specs.Prelude.{ℕ, ◌+◌, ◌≤◌, nat_eq, List, length, map
 use Rattle.std.specs.List.{IsDistinct}
 use Rattle.std.specs.Map.{keys_of}
 use Rattle.napi_types.specs.declared.ids.ValueId.{ValueId}
-use Rattle.napi_types.specs.Values.{Property, most_index}
+use Rattle.napi_types.specs.Properties.{Property, most_index}
 
 -- an entry of the map from names to values is a property
 abbrev pub property_of : ℕ × ValueId → Property

@@ -1,6 +1,8 @@
 //! One value: what it is, its properties and its elements.
 ghost use Rattle.std.specs.Prelude.{◌≡◌, ◌+◌, ◌-◌, ◌<◌, ◌≤◌, ◌++◌, length, replicate, IfOk, OnOk, OnErr, option_map, slice_get, slice_index_or, is_some, Some, None, true, false};
-ghost use Rattle.napi_types.specs.Values.{fresh_value, error_of, most_index, property_at, element_at, with_property, without_property, with_element};
+ghost use Rattle.napi_types.specs.Values.{fresh_value, with_property, without_property, with_element};
+ghost use Rattle.napi_types.specs.NewValues.{error_of};
+ghost use Rattle.napi_types.specs.Properties.{most_index, property_at, element_at};
 ghost use Rattle.value_store.specs.Changes.{child_places};
 ghost use Rattle.value_store.specs.Properties.{listed_elements};
 

@@ -2,7 +2,9 @@
 ghost use Rattle.std.specs.Prelude.{◌≡◌, ℕ, ◌+◌, ◌-◌, ◌<◌, ◌≤◌, ◌^◌, ◌++◌, [], ◌∷◌, true, length, map, vec_capacity, slice_get, slice_index_or, slice_set, is_some, cond, option_map, option_copied, IsSome, OnOk, OnErr, IfOk, Some, None};
 ghost use Rattle.std.specs.List.{All, range_with_len};
 ghost use Rattle.napi_types.specs.Lists.{has_number};
-ghost use Rattle.napi_types.specs.Values.{most_index, property_at, element_at, with_property, without_property, with_element, made_after, list_of, error_of, thrown_of};
+ghost use Rattle.napi_types.specs.Properties.{most_index, property_at, element_at};
+ghost use Rattle.napi_types.specs.Values.{with_property, without_property, with_element};
+ghost use Rattle.napi_types.specs.NewValues.{made_after, list_of, error_of, thrown_of};
 ghost use Rattle.value_store.specs.Changes.{numbers_of};
 ghost use Rattle.value_store.specs.Places.{at_number, changed_at, properties_at, elements_at, child_places_at, starting_list, IsCleared};
 ghost use Rattle.value_store.specs.Properties.{elements_named};

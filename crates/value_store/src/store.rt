@@ -1,7 +1,9 @@
 //! The store: the values that were made and not freed, each under a number.
 ghost use Rattle.std.specs.Prelude.{◌≡◌, ◌+◌, ◌-◌, ◌<◌, ◌≤◌, ◌^◌, ◌++◌, [], ◌∷◌, not, filter, map, length, slice_get, slice_index_or, is_some, option_map, option_copied, IfSome, IfOk, OnOk, OnErr, Some, None};
 ghost use Rattle.napi_types.specs.Lists.{has_number};
-ghost use Rattle.napi_types.specs.Values.{value_at, value_changed, fresh_value, error_of, list_of, thrown_strings, thrown_of, most_index, property_at, element_at, with_property, without_property, with_element};
+ghost use Rattle.napi_types.specs.Values.{value_at, value_changed, fresh_value, with_property, without_property, with_element};
+ghost use Rattle.napi_types.specs.NewValues.{error_of, list_of, thrown_strings, thrown_of};
+ghost use Rattle.napi_types.specs.Properties.{most_index, property_at, element_at};
 ghost use Rattle.napi_types.specs.Graph.{value_of, number_in, renamed, graph_of, IsLive, IsSoundStore};
 ghost use Rattle.value_store.specs.Changes.{properties_in, elements_in, child_places_in, id_at, EachStandsOnce, numbers_of, IsNew, IsStarting, IsObject, StandsAt, ChangesOnly, Makes, MakesValue, MakesList, Frees, CanFree};
 

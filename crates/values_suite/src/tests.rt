@@ -1,6 +1,7 @@
 //! What several tests use. A call that finds no memory ends its test, so what was made needs no way out.
 ghost use Rattle.std.specs.Prelude.{◌≡◌, ◌≤◌, Ok};
-ghost use Rattle.napi_types.specs.Values.{is_object_like as has_properties, most_index};
+ghost use Rattle.napi_types.specs.Bodies.{is_object_like as has_properties};
+ghost use Rattle.napi_types.specs.Properties.{most_index};
 
 use napi_types::{Body, NoMemory, TextNo, ValueId};
 use std::process::Abort;

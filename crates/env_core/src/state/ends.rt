@@ -2,7 +2,7 @@
 ghost use Rattle.std.specs.Prelude.{◌≡◌, ◌≢◌, ◌<◌, ◌^◌, [], Some, None};
 ghost use Rattle.napi_types.specs.Ends.{end_change, call_end_change, uncut_call_end, call_end_with, outermost_end_change};
 ghost use Rattle.napi_types.specs.Frames.{cause_of};
-ghost use Rattle.napi_types.specs.Heap.{without_frame};
+ghost use Rattle.napi_types.specs.HeapChanges.{without_frame};
 
 use super::{State, host_entry, host_told};
 use crate::handles::left_by;

@@ -1,8 +1,8 @@
 //! Calls on exceptions and on the last status.
 ghost use Rattle.std.specs.Prelude.{◌≡◌, ◌≢◌, ◌+◌, ◌<◌, ◌^◌, [], IfOk, OnErr};
 ghost use Rattle.napi_types.specs.declared.call.Call.TheVariants as call_of;
-ghost use Rattle.napi_types.specs.Refusals.{is_known};
-ghost use Rattle.napi_types.specs.Values.{most_names};
+ghost use Rattle.napi_types.specs.NamedNumbers.{is_known};
+ghost use Rattle.napi_types.specs.Properties.{most_names};
 ghost use Rattle.env_core.specs.State.{AnswersInTime};
 
 use super::State;

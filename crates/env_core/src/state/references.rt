@@ -5,7 +5,7 @@ ghost use Rattle.napi_types.specs.Heap.{handle_body};
 ghost use Rattle.napi_types.specs.Lists.{unless};
 ghost use Rattle.napi_types.specs.Refusals.{refusal_in};
 ghost use Rattle.napi_types.specs.Replies.{plain};
-ghost use Rattle.napi_types.specs.Values.{is_referable as is_referable_body};
+ghost use Rattle.napi_types.specs.Bodies.{is_referable as is_referable_body};
 ghost use Rattle.env_core.specs.State.{AnswersInTime};
 
 use super::State;

@@ -1,5 +1,5 @@
 use Rattle.std.proofs.Common.{◌≡◌, ◌∙◌, ◌+◌, ap, refl}
-use Rattle.napi_types.specs.Heap.{with_value}
+use Rattle.napi_types.specs.HeapChanges.{with_value}
 use Rattle.napi_types.specs.Values.{fresh_value}
 use Rattle.handle_scope.specs.HandleScopes.{HandleScopes, with_issued_handle, with_reserved_place}
 use Rattle.env_values.specs.Seen.{heap_of}

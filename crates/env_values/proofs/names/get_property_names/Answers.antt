@@ -1,8 +1,10 @@
 use Rattle.std.proofs.Common.{◌≡◌, ◌∙◌, true, false, nat_lt, length, ap, sym, refl}
 use Rattle.std.proofs.lemmas.List.{length-map}
-use Rattle.napi_types.specs.Heap.{new_list, handle_body, handle_properties}
+use Rattle.napi_types.specs.HeapChanges.{new_list}
+use Rattle.napi_types.specs.Heap.{handle_body, handle_properties}
 use Rattle.napi_types.specs.PropertyCalls.{names_of}
-use Rattle.napi_types.specs.Values.{is_object_like, most_names}
+use Rattle.napi_types.specs.Bodies.{is_object_like}
+use Rattle.napi_types.specs.Properties.{most_names}
 use Rattle.value_store.specs.Changes.{properties_in}
 use Rattle.env_values.specs.Seen.{heap_of}
 use Rattle.env_values.proofs.HandleValues.{like-known, properties-known, seen_property}

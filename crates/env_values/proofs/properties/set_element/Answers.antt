@@ -1,8 +1,10 @@
 use Rattle.std.proofs.Common.{◌≡◌, ◌∙◌, true, ap, sym, refl}
-use Rattle.napi_types.specs.Heap.{Heap, handle_body, handle_value, with_changed}
+use Rattle.napi_types.specs.Heap.{Heap, handle_body, handle_value}
+use Rattle.napi_types.specs.HeapChanges.{with_changed}
 use Rattle.napi_types.specs.Replies.{accepts}
 use Rattle.napi_types.specs.declared.entry.Out.TheVariants as out
-use Rattle.napi_types.specs.Values.{is_object_like, with_element}
+use Rattle.napi_types.specs.Bodies.{is_object_like}
+use Rattle.napi_types.specs.Values.{with_element}
 use Rattle.env_values.specs.Seen.{heap_of}
 use Rattle.env_values.proofs.Giving.{more-live}
 use Rattle.env_values.proofs.HandleValues.{like-known}

@@ -2,7 +2,7 @@ use Rattle.std.proofs.Common.{◌≡◌, ◌∙◌, true, is_some, ap, sym, refl
 use Rattle.napi_types.specs.Heap.{handle_body}
 use Rattle.napi_types.specs.Replies.{accepts}
 use Rattle.napi_types.specs.declared.entry.Out.TheVariants as out
-use Rattle.napi_types.specs.Values.{is_object_like}
+use Rattle.napi_types.specs.Bodies.{is_object_like}
 use Rattle.env_values.specs.Seen.{heap_of}
 use Rattle.env_values.proofs.HandleValues.{like-known, property-known, same-there}
 use Rattle.env_values.proofs.reads.has_named_property.Goals as goal

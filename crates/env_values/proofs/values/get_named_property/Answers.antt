@@ -1,7 +1,9 @@
 use Rattle.std.proofs.Common.{◌≡◌, ◌∙◌, true, ap, sym, refl}
 use Rattle.std.specs.Option.{unwrap_or}
-use Rattle.napi_types.specs.Heap.{handle_of, handle_body}
-use Rattle.napi_types.specs.Values.{is_object_like, undefined_value}
+use Rattle.napi_types.specs.HeapChanges.{handle_of}
+use Rattle.napi_types.specs.Heap.{handle_body}
+use Rattle.napi_types.specs.Bodies.{is_object_like}
+use Rattle.napi_types.specs.Values.{undefined_value}
 use Rattle.env_values.specs.Seen.{heap_of}
 use Rattle.env_values.proofs.HandleValues.{like-known, property-known, found-number}
 use Rattle.env_values.proofs.values.get_named_property.Goals as goal

@@ -9,7 +9,12 @@ use Rattle.napi_types.specs.declared.status.Status.TheVariants as status
 use Rattle.napi_types.specs.Calls.{answer_unless_deep}
 use Rattle.napi_types.specs.Environment.{Environment}
 use Rattle.napi_types.specs.Lists.{has_number, one, unless}
-use Rattle.napi_types.specs.Refusals.{handles_of, texts_of, moment_refusal, timely_refusal, unknown_refusal, reference_refusal, kind_refusal, row_refusal, depth_refusal}
+use Rattle.napi_types.specs.NamedNumbers.{handles_of, texts_of, unknown_refusal}
+use Rattle.napi_types.specs.Moments.{moment_refusal}
+use Rattle.napi_types.specs.Refusals.{timely_refusal, depth_refusal}
+use Rattle.napi_types.specs.ReferenceRefusals.{reference_refusal}
+use Rattle.napi_types.specs.ExpectedKinds.{kind_refusal}
+use Rattle.napi_types.specs.OwnRefusals.{row_refusal}
 use Rattle.napi_types.specs.Replies.{plain}
 use Rattle.napi_types.specs.Scopes.{gives}
 use Rattle.machine_laws.specs.CallLaws.{RefusesUnknownHandles, RefusesUnknownInEachRow, TakesKnownHandles}

@@ -12,8 +12,8 @@ use Rattle.napi_types.specs.Built.{is_built}
 use Rattle.napi_types.specs.Changes.{may_call}
 use Rattle.napi_types.specs.Step.{may_cut}
 use Rattle.napi_types.specs.Run.{IsNext}
-use Rattle.machine_laws.specs.Traces.{opening_entries}
-use Rattle.napi_types.specs.Whole.{opening_of}
+use Rattle.machine_laws.specs.RunWords.{opening_entries}
+use Rattle.napi_types.specs.Setting.{opening_of}
 use Rattle.napi_types.proofs.Rooms.{built-room}
 use Rattle.napi_types.proofs.Runs.{and-right}
 use Rattle.machine_laws.proofs.Computing.{run-of}

@@ -4,7 +4,7 @@ use Rattle.napi_types.specs.declared.entry.Out.TheVariants as out
 use Rattle.napi_types.specs.declared.status.Status.{Status}
 use Rattle.napi_types.specs.declared.status.Status.TheVariants as status
 use Rattle.machine_laws.specs.CallAndError.{setting, trace, handle, returned, read, last_told}
-use Rattle.machine_laws.specs.Traces.{call_begins, frame_ends}
+use Rattle.machine_laws.specs.RunWords.{call_begins, frame_ends}
 use Rattle.machine_laws.specs.Told.{IsRun}
 use Rattle.machine_laws.proofs.Asks.{told-run}
 use Rattle.machine_laws.proofs.Misses.{entry_at, told_number}

@@ -5,7 +5,7 @@ use Rattle.napi_types.specs.declared.entry.What.TheVariants as what
 use Rattle.napi_types.specs.declared.status.Status.{Status}
 use Rattle.napi_types.specs.declared.status.Status.TheVariants as status
 use Rattle.machine_laws.specs.Depth.{setting, trace, too_deep, passes}
-use Rattle.machine_laws.specs.Traces.{call_begins, frame_ends}
+use Rattle.machine_laws.specs.RunWords.{call_begins, frame_ends}
 use Rattle.machine_laws.specs.Told.{IsRun}
 use Rattle.machine_laws.proofs.Asks.{told-run}
 use Rattle.machine_laws.proofs.Misses.{entry_at}

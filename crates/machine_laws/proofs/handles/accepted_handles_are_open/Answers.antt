@@ -5,7 +5,12 @@ use Rattle.std.proofs.lemmas.Bool.{eqb-true, and_parts}
 use Rattle.napi_types.specs.declared.status.Status.{Status}
 use Rattle.napi_types.specs.declared.status.Status.TheVariants as status
 use Rattle.napi_types.specs.Lists.{has_number, unless}
-use Rattle.napi_types.specs.Refusals.{handles_of, is_known, unknown_refusal, kind_refusal, row_refusal, refusal_in, reference_refusal, timely_refusal, moment_refusal, early_refusal, depth_refusal}
+use Rattle.napi_types.specs.NamedNumbers.{handles_of, is_known, unknown_refusal}
+use Rattle.napi_types.specs.ExpectedKinds.{kind_refusal}
+use Rattle.napi_types.specs.OwnRefusals.{row_refusal}
+use Rattle.napi_types.specs.Refusals.{refusal_in, timely_refusal, early_refusal, depth_refusal}
+use Rattle.napi_types.specs.ReferenceRefusals.{reference_refusal}
+use Rattle.napi_types.specs.Moments.{moment_refusal}
 use Rattle.napi_types.specs.Scopes.{gives}
 use Rattle.machine_laws.specs.HandleLaws.{AcceptedHandlesAreOpen}
 use Rattle.machine_laws.proofs.handles.accepted_handles_are_open.Goals as goal

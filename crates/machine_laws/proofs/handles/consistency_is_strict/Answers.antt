@@ -3,7 +3,8 @@ use Rattle.std.proofs.lemmas.Bool.{false≢true}
 use Rattle.napi_types.specs.declared.body.Body.TheVariants as body
 use Rattle.napi_types.specs.Environment.{Environment}
 use Rattle.napi_types.specs.Frames.{most_frames}
-use Rattle.napi_types.specs.Heap.{new_heap, with_handle, with_frame}
+use Rattle.napi_types.specs.Heap.{new_heap}
+use Rattle.napi_types.specs.HeapChanges.{with_handle, with_frame}
 use Rattle.napi_types.specs.Values.{undefined_value, null_value, fresh_value}
 use Rattle.machine_laws.specs.Consistency.{IsConsistent}
 use Rattle.machine_laws.specs.ConsistencyMisses.{IsStrict, in_init_frame, holding, two_held, deep, reference}

@@ -1,9 +1,9 @@
 use Rattle.std.proofs.Common.{◌≡◌, List, ◌∷◌, ap, drop, refl, slice_index_or}
 use Rattle.napi_types.specs.Parting.{IsParted}
 use Rattle.napi_types.specs.Weave.{Side, Journal, History}
-use Rattle.napi_types.specs.Whole.{opening_of}
+use Rattle.napi_types.specs.Setting.{opening_of}
 use Rattle.machine_laws.specs.FirstRun.{setting, asks, history, journal_with_go, journal_without_end}
-use Rattle.machine_laws.specs.Traces.{frame_end}
+use Rattle.machine_laws.specs.RunWords.{frame_end}
 use Rattle.machine_laws.proofs.scope_runs.first_run_is_parted.Goals as goal
 
 no-go : IsParted (opening_of setting) asks journal_with_go (drop 1 history) → ⊥

@@ -2,7 +2,9 @@ use Rattle.std.proofs.Common.{◌≡◌, ◌∙◌, ◌+◌, ◌++◌, ◌∷◌
 use Rattle.std.proofs.Math.ListN.{set}
 use Rattle.std.specs.Prelude.{vec_capacity}
 use Rattle.napi_types.specs.Lists.{head, first_changed}
-use Rattle.napi_types.specs.Scopes.{escaping, escape_in, opened_scopes}
+use Rattle.napi_types.specs.ScopeRefusals.{escaping}
+use Rattle.napi_types.specs.ScopeChanges.{escape_in}
+use Rattle.napi_types.specs.Scopes.{opened_scopes}
 use Rattle.handle_scope.specs.HandleScopes.{HandleScopes}
 use Rattle.handle_scope.specs.declared.scopes.HeldHandle.{HeldHandle}
 use Rattle.handle_scope.specs.declared.scopes.ScopeMark.{ScopeMark}

@@ -1,6 +1,6 @@
 use Rattle.std.proofs.Common.{rules, ◌≡◌, ◌+◌, ◌++◌, ◌∷◌, [], ◌∙◌, ap, Some, length, option_map}
 use Rattle.napi_types.specs.declared.ids.ValueId.{ValueId}
-use Rattle.napi_types.specs.Values.{error_of}
+use Rattle.napi_types.specs.NewValues.{error_of}
 use Rattle.value_store.proofs.Errors.{errors-numbered, errors-made, errors-graph}
 use Rattle.value_store.proofs.Reading.{sound-view}
 use Rattle.value_store.proofs.store.Store.make_error.Goals as goal

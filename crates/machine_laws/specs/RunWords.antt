@@ -14,7 +14,7 @@ use Rattle.napi_types.specs.declared.entry.Out.TheVariants as out
 use Rattle.napi_types.specs.declared.entry.What.TheVariants as what
 use Rattle.napi_types.specs.Replies.{plain}
 use Rattle.napi_types.specs.Changes.{host_told, host_entry}
-use Rattle.napi_types.specs.Whole.{Setting}
+use Rattle.napi_types.specs.Setting.{Setting}
 use Rattle.napi_types.specs.Room.{most_entries}
 
 -- a script of one addon with these entries, with the three texts that every script has, and room for the most entries in each list
