@@ -5,17 +5,13 @@ use Rattle.napi_types.specs.declared.op.Op.TheVariants as op
 use Rattle.napi_types.specs.declared.entry.Entry.{Entry}
 use Rattle.napi_types.specs.declared.entry.Out.{Out}
 use Rattle.napi_types.specs.declared.entry.Out.TheVariants as out
-use Rattle.napi_types.specs.declared.ids.HandleId.{HandleId}
 use Rattle.napi_types.specs.declared.status.Status.{Status}
 use Rattle.napi_types.specs.declared.status.Status.TheVariants as status
 use Rattle.napi_types.specs.Text.{text}
 use Rattle.napi_types.specs.Texts.{fixed_texts}
-use Rattle.machine_laws.specs.RunWords.{script_of_entries, call_at, call_begins, call_ends, frame_ends, opening_entries, great_events, gone_entry}
-use Rattle.napi_types.specs.Setting.{Setting, EndsBy}
-use Rattle.machine_laws.specs.Told.{IsRun, told_asks}
-
-abbrev pub handle : ℕ → HandleId
-handle n = record { 0 = n }
+use Rattle.machine_laws.specs.RunWords.{script_of_entries, call_at, call_begins, call_ends, frame_ends, opening_entries, great_events, gone_entry, opening_lines, handle}
+use Rattle.napi_types.specs.Setting.{Setting}
+use Rattle.machine_laws.specs.Told.{IsRun}
 
 -- the texts: after the fixed ones a code and a message
 abbrev pub texts : List (List ℕ)
@@ -64,15 +60,10 @@ trace =
     ++ gone_entry
     ∷ []
 
--- the entries are a run of the script that comes to its end
-abbrev pub Ends : Type 0
-Ends = EndsBy setting (told_asks setting trace) trace
-
 -- their text is these fifteen lines
 abbrev pub Prints : Type 0
 Prints = text texts trace ≡
-    codes "1 env opened 0 9\n"
-    ++ codes "2 env begin 0 init:0.0\n"
+    opening_lines
     ++ codes "3 env create_function 0 handle\n"
     ++ codes "4 env create_int64 0 handle\n"
     ++ codes "5 env begin 0 call:0.1\n"

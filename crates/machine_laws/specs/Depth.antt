@@ -10,8 +10,8 @@ use Rattle.napi_types.specs.declared.ids.HandleId.{HandleId}
 use Rattle.napi_types.specs.declared.status.Status.{Status}
 use Rattle.napi_types.specs.declared.status.Status.TheVariants as status
 use Rattle.machine_laws.specs.RunWords.{script_of_entries, call_at, call_in, call_begins, call_ends, frame_ends, opening_entries, great_events, gone_entry}
-use Rattle.napi_types.specs.Setting.{Setting, EndsBy}
-use Rattle.machine_laws.specs.Told.{IsRun, told_asks}
+use Rattle.napi_types.specs.Setting.{Setting}
+use Rattle.machine_laws.specs.Told.{IsRun}
 
 -- the function's handle
 abbrev pub function : HandleId
@@ -49,10 +49,6 @@ trace =
     ∷ great_events
     ++ gone_entry
     ∷ []
-
--- the entries are a run of the script that comes to its end
-abbrev pub Ends : Type 0
-Ends = EndsBy setting (told_asks setting trace) trace
 
 -- near misses are no runs
 pub record IsStrict : Type 0 where

@@ -16,9 +16,9 @@ use Rattle.napi_types.specs.Parting.{IsParted}
 use Rattle.napi_types.specs.Plan.{registers_of}
 use Rattle.napi_types.specs.Text.{text}
 use Rattle.napi_types.specs.Texts.{fixed_texts}
-use Rattle.machine_laws.specs.RunWords.{script_of, call_at, opening_entries, frame_end, great_events, gone_entry, loop_ended, left_out}
+use Rattle.machine_laws.specs.RunWords.{script_of, call_at, opening_entries, frame_end, great_events, gone_entry, loop_ended, left_out, opening_lines}
 use Rattle.napi_types.specs.Weave.{weave}
-use Rattle.napi_types.specs.Setting.{Setting, EndsBy, opening_of, final_registers}
+use Rattle.napi_types.specs.Setting.{Setting, opening_of, final_registers}
 use Rattle.machine_laws.specs.Told.{IsRun, told_asks}
 
 -- the script: the scope's number goes to register 0, the handle's to register 1, the kind's to register 2
@@ -62,15 +62,10 @@ trace = weave journal history
 abbrev pub asks : List Ask
 asks = told_asks setting trace
 
--- the weave of the two lists is a run of the script that comes to its end
-abbrev pub Ends : Type 0
-Ends = EndsBy setting asks trace
-
 -- its text is these twelve lines
 abbrev pub Prints : Type 0
 Prints = text fixed_texts trace ≡
-    codes "1 env opened 0 9\n"
-    ++ codes "2 env begin 0 init:0.0\n"
+    opening_lines
     ++ codes "3 env open_handle_scope 0 scope\n"
     ++ codes "4 env create_object 0 handle\n"
     ++ codes "5 env typeof 0 object\n"

@@ -4,7 +4,6 @@ use Rattle.napi_types.specs.declared.call.Call.TheVariants as call
 use Rattle.napi_types.specs.declared.op.Op.TheVariants as op
 use Rattle.napi_types.specs.declared.entry.Entry.{Entry}
 use Rattle.napi_types.specs.declared.entry.Out.TheVariants as out
-use Rattle.napi_types.specs.declared.ids.HandleId.{HandleId}
 use Rattle.napi_types.specs.declared.ids.TextNo.{TextNo}
 use Rattle.napi_types.specs.declared.status.Kind.{Kind}
 use Rattle.napi_types.specs.declared.status.Kind.TheVariants as kind
@@ -12,9 +11,9 @@ use Rattle.napi_types.specs.declared.status.Status.{Status}
 use Rattle.napi_types.specs.declared.status.Status.TheVariants as status
 use Rattle.napi_types.specs.Text.{text}
 use Rattle.napi_types.specs.Texts.{fixed_texts}
-use Rattle.machine_laws.specs.RunWords.{script_of, call_at, run_of_calls}
-use Rattle.napi_types.specs.Setting.{Setting, EndsBy}
-use Rattle.machine_laws.specs.Told.{IsRun, told_asks}
+use Rattle.machine_laws.specs.RunWords.{script_of, call_at, run_of_calls, opening_lines, handle}
+use Rattle.napi_types.specs.Setting.{Setting}
+use Rattle.machine_laws.specs.Told.{IsRun}
 
 -- the texts: after the fixed ones the three names
 abbrev pub texts : List (List ℕ)
@@ -40,9 +39,6 @@ setting = record (script_of (
     ∷ op.CreateInt64 (pos 9007199254740992) 9
     ∷ []
     )) { texts = 6 }
-
-abbrev pub handle : ℕ → HandleId
-handle n = record { 0 = n }
 
 abbrev pub name : ℕ → TextNo
 name n = record { 0 = n }
@@ -83,15 +79,10 @@ trace = run_of_calls (
     ∷ []
     )
 
--- the entries are a run of the script that comes to its end
-abbrev pub Ends : Type 0
-Ends = EndsBy setting (told_asks setting trace) trace
-
 -- their text is these lines
 abbrev pub Prints : Type 0
 Prints = text texts trace ≡
-    codes "1 env opened 0 9\n"
-    ++ codes "2 env begin 0 init:0.0\n"
+    opening_lines
     ++ codes "3 env create_object 0 handle\n"
     ++ codes "4 env create_int64 0 handle\n"
     ++ codes "5 env set_named_property 0 -\n"

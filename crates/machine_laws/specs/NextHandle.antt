@@ -7,9 +7,9 @@ use Rattle.napi_types.specs.declared.entry.Out.TheVariants as out
 use Rattle.napi_types.specs.declared.status.Status.TheVariants as status
 use Rattle.napi_types.specs.Text.{text}
 use Rattle.napi_types.specs.Texts.{fixed_texts}
-use Rattle.napi_types.specs.Setting.{Setting, EndsBy}
-use Rattle.machine_laws.specs.Told.{IsRun, told_asks}
-use Rattle.machine_laws.specs.RunWords.{script_of, call_at, run_of_calls}
+use Rattle.napi_types.specs.Setting.{Setting}
+use Rattle.machine_laws.specs.Told.{IsRun}
+use Rattle.machine_laws.specs.RunWords.{script_of, call_at, run_of_calls, opening_lines}
 
 -- the script makes a number in a scope, closes the scope, and makes another one
 abbrev pub setting : Setting
@@ -29,15 +29,10 @@ trace = run_of_calls (
     ∷ []
     )
 
--- the entries are a run of the script that comes to its end
-abbrev pub Ends : Type 0
-Ends = EndsBy setting (told_asks setting trace) trace
-
 -- their text is these twelve lines
 abbrev pub Prints : Type 0
 Prints = text fixed_texts trace ≡
-    codes "1 env opened 0 9\n"
-    ++ codes "2 env begin 0 init:0.0\n"
+    opening_lines
     ++ codes "3 env open_handle_scope 0 scope\n"
     ++ codes "4 env create_int64 0 handle\n"
     ++ codes "5 env close_handle_scope 0 -\n"

@@ -6,7 +6,6 @@ use Rattle.napi_types.specs.declared.entry.Entry.{Entry}
 use Rattle.napi_types.specs.declared.entry.HostStep.TheVariants as host
 use Rattle.napi_types.specs.declared.entry.Out.{Out}
 use Rattle.napi_types.specs.declared.entry.Out.TheVariants as out
-use Rattle.napi_types.specs.declared.ids.HandleId.{HandleId}
 use Rattle.napi_types.specs.declared.status.Kind.{Kind}
 use Rattle.napi_types.specs.declared.status.Kind.TheVariants as kind
 use Rattle.napi_types.specs.declared.status.Status.{Status}
@@ -14,12 +13,9 @@ use Rattle.napi_types.specs.declared.status.Status.TheVariants as status
 use Rattle.napi_types.specs.Changes.{host_entry}
 use Rattle.napi_types.specs.Text.{text}
 use Rattle.napi_types.specs.Texts.{fixed_texts}
-use Rattle.machine_laws.specs.RunWords.{script_of, call_at, opening_entries, great_events, gone_entry, run_of_calls}
+use Rattle.machine_laws.specs.RunWords.{script_of, call_at, opening_entries, great_events, gone_entry, run_of_calls, opening_lines, handle}
 use Rattle.napi_types.specs.Setting.{Setting, EndsBy}
 use Rattle.machine_laws.specs.Told.{IsRun, told_asks}
-
-abbrev pub handle : ℕ → HandleId
-handle n = record { 0 = n }
 
 -- the texts: after the fixed ones a name
 abbrev pub texts : List (List ℕ)
@@ -74,15 +70,10 @@ trace = run_of_calls (
     ∷ []
     )
 
--- the entries are a run of the script that comes to its end
-abbrev pub Ends : Type 0
-Ends = EndsBy setting (told_asks setting trace) trace
-
 -- their text is these eighteen lines
 abbrev pub Prints : Type 0
 Prints = text texts trace ≡
-    codes "1 env opened 0 9\n"
-    ++ codes "2 env begin 0 init:0.0\n"
+    opening_lines
     ++ codes "3 env create_object 0 handle\n"
     ++ codes "4 env throw 0 -\n"
     ++ codes "5 env set_named_property 10 -\n"

@@ -5,21 +5,13 @@ use Rattle.napi_types.specs.declared.op.Op.TheVariants as op
 use Rattle.napi_types.specs.declared.entry.Entry.{Entry}
 use Rattle.napi_types.specs.declared.entry.Out.{Out}
 use Rattle.napi_types.specs.declared.entry.Out.TheVariants as out
-use Rattle.napi_types.specs.declared.ids.HandleId.{HandleId}
-use Rattle.napi_types.specs.declared.ids.RefId.{RefId}
 use Rattle.napi_types.specs.declared.status.Status.{Status}
 use Rattle.napi_types.specs.declared.status.Status.TheVariants as status
 use Rattle.napi_types.specs.Text.{text}
 use Rattle.napi_types.specs.Texts.{fixed_texts}
-use Rattle.machine_laws.specs.RunWords.{script_of, call_at, run_of_calls}
-use Rattle.napi_types.specs.Setting.{Setting, EndsBy}
-use Rattle.machine_laws.specs.Told.{IsRun, told_asks}
-
-abbrev pub handle : ℕ → HandleId
-handle n = record { 0 = n }
-
-abbrev pub reference : ℕ → RefId
-reference n = record { 0 = n }
+use Rattle.machine_laws.specs.RunWords.{script_of, call_at, run_of_calls, opening_lines, handle, reference}
+use Rattle.napi_types.specs.Setting.{Setting}
+use Rattle.machine_laws.specs.Told.{IsRun}
 
 -- the script makes an object and a reference to it with the greatest count, counts it up and down, deletes it twice, and makes a reference to a number
 abbrev pub setting : Setting
@@ -65,15 +57,10 @@ trace = run_of_calls (
     ∷ []
     )
 
--- the entries are a run of the script that comes to its end
-abbrev pub Ends : Type 0
-Ends = EndsBy setting (told_asks setting trace) trace
-
 -- their text is these sixteen lines
 abbrev pub Prints : Type 0
 Prints = text fixed_texts trace ≡
-    codes "1 env opened 0 9\n"
-    ++ codes "2 env begin 0 init:0.0\n"
+    opening_lines
     ++ codes "3 env create_object 0 handle\n"
     ++ codes "4 env create_reference 0 ref\n"
     ++ codes "5 env reference_ref 9 -\n"

@@ -1,5 +1,5 @@
 -- Words that small runs are written by.
-use Rattle.std.specs.Prelude.{ℕ, ◌+◌, List, [], ◌∷◌, ◌++◌, take, drop, Some, None}
+use Rattle.std.specs.Prelude.{ℕ, ◌+◌, List, [], ◌∷◌, ◌++◌, take, drop, Some, None, codes}
 use Rattle.napi_types.specs.declared.call.Call.{Call}
 use Rattle.napi_types.specs.declared.op.Op.{Op}
 use Rattle.napi_types.specs.declared.status.Status.{Status}
@@ -16,6 +16,8 @@ use Rattle.napi_types.specs.Replies.{plain}
 use Rattle.napi_types.specs.Changes.{host_told, host_entry}
 use Rattle.napi_types.specs.Setting.{Setting}
 use Rattle.napi_types.specs.Room.{most_entries}
+use Rattle.napi_types.specs.declared.ids.HandleId.{HandleId}
+use Rattle.napi_types.specs.declared.ids.RefId.{RefId}
 
 -- a script of one addon with these entries, with the three texts that every script has, and room for the most entries in each list
 abbrev pub script_of_entries : List (List Op) → Setting
@@ -76,3 +78,14 @@ run_of_calls calls = opening_entries ++ calls ++ frame_end ∷ great_events ++ g
 -- the entries without the one at this place, counted from 0
 abbrev pub left_out : ℕ → List Entry → List Entry
 left_out n xs = take n xs ++ drop (n + 1) xs
+
+-- the lines of the opening entries
+abbrev pub opening_lines : List ℕ
+opening_lines = codes "1 env opened 0 9\n" ++ codes "2 env begin 0 init:0.0\n"
+
+-- the handle of a number, and the reference of a number
+abbrev pub handle : ℕ → HandleId
+handle n = record { 0 = n }
+
+abbrev pub reference : ℕ → RefId
+reference n = record { 0 = n }

@@ -7,7 +7,7 @@ use Rattle.napi_types.specs.declared.entry.Entry.{Entry}
 use Rattle.napi_types.specs.Machine.{Machine}
 use Rattle.napi_types.specs.Plan.{Plan, Registers, asked, registers_after, loaded_registers}
 use Rattle.napi_types.specs.Run.{after}
-use Rattle.napi_types.specs.Setting.{Setting, RunsBy, opening_of}
+use Rattle.napi_types.specs.Setting.{Setting, RunsBy, opening_of, EndsBy}
 
 -- a run of the script, by some asks
 abbrev pub IsRun : Setting → List Entry → Type 0
@@ -26,3 +26,7 @@ told_asks_along ps rss m (x ∷ xs) =
 -- those of a run of the script
 abbrev pub told_asks : Setting → List Entry → List Ask
 told_asks s xs = told_asks_along s.plans (loaded_registers s.plans) (opening_of s) xs
+
+-- the entries are a run of the script that comes to its end
+abbrev pub EndsAsTold : Setting → List Entry → Type 0
+EndsAsTold s xs = EndsBy s (told_asks s xs) xs

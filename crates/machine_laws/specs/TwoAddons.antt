@@ -7,8 +7,8 @@ use Rattle.napi_types.specs.declared.entry.HostStep.TheVariants as host
 use Rattle.napi_types.specs.declared.entry.Out.TheVariants as out
 use Rattle.napi_types.specs.Changes.{host_entry}
 use Rattle.napi_types.specs.Room.{most_entries}
-use Rattle.napi_types.specs.Setting.{Setting, EndsBy}
-use Rattle.machine_laws.specs.Told.{IsRun, told_asks}
+use Rattle.napi_types.specs.Setting.{Setting}
+use Rattle.machine_laws.specs.Told.{IsRun}
 use Rattle.machine_laws.specs.RunWords.{opening_entries, frame_end, great_events, gone_entry}
 
 -- the script: each addon has one entry without operations
@@ -26,10 +26,6 @@ later = great_events ++ gone_entry ∷ []
 -- the whole run
 abbrev pub trace : List Entry
 trace = opening_entries ++ frame_end ∷ init_begins 1 ∷ frame_end ∷ later
-
--- the entries are a run of the script that comes to its end
-abbrev pub Ends : Type 0
-Ends = EndsBy setting (told_asks setting trace) trace
 
 -- near misses are no runs
 pub record IsStrict : Type 0 where

@@ -1,4 +1,5 @@
 //! Laws of the event that comes next where no frame stands, and a worked run of two addons.
+ghost use Rattle.machine_laws.specs.Told.{EndsAsTold};
 ghost use Rattle.machine_laws.specs.Choices.{NoneIsChosenInFrames, BeginsTellTheirFrames, OwnEventsComeFirst, HubEventsComeLast};
 ghost use Rattle.machine_laws.specs.Choices.{GoComesAfterInitFrames, GoneComesAfterFinals, HubIsInPhase};
 ghost use Rattle.machine_laws.specs.Choices.{GoComesOnlyAfterInitFrames, GoneComesOnlyAfterFinals};
@@ -51,7 +52,7 @@ pub fn gone_comes_only_after_finals()
 
 /// Two addons that ask nothing: the entries are a run of their script and come to its end.
 pub fn two_addons_ends()
-    ensures { two_addons.Ends }
+    ensures { EndsAsTold two_addons.setting two_addons.trace }
 {}
 
 /// `go` does not come before the second addon's frame, which is that of no other addon.

@@ -1,11 +1,12 @@
 //! Worked runs of exceptions and of calls of functions, each as laws.
+ghost use Rattle.machine_laws.specs.Told.{EndsAsTold};
 ghost use Rattle.machine_laws.specs.PendingException as pending_exception;
 ghost use Rattle.machine_laws.specs.CallAndError as call_and_error;
 ghost use Rattle.machine_laws.specs.Depth as depth_limit;
 
 /// Calls while an exception is pending: the entries are a run of their script and come to its end.
 pub fn pending_exception_ends()
-    ensures { pending_exception.Ends }
+    ensures { EndsAsTold pending_exception.setting pending_exception.trace }
 {}
 
 /// The text of that run, line by line.
@@ -25,7 +26,7 @@ pub fn exception_is_uncaught()
 
 /// A function that is called and returns its argument, and an error that is not caught: the entries are a run of their script and come to its end.
 pub fn call_and_error_ends()
-    ensures { call_and_error.Ends }
+    ensures { EndsAsTold call_and_error.setting call_and_error.trace }
 {}
 
 /// The text of that run, line by line.
@@ -40,7 +41,7 @@ pub fn call_and_error_is_strict()
 
 /// A function that calls itself until no further frame may stand: the entries are a run of their script and come to its end.
 pub fn depth_ends()
-    ensures { depth_limit.Ends }
+    ensures { EndsAsTold depth_limit.setting depth_limit.trace }
 {}
 
 /// No frame begins where 64 stand, the call there has no other status, and its error stays pending until the outermost frame ends.

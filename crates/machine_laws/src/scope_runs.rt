@@ -1,4 +1,5 @@
 //! Worked runs of handles and scopes, each as laws: that it is a run to its end, its text, and that near misses are no run.
+ghost use Rattle.machine_laws.specs.Told.{EndsAsTold};
 ghost use Rattle.machine_laws.specs.FirstRun as first_run;
 ghost use Rattle.machine_laws.specs.ScopeOrder as scope_order;
 ghost use Rattle.machine_laws.specs.ClosedScope as closed_scope;
@@ -8,7 +9,7 @@ ghost use Rattle.machine_laws.specs.NextHandle as next_handle;
 
 /// The first run: the entries are a run of its script and come to its end.
 pub fn first_run_ends()
-    ensures { first_run.Ends }
+    ensures { EndsAsTold first_run.setting first_run.trace }
 {}
 
 /// The text of the first run, line by line.
@@ -38,7 +39,7 @@ pub fn first_run_is_strict()
 
 /// The order of scopes: the entries are a run of its script and come to its end.
 pub fn scope_order_ends()
-    ensures { scope_order.Ends }
+    ensures { EndsAsTold scope_order.setting scope_order.trace }
 {}
 
 /// The text of the order of scopes, line by line.
@@ -53,7 +54,7 @@ pub fn scope_order_is_strict()
 
 /// A handle used after its scope closed: the entries are a run of its script and come to its end.
 pub fn closed_scope_ends()
-    ensures { closed_scope.Ends }
+    ensures { EndsAsTold closed_scope.setting closed_scope.trace }
 {}
 
 /// The text of that run, line by line.
@@ -68,7 +69,7 @@ pub fn closed_scope_is_strict()
 
 /// A handle that escapes twice: the entries are a run of its script and come to its end.
 pub fn escape_twice_ends()
-    ensures { escape_twice.Ends }
+    ensures { EndsAsTold escape_twice.setting escape_twice.trace }
 {}
 
 /// The text of that run, line by line.
@@ -83,7 +84,7 @@ pub fn escape_twice_is_strict()
 
 /// A handle that is read after its scope closed, and the last status after that: the entries are a run of its script and come to its end.
 pub fn stale_handle_ends()
-    ensures { stale_handle.Ends }
+    ensures { EndsAsTold stale_handle.setting stale_handle.trace }
 {}
 
 /// The text of that run, line by line.
@@ -98,7 +99,7 @@ pub fn stale_handle_is_strict()
 
 /// A handle that is made after the scope of another closed: the entries are a run of their script and come to its end.
 pub fn next_handle_ends()
-    ensures { next_handle.Ends }
+    ensures { EndsAsTold next_handle.setting next_handle.trace }
 {}
 
 /// The text of that run, line by line.

@@ -1,11 +1,12 @@
 //! Worked runs of properties, elements, references and collections, each as laws.
+ghost use Rattle.machine_laws.specs.Told.{EndsAsTold};
 ghost use Rattle.machine_laws.specs.NamesRun as names_run;
 ghost use Rattle.machine_laws.specs.StrongAndWeak as strong_and_weak;
 ghost use Rattle.machine_laws.specs.ReferenceCounts as reference_counts;
 
 /// Properties and elements: the entries are a run of their script and come to its end.
 pub fn names_run_ends()
-    ensures { names_run.Ends }
+    ensures { EndsAsTold names_run.setting names_run.trace }
 {}
 
 /// The text of that run, line by line.
@@ -20,7 +21,7 @@ pub fn names_run_is_strict()
 
 /// A value that a reference alone keeps, and collections before and after the reference is weak: the entries are a run of their script and come to its end.
 pub fn strong_and_weak_ends()
-    ensures { strong_and_weak.Ends }
+    ensures { EndsAsTold strong_and_weak.setting strong_and_weak.trace }
 {}
 
 /// The text of that run, line by line.
@@ -36,7 +37,7 @@ pub fn strong_and_weak_is_strict()
 
 /// The greatest count, a reference that is deleted twice, and a reference to a number: the entries are a run of their script and come to its end.
 pub fn reference_counts_ends()
-    ensures { reference_counts.Ends }
+    ensures { EndsAsTold reference_counts.setting reference_counts.trace }
 {}
 
 /// The text of that run, line by line.

@@ -3,7 +3,8 @@ use Rattle.napi_types.specs.declared.entry.Out.{Out}
 use Rattle.napi_types.specs.declared.entry.Out.TheVariants as out
 use Rattle.napi_types.specs.declared.status.Status.{Status}
 use Rattle.napi_types.specs.declared.status.Status.TheVariants as status
-use Rattle.machine_laws.specs.CallAndError.{setting, trace, handle, returned, read, last_told}
+use Rattle.machine_laws.specs.CallAndError.{setting, trace, returned, read, last_told}
+use Rattle.machine_laws.specs.RunWords.{handle}
 use Rattle.machine_laws.specs.RunWords.{call_begins, frame_ends}
 use Rattle.machine_laws.specs.Told.{IsRun}
 use Rattle.machine_laws.proofs.Asks.{told-run}

@@ -2,7 +2,8 @@ use Rattle.std.proofs.Common.{◌≡◌, ℕ, ap, set, refl}
 use Rattle.napi_types.specs.declared.entry.Out.TheVariants as out
 use Rattle.napi_types.specs.declared.status.Status.{Status}
 use Rattle.napi_types.specs.declared.status.Status.TheVariants as status
-use Rattle.machine_laws.specs.ReferenceCounts.{setting, trace, reference, count_up_entry, down_told, deleted_again, number_referred}
+use Rattle.machine_laws.specs.ReferenceCounts.{setting, trace, count_up_entry, down_told, deleted_again, number_referred}
+use Rattle.machine_laws.specs.RunWords.{reference}
 use Rattle.machine_laws.specs.Told.{IsRun}
 use Rattle.machine_laws.proofs.Asks.{told-run}
 use Rattle.machine_laws.proofs.Misses.{entry_at, told_number}

@@ -2,7 +2,8 @@ use Rattle.std.proofs.Common.{◌≡◌, ℕ, ap, set, refl}
 use Rattle.napi_types.specs.declared.entry.Out.TheVariants as out
 use Rattle.napi_types.specs.declared.status.Status.{Status}
 use Rattle.napi_types.specs.declared.status.Status.TheVariants as status
-use Rattle.machine_laws.specs.StrongAndWeak.{setting, trace, handle, first_freed, then_freed, value_given, counted_down, up_told}
+use Rattle.machine_laws.specs.StrongAndWeak.{setting, trace, first_freed, then_freed, value_given, counted_down, up_told}
+use Rattle.machine_laws.specs.RunWords.{handle}
 use Rattle.machine_laws.specs.Told.{IsRun}
 use Rattle.machine_laws.proofs.Asks.{told-run}
 use Rattle.machine_laws.proofs.Misses.{entry_at, told_number}
