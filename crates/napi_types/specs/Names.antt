@@ -15,7 +15,7 @@ use Rattle.napi_types.specs.declared.entry.Why.TheVariants as why
 use Rattle.napi_types.specs.declared.status.Kind.{Kind}
 use Rattle.napi_types.specs.declared.status.Kind.TheVariants as kind
 
--- the name that the manual gives the call, without its `napi_`
+-- the name that the manual gives the call, without its `napi_`; `collect` and `exit` are calls of this environment's own
 abbrev pub call_name : Call → List ℕ
 call_name call.GetUndefined = codes "get_undefined"
 call_name call.GetNull = codes "get_null"

@@ -53,7 +53,7 @@ properties_of vs n = unwrap_or (option_map (λ v. v.properties) (value_at vs n))
 abbrev pub elements_of : List Value → ℕ → List (Option ℕ)
 elements_of vs n = unwrap_or (option_map (λ v. v.elements) (value_at vs n)) []
 
--- the values that a value's properties and elements name, the manual's "reachable from" in one step
+-- the values that a value's properties and elements name: what it reaches in one step
 abbrev pub children : Value → List ℕ
 children v = map (λ p. p.value) v.properties ++ filter_map (λ e. e) v.elements
 

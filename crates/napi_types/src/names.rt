@@ -5,7 +5,7 @@ ghost use Rattle.napi_types.specs.Names.{call_name, host_name, what_name, kind_n
 use crate::{Call, Cause, HostStep, Kind, LoopEnd, What, Why};
 
 impl Call {
-    /// The name that the Node-API manual gives the call, without `napi_`.
+    /// The name that the Node-API manual gives the call, without `napi_`. `collect` and `exit` are calls of this environment's own.
     pub fn name(self) -> &'static str
         ensures { result.now ≡ call_name self }
     {
