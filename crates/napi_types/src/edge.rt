@@ -1,5 +1,5 @@
 //! The ends of the outside: where bytes come from and where they go, and the places where a schedule may hold a thread.
-ghost use Rattle.std.specs.Prelude.{◌≡◌, ℕ, ◌+◌, ◌<◌, ◌≤◌, ◌↔◌, List, [], ◌++◌, None, Some, length, min, drop, IfOk, IfSome, OnErr, IsErr, IsTrue, is_ok, if◌then◌else◌};
+ghost use Rattle.std.specs.Prelude.{◌≡◌, ℕ, ◌+◌, ◌<◌, ◌≤◌, ◌↔◌, List, [], ◌++◌, None, Some, length, min, drop, IfOk, IfSome, OnOk, OnErr, IsErr, IsTrue, is_ok, if◌then◌else◌};
 ghost use Rattle.std.specs.declared.option.Option.{Option};
 ghost use Rattle.std.specs.Io.KnownBytes.{prepend_known, append_known};
 ghost use Rattle.napi_types.specs.Edge.{HasRisen, moved, CallPlan, opening_plan, fails_next, counted, count_call, count_fault};
@@ -20,13 +20,14 @@ pub trait Source {
 
     /// Reads bytes into the front of `into` and answers how many. For a piece that is not empty 0 is the end of the input.
     ///
-    /// It fails only where the count of faults rose, and then nothing was read.
+    /// It fails where the count of faults rose and nowhere else, and then nothing was read.
     fn read(&mut self, into: &mut [u8]) -> Result<usize, Failed>
         ensures within { IfOk result (λ n. n ≤ length into.new) }
         ensures gives { left self.old ≡ prepend_known (moved result into.new) (left self.new) }
         ensures end { IfOk result (λ n. 0 < length into.new →
             IfSome (left self.old) (λ bytes. (n ≡ 0) ↔ (bytes ≡ []))) }
         ensures failed { OnErr result (HasRisen (faults self.old) (faults self.new)) }
+        ensures counted { OnOk result (faults self.new ≡ faults self.old) }
         ensures faults { faults self.old ≤ faults self.new };
 }
 
@@ -40,12 +41,13 @@ pub trait Sink {
 
     /// Takes bytes from the front of `from` and answers how many: at least one, where there is one.
     ///
-    /// It fails only where the count of faults rose, and then nothing was taken.
+    /// It fails where the count of faults rose and nowhere else, and then nothing was taken.
     fn write(&mut self, from: &[u8]) -> Result<usize, Failed>
         ensures within { IfOk result (λ n. n ≤ length from.now) }
         ensures some { IfOk result (λ n. 0 < length from.now → 0 < n) }
         ensures takes { taken self.new ≡ append_known (taken self.old) (moved result from.now) }
         ensures failed { OnErr result (HasRisen (faults self.old) (faults self.new)) }
+        ensures counted { OnOk result (faults self.new ≡ faults self.old) }
         ensures faults { faults self.old ≤ faults self.new };
 }
 
