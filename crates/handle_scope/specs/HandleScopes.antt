@@ -25,7 +25,7 @@ no_scopes = record { frames = []; by_call = []; handles = 0; scope_numbers = [];
 abbrev pub with_frame_scopes : HandleScopes → HandleScopes
 with_frame_scopes s = record s { frames = no_handles ∷ s.frames; by_call = false ∷ s.by_call }
 
--- the same by a call of the innermost one, in which there is a place for the handle of what the call gives
+-- the same by a call of the innermost one
 abbrev pub with_call_scopes : HandleScopes → HandleScopes
 with_call_scopes s = record s { frames = no_handles ∷ s.frames; by_call = true ∷ s.by_call }
 

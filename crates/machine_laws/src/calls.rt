@@ -15,13 +15,13 @@ pub fn refuses_unknown_handles()
     ensures known { TakesKnownHandles }
 {}
 
-/// An external is no object: only a type tag may be on it. And nothing but an external is read as one.
+/// An external is no object: only a type tag may be on it. It is read as an external, and a number is not.
 pub fn tells_externals_from_objects()
     ensures tagged { ExternalsAreTaggedOnly }
     ensures read { OnlyExternalsAreRead }
 {}
 
-/// A thread-safe function is made of a function or of none, and of no other value.
+/// A thread-safe function is made of a function or of none, and not of a number.
 pub fn serves_functions_only()
     ensures { OnlyFunctionsAreServed }
 {}

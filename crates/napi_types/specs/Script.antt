@@ -1,4 +1,5 @@
 -- The script that a JSON value is, or the first thing that is wrong with it: the parts are read in the order root, version, workers, addons,
+-- threads, schedule, each before what stands in the next, and a list's limit is tried before its members.
 use Rattle.std.specs.Prelude.{◌≡◌, ℕ, ◌+◌, ◌==◌, ◌&&◌, if◌then◌else◌, Bool, false, List, Option, option_map, option_and_then, unwrap_or, is_some, codes, is_none, length}
 use Rattle.std.specs.List.{list_all}
 use Rattle.std.specs.declared.result.Result.TheVariants.{Ok, Err}

@@ -11,7 +11,6 @@ use Rattle.napi_types.specs.declared.script.LimitName.{LimitName}
 use Rattle.napi_types.specs.declared.script.Wrong.{Wrong}
 use Rattle.napi_types.specs.declared.script.Wrong.TheVariants as wrong
 
--- threads, schedule, each before what stands in the next, and a list's limit is tried before its members.
 -- THE JSON TEXT
 -- the bytes are a JSON text of this value
 abbrev pub IsJson : List ℕ → Data → Type 0
