@@ -1,7 +1,6 @@
 pub mod CallAndError
 pub mod CallLaws
 pub mod Choices
-pub mod ClosedScope
 pub mod Computing
 pub mod Consistency
 pub mod ConsistencyMisses
@@ -9,15 +8,16 @@ pub mod Cuts
 pub mod Depth
 pub mod EscapeTwice
 pub mod FirstRun
+pub mod HandleAfterScope
 pub mod HandleLaws
 pub mod MapLaws
-pub mod NamesRun
 pub mod NextHandle
+pub mod OrderOfScopes
 pub mod PendingException
+pub mod PropertiesAndElements
 pub mod ReferenceCounts
 pub mod RunLaws
 pub mod RunWords
-pub mod ScopeOrder
 pub mod StaleHandle
 pub mod StrongAndWeak
 pub mod Told

@@ -1,8 +1,8 @@
 //! Worked runs of handles and scopes, each as laws: that it is a run to its end, its text, and that near misses are no run.
 ghost use Rattle.machine_laws.specs.Told.{EndsAsTold};
 ghost use Rattle.machine_laws.specs.FirstRun as first_run;
-ghost use Rattle.machine_laws.specs.ScopeOrder as scope_order;
-ghost use Rattle.machine_laws.specs.ClosedScope as closed_scope;
+ghost use Rattle.machine_laws.specs.OrderOfScopes as order_of_scopes;
+ghost use Rattle.machine_laws.specs.HandleAfterScope as handle_after_scope;
 ghost use Rattle.machine_laws.specs.EscapeTwice as escape_twice;
 ghost use Rattle.machine_laws.specs.StaleHandle as stale_handle;
 ghost use Rattle.machine_laws.specs.NextHandle as next_handle;
@@ -38,33 +38,33 @@ pub fn first_run_is_strict()
 {}
 
 /// The order of scopes: the entries are a run of its script and come to its end.
-pub fn scope_order_ends()
-    ensures { EndsAsTold scope_order.setting scope_order.trace }
+pub fn order_of_scopes_ends()
+    ensures { EndsAsTold order_of_scopes.setting order_of_scopes.trace }
 {}
 
 /// The text of the order of scopes, line by line.
-pub fn scope_order_prints()
-    ensures { scope_order.Prints }
+pub fn order_of_scopes_prints()
+    ensures { order_of_scopes.Prints }
 {}
 
 /// A refused close has no other status.
-pub fn scope_order_is_strict()
-    ensures { scope_order.IsStrict }
+pub fn order_of_scopes_is_strict()
+    ensures { order_of_scopes.IsStrict }
 {}
 
 /// A handle used after its scope closed: the entries are a run of its script and come to its end.
-pub fn closed_scope_ends()
-    ensures { EndsAsTold closed_scope.setting closed_scope.trace }
+pub fn handle_after_scope_ends()
+    ensures { EndsAsTold handle_after_scope.setting handle_after_scope.trace }
 {}
 
 /// The text of that run, line by line.
-pub fn closed_scope_prints()
-    ensures { closed_scope.Prints }
+pub fn handle_after_scope_prints()
+    ensures { handle_after_scope.Prints }
 {}
 
 /// The call with that handle has no other status, and tells no kind.
-pub fn closed_scope_is_strict()
-    ensures { closed_scope.IsStrict }
+pub fn handle_after_scope_is_strict()
+    ensures { handle_after_scope.IsStrict }
 {}
 
 /// A handle that escapes twice: the entries are a run of its script and come to its end.

@@ -1,22 +1,22 @@
 //! Worked runs of properties, elements, references and collections, each as laws.
 ghost use Rattle.machine_laws.specs.Told.{EndsAsTold};
-ghost use Rattle.machine_laws.specs.NamesRun as names_run;
+ghost use Rattle.machine_laws.specs.PropertiesAndElements as properties_and_elements;
 ghost use Rattle.machine_laws.specs.StrongAndWeak as strong_and_weak;
 ghost use Rattle.machine_laws.specs.ReferenceCounts as reference_counts;
 
 /// Properties and elements: the entries are a run of their script and come to its end.
-pub fn names_run_ends()
-    ensures { EndsAsTold names_run.setting names_run.trace }
+pub fn properties_and_elements_ends()
+    ensures { EndsAsTold properties_and_elements.setting properties_and_elements.trace }
 {}
 
 /// The text of that run, line by line.
-pub fn names_run_prints()
-    ensures { names_run.Prints }
+pub fn properties_and_elements_prints()
+    ensures { properties_and_elements.Prints }
 {}
 
 /// No other name is listed first, an absent name gives no other kind, and the refused calls have no other status.
-pub fn names_run_is_strict()
-    ensures { names_run.IsStrict }
+pub fn properties_and_elements_is_strict()
+    ensures { properties_and_elements.IsStrict }
 {}
 
 /// A value that a reference alone keeps, and collections before and after the reference is weak: the entries are a run of their script and come to its end.

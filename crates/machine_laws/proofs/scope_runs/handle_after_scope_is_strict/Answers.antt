@@ -3,11 +3,11 @@ use Rattle.napi_types.specs.declared.entry.Out.TheVariants as out
 use Rattle.napi_types.specs.declared.status.Kind.{Kind}
 use Rattle.napi_types.specs.declared.status.Status.{Status}
 use Rattle.napi_types.specs.declared.status.Status.TheVariants as status
-use Rattle.machine_laws.specs.ClosedScope.{setting, trace, typeof_first}
+use Rattle.machine_laws.specs.HandleAfterScope.{setting, trace, typeof_first}
 use Rattle.machine_laws.specs.Told.{IsRun}
 use Rattle.machine_laws.proofs.Asks.{told-run}
 use Rattle.machine_laws.proofs.Misses.{entry_at}
-use Rattle.machine_laws.proofs.scope_runs.closed_scope_is_strict.Goals as goal
+use Rattle.machine_laws.proofs.scope_runs.handle_after_scope_is_strict.Goals as goal
 
 no-other-status : (s : Status) → IsRun setting (set trace 5 (typeof_first s out.Nothing)) → s ≡ status.InvalidArg
 no-other-status s r = ap (λ xs. (entry_at 5 xs).reply.status) (told-run setting (set trace 5 (typeof_first s out.Nothing)) refl r)

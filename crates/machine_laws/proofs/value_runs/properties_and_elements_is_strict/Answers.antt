@@ -3,11 +3,11 @@ use Rattle.napi_types.specs.declared.status.Kind.{Kind}
 use Rattle.napi_types.specs.declared.status.Kind.TheVariants as kind
 use Rattle.napi_types.specs.declared.status.Status.{Status}
 use Rattle.napi_types.specs.declared.status.Status.TheVariants as status
-use Rattle.machine_laws.specs.NamesRun.{setting, trace, first_name, absent_kind, element_refused, boolean_refused}
+use Rattle.machine_laws.specs.PropertiesAndElements.{setting, trace, first_name, absent_kind, element_refused, boolean_refused}
 use Rattle.machine_laws.specs.Told.{IsRun}
 use Rattle.machine_laws.proofs.Asks.{told-run}
 use Rattle.machine_laws.proofs.Misses.{entry_at, told_kind, told_text}
-use Rattle.machine_laws.proofs.value_runs.names_run_is_strict.Goals as goal
+use Rattle.machine_laws.proofs.value_runs.properties_and_elements_is_strict.Goals as goal
 
 no-other-name : (t : ℕ) → IsRun setting (set trace 10 (first_name t)) → t ≡ 3
 no-other-name t r = ap (λ xs. told_text t (entry_at 10 xs).reply.out) (told-run setting (set trace 10 (first_name t)) refl r)

@@ -1,6 +1,6 @@
 use Rattle.std.proofs.Common.{refl}
 use Rattle.std.specs.Fmt.{digits}
-use Rattle.machine_laws.proofs.value_runs.names_run_prints.Goals as goal
+use Rattle.machine_laws.proofs.scope_runs.order_of_scopes_prints.Goals as goal
 
 pub returns : goal.returns
 unfolding digits

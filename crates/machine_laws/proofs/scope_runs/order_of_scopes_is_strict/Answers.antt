@@ -1,11 +1,11 @@
 use Rattle.std.proofs.Common.{◌≡◌, ap, set, refl}
 use Rattle.napi_types.specs.declared.status.Status.{Status}
 use Rattle.napi_types.specs.declared.status.Status.TheVariants as status
-use Rattle.machine_laws.specs.ScopeOrder.{setting, trace, too_early, too_late}
+use Rattle.machine_laws.specs.OrderOfScopes.{setting, trace, too_early, too_late}
 use Rattle.machine_laws.specs.Told.{IsRun}
 use Rattle.machine_laws.proofs.Asks.{told-run}
 use Rattle.machine_laws.proofs.Misses.{entry_at}
-use Rattle.machine_laws.proofs.scope_runs.scope_order_is_strict.Goals as goal
+use Rattle.machine_laws.proofs.scope_runs.order_of_scopes_is_strict.Goals as goal
 
 no-other-early : (s : Status) → IsRun setting (set trace 4 (too_early s)) → s ≡ status.HandleScopeMismatch
 no-other-early s r = ap (λ xs. (entry_at 4 xs).reply.status) (told-run setting (set trace 4 (too_early s)) refl r)

@@ -1,6 +1,6 @@
 use Rattle.std.proofs.Common.{refl}
 use Rattle.std.specs.Fmt.{digits}
-use Rattle.machine_laws.proofs.scope_runs.scope_order_prints.Goals as goal
+use Rattle.machine_laws.proofs.scope_runs.handle_after_scope_prints.Goals as goal
 
 pub returns : goal.returns
 unfolding digits
