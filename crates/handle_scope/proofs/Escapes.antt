@@ -1,14 +1,17 @@
 -- The handles that escaped from scopes which are still open, and what finds them.
-use Rattle.std.proofs.Common.{◌≡◌, ◌≢◌, ◌∙◌, ℕ, zero, suc, ◌+◌, ◌<◌, ◌≤◌, ◌==◌, ◌&&◌, ◌||◌, Bool, true, false, cond, List, [], ◌∷◌, ◌++◌, length, map, reverse, take, get_or, slice_get, refl, ap, sym, subst, arith, inl, inr, Option, Some, None, option_and_then, sum_by}
+use Rattle.std.proofs.Common.{◌≡◌, ◌≢◌, ◌∙◌, ℕ, zero, suc, ◌+◌, ◌<◌, ◌≤◌, ◌==◌, nat_eq, ◌&&◌, ◌||◌, Bool, true, false, cond, List, [], ◌∷◌, ◌++◌, length, map, reverse, take, get_or, slice_get, refl, ap, sym, subst, arith, inl, inr, Option, Some, None, option_map, option_and_then, sum_by}
 use Rattle.std.specs.Option.{is_some, option_or, option_to_list}
-use Rattle.std.specs.List.{list_any, filter}
+use Rattle.std.specs.List.{All, IsDistinct, list_any, filter}
 use Rattle.std.proofs.Math.ListN.{set}
-use Rattle.std.proofs.lemmas.Bool.{cases_lt, cases_eq}
+use Rattle.std.proofs.lemmas.Bool.{cases_lt, cases_eq, eqb-true, ne_eqb, true≢false}
 use Rattle.std.proofs.lemmas.Bool.Decides.{nat_tests}
-use Rattle.std.proofs.lemmas.Map.Views.{any-filter_same}
+use Rattle.std.proofs.lemmas.Map.Keys.{IsDistinct-from_apart}
+use Rattle.std.proofs.lemmas.Map.Steps.{length-le_from_distinct_below}
+use Rattle.std.proofs.lemmas.Map.Views.{any-filter_same, Contains-from_any}
+use Rattle.std.proofs.lemmas.List.Elements.{All-map, All-contains, filter_passes}
 use Rattle.std.proofs.lemmas.List.Folds.{list_any-append}
 use Rattle.std.proofs.lemmas.List.Sums.{sum_by-cons}
-use Rattle.std.proofs.lemmas.List.{get_or_append_left, get_or-append-add, get_or-take, get_or-set_same, get_or-set_other, length-set, length-append, length-reverse, length-take, reverse-reverse}
+use Rattle.std.proofs.lemmas.List.{get_or_append_left, get_or-append-add, get_or-take, get_or-set_same, get_or-set_other, get_or-map, length-map, length-set, length-append, length-reverse, length-take, reverse-reverse}
 use Rattle.std.proofs.lemmas.Option.{slice_get-get_or, slice_get_past}
 use Rattle.napi_types.specs.declared.ids.ScopeKind.TheVariants as kind
 use Rattle.napi_types.specs.Scopes.{value_in}
@@ -261,3 +264,78 @@ free-one (Some h) = omega arith
 pub free-most : (ss : List ScopeMark) → sum_by free_escapes ss ≤ length ss
 free-most [] = omega arith
 free-most (s ∷ ss) = let one : free_escapes s ≤ 1 = free-one s.escaped in omega (arith, sum_by-cons free_escapes s ss, free-most ss)
+
+-- EACH WAITS IN A MARK OF ITS OWN
+-- the handle of an escape waits in the mark that it names
+record WaitsThere (ss : List ScopeMark) (e : Escape) : Type 0 where
+  pub inside : e.scope < length ss
+  pub handle : (d : ScopeMark) → option_map (λ h. h.handle) (get_or ss e.scope d).escaped ≡ Some e.handle
+
+waits-handle : (o : Option HeldHandle) (h : ℕ) → is_some (value_in (map held_of (option_to_list o)) h) ≡ true → option_map (λ e. e.handle) o ≡ Some h
+waits-handle None h some = cc
+waits-handle (Some e) h some = by (e.handle == h) refl
+  where
+    by : (b : Bool) → (e.handle == h) ≡ b → option_map (λ (x : HeldHandle). x.handle) (Some e) ≡ Some h
+    by true same = let equal : e.handle ≡ h = eqb-true e.handle h same in ap Some equal
+    by false other =
+        let none : is_some (value_in (held_of e ∷ []) h) ≡ false = ap is_some (waiting-one e h false other) in
+        absurd (true≢false (sym some ∙ none))
+
+waits-there : (ss : List ScopeMark) (e : Escape) → is_some (waiting_value ss e) ≡ true → WaitsThere ss e
+waits-there ss e some = elim (cases_lt e.scope (length ss)) [
+  | inl inside ↦
+      record {
+        inside = inside;
+        handle = λ d.
+            waits-handle (get_or ss e.scope d).escaped e.handle
+            (ap (λ o. is_some (option_and_then (λ (s : ScopeMark). value_in (waiting s) e.handle) o)) (sym (slice_get-get_or ss e.scope d inside)) ∙ some);
+      }
+  | inr past ↦
+      let none : is_some (waiting_value ss e) ≡ false =
+      ap (λ o. is_some (option_and_then (λ (s : ScopeMark). value_in (waiting s) e.handle) o)) (slice_get_past ss e.scope past) in
+      absurd (true≢false (sym some ∙ none))
+]
+
+-- two handles that wait in one mark are the same
+same-mark : (ss : List ScopeMark) (e f : Escape) (d : ScopeMark) → WaitsThere ss e → WaitsThere ss f → e.scope ≡ f.scope → e.handle ≡ f.handle
+same-mark ss e f d there here same =
+    let equal : Some e.handle ≡ Some f.handle =
+    sym (there.handle d) ∙ ap (λ k. option_map (λ (h : HeldHandle). h.handle) (get_or ss k d).escaped) same ∙ here.handle d in
+    cc
+
+-- so escapes that wait name marks that differ, and are at most as many as the marks
+module _ (ss : List ScopeMark) (es : List Escape) (rise : Rises (λ e. e.handle) es) (there : All (λ e. is_some (waiting_value ss e) ≡ true) es) where
+  abbrev marks : List ℕ
+  marks = map (λ e. e.scope) es
+
+  apart-at : (i j : ℕ) (x : Escape) → i < j → j < length es → (get_or es i x).scope ≢ (get_or es j x).scope
+  apart-at i j x before inside same =
+      let first : i < length es = omega arith in
+      let up : (get_or es i x).handle < (get_or es j x).handle = rise.rise i j x before inside in
+      let equal : (get_or es i x).handle ≡ (get_or es j x).handle =
+      same-mark ss (get_or es i x) (get_or es j x) (opened_mark 0 kind.Plain 0 0) (waits-there ss (get_or es i x) (there i x first)) (waits-there ss (get_or es j x) (there j x inside)) same in
+      omega arith
+
+  marks-apart : IsDistinct nat_eq marks
+  marks-apart =
+      let x : Escape = record { handle = 0; scope = 0 } in
+      IsDistinct-from_apart nat_eq marks
+      (λ i j d before inside.
+      let last : j < length es = omega (arith, inside, length-map es (λ (e : Escape). e.scope)) in
+      let first : i < length es = omega arith in
+      rw (get_or-map (λ (e : Escape). e.scope) es i x d first, get_or-map (λ (e : Escape). e.scope) es j x d last) (ne_eqb _ _ (apart-at i j x before last)))
+
+  marks-inside : All (λ k. k < length ss) marks
+  marks-inside = All-map (λ k. k < length ss) (λ (e : Escape). e.scope) es (λ i d inside. (waits-there ss (get_or es i d) (there i d inside)).inside)
+
+  as-many : length es ≤ length ss
+  as-many =
+      let few : length marks ≤ length ss =
+      length-le_from_distinct_below marks (length ss) marks-apart
+      (λ q has. All-contains (λ k. k < length ss) marks q marks-inside (Contains-from_any (λ a b s. eqb-true a b s) q marks has)) in
+      omega (arith, few, length-map es (λ (e : Escape). e.scope))
+
+pub waiting-few : (ss : List ScopeMark) (es : List Escape) → Rises (λ e. e.handle) es → length (filter (λ e. is_some (waiting_value ss e)) es) ≤ length ss
+waiting-few ss es r =
+    as-many ss (filter (λ e. is_some (waiting_value ss e)) es) (Rises-filter (λ (e : Escape). e.handle) (λ e. is_some (waiting_value ss e)) es r)
+    (filter_passes (λ e. is_some (waiting_value ss e)) es)

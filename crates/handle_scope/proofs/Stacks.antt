@@ -1,5 +1,5 @@
 -- The stack, its marks and the escapes through each call: the scopes that they stand for, and what they keep.
-use Rattle.std.proofs.Common.{◌≡◌, ◌≢◌, ◌∙◌, ℕ, suc, ◌+◌, ◌-◌, Bool, true, false, cond, get_or, ◌<◌, ◌≤◌, List, [], ◌∷◌, ◌++◌, length, map, reverse, take, drop, refl, ap, sym, subst, arith, Option, Some, None, sum_by}
+use Rattle.std.proofs.Common.{◌≡◌, ◌≢◌, ◌∙◌, ℕ, suc, ◌+◌, ◌*◌, ◌-◌, Bool, true, false, cond, get_or, ◌<◌, ◌≤◌, List, [], ◌∷◌, ◌++◌, length, map, reverse, take, drop, refl, ap, sym, subst, arith, Option, Some, None, sum_by}
 use Rattle.std.specs.Option.{is_some, option_or, option_to_list}
 use Rattle.std.proofs.Math.ListN.{set}
 use Rattle.std.proofs.Math.Seq.{map-set_same}
@@ -289,6 +289,7 @@ module _ (fs : List FrameMark) (ss : List ScopeMark) (hs : List HeldHandle) (es 
     frames_fit = k.frames_fit;
     held_fits = omega (arith, k.held_fits, length-append hs (x ∷ []));
     escapes_fit = k.escapes_fit;
+    escapes_few = k.escapes_few;
   }
 
   pub kept-opened : (n : ℕ) (kind : ScopeKind) (at place held_more escapes_more : ℕ) → frames_of fs ss hs ≢ [] → at ≡ length hs → place ≡ at + length ss → n ≡ numbers + 1
@@ -296,6 +297,7 @@ module _ (fs : List FrameMark) (ss : List ScopeMark) (hs : List HeldHandle) (es 
       → FitsStack fs (ss ++ opened_mark n kind at place ∷ []) hs es handles (numbers + 1) spare calls frame_places held_more escapes_more
   kept-opened n kind at place held_more escapes_more some e there next held_room escape_room =
       let m : ScopeMark = opened_mark n kind at place in
+      let sum : sum_by free_escapes (ss ++ m ∷ []) ≡ sum_by free_escapes ss + 1 = sum_by_push free_escapes ss m in
       record {
         stack = stack-opened fs ss hs handles numbers k.stack n kind at place some e there next;
         tracked = tracked-open ss m es refl k.tracked;
@@ -304,9 +306,8 @@ module _ (fs : List FrameMark) (ss : List ScopeMark) (hs : List HeldHandle) (es 
         calls_counted = k.calls_counted;
         frames_fit = k.frames_fit;
         held_fits = omega (arith, held_room, length-append ss (m ∷ []));
-        escapes_fit =
-            let sum : sum_by free_escapes (ss ++ m ∷ []) ≡ sum_by free_escapes ss + 1 = sum_by_push free_escapes ss m in
-            omega (arith, escape_room, sum, free-most ss);
+        escapes_fit = omega (arith, escape_room, sum, free-most ss);
+        escapes_few = omega (arith, k.escapes_few, sum, length-append ss (m ∷ []));
       }
 
   kept-entered-by : (f : FrameMark) (held_more : ℕ) → f.start ≡ length hs → f.scopes ≡ length ss → (f.by_call ≡ true → frames_of fs ss hs ≢ [])
@@ -323,6 +324,7 @@ module _ (fs : List FrameMark) (ss : List ScopeMark) (hs : List HeldHandle) (es 
         frames_fit = k.frames_fit;
         held_fits = room;
         escapes_fit = k.escapes_fit;
+        escapes_few = k.escapes_few;
       }
 
   pub kept-entered : (start scopes : ℕ) → start ≡ length hs → scopes ≡ length ss
@@ -343,6 +345,7 @@ pub record Forgets (ss : List ScopeMark) (es left : List Escape) : Type 0 where
   pub tracked : IsTracked ss es → IsTracked ss left
   pub issued : (most : ℕ) → AreAtMost (λ e. e.handle) es most → AreAtMost (λ e. e.handle) left most
   pub shorter : length left ≤ length es
+  pub few : Rises (λ e. e.handle) es → length left ≤ 2 * length ss + 1
 
 pub kept-closed : (fs : List FrameMark) (ss : List ScopeMark) (m : ScopeMark) (hs : List HeldHandle) (es left : List Escape) (handles numbers spare calls frame_places held_places escape_places : ℕ)
     → FitsStack fs (ss ++ m ∷ []) hs es handles numbers spare calls frame_places held_places escape_places → opened_scopes (frames_of fs (ss ++ m ∷ []) hs) ≢ [] → Forgets ss es left
@@ -356,6 +359,7 @@ kept-closed fs ss m hs es left handles numbers spare calls frame_places held_pla
   frames_fit = k.frames_fit;
   held_fits = omega (arith, k.held_fits, length-append ss (m ∷ []), length-append (take m.start hs) (option_to_list m.escaped), length-take m.start hs, one-most m.escaped);
   escapes_fit = omega (arith, k.escapes_fit, g.shorter, sum_by_push free_escapes ss m);
+  escapes_few = omega (arith, g.few k.tracked.rise, free-most ss);
 }
 
 -- a scope that closes begins where there is memory
@@ -388,6 +392,7 @@ kept-left fs f ss hs es left handles numbers spare calls ended spared frame_plac
       frames_fit = k.frames_fit;
       held_fits = omega (arith, k.held_fits, length-take f.start hs, length-take f.scopes ss, k.calls_counted, sum_by_push (λ (y : FrameMark). call_places y.by_call) fs f);
       escapes_fit = omega (arith, k.escapes_fit, g.shorter, sum_by-take-le free_escapes ss f.scopes);
+      escapes_few = omega (arith, g.few k.tracked.rise, free-most (take f.scopes ss));
     }
 
 -- a frame that a call entered stands inside another one
@@ -412,4 +417,5 @@ kept-escaped n fs ss at x d hs es handles numbers spare calls frame_places held_
       frames_fit = k.frames_fit;
       held_fits = omega (arith, k.held_fits, length-set ss at m);
       escapes_fit = omega (arith, k.escapes_fit, free-fewer ss at x d s.inside s.none, length-append es (y ∷ []));
+      escapes_few = omega (arith, k.escapes_few, free-fewer ss at x d s.inside s.none, length-append es (y ∷ []), length-set ss at m);
     }

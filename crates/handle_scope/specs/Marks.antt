@@ -1,5 +1,5 @@
 -- One stack of handles, where marks say at which place each scope and each frame begins.
-use Rattle.std.specs.Prelude.{◌≡◌, ◌≢◌, ℕ, ◌+◌, ◌<◌, ◌≤◌, ◌==◌, ◌&&◌, Bool, true, cond, List, [], ◌∷◌, ◌++◌, length, map, reverse, take, drop, slice_index_or, slice_get, sum_by, Option, Some, None, option_map, option_and_then}
+use Rattle.std.specs.Prelude.{◌≡◌, ◌≢◌, ℕ, ◌+◌, ◌*◌, ◌<◌, ◌≤◌, ◌==◌, ◌&&◌, Bool, true, cond, List, [], ◌∷◌, ◌++◌, length, map, reverse, take, drop, slice_index_or, slice_get, sum_by, Option, Some, None, option_map, option_and_then}
 use Rattle.std.specs.Option.{is_some, option_to_list}
 use Rattle.std.specs.List.{list_any}
 use Rattle.napi_types.specs.Frames.{most_frames}
@@ -122,7 +122,8 @@ abbrev pub free_escapes : ScopeMark → ℕ
 free_escapes s = cond (is_some s.escaped) 0 1
 
 -- the stack and what stands beside it, where there is memory for that many frames, handles and escapes:
--- a place for each scope and each call is promised in the stack, and one for each scope from which no handle escaped among the escapes
+-- a place for each scope and each call is promised in the stack, and one for each scope from which no handle escaped among the escapes;
+-- the escapes, with those that may still come, are at most one more than three times as many as the open scopes
 pub record FitsStack (frames : List FrameMark) (scopes : List ScopeMark) (held : List HeldHandle) (escapes : List Escape) (handles numbers spare calls frame_places held_places escape_places : ℕ) : Type 0 where
   pub stack : IsStack frames scopes held handles numbers
   pub tracked : IsTracked scopes escapes
@@ -132,6 +133,7 @@ pub record FitsStack (frames : List FrameMark) (scopes : List ScopeMark) (held :
   pub frames_fit : most_frames ≤ frame_places
   pub held_fits : length held + (length scopes + (calls + spare)) ≤ held_places
   pub escapes_fit : length escapes + sum_by free_escapes scopes ≤ escape_places
+  pub escapes_few : length escapes + sum_by free_escapes scopes ≤ 3 * length scopes + 1
 
 -- a scope's mark from which no handle escaped, with that number, stands at this place
 pub record IsEscapable (scopes : List ScopeMark) (number at : ℕ) : Type 0 where

@@ -1,5 +1,5 @@
 //! The scopes of all frames, as one stack of handles with marks where each scope and each frame begins.
-ghost use Rattle.std.specs.Prelude.{ℕ, ◌≡◌, ◌≢◌, ◌+◌, ◌<◌, ◌≤◌, ◌==◌, ◌&&◌, ◌^◌, [], ◌++◌, length, map, reverse, take, true, None, Some, IsTrue, IfOk, OnOk, OnErr, option_map, slice_index_or, vec_capacity};
+ghost use Rattle.std.specs.Prelude.{ℕ, ◌≡◌, ◌≢◌, ◌+◌, ◌*◌, ◌<◌, ◌≤◌, ◌==◌, ◌&&◌, ◌^◌, [], ◌++◌, length, map, reverse, take, true, None, Some, IsTrue, IsOk, IfOk, OnOk, OnErr, option_map, slice_index_or, vec_capacity};
 ghost use Rattle.std.specs.Option.{is_some, option_to_list};
 ghost use Rattle.std.specs.Result.{result_err};
 ghost use Rattle.std.specs.List.{list_any};
@@ -61,8 +61,9 @@ pub struct Scopes {
     scopes: Vec<ScopeMark>,
     // The innermost frame stands last. There is room for all frames that may stand.
     frames: Vec<FrameMark>,
-    // Finds the mark where an escaped handle waits. The handles rise. Those of closed scopes may still stand here, but at
-    // most one more than twice as many as scopes are open. It has the memory of an escape from each open scope.
+    // Finds the mark where an escaped handle waits. The handles rise. Those of closed scopes may still stand here. With those
+    // that may still escape they are at most one more than three times as many as the open scopes. It has the memory of an
+    // escape from each open scope.
     escapes: Vec<Escape>,
     // How many handles and how many scope numbers were issued. Scope numbers count from 1.
     handles: u64,
@@ -260,10 +261,11 @@ impl Scopes {
     }
 
     /// Takes the memory for one handle, so that `issue_reserved` can issue it later. A place that is spare already is
-    /// enough. It takes amortized constant time.
+    /// enough, and then it takes none. It takes amortized constant time.
     pub fn reserve(&mut self) -> Result<(), NoMemory>
         ensures ok { OnOk result (self.new ≡ with_reserved_place self.old) }
         ensures err { OnErr result (self.new ≡ self.old) }
+        ensures spare { 0 < self.old.spare → IsOk result }
     {
         if self.spare > 0 {
             return Ok(());
@@ -524,6 +526,7 @@ fn forget_closed(escapes: &mut Vec<Escape>, scopes: &[ScopeMark])
     ensures tracked { IsTracked scopes.now escapes.old.items → IsTracked scopes.now escapes.new.items }
     ensures issued { (most : ℕ) → AreAtMost (λ e. e.handle) escapes.old.items most → AreAtMost (λ e. e.handle) escapes.new.items most }
     ensures shorter { length escapes.new.items ≤ length escapes.old.items }
+    ensures few { Rises (λ e. e.handle) escapes.old.items → length escapes.new.items ≤ 2 * length scopes.now + 1 }
     ensures capacity { vec_capacity escapes.new ≡ vec_capacity escapes.old }
 {
     if escapes.len() / 2 > scopes.len() {

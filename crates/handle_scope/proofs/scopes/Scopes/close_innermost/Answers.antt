@@ -1,10 +1,11 @@
-use Rattle.std.proofs.Common.{◌≡◌, ◌≢◌, arith, subst, sym, refl, List, []}
+use Rattle.std.proofs.Common.{◌≡◌, ◌≢◌, ◌≤◌, ◌+◌, ◌*◌, arith, length, subst, sym, refl, List, []}
 use Rattle.std.specs.Prelude.{vec_capacity}
 use Rattle.std.proofs.lemmas.List.{nil_from_length}
 use Rattle.napi_types.specs.Scopes.{opened_scopes}
 use Rattle.handle_scope.specs.declared.scopes.ScopeMark.{ScopeMark}
+use Rattle.handle_scope.specs.declared.scopes.Escape.{Escape}
 use Rattle.handle_scope.specs.HandleScopes.{HandleScopes}
-use Rattle.handle_scope.specs.Marks.{FitsStack, IsTracked, frames_of}
+use Rattle.handle_scope.specs.Marks.{FitsStack, IsTracked, Rises, frames_of}
 use Rattle.handle_scope.proofs.Stacks.{frames-closed, kept-cut, kept-closed, none-closed, Forgets}
 use Rattle.handle_scope.proofs.scopes.Scopes.close_innermost.Goals as goal
 
@@ -22,10 +23,13 @@ invariant_of-self c =
     let O : List ScopeMark → Type 0 = λ l. opened_scopes (frames_of c.self.inside.frames.items l c.self.inside.held.items) ≢ [] in
     let V : HandleScopes → Type 0 = λ s. opened_scopes s.frames ≢ [] in
     let T : List ScopeMark → Type 0 = λ l. IsTracked l c.self.inside.escapes.items → IsTracked l c.forget_closed.new.escapes.items in
+    let F : List ScopeMark → Type 0 = λ l. Rises (λ (e : Escape). e.handle) c.self.inside.escapes.items
+    → length c.forget_closed.new.escapes.items ≤ 2 * length l + 1 in
     let forgets : Forgets c.pop.new.self.items c.self.inside.escapes.items c.forget_closed.new.escapes.items = record {
       tracked = subst T c.deref.ensures.value c.forget_closed.ensures.tracked;
       issued = c.forget_closed.ensures.issued;
       shorter = c.forget_closed.ensures.shorter;
+      few = subst F c.deref.ensures.value c.forget_closed.ensures.few;
     } in
     rw (c.cut_back.ensures.items, c.cut_back.ensures.capacity, c.forget_closed.ensures.capacity)
     (kept-closed c.self.inside.frames.items c.pop.new.self.items c.in-Some.scope c.self.inside.held.items c.self.inside.escapes.items c.forget_closed.new.escapes.items _ _ _ _ _ _ _

@@ -1,10 +1,11 @@
-use Rattle.std.proofs.Common.{◌≡◌, ◌∙◌, arith, subst, sym, ap, refl, Bool, true, false, List, map, reverse, take}
+use Rattle.std.proofs.Common.{◌≡◌, ◌∙◌, ◌≤◌, ◌+◌, ◌*◌, arith, length, subst, sym, ap, refl, Bool, true, false, List, map, reverse, take}
 use Rattle.std.specs.Int.{from_bool}
 use Rattle.std.specs.Prelude.{vec_capacity}
 use Rattle.handle_scope.specs.declared.scopes.FrameMark.{FrameMark}
 use Rattle.handle_scope.specs.declared.scopes.ScopeMark.{ScopeMark}
+use Rattle.handle_scope.specs.declared.scopes.Escape.{Escape}
 use Rattle.handle_scope.specs.HandleScopes.{HandleScopes}
-use Rattle.handle_scope.specs.Marks.{FitsStack, IsTracked, AreCallsInside, call_places, place_left}
+use Rattle.handle_scope.specs.Marks.{FitsStack, IsTracked, Rises, AreCallsInside, call_places, place_left}
 use Rattle.handle_scope.proofs.Marks.{reverse-push}
 use Rattle.handle_scope.proofs.Stacks.{frames-left, kept-left, place-left, caller-stands, Forgets}
 use Rattle.handle_scope.proofs.scopes.Scopes.leave.Goals as goal
@@ -19,10 +20,13 @@ invariant_of-self c =
     let f : FrameMark = c.in-Some.frame in
     let P : List FrameMark → Type 0 = λ l. FitsStack l c.self.inside.scopes.items c.self.inside.held.items c.self.inside.escapes.items c.self.inside.handles c.self.inside.numbers c.self.inside.spare c.self.inside.calls (vec_capacity c.self.inside.frames) (vec_capacity c.self.inside.held) (vec_capacity c.self.inside.escapes) in
     let T : List ScopeMark → Type 0 = λ l. IsTracked l c.self.inside.escapes.items → IsTracked l c.forget_closed.new.escapes.items in
+    let F : List ScopeMark → Type 0 = λ l. Rises (λ (e : Escape). e.handle) c.self.inside.escapes.items
+    → length c.forget_closed.new.escapes.items ≤ 2 * length l + 1 in
     let forgets : Forgets (take f.scopes c.self.inside.scopes.items) c.self.inside.escapes.items c.forget_closed.new.escapes.items = record {
       tracked = subst T (c.deref.ensures.value ∙ c.truncate.ensures.items) c.forget_closed.ensures.tracked;
       issued = c.forget_closed.ensures.issued;
       shorter = c.forget_closed.ensures.shorter;
+      few = subst F (c.deref.ensures.value ∙ c.truncate.ensures.items) c.forget_closed.ensures.few;
     } in
     let places : place_left c.args.self.now.by_call ≡ call_places f.by_call =
     ap (λ (s : HandleScopes). place_left s.by_call) (sym c.self.view_is)
