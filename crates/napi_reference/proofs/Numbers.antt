@@ -8,7 +8,7 @@ use Rattle.napi_types.specs.Lists.{found, has, with_record, as_map}
 use Rattle.napi_types.specs.References.{Reference, ReferenceMap, reference_at, has_reference, referred_value, reference_count}
 use Rattle.napi_types.proofs.Maps.{with_record-first}
 use Rattle.napi_reference.specs.declared.rows.Row.{Row}
-use Rattle.napi_reference.specs.Places.{ReferencePlaces, map_of}
+use Rattle.napi_reference.specs.Places.{ReferencePlaces, map_of, EachReferenceStandsOnce}
 use Rattle.napi_reference.specs.Rows.{reference_of, references_from, places_of, row_of}
 
 pub apart-above : (a n : ℕ) → n < a → (a == n) ≡ false
@@ -49,12 +49,16 @@ apart-listed n k [] h = tt
 apart-listed n k (None ∷ rows) h = apart-listed n (suc k) rows (omega arith)
 apart-listed n k (Some row ∷ rows) h = (apart-below n k h, apart-listed n (suc k) rows (omega arith))
 
-pub listed-once : (k : ℕ) (rows : List (Option Row)) → IsDistinct nat_eq (map (λ r. r.number) (listed_from k rows))
+listed-once : (k : ℕ) (rows : List (Option Row)) → IsDistinct nat_eq (map (λ r. r.number) (listed_from k rows))
 unfolding IsDistinct
 listed-once k [] = tt
 listed-once k (None ∷ rows) = listed-once (suc k) rows
 listed-once k (Some row ∷ rows) =
     IsDistinct-cons nat_eq k (map (λ (r : Reference). r.number) (listed_from (suc k) rows)) (apart-listed k (suc k) rows (omega arith)) (listed-once (suc k) rows)
+
+-- so each stands at exactly one place, whatever the rows are
+pub stands-once : (rows : List (Option Row)) → EachReferenceStandsOnce (places_of rows)
+stands-once rows = record { there = λ n. ap (found (λ r. r.number) n) (listed-map 1 rows); apart = listed-once 1 rows }
 
 pub length-references_from : (k : ℕ) (rows : List (Option Row)) → length (references_from k rows) ≡ length rows
 length-references_from k [] = refl

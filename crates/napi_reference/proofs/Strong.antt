@@ -32,7 +32,7 @@ any-keeps n (r ∷ rs) =
 -- going over the places gives the values that strong references keep, in any order
 pub strong_values-places : (p : ReferencePlaces) → EachReferenceStandsOnce p → HaveSameNumbers (strong_values (map_of p)) (filter_map strong_in p.places)
 strong_values-places p once = λ n.
-    any-keeps n (as_map (λ r. r.number) (standing p.places)) ∙ list_any-as_map (λ (r : Reference). r.number) (keeps n) (standing p.places) once
+    any-keeps n (as_map (λ r. r.number) (standing p.places)) ∙ list_any-as_map (λ (r : Reference). r.number) (keeps n) (standing p.places) once.apart
     ∙ sym (any-keeps n (standing p.places)) ∙ ap (has_number n) (strong-listed p.places)
 
 pub references_from-at : (k : ℕ) (rows : List (Option Row)) (at : ℕ) → slice_index_or (references_from k rows) at None ≡ option_map (reference_of (k + at)) (slice_index_or rows at None)
