@@ -1,23 +1,23 @@
-//! The table of a script's texts while the script is read: each text once, found by its bytes without a search.
+//! The table of a script's texts while the script is read: each text once, found by its bytes in time logarithmic in the texts.
 ghost use Rattle.std.specs.Prelude.{◌≡◌, ◌+◌, ◌^◌, ◌<◌, ◌++◌, ◌∷◌, [], ℕ, List, None, length, IfOk, OnOk, OnErr};
-ghost use Rattle.std.specs.HashMap.{get_by_text};
+ghost use Rattle.std.specs.BTreeMap.{get_by_text};
 ghost use Rattle.napi_types.specs.Texts.{fixed_texts, place_of, text_number, with_text};
 
 use napi_types::{NoMemory, Text, TextNo, Texts};
 use std::alloc::Global;
-use std::collections::HashMap;
+use std::collections::BTreeMap;
 use std::marker::Model;
 
 /// The texts in the order of their first places, and the number of each by its bytes.
 #[derive(Drop)]
 pub(crate) struct Table {
     texts: Vec<Text>,
-    numbers: HashMap<String, u32>,
+    numbers: BTreeMap<String, u32>,
 }
 
 impl Model for Table {
     ghost use Rattle.std.specs.Prelude.{List, ℕ};
-    ghost use Rattle.std.specs.HashMap.{get_by_text};
+    ghost use Rattle.std.specs.BTreeMap.{get_by_text};
     ghost use Rattle.script_read.specs.Table.{IsTable};
 
     ghost Value = { List (List ℕ) };
@@ -31,7 +31,7 @@ impl Model for Table {
 fn put(
     alloc: Global,
     texts: &mut Vec<Text>,
-    numbers: &mut HashMap<String, u32>,
+    numbers: &mut BTreeMap<String, u32>,
     text: &str,
 ) -> Result<(), NoMemory>
     requires few { length texts.old.items + 1 < 2 ^ 32 }
@@ -63,7 +63,7 @@ impl Table {
         ensures { IfOk result (λ table. table ≡ fixed_texts) }
     {
         let mut texts = Vec::new(alloc);
-        let mut numbers = HashMap::new(alloc);
+        let mut numbers = BTreeMap::new(alloc);
         put(alloc, &mut texts, &mut numbers, "message")?;
         put(alloc, &mut texts, &mut numbers, "code")?;
         put(alloc, &mut texts, &mut numbers, "stack depth")?;
