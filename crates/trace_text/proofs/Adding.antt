@@ -47,6 +47,8 @@ adds_then {a = a} {b = b} {c = c} {xs = xs} {ys = ys} one two = record {
       subst P (append_assoc before xs ys) (two.goes_on had (before ++ xs) (one.goes_on had before h));
   later = (let p = one.later in let q = two.later in omega arith);
   marked = marked_then {b = b.failed} one.later two.later one.marked two.marked;
+  fine = λ now. one.fine (two.fine now);
+  counted = λ now. two.counted now ∙ one.counted (two.fine now);
 }
 
 -- the pieces of a list up to a place, and then that of the element there
@@ -67,12 +69,14 @@ adds_none a = record {
       subst P (sym (append-nil before)) h;
   later = omega arith;
   marked = λ failed fine. cc;
+  fine = λ now. now;
+  counted = λ _. refl;
 }
 
 -- bytes that a sink took a front of, and the others held, were added behind those held before
 pub adds_by : (a b : Stand) (bytes : List ℕ) → a.failed ≡ false → a.faults ≤ b.faults →
-    (b.failed ≡ true → HasRisen a.faults b.faults) → Took a.taken (a.held ++ bytes) b → Adds a bytes b
-adds_by a b bytes fine later marked took = record {
+    (b.failed ≡ true → HasRisen a.faults b.faults) → (b.failed ≡ false → b.faults ≡ a.faults) → Took a.taken (a.held ++ bytes) b → Adds a bytes b
+adds_by a b bytes fine later marked counted took = record {
   goes_on = λ had before h.
       let first = h.front in
       let next = took.front in
@@ -89,6 +93,8 @@ adds_by a b bytes fine later marked took = record {
       };
   later = later;
   marked = λ failed _. marked failed;
+  fine = λ _. fine;
+  counted = counted;
 }
 
 append_known-nil : (had : Option (List ℕ)) → had ≡ append_known had []
@@ -121,16 +127,16 @@ pub adds_held : (taken : Option (List ℕ)) (faults : ℕ) (old new : Waiting) (
 adds_held taken faults old new bytes fine same =
     let P : Waiting → Type 0 = λ held. Adds (stand taken faults old) bytes (stand taken faults held) in
     let b = stand taken faults (record old { bytes = old.bytes ++ bytes }) in
-    subst P (sym same) (adds_by (stand taken faults old) b bytes fine (omega arith) (λ failed. cc) (took_none b))
+    subst P (sym same) (adds_by (stand taken faults old) b bytes fine (omega arith) (λ failed. cc) (λ _. refl) (took_none b))
 
 -- bytes that were written after the others
 pub adds_written : (t u : Option (List ℕ)) (f g : ℕ) (old new : Waiting) (bytes whole : List ℕ) → old.failed ≡ false →
-    new ≡ record { bytes = []; failed = false } → whole ≡ old.bytes ++ bytes → u ≡ append_known t whole → f ≤ g →
+    new ≡ record { bytes = []; failed = false } → whole ≡ old.bytes ++ bytes → u ≡ append_known t whole → g ≡ f →
     Adds (stand t f old) bytes (stand u g new)
-adds_written t u f g old new bytes whole fine same parts took later =
+adds_written t u f g old new bytes whole fine same parts took counted =
     let P : Waiting → Type 0 = λ held. Adds (stand t f old) bytes (stand u g held) in
     let b = stand u g (record { bytes = []; failed = false }) in
-    subst P (sym same) (adds_by (stand t f old) b bytes fine later (λ failed. cc)
+    subst P (sym same) (adds_by (stand t f old) b bytes fine (omega arith) (λ failed. cc) (λ _. counted)
     (took_all t (old.bytes ++ bytes) b refl (took ∙ ap (append_known t) parts)))
 
 -- bytes at which the writing failed
@@ -141,7 +147,7 @@ adds_cut t u f g old new bytes whole fine same parts took later risen =
     let P : Waiting → Type 0 = λ held. Adds (stand t f old) bytes (stand u g held) in
     let Q : List ℕ → Type 0 = λ xs. TookFront t xs u in
     let b = stand u g (record { bytes = []; failed = true }) in
-    subst P (sym same) (adds_by (stand t f old) b bytes fine later (λ _. risen)
+    subst P (sym same) (adds_by (stand t f old) b bytes fine later (λ _. risen) (λ fine. cc)
     (took_front t (old.bytes ++ bytes) b refl (subst Q parts took)))
 
 -- a text that was added and written out
@@ -168,3 +174,8 @@ pub adds_front : (had : Option (List ℕ)) (faults : ℕ) (first : Waiting) (mid
     first ≡ record { bytes = []; failed = false } → Adds (stand had faults first) whole mid → Adds mid [] end →
     TookFront had whole end.taken
 adds_front had faults first mid end whole fresh adds out = (took_of had faults first mid end whole fresh adds out).front
+
+-- and where the writing did not fail, no fault was counted
+pub adds_counted : (had : Option (List ℕ)) (faults : ℕ) (first : Waiting) (mid end : Stand) (whole : List ℕ) →
+    Adds (stand had faults first) whole mid → Adds mid [] end → end.failed ≡ false → end.faults ≡ faults
+adds_counted had faults first mid end whole adds out fine = (adds_then adds out).counted fine

@@ -25,11 +25,13 @@ pub record Took (had : Option (List ℕ)) (bytes : List ℕ) (now : Stand) : Typ
   pub waiting : now.failed ≡ false → front.rest ≡ now.held
 
 -- bytes were added to the text, in full or, where the writing failed, up to some place. A writing that failed adds
--- nothing more, and it failed only where the count of faults rose.
+-- nothing more. It failed only where the count of faults rose, and one that did not fail leaves the count as it was.
 pub record Adds (old : Stand) (bytes : List ℕ) (new : Stand) : Type 0 where
   pub goes_on : (had : Option (List ℕ)) (before : List ℕ) → Took had before old → Took had (before ++ bytes) new
   pub later : old.faults ≤ new.faults
   pub marked : new.failed ≡ true → old.failed ≡ false → HasRisen old.faults new.faults
+  pub fine : new.failed ≡ false → old.failed ≡ false
+  pub counted : new.failed ≡ false → new.faults ≡ old.faults
 
 -- whoever adds the rest from here has added the whole since the start
 pub record Owes (start : Stand) (whole : List ℕ) (now : Stand) (rest : List ℕ) : Type 0 where

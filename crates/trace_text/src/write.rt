@@ -30,6 +30,7 @@ pub fn write_trace<K: Sink>(
     ensures err { OnErr result
         (TookFront (K.taken sink.old) (text texts.now (weave journal.now history.now)) (K.taken sink.new)) }
     ensures failed { OnErr result (HasRisen (K.faults sink.old) (K.faults sink.new)) }
+    ensures counted { OnOk result (K.faults sink.new ≡ K.faults sink.old) }
     ensures faults { K.faults sink.old ≤ K.faults sink.new }
 {
     let mut pending = Pending::new();

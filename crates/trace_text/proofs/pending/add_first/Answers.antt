@@ -7,7 +7,7 @@ returns-then-has_room g c = adds_held _ _ _ _ _ (sym c.if-has_failed.ensures.fai
 
 pub returns-in-Ok : goal.returns-in-Ok
 returns-in-Ok g c = adds_written _ _ _ _ _ _ _ _ (sym c.if-has_failed.ensures.failed) c.clear.ensures
-    (ap (λ held. held ++ c.args.bytes.now) (sym c.requires)) c.in-Ok.ensures.ok c.put_all.ensures.faults
+    (ap (λ held. held ++ c.args.bytes.now) (sym c.requires)) c.in-Ok.ensures.ok c.in-Ok.ensures.counted
 
 pub returns-in-Err : goal.returns-in-Err
 returns-in-Err g c = adds_cut _ _ _ _ _ _ _ _ (sym c.if-has_failed.ensures.failed) c.clear-in-Err.ensures

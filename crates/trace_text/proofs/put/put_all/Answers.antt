@@ -9,6 +9,6 @@ returns-in_err-at-clause-err g c =
 pub loop-at-preserved : goal.loop-at-preserved
 loop-at-preserved g c = record {
   within = search rules;
-  later = search rules;
+  counted = search rules;
   front = put_step _ _ _ _ _ _ c.loop-at.invariant.front c.in_ok-at.ensures.takes;
 }

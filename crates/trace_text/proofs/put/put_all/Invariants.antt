@@ -5,7 +5,7 @@ use Rattle.trace_text.proofs.put.put_all.Given as goal
 abbrev pub invariant-loop-at : goal.invariant-loop-at
 invariant-loop-at g l = record {
   within : l.at ≤ length l.bytes;
-  later : g.K.Sink.faults l.fn.sink ≤ g.K.Sink.faults l.sink;
+  counted : g.K.Sink.faults l.sink ≡ g.K.Sink.faults l.fn.sink;
   front : g.K.Sink.taken l.sink ≡ append_known (g.K.Sink.taken l.fn.sink) (take l.at l.bytes);
 }
 

@@ -1,5 +1,5 @@
 use Rattle.std.proofs.Common.{sym, ◌∙◌}
-use Rattle.trace_text.proofs.Adding.{adds_whole, adds_front}
+use Rattle.trace_text.proofs.Adding.{adds_whole, adds_front, adds_counted}
 use Rattle.trace_text.proofs.write.write_trace.Goals as goal
 
 pub returns-then-has_failed-clause-err : goal.returns-then-has_failed-clause-err
@@ -10,3 +10,7 @@ pub returns-else-has_failed-clause-ok : goal.returns-else-has_failed-clause-ok
 returns-else-has_failed-clause-ok g c =
     adds_whole _ _ _ _ _ _ c.new-pending.ensures c.add_trace.ensures c.write_out.ensures.added c.write_out.ensures.none
     (sym c.has_failed.ensures.failed ∙ c.if-has_failed.false)
+
+pub returns-else-has_failed-clause-counted : goal.returns-else-has_failed-clause-counted
+returns-else-has_failed-clause-counted g c =
+    adds_counted _ _ _ _ _ _ c.add_trace.ensures c.write_out.ensures.added (sym c.has_failed.ensures.failed ∙ c.if-has_failed.false)
