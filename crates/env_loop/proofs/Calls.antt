@@ -13,7 +13,7 @@ use Rattle.napi_types.specs.declared.ids.HandleId.{HandleId}
 use Rattle.napi_types.specs.Built.{built_ask}
 use Rattle.napi_types.specs.Changes.{Change, number_of, is_fresh_result, call_change}
 use Rattle.napi_types.specs.Entering.{enter_change, asked_change}
-use Rattle.napi_types.specs.Frames.{Frame, most_asks}
+use Rattle.napi_types.specs.Frames.{Frame, ask_counted, most_asks}
 use Rattle.napi_types.specs.FunctionCalls.{callee_of, call_gifts}
 use Rattle.napi_types.specs.Lists.{tail}
 use Rattle.napi_types.specs.Machine.{Machine}
@@ -28,14 +28,14 @@ use Rattle.env_core.specs.Core.{Core, after_change}
 use Rattle.env_core.specs.Steps.{Replies, EntersBy, Enters}
 use Rattle.env_loop.specs.Recording.{machine_of, Continues}
 use Rattle.env_loop.specs.Runs.{IsSoundEnvironment}
-use Rattle.env_loop.specs.Turns.{IsTold, IsTurn}
-use Rattle.napi_types.proofs.Answers.{course-parts, called-keeps}
+use Rattle.env_loop.specs.Turns.{IsTold, OnlyInnermostChanges, IsTurn}
+use Rattle.napi_types.proofs.Answers.{course-parts, answer-keeps, called-keeps}
 use Rattle.napi_types.proofs.FrameChanges.{enter_change-keeps, asked_change-call_change, asked_change-enter_change, KeepsButFrames, asked_change-fits}
 use Rattle.napi_types.proofs.Owners.{callee-owned}
 use Rattle.env_loop.proofs.Recordings.{local-grown}
 use Rattle.env_loop.proofs.Steps.{reply-uncut, built_ask-built, built_ask-asked, call-next, same-room}
-use Rattle.env_loop.proofs.Frames.{InFrame, in-stands, in-calls, sound-asked}
-use Rattle.env_loop.proofs.Registers.{agrees-with_gifts, agrees-set, Kept, told-others, asked-in, registers_after_reply-in}
+use Rattle.env_loop.proofs.Frames.{InFrame, in-stands, in-some, in-calls, sound-asked}
+use Rattle.env_loop.proofs.Registers.{agrees-with_gifts, agrees-set, Kept, told-others, asking-touched, callee-touched, asked-in, registers_after_reply-in}
 use Rattle.env_loop.proofs.Turns.{after_change-turn}
 
 -- A REPLY
@@ -66,12 +66,14 @@ call_change-goes {ps} {core} {all} {f} {a} i c r new now below made reply told =
 asked-turn : {ps : List Plan} {core : Core} {all : Registers} {f : Frame} {a : Ask} → InFrame ps core.env all f a
     → (c : Call) (n : ℕ) (change : Change) (new : Core) (now : Registers)
     → f.asks < most_asks → asked_change core.env c n ≡ change → new ≡ after_change change core → drop core.env.addons now ≡ drop core.env.addons all
-    → Continues ps core all (after_change change core) now → IsTurn ps core all new now
-asked-turn {ps} {core} {all} {f} {a} i c n change new now below same made others goes =
+    → OnlyInnermostChanges core.env.frames change.after.frames all now → Continues ps core all (after_change change core) now → IsTurn ps core all new now
+asked-turn {ps} {core} {all} {f} {a} i c n change new now below same made others untouched goes =
     let k : KeepsButFrames core.env (asked_change core.env c n).after (need c) = asked_change-fits core.env c n in
     let course = course-parts core.env (asked_change core.env c n).after k.course in
     let Q : Change → Type 0 = λ x. Continues ps core all (after_change x core) now in
-    after_change-turn ps core new all now (asked_change core.env c n) (made ∙ ap (λ x. after_change x core) (sym same)) others (sound-asked i below c n) course.addons (ap stage_of course.phase) (subst Q (sym same) goes)
+    let U : Change → Type 0 = λ x. OnlyInnermostChanges core.env.frames x.after.frames all now in
+    after_change-turn ps core new all now (asked_change core.env c n) (made ∙ ap (λ x. after_change x core) (sym same)) others (subst U (sym same) untouched)
+    (sound-asked i below c n) course.addons (ap stage_of course.phase) (subst Q (sym same) goes)
 
 pub replied-turn : (ps : List Plan) (core new : Core) (all now : Registers) (f : Frame) (a : Ask) (c : Call) (r : Reply) → InFrame ps core.env all f a
     → f.asks < most_asks → ask.Do c ≡ built_ask a
@@ -81,8 +83,11 @@ pub replied-turn : (ps : List Plan) (core new : Core) (all now : Registers) (f :
 replied-turn ps core new all now f a c r i below made reply others keeps =
     let k : ℕ = number_of r.out in
     let told : IsTold ps all core.env.frames r now = subst (λ (l : List Frame). IsTold ps all l r now) (sym (in-stands i)) (others, keeps) in
+    let U : List Frame → Type 0 = λ l. OnlyInnermostChanges core.env.frames (ask_counted l) all now in
     asked-turn i c k (call_change core.env c k) new now below (asked_change-call_change core.env c k reply.at_once) reply.after
-    (told-others core.env.addons ps all now core.env.frames r i.sound.owned.frames told) (call_change-goes i c r new now below made reply told)
+    (told-others core.env.addons ps all now core.env.frames r i.sound.owned.frames told)
+    (subst U (sym (answer-keeps core.env c k).frames) (asking-touched ps all now core.env.frames core.env.frames r (in-some i) told))
+    (call_change-goes i c r new now below made reply told)
 
 -- A FRAME IS ENTERED
 -- the registers of an addon that was given its gifts, and those of the others
@@ -133,8 +138,12 @@ entering-turn {ps} {core} {all} {f} {a} e receiver g args target gifts new now b
     let callee : i < core.env.addons = callee-owned core.env.addons core.env receiver g args enters.called.accepted e.sound.owned in
     let given_there : now ≡ with_addon_gifts all i own = given ∙ ap (λ n. with_addon_gifts all n gifts) enters.called.addon
     ∙ ap (λ l. with_addon_gifts all i l) enters.called.gifts_are in
+    let U : List Frame → Type 0 = λ l. OnlyInnermostChanges core.env.frames l all now in
     asked-turn e (call.CallFunction receiver g args) 0 (enter_change receiver g args core.env) new now below (asked_change-enter_change core.env receiver g args 0 enters.called.accepted) enters.after
     (ap (drop core.env.addons) given_there ∙ drop-set-lt core.env.addons all i (with_gifts own (registers_of all i)) callee)
+    (subst U (sym (enter_change-keeps receiver g args core.env).frames)
+    (callee-touched all now core.env.frames (ask_counted core.env.frames) (callee_of core.env.heap g) (in-some e)
+    (others-given all now i own (omega (arith, callee, enough)) given_there)))
     (enter_change-goes e receiver g args target gifts new now below made enters enough given_there)
 
 pub enter_change-turn : (ps : List Plan) (core new : Core) (all now : Registers) (f : Frame) (a : Ask) (c : Call) (target : Target) (gifts : List ℕ)

@@ -23,15 +23,15 @@ use Rattle.addon_trait.specs.Addons.{OthersStay}
 use Rattle.env_core.specs.Core.{Core, after_change}
 use Rattle.env_loop.specs.Recording.{machine_of, Continues}
 use Rattle.env_loop.specs.Runs.{IsSoundEnvironment}
-use Rattle.env_loop.specs.Turns.{IsTold, IsTurn}
+use Rattle.env_loop.specs.Turns.{IsTold, OnlyInnermostChanges, IsTurn}
 use Rattle.napi_types.proofs.Answers.{course-parts}
 use Rattle.napi_types.proofs.FrameChanges.{KeepsButFrame, ended-keeps}
 use Rattle.napi_types.proofs.FrameEnds.{Ends, ended-ends}
 use Rattle.napi_types.proofs.Owners.{owned-ended}
 use Rattle.env_loop.proofs.Recordings.{local-grown}
 use Rattle.env_loop.proofs.Steps.{leave-next, by-env}
-use Rattle.env_loop.proofs.Frames.{head-stands, head-below, tail-below, InFrame, in-stands, in-asks, sound-ended}
-use Rattle.env_loop.proofs.Registers.{Kept, told-others, asked-in, registers_after_reply-in}
+use Rattle.env_loop.proofs.Frames.{head-stands, head-below, tail-below, InFrame, in-stands, in-some, in-asks, sound-ended}
+use Rattle.env_loop.proofs.Registers.{Kept, told-others, caller-touched, asked-in, registers_after_reply-in}
 use Rattle.env_loop.proofs.Turns.{after_change-turn}
 
 -- the frame around the innermost one, whose addon is told the reply to the ask that it made last
@@ -72,8 +72,10 @@ ended-turn {ps} {core} {all} {f} {a} i v cut new now next made told =
     let k : KeepsButFrame core.env (end_change v cut core.env).after = ended-keeps v cut core.env in
     let course = course-parts core.env (end_change v cut core.env).after k.course in
     let there : All (λ g. g.addon < core.env.addons) (callers_of core.env) = tail-below core.env.addons core.env.frames i.sound.owned.frames in
+    let U : List Frame → Type 0 = λ l. OnlyInnermostChanges core.env.frames l all now in
     after_change-turn ps core new all now (end_change v cut core.env) made
     (told-others core.env.addons ps all now (callers_of core.env) (end_change v cut core.env).entry.reply there told)
+    (subst U (sym k.frames) (caller-touched ps all now core.env.frames (tail core.env.frames) (end_change v cut core.env).entry.reply (in-some i) told))
     (sound-ended i v cut) course.addons (ap stage_of course.phase) (ended-goes i v cut now next told)
 
 -- the frame leaves

@@ -6,7 +6,7 @@ use Rattle.napi_types.specs.declared.call.Ask.{Ask}
 use Rattle.napi_types.specs.declared.call.Call.{Call}
 use Rattle.napi_types.specs.declared.entry.Why.{Why}
 use Rattle.napi_types.specs.declared.ids.HandleId.{HandleId}
-use Rattle.napi_types.specs.Changes.{may_ask, may_call, gone_change}
+use Rattle.napi_types.specs.Changes.{may_ask, may_call}
 use Rattle.napi_types.specs.Ends.{end_change}
 use Rattle.napi_types.specs.Entering.{asked_change}
 use Rattle.napi_types.specs.Environment.{Environment}

@@ -19,7 +19,6 @@ use Rattle.napi_types.specs.Run.{after, IsNext}
 use Rattle.napi_types.specs.Changes.{Change, host_entry, in_phase, gone_change, init_change}
 use Rattle.napi_types.specs.Registers.{blank_registers}
 use Rattle.napi_types.specs.declared.entry.Reply.{Reply}
-use Rattle.napi_types.specs.Environment.{Environment}
 use Rattle.napi_types.specs.Plan.{Plan, after_host_event, after_event, after_entry, plan_of, registers_of, frames_ask, asked, registers_after, Registers, loaded_registers}
 use Rattle.napi_types.specs.Weave.{Side, Journal, History, weave, sides, RisesBetween}
 use Rattle.napi_types.specs.Setting.{Setting, opening_of, RunsBy, final_of, final_registers, planned_asks}

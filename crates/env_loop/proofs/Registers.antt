@@ -1,5 +1,5 @@
 -- What is asked by the plans, and what the registers keep.
-use Rattle.std.proofs.Common.{◌≡◌, ◌<◌, ℕ, cond, List, [], ◌∷◌, length, set, drop, refl, ap, subst, sym, ◌∙◌, arith, Some, None, IfSome, inl, inr}
+use Rattle.std.proofs.Common.{◌≡◌, ◌≢◌, ◌<◌, ℕ, cond, List, [], ◌∷◌, length, set, drop, refl, ap, subst, sym, ◌∙◌, arith, Some, None, IfSome, inl, inr}
 use Rattle.std.specs.List.{All}
 use Rattle.std.proofs.lemmas.List.{get_or-set_same, get_or-set_other, length-set, drop-set-lt}
 use Rattle.std.proofs.lemmas.List.Elements.{All-head}
@@ -8,14 +8,14 @@ use Rattle.napi_types.specs.declared.call.Ask.{Ask}
 use Rattle.napi_types.specs.declared.call.Ask.TheVariants as ask
 use Rattle.napi_types.specs.declared.entry.Entry.{Entry}
 use Rattle.napi_types.specs.declared.entry.Reply.{Reply}
-use Rattle.napi_types.specs.Frames.{Frame}
+use Rattle.napi_types.specs.Frames.{Frame, ask_counted, at_last_ask}
 use Rattle.napi_types.specs.Plan.{Plan, plan_of, frame_ask, frames_ask, addon_after_reply, caller_after_reply, Registers, registers_of}
 use Rattle.napi_types.specs.Registers.{plan_ask, registers_after_reply, with_gifts}
 use Rattle.napi_types.specs.Setting.{Setting}
 use Rattle.addon_trait.specs.Addons.{OthersStay}
 use Rattle.env_core.specs.Core.{Core}
 use Rattle.env_loop.specs.Recording.{IsOf, AgreesWhereTold, AgreesWith, IsRecorded}
-use Rattle.env_loop.specs.Turns.{IsTold}
+use Rattle.env_loop.specs.Turns.{IsTold, OnlyInnermostChanges}
 use Rattle.env_loop.proofs.Frames.{InFrame, in-stands, in-there}
 
 -- WHAT IS ASKED, AND WHAT IS KEPT
@@ -87,6 +87,32 @@ told-from ps qs all mid now fs r plans registers told =
     let P : List Plan → Type 0 = λ x. IsTold x all fs r now in
     let Q : Registers → Type 0 = λ x. IsTold qs x fs r now in
     subst P plans (subst Q registers told)
+
+-- WHOSE REGISTERS CHANGE
+-- no addon's, where no frame stood
+pub none-touched : (before after : List Frame) (all : Registers) → before ≡ [] → OnlyInnermostChanges before after all all
+none-touched [] after all alone = refl
+none-touched (f ∷ fs) after all alone = cc
+
+-- that of the frame that is told the reply to its ask, ..
+pub asking-touched : (ps : List Plan) (all now : Registers) (before fs : List Frame) (r : Reply) → before ≢ [] → IsTold ps all fs r now
+    → OnlyInnermostChanges before (ask_counted fs) all now
+asking-touched ps all now [] fs r some told = absurd (some refl)
+asking-touched ps all now (f ∷ before) [] r some told = told
+asking-touched ps all now (f ∷ before) (g ∷ gs) r some told = told.0
+
+-- .. of the caller, which is told how its call ended, ..
+pub caller-touched : (ps : List Plan) (all now : Registers) (before fs : List Frame) (r : Reply) → before ≢ [] → IsTold ps all (at_last_ask fs) r now
+    → OnlyInnermostChanges before fs all now
+caller-touched ps all now [] fs r some told = absurd (some refl)
+caller-touched ps all now (f ∷ before) [] r some told = told
+caller-touched ps all now (f ∷ before) (g ∷ gs) r some told = told.0
+
+-- .. and of the frame that begins
+pub callee-touched : (all now : Registers) (before rest : List Frame) (g : Frame) → before ≢ [] → OthersStay all now g.addon
+    → OnlyInnermostChanges before (g ∷ rest) all now
+callee-touched all now [] rest g some others = absurd (some refl)
+callee-touched all now (f ∷ before) rest g some others = others
 
 -- IN A RECORDED RUN
 -- what the innermost frame asks is what the run's plans and registers give

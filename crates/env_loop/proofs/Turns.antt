@@ -4,24 +4,25 @@ use Rattle.napi_types.specs.declared.entry.Phase.TheVariants as phase
 use Rattle.napi_types.specs.Changes.{Change, init_change, gone_change}
 use Rattle.napi_types.specs.Phases.{stage_of}
 use Rattle.napi_types.specs.Plan.{Plan, Registers}
-use Rattle.napi_types.specs.Registers.{registers_after_reply}
 use Rattle.env_core.specs.Core.{Core, after_change, next_init}
 use Rattle.env_loop.specs.Recording.{Continues}
 use Rattle.env_loop.specs.Runs.{IsSoundEnvironment}
-use Rattle.env_loop.specs.Turns.{IsTurn}
+use Rattle.env_loop.specs.Turns.{OnlyInnermostChanges, IsTurn}
 use Rattle.napi_types.proofs.Owners.{owned-init, within-init}
+use Rattle.env_loop.proofs.Registers.{none-touched}
 use Rattle.env_loop.proofs.Recordings.{init-grown, gone_change-grown}
 
 -- a turn that writes down a change
 pub after_change-turn : (ps : List Plan) (core new : Core) (all now : Registers) (change : Change) → new ≡ after_change change core
-    → drop core.env.addons now ≡ drop core.env.addons all
+    → drop core.env.addons now ≡ drop core.env.addons all → OnlyInnermostChanges core.env.frames change.after.frames all now
     → IsSoundEnvironment change.after → change.after.addons ≡ core.env.addons → stage_of change.after.phase ≡ stage_of core.env.phase
     → Continues ps core all (after_change change core) now
     → IsTurn ps core all new now
-after_change-turn ps core new all now change made others sound addons stage goes =
+after_change-turn ps core new all now change made others untouched sound addons stage goes =
     let P : Core → Type 0 = λ c. IsTurn ps core all c now in
     subst P (sym made) (record {
       others = others;
+      untouched = untouched;
       sound = sound;
       kept = record { addons = addons; stage = stage; limit = refl; one = record { entry = record { at = core.position; entry = change.entry }; last = refl } };
       recorded = goes;
@@ -52,7 +53,7 @@ init-turn ps all core new i sound alone here next made =
       asks = within-init core.env i sound.asks;
       gone = λ g. let z : phase.Init ≡ phase.Gone = sym here ∙ g in cc;
     } in
-    after_change-turn ps core new all all (init_change i core.env) made refl begun refl refl
+    after_change-turn ps core new all all (init_change i core.env) made refl (none-touched core.env.frames _ all alone) begun refl refl
     (subst R (sym more.1) (λ s history of r. init-grown s core history all r alone here sound.opened more.0))
 
 -- the environment is gone
@@ -65,4 +66,5 @@ gone_change-turn ps all core new sound alone here made =
       asks = sound.asks;
       gone = λ g. alone;
     } in
-    after_change-turn ps core new all all (gone_change core.env) made refl left refl (ap stage_of (sym here)) (λ s history of r. gone_change-grown s core history all r alone here)
+    after_change-turn ps core new all all (gone_change core.env) made refl (none-touched core.env.frames _ all alone) left refl (ap stage_of (sym here))
+    (λ s history of r. gone_change-grown s core history all r alone here)

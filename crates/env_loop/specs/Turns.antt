@@ -55,6 +55,13 @@ IsTold plans all [] r now = now ≡ all
 IsTold plans all (f ∷ fs) r now =
     OthersStay all now f.addon × IfSome (plan_of plans f.addon) (λ p. registers_of now f.addon ≡ registers_after_reply p (registers_of all f.addon) f.entry f.asks r)
 
+-- a turn, by the frames before it and those after it, changes the registers of the addon that runs the innermost frame after it, and of no other addon.
+-- Where no frame stood before it, or none stands after it, every addon keeps its registers
+abbrev pub OnlyInnermostChanges : List Frame → List Frame → Registers → Registers → Type 0
+OnlyInnermostChanges [] after all now = now ≡ all
+OnlyInnermostChanges (f ∷ fs) [] all now = now ≡ all
+OnlyInnermostChanges (f ∷ fs) (g ∷ gs) all now = OthersStay all now g.addon
+
 -- a turn keeps the addons and the journal's limit and makes no event of the hub; it leaves one entry
 pub record KeepsRun (old new : Core) : Type 0 where
   pub addons : new.env.addons ≡ old.env.addons
@@ -62,9 +69,11 @@ pub record KeepsRun (old new : Core) : Type 0 where
   pub limit : new.limit ≡ old.limit
   pub one : OneMore old.journal new.journal
 
--- a turn: the addons that are no addons of the script keep their registers, and a run that was recorded goes on
+-- a turn: the addons that are no addons of the script keep their registers, only the innermost frame's addon may have other ones, and a run that was
+-- recorded goes on
 pub record IsTurn (plans : List Plan) (old : Core) (all : Registers) (new : Core) (now : Registers) : Type 0 where
   pub others : drop old.env.addons now ≡ drop old.env.addons all
+  pub untouched : OnlyInnermostChanges old.env.frames new.env.frames all now
   pub sound : IsSoundEnvironment new.env
   pub kept : KeepsRun old new
   pub recorded : Continues plans old all new now

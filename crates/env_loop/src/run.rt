@@ -4,7 +4,7 @@ ghost use Rattle.napi_types.specs.Changes.{host_entry, in_phase};
 ghost use Rattle.napi_types.specs.Phases.{next_phase, stage_of};
 ghost use Rattle.napi_types.specs.Room.{stage_places};
 ghost use Rattle.env_loop.specs.Runs.{IsOpened, opened_run, OneMore, Extends, GoesOn, MovesOn};
-ghost use Rattle.env_loop.specs.Turns.{turn_of};
+ghost use Rattle.env_loop.specs.Turns.{turn_of, OnlyInnermostChanges};
 
 use crate::history::History;
 use crate::turn::{LocalTurn, turn};
@@ -77,6 +77,11 @@ impl EnvRun {
         ensures addons { self.new.core.env.addons ≡ self.old.core.env.addons }
         ensures limit { self.new.core.limit ≡ self.old.core.limit }
         ensures stage { stage_of self.new.core.env.phase ≡ stage_of self.old.core.env.phase }
+
+        // Only the addon of the innermost frame after the turn may have other registers than before.
+        ensures untouched { let before = map (λ b. regs b) addons.old.items in
+            let after = map (λ b. regs b) addons.new.items in
+            result ≡ LocalTurn.Made → OnlyInnermostChanges self.old.core.env.frames self.new.core.env.frames before after }
     {
         turn(&mut self.core, addons)
     }
