@@ -1,5 +1,6 @@
--- Where a script can be run, no line but that of want of memory stands in place of its trace.
-use Rattle.std.proofs.Common.{◌≡◌, ◌<◌, ◌∙◌, ℕ, true, false, List, length, Option, Some, None, Ok, Err, refl, ap, sym, subst, arith}
+-- Which line may stand in place of a trace, by the bytes that the source has.
+use Rattle.std.proofs.Common.{◌≡◌, ◌<◌, ◌≤◌, ◌∙◌, ℕ, true, false, List, length, refl, ap, sym, subst, arith}
+use Rattle.std.proofs.Common.{Option, Some, None, Ok, Err, ◌⊎◌, inl, inr}
 use Rattle.std.specs.Prelude.{IfSome}
 use Rattle.serde_json.specs.Data.{Data}
 use Rattle.napi_types.specs.declared.script.Script.{Script}
@@ -8,10 +9,7 @@ use Rattle.napi_types.specs.declared.script.Wrong.TheVariants as wrong
 use Rattle.napi_types.specs.ScriptReading.{IsJson, IsNoJson}
 use Rattle.napi_types.specs.Script.{IsScript, IsWrong, script}
 use Rattle.script_host.specs.Reading.{longest_source}
-use Rattle.napi_types.specs.Edge.{HasRisen}
-use Rattle.script_host.specs.Host.{Gave, IsRunnable, Causes, WroteTrace, is_whole}
-use Rattle.script_host.specs.declared.top_call.Written.{Written}
-use Rattle.script_host.specs.declared.top_call.Written.TheVariants as written
+use Rattle.script_host.specs.Host.{Gave, GaveScript, GaveTooMuch, IsRead, IsTooLong, IsRefused, HasTooManyAddons, IsRunnable, Causes}
 use Rattle.script_host.specs.Words.{line_status}
 use Rattle.script_host.specs.declared.words.Line.{Line}
 use Rattle.script_host.specs.declared.words.Line.TheVariants as line
@@ -39,30 +37,94 @@ one-script bytes s t a b =
     let both : Ok s ≡ Ok t = sym a.2 ∙ ap script same ∙ b.2 in
     cc
 
-module _ (words : List (List ℕ)) (before after : Option (List ℕ)) (faults risen sink_faults sink_risen handed : ℕ)
-    (r : IsRunnable words before faults risen sink_faults sink_risen handed) where
-  -- it is a script for whatever bytes the source gave
-  script-given : (bytes : List ℕ) → Gave before after bytes → IsScript bytes r.script
-  script-given bytes gave = let P : List ℕ → Type 0 = λ b. IsScript b r.script in subst P (sym (all-given before after r.bytes bytes gave r.told)) r.is_script
+-- bytes that are refused are no script that can run
+pub no-refused : (bytes : List ℕ) (handed : ℕ) → IsRefused bytes handed → (s : Script) → IsScript bytes s → length s.addons ≤ handed → ⊥
+no-refused bytes handed bad s is enough = by bad.why
+  where
+    by : IsNoJson bytes ⊎ (((w : Wrong) × IsWrong bytes w) ⊎ HasTooManyAddons bytes handed) → ⊥
+    by (inl none) = no-json bytes s is none
+    by (inr (inl wrong_there)) = no-wrong bytes s wrong_there.0 is wrong_there.1
+    by (inr (inr many)) =
+        let same : many.script ≡ s = one-script bytes many.script s many.is_script is in
+        let more : handed < length s.addons = subst (λ (x : Script). handed < length x.addons) same many.more in
+        omega (arith, more, enough)
 
-  pub only-memory : (l : Line) → Causes l words before after faults risen handed → line_status l ≡ 6
-  only-memory line.Usage cause = let no : true ≡ false = sym r.command ∙ cause in cc
-  only-memory line.NotJson cause = absurd (no-json cause.1.bytes r.script (script-given cause.1.bytes cause.1.gave) cause.1.is_no_json)
-  only-memory (line.Shape path) cause = absurd (no-wrong cause.1.bytes r.script (wrong.Shape cause.1.has_wrong_shape.0) (script-given cause.1.bytes cause.1.gave) cause.1.has_wrong_shape.2)
-  only-memory (line.Limit which) cause = absurd (no-wrong cause.1.bytes r.script (wrong.Limit which) (script-given cause.1.bytes cause.1.gave) cause.1.is_wrong)
-  only-memory line.Stage cause = absurd (no-wrong cause.1.bytes r.script wrong.Stage (script-given cause.1.bytes cause.1.gave) cause.1.is_wrong)
-  only-memory line.TooManyAddons cause =
-      let same : cause.1.script ≡ r.script = one-script cause.1.gave.bytes cause.1.script r.script cause.1.gave.is_script (script-given cause.1.gave.bytes cause.1.gave.gave) in
-      let more : handed < length r.script.addons = subst (λ (s : Script). handed < length s.addons) same cause.1.more in
-      absurd (omega (arith, more, r.enough))
-  only-memory line.NoMemory cause = refl
-  only-memory line.ReadFault cause = absurd (r.readable cause.1)
-  only-memory line.TooLong cause =
+-- where the bytes of the source are told and no read failed
+module _ (words : List (List ℕ)) (before after : Option (List ℕ)) (faults risen handed : ℕ)
+    (bytes : List ℕ) (r : IsRead words before faults risen bytes) where
+  -- what it gave up to its end are these bytes
+  all-told : (given : List ℕ) → Gave before after given → given ≡ bytes
+  all-told given gave = all-given before after bytes given gave r.told
+
+  -- so it gave no script other than theirs, and nothing else that they are not
+  pub told-short : (given : List ℕ) → Gave before after given → length bytes ≤ longest_source
+  told-short given gave = subst (λ (b : List ℕ). length b ≤ longest_source) (all-told given gave) gave.within
+
+  told-json : (given : List ℕ) → Gave before after given → IsNoJson given → IsNoJson bytes
+  told-json given gave none = subst (λ (b : List ℕ). IsNoJson b) (all-told given gave) none
+
+  told-wrong : (given : List ℕ) (w : Wrong) → Gave before after given → IsWrong given w → IsWrong bytes w
+  told-wrong given w gave bad = subst (λ (b : List ℕ). IsWrong b w) (all-told given gave) bad
+
+  told-script : (s : Script) → GaveScript before after s → IsScript bytes s
+  told-script s gave = subst (λ (b : List ℕ). IsScript b s) (all-told gave.bytes gave.gave) gave.is_script
+
+  not-long : (given : List ℕ) → IsTooLong bytes → Gave before after given → ⊥
+  not-long given long gave = let short : length bytes ≤ longest_source = told-short given gave in omega (arith, short, long)
+
+  -- of bytes that are too long no line tells but that they are, or that there was no memory
+  pub too-long-line : IsTooLong bytes → (l : Line) → Causes l words before after faults risen handed → (line_status l ≡ 7) ⊎ (line_status l ≡ 6)
+  too-long-line long line.Usage cause = let no : true ≡ false = sym r.command ∙ cause in cc
+  too-long-line long line.NotJson cause = absurd (not-long cause.1.bytes long cause.1.gave)
+  too-long-line long (line.Shape path) cause = absurd (not-long cause.1.bytes long cause.1.gave)
+  too-long-line long (line.Limit which) cause = absurd (not-long cause.1.bytes long cause.1.gave)
+  too-long-line long line.Stage cause = absurd (not-long cause.1.bytes long cause.1.gave)
+  too-long-line long line.TooManyAddons cause = absurd (not-long cause.1.gave.bytes long cause.1.gave.gave)
+  too-long-line long line.NoMemory cause = inr refl
+  too-long-line long line.ReadFault cause = absurd (r.readable cause.1)
+  too-long-line long line.TooLong cause = inl refl
+
+  pub too-long-run : IsTooLong bytes → (s : Script) → GaveScript before after s → ⊥
+  too-long-run long s gave = not-long gave.bytes long gave.gave
+
+  long-told : GaveTooMuch before after → length bytes ≤ longest_source → ⊥
+  long-told gave short =
       let P : Option (List ℕ) → Type 0 = λ o. IfSome o (λ given. longest_source < length given) in
-      let long : longest_source < length r.bytes = subst P r.told cause.1.told in
-      absurd (omega (arith, long, r.short))
+      let long : longest_source < length bytes = subst P r.told gave.told in
+      omega (arith, long, short)
 
--- a trace that was cut off was cut off by a fault of the sink
-pub cut-rose : (E : Type 0) (w : Written) (had has : Option (List ℕ)) (faults risen : ℕ) (trace : List ℕ) → w ≡ written.Cut
-    → WroteTrace (is_whole {E = E} (Ok w)) had faults trace has risen → HasRisen faults risen
-cut-rose E w had has faults risen trace e h = let P : Written → Type 0 = λ x. WroteTrace (is_whole {E = E} (Ok x)) had faults trace has risen in let k : P written.Cut = subst P e h in k.0
+  -- of bytes that are refused no line tells but that they are, or that there was no memory
+  pub refused-line : IsRefused bytes handed → (l : Line) → Causes l words before after faults risen handed → (line_status l ≡ 3) ⊎ (line_status l ≡ 6)
+  refused-line bad line.Usage cause = let no : true ≡ false = sym r.command ∙ cause in cc
+  refused-line bad line.NotJson cause = inl refl
+  refused-line bad (line.Shape path) cause = inl refl
+  refused-line bad (line.Limit which) cause = inl refl
+  refused-line bad line.Stage cause = inl refl
+  refused-line bad line.TooManyAddons cause = inl refl
+  refused-line bad line.NoMemory cause = inr refl
+  refused-line bad line.ReadFault cause = absurd (r.readable cause.1)
+  refused-line bad line.TooLong cause = absurd (long-told cause.1 bad.short)
+
+  pub refused-run : IsRefused bytes handed → (s : Script) → GaveScript before after s → length s.addons ≤ handed → ⊥
+  refused-run bad s gave enough = no-refused bytes handed bad s (told-script s gave) enough
+
+  -- of a script that can be run no line tells but that there was no memory
+  pub only-memory : IsRunnable bytes handed → (l : Line) → Causes l words before after faults risen handed → line_status l ≡ 6
+  only-memory fit line.Usage cause = let no : true ≡ false = sym r.command ∙ cause in cc
+  only-memory fit line.NotJson cause = absurd (no-json bytes fit.script fit.is_script (told-json cause.1.bytes cause.1.gave cause.1.is_no_json))
+  only-memory fit (line.Shape path) cause =
+      let w : Wrong = wrong.Shape cause.1.has_wrong_shape.0 in
+      absurd (no-wrong bytes fit.script w fit.is_script (told-wrong cause.1.bytes w cause.1.gave cause.1.has_wrong_shape.2))
+  only-memory fit (line.Limit which) cause =
+      let w : Wrong = wrong.Limit which in
+      absurd (no-wrong bytes fit.script w fit.is_script (told-wrong cause.1.bytes w cause.1.gave cause.1.is_wrong))
+  only-memory fit line.Stage cause =
+      let w : Wrong = wrong.Stage in
+      absurd (no-wrong bytes fit.script w fit.is_script (told-wrong cause.1.bytes w cause.1.gave cause.1.is_wrong))
+  only-memory fit line.TooManyAddons cause =
+      let same : cause.1.script ≡ fit.script = one-script bytes cause.1.script fit.script (told-script cause.1.script cause.1.gave) fit.is_script in
+      let more : handed < length fit.script.addons = subst (λ (s : Script). handed < length s.addons) same cause.1.more in
+      absurd (omega (arith, more, fit.enough))
+  only-memory fit line.NoMemory cause = refl
+  only-memory fit line.ReadFault cause = absurd (r.readable cause.1)
+  only-memory fit line.TooLong cause = absurd (long-told cause.1 fit.short)

@@ -4,7 +4,6 @@ use Rattle.std.specs.List.{list_any}
 use Rattle.std.specs.Io.KnownBytes.{prepend_known, append_known, IsAtEnd}
 use Rattle.napi_types.specs.declared.call.Ask.{Ask}
 use Rattle.napi_types.specs.declared.lists.Record.{Record}
-use Rattle.napi_types.specs.declared.script.LimitName.{LimitName}
 use Rattle.napi_types.specs.declared.script.Script.{Script}
 use Rattle.napi_types.specs.declared.script.Wrong.{Wrong}
 use Rattle.napi_types.specs.declared.script.Wrong.TheVariants as wrong
@@ -60,6 +59,29 @@ pub record IsSmall (script : Script) : Type 0 where
 abbrev pub trace_of : Script → Record → List ℕ
 trace_of script left = text script.texts (weave left.journal left.history)
 
+-- THE BYTES
+-- the bytes are more than a source may give
+abbrev pub IsTooLong : List ℕ → Type 0
+IsTooLong bytes = longest_source < length bytes
+
+-- the bytes are a script with more addons than were handed in
+pub record HasTooManyAddons (bytes : List ℕ) (handed : ℕ) : Type 0 where
+  pub script : Script
+  pub is_script : IsScript bytes script
+  pub more : handed < length script.addons
+
+-- the bytes are not too long, and they are no JSON text, or one in which something is wrong or not built, or a script with too many addons
+pub record IsRefused (bytes : List ℕ) (handed : ℕ) : Type 0 where
+  pub short : length bytes ≤ longest_source
+  pub why : IsNoJson bytes ⊎ (((w : Wrong) × IsWrong bytes w) ⊎ HasTooManyAddons bytes handed)
+
+-- the bytes are not too long, and they are a script that is built, with no more addons than were handed in
+pub record IsRunnable (bytes : List ℕ) (handed : ℕ) : Type 0 where
+  pub short : length bytes ≤ longest_source
+  pub script : Script
+  pub is_script : IsScript bytes script
+  pub enough : length script.addons ≤ handed
+
 -- THE INPUT
 -- the source gave these bytes and no more, up to its end
 pub record Gave (before after : Option (List ℕ)) (bytes : List ℕ) : Type 0 where
@@ -97,6 +119,12 @@ pub record GaveTooManyAddons (before after : Option (List ℕ)) (handed : ℕ) :
   pub script : Script
   pub gave : GaveScript before after script
   pub more : handed < length script.addons
+
+-- the source gave bytes that are refused
+pub record GaveRefused (before after : Option (List ℕ)) (handed : ℕ) : Type 0 where
+  pub bytes : List ℕ
+  pub gave : Gave before after bytes
+  pub is_refused : IsRefused bytes handed
 
 -- the source gave more bytes than a source may
 pub record GaveTooMuch (before after : Option (List ℕ)) : Type 0 where
@@ -139,28 +167,8 @@ IsStatus status = IsTrue (list_any (λ known. known == status) (0 ∷ 2 ∷ 3 �
 abbrev pub IsRunStatus : ℕ → Type 0
 IsRunStatus status = (status ≡ 0) ⊎ (status ≡ 5)
 
--- the source gave a JSON text that is no script, or a script that cannot run: something has the wrong form, is too many, or is not built
-abbrev pub GaveNoScript : Option (List ℕ) → Option (List ℕ) → Type 0
-GaveNoScript before after = ((path : List ℕ) × GaveWrongShape before after path) ⊎ (((which : LimitName) × GaveWrong before after (wrong.Limit which)) ⊎ GaveWrong before after wrong.Stage)
-
--- the source gave no JSON text, or no script that can run, or a script with more addons than were handed in
-abbrev pub GaveRefused : Option (List ℕ) → Option (List ℕ) → ℕ → Type 0
-GaveRefused before after handed = GaveNoJson before after ⊎ (GaveNoScript before after ⊎ GaveTooManyAddons before after handed)
-
--- COMPLETENESS
--- nothing but want of memory is in the way of a run: the words are the command line, the source's bytes are known to be a script that is built
--- and has no more addons than were handed in, and neither the reading nor the writing failed
-pub record IsRunnable (words : List (List ℕ)) (before : Option (List ℕ)) (faults faults_after sink_faults sink_faults_after handed : ℕ) : Type 0 where
+-- the words are the command line, these are the source's bytes, and no read failed
+pub record IsRead (words : List (List ℕ)) (before : Option (List ℕ)) (faults faults_after : ℕ) (bytes : List ℕ) : Type 0 where
   pub command : is_run_words words ≡ true
-  pub bytes : List ℕ
   pub told : before ≡ Some bytes
-  pub short : length bytes ≤ longest_source
-  pub script : Script
-  pub is_script : IsScript bytes script
-  pub enough : length script.addons ≤ handed
   pub readable : ¬ HasRisen faults faults_after
-  pub writable : ¬ HasRisen sink_faults sink_faults_after
-
--- the run was made and written, or there was no memory
-abbrev pub IsRunOrNoMemory : ℕ → Type 0
-IsRunOrNoMemory status = (status ≡ 0) ⊎ (status ≡ 6)

@@ -1,5 +1,5 @@
 //! Reading a source to its end.
-ghost use Rattle.std.specs.Prelude.{◌≡◌, ◌<◌, ◌≤◌, IfOk, IfSome, OnOk, OnErr, length, vec_len};
+ghost use Rattle.std.specs.Prelude.{◌≡◌, ◌≢◌, ◌<◌, ◌≤◌, IfOk, IfSome, OnOk, length, vec_len};
 ghost use Rattle.std.specs.Io.KnownBytes.{prepend_known, IsAtEnd};
 ghost use Rattle.napi_types.specs.Edge.{HasRisen};
 ghost use Rattle.script_host.specs.Reading.{longest_source, GaveFront, GaveTooMany};
@@ -39,7 +39,8 @@ pub(crate) fn read_all<S: Source>(alloc: Global, source: &mut S) -> Result<Vec<u
         → IfSome (S.left source.old) (λ given. longest_source < length given) }
     ensures fault { result ≡ Err ReadError.Fault
         → HasRisen (S.faults source.old) (S.faults source.new) }
-    ensures front { OnErr result (GaveFront (S.left source.old) (S.left source.new)) }
+    ensures counted { result ≢ Err ReadError.Fault → S.faults source.new ≡ S.faults source.old }
+    ensures front { GaveFront (S.left source.old) (S.left source.new) }
     ensures faults { S.faults source.old ≤ S.faults source.new }
 {
     let mut bytes = Vec::new(alloc);

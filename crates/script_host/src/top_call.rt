@@ -1,8 +1,10 @@
 //! The top call.
-ghost use Rattle.std.specs.Prelude.{◌≡◌, ◌≢◌, ◌≤◌, ◌<◌, ◌^◌, ℕ, ◌↔◌, ◌==◌, List, [], ◌∷◌, length, map, true, false, Some, None, IfOk, OnOk, OnErr, IfErr, Contains, IsOk, ◌⊎◌};
+ghost use Rattle.std.specs.Prelude.{◌≡◌, ◌≢◌, ◌≤◌, ◌<◌, ◌^◌, ℕ, ◌↔◌, ◌==◌, List, length, map, true, false, IfOk, OnOk, OnErr, IfErr, ◌⊎◌};
 ghost use Rattle.std.specs.Io.KnownBytes.{append_known};
 ghost use Rattle.napi_types.specs.Edge.{HasRisen, TookFront};
-ghost use Rattle.script_host.specs.Host.{Ran, IsSmall, GaveScript, GaveTooMuch, Causes, WroteLine, WroteTrace, is_whole, trace_of, IsStatus, IsRunStatus, GaveRefused, IsRunnable, IsRunOrNoMemory};
+ghost use Rattle.script_host.specs.Host.{Ran, IsSmall, trace_of, WroteTrace, is_whole, IsStatus, IsRunStatus};
+ghost use Rattle.script_host.specs.Host.{GaveScript, GaveRefused, GaveTooMuch, Causes, WroteLine, IsRead, IsTooLong, IsRefused, IsRunnable};
+ghost use Rattle.script_host.specs.Reading.{GaveFront};
 ghost use Rattle.script_host.specs.Words.{is_run_words, line_text, line_status};
 
 use crate::reading::{ReadError, read_all};
@@ -57,6 +59,10 @@ fn script_of<S: Source>(alloc: Global, words: &[Text], source: &mut S) -> Result
     ensures small { IfOk result IsSmall }
     ensures err { IfErr result (λ line. (handed : ℕ) →
         Causes line words.now (S.left source.old) (S.left source.new) (S.faults source.old) (S.faults source.new) handed) }
+    ensures unread { is_run_words words.now ≡ false → S.left source.new ≡ S.left source.old }
+    ensures uncounted { is_run_words words.now ≡ false → S.faults source.new ≡ S.faults source.old }
+    ensures counted { result ≢ Err Line.ReadFault → S.faults source.new ≡ S.faults source.old }
+    ensures front { GaveFront (S.left source.old) (S.left source.new) }
     ensures faults { S.faults source.old ≤ S.faults source.new }
 {
     if !is_run(words) {
@@ -93,6 +99,7 @@ fn perform<K: Sink>(
     ensures whole { result ≡ Ok Written.Whole → K.taken sink.new ≡ append_known (K.taken sink.old) (trace_of script left.new) }
     ensures cut { result ≡ Ok Written.Cut → TookFront (K.taken sink.old) (trace_of script left.new) (K.taken sink.new) }
     ensures fault { result ≡ Ok Written.Cut → HasRisen (K.faults sink.old) (K.faults sink.new) }
+    ensures counted { result ≡ Ok Written.Whole → K.faults sink.new ≡ K.faults sink.old }
     ensures err { IfErr result (λ line. (line ≡ Line.NoMemory) ⊎ ((line ≡ Line.TooManyAddons) × (length addons.old.items < length script.addons))) }
     ensures sink { OnErr result (K.taken sink.new ≡ K.taken sink.old) }
     ensures left { OnErr result (left.new ≡ left.old) }
@@ -141,6 +148,11 @@ fn attempt<S: Source, K: Sink>(
     ensures sink { OnErr result (K.taken sink.new ≡ K.taken sink.old) }
     ensures left { OnErr result (left.new ≡ left.old) }
     ensures addons { OnErr result (addons.new.items ≡ addons.old.items) }
+    ensures unread { is_run_words words.now ≡ false → S.left source.new ≡ S.left source.old }
+    ensures uncounted { is_run_words words.now ≡ false → S.faults source.new ≡ S.faults source.old }
+    ensures counted_reads { result ≢ Err Line.ReadFault → S.faults source.new ≡ S.faults source.old }
+    ensures counted_writes { result ≡ Ok Written.Whole → K.faults sink.new ≡ K.faults sink.old }
+    ensures front { GaveFront (S.left source.old) (S.left source.new) }
     ensures reading { S.faults source.old ≤ S.faults source.new }
     ensures writing { K.faults sink.old ≤ K.faults sink.new }
 {
@@ -156,7 +168,7 @@ fn attempt<S: Source, K: Sink>(
 /// other status a line stands in place of the trace and `left` is as it was: 2 where the words are no command line, 3
 /// where the bytes are no JSON text, no script, a script of which something is not built, or one with more addons than
 /// were handed in, 4 where the source failed, 7 where it gave more than 4,194,304 bytes, and 6 for want of memory, which may
-/// come in place of 0, 3, 4, 5 and 7. `gate` and `rt` serve threads, which no script that is built has.
+/// come in place of 0, 3, 5 and 7. `gate` and `rt` serve threads, which no script that is built has.
 pub fn host<R: Threads + Wait + Sync, S: Source, K: Sink, G: Gate>(
     rt: &R,
     alloc: Global,
@@ -185,6 +197,11 @@ pub fn host<R: Threads + Wait + Sync, S: Source, K: Sink, G: Gate>(
     ensures left { ¬ IsRunStatus result → left.new ≡ left.old }
     ensures addons { ¬ IsRunStatus result → addons.new.items ≡ addons.old.items }
 
+    // Nothing is read where the words are no command line, and else no more than a front of what the source has left.
+    ensures unread { is_run_words words.now ≡ false → S.left source.new ≡ S.left source.old }
+    ensures uncounted { is_run_words words.now ≡ false → S.faults source.new ≡ S.faults source.old }
+    ensures front { GaveFront (S.left source.old) (S.left source.new) }
+
     // The same, status by status.
     ensures usage { (result ≡ 2) ↔ (is_run_words words.now ≡ false) }
     ensures no_script { result ≡ 3 → GaveRefused (S.left source.old) (S.left source.new) (length addons.old.items) }
@@ -192,10 +209,17 @@ pub fn host<R: Threads + Wait + Sync, S: Source, K: Sink, G: Gate>(
     ensures write_fault { result ≡ 5 → HasRisen (K.faults sink.old) (K.faults sink.new) }
     ensures too_long { result ≡ 7 → GaveTooMuch (S.left source.old) (S.left source.new) }
 
-    // Where nothing is in the way of a run but want of memory, the run is made and its whole trace is written, or there was no memory.
-    ensures complete { let handed = length addons.old.items in
-        IsRunnable words.now (S.left source.old) (S.faults source.old) (S.faults source.new) (K.faults sink.old) (K.faults sink.new) handed
-        → IsRunOrNoMemory result }
+    // Each fault is told: of a read always, of a write where a trace was written.
+    ensures read_fault_told { S.faults source.new ≢ S.faults source.old → result ≡ 4 }
+    ensures write_fault_told { IsRunStatus result → K.faults sink.new ≢ K.faults sink.old → result ≡ 5 }
+
+    // Where no read failed, the bytes that the source has say the status, or there was no memory: 7, else 3, else 0 or 5.
+    ensures too_long_told { (bytes : List ℕ) → IsRead words.now (S.left source.old) (S.faults source.old) (S.faults source.new) bytes
+        → IsTooLong bytes → (result ≡ 7) ⊎ (result ≡ 6) }
+    ensures refused_told { (bytes : List ℕ) → IsRead words.now (S.left source.old) (S.faults source.old) (S.faults source.new) bytes
+        → IsRefused bytes (length addons.old.items) → (result ≡ 3) ⊎ (result ≡ 6) }
+    ensures complete { (bytes : List ℕ) → IsRead words.now (S.left source.old) (S.faults source.old) (S.faults source.new) bytes
+        → IsRunnable bytes (length addons.old.items) → IsRunStatus result ⊎ (result ≡ 6) }
     ensures reading { S.faults source.old ≤ S.faults source.new }
     ensures writing { K.faults sink.old ≤ K.faults sink.new }
 {

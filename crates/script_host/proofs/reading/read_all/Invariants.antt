@@ -7,7 +7,7 @@ use Rattle.script_host.proofs.reading.read_all.Given as goal
 abbrev pub invariant-loop-piece : goal.invariant-loop-piece
 invariant-loop-piece g l = record {
   within : vec_len l.bytes ≤ longest_source + 1;
-  later : g.S.Source.faults l.fn.source ≤ g.S.Source.faults l.source;
+  counted : g.S.Source.faults l.source ≡ g.S.Source.faults l.fn.source;
   taken : g.S.Source.left l.fn.source ≡ prepend_known l.bytes.items (g.S.Source.left l.source);
 }
 
