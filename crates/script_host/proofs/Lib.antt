@@ -1,5 +1,6 @@
 pub mod Complete
 pub mod Hosts
 pub mod Loading
+pub mod OneKind
 pub mod Pieces
 pub mod Small

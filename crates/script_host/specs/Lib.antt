@@ -1,4 +1,5 @@
 pub mod Host
+pub mod HostLaws
 pub mod Loading
 pub mod Reading
 pub mod Standard

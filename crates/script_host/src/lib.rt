@@ -3,11 +3,13 @@
 //! machine's runs and the two lists that a run leaves. The program stands above it.
 #![tactic(auto)]
 
+mod laws;
 mod reading;
 mod running;
 mod standard;
 mod top_call;
 mod words;
 
+pub use laws::bytes_are_of_one_kind;
 pub use standard::{StdSink, StdSource};
 pub use top_call::host;
