@@ -76,6 +76,8 @@ fn run<R: Env + AllocGlobal + Input + Print + Threads + Wait + Sync>(rt: &R) -> 
         let addon = Box::new(alloc, ScriptAddon::blank(alloc)).map_err(|_| Unable::NoMemory)?;
         addons.push(addon).map_err(|_| Unable::NoMemory)?;
     }
+    let handed = addons.len();
+    prove!(handed == ADDONS);
     let mut source = StdSource::new(rt.reader());
     let mut sink = StdSink::new(io::writer(rt));
     let mut left = Record::blank(alloc);
