@@ -1,5 +1,8 @@
-//! Faults at each call of a source and of a sink.
+//! Faults at each call of a source and of a sink, and how many calls of a source are made.
+ghost use Rattle.std.specs.Prelude.{Some};
+
 use super::*;
+use napi_types::{Failed, SafeSink};
 
 /// A case of a source that fails.
 const READ_FAULT: Case = Case {
@@ -95,5 +98,101 @@ fn leaves_a_front_of_the_trace_at_each_fault_of_the_sink(rt: HostRuntime) -> Res
         }
     }
     assert!(rt; false, "no call is the last one");
+    Ok(())
+}
+
+/// A source that counts the calls of it.
+#[derive(Drop)]
+struct Counting {
+    source: MemSource,
+    calls: usize,
+}
+
+impl Source for Counting {
+    ghost left = { λ counting. Some counting.source.left };
+
+    ghost faults = { λ counting. counting.source.calls.faults };
+
+    fn read(&mut self, into: &mut [u8]) -> Result<usize, Failed> {
+        self.calls = self.calls.saturating_add(1);
+        self.source.read(into)
+    }
+}
+
+/// A source that three reads give whole, and the next one its end.
+const LONGER: Case = Case {
+    length: 10_240,
+    ..PLAIN
+};
+
+/// A case with such a source, and how many calls of the source are made.
+const CALLS: &[(Case, usize)] = &[
+    (LONGER, 4),
+    // After a fault there is no further call.
+    (
+        Case {
+            reads: &[0],
+            status: 4,
+            ..LONGER
+        },
+        1,
+    ),
+    (
+        Case {
+            reads: &[1],
+            status: 4,
+            ..LONGER
+        },
+        2,
+    ),
+    (
+        Case {
+            reads: &[2],
+            status: 4,
+            ..LONGER
+        },
+        3,
+    ),
+    // After the byte that is one too many there is none.
+    (
+        Case {
+            length: LONGEST + 5_000,
+            status: 7,
+            ..LONGER
+        },
+        1_025,
+    ),
+    // Where the words are no command line there is none at all.
+    (
+        Case {
+            words: &[],
+            reads: &[0],
+            status: 2,
+            ..LONGER
+        },
+        0,
+    ),
+];
+
+/// The status of a case, and how many calls of its source were made.
+fn calls_of<R: Threads + Wait + Sync>(
+    rt: &R,
+    alloc: Global,
+    case: &Case,
+) -> Result<(u8, usize), Fail> {
+    let words = texts_of(alloc, case.words)?;
+    let bytes = padded(alloc, case.script, case.length)?;
+    let source = source_of(alloc, bytes, case.reads)?;
+    let mut counting = Counting { source, calls: 0 };
+    let mut sink = SafeSink;
+    let status = ended(rt, alloc, &words, &mut counting, &mut sink, case.handed)?;
+    Ok((status, counting.calls))
+}
+
+#[test]
+fn makes_no_call_of_a_source_after_a_fault(rt: HostRuntime) -> Result<(), Fail> {
+    for (case, calls) in CALLS {
+        assert_eq!(rt; calls_of(&rt, rt.alloc(), case)?, (case.status, *calls));
+    }
     Ok(())
 }
