@@ -11,6 +11,7 @@ use std::thread::Threads;
 mod faults;
 mod lengths;
 mod standard;
+mod told;
 mod unplanned;
 mod words;
 
@@ -82,6 +83,30 @@ fn padded(alloc: Global, text: &[u8], length: usize) -> Result<Vec<u8>, Fail> {
 fn source_of(alloc: Global, bytes: Vec<u8>, failing: &[u64]) -> Result<MemSource, Fail> {
     let failing = Vec::from_slice(alloc, failing)?;
     Ok(MemSource::of(bytes, failing))
+}
+
+/// The status of a run of a script with these addons, whose text the sink takes.
+fn status_with<R: Threads + Wait + Sync>(
+    rt: &R,
+    alloc: Global,
+    script: &[u8],
+    addons: &mut Vec<Box<dyn Addon>>,
+    sink: &mut MemSink,
+    left: &mut Record,
+) -> Result<u8, Fail> {
+    let words = texts_of(alloc, &["run"])?;
+    let bytes = Vec::from_slice(alloc, script)?;
+    let mut source = source_of(alloc, bytes, &[])?;
+    Ok(host(
+        rt,
+        alloc,
+        &words,
+        &mut source,
+        sink,
+        &OpenGate,
+        addons,
+        left,
+    ))
 }
 
 /// The status of a run with so many addons that follow their script.

@@ -64,24 +64,12 @@ fn status_without_plan<R: Threads + Wait + Sync>(
     sink: &mut MemSink,
     left: &mut Record,
 ) -> Result<u8, Fail> {
-    let words = texts_of(alloc, &["run"])?;
-    let bytes = Vec::from_slice(alloc, script)?;
-    let mut source = source_of(alloc, bytes, &[])?;
     let mut addons: Vec<Box<dyn Addon>> = Vec::new(alloc);
     for _ in 0..3 {
         let registers = [7; 32];
         addons.push(Box::new(alloc, Unplanned { registers, way })?)?;
     }
-    Ok(host(
-        rt,
-        alloc,
-        &words,
-        &mut source,
-        sink,
-        &OpenGate,
-        &mut addons,
-        left,
-    ))
+    status_with(rt, alloc, script, &mut addons, sink, left)
 }
 
 /// A line of a trace without its number and actor, and how many times it comes in a row.
