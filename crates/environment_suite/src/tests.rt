@@ -47,6 +47,8 @@ enum Act {
     Left(Option<HandleId>, Status, Told),
     /// The end of the innermost frame, which is cut for want of memory: its status.
     Cut(Status),
+    /// The same for want of room.
+    CutFull(Status),
     /// The next addon's init frame begins.
     Begun,
     /// So many frames stand.
@@ -99,6 +101,7 @@ fn told(out: Out) -> Told {
         Out::Ref(reference) => ("reference", reference.0),
         Out::Uncaught => ("uncaught", 0),
         Out::Cut(Why::Memory) => ("cut for memory", 0),
+        Out::Cut(Why::Full) => ("cut for room", 0),
         _ => ("other", 0),
     }
 }
@@ -161,6 +164,7 @@ fn found(core: &mut EnvCore, act: &Act) -> Result<Found, Fail> {
         }
         Act::Left(value, _, _) => left(core, *value, None),
         Act::Cut(_) => left(core, None, Some(Why::Memory)),
+        Act::CutFull(_) => left(core, None, Some(Why::Full)),
         Act::Begun => begin_next(core),
         Act::Depth(_) => Ok((Status::Ok, ("depth", core.depth() as u64), NO_GIFTS)),
         Act::Journal(_) => Ok((
@@ -182,6 +186,7 @@ fn expected(act: &Act) -> Found {
         Act::Full(_) => (Status::TraceFull, ("stop", 0), NO_GIFTS),
         Act::Left(_, status, result) => (*status, *result, NO_GIFTS),
         Act::Cut(status) => (*status, ("cut for memory", 0), NO_GIFTS),
+        Act::CutFull(status) => (*status, ("cut for room", 0), NO_GIFTS),
         Act::Depth(depth) => (Status::Ok, ("depth", *depth as u64), NO_GIFTS),
         Act::Journal(length) => (Status::Ok, ("journal", *length as u64), NO_GIFTS),
     }

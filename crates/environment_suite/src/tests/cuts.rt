@@ -10,7 +10,7 @@ const FULL: [Act; 7] = [
     Act::Journal(3),
     Act::Full(Call::GetUndefined),
     Act::Journal(3),
-    Act::Cut(Status::Ok),
+    Act::CutFull(Status::Ok),
     Act::Journal(4),
 ];
 
