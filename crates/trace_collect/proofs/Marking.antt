@@ -1,15 +1,15 @@
 -- Marks that are set one after another.
-use Rattle.std.proofs.Common.{◌≡◌, ℕ, ◌+◌, ◌*◌, ◌<◌, ◌⊎◌, inl, inr, Bool, true, false, cond, not, List, [], ◌∷◌, ◌++◌, length, take, get_or, count_by, replicate, Option, Some, None, slice_index_or, refl, ap, sym, subst, ◌∙◌, arith}
-use Rattle.std.specs.List.{All, filter_map}
-use Rattle.std.specs.Option.{option_to_list}
+use Rattle.std.proofs.Common.{◌≡◌, ℕ, ◌+◌, ◌*◌, ◌<◌, ◌⊎◌, inl, inr, Bool, true, false, cond, not, List, [], ◌∷◌, ◌++◌, length, take, get_or, count_by, replicate, Some, slice_index, refl, ap, sym, subst, ◌∙◌, arith}
+use Rattle.std.specs.List.{All}
 use Rattle.std.proofs.lemmas.List.{get_or-map, length-map, take_more}
-use Rattle.std.proofs.lemmas.List.Elements.{All-nil, All-append, All-weaker, filter_map-append}
+use Rattle.std.proofs.lemmas.List.Elements.{All-nil, All-append, All-weaker}
 use Rattle.std.proofs.lemmas.List.Folds.{sum_by-replicate}
 use Rattle.napi_types.specs.declared.ids.ValueId.{ValueId}
-use Rattle.napi_types.specs.Lists.{has_number}
+use Rattle.napi_types.specs.Lists.{has_number, HaveSameNumbers}
 use Rattle.napi_types.specs.Graph.{StoreState}
 use Rattle.value_store.specs.Changes.{id_at, numbers_of}
 use Rattle.value_store.proofs.Clearing.{numbers_of-more}
+use Rattle.value_store.proofs.Naming.{All-has, All-from_has}
 use Rattle.trace_collect.specs.Marks.{is_marked, IsMarked, Marks}
 use Rattle.trace_collect.proofs.Members.{has-left, has-right}
 
@@ -68,21 +68,29 @@ marks-next s ids i d a b c k l m less before more =
     subst (λ ns. Marks s ns a k c m) (sym (numbers_of-more ids i d less)) (marks-then s (numbers_of (take i ids)) ((get_or ids i d).0 ∷ []) a b c k l m before more)
 
 -- one child more
-pub children-next : (s : StoreState) (es : List (Option ℕ)) (at : ℕ) (e : Option ℕ) (a b c : List Bool) (k l m : List ℕ) → at < length es → e ≡ slice_index_or es at None
-    → Marks s (filter_map (λ child. child) (take at es)) a k b l → Marks s (option_to_list e) b l c m → Marks s (filter_map (λ child. child) (take (at + 1) es)) a k c m
-children-next s es at e a b c k l m less is before more =
-    subst (λ ns. Marks s ns a k c m) (sym (more-places es at e less is)) (marks-then s (filter_map (λ child. child) (take at es)) (option_to_list e) a b c k l m before more)
-  where
-    one : (e : Option ℕ) → filter_map (λ (child : Option ℕ). child) (e ∷ []) ≡ option_to_list e
-    one None = refl
-    one (Some n) = refl
+pub child-next : (s : StoreState) (ns : List ℕ) (i n : ℕ) (a b c : List Bool) (k l m : List ℕ) → i < length ns → n ≡ slice_index ns i
+    → Marks s (take i ns) a k b l → Marks s (n ∷ []) b l c m → Marks s (take (i + 1) ns) a k c m
+child-next s ns i n a b c k l m less is before more =
+    subst (λ js. Marks s js a k c m) (ap (λ j. take i ns ++ j ∷ []) is ∙ sym (take_more ns i 0 less)) (marks-then s (take i ns) (n ∷ []) a b c k l m before more)
 
-    more-places : (es : List (Option ℕ)) (at : ℕ) (e : Option ℕ) → at < length es → e ≡ slice_index_or es at None → filter_map (λ child. child) (take (at + 1) es) ≡ filter_map (λ child. child) (take at es) ++ option_to_list e
-    more-places es at e less is =
-        ap (filter_map (λ (child : Option ℕ). child)) (take_more es at None less)
-        ∙ filter_map-append (λ (child : Option ℕ). child) (take at es) (get_or es at None ∷ [])
-        ∙ ap (λ o. filter_map (λ (child : Option ℕ). child) (take at es) ++ filter_map (λ (child : Option ℕ). child) (o ∷ [])) (sym is)
-        ∙ ap (λ l. filter_map (λ (child : Option ℕ). child) (take at es) ++ l) (one e)
+-- marks tell the numbers of a list alone
+pub marks-same : (s : StoreState) (ms ns : List ℕ) (a b : List Bool) (k l : List ℕ) → HaveSameNumbers ms ns → Marks s ms a k b l → Marks s ns a k b l
+marks-same s ms ns a b k l same marks = record {
+  marked = All-from_has (IsMarked s b) ns (λ n h. All-has (IsMarked s b) ms n marks.marked (same n ∙ h));
+  kept = marks.kept;
+  added = λ place id at h. by-added place id (marks.added place id at h);
+  waits = marks.waits;
+  left = λ id h. by-left id (marks.left id h);
+  room = marks.room;
+}
+  where
+    by-added : (place id : ℕ) → (is_marked a place ≡ true) ⊎ ((has_number id ms ≡ true) × (has_number id l ≡ true)) → (is_marked a place ≡ true) ⊎ ((has_number id ns ≡ true) × (has_number id l ≡ true))
+    by-added place id (inl h) = inl h
+    by-added place id (inr h) = inr (sym (same id) ∙ h.0, h.1)
+
+    by-left : (id : ℕ) → (has_number id k ≡ true) ⊎ (has_number id ms ≡ true) → (has_number id k ≡ true) ⊎ (has_number id ns ≡ true)
+    by-left id (inl h) = inl h
+    by-left id (inr h) = inr (sym (same id) ∙ h)
 
 -- where nothing is marked, all places are unmarked
 pub count-none : (many : ℕ) → count_by not (replicate many false) ≡ many

@@ -1,8 +1,7 @@
 -- Which numbers stand in a list.
-use Rattle.std.proofs.Common.{◌≡◌, ℕ, ◌==◌, ◌⊎◌, inl, inr, true, false, List, [], ◌∷◌, ◌++◌, map, Option, Some, None, refl, ap, sym, subst, ◌∙◌}
-use Rattle.std.specs.List.{All, filter_map, cons_option}
+use Rattle.std.proofs.Common.{◌≡◌, ℕ, ◌==◌, ◌⊎◌, inl, inr, true, false, List, [], ◌∷◌, ◌++◌, map, Option, Some, None, refl, ap, sym, ◌∙◌}
+use Rattle.std.specs.List.{filter_map, cons_option}
 use Rattle.std.proofs.lemmas.Bool.{eqb-true, eq-eqb, or_cases, or_left, or_right}
-use Rattle.std.proofs.lemmas.List.Elements.{All-nil, All-cons, All-head, All-tail}
 use Rattle.std.proofs.lemmas.List.Folds.{list_any-append}
 use Rattle.napi_types.specs.Lists.{has_number}
 
@@ -18,19 +17,6 @@ has-cases n xs ys h = or_cases (has_number n xs) (has_number n ys) (sym (list_an
 
 pub has-one : (n m : ℕ) → has_number n (m ∷ []) ≡ true → m ≡ n
 has-one n m h = elim (or_cases (m == n) false h) [ inl same ↦ eqb-true m n same | inr none ↦ let z : ⊥ = cc in absurd z ]
-
--- what holds of all numbers of a list holds of each
-pub All-has : (P : ℕ → Type 0) (xs : List ℕ) (n : ℕ) → All P xs → has_number n xs ≡ true → P n
-All-has P [] n all h = let no : ⊥ = cc in absurd no
-All-has P (x ∷ xs) n all h =
-    elim (or_cases (x == n) (has_number n xs) h) [
-      | inl same ↦ subst P (eqb-true x n same) (All-head P x xs all)
-      | inr later ↦ All-has P xs n (All-tail P x xs all) later
-    ]
-
-pub All-from_has : (P : ℕ → Type 0) (xs : List ℕ) → ((n : ℕ) → has_number n xs ≡ true → P n) → All P xs
-All-from_has P [] h = All-nil P
-All-from_has P (x ∷ xs) h = All-cons P x xs (h x (or_left (x == x) (has_number x xs) (eq-eqb x x refl))) (All-from_has P xs (λ n k. h n (or_right (x == n) (has_number n xs) k)))
 
 -- the image of a list has the images of its numbers, and no others
 pub has-map : (f : ℕ → ℕ) (xs : List ℕ) (n : ℕ) → has_number n xs ≡ true → has_number (f n) (map f xs) ≡ true

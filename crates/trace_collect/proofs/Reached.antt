@@ -1,6 +1,6 @@
 -- What is marked is what the roots reach.
 use Rattle.std.proofs.Common.{◌≡◌, ℕ, zero, suc, ◌⊎◌, inl, inr, Bool, true, false, List, [], ◌∷◌, ◌++◌, map, replicate, Option, Some, None, is_some, option_map, refl, ap, sym, subst, ◌∙◌, arith}
-use Rattle.std.specs.List.{All, filter_map}
+use Rattle.std.specs.List.{All}
 use Rattle.std.specs.Option.{unwrap_or}
 use Rattle.std.proofs.lemmas.List.Elements.{All-weaker}
 use Rattle.napi_types.specs.Lists.{has_number}
@@ -8,18 +8,18 @@ use Rattle.napi_types.specs.Reach.{numbers, children_at}
 use Rattle.napi_types.specs.Values.{Value, children, value_at}
 use Rattle.napi_types.specs.Graph.{StoreState, IsLive, IsSoundStore, value_of, number_in, graph_of}
 use Rattle.napi_types.proofs.Reaching.{reach-roots, reach-closed, reach-least}
-use Rattle.value_store.specs.Changes.{id_at, child_places, EachStandsOnce}
-use Rattle.value_store.proofs.Children.{children-places}
+use Rattle.value_store.specs.Changes.{id_at, children_in, EachStandsOnce}
 use Rattle.value_store.proofs.LiveValues.{has-numbers, place-live, live-place, graph-live, live-graph, number-apart, graph-children}
 use Rattle.value_store.proofs.Reading.{some-is}
+use Rattle.value_store.proofs.Naming.{All-has}
 use Rattle.trace_collect.specs.Collects.{reached}
-use Rattle.trace_collect.specs.Marks.{is_marked, children_in, IsMarked, AreMarked, Marks, IsMarking}
-use Rattle.trace_collect.proofs.Members.{has-left, has-right, has-cases, has-one, has-map, from-map, All-has}
+use Rattle.trace_collect.specs.Marks.{is_marked, IsMarked, AreMarked, Marks, IsMarking}
+use Rattle.trace_collect.proofs.Members.{has-left, has-right, has-cases, has-one, has-map, from-map}
 use Rattle.trace_collect.proofs.Marking.{marked-kept}
 
 -- the children of a live value
 children-in : (s : StoreState) (id : ℕ) (v : Value) → value_of s id ≡ Some v → children_in s id ≡ children v
-children-in s id v is = ap (λ (o : Option Value). filter_map (λ child. child) (unwrap_or (option_map child_places o) [])) is ∙ sym (children-places v)
+children-in s id v is = ap (λ (o : Option Value). unwrap_or (option_map children o) []) is
 
 -- where nothing is marked, no place is
 none-marked : (many place : ℕ) → is_marked (replicate many false) place ≡ true → ⊥

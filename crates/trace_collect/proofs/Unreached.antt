@@ -18,10 +18,11 @@ use Rattle.value_store.specs.Changes.{id_at, numbers_of, EachStandsOnce, CanFree
 use Rattle.value_store.proofs.LiveValues.{in-range, place-live, live-place, graph-live, live-graph, number-apart, number-value, graph-children, graph-distinct}
 use Rattle.value_store.proofs.Properties.{same-flip}
 use Rattle.value_store.proofs.Reading.{some-is}
+use Rattle.value_store.proofs.Naming.{All-from_has}
 use Rattle.trace_collect.specs.Collects.{reached, HoldsStarting, IsUnreached, AreUnreached}
 use Rattle.trace_collect.specs.Marks.{is_marked, unmarked_ids, AreMarked}
 use Rattle.trace_collect.proofs.Distinct.{same-length, distinct-filter, distinct-map, distinct-range}
-use Rattle.trace_collect.proofs.Members.{has-map, from-map, has-filter_map, from-filter_map, All-from_has}
+use Rattle.trace_collect.proofs.Members.{has-map, from-map, has-filter_map, from-filter_map}
 use Rattle.trace_collect.proofs.Unmarked.{unmarked_at}
 
 -- a place with a value is one of the store's

@@ -3,7 +3,7 @@ use Rattle.std.specs.Prelude.{◌≡◌, ◌⊎◌, ℕ, ◌+◌, Bool, true, fa
 use Rattle.std.specs.List.{All, range_with_len}
 use Rattle.napi_types.specs.Graph.{StoreState, IsLive, number_in}
 use Rattle.napi_types.specs.Lists.{has_number}
-use Rattle.value_store.specs.Changes.{id_at, child_places_in}
+use Rattle.value_store.specs.Changes.{id_at, children_in}
 use Rattle.trace_collect.specs.Collects.{reached}
 
 -- the place is marked
@@ -21,10 +21,6 @@ AreMarked s roots marks = (place id : ℕ) → id_at s place ≡ Some id → is_
 -- the numbers of the values at the first so many places, without those that are marked
 abbrev pub unmarked_ids : StoreState → List Bool → ℕ → List ℕ
 unmarked_ids s marks many = filter_map (λ place. if is_marked marks place then None else id_at s place) (range_with_len 0 many)
-
--- the children of the value of a number
-abbrev pub children_in : StoreState → ℕ → List ℕ
-children_in s id = filter_map (λ child. child) (child_places_in s id)
 
 -- the values of these numbers are marked, and beside them only what was; each that was not is added to those that are left to follow
 pub record Marks (s : StoreState) (ids : List ℕ) (old : List Bool) (old_left : List ℕ) (new : List Bool) (new_left : List ℕ) : Type 0 where

@@ -17,8 +17,8 @@ use value_store::Store;
 /// starting values are among them.
 ///
 /// All memory is taken before the first value is freed: a place for each place of the store, to mark it and to follow its
-/// value, and the list. The time is linear in the places, the roots, and the properties and elements of what is reached and of
-/// what is freed, beside the sort of the list. A chain of values may be of any length: nothing recurs.
+/// value, and the list. The time is linear in the places, the roots, and the properties and elements that were set of what is
+/// reached and of what is freed, beside the sort of the list. A chain of values may be of any length: nothing recurs.
 pub fn collect(
     alloc: Global,
     store: &mut Store,

@@ -2,8 +2,8 @@
 ghost use Rattle.std.specs.Prelude.{◌≡◌, ◌+◌, ◌≤◌, ◌++◌, [], ◌∷◌, not, count_by, length, replicate, false, vec_capacity, IfOk, OnOk, option_to_list};
 ghost use Rattle.std.specs.List.{All};
 ghost use Rattle.napi_types.specs.Graph.{IsLive, IsSoundStore};
-ghost use Rattle.value_store.specs.Changes.{numbers_of, EachStandsOnce};
-ghost use Rattle.trace_collect.specs.Marks.{unmarked_ids, children_in, AreMarked, Marks, Follows};
+ghost use Rattle.value_store.specs.Changes.{children_in, numbers_of, EachStandsOnce};
+ghost use Rattle.trace_collect.specs.Marks.{unmarked_ids, AreMarked, Marks, Follows};
 
 use napi_types::{NoMemory, ValueId};
 use std::alloc::Global;
@@ -103,10 +103,9 @@ fn mark_children(store: &Store, id: ValueId, marks: &mut [bool], left: &mut Vec<
     ensures marked { Marks store.now (children_in store.now id.0) marks.old (numbers_of left.old.items) marks.new (numbers_of left.new.items) }
     ensures capacity { vec_capacity left.new ≡ vec_capacity left.old }
 {
-    for at in 0..store.child_places(id) {
-        if let Some(child) = store.child_at(id, at) {
-            mark(store, child, marks, left);
-        }
+    let children = store.children(id);
+    for place in 0..children.len() {
+        mark(store, children.at(place), marks, left);
     }
 }
 

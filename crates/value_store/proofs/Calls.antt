@@ -13,7 +13,7 @@ use Rattle.napi_types.specs.Graph.{StoreState, value_of, creation_number}
 use Rattle.napi_types.proofs.Issued.{above-up_to, has-up_to}
 use Rattle.value_store.specs.Places.{state_of, at_number, changed_at, IsNumbered, IsCleared}
 use Rattle.value_store.specs.Changes.{ChangesOnly, Makes, MakesValue, Frees, CanFree}
-use Rattle.value_store.proofs.Children.{children-with_property, children-without_property, children-with_element}
+use Rattle.value_store.proofs.Naming.{children-with_property, children-without_property, children-with_element}
 use Rattle.value_store.proofs.Lookup.{value_of-state_of, at_number-push, same-number, apart-number, apart-below}
 use Rattle.value_store.proofs.Names.{distinct-property_set, distinct-property_removed, distinct-none}
 use Rattle.value_store.proofs.Properties.{same-flip}

@@ -8,7 +8,7 @@ use Rattle.napi_types.specs.Values.{Value, children, value_at, value_changed}
 use Rattle.napi_types.specs.Properties.{Property}
 use Rattle.napi_types.specs.Graph.{Stored, live, value_of, number_in, renamed, graph_of}
 use Rattle.value_store.specs.Places.{state_of, stored_as, at_number, IsNumbered, IsCleared}
-use Rattle.value_store.proofs.Children.{left, right, to_options}
+use Rattle.value_store.proofs.Naming.{left, right, to_options}
 use Rattle.value_store.proofs.Lookup.{value_of-state_of, apart-above, apart-below, same-number}
 
 -- the values that stand in the list

@@ -1,6 +1,5 @@
 pub mod Callers
 pub mod Calls
-pub mod Children
 pub mod Clearing
 pub mod Elements
 pub mod Errors
@@ -10,6 +9,7 @@ pub mod Listing
 pub mod LiveValues
 pub mod Lookup
 pub mod Names
+pub mod Naming
 pub mod Properties
 pub mod Reading
 pub mod Starting

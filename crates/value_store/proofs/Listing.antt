@@ -6,8 +6,6 @@ use Rattle.std.proofs.lemmas.List.Elements.{filter_map-append}
 use Rattle.std.proofs.lemmas.List.FromFn.{get_or-range_with_len, length-range_with_len}
 use borrow.Author.Tests.{eqb-true}
 use Rattle.napi_types.specs.declared.body.Body.{Body}
-use Rattle.napi_types.specs.declared.body.Body.TheVariants as body
-use Rattle.napi_types.specs.declared.ids.ValueId.{ValueId}
 use Rattle.napi_types.specs.Lists.{has_number, up_to}
 use Rattle.napi_types.specs.Values.{Value, fresh_value, children}
 use Rattle.napi_types.specs.NewValues.{made_after, array_of, list_of}
@@ -15,7 +13,6 @@ use Rattle.napi_types.specs.Graph.{StoreState, graph_of}
 use Rattle.napi_types.proofs.Issued.{above-up_to, has-up_to}
 use Rattle.value_store.specs.Places.{state_of, at_number, IsNumbered}
 use Rattle.value_store.specs.Changes.{MakesList}
-use Rattle.value_store.specs.Properties.{listed_elements, elements_named}
 use Rattle.value_store.proofs.Lookup.{value_of-state_of, at_number-push, apart-below, same-number}
 use Rattle.value_store.proofs.Names.{distinct-none}
 use Rattle.value_store.proofs.States.{given}
@@ -52,15 +49,6 @@ each-turn olds now next n i m bs d w pushed before value number less =
     ∙ ap (λ v. (olds ++ map Some (made_after n (take i bs))) ++ Some v ∷ []) (value ∙ ap (λ k. fresh_value (k + 1) (get_or bs i d)) number)
     ∙ append_assoc olds (map Some front) (Some (fresh_value (n + i + 1) b) ∷ [])
     ∙ ap (λ l. olds ++ l) (sym (map-append Some front (fresh_value (n + i + 1) b ∷ [])) ∙ ap (map Some) more)
-
--- the elements are the numbers that they were made of
-listed_elements-named : (ns : List ℕ) → listed_elements (elements_named ns) ≡ map Some ns
-listed_elements-named [] = refl
-listed_elements-named (n ∷ ns) = ap (λ l. Some n ∷ l) (listed_elements-named ns)
-
-pub length-named : (a n : ℕ) → length (elements_named (range_with_len a n)) ≡ n
-length-named a zero = refl
-length-named a (suc n) = ap suc (length-named (a + 1) n)
 
 -- A LIST IN ORDER WITH MORE VALUES
 pub each-numbered : (ps : List (Option Value)) (bs : List Body) → IsNumbered (at_number ps) → IsNumbered (at_number (ps ++ map Some (made_after (length ps) bs)))
@@ -106,19 +94,6 @@ list-parts ps bs =
 
 pub length-each : (ps : List (Option Value)) (bs : List Body) → length (ps ++ map Some (made_after (length ps) bs)) ≡ length ps + length bs
 length-each ps bs = length-append ps (map Some (made_after (length ps) bs)) ∙ ap (λ n. length ps + n) (length-map (made_after (length ps) bs) Some ∙ length-made_after (length ps) bs)
-
--- the steps that make them, one after another
-pub list-done : (ps rs qs ts : List (Option Value)) (bs : List Body) (w : Value) (m k : ℕ) (es : List (Option ValueId)) → rs ≡ ps → qs ≡ rs ++ map Some (made_after (length rs) bs) → ts ≡ qs ++ Some w ∷ []
-    → w ≡ record { number = m + 1; body = body.Object true false; properties = []; elements = listed_elements es } → es ≡ elements_named (range_with_len (k + 1) (length bs)) → m ≡ length qs → k ≡ length ps → ts ≡ ps ++ map Some (list_of (length ps) bs)
-list-done ps rs qs ts bs w m k es reserved each pushed value named last first =
-    let made : qs ≡ ps ++ map Some (made_after (length ps) bs) = each ∙ ap (λ l. l ++ map Some (made_after (length l) bs)) reserved in
-    let many : m ≡ length ps + length bs = last ∙ ap length made ∙ length-each ps bs in
-    let elements : listed_elements es ≡ map Some (range_with_len (length ps + 1) (length bs)) =
-    ap listed_elements named ∙ listed_elements-named (range_with_len (k + 1) (length bs)) ∙ ap (λ n. map Some (range_with_len (n + 1) (length bs))) first in
-    let array : ℕ → List (Option ℕ) → Value = λ n l. record { number = n + 1; body = body.Object true false; properties = []; elements = l } in
-    pushed ∙ ap (λ l. l ++ Some w ∷ []) made
-    ∙ ap (λ v. (ps ++ map Some (made_after (length ps) bs)) ++ Some v ∷ []) (value ∙ ap (λ n. array n (listed_elements es)) many ∙ ap (array (length ps + length bs)) elements)
-    ∙ sym (list-parts ps bs)
 
 pub list-numbered : (ps : List (Option Value)) (bs : List Body) → IsNumbered (at_number ps) → IsNumbered (at_number (ps ++ map Some (list_of (length ps) bs)))
 list-numbered ps bs all =

@@ -1,5 +1,5 @@
 -- Laws on the map from names to values as a list of properties.
-use Rattle.std.proofs.Common.{◌≡◌, ◌==◌, nat_eq, Bool, true, false, cond, not, List, [], ◌∷◌, ◌++◌, map, Option, Some, None, option_map, is_some, slice_get, slice_index_or, refl, ap, sym, arith, if◌then◌else◌, ℕ, zero, suc}
+use Rattle.std.proofs.Common.{◌≡◌, ◌==◌, nat_eq, Bool, true, false, cond, not, List, [], ◌∷◌, map, Option, Some, None, option_map, is_some, refl, ap, sym, arith, if◌then◌else◌, ℕ}
 use Rattle.std.specs.List.{IsDistinct, AllByRecursion}
 use Rattle.std.specs.Map.{keys_of, lookup, remove_entry}
 use Rattle.std.proofs.lemmas.Map.Keys.{IsDistinct-head, IsDistinct-tail}
@@ -56,9 +56,3 @@ distinct_names es h = rw (names es) h
 pub is_some-option_map : {A B : Type 0} (f : A → B) (o : Option A) → is_some (option_map f o) ≡ is_some o
 is_some-option_map f None = refl
 is_some-option_map f (Some x) = refl
-
--- the entry at a place is the property whose value is the child there
-pub child_places-property : (es : List (ℕ × ValueId)) (elements : List (Option ℕ)) (at : ℕ) (e : ℕ × ValueId) → Some e ≡ slice_get es at → slice_index_or (map (λ (p : Property). Some p.value) (listed_properties es) ++ elements) at None ≡ Some e.1.0
-child_places-property [] elements at e is = let no : ⊥ = cc in absurd no
-child_places-property (x ∷ es) elements zero e is = let same : e ≡ x = cc in ap (λ (y : ℕ × ValueId). Some y.1.0) (sym same)
-child_places-property (x ∷ es) elements (suc at) e is = child_places-property es elements at e is

@@ -3,16 +3,18 @@ use Rattle.std.proofs.Common.{◌≡◌, ℕ, zero, suc, ◌+◌, ◌-◌, ◌<�
 use Rattle.std.specs.List.{All}
 use Rattle.std.specs.Option.{unwrap_or}
 use Rattle.std.proofs.lemmas.List.{length-map}
+use Rattle.std.proofs.lemmas.List.Elements.{All-nil}
 use Rattle.napi_types.specs.declared.ids.ValueId.{ValueId}
+use Rattle.napi_types.specs.Lists.{HaveSameNumbers}
 use Rattle.napi_types.specs.Values.{Value, children, value_at, starting_values}
 use Rattle.napi_types.specs.Properties.{property_at, element_at}
 use Rattle.napi_types.specs.Bodies.{is_object_like}
 use Rattle.napi_types.specs.Graph.{StoreState, Stored, IsSoundStore, IsLive, value_of}
-use Rattle.value_store.specs.Places.{state_of, stored_as, at_number, properties_at, elements_at, child_places_at, IsNumbered}
-use Rattle.value_store.specs.Changes.{properties_in, elements_in, child_places, child_places_in, id_at, EachStandsOnce, IsObject, IsStarting, StandsAt}
+use Rattle.value_store.specs.Places.{state_of, stored_as, at_number, properties_at, elements_at, children_of, IsNumbered}
+use Rattle.value_store.specs.Changes.{properties_in, elements_in, children_in, id_at, EachStandsOnce, IsObject, IsStarting, StandsAt}
 use Rattle.value_store.proofs.Lookup.{value_of-state_of, number-within}
 use Rattle.value_store.proofs.States.{sound}
-use Rattle.value_store.proofs.Children.{property-named, element-named, child-named}
+use Rattle.value_store.proofs.Naming.{property-named, element-named, All-has, All-from_has}
 
 pub some-is : (o : Option Value) → IsSome o → (v : Value) × (o ≡ Some v)
 some-is None h = let no : ⊥ = cc in absurd no
@@ -61,8 +63,8 @@ module _ (ps : List (Option Value)) (s : StoreState) (view : state_of ps ≡ s) 
   pub elements_in-view : (n : ℕ) → elements_in s n ≡ elements_at n ps
   elements_in-view n = ap (λ (o : Option Value). unwrap_or (option_map (λ v. v.elements) o) []) (value_of-view n)
 
-  pub child_places-view : (n : ℕ) → child_places_in s n ≡ child_places_at n ps
-  child_places-view n = ap (λ (o : Option Value). unwrap_or (option_map child_places o) []) (value_of-view n)
+  pub children_in-view : (n : ℕ) → children_in s n ≡ children_of n ps
+  children_in-view n = ap (λ (o : Option Value). unwrap_or (option_map children o) []) (value_of-view n)
 
   pub live-there : (n : ℕ) → IsLive s n → IsSome (at_number ps n)
   live-there n h = subst (λ (o : Option Value). IsSome o) (value_of-view n) h
@@ -93,13 +95,13 @@ module _ (ps : List (Option Value)) (s : StoreState) (view : state_of ps ≡ s) 
       by None (Some v) closed h = let no : ⊥ = cc in absurd no
       by (Some w) (Some v) closed h = there-live v.0 (subst (λ (o : Option ℕ). IfSome o (λ m. IsSome (at_number ps m))) (sym h) (element-named (λ m. IsSome (at_number ps m)) at w (closed w refl)))
 
-  pub child-live : (n at : ℕ) (r : Option ValueId) → option_map (λ v. v.0) r ≡ slice_index_or (child_places_at n ps) at None → IfSome r (λ v. IsLive s v.0)
-  child-live n at r h = by (at_number ps n) r (all.closed n) h
+  -- and so are all children of a value
+  pub children-live : (n : ℕ) (ns : List ℕ) → HaveSameNumbers ns (children_of n ps) → All (IsLive s) ns
+  children-live n ns same = All-from_has (IsLive s) ns (λ m h. there-live m (All-has (λ k. IsSome (at_number ps k)) (children_of n ps) m (by (at_number ps n) (all.closed n)) (sym (same m) ∙ h)))
     where
-      by : (o : Option Value) (r : Option ValueId) → ((v : Value) → o ≡ Some v → All (λ m. IsSome (at_number ps m)) (children v)) → option_map (λ v. v.0) r ≡ slice_index_or (unwrap_or (option_map child_places o) []) at None → IfSome r (λ v. IsLive s v.0)
-      by o None closed h = tt
-      by None (Some v) closed h = let no : ⊥ = cc in absurd no
-      by (Some w) (Some v) closed h = there-live v.0 (subst (λ (o : Option ℕ). IfSome o (λ m. IsSome (at_number ps m))) (sym h) (child-named (λ m. IsSome (at_number ps m)) at w (closed w refl)))
+      by : (o : Option Value) → ((v : Value) → o ≡ Some v → All (λ m. IsSome (at_number ps m)) (children v)) → All (λ m. IsSome (at_number ps m)) (unwrap_or (option_map children o) [])
+      by None closed = All-nil (λ m. IsSome (at_number ps m))
+      by (Some v) closed = closed v refl
 
   pub is-starting : (which : ℕ) → which < 5 → IsStarting s which (which + 1)
   is-starting which less = record {

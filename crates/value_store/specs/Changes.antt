@@ -1,5 +1,5 @@
 -- What the calls of a store change of its map from numbers to values.
-use Rattle.std.specs.Prelude.{◌≡◌, ◌≢◌, ℕ, ◌+◌, ◌<◌, ◌==◌, ◌||◌, nat_eq, true, false, List, [], ◌∷◌, ◌++◌, length, map, Option, Some, None, option_map, IfSome, IsSomeAnd, IsTrue, slice_index_or}
+use Rattle.std.specs.Prelude.{◌≡◌, ◌≢◌, ℕ, ◌+◌, ◌<◌, ◌==◌, ◌||◌, nat_eq, true, false, List, [], ◌∷◌, length, map, Option, Some, None, option_map, IfSome, IsSomeAnd, IsTrue, slice_index_or}
 use Rattle.std.specs.List.{All, IsDistinct}
 use Rattle.napi_types.specs.declared.body.Body.{Body}
 use Rattle.napi_types.specs.declared.ids.ValueId.{ValueId}
@@ -18,13 +18,9 @@ properties_in s id = unwrap_or (option_map (λ v. v.properties) (value_of s id))
 abbrev pub elements_in : StoreState → ℕ → List (Option ℕ)
 elements_in s id = unwrap_or (option_map (λ v. v.elements) (value_of s id)) []
 
--- the children of a value by place: the values of its properties in their order, then its elements, none at a hole
-abbrev pub child_places : Value → List (Option ℕ)
-child_places v = map (λ p. Some p.value) v.properties ++ v.elements
-
--- the same of the value that a number names, none where no live value has the number
-abbrev pub child_places_in : StoreState → ℕ → List (Option ℕ)
-child_places_in s id = unwrap_or (option_map child_places (value_of s id)) []
+-- the children of the value that a number names, none where no live value has the number
+abbrev pub children_in : StoreState → ℕ → List ℕ
+children_in s id = unwrap_or (option_map children (value_of s id)) []
 
 -- the number names a live object or function
 abbrev pub IsObject : StoreState → ℕ → Type 0

@@ -6,7 +6,6 @@ use Rattle.napi_types.specs.Properties.{Property, HasDistinctNames}
 use Rattle.std.specs.Option.{unwrap_or}
 use Rattle.napi_types.specs.Lists.{has_number, up_to}
 use Rattle.napi_types.specs.Graph.{Stored, StoreState}
-use Rattle.value_store.specs.Changes.{child_places}
 
 -- a value is named by its creation number
 abbrev pub stored_as : Value → Stored
@@ -40,9 +39,9 @@ properties_at n ps = unwrap_or (option_map (λ v. v.properties) (at_number ps n)
 abbrev pub elements_at : ℕ → List (Option Value) → List (Option ℕ)
 elements_at n ps = unwrap_or (option_map (λ v. v.elements) (at_number ps n)) []
 
--- the children by place of the value of a number, none where no value has it
-abbrev pub child_places_at : ℕ → List (Option Value) → List (Option ℕ)
-child_places_at n ps = unwrap_or (option_map child_places (at_number ps n)) []
+-- the children of the value of a number, none where no value has it
+abbrev pub children_of : ℕ → List (Option Value) → List ℕ
+children_of n ps = unwrap_or (option_map children (at_number ps n)) []
 
 -- the list of a new store: the starting values, in their order
 abbrev pub starting_list : List (Option Value)

@@ -1,9 +1,14 @@
--- How a value's lists stand for its properties and elements.
-use Rattle.std.specs.Prelude.{ℕ, ◌+◌, ◌≤◌, nat_eq, List, length, map, Option, Some, option_map}
-use Rattle.std.specs.List.{IsDistinct}
-use Rattle.std.specs.Map.{keys_of}
+-- How the maps of a value stand for its properties and elements.
+use Rattle.std.specs.Prelude.{ℕ, ◌+◌, ◌<◌, ◌≤◌, nat_eq, List, map, Option, option_map, IsSome}
+use Rattle.std.specs.List.{IsDistinct, range_with_len}
+use Rattle.std.specs.Map.{keys_of, lookup}
 use Rattle.napi_types.specs.declared.ids.ValueId.{ValueId}
 use Rattle.napi_types.specs.Properties.{Property, most_index}
+
+-- the properties and the elements of a value
+pub record ListedParts : Type 0 where
+  pub properties : List Property
+  pub elements : List (Option ℕ)
 
 -- an entry of the map from names to values is a property
 abbrev pub property_of : ℕ × ValueId → Property
@@ -13,15 +18,21 @@ property_of e = record { name = e.0; value = e.1.0 }
 abbrev pub listed_properties : List (ℕ × ValueId) → List Property
 listed_properties es = map property_of es
 
--- the elements, each by the number of its value
-abbrev pub listed_elements : List (Option ValueId) → List (Option ℕ)
-listed_elements es = map (λ e. option_map (λ v. v.0) e) es
+-- what the map from indices to values has at an index, by the number of the value
+abbrev pub element_of : List (ℕ × ValueId) → ℕ → Option ℕ
+element_of es at = option_map (λ v. v.0) (lookup (nat_eq at) es)
 
--- the elements of an array of the values of these numbers
-abbrev pub elements_named : List ℕ → List (Option ValueId)
-elements_named ns = map (λ n. Some (record { 0 = n })) ns
+-- so many elements: at each index what the map has there, and a hole where it has nothing
+abbrev pub listed_elements : List (ℕ × ValueId) → ℕ → List (Option ℕ)
+listed_elements es count = map (element_of es) (range_with_len 0 count)
 
--- no name stands twice, and no index is above 65,535
-pub record AreLists (es : List (ℕ × ValueId)) (elements : List (Option ValueId)) : Type 0 where
-  pub distinct : IsDistinct nat_eq (keys_of es)
-  pub short : length elements ≤ most_index + 1
+-- the numbers of the values in a map, in the order of its entries
+abbrev pub numbers_in : List (ℕ × ValueId) → List ℕ
+numbers_in es = map (λ e. e.1.0) es
+
+-- no name and no index stands twice, each index is below the count of the elements, and none is above 65,535
+pub record AreParts (properties elements : List (ℕ × ValueId)) (count : ℕ) : Type 0 where
+  pub names : IsDistinct nat_eq (keys_of properties)
+  pub indices : IsDistinct nat_eq (keys_of elements)
+  pub within : (at : ℕ) → IsSome (lookup (nat_eq at) elements) → at < count
+  pub short : count ≤ most_index + 1

@@ -1,15 +1,23 @@
 //! One value: what it is, its properties and its elements.
-ghost use Rattle.std.specs.Prelude.{◌≡◌, ◌+◌, ◌-◌, ◌<◌, ◌≤◌, ◌++◌, length, replicate, IfOk, OnOk, OnErr, option_map, slice_get, slice_index_or, is_some, Some, None, true, false};
-ghost use Rattle.napi_types.specs.Values.{fresh_value, with_property, without_property, with_element};
-ghost use Rattle.napi_types.specs.NewValues.{error_of};
+ghost use Rattle.std.specs.Prelude.{◌≡◌, ◌+◌, ◌^◌, ◌<◌, ◌≤◌, length, IfOk, OnOk, OnErr, option_map, slice_get, is_some, IsSome, [], Some};
+ghost use Rattle.std.specs.List.{range_with_len};
+ghost use Rattle.std.specs.Option.{unwrap_or};
+ghost use Rattle.napi_types.specs.Lists.{HaveSameNumbers};
+ghost use Rattle.napi_types.specs.Values.{fresh_value, children, with_property, without_property, with_element};
+ghost use Rattle.napi_types.specs.NewValues.{array_of, error_of};
 ghost use Rattle.napi_types.specs.Properties.{most_index, property_at, element_at};
-ghost use Rattle.value_store.specs.Changes.{child_places};
-ghost use Rattle.value_store.specs.Properties.{listed_elements};
 
-use indexmap::IndexMap;
+use crate::Children;
+use crate::parts::Parts;
 use napi_types::{Body, NoMemory, TextNo, ValueId};
 use std::alloc::Global;
 use std::marker::Model;
+
+/// An array as it is created.
+const ARRAY: Body = Body::Object {
+    array: true,
+    error: false,
+};
 
 /// An error as it is created.
 const ERROR: Body = Body::Object {
@@ -29,55 +37,53 @@ const CODE: TextNo = TextNo(1);
 pub struct ValueInfo {
     number: u64,
     body: Body,
-    // The map is keyed by the number of the name's text.
-    properties: IndexMap<u32, ValueId>,
-    elements: Vec<Option<ValueId>>,
+    // Made at the first property or element.
+    parts: Option<Box<Parts>>,
 }
 
 impl Model for ValueInfo {
+    ghost use Rattle.std.specs.Prelude.{option_map, []};
+    ghost use Rattle.std.specs.Option.{unwrap_or};
     ghost use Rattle.napi_types.specs.Values.{Value as GraphValue};
 
     ghost Value = { GraphValue };
 
-    ghost use Rattle.value_store.specs.Properties.{listed_properties, listed_elements, AreLists};
-
     ghost view = { λ info. record {
       number = info.number;
       body = info.body;
-      properties = listed_properties info.properties.entries;
-      elements = listed_elements info.elements.items;
+      properties = unwrap_or (option_map (λ parts. parts.value.properties) info.parts) [];
+      elements = unwrap_or (option_map (λ parts. parts.value.elements) info.parts) [];
     } };
-
-    ghost invariant = { λ info. AreLists info.properties.entries info.elements.items };
 }
 
 impl ValueInfo {
     /// A value with no properties and no elements.
-    pub(crate) fn new(alloc: Global, number: u64, body: Body) -> ValueInfo
+    pub(crate) fn new(number: u64, body: Body) -> ValueInfo
         ensures { result ≡ fresh_value number body }
     {
         ValueInfo {
             number,
             body,
-            properties: IndexMap::new(alloc),
-            elements: Vec::new(alloc),
+            parts: None,
         }
     }
 
-    /// An array of these elements, at most 65,536.
-    pub(crate) fn array(alloc: Global, number: u64, elements: Vec<Option<ValueId>>) -> ValueInfo
-        requires { length elements.items ≤ most_index + 1 }
-        ensures { result ≡ record (fresh_value number (Body.Object true false)) { elements = listed_elements elements.items } }
+    /// An array of so many values, whose numbers count up from the first.
+    pub(crate) fn array(
+        alloc: Global,
+        number: u64,
+        first: u64,
+        count: u32,
+    ) -> Result<ValueInfo, NoMemory>
+        requires count { count ≤ most_index + 1 }
+        requires numbers { first + count < 2 ^ 64 }
+        ensures { IfOk result (λ value. value ≡ array_of number (range_with_len first count)) }
     {
-        ValueInfo {
-            number,
-            body: Body::Object {
-                array: true,
-                error: false,
-            },
-            properties: IndexMap::new(alloc),
-            elements,
+        let mut value = ValueInfo::new(number, ARRAY);
+        for at in 0..count {
+            value.set_element(alloc, at, ValueId(first + u64::from(at)))?;
         }
+        Ok(value)
     }
 
     /// An error: an object with its message and, where one is given, its code, in this order.
@@ -89,10 +95,10 @@ impl ValueInfo {
     ) -> Result<ValueInfo, NoMemory>
         ensures { IfOk result (λ value. value ≡ error_of number (option_map (λ c. c.0) code) message.0) }
     {
-        let mut value = ValueInfo::new(alloc, number, ERROR);
-        value.set_prop(MESSAGE, message)?;
+        let mut value = ValueInfo::new(number, ERROR);
+        value.set_prop(alloc, MESSAGE, message)?;
         if let Some(code) = code {
-            value.set_prop(CODE, code)?;
+            value.set_prop(alloc, CODE, code)?;
         }
         Ok(value)
     }
@@ -112,19 +118,30 @@ impl ValueInfo {
     }
 
     /// Sets a property. A name that is there keeps its place, and a new one goes last.
-    pub(crate) fn set_prop(&mut self, name: TextNo, to: ValueId) -> Result<(), NoMemory>
+    pub(crate) fn set_prop(
+        &mut self,
+        alloc: Global,
+        name: TextNo,
+        to: ValueId,
+    ) -> Result<(), NoMemory>
         ensures set { OnOk result (self.new ≡ with_property name.0 to.0 self.old) }
         ensures err { OnErr result (self.new ≡ self.old) }
     {
-        self.properties.insert(name.0, to)?;
-        Ok(())
+        make_parts(alloc, &mut self.parts)?;
+        match &mut self.parts {
+            Some(parts) => parts.set_prop(name, to),
+            None => unreachable!(),
+        }
     }
 
     /// The value of a property, `None` exactly where the name is absent.
     pub(crate) fn get_prop(&self, name: TextNo) -> Option<ValueId>
         ensures { option_map (λ v. v.0) result ≡ property_at name.0 self.now.properties }
     {
-        self.properties.get(&name.0).copied()
+        match &self.parts {
+            Some(parts) => parts.get_prop(name),
+            None => None,
+        }
     }
 
     /// Removes a property, and tells whether the name was there. The others keep their order.
@@ -132,14 +149,20 @@ impl ValueInfo {
         ensures removed { self.new ≡ without_property name.0 self.old }
         ensures was { result ≡ is_some (property_at name.0 self.old.properties) }
     {
-        self.properties.shift_remove(&name.0).is_some()
+        match &mut self.parts {
+            Some(parts) => parts.remove_prop(name),
+            None => false,
+        }
     }
 
     /// How many properties there are.
     pub(crate) fn name_count(&self) -> usize
         ensures { result ≡ length self.now.properties }
     {
-        self.properties.len()
+        match &self.parts {
+            Some(parts) => parts.name_count(),
+            None => 0,
+        }
     }
 
     /// The name at a place of the order.
@@ -147,30 +170,36 @@ impl ValueInfo {
         requires { at < length self.now.properties }
         ensures { option_map (λ p. p.name) (slice_get self.now.properties at) ≡ Some result.0 }
     {
-        match self.properties.get_index(at) {
-            Some((name, _)) => TextNo(*name),
+        match &self.parts {
+            Some(parts) => parts.name_at(at),
             None => unreachable!(),
         }
     }
 
-    /// Sets an element, and fills holes up to it.
-    pub(crate) fn set_element(&mut self, at: u32, to: ValueId) -> Result<(), NoMemory>
+    /// Sets an element. What lies between the end and a later index is holes, which take no memory.
+    pub(crate) fn set_element(
+        &mut self,
+        alloc: Global,
+        at: u32,
+        to: ValueId,
+    ) -> Result<(), NoMemory>
         requires { at ≤ most_index }
         ensures set { OnOk result (self.new ≡ with_element at to.0 self.old) }
         ensures err { OnErr result (self.new ≡ self.old) }
     {
-        let at = at as usize;
-        reach_to(&mut self.elements, at + 1)?;
-        self.elements[at] = Some(to);
-        Ok(())
+        make_parts(alloc, &mut self.parts)?;
+        match &mut self.parts {
+            Some(parts) => parts.set_element(at, to),
+            None => unreachable!(),
+        }
     }
 
     /// The element of an index, `None` exactly at a hole or past the end.
     pub(crate) fn get_element(&self, at: u32) -> Option<ValueId>
         ensures { option_map (λ v. v.0) result ≡ element_at at self.now.elements }
     {
-        match self.elements.get(at as usize) {
-            Some(element) => *element,
+        match &self.parts {
+            Some(parts) => parts.get_element(at),
             None => None,
         }
     }
@@ -179,36 +208,32 @@ impl ValueInfo {
     pub(crate) fn element_count(&self) -> u32
         ensures { result ≡ length self.now.elements }
     {
-        self.elements.len() as u32
+        match &self.parts {
+            Some(parts) => parts.element_count(),
+            None => 0,
+        }
     }
 
-    /// How many places the children have: one for each property, and one for each element, holes counted.
-    pub(crate) fn child_count(&self) -> usize
-        ensures { result ≡ length (child_places self.now) }
+    /// The values that the properties and elements name, each under a place.
+    pub(crate) fn children(&self) -> Children<'_>
+        ensures same { HaveSameNumbers result (children self.now) }
+        ensures many { length result ≡ length (children self.now) }
     {
-        self.properties.len() + self.elements.len()
-    }
-
-    /// The child at a place: first the values of the properties, in their order, then the elements. `None` exactly at a hole.
-    pub(crate) fn child_at(&self, at: usize) -> Option<ValueId>
-        requires { at < length (child_places self.now) }
-        ensures { option_map (λ v. v.0) result ≡ slice_index_or (child_places self.now) at None }
-    {
-        match self.properties.get_index(at) {
-            Some((_, value)) => Some(*value),
-            None => self.elements[at - self.properties.len()],
+        match &self.parts {
+            Some(parts) => parts.children(),
+            None => Children::none(),
         }
     }
 }
 
-/// Fills a list of elements with holes up to a length.
-fn reach_to(elements: &mut Vec<Option<ValueId>>, count: usize) -> Result<(), NoMemory>
-    ensures filled { OnOk result (elements.new.items ≡ elements.old.items ++ replicate (count - length elements.old.items) None) }
-    ensures err { OnErr result (elements.new.items ≡ elements.old.items) }
+/// Makes room for properties and elements, where there is none.
+fn make_parts(alloc: Global, parts: &mut Option<Box<Parts>>) -> Result<(), NoMemory>
+    ensures there { OnOk result (IsSome parts.new) }
+    ensures properties { unwrap_or (option_map (λ p. p.value.properties) parts.new) [] ≡ unwrap_or (option_map (λ p. p.value.properties) parts.old) [] }
+    ensures elements { unwrap_or (option_map (λ p. p.value.elements) parts.new) [] ≡ unwrap_or (option_map (λ p. p.value.elements) parts.old) [] }
 {
-    if count <= elements.len() {
-        return Ok(());
+    if parts.is_none() {
+        *parts = Some(Box::new(alloc, Parts::new(alloc))?);
     }
-    elements.resize(count, None)?;
     Ok(())
 }

@@ -5,9 +5,11 @@
 #![tactic(auto)]
 
 mod info;
+mod parts;
 mod places;
 mod store;
 
 pub use info::ValueInfo;
 pub use napi_types::Body;
+pub use parts::Children;
 pub use store::Store;

@@ -1,15 +1,14 @@
 //! The list of a store's values, read and changed by number.
 ghost use Rattle.std.specs.Prelude.{◌≡◌, ℕ, ◌+◌, ◌-◌, ◌<◌, ◌≤◌, ◌^◌, ◌++◌, [], ◌∷◌, true, length, map, vec_capacity, slice_get, slice_index_or, slice_set, is_some, cond, option_map, option_copied, IsSome, OnOk, OnErr, IfOk, Some, None};
-ghost use Rattle.std.specs.List.{All, range_with_len};
-ghost use Rattle.napi_types.specs.Lists.{has_number};
+ghost use Rattle.std.specs.List.{All};
+ghost use Rattle.napi_types.specs.Lists.{HaveSameNumbers};
 ghost use Rattle.napi_types.specs.Properties.{most_index, property_at, element_at};
 ghost use Rattle.napi_types.specs.Values.{with_property, without_property, with_element};
 ghost use Rattle.napi_types.specs.NewValues.{made_after, list_of, error_of, thrown_of};
 ghost use Rattle.value_store.specs.Changes.{numbers_of};
-ghost use Rattle.value_store.specs.Places.{at_number, changed_at, properties_at, elements_at, child_places_at, starting_list, IsCleared};
-ghost use Rattle.value_store.specs.Properties.{elements_named};
+ghost use Rattle.value_store.specs.Places.{at_number, changed_at, properties_at, elements_at, children_of, starting_list, IsCleared};
 
-use crate::ValueInfo;
+use crate::{Children, ValueInfo};
 use napi_types::{Body, NoMemory, TextNo, ValueId};
 use std::alloc::Global;
 
@@ -18,12 +17,11 @@ pub(crate) fn starting(alloc: Global) -> Result<Vec<Option<ValueInfo>>, NoMemory
     ensures { IfOk result (λ values. values.items ≡ starting_list) }
 {
     let values = [
-        Some(ValueInfo::new(alloc, 1, Body::Undefined)),
-        Some(ValueInfo::new(alloc, 2, Body::Null)),
-        Some(ValueInfo::new(alloc, 3, Body::Boolean(true))),
-        Some(ValueInfo::new(alloc, 4, Body::Boolean(false))),
+        Some(ValueInfo::new(1, Body::Undefined)),
+        Some(ValueInfo::new(2, Body::Null)),
+        Some(ValueInfo::new(3, Body::Boolean(true))),
+        Some(ValueInfo::new(4, Body::Boolean(false))),
         Some(ValueInfo::new(
-            alloc,
             5,
             Body::Object {
                 array: false,
@@ -54,12 +52,12 @@ pub(crate) fn push_list(
     ensures listed { OnOk result (values.new.items ≡ values.old.items ++ map Some (list_of (length values.old.items) bodies.now)) }
     ensures err { OnErr result (values.new.items ≡ values.old.items) }
 {
-    let first = values.len() as u64 + 1;
-    let elements = counting_from(alloc, first, bodies.len())?;
+    let before = values.len() as u64;
+    let number = before + bodies.len() as u64 + 1;
+    let array = ValueInfo::array(alloc, number, before + 1, bodies.len() as u32)?;
     reserve(values, bodies.len() + 1)?;
-    push_each(alloc, values, bodies);
-    let number = values.len() as u64 + 1;
-    values.push_reserved(Some(ValueInfo::array(alloc, number, elements)));
+    push_each(values, bodies);
+    values.push_reserved(Some(array));
     Ok(())
 }
 
@@ -113,18 +111,9 @@ fn push_error(
     let number = values.len() as u64 + strings.len() as u64 + 1;
     let error = ValueInfo::error(alloc, number, code, message)?;
     reserve(values, strings.len() + 1)?;
-    push_each(alloc, values, strings);
+    push_each(values, strings);
     values.push_reserved(Some(error));
     Ok(())
-}
-
-/// The elements of an array of so many values, whose numbers count up from the first.
-fn counting_from(alloc: Global, first: u64, count: usize) -> Result<Vec<Option<ValueId>>, NoMemory>
-    requires { first + count < 2 ^ 63 }
-    ensures { IfOk result (λ elements. elements.items ≡ elements_named (range_with_len first count)) }
-{
-    let numbers = first..first + count as u64;
-    Ok(numbers.map(|number| Some(ValueId(number))).collect(alloc)?)
 }
 
 /// Takes the memory for so many values more.
@@ -137,7 +126,7 @@ fn reserve(values: &mut Vec<Option<ValueInfo>>, count: usize) -> Result<(), NoMe
 }
 
 /// Adds a value of each of these bodies, in their order, at places that are reserved.
-fn push_each(alloc: Global, values: &mut Vec<Option<ValueInfo>>, bodies: &[Body])
+fn push_each(values: &mut Vec<Option<ValueInfo>>, bodies: &[Body])
     requires room { length values.old.items + length bodies.now < 2 ^ 48 }
     requires reserved { length values.old.items + length bodies.now ≤ vec_capacity values.old }
     ensures made { values.new.items ≡ values.old.items ++ map Some (made_after (length values.old.items) bodies.now) }
@@ -145,7 +134,7 @@ fn push_each(alloc: Global, values: &mut Vec<Option<ValueInfo>>, bodies: &[Body]
 {
     for body in bodies {
         let number = values.len() as u64 + 1;
-        values.push_reserved(Some(ValueInfo::new(alloc, number, *body)));
+        values.push_reserved(Some(ValueInfo::new(number, *body)));
     }
 }
 
@@ -178,6 +167,7 @@ pub(crate) fn place_at(number: u64) -> usize
 }
 
 pub(crate) fn set_prop(
+    alloc: Global,
     values: &mut Vec<Option<ValueInfo>>,
     number: u64,
     name: TextNo,
@@ -188,7 +178,7 @@ pub(crate) fn set_prop(
     ensures err { OnErr result (values.new.items ≡ values.old.items) }
 {
     match &mut values[place_at(number)] {
-        Some(value) => value.set_prop(name, to),
+        Some(value) => value.set_prop(alloc, name, to),
         None => unreachable!(),
     }
 }
@@ -244,6 +234,7 @@ pub(crate) fn name_at(values: &[Option<ValueInfo>], number: u64, at: usize) -> T
 }
 
 pub(crate) fn set_element(
+    alloc: Global,
     values: &mut Vec<Option<ValueInfo>>,
     number: u64,
     at: u32,
@@ -255,7 +246,7 @@ pub(crate) fn set_element(
     ensures err { OnErr result (values.new.items ≡ values.old.items) }
 {
     match &mut values[place_at(number)] {
-        Some(value) => value.set_element(at, to),
+        Some(value) => value.set_element(alloc, at, to),
         None => unreachable!(),
     }
 }
@@ -278,22 +269,13 @@ pub(crate) fn element_count(values: &[Option<ValueInfo>], number: u64) -> u32
     }
 }
 
-pub(crate) fn child_count(values: &[Option<ValueInfo>], number: u64) -> usize
-    ensures { result ≡ length (child_places_at number values.now) }
+pub(crate) fn children(values: &[Option<ValueInfo>], number: u64) -> Children<'_>
+    ensures same { HaveSameNumbers result (children_of number values.now) }
+    ensures many { length result ≡ length (children_of number values.now) }
 {
     match value_at(values, number) {
-        Some(value) => value.child_count(),
-        None => 0,
-    }
-}
-
-pub(crate) fn child_at(values: &[Option<ValueInfo>], number: u64, at: usize) -> Option<ValueId>
-    requires { at < length (child_places_at number values.now) }
-    ensures { option_map (λ v. v.0) result ≡ slice_index_or (child_places_at number values.now) at None }
-{
-    match value_at(values, number) {
-        Some(value) => value.child_at(at),
-        None => unreachable!(),
+        Some(value) => value.children(),
+        None => Children::none(),
     }
 }
 

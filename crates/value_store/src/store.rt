@@ -1,13 +1,14 @@
 //! The store: the values that were made and not freed, each under a number.
-ghost use Rattle.std.specs.Prelude.{◌≡◌, ◌+◌, ◌-◌, ◌<◌, ◌≤◌, ◌^◌, ◌++◌, [], ◌∷◌, not, filter, map, length, slice_get, slice_index_or, is_some, option_map, option_copied, IfSome, IfOk, OnOk, OnErr, Some, None};
-ghost use Rattle.napi_types.specs.Lists.{has_number};
+ghost use Rattle.std.specs.Prelude.{◌≡◌, ◌+◌, ◌-◌, ◌<◌, ◌≤◌, ◌^◌, ◌++◌, [], ◌∷◌, not, filter, map, length, slice_get, is_some, option_map, option_copied, IfSome, IfOk, OnOk, OnErr, Some, None};
+ghost use Rattle.std.specs.List.{All};
+ghost use Rattle.napi_types.specs.Lists.{has_number, HaveSameNumbers};
 ghost use Rattle.napi_types.specs.Values.{value_at, value_changed, fresh_value, with_property, without_property, with_element};
 ghost use Rattle.napi_types.specs.NewValues.{error_of, list_of, thrown_strings, thrown_of};
 ghost use Rattle.napi_types.specs.Properties.{most_index, property_at, element_at};
 ghost use Rattle.napi_types.specs.Graph.{value_of, number_in, renamed, graph_of, IsLive, IsSoundStore};
-ghost use Rattle.value_store.specs.Changes.{properties_in, elements_in, child_places_in, id_at, EachStandsOnce, numbers_of, IsNew, IsStarting, IsObject, StandsAt, ChangesOnly, Makes, MakesValue, MakesList, Frees, CanFree};
+ghost use Rattle.value_store.specs.Changes.{properties_in, elements_in, children_in, id_at, EachStandsOnce, numbers_of, IsNew, IsStarting, IsObject, StandsAt, ChangesOnly, Makes, MakesValue, MakesList, Frees, CanFree};
 
-use crate::{ValueInfo, places};
+use crate::{Children, ValueInfo, places};
 use napi_types::{Body, NoMemory, TextNo, ValueId};
 use std::alloc::Global;
 use std::marker::Model;
@@ -62,7 +63,7 @@ impl Store {
         ensures sound { IsSoundStore self.old }
     {
         let number = self.values.len() as u64 + 1;
-        let value = ValueInfo::new(self.alloc, number, body);
+        let value = ValueInfo::new(number, body);
         places::push(&mut self.values, value)?;
         Ok(ValueId(number))
     }
@@ -147,7 +148,7 @@ impl Store {
         ensures graph { OnOk result (graph_of self.new ≡ value_changed (number_in self.old id.0) (with_property name.0 (number_in self.old to.0)) (graph_of self.old)) }
         ensures err { OnErr result (self.new ≡ self.old) }
     {
-        places::set_prop(&mut self.values, id.0, name, to)
+        places::set_prop(self.alloc, &mut self.values, id.0, name, to)
     }
 
     /// The value of a property, `None` exactly where the name is absent. Near constant time.
@@ -184,9 +185,10 @@ impl Store {
         places::name_at(&self.values, id.0, at)
     }
 
-    /// Sets an element. Holes fill what lies between the end and a later index.
+    /// Sets an element. What lies between the end and a later index is holes.
     ///
-    /// Near constant time, beside the holes that it fills; now and then the list of elements grows.
+    /// Near constant time; now and then the value's map of elements grows. A value takes memory in proportion to the elements that
+    /// were set, and none for a hole.
     pub fn set_element(&mut self, id: ValueId, at: u32, to: ValueId) -> Result<(), NoMemory>
         requires named { IsLive self.old id.0 }
         requires value { IsLive self.old to.0 }
@@ -195,10 +197,10 @@ impl Store {
         ensures graph { OnOk result (graph_of self.new ≡ value_changed (number_in self.old id.0) (with_element at (number_in self.old to.0)) (graph_of self.old)) }
         ensures err { OnErr result (self.new ≡ self.old) }
     {
-        places::set_element(&mut self.values, id.0, at, to)
+        places::set_element(self.alloc, &mut self.values, id.0, at, to)
     }
 
-    /// The element of an index, `None` exactly at a hole or past the end. Constant time.
+    /// The element of an index, `None` exactly at a hole or past the end. Near constant time.
     pub fn get_element(&self, id: ValueId, at: u32) -> Option<ValueId>
         ensures value { option_map (λ v. v.0) result ≡ element_at at (elements_in self.now id.0) }
         ensures live { IfSome result (λ v. IsLive self.now v.0) }
@@ -213,21 +215,14 @@ impl Store {
         places::element_count(&self.values, id.0)
     }
 
-    /// How many places a value's children have: one for each property, and one for each element, holes counted. Constant time.
-    pub fn child_places(&self, id: ValueId) -> usize
-        ensures { result ≡ length (child_places_in self.now id.0) }
+    /// The children of a value, each under a place from 0: first the values of its properties, then its elements. A hole is no child.
+    /// Constant time.
+    pub fn children(&self, id: ValueId) -> Children<'_>
+        ensures same { HaveSameNumbers result (children_in self.now id.0) }
+        ensures many { length result ≡ length (children_in self.now id.0) }
+        ensures live { All (IsLive self.now) result }
     {
-        places::child_count(&self.values, id.0)
-    }
-
-    /// The child at a place: first the values of the properties, in the order in which their names were first set, then the
-    /// elements. `None` exactly at a hole. `at` is below `child_places`. Constant time.
-    pub fn child_at(&self, id: ValueId, at: usize) -> Option<ValueId>
-        requires { at < length (child_places_in self.now id.0) }
-        ensures value { option_map (λ v. v.0) result ≡ slice_index_or (child_places_in self.now id.0) at None }
-        ensures live { IfSome result (λ v. IsLive self.now v.0) }
-    {
-        places::child_at(&self.values, id.0, at)
+        places::children(&self.values, id.0)
     }
 
     /// Frees values. They are distinct and live, none is a starting value, and no other value names one of them.

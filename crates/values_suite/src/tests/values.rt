@@ -55,14 +55,17 @@ fn children_stand_in_order(rt: HostRuntime) {
     let [undefined, null, global] = [store.starting(0), store.starting(1), store.starting(4)];
     set(&rt, &mut store, object, 9, global);
     set(&rt, &mut store, object, 2, undefined);
-    set_at(&rt, &mut store, object, 1, null);
-    let expected = [Some(global), Some(undefined), None, Some(null)];
-    assert_eq!(rt; store.child_places(object), expected.len());
-    for (at, child) in expected.into_iter().enumerate() {
-        assert!(rt; at < store.child_places(object));
-        assert_eq!(rt; store.child_at(object, at), child);
+    for (at, element) in [(7, null), (1, global)] {
+        set_at(&rt, &mut store, object, at, element);
     }
-    assert_eq!(rt; store.child_places(global), 0);
+    let children = store.children(object);
+    let expected = [global, undefined, null, global];
+    assert_eq!(rt; children.len(), expected.len());
+    for (place, child) in expected.into_iter().enumerate() {
+        assert!(rt; place < children.len());
+        assert_eq!(rt; children.at(place), child);
+    }
+    assert_eq!(rt; store.children(global).len(), 0);
 }
 
 /// How many values stand, each at the place that its number tells.

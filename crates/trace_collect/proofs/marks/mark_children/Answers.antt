@@ -1,17 +1,26 @@
-use Rattle.std.proofs.Common.{◌∙◌, Some, None, arith}
-use Rattle.value_store.specs.Changes.{child_places_in}
-use Rattle.trace_collect.proofs.Marking.{children-next, marks-none}
+use Rattle.std.proofs.Common.{◌≡◌, ◌<◌, ◌∙◌, ℕ, List, length, take, take_all, subst, sym, arith}
+use Rattle.std.proofs.lemmas.List.Elements.{All-get_or}
+use Rattle.napi_types.specs.Graph.{IsLive}
+use Rattle.value_store.specs.Changes.{numbers_of}
+use Rattle.trace_collect.specs.Marks.{Marks}
+use Rattle.trace_collect.proofs.Marking.{child-next, marks-same}
 use Rattle.trace_collect.proofs.marks.mark_children.Goals as goal
-use Rattle.trace_collect.proofs.marks.mark_children.Goals.{in-Some, in_default}
 
-pub loop-at-preserved : goal.loop-at-preserved
-loop-at-preserved c = elim c.match-child_at.branch [
-  | in-Some w ↦ rw (w.marks-is, w.left-is) (record {
-    marked = children-next c.args.store.now (child_places_in c.args.store.now c.args.id.0) c.loop-at.at (Some w.in-Some.child.0) _ _ _ _ _ _ (omega arith) w.in-Some.ensures.value c.loop-at.invariant.marked w.mark.ensures.marked;
-    capacity = w.mark.ensures.capacity ∙ c.loop-at.invariant.capacity;
-  })
-  | in_default w ↦ rw (w.marks-is, w.left-is) (record {
-    marked = children-next c.args.store.now (child_places_in c.args.store.now c.args.id.0) c.loop-at.at None _ _ _ _ _ _ (omega arith) w.in_default.ensures.value c.loop-at.invariant.marked (marks-none c.args.store.now _ _);
-    capacity = c.loop-at.invariant.capacity;
-  })
-]
+pub mark-requires-clause-live : goal.mark-requires-clause-live
+mark-requires-clause-live c =
+    let less : c.loop-place.place < length c.children-children.result = omega (arith, c.len-place-end.ensures, c.loop-place-test.true) in
+    subst (λ (n : ℕ). IsLive c.args.store.now n) (sym c.at.ensures) (All-get_or (IsLive c.args.store.now) c.children-children.result c.loop-place.place 0 less c.children-children.ensures.live)
+
+pub loop-place-preserved : goal.loop-place-preserved
+loop-place-preserved c =
+    let less : c.loop-place.place < length c.children-children.result = omega (arith, c.len-place-end.ensures, c.loop-place-test.true) in
+    record {
+      marked = child-next c.args.store.now c.children-children.result c.loop-place.place _ _ _ _ _ _ _ less c.at.ensures c.loop-place.invariant.marked c.mark.ensures.marked;
+      capacity = c.mark.ensures.capacity ∙ c.loop-place.invariant.capacity;
+    }
+
+pub returns-clause-marked : goal.returns-clause-marked
+returns-clause-marked c =
+    let all : take c.loop-place.place c.children-children.result ≡ c.children-children.result = take_all c.loop-place.place c.children-children.result (omega (arith, c.len-place-end.ensures, c.loop-place-test.false)) in
+    marks-same c.args.store.now c.children-children.result _ _ _ _ _ c.children-children.ensures.same
+    (subst (λ (ns : List ℕ). Marks c.args.store.now ns c.args.marks.now (numbers_of c.args.left.now.items) c.loop-place.marks (numbers_of c.loop-place.left.items)) all c.loop-place.invariant.marked)

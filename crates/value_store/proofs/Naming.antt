@@ -1,21 +1,11 @@
 -- What a changed value names.
-use Rattle.std.proofs.Common.{◌≡◌, ℕ, zero, suc, ◌+◌, ◌-◌, ◌==◌, Bool, true, false, cond, not, List, [], ◌∷◌, ◌++◌, map, length, replicate, Option, Some, None, IfSome, option_map, slice_index_or, refl, ap, ◌∙◌, sym, subst}
+use Rattle.std.proofs.Common.{◌≡◌, ℕ, zero, suc, ◌+◌, ◌-◌, ◌==◌, Bool, true, false, cond, not, List, [], ◌∷◌, ◌++◌, map, length, replicate, Option, Some, None, IfSome, option_map, inl, inr, refl, subst}
 use Rattle.std.specs.List.{All, filter_map}
-use Rattle.std.proofs.lemmas.List.Elements.{filter_map-append, All-nil, All-cons, All-head, All-tail, All-append, All-set, All-replicate}
-use Rattle.napi_types.specs.Lists.{found}
+use Rattle.std.proofs.lemmas.Bool.{eqb-true, eq-eqb, or_cases, or_left, or_right}
+use Rattle.std.proofs.lemmas.List.Elements.{All-nil, All-cons, All-head, All-tail, All-append, All-set, All-replicate}
+use Rattle.napi_types.specs.Lists.{found, has_number}
 use Rattle.napi_types.specs.Values.{Value, children, with_property, without_property, with_element}
 use Rattle.napi_types.specs.Properties.{Property, property_set, property_removed, property_at, element_at, element_set}
-use Rattle.value_store.specs.Changes.{child_places}
-
--- the children are what stands at their places
-pub children-places : (v : Value) → children v ≡ filter_map (λ e. e) (child_places v)
-children-places v =
-    ap (λ ns. ns ++ filter_map (λ e. e) v.elements) (named v.properties)
-    ∙ sym (filter_map-append (λ (e : Option ℕ). e) (map (λ (p : Property). Some p.value) v.properties) v.elements)
-  where
-    named : (ps : List Property) → map (λ (p : Property). p.value) ps ≡ filter_map (λ e. e) (map (λ (p : Property). Some p.value) ps)
-    named [] = refl
-    named (p ∷ ps) = ap (λ l. p.value ∷ l) (named ps)
 
 module _ (P : ℕ → Type 0) where
   pub left : (xs ys : List ℕ) → All P (xs ++ ys) → All P xs
@@ -95,10 +85,15 @@ module _ (P : ℕ → Type 0) where
       among (e ∷ es) zero h = All-head (λ e. IfSome e P) e es h
       among (e ∷ es) (suc at) h = among es at (All-tail (λ e. IfSome e P) e es h)
 
-  pub child-named : (at : ℕ) (v : Value) → All P (children v) → IfSome (slice_index_or (child_places v) at None) P
-  child-named at v h = among (child_places v) at (to_options (child_places v) (let Q : List ℕ → Type 0 = λ ns. All P ns in subst Q (children-places v) h))
-    where
-      among : (es : List (Option ℕ)) (at : ℕ) → All (λ e. IfSome e P) es → IfSome (slice_index_or es at None) P
-      among [] at h = tt
-      among (e ∷ es) zero h = All-head (λ e. IfSome e P) e es h
-      among (e ∷ es) (suc at) h = among es at (All-tail (λ e. IfSome e P) e es h)
+  -- what holds of all numbers of a list holds of each
+  pub All-has : (ns : List ℕ) (n : ℕ) → All P ns → has_number n ns ≡ true → P n
+  All-has [] n all h = let no : ⊥ = cc in absurd no
+  All-has (m ∷ ns) n all h =
+      elim (or_cases (m == n) (has_number n ns) h) [
+        | inl same ↦ subst P (eqb-true m n same) (All-head P m ns all)
+        | inr later ↦ All-has ns n (All-tail P m ns all) later
+      ]
+
+  pub All-from_has : (ns : List ℕ) → ((n : ℕ) → has_number n ns ≡ true → P n) → All P ns
+  All-from_has [] h = All-nil P
+  All-from_has (m ∷ ns) h = All-cons P m ns (h m (or_left (m == m) (has_number m ns) (eq-eqb m m refl))) (All-from_has ns (λ n k. h n (or_right (m == n) (has_number n ns) k)))
