@@ -98,7 +98,7 @@ accepted-throw e store scopes h v given =
     record { fresh = refl; reply = ap (λ (a : Answer Environment). a.reply) (sym answer); after = ap (λ (a : Answer Environment). a.after) (sym answer) }
 
 -- THROW_ERROR
-thrown-refusal : (texts : ℕ) (heap : Heap) (code : Option TextNo) (message : TextNo) (b : Bool) → is_known texts heap (call.ThrowError code message) ≡ b
+pub thrown-refusal : (texts : ℕ) (heap : Heap) (code : Option TextNo) (message : TextNo) (b : Bool) → is_known texts heap (call.ThrowError code message) ≡ b
     → refusal_in texts heap (call.ThrowError code message) ≡ unless b status.InvalidArg
 thrown-refusal texts heap code message true known = rw known refl
 thrown-refusal texts heap code message false known = rw known refl

@@ -9,4 +9,5 @@ pub mod Referring
 pub mod Rooting
 pub mod Scopes
 pub mod SeenScopes
+pub mod Unrefused
 pub mod ValueAnswers

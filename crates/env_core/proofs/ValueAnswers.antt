@@ -78,7 +78,7 @@ no-reference m (call.ReferenceUnref r) h = cc
 no-reference m (call.GetReferenceValue r) h = cc
 no-reference m _ h = refl
 
-timely-value : (e : Environment) (c : Call) → is_value_call c ≡ true → timely_refusal e c ≡ refusal_in e.texts e.heap c
+pub timely-value : (e : Environment) (c : Call) → is_value_call c ≡ true → timely_refusal e c ≡ refusal_in e.texts e.heap c
 timely-value e c h = ap (λ o. option_or o (refusal_in e.texts e.heap c)) (no-reference e.references c h)
 
 -- the reply of such a call, and the heap that it leaves, are the machine's answer in the environment

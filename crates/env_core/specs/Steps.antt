@@ -1,5 +1,5 @@
 -- What a step of a frame comes to.
-use Rattle.std.specs.Prelude.{◌≡◌, ℕ, false, IsTrue, List, Option}
+use Rattle.std.specs.Prelude.{◌≡◌, ℕ, ◌+◌, ◌<◌, ◌⊎◌, false, IsTrue, List, min, Option, None}
 use Rattle.napi_types.specs.declared.call.Args.{Args}
 use Rattle.napi_types.specs.declared.call.Call.{Call}
 use Rattle.napi_types.specs.declared.call.Call.TheVariants as call
@@ -9,7 +9,8 @@ use Rattle.napi_types.specs.declared.entry.Target.{Target}
 use Rattle.napi_types.specs.declared.ids.HandleId.{HandleId}
 use Rattle.napi_types.specs.declared.status.Status.{Status}
 use Rattle.napi_types.specs.declared.status.Status.TheVariants as status
-use Rattle.napi_types.specs.Room.{Room, is_full, may_want_memory}
+use Rattle.napi_types.specs.Refusals.{early_refusal}
+use Rattle.napi_types.specs.Room.{Room, is_full, is_growing, need, first_places}
 use Rattle.napi_types.specs.Changes.{Change, call_change, call_entry, with_noted_status, number_of, is_fresh_result}
 use Rattle.napi_types.specs.Entering.{is_entering, enter_change}
 use Rattle.napi_types.specs.Environment.{Environment}
@@ -45,11 +46,20 @@ abbrev pub IsLocal : Stepped → Type 0
 IsLocal (stepped.Shared c) = ⊥
 IsLocal _ = Unit {0}
 
--- why a call may stop: it finds no room, or else it is one that may want memory
-abbrev pub StopsBy : Room → Call → Status → Type 0
-StopsBy room c status.TraceFull = IsTrue (is_full room c)
-StopsBy room c status.NoMemory = IsTrue (may_want_memory room c) × (is_full room c ≡ false)
-StopsBy room c _ = ⊥
+-- the call grows, and nothing refuses it, the depth limit left aside
+pub record GrowsUnrefused (e : Environment) (c : Call) : Type 0 where
+  pub grows : IsTrue (is_growing c)
+  pub unrefused : early_refusal e c ≡ None
+
+-- entries, reserved places and the call's need pass the first places
+abbrev pub PassesFirstPlaces : Room → Call → Type 0
+PassesFirstPlaces room c = min first_places room.limit < room.occupied + need c
+
+-- why a call may stop: it finds no room, or else no memory. Memory for its places is looked for before any refusal, and memory to grow after them
+abbrev pub StopsBy : Environment → Room → Call → Status → Type 0
+StopsBy e room c status.TraceFull = IsTrue (is_full room c)
+StopsBy e room c status.NoMemory = (GrowsUnrefused e c ⊎ PassesFirstPlaces room c) × (is_full room c ≡ false)
+StopsBy e room c _ = ⊥
 
 -- the call fits, it enters no frame, the reply is the machine's answer to it, with a fresh number where it gives one, and the core wrote the call's entry
 pub record Replies (old : Core) (c : Call) (r : Reply) (new : Core) : Type 0 where

@@ -108,9 +108,9 @@ impl EnvCore {
         ensures depth_limit { (s : Status) → early_refusal self.old.env call.now ≡ None → depth_refusal self.old.env.frames call.now ≡ Some s
             → IfReply result (λ reply. RefusedAs self.old call.now s (with_depth_error self.old.env) reply self.new) }
 
-        // A call that stops changes nothing, and says why it stopped.
+        // A call that stops changes nothing, and says why it stopped: a refusal comes before a growth that finds no memory.
         ensures stop { IfStop result (λ status. self.new ≡ self.old) }
-        ensures cause { IfStop result (λ status. StopsBy (room_in self.old) call.now status) }
+        ensures cause { IfStop result (λ status. StopsBy self.old.env (room_in self.old) call.now status) }
 
         // A call that finds no room stops as `TraceFull`.
         ensures full { IsTrue (is_full (room_in self.old) call.now) → result ≡ Stepped.Stop Status.TraceFull }
@@ -133,7 +133,7 @@ impl EnvCore {
         requires within { step < most_asks }
         ensures reply { IfReply result (λ reply. Replies self.old call.now reply self.new) }
         ensures stop { IfStop result (λ status. self.new ≡ self.old) }
-        ensures cause { IfStop result (λ status. StopsBy (room_in self.old) call.now status) }
+        ensures cause { IfStop result (λ status. StopsBy self.old.env (room_in self.old) call.now status) }
         ensures full { IsTrue (is_full (room_in self.old) call.now) → result ≡ Stepped.Stop Status.TraceFull }
         ensures at_once { IsAtOnce result }
     {
@@ -166,7 +166,8 @@ impl EnvCore {
         ensures reply { IfReply result (λ reply. Replies self.old (call_of.CallFunction receiver function args.now) reply self.new) }
         ensures enter { IfEnter result (λ target gifts. EntersBy self.old receiver function args.now target gifts self.new) }
         ensures stop { IfStop result (λ status. self.new ≡ self.old) }
-        ensures cause { IfStop result (λ status. StopsBy (room_in self.old) (call_of.CallFunction receiver function args.now) status) }
+        ensures cause { let call = call_of.CallFunction receiver function args.now in
+            IfStop result (λ status. StopsBy self.old.env (room_in self.old) call status) }
         ensures full { IsTrue (is_full (room_in self.old) (call_of.CallFunction receiver function args.now)) → result ≡ Stepped.Stop Status.TraceFull }
         ensures local { IsLocal result }
     {

@@ -10,6 +10,7 @@ ghost use Rattle.napi_types.specs.Numbers.{napi_version};
 ghost use Rattle.env_core.specs.Standing.{machine_frame};
 ghost use Rattle.napi_types.specs.NamedNumbers.{is_known};
 ghost use Rattle.napi_types.specs.Moments.{is_tearing, moment_refusal};
+ghost use Rattle.napi_types.specs.Refusals.{timely_refusal, early_refusal};
 ghost use Rattle.napi_types.specs.Room.{is_growing};
 ghost use Rattle.napi_types.specs.Properties.{most_names};
 ghost use Rattle.env_core.specs.Core.{next_init};
@@ -142,6 +143,7 @@ impl State {
         ensures ok { IfOk result (λ entry. Calls self.old call.now entry self.new) }
         ensures err { OnErr result (self.new ≡ self.old) }
         ensures growing { OnErr result (IsTrue (is_growing call.now)) }
+        ensures unrefused { OnErr result (early_refusal self.old call.now ≡ None) }
     {
         let reply = self.answer(call)?;
         Ok(self.write_call(step, call, reply))
@@ -200,6 +202,7 @@ impl State {
         ensures ok { IfOk result (λ reply. Answers self.old call.now reply self.new) }
         ensures err { OnErr result (self.new ≡ self.old) }
         ensures growing { OnErr result (IsTrue (is_growing call.now)) }
+        ensures unrefused { OnErr result (early_refusal self.old call.now ≡ None) }
     {
         match self.untimely(call) {
             Some(status) => Ok(Reply::plain(status, Out::Nothing)),
@@ -238,6 +241,7 @@ impl State {
         ensures ok { IfOk result (λ reply. AnswersInTime self.old call.now reply self.new) }
         ensures err { OnErr result (self.new ≡ self.old) }
         ensures growing { OnErr result (IsTrue (is_growing call.now)) }
+        ensures unrefused { OnErr result (timely_refusal self.old call.now ≡ None) }
     {
         if call.is_value_call() {
             return self.value_call(call);
@@ -279,6 +283,7 @@ impl State {
         ensures ok { IfOk result (λ reply. AnswersInTime self.old call.now reply self.new) }
         ensures err { OnErr result (self.new ≡ self.old) }
         ensures growing { OnErr result (IsTrue (is_growing call.now)) }
+        ensures unrefused { OnErr result (timely_refusal self.old call.now ≡ None) }
     {
         let addon = self.caller();
         value_step(
@@ -302,11 +307,13 @@ impl State {
     }
 
     /// A scope of this kind and a fresh number opens inside the innermost one.
+    #[tactic(auto, using(crate::proofs::Unrefused::opening_unrefused))]
     fn open_scope(&mut self, kind: ScopeKind) -> Result<Reply, NoMemory>
         requires standing { self.old.frames ≢ [] }
         requires scopes { length self.old.heap.scope_numbers < 2 ^ 62 }
         ensures ok { IfOk result (λ reply. AnswersInTime self.old (opening_call kind) reply self.new) }
         ensures err { OnErr result (self.new ≡ self.old) }
+        ensures unrefused { OnErr result (timely_refusal self.old (opening_call kind) ≡ None) }
     {
         let scope = self.scopes.open_scope(kind)?;
         Ok(Reply::plain(Status::Ok, Out::Scope(scope)))

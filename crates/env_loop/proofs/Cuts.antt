@@ -1,5 +1,5 @@
 -- A turn in which the innermost frame is cut.
-use Rattle.std.proofs.Common.{◌≡◌, ◌<◌, ◌==◌, true, List, refl, ap, subst, sym, ◌∙◌, Some, None, IfSome}
+use Rattle.std.proofs.Common.{◌≡◌, ℕ, ◌+◌, ◌<◌, ◌==◌, ◌||◌, ◌⊎◌, inl, inr, nat_lt, min, Bool, true, false, List, refl, ap, subst, sym, ◌∙◌, Some, None, IfSome, arith}
 use Rattle.napi_types.specs.declared.call.Ask.{Ask}
 use Rattle.napi_types.specs.declared.call.Ask.TheVariants as ask
 use Rattle.napi_types.specs.declared.call.Call.{Call}
@@ -15,11 +15,12 @@ use Rattle.napi_types.specs.Frames.{Frame, asks_made, most_asks}
 use Rattle.napi_types.specs.Lists.{head, tail}
 use Rattle.napi_types.specs.Plan.{Plan, plan_of, Registers, registers_of}
 use Rattle.napi_types.specs.Registers.{plan_ask}
-use Rattle.napi_types.specs.Room.{Room, room_of, is_full, may_want_memory}
+use Rattle.napi_types.specs.Environment.{Environment}
+use Rattle.napi_types.specs.Room.{Room, room_of, is_full, is_growing, need, first_places, may_want_memory}
 use Rattle.napi_types.specs.Step.{may_cut}
 use Rattle.napi_types.specs.Setting.{Setting}
 use Rattle.env_core.specs.Core.{Core, after_change, room_in}
-use Rattle.env_core.specs.Steps.{StopsBy}
+use Rattle.env_core.specs.Steps.{GrowsUnrefused, PassesFirstPlaces, StopsBy}
 use Rattle.env_loop.specs.Recording.{machine_of, why_stopped}
 use Rattle.env_loop.specs.Runs.{IsSoundEnvironment}
 use Rattle.env_loop.specs.Turns.{IsAsked, IsTurn}
@@ -42,23 +43,33 @@ cut-turn {ps} {core} {all} {f} {a} i w new now may made told =
     (ended-ends None (Some w) core.env).told (may s history limit)) made told
 
 -- ITS CALL STOPPED
+-- a call that grows, or passes the first places, may want memory
+wants_memory : (e : Environment) (r : Room) (c : Call) → GrowsUnrefused e c ⊎ PassesFirstPlaces r c → may_want_memory r c ≡ true
+wants_memory e r c (inl grows) = ap (λ b. b || nat_lt (min first_places r.limit) (r.occupied + need c)) grows.grows
+wants_memory e r c (inr passes) = by (min first_places r.limit) (r.occupied + need c) passes (is_growing c)
+  where
+    by : (a b : ℕ) → a < b → (grows : Bool) → (grows || nat_lt a b) ≡ true
+    by a b h true = refl
+    by a b h false = grind arith
+
 -- a frame may be cut where its call stopped, for the reason that the status gives
 stopped-may : (s : Setting) (core : Core) (history : List Entry) (a : Ask) (c : Call) (t : Status) → core.limit ≡ s.limits.journal → may_call core.env ≡ true
     → ask.Do c ≡ built_ask a
-    → StopsBy (room_in core) c t → may_cut (machine_of s.limits core history) (built_ask a) (why_stopped t) ≡ true
+    → StopsBy core.env (room_in core) c t → may_cut (machine_of s.limits core history) (built_ask a) (why_stopped t) ≡ true
 stopped-may s core history a c t limit may made stops =
     ap (λ b. may_cut (machine_of s.limits core history) b (why_stopped t)) (sym made)
-    ∙ by t (subst (λ (x : Room). StopsBy x c t) (same-room s core history c (built_ask-built a c made) limit) stops)
+    ∙ by t (subst (λ (x : Room). StopsBy core.env x c t) (same-room s core history c (built_ask-built a c made) limit) stops)
   where
-    by : (t : Status) → StopsBy (room_of (machine_of s.limits core history) c) c t → may_cut (machine_of s.limits core history) (ask.Do c) (why_stopped t) ≡ true
+    by : (t : Status) → StopsBy core.env (room_of (machine_of s.limits core history) c) c t → may_cut (machine_of s.limits core history) (ask.Do c) (why_stopped t) ≡ true
     by status.TraceFull stops = two_may (may_call core.env) (is_full (room_of (machine_of s.limits core history) c) c) may stops
     by status.NoMemory stops =
-        both_may (may_call core.env) (may_want_memory (room_of (machine_of s.limits core history) c) c) (is_full (room_of (machine_of s.limits core history) c) c) may stops.0 stops.1
+        both_may (may_call core.env) (may_want_memory (room_of (machine_of s.limits core history) c) c) (is_full (room_of (machine_of s.limits core history) c) c) may
+        (wants_memory core.env (room_of (machine_of s.limits core history) c) c stops.0) stops.1
     by _ stops = absurd stops
 
 stopped-turn : (ps : List Plan) (core new : Core) (all now : Registers) (f : Frame) (a : Ask) (c : Call) (t : Status) (w : Why) → InFrame ps core.env all f a
     → f.asks < most_asks → ask.Do c ≡ built_ask a
-    → StopsBy (room_in core) c t → w ≡ why_stopped t → new ≡ after_change (end_change None (Some w) core.env) core → IsToldEnd ps all core.env None (Some w) now
+    → StopsBy core.env (room_in core) c t → w ≡ why_stopped t → new ≡ after_change (end_change None (Some w) core.env) core → IsToldEnd ps all core.env None (Some w) now
     → IsTurn ps core all new now
 stopped-turn ps core new all now f a c t w i below made stops reason ended told =
     cut-turn i w new now
@@ -66,7 +77,7 @@ stopped-turn ps core new all now f a c t w i below made stops reason ended told 
 
 -- a call that stopped changed nothing, so its frame ends where it stood
 pub stopped-turn-at : (ps qs : List Plan) (core stopped new : Core) (all mid now : Registers) (f : Frame) (a : Ask) (c : Call) (t : Status) (w : Why)
-    → InFrame ps core.env all f a → f.asks < most_asks → ask.Do c ≡ built_ask a → StopsBy (room_in core) c t → w ≡ why_stopped t
+    → InFrame ps core.env all f a → f.asks < most_asks → ask.Do c ≡ built_ask a → StopsBy core.env (room_in core) c t → w ≡ why_stopped t
     → stopped ≡ core → new ≡ after_change (end_change None (Some w) stopped.env) stopped → qs ≡ ps → mid ≡ all → IsToldEnd qs mid stopped.env None (Some w) now
     → IsTurn ps core all new now
 stopped-turn-at ps qs core stopped new all mid now f a c t w i below made stops reason same ended plans registers told =

@@ -7,3 +7,4 @@ pub mod Keeping
 pub mod Listing
 pub mod Numbering
 pub mod Seen
+pub mod Unrefused

@@ -5,7 +5,6 @@ use Rattle.std.specs.declared.result.Result.TheVariants.{Ok, Err}
 use Rattle.napi_types.specs.declared.call.Call.{Call}
 use Rattle.napi_types.specs.declared.entry.NoMemory.{NoMemory}
 use Rattle.napi_types.specs.declared.entry.Out.{Out}
-use Rattle.napi_types.specs.declared.status.Status.{Status}
 use Rattle.napi_types.specs.Calls.{heap_effect, addon_effect}
 use Rattle.napi_types.specs.Graph.{StoreState, value_of, number_in, renamed}
 use Rattle.napi_types.specs.Heap.{Heap, handle_value}
@@ -32,11 +31,11 @@ pub record IsValueOf (store : StoreState) (scopes : HandleScopes) (h : ℕ) (v :
   pub seen : value_at (heap_of store scopes).values (number_in store v.id.0) ≡ option_map (renamed store) (value_of store v.id.0)
 
 -- what a call comes to, where an accepted one has this effect: its result where nothing refuses it, and the heap that it leaves; or the first refusal; or
--- want of memory. The last two leave the heap as it was
+-- want of memory, where it grows and nothing refuses it. The last two leave the heap as it was
 abbrev pub ComesBy : (Heap → Call → ℕ → Answer Heap) → ℕ → Heap → Call → Result Out Stop → Heap → Type 0
 ComesBy effect texts before c (Ok o) after = (refusal_in texts before c ≡ None) × (effect before c 0 ≡ accepts o after)
 ComesBy effect texts before c (Err (stop.Refused s)) after = (refusal_in texts before c ≡ Some s) × (after ≡ before)
-ComesBy effect texts before c (Err stop.NoMemory) after = IsTrue (is_growing c) × (after ≡ before)
+ComesBy effect texts before c (Err stop.NoMemory) after = IsTrue (is_growing c) × (refusal_in texts before c ≡ None) × (after ≡ before)
 
 -- what a call that creates no function comes to
 abbrev pub Comes : ℕ → Heap → Call → Result Out Stop → Heap → Type 0

@@ -1,7 +1,8 @@
 //! One call on values, properties or elements.
-ghost use Rattle.std.specs.Prelude.{◌≡◌, ◌≢◌, ◌+◌, ◌<◌, ◌^◌, true, cond, [], IsTrue, IfOk, OnOk, OnErr};
+ghost use Rattle.std.specs.Prelude.{◌≡◌, ◌≢◌, ◌+◌, ◌<◌, ◌^◌, true, cond, [], None, IsTrue, IfOk, OnOk, OnErr};
 ghost use Rattle.napi_types.specs.Built.{is_creating, is_value_call};
 ghost use Rattle.napi_types.specs.Calls.{heap_answer};
+ghost use Rattle.napi_types.specs.Refusals.{refusal_in};
 ghost use Rattle.napi_types.specs.Room.{is_growing};
 ghost use Rattle.napi_types.specs.Values.{true_value, false_value};
 ghost use Rattle.env_values.specs.Numbering.{HasNumbersLeft};
@@ -131,7 +132,7 @@ fn outcome(
 /// and the names of any one object, of which 65,536 count at most, are together below 2^48 - 8.
 ///
 /// Which frames a call entered stays as it was. After `NoMemory` the scopes and the value graph are as they were too: all memory
-/// is taken before the first change.
+/// is taken before the first change, and after each test. So a call that is refused finds no want of memory.
 ///
 /// Near constant time and logarithmic in the open handles, beside `delete_property` and `get_property_names`, whose time grows
 /// with the number of the object's properties, and `set_element`, whose time grows with the holes that it fills.
@@ -154,9 +155,10 @@ pub fn value_step(
     ensures calls { scopes.new.by_call ≡ scopes.old.by_call }
     ensures kept { KeepsValues store.old store.new }
 
-    // A call that finds no memory is one that grows, and leaves the scopes and the value graph as they were.
+    // A call that finds no memory is one that grows and that nothing refuses. It leaves the scopes and the value graph as they were.
     ensures err { OnErr result (heap_of store.new scopes.new ≡ heap_of store.old scopes.old) }
     ensures growing { OnErr result (IsTrue (is_growing call.now)) }
+    ensures unrefused { OnErr result (refusal_in texts (heap_of store.old scopes.old) call.now ≡ None) }
 {
     match outcome(alloc, store, scopes, texts, addon, call) {
         Ok(out) => Ok(Reply::plain(Status::Ok, out)),

@@ -39,7 +39,7 @@ pub enum Called {
 }
 
 impl State {
-    /// A call of a function by the innermost frame.
+    /// A call of a function by the innermost frame. It finds no memory only where nothing refuses it, the depth limit left aside.
     pub fn call_function(
         &mut self,
         step: u32,
@@ -54,6 +54,7 @@ impl State {
         requires handles { self.old.heap.handles < 2 ^ 62 }
         ensures ok { IfOk result (λ called. CallsFunction self.old receiver function args.now called self.new) }
         ensures err { OnErr result (self.new ≡ self.old) }
+        ensures unrefused { OnErr result (early_refusal self.old (call_of.CallFunction receiver function args.now) ≡ None) }
     {
         let reply = match self.why_not_calling(receiver, function, args) {
             Some(status) => Reply::plain(status, Out::Nothing),

@@ -1,6 +1,7 @@
 //! The collection.
-ghost use Rattle.std.specs.Prelude.{◌≡◌, IfOk, OnErr};
+ghost use Rattle.std.specs.Prelude.{◌≡◌, None, IfOk, OnErr};
 ghost use Rattle.napi_types.specs.declared.call.Call.TheVariants as call_of;
+ghost use Rattle.napi_types.specs.Refusals.{timely_refusal};
 ghost use Rattle.env_core.specs.State.{AnswersInTime};
 
 use super::State;
@@ -13,6 +14,7 @@ impl State {
     pub(super) fn collect(&mut self) -> Result<Reply, NoMemory>
         ensures ok { IfOk result (λ reply. AnswersInTime self.old call_of.Collect reply self.new) }
         ensures err { OnErr result (self.new ≡ self.old) }
+        ensures unrefused { OnErr result (timely_refusal self.old call_of.Collect ≡ None) }
     {
         let roots = roots_of(
             self.alloc,

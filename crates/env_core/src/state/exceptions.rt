@@ -1,8 +1,9 @@
 //! Calls on exceptions and on the last status.
-ghost use Rattle.std.specs.Prelude.{◌≡◌, ◌≢◌, ◌+◌, ◌<◌, ◌^◌, [], IfOk, OnErr};
+ghost use Rattle.std.specs.Prelude.{◌≡◌, ◌≢◌, ◌+◌, ◌<◌, ◌^◌, [], None, IfOk, OnErr};
 ghost use Rattle.napi_types.specs.declared.call.Call.TheVariants as call_of;
 ghost use Rattle.napi_types.specs.NamedNumbers.{is_known};
 ghost use Rattle.napi_types.specs.Properties.{most_names};
+ghost use Rattle.napi_types.specs.Refusals.{timely_refusal};
 ghost use Rattle.env_core.specs.State.{AnswersInTime};
 
 use super::State;
@@ -30,6 +31,7 @@ impl State {
         requires { self.old.heap.made + most_names + 8 < 2 ^ 48 }
         ensures ok { IfOk result (λ reply. AnswersInTime self.old (call_of.ThrowError code message) reply self.new) }
         ensures err { OnErr result (self.new ≡ self.old) }
+        ensures unrefused { OnErr result (timely_refusal self.old (call_of.ThrowError code message) ≡ None) }
     {
         if !self.knows(code, message) {
             return Ok(Reply::plain(Status::InvalidArg, Out::Nothing));
@@ -63,6 +65,7 @@ impl State {
         requires handles { self.old.heap.handles < 2 ^ 62 }
         ensures ok { IfOk result (λ reply. AnswersInTime self.old call_of.GetAndClearLastException reply self.new) }
         ensures err { OnErr result (self.new ≡ self.old) }
+        ensures unrefused { OnErr result (timely_refusal self.old call_of.GetAndClearLastException ≡ None) }
     {
         let value = or_undefined(&self.store, self.exceptions.pending());
         let handle = self.scopes.issue(value)?;

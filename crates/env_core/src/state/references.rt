@@ -1,9 +1,9 @@
 //! Calls on references.
-ghost use Rattle.std.specs.Prelude.{◌≡◌, ◌≢◌, ◌+◌, ◌<◌, ◌^◌, [], length, IfOk, IfErr, OnErr};
+ghost use Rattle.std.specs.Prelude.{◌≡◌, ◌≢◌, ◌+◌, ◌<◌, ◌^◌, [], length, None, IfOk, IfErr, OnErr};
 ghost use Rattle.napi_types.specs.declared.call.Call.TheVariants as call_of;
 ghost use Rattle.napi_types.specs.Heap.{handle_body};
 ghost use Rattle.napi_types.specs.Lists.{unless};
-ghost use Rattle.napi_types.specs.Refusals.{refusal_in};
+ghost use Rattle.napi_types.specs.Refusals.{refusal_in, timely_refusal};
 ghost use Rattle.napi_types.specs.Replies.{plain};
 ghost use Rattle.napi_types.specs.Bodies.{is_referable as is_referable_body};
 ghost use Rattle.env_core.specs.State.{AnswersInTime};
@@ -22,6 +22,7 @@ impl State {
         requires references { length self.old.references.issued + 2 < 2 ^ 48 }
         ensures ok { IfOk result (λ reply. AnswersInTime self.old (call_of.CreateReference handle count) reply self.new) }
         ensures err { OnErr result (self.new ≡ self.old) }
+        ensures unrefused { OnErr result (timely_refusal self.old (call_of.CreateReference handle count) ≡ None) }
     {
         if !self.may_refer_to(handle, count) {
             return Ok(Reply::plain(Status::InvalidArg, Out::Nothing));
@@ -78,6 +79,7 @@ impl State {
         requires handles { self.old.heap.handles < 2 ^ 62 }
         ensures ok { IfOk result (λ reply. AnswersInTime self.old (call_of.GetReferenceValue reference) reply self.new) }
         ensures err { OnErr result (self.new ≡ self.old) }
+        ensures unrefused { OnErr result (timely_refusal self.old (call_of.GetReferenceValue reference) ≡ None) }
     {
         match self.references.value(reference) {
             Ok(Some(value)) => {

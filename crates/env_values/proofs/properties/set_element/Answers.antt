@@ -1,26 +1,33 @@
-use Rattle.std.proofs.Common.{◌≡◌, ◌∙◌, true, ap, sym, refl}
-use Rattle.napi_types.specs.Heap.{Heap, handle_body, handle_value}
+use Rattle.std.proofs.Common.{◌∙◌, ap, sym, refl}
+use Rattle.napi_types.specs.declared.call.Call.TheVariants as call
+use Rattle.napi_types.specs.Heap.{Heap, handle_value}
 use Rattle.napi_types.specs.HeapChanges.{with_changed}
 use Rattle.napi_types.specs.Replies.{accepts}
 use Rattle.napi_types.specs.declared.entry.Out.TheVariants as out
-use Rattle.napi_types.specs.Bodies.{is_object_like}
 use Rattle.napi_types.specs.Values.{with_element}
 use Rattle.env_values.specs.Seen.{heap_of}
+use Rattle.env_values.proofs.Coming.{comes-without_memory}
 use Rattle.env_values.proofs.Giving.{more-live}
-use Rattle.env_values.proofs.HandleValues.{like-known}
 use Rattle.env_values.proofs.Heaps.{with_changed-heap}
 use Rattle.env_values.proofs.Keeping.{keeps_changed}
+use Rattle.env_values.proofs.Unrefused.{set_element-unrefused}
 use Rattle.env_values.proofs.properties.set_element.Goals as goal
+
+pub returns-in_err-set_element-clause-comes : goal.returns-in_err-set_element-clause-comes
+returns-in_err-set_element-clause-comes c = λ texts.
+    let scopes = c.args.scopes.now in
+    let heap = heap_of c.args.store.now scopes in
+    comes-without_memory texts heap _ (call.SetElement c.args.object c.args.index c.args.value) _ c.from_residual-in_err-set_element.ensures.1 refl
+    (set_element-unrefused texts c.args.object c.args.index c.args.value c.in_ok-object.ensures.ok c.in_ok-value.ensures.ok c.in_ok-object_like.ensures.ok c.in_ok-index.ensures.within)
+    (ap (λ s. heap_of s scopes) c.in_err-set_element.ensures.err)
 
 pub returns-clause-comes : goal.returns-clause-comes
 returns-clause-comes c = λ texts.
     let s = c.args.store.now in
     let scopes = c.args.scopes.now in
     let object = c.in_ok-object.ensures.ok in
-    let value = c.in_ok-value.ensures.ok in
-    let like : is_object_like (handle_body (heap_of s scopes) c.args.object.0) ≡ true =
-    like-known s scopes c.args.object.0 c.in_ok-object.object object c.in_ok-object_like.ensures.ok in (
-      rw (object.known, value.known, like, c.in_ok-index.ensures.within) refl,
+    let value = c.in_ok-value.ensures.ok in (
+      set_element-unrefused texts c.args.object c.args.index c.args.value object value c.in_ok-object_like.ensures.ok c.in_ok-index.ensures.within,
       ap (λ at. accepts out.Nothing (with_changed c.args.object.0 (with_element at (handle_value (heap_of s scopes) c.args.value.0)) (heap_of s scopes))) (sym c.in_ok-index.ensures.ok)
           ∙ ap (λ n. accepts out.Nothing (with_changed c.args.object.0 (with_element c.in_ok-index.index n) (heap_of s scopes))) value.number
           ∙ ap (λ (heap : Heap). accepts out.Nothing heap)

@@ -7,6 +7,7 @@ use Rattle.env_core.specs.contracts.state.State.{the_view}
 use Rattle.env_values.proofs.Giving.{given-heap}
 use Rattle.env_core.proofs.Exceptions.{state-issued}
 use Rattle.env_core.proofs.Referring.{refused-answers, gone-answers, told-answers, value-live}
+use Rattle.env_core.proofs.Unrefused.{on-err, reference-unrefused}
 use Rattle.env_core.proofs.state.State.get_reference_value.Goals as goal
 
 pub invariant_of-self-in-Ok-Some : goal.invariant_of-self-in-Ok-Some
@@ -37,3 +38,8 @@ returns-in-Err-clause-ok c =
     let m = map_of s.references in
     rw (← c.self.view_is)
     (rw c.plain-in-Err.ensures (refused-answers (the_view s) s.store m m (call.GetReferenceValue c.args.reference) c.in-Err.status c.in-Err.ensures.refusal refl refl))
+
+pub returns-in_err-handle-in-Ok-Some-clause-unrefused : goal.returns-in_err-handle-in-Ok-Some-clause-unrefused
+returns-in_err-handle-in-Ok-Some-clause-unrefused c =
+    let s = c.self.inside in
+    rw (← c.self.view_is) (on-err _ (reference-unrefused (the_view s) s.store (map_of s.references) (call.GetReferenceValue c.args.reference) c.in-Ok-Some.ensures.refusal refl))

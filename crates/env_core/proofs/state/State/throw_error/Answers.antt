@@ -7,6 +7,7 @@ use Rattle.env_core.specs.contracts.state.State.{the_view}
 use Rattle.env_values.specs.Seen.{heap_of}
 use Rattle.env_values.proofs.Giving.{thrown-heap}
 use Rattle.env_core.proofs.Exceptions.{accepted-thrown}
+use Rattle.env_core.proofs.Unrefused.{on-err, thrown-unrefused}
 use Rattle.env_core.proofs.ValueAnswers.{references-kept}
 use Rattle.env_core.proofs.state.State.throw_error.Goals as goal
 
@@ -21,3 +22,6 @@ returns-clause-ok c =
     (rw (c.plain-2.ensures, c.set.ensures, references-kept s.store t (map_of s.references) k.kept c.self.invariant.referred)
     (accepted-thrown (the_view s) s.store t s.scopes c.args.code c.args.message c.in_ok-error.error.0 known
     (thrown-heap s.store t s.scopes c.args.code c.args.message k.kept.numbers c.self.invariant.live k.made k.graph) k.number))
+
+pub returns-in_err-error-clause-unrefused : goal.returns-in_err-error-clause-unrefused
+returns-in_err-error-clause-unrefused c = on-err _ (thrown-unrefused c.args.self.now c.args.code c.args.message c.if-not-knows.ensures)

@@ -3,6 +3,7 @@ use Rattle.napi_reference.specs.Places.{map_of}
 use Rattle.env_core.specs.contracts.state.State.{the_view}
 use Rattle.env_values.specs.Seen.{heap_of}
 use Rattle.env_core.proofs.ValueAnswers.{value-answers, value-frames, pending-live, pending-kept, referred-live, references-kept, stopped-same}
+use Rattle.env_core.proofs.Unrefused.{value-unrefused}
 use Rattle.env_core.proofs.state.State.value_call.Goals as goal
 
 pub invariant_of-self : goal.invariant_of-self
@@ -31,3 +32,6 @@ returns-clause-err c =
     let k = c.value_step in
     rw (← c.self.view_is)
     (stopped-same (the_view s) s.store k.new.store s.scopes k.new.scopes (map_of s.references) s.exceptions.pending k.result k.ensures.kept c.self.invariant.referred c.self.invariant.pending k.ensures.err)
+
+pub returns-clause-unrefused : goal.returns-clause-unrefused
+returns-clause-unrefused c = rw (← c.self.view_is) (value-unrefused (the_view c.self.inside) c.args.call.now c.value_step.result c.requires.value_call c.value_step.ensures.unrefused)

@@ -1,0 +1,52 @@
+-- Nothing refuses a call that finds no memory.
+use Rattle.std.proofs.Common.{◌≡◌, ◌∙◌, true, ap, sym, refl, Option, None, Result, Ok, Err, OnErr}
+use Rattle.std.specs.Option.{option_or}
+use Rattle.napi_types.specs.declared.call.Call.{Call}
+use Rattle.napi_types.specs.declared.call.Call.TheVariants as call
+use Rattle.napi_types.specs.declared.ids.ScopeKind.{ScopeKind}
+use Rattle.napi_types.specs.declared.ids.ScopeKind.TheVariants as scope_kind
+use Rattle.napi_types.specs.declared.ids.TextNo.{TextNo}
+use Rattle.napi_types.specs.Built.{is_value_call}
+use Rattle.napi_types.specs.Environment.{Environment}
+use Rattle.napi_types.specs.Graph.{StoreState}
+use Rattle.napi_types.specs.Moments.{moment_refusal}
+use Rattle.napi_types.specs.NamedNumbers.{is_known}
+use Rattle.napi_types.specs.ReferenceRefusals.{reference_refusal}
+use Rattle.napi_types.specs.References.{ReferenceMap}
+use Rattle.napi_types.specs.Refusals.{refusal_in, timely_refusal, early_refusal}
+use Rattle.env_core.specs.State.{opening_call}
+use Rattle.env_core.proofs.Exceptions.{thrown-refusal}
+use Rattle.env_core.proofs.Referring.{referring, by-reference, seen-refusal}
+use Rattle.env_core.proofs.ValueAnswers.{timely-value}
+
+-- what holds in any case
+pub on-err : {A E P : Type 0} (r : Result A E) → P → OnErr r P
+on-err (Ok x) p = tt
+on-err (Err x) p = p
+
+-- CALLS AT A RIGHT MOMENT
+-- a scope is opened
+pub opening_unrefused : (e : Environment) (kind : ScopeKind) → timely_refusal e (opening_call kind) ≡ None
+opening_unrefused e scope_kind.Plain = refl
+opening_unrefused e scope_kind.Escapable = refl
+
+-- an error is thrown whose texts are known
+pub thrown-unrefused : (e : Environment) (code : Option TextNo) (message : TextNo) → true ≡ is_known e.texts e.heap (call.ThrowError code message)
+    → timely_refusal e (call.ThrowError code message) ≡ None
+thrown-unrefused e code message known = thrown-refusal e.texts e.heap code message true (sym known)
+
+-- neither references nor the heap tell a refusal
+pub reference-unrefused : (e : Environment) (s : StoreState) (m : ReferenceMap) (c : Call) → None ≡ reference_refusal m c → refusal_in e.texts e.heap c ≡ None
+    → timely_refusal (referring e s m) c ≡ None
+reference-unrefused e s m c h k = by-reference (referring e s m) c None (seen-refusal s m c ∙ sym h) k
+
+-- a call on values finds no memory
+pub value-unrefused : {A E : Type 0} (e : Environment) (c : Call) (r : Result A E) → is_value_call c ≡ true → OnErr r (refusal_in e.texts e.heap c ≡ None) → OnErr r (timely_refusal e c ≡ None)
+value-unrefused e c (Ok x) h none = tt
+value-unrefused e c (Err x) h none = timely-value e c h ∙ none
+
+-- THE MOMENT
+-- a call at a right moment finds no memory
+pub unrefused-in-time : {A E : Type 0} (e : Environment) (c : Call) (r : Result A E) → None ≡ moment_refusal e c → OnErr r (timely_refusal e c ≡ None) → OnErr r (early_refusal e c ≡ None)
+unrefused-in-time e c (Ok x) h none = tt
+unrefused-in-time e c (Err x) h none = ap (λ o. option_or o (timely_refusal e c)) (sym h) ∙ none
