@@ -23,7 +23,7 @@ use Rattle.handle_scope.specs.HandleScopes.{HandleScopes}
 use Rattle.env_values.specs.Seen.{seen_frame, heap_of, KeepsValues}
 use Rattle.env_core.specs.Referring.{seen_reference, references_seen, RefersToLive}
 use Rattle.env_core.specs.State.{pending_seen, AnswersInTime}
-use Rattle.napi_types.proofs.Answers.{answer_in-keeps}
+use Rattle.napi_types.proofs.Answers.{heap_answer-keeps}
 
 accepted-any : (addon : ℕ) (heap : Heap) (c : Call) (n : ℕ) → is_value_call c ≡ true → addon_effect addon heap c 0 ≡ addon_effect addon heap c n
 accepted-any addon heap call.OpenHandleScope n h = cc
@@ -108,7 +108,7 @@ value-frames texts addon c store after_store old new result leaves stays =
     seen : {X E : Type 0} (result : Result X E)
         → OnOk result (heap_of after_store new ≡ (heap_answer texts addon (heap_of store old) c 0).after) → OnErr result (heap_of after_store new ≡ heap_of store old)
         → length (map (seen_frame after_store) new.frames) ≡ length (map (seen_frame store) old.frames)
-    seen (Ok r) leaves stays = ap (λ (h : Heap). length h.scopes) leaves ∙ (answer_in-keeps texts addon (heap_of store old) c 0).depth
+    seen (Ok r) leaves stays = ap (λ (h : Heap). length h.scopes) leaves ∙ (heap_answer-keeps texts addon (heap_of store old) c 0).depth
     seen (Err x) leaves stays = ap (λ (h : Heap). length h.scopes) stays
 
 -- THE PENDING EXCEPTION

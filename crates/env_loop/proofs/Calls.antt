@@ -29,7 +29,7 @@ use Rattle.env_core.specs.Steps.{Replies, EntersBy, Enters}
 use Rattle.env_loop.specs.Recording.{machine_of, Continues}
 use Rattle.env_loop.specs.Runs.{IsSoundEnvironment}
 use Rattle.env_loop.specs.Turns.{IsTold, OnlyInnermostChanges, IsTurn}
-use Rattle.napi_types.proofs.Answers.{course-parts, answer-keeps, called-keeps}
+use Rattle.napi_types.proofs.Answers.{course-parts, answer-keeps, call_change-keeps}
 use Rattle.napi_types.proofs.FrameChanges.{enter_change-keeps, asked_change-call_change, asked_change-enter_change, KeepsButFrames, asked_change-fits}
 use Rattle.napi_types.proofs.Owners.{callee-owned}
 use Rattle.env_loop.proofs.Recordings.{local-grown}
@@ -60,7 +60,7 @@ call_change-goes {ps} {core} {all} {f} {a} i c r new now below made reply told =
     (in-calls i below) fresh_o room
     ∙ ap (λ x. locally m x true) (asked_change-call_change core.env c k reply.at_once))
     refl (asked-in i s history of rec) refl next.count next.agrees
-    (ap stage_of (course-parts core.env (call_change core.env c k).after (called-keeps core.env c k).course).phase)
+    (ap stage_of (course-parts core.env (call_change core.env c k).after (call_change-keeps core.env c k).course).phase)
 
 -- a turn of a call, which comes to this change
 asked-turn : {ps : List Plan} {core : Core} {all : Registers} {f : Frame} {a : Ask} → InFrame ps core.env all f a

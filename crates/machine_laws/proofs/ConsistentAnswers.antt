@@ -20,7 +20,7 @@ use Rattle.napi_types.specs.ReferenceCalls.{with_references, counted_up, value_t
 use Rattle.napi_types.specs.References.{Reference, ReferenceMap, referred_value, with_reference, without_reference, with_count}
 use Rattle.napi_types.specs.Refusals.{early_refusal, depth_refusal}
 use Rattle.napi_types.specs.Values.{undefined_value}
-use Rattle.napi_types.proofs.Answers.{KeepsButAsk, called-keeps}
+use Rattle.napi_types.proofs.Answers.{KeepsButAsk, call_change-keeps}
 use Rattle.machine_laws.specs.Consistency.{IsConsistent, IsLiveAmong, IsMap}
 use Rattle.machine_laws.proofs.Collected.{heap-kept, referred-kept, pending-kept}
 use Rattle.machine_laws.proofs.ConsistentCalls.{heap-call, handle-live, or-undefined}
@@ -192,7 +192,7 @@ pub call_change-follows : (e : Environment) (c : Call) (k : ℕ) → IsConsisten
 call_change-follows e c k old =
     let led : LeadsTo e _ = at-good e c k (early_refusal e c) (depth_refusal e.frames c) (parts-of e old) in
     let new : Environment = (call_change e c k).after in
-    let keeps : KeepsButAsk e new = called-keeps e c k in
+    let keeps : KeepsButAsk e new = call_change-keeps e c k in
     let good : IsConsistentButFrames new = record {
       heap = led.good.heap;
       referred = led.good.referred;

@@ -73,45 +73,45 @@ few n h = grind arith
 named : (old : Heap) (n k : ℕ) → n ≡ k → k ≤ 65536 → old.made + n + 1 ≤ old.made + 65537
 named old n k e h = omega arith
 
-accepted-keeps : (texts : ℕ) (heap : Heap) (c : Call) (n : ℕ) → refusal_in texts heap c ≡ None → HeapKeeps heap (heap_effect heap c n).after
-accepted-keeps texts heap call.GetUndefined n h = handled heap heap _ refl refl refl (omega arith)
-accepted-keeps texts heap call.GetNull n h = handled heap heap _ refl refl refl (omega arith)
-accepted-keeps texts heap call.GetGlobal n h = handled heap heap _ refl refl refl (omega arith)
-accepted-keeps texts heap (call.GetBoolean b) n h = handled heap heap _ refl refl refl (omega arith)
-accepted-keeps texts heap (call.CreateInt64 i) n h = handled heap _ _ refl refl refl (omega arith)
-accepted-keeps texts heap (call.CreateBigintInt64 i) n h = handled heap _ _ refl refl refl (omega arith)
-accepted-keeps texts heap (call.CreateStringUtf8 t) n h = handled heap _ _ refl refl refl (omega arith)
-accepted-keeps texts heap (call.CreateSymbol d) n h = handled heap _ _ refl refl refl (omega arith)
-accepted-keeps texts heap call.CreateObject n h = handled heap _ _ refl refl refl (omega arith)
-accepted-keeps texts heap call.CreateArray n h = handled heap _ _ refl refl refl (omega arith)
-accepted-keeps texts heap (call.CreateError code message) n h = handled heap _ _ refl refl refl (omega arith)
-accepted-keeps texts heap (call.GetNamedProperty o name) n h = handled heap heap _ refl refl refl (omega arith)
-accepted-keeps texts heap (call.GetElement o at) n h = handled heap heap _ refl refl refl (omega arith)
-accepted-keeps texts heap (call.GetPropertyNames o) n h =
+heap_effect-keeps : (texts : ℕ) (heap : Heap) (c : Call) (n : ℕ) → refusal_in texts heap c ≡ None → HeapKeeps heap (heap_effect heap c n).after
+heap_effect-keeps texts heap call.GetUndefined n h = handled heap heap _ refl refl refl (omega arith)
+heap_effect-keeps texts heap call.GetNull n h = handled heap heap _ refl refl refl (omega arith)
+heap_effect-keeps texts heap call.GetGlobal n h = handled heap heap _ refl refl refl (omega arith)
+heap_effect-keeps texts heap (call.GetBoolean b) n h = handled heap heap _ refl refl refl (omega arith)
+heap_effect-keeps texts heap (call.CreateInt64 i) n h = handled heap _ _ refl refl refl (omega arith)
+heap_effect-keeps texts heap (call.CreateBigintInt64 i) n h = handled heap _ _ refl refl refl (omega arith)
+heap_effect-keeps texts heap (call.CreateStringUtf8 t) n h = handled heap _ _ refl refl refl (omega arith)
+heap_effect-keeps texts heap (call.CreateSymbol d) n h = handled heap _ _ refl refl refl (omega arith)
+heap_effect-keeps texts heap call.CreateObject n h = handled heap _ _ refl refl refl (omega arith)
+heap_effect-keeps texts heap call.CreateArray n h = handled heap _ _ refl refl refl (omega arith)
+heap_effect-keeps texts heap (call.CreateError code message) n h = handled heap _ _ refl refl refl (omega arith)
+heap_effect-keeps texts heap (call.GetNamedProperty o name) n h = handled heap heap _ refl refl refl (omega arith)
+heap_effect-keeps texts heap (call.GetElement o at) n h = handled heap heap _ refl refl refl (omega arith)
+heap_effect-keeps texts heap (call.GetPropertyNames o) n h =
     let ps = handle_properties heap o.0 in
     let c : Call = call.GetPropertyNames o in
     let row : row_refusal heap c ≡ None = none-last (unknown_refusal texts heap c) (kind_refusal heap c) (row_refusal heap c) h in
     handled heap _ _ refl refl refl (named heap (length (names_of ps)) (length ps) (length-map ps _) (few (length ps) (not-when (nat_lt 65536 (length ps)) status.InvalidArg row)))
-accepted-keeps texts heap call.OpenHandleScope n h = in-scopes heap _ (length-changed _ heap.scopes) (omega arith) (length-with_record (λ m. m) n heap.scope_numbers) refl
-accepted-keeps texts heap call.OpenEscapableHandleScope n h = in-scopes heap _ (length-changed _ heap.scopes) (omega arith) (length-with_record (λ m. m) n heap.scope_numbers) refl
-accepted-keeps texts heap (call.CloseHandleScope s) n h = in-scopes heap _ (length-changed _ heap.scopes) (omega arith) (omega arith) refl
-accepted-keeps texts heap (call.CloseEscapableHandleScope s) n h = in-scopes heap _ (length-changed _ heap.scopes) (omega arith) (omega arith) refl
-accepted-keeps texts heap (call.EscapeHandle s v) n h = in-scopes heap _ (length-changed _ heap.scopes) (omega arith) (omega arith) refl
-accepted-keeps texts heap (call.SetNamedProperty o name v) n h = in-scopes heap _ refl (omega arith) (omega arith) refl
-accepted-keeps texts heap (call.DeleteProperty o name) n h = in-scopes heap _ refl (omega arith) (omega arith) refl
-accepted-keeps texts heap (call.SetElement o at v) n h = in-scopes heap _ refl (omega arith) (omega arith) refl
-accepted-keeps texts heap _ n h = same heap
+heap_effect-keeps texts heap call.OpenHandleScope n h = in-scopes heap _ (length-changed _ heap.scopes) (omega arith) (length-with_record (λ m. m) n heap.scope_numbers) refl
+heap_effect-keeps texts heap call.OpenEscapableHandleScope n h = in-scopes heap _ (length-changed _ heap.scopes) (omega arith) (length-with_record (λ m. m) n heap.scope_numbers) refl
+heap_effect-keeps texts heap (call.CloseHandleScope s) n h = in-scopes heap _ (length-changed _ heap.scopes) (omega arith) (omega arith) refl
+heap_effect-keeps texts heap (call.CloseEscapableHandleScope s) n h = in-scopes heap _ (length-changed _ heap.scopes) (omega arith) (omega arith) refl
+heap_effect-keeps texts heap (call.EscapeHandle s v) n h = in-scopes heap _ (length-changed _ heap.scopes) (omega arith) (omega arith) refl
+heap_effect-keeps texts heap (call.SetNamedProperty o name v) n h = in-scopes heap _ refl (omega arith) (omega arith) refl
+heap_effect-keeps texts heap (call.DeleteProperty o name) n h = in-scopes heap _ refl (omega arith) (omega arith) refl
+heap_effect-keeps texts heap (call.SetElement o at v) n h = in-scopes heap _ refl (omega arith) (omega arith) refl
+heap_effect-keeps texts heap _ n h = same heap
 
-accepted_of-keeps : (texts addon : ℕ) (heap : Heap) (c : Call) (n : ℕ) → refusal_in texts heap c ≡ None → HeapKeeps heap (addon_effect addon heap c n).after
-accepted_of-keeps texts addon heap (call.CreateFunction entry payload) n h = handled heap _ _ refl refl refl (omega arith)
-accepted_of-keeps texts addon heap c n h = accepted-keeps texts heap c n h
+addon_effect-keeps : (texts addon : ℕ) (heap : Heap) (c : Call) (n : ℕ) → refusal_in texts heap c ≡ None → HeapKeeps heap (addon_effect addon heap c n).after
+addon_effect-keeps texts addon heap (call.CreateFunction entry payload) n h = handled heap _ _ refl refl refl (omega arith)
+addon_effect-keeps texts addon heap c n h = heap_effect-keeps texts heap c n h
 
 by-refusal : (texts addon : ℕ) (heap : Heap) (c : Call) (n : ℕ) (s : Option Status) → refusal_in texts heap c ≡ s → HeapKeeps heap (heap_answer_unless addon heap c n s).after
-by-refusal texts addon heap c n None h = accepted_of-keeps texts addon heap c n h
+by-refusal texts addon heap c n None h = addon_effect-keeps texts addon heap c n h
 by-refusal texts addon heap c n (Some s) h = same heap
 
-pub answer_in-keeps : (texts addon : ℕ) (heap : Heap) (c : Call) (n : ℕ) → HeapKeeps heap (heap_answer texts addon heap c n).after
-answer_in-keeps texts addon heap c n = by-refusal texts addon heap c n (refusal_in texts heap c) refl
+pub heap_answer-keeps : (texts addon : ℕ) (heap : Heap) (c : Call) (n : ℕ) → HeapKeeps heap (heap_answer texts addon heap c n).after
+heap_answer-keeps texts addon heap c n = by-refusal texts addon heap c n (refusal_in texts heap c) refl
 
 -- what no call and no frame changes: how many addons there are, whether the opening stands, the init frames that began, and the phase. A field more of the
 -- environment that none of them changes is one line more in each of these
@@ -149,7 +149,7 @@ keeps-all : (e : Environment) → Keeps e e
 keeps-all e = record { course = refl; frames = refl; heap = same e.heap; references = omega arith }
 
 keeps-heap : (e : Environment) (c : Call) (n : ℕ) → refusal_in e.texts e.heap c ≡ None → Keeps e (record e { heap = (addon_effect (caller_of e.frames) e.heap c n).after })
-keeps-heap e c n h = record { course = refl; frames = refl; heap = accepted_of-keeps e.texts (caller_of e.frames) e.heap c n h; references = omega arith }
+keeps-heap e c n h = record { course = refl; frames = refl; heap = addon_effect-keeps e.texts (caller_of e.frames) e.heap c n h; references = omega arith }
 
 thrown-keeps : (heap : Heap) (code : Option TextNo) (message : TextNo) → HeapKeeps heap (with_thrown code message heap)
 thrown-keeps heap None message = in-scopes-made heap _ refl (omega arith) (omega arith) (omega arith)
@@ -170,26 +170,26 @@ told-keeps e (Some v) = record { course = refl; frames = refl; heap = handled e.
 collected-keeps : (e : Environment) (alive : List ℕ) → Keeps e (collected alive e)
 collected-keeps e alive = record { course = refl; frames = refl; heap = in-scopes e.heap _ refl (omega arith) (omega arith) refl; references = omega arith }
 
-accepted_by-keeps : (e : Environment) (c : Call) (n : ℕ) → refusal_in e.texts e.heap c ≡ None → Keeps e (effect e c n).after
-accepted_by-keeps e (call.Throw v) n h = record { course = refl; frames = refl; heap = same e.heap; references = omega arith }
-accepted_by-keeps e (call.ThrowError code message) n h = record { course = refl; frames = refl; heap = thrown-keeps e.heap code message; references = omega arith }
-accepted_by-keeps e call.IsExceptionPending n h = keeps-all e
-accepted_by-keeps e call.GetLastErrorInfo n h = keeps-all e
-accepted_by-keeps e call.GetAndClearLastException n h = record { course = refl; frames = refl; heap = handled e.heap e.heap _ refl refl refl (omega arith); references = omega arith }
-accepted_by-keeps e (call.CreateReference v count) n h = keeps-references e _ (length-with_record (λ m. m) n e.references.issued)
-accepted_by-keeps e (call.DeleteReference r) n h = keeps-references e _ (omega arith)
-accepted_by-keeps e (call.ReferenceRef r) n h = counted-keeps r.0 e (referred_value e.references r.0)
-accepted_by-keeps e (call.ReferenceUnref r) n h = keeps-references e _ (omega arith)
-accepted_by-keeps e (call.GetReferenceValue r) n h = told-keeps e (referred_value e.references r.0)
-accepted_by-keeps e call.Collect n h = collected-keeps e (reach e)
-accepted_by-keeps e c n h = keeps-heap e c n h
+effect-keeps : (e : Environment) (c : Call) (n : ℕ) → refusal_in e.texts e.heap c ≡ None → Keeps e (effect e c n).after
+effect-keeps e (call.Throw v) n h = record { course = refl; frames = refl; heap = same e.heap; references = omega arith }
+effect-keeps e (call.ThrowError code message) n h = record { course = refl; frames = refl; heap = thrown-keeps e.heap code message; references = omega arith }
+effect-keeps e call.IsExceptionPending n h = keeps-all e
+effect-keeps e call.GetLastErrorInfo n h = keeps-all e
+effect-keeps e call.GetAndClearLastException n h = record { course = refl; frames = refl; heap = handled e.heap e.heap _ refl refl refl (omega arith); references = omega arith }
+effect-keeps e (call.CreateReference v count) n h = keeps-references e _ (length-with_record (λ m. m) n e.references.issued)
+effect-keeps e (call.DeleteReference r) n h = keeps-references e _ (omega arith)
+effect-keeps e (call.ReferenceRef r) n h = counted-keeps r.0 e (referred_value e.references r.0)
+effect-keeps e (call.ReferenceUnref r) n h = keeps-references e _ (omega arith)
+effect-keeps e (call.GetReferenceValue r) n h = told-keeps e (referred_value e.references r.0)
+effect-keeps e call.Collect n h = collected-keeps e (reach e)
+effect-keeps e c n h = keeps-heap e c n h
 
 none-right : (a b : Option Status) → option_or a b ≡ None → b ≡ None
 none-right None b h = h
 none-right (Some s) b h = cc
 
 given-keeps : (e : Environment) (c : Call) (n : ℕ) (s : Option Status) → early_refusal e c ≡ s → Keeps e (answer_unless e c n s).after
-given-keeps e c n None h = accepted_by-keeps e c n (none-right (reference_refusal e.references c) (refusal_in e.texts e.heap c) (none-right (moment_refusal e c) (timely_refusal e c) h))
+given-keeps e c n None h = effect-keeps e c n (none-right (reference_refusal e.references c) (refusal_in e.texts e.heap c) (none-right (moment_refusal e c) (timely_refusal e c) h))
 given-keeps e c n (Some s) h = keeps-all e
 
 limit-keeps : (e : Environment) → Keeps e (with_depth_error e)
@@ -210,8 +210,8 @@ pub record KeepsButAsk (old new : Environment) : Type 0 where
   pub heap : HeapKeeps old.heap new.heap
   pub references : length new.references.issued ≤ length old.references.issued + 1
 
-pub called-keeps : (e : Environment) (c : Call) (n : ℕ) → KeepsButAsk e (call_change e c n).after
-called-keeps e c n = record {
+pub call_change-keeps : (e : Environment) (c : Call) (n : ℕ) → KeepsButAsk e (call_change e c n).after
+call_change-keeps e c n = record {
   course = (answer-keeps e c n).course;
   depth = length-changed _ (answer e c n).after.frames ∙ ap length (answer-keeps e c n).frames;
   heap = (answer-keeps e c n).heap;

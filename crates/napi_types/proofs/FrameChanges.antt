@@ -17,7 +17,7 @@ use Rattle.napi_types.specs.FunctionCalls.{callee_of}
 use Rattle.napi_types.specs.Lists.{tail, first_changed}
 use Rattle.napi_types.specs.Refusals.{refusal}
 use Rattle.napi_types.specs.Room.{need}
-use Rattle.napi_types.proofs.Answers.{course_of, KeepsButAsk, called-keeps}
+use Rattle.napi_types.proofs.Answers.{course_of, KeepsButAsk, call_change-keeps}
 
 -- THE END OF A FRAME
 -- what the end of a frame keeps: all but its frame and its scopes, the pending exception and the last status; it issues one handle at most
@@ -87,7 +87,7 @@ counted a b c e h = omega (arith, e, h)
 
 call_change-fits : (e : Environment) (c : Call) (n : ℕ) → 1 ≤ need c → KeepsButFrames e (call_change e c n).after (need c)
 call_change-fits e c n one =
-    let k : KeepsButAsk e (call_change e c n).after = called-keeps e c n in
+    let k : KeepsButAsk e (call_change e c n).after = call_change-keeps e c n in
     record { course = k.course; depth = counted (length (call_change e c n).after.frames) (length e.frames) (need c) k.depth one }
 
 function_change-fits : (receiver : Option HandleId) (f : HandleId) (args : Args) (n : ℕ) (e : Environment) (s : Option Status)

@@ -5,7 +5,7 @@ use Rattle.napi_types.specs.Environment.{Environment}
 use Rattle.napi_types.specs.Changes.{number_of}
 use Rattle.env_core.specs.Journal.{Pages}
 use Rattle.env_core.specs.State.{RefusesCall}
-use Rattle.napi_types.proofs.Answers.{KeepsButAsk, called-keeps}
+use Rattle.napi_types.proofs.Answers.{KeepsButAsk, call_change-keeps}
 use Rattle.env_core.proofs.Cores.{written, core-call_change}
 use Rattle.env_core.proofs.env.EnvCore.call_function.Goals as goal
 
@@ -18,6 +18,6 @@ invariant_of-self-in-Ok-Refused c =
     let made : Call = call_of.CallFunction c.args.receiver c.args.function c.args.args.now in
     let ok : RefusesCall s.state made x c.call_function.new.self = rw c.in-Ok-Refused.field-0-is at c.in-Ok-Refused.ensures.ok in
     core-call_change s.state c.call_function.new.self s.journal c.give_back.new.self x (s.journal.promised + 2 - 1 - 1) c.self.invariant
-    (subst P (sym ok.calls.after) (called-keeps s.state made n))
+    (subst P (sym ok.calls.after) (call_change-keeps s.state made n))
     (omega (arith, c.in_default.ensures.room)) (omega arith)
     (c.give_back.ensures ∙ ap (λ (p : Pages). record p { promised = p.promised - 1 }) c.push.ensures ∙ ap (λ (p : Pages). written x (p.promised - 1 - 1) p) c.in_default.ensures.ok)
