@@ -135,7 +135,7 @@ fn outcome(
 /// is taken before the first change, and after each test. So a call that is refused finds no want of memory.
 ///
 /// Near constant time and logarithmic in the open handles, beside `delete_property` and `get_property_names`, whose time grows
-/// with the number of the object's properties, and `set_element`, whose time grows with the holes that it fills.
+/// with the number of the object's properties.
 pub fn value_step(
     alloc: Global,
     store: &mut Store,
