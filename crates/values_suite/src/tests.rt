@@ -7,7 +7,6 @@ use napi_types::{Body, NoMemory, TextNo, ValueId};
 use std::process::Abort;
 use value_store::Store;
 
-mod calls;
 mod collections;
 mod exceptions;
 mod references;

@@ -15,13 +15,3 @@ fn an_exception_is_pending_until_it_is_cleared(rt: HostRuntime) {
     assert_eq!(rt; state.pending(), None);
     assert_eq!(rt; state.last(), Status::PendingException);
 }
-
-#[test]
-fn the_last_status_is_the_one_noted_last(rt: HostRuntime) {
-    let mut state = Exceptions::new();
-    assert_eq!(rt; state.last(), Status::Ok);
-    state.note(Status::InvalidArg);
-    state.note(Status::GenericFailure);
-    state.set(ValueId(7));
-    assert_eq!(rt; state.last(), Status::GenericFailure);
-}

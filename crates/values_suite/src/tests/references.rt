@@ -14,26 +14,6 @@ const MOST: u32 = 4_294_967_295;
 /// What is answered to a count past an end, and to a number that no reference has.
 const PAST: Result<u32, Status> = Err(Status::GenericFailure);
 
-const UNKNOWN: Option<Status> = Some(Status::InvalidArg);
-
-/// The values that strong references keep at the first four places, 0 where a place has none.
-fn strong(refs: &Refs) -> [u64; 4] {
-    [
-        strong_at(refs, 0),
-        strong_at(refs, 1),
-        strong_at(refs, 2),
-        strong_at(refs, 3),
-    ]
-}
-
-fn strong_at(refs: &Refs, at: usize) -> u64 {
-    if at < refs.rows() {
-        refs.strong_at(at).map_or(0, |value| value.0)
-    } else {
-        0
-    }
-}
-
 /// What a count up or down tells.
 fn counted(refs: &mut Refs, id: RefId, is_up: bool) -> Result<u32, Status> {
     if is_up { refs.add(id) } else { refs.take(id) }
@@ -42,23 +22,6 @@ fn counted(refs: &mut Refs, id: RefId, is_up: bool) -> Result<u32, Status> {
 const UP: bool = true;
 
 const DOWN: bool = false;
-
-#[test]
-fn a_reference_is_strong_while_its_count_is_above_0(rt: HostRuntime) {
-    let mut refs = ample(&rt, Refs::new(rt.alloc()));
-    let id = ample(&rt, refs.make(ValueId(7), 1));
-    assert_eq!(rt; strong(&refs), [7, 0, 0, 0]);
-    for (way, told, kept) in [
-        (UP, Ok(2), 7),
-        (DOWN, Ok(1), 7),
-        (DOWN, Ok(0), 0),
-        (DOWN, PAST, 0),
-        (UP, Ok(1), 7),
-    ] {
-        assert_eq!(rt; counted(&mut refs, id, way), told);
-        assert_eq!(rt; strong(&refs), [kept, 0, 0, 0]);
-    }
-}
 
 #[test]
 fn a_count_reaches_the_greatest_and_stays_there(rt: HostRuntime) {
@@ -72,40 +35,6 @@ fn a_count_reaches_the_greatest_and_stays_there(rt: HostRuntime) {
     ] {
         assert_eq!(rt; counted(&mut refs, id, way), told);
     }
-}
-
-/// The refusals of the calls that name a reference of this number.
-fn refusals(refs: &mut Refs, id: RefId) -> [Option<Status>; 4] {
-    [
-        refs.value(id).err(),
-        refs.add(id).err(),
-        refs.take(id).err(),
-        refs.delete(id).err(),
-    ]
-}
-
-#[test]
-fn a_number_is_no_reference_once_it_is_deleted(rt: HostRuntime) {
-    let mut refs = ample(&rt, Refs::new(rt.alloc()));
-    ample(&rt, refs.make(ValueId(7), 1));
-    let second = ample(&rt, refs.make(ValueId(8), 2));
-    ample(&rt, refs.make(ValueId(9), 3));
-    assert_eq!(rt; refs.delete(second), Ok(()));
-    for id in [second, RefId(0), RefId(4)] {
-        assert_eq!(rt; refusals(&mut refs, id), [UNKNOWN; 4]);
-    }
-    assert_eq!(rt; strong(&refs), [7, 0, 9, 0]);
-}
-
-#[test]
-fn a_number_is_never_given_again(rt: HostRuntime) {
-    let mut refs = ample(&rt, Refs::new(rt.alloc()));
-    let first = ample(&rt, refs.make(ValueId(7), 1));
-    assert_eq!(rt; refs.delete(first), Ok(()));
-    let second = ample(&rt, refs.make(ValueId(8), 1));
-    assert_eq!(rt; (first, second), (RefId(1), RefId(2)));
-    assert_eq!(rt; refs.value(first), Err(Status::InvalidArg));
-    assert_eq!(rt; refs.value(second), Ok(Some(ValueId(8))));
 }
 
 /// What is told of a reference's value.

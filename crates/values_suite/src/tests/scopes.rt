@@ -4,7 +4,7 @@ ghost use Rattle.handle_scope.specs.HandleScopes.{no_scopes, with_frame_scopes};
 
 use super::ample;
 use handle_scope::Scopes;
-use napi_types::{HandleId, ScopeId, ScopeKind, Status, ValueId};
+use napi_types::{HandleId, ScopeKind, Status, ValueId};
 use std::alloc::Global;
 use std::process::Abort;
 
@@ -26,74 +26,7 @@ type Answer = Result<(), Status>;
 
 const CLOSED: Answer = Ok(());
 
-const MISMATCH: Answer = Err(Status::HandleScopeMismatch);
-
 const UNKNOWN: Answer = Err(Status::InvalidArg);
-
-/// One close: whether it names the inner scope, and the kind as which it closes it.
-type Close = (bool, ScopeKind);
-
-fn close(scopes: &mut Scopes, outer: ScopeId, inner: ScopeId, which: Close) -> Answer {
-    scopes.close_scope(if which.0 { inner } else { outer }, which.1)
-}
-
-/// What two closes answer where a scope of the second kind stands inside one of the first.
-fn closes(
-    rt: &impl Abort,
-    alloc: Global,
-    kinds: (ScopeKind, ScopeKind),
-    first: Close,
-    second: Close,
-) -> (Answer, Answer) {
-    let mut scopes = in_frame(rt, alloc);
-    let outer = ample(rt, scopes.open_scope(kinds.0));
-    let inner = ample(rt, scopes.open_scope(kinds.1));
-    let one = close(&mut scopes, outer, inner, first);
-    (one, close(&mut scopes, outer, inner, second))
-}
-
-#[test]
-fn only_the_innermost_scope_closes(rt: HostRuntime) {
-    let rows = [
-        (false, false, (MISMATCH, MISMATCH)),
-        (false, true, (MISMATCH, CLOSED)),
-        (true, false, (CLOSED, CLOSED)),
-        (true, true, (CLOSED, UNKNOWN)),
-    ];
-    for (first, second, want) in rows {
-        for kind in [PLAIN, ESCAPABLE] {
-            let answers = closes(&rt, rt.alloc(), (kind, kind), (first, kind), (second, kind));
-            assert_eq!(rt; answers, want);
-        }
-    }
-}
-
-#[test]
-fn a_scope_closes_as_its_own_kind(rt: HostRuntime) {
-    let mixed = (PLAIN, ESCAPABLE);
-    let swapped = (ESCAPABLE, PLAIN);
-    let [outer, outer_plain] = [(false, ESCAPABLE), (false, PLAIN)];
-    let [inner, inner_plain] = [(true, ESCAPABLE), (true, PLAIN)];
-    let rows = [
-        (mixed, inner_plain, inner, (MISMATCH, CLOSED)),
-        (mixed, inner, outer, (CLOSED, MISMATCH)),
-        (mixed, inner, outer_plain, (CLOSED, CLOSED)),
-        (mixed, inner, inner_plain, (CLOSED, UNKNOWN)),
-        (swapped, inner, outer, (MISMATCH, MISMATCH)),
-        (swapped, inner_plain, outer_plain, (CLOSED, MISMATCH)),
-        (swapped, inner_plain, outer, (CLOSED, CLOSED)),
-        (
-            (ESCAPABLE, ESCAPABLE),
-            outer_plain,
-            inner_plain,
-            (MISMATCH, MISMATCH),
-        ),
-        ((PLAIN, PLAIN), inner, inner_plain, (MISMATCH, CLOSED)),
-    ];
-    for (kinds, first, second, want) in rows {
-        assert_eq!(rt; closes(&rt, rt.alloc(), kinds, first, second), want);
-    }
-}
 
 /// The number of a handle's value, 0 where no open scope holds the handle.
 fn value(scopes: &Scopes, handle: HandleId) -> u64 {
@@ -186,39 +119,6 @@ fn issues(rt: &impl Abort, alloc: Global) -> ((u64, u64), (u64, u64), usize) {
 #[test]
 fn a_reserved_place_takes_a_handle(rt: HostRuntime) {
     assert_eq!(rt; issues(&rt, rt.alloc()), ((1, 2), (7, 8), 2));
-}
-
-/// The refusal of an escape, none where the handle escapes.
-fn refusal(answer: Result<HandleId, Status>) -> Option<Status> {
-    answer.err()
-}
-
-/// The refusals of an escape out of a plain scope, out of an escapable one around that, out of the same again, out of the
-/// same inside a frame that a call entered, and out of the same once it is closed.
-fn escapes(rt: &impl Abort, alloc: Global) -> [Option<Status>; 5] {
-    let mut scopes = in_frame(rt, alloc);
-    let outer = ample(rt, scopes.open_scope(ESCAPABLE));
-    let inner = ample(rt, scopes.open_scope(PLAIN));
-    let plain = refusal(scopes.escape(inner, ValueId(7)));
-    let first = refusal(scopes.escape(outer, ValueId(8)));
-    let twice = refusal(scopes.escape(outer, ValueId(9)));
-    ample(rt, scopes.enter_call());
-    let inside = refusal(scopes.escape(outer, ValueId(9)));
-    let _ = scopes.leave_call(None);
-    let _ = scopes.close_scope(inner, PLAIN);
-    let _ = scopes.close_scope(outer, ESCAPABLE);
-    let closed = refusal(scopes.escape(outer, ValueId(9)));
-    [plain, first, twice, inside, closed]
-}
-
-#[test]
-fn one_handle_escapes_from_an_escapable_scope(rt: HostRuntime) {
-    let unknown = Some(Status::InvalidArg);
-    let twice = Some(Status::EscapeCalledTwice);
-    assert_eq!(rt;
-        escapes(&rt, rt.alloc()),
-        [unknown, None, twice, unknown, unknown]
-    );
 }
 
 /// How many places the scopes have, and the values at the first six of them, 0 where a place is not filled or is none.
@@ -317,56 +217,4 @@ fn a_call_gives_a_handle_for_a_value(rt: HostRuntime) {
     for (value, handle) in [(Some(ValueId(8)), 2), (None, 0)] {
         assert_eq!(rt; given(&rt, rt.alloc(), value), handle);
     }
-}
-
-/// The values of three handles that escaped one after the other: out of the innermost of three scopes, out of the
-/// outermost, and out of one that stands where the first was: at the end, and once that one is closed.
-fn replaced(rt: &impl Abort, alloc: Global) -> [[u64; 3]; 2] {
-    let mut scopes = in_frame(rt, alloc);
-    let outer = ample(rt, scopes.open_scope(ESCAPABLE));
-    let middle = ample(rt, scopes.open_scope(PLAIN));
-    let inner = ample(rt, scopes.open_scope(ESCAPABLE));
-    let first = scopes.escape(inner, ValueId(7)).unwrap_or(HandleId(0));
-    let second = scopes.escape(outer, ValueId(8)).unwrap_or(HandleId(0));
-    let _ = scopes.close_scope(inner, ESCAPABLE);
-    let _ = scopes.close_scope(middle, PLAIN);
-    ample(rt, scopes.open_scope(PLAIN));
-    let inner = ample(rt, scopes.open_scope(ESCAPABLE));
-    let third = scopes.escape(inner, ValueId(9)).unwrap_or(HandleId(0));
-    let before = values(&scopes, [first, second, third]);
-    let _ = scopes.close_scope(inner, ESCAPABLE);
-    [before, values(&scopes, [first, second, third])]
-}
-
-#[test]
-fn a_handle_is_no_other_that_escaped_in_its_place(rt: HostRuntime) {
-    assert_eq!(rt; replaced(&rt, rt.alloc()), [[0, 8, 9], [0, 8, 9]]);
-}
-
-/// The values of four handles that escaped from scopes inside each other, out of the innermost first: at once, after all
-/// scopes but the outermost are closed, and after that one is closed too.
-fn nested(rt: &impl Abort, alloc: Global) -> [(u64, [u64; 3]); 3] {
-    let mut scopes = in_frame(rt, alloc);
-    let one = ample(rt, scopes.open_scope(ESCAPABLE));
-    let two = ample(rt, scopes.open_scope(ESCAPABLE));
-    let three = ample(rt, scopes.open_scope(ESCAPABLE));
-    let four = ample(rt, scopes.open_scope(ESCAPABLE));
-    let first = scopes.escape(four, ValueId(7)).unwrap_or(HandleId(0));
-    let second = scopes.escape(three, ValueId(8)).unwrap_or(HandleId(0));
-    let third = scopes.escape(two, ValueId(9)).unwrap_or(HandleId(0));
-    let fourth = scopes.escape(one, ValueId(10)).unwrap_or(HandleId(0));
-    let rest = [second, third, fourth];
-    let all = (value(&scopes, first), values(&scopes, rest));
-    for scope in [four, three, two] {
-        let _ = scopes.close_scope(scope, ESCAPABLE);
-    }
-    let some = (value(&scopes, first), values(&scopes, rest));
-    let _ = scopes.close_scope(one, ESCAPABLE);
-    [all, some, (value(&scopes, first), values(&scopes, rest))]
-}
-
-#[test]
-fn a_handle_stays_found_as_others_are_forgotten(rt: HostRuntime) {
-    let want = [(7, [8, 9, 10]), (0, [0, 9, 10]), (0, [0, 0, 10])];
-    assert_eq!(rt; nested(&rt, rt.alloc()), want);
 }

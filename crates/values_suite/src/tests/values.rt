@@ -7,47 +7,6 @@ use napi_types::{Body, TextNo, ValueId};
 use std::process::Abort;
 use value_store::Store;
 
-/// The names of an object of three of them, at their places.
-fn names(rt: &impl Abort, store: &Store, object: ValueId) -> [u32; 3] {
-    assert_eq!(rt; store.name_count(object), 3);
-    [
-        store.name_at(object, 0).0,
-        store.name_at(object, 1).0,
-        store.name_at(object, 2).0,
-    ]
-}
-
-#[test]
-fn names_keep_their_order(rt: HostRuntime) {
-    let mut store = ample(&rt, Store::new(rt.alloc()));
-    let object = ample(&rt, store.make(PLAIN));
-    let undefined = store.starting(0);
-    let global = store.starting(4);
-    for (name, to) in [(7, undefined), (3, undefined), (9, undefined), (7, global)] {
-        set(&rt, &mut store, object, name, to);
-    }
-    assert!(rt; store.remove_prop(object, TextNo(3)));
-    assert!(rt; !store.remove_prop(object, TextNo(3)));
-    set(&rt, &mut store, object, 3, global);
-    assert_eq!(rt; names(&rt, &store, object), [7, 9, 3]);
-    assert_eq!(rt; store.get_prop(object, TextNo(7)), Some(global));
-    assert_eq!(rt; store.get_prop(object, TextNo(8)), None);
-}
-
-#[test]
-fn elements_have_holes(rt: HostRuntime) {
-    let mut store = ample(&rt, Store::new(rt.alloc()));
-    let global = store.starting(4);
-    let null = store.starting(1);
-    for at in [2, 0] {
-        set_at(&rt, &mut store, global, at, null);
-    }
-    assert_eq!(rt; store.element_count(global), 3);
-    for (at, is_set) in [(0, true), (1, false), (2, true), (3, false)] {
-        assert_eq!(rt; store.get_element(global, at).is_some(), is_set);
-    }
-}
-
 #[test]
 fn children_stand_in_order(rt: HostRuntime) {
     let mut store = ample(&rt, Store::new(rt.alloc()));
@@ -153,24 +112,4 @@ fn a_thrown_error_comes_after_its_strings(rt: HostRuntime) {
     assert_eq!(rt; store.places(), 10);
     assert_eq!(rt; property(&store, without, 0), string(2));
     assert_eq!(rt; store.get_prop(without, TextNo(1)), None);
-}
-
-#[test]
-fn an_error_has_its_message_and_then_its_code(rt: HostRuntime) {
-    let mut store = ample(&rt, Store::new(rt.alloc()));
-    let message = ample(&rt, store.make(Body::Str(TextNo(9))));
-    let code = ample(&rt, store.make(Body::Str(TextNo(2))));
-    assert!(rt; store.get(message).is_some());
-    assert!(rt; store.get(code).is_some());
-    let error = ample(&rt, store.make_error(Some(code), message));
-    assert_eq!(rt; body(&store, Some(error)), ERROR);
-    assert_eq!(rt; store.name_count(error), 2);
-    for (name, value) in [message, code].into_iter().enumerate() {
-        assert_eq!(rt; store.name_at(error, name), TextNo(name as u32));
-        assert_eq!(rt; store.get_prop(error, TextNo(name as u32)), Some(value));
-    }
-    let without = ample(&rt, store.make_error(None, error));
-    assert!(rt; without != error);
-    assert_eq!(rt; store.name_count(without), 1);
-    assert_eq!(rt; store.get_prop(without, TextNo(0)), Some(error));
 }
