@@ -197,11 +197,6 @@ pub fn host<R: Threads + Wait + Sync, S: Source, K: Sink, G: Gate>(
     ensures left { ¬ IsRunStatus result → left.new ≡ left.old }
     ensures addons { ¬ IsRunStatus result → addons.new.items ≡ addons.old.items }
 
-    // Nothing is read where the words are no command line, and else no more than a front of what the source has left.
-    ensures unread { is_run_words words.now ≡ false → S.left source.new ≡ S.left source.old }
-    ensures uncounted { is_run_words words.now ≡ false → S.faults source.new ≡ S.faults source.old }
-    ensures front { GaveFront (S.left source.old) (S.left source.new) }
-
     // The same, status by status.
     ensures usage { (result ≡ 2) ↔ (is_run_words words.now ≡ false) }
     ensures no_script { result ≡ 3 → GaveRefused (S.left source.old) (S.left source.new) (length addons.old.items) }
@@ -220,6 +215,11 @@ pub fn host<R: Threads + Wait + Sync, S: Source, K: Sink, G: Gate>(
         → IsRefused bytes (length addons.old.items) → (result ≡ 3) ⊎ (result ≡ 6) }
     ensures complete { (bytes : List ℕ) → IsRead words.now (S.left source.old) (S.faults source.old) (S.faults source.new) bytes
         → IsRunnable bytes (length addons.old.items) → IsRunStatus result ⊎ (result ≡ 6) }
+
+    // Nothing is read where the words are no command line, and else no more than a front of what the source has left.
+    ensures unread { is_run_words words.now ≡ false → S.left source.new ≡ S.left source.old }
+    ensures uncounted { is_run_words words.now ≡ false → S.faults source.new ≡ S.faults source.old }
+    ensures front { GaveFront (S.left source.old) (S.left source.new) }
     ensures reading { S.faults source.old ≤ S.faults source.new }
     ensures writing { K.faults sink.old ≤ K.faults sink.new }
 {
