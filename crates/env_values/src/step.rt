@@ -132,7 +132,7 @@ fn outcome(
 /// and the names of any one object, of which 65,536 count at most, are together below 2^48 - 8.
 ///
 /// Which frames a call entered stays as it was. After `NoMemory` the scopes and the value graph are as they were too: all memory
-/// is taken before the first change, and after each test. So a call that is refused finds no want of memory.
+/// is taken after the last test and before the first change. So no call that is refused stops for want of memory.
 ///
 /// Near constant time and logarithmic in the open handles, beside `delete_property` and `get_property_names`, whose time grows
 /// with the number of the object's properties.
