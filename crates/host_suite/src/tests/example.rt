@@ -17,23 +17,11 @@ fn status_of_both<R: Threads + Wait + Sync>(
     alloc: Global,
     sink: &mut MemSink,
 ) -> Result<u8, Fail> {
-    let words = texts_of(alloc, &["run"])?;
-    let bytes = Vec::from_slice(alloc, BOTH_ADDONS)?;
-    let mut source = source_of(alloc, bytes, &[])?;
     let mut addons: Vec<Box<dyn Addon>> = Vec::new(alloc);
     addons.push(Box::new(alloc, ScriptAddon::blank(alloc))?)?;
     addons.push(Box::new(alloc, ExampleAddon::new())?)?;
     let mut left = Record::blank(alloc);
-    Ok(host(
-        rt,
-        alloc,
-        &words,
-        &mut source,
-        sink,
-        &OpenGate,
-        &mut addons,
-        &mut left,
-    ))
+    status_with(rt, alloc, BOTH_ADDONS, &mut addons, sink, &mut left)
 }
 
 #[test]
