@@ -1,5 +1,6 @@
 pub mod Asks
 pub mod Bodies
+pub mod Book
 pub mod Built
 pub mod CallFacts
 pub mod Calls
@@ -58,6 +59,7 @@ pub mod ScriptPaths
 pub mod ScriptReading
 pub mod ScriptSchedule
 pub mod ScriptThreads
+pub mod SeenLines
 pub mod Setting
 pub mod Step
 pub mod Teardown

@@ -6,6 +6,7 @@
 
 mod body;
 mod call;
+mod duties;
 mod edge;
 mod entry;
 mod fill;
@@ -20,6 +21,7 @@ mod text;
 
 pub use body::Body;
 pub use call::{Args, Ask, Call, JobSpec, Mode, Release};
+pub use duties::{Begun, Due, DueInfo, SeenList, Slip};
 pub use edge::{Gate, MemSink, MemSource, OpenGate, SafeSink, SafeSource, Sink, Source};
 pub use entry::{
     Actor, Cause, Duty, Entry, Failed, Given, HostStep, Limits, Local, LoopEnd, NoMemory, Out,
