@@ -1,4 +1,5 @@
 pub mod Answers
+pub mod Found
 pub mod FrameChanges
 pub mod FrameEnds
 pub mod Issued
