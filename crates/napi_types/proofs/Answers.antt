@@ -8,6 +8,8 @@ use Rattle.napi_types.specs.declared.entry.Phase.{Phase}
 use Rattle.napi_types.specs.declared.ids.TextNo.{TextNo}
 use Rattle.napi_types.specs.declared.status.Status.{Status}
 use Rattle.napi_types.specs.declared.status.Status.TheVariants as status
+use Rattle.napi_types.specs.Attachments.{Attachments}
+use Rattle.napi_types.specs.AttachmentRefusals.{attachment_refusal}
 use Rattle.napi_types.specs.Lists.{first_changed, when}
 use Rattle.napi_types.specs.Environment.{Environment}
 use Rattle.napi_types.specs.Frames.{caller_of}
@@ -138,7 +140,7 @@ course-parts old new same = record {
   phase = ap (λ (c : Course). c.phase) same;
 }
 
--- what a call keeps of the environment: all but the heap, the references and the pending exception. It issues one reference number at most
+-- what a call keeps of the environment: all but the heap, the references, what is attached to values, the book and the pending exception. It issues one reference number at most
 pub record Keeps (old new : Environment) : Type 0 where
   pub course : course_of new ≡ course_of old
   pub frames : new.frames ≡ old.frames
@@ -158,6 +160,9 @@ thrown-keeps heap (Some code) message = in-scopes-made heap _ refl (omega arith)
 -- the references, or the values, are others, and nothing is issued
 keeps-references : (e : Environment) (m : ReferenceMap) → length m.issued ≤ length e.references.issued + 1 → Keeps e (record e { references = m })
 keeps-references e m h = record { course = refl; frames = refl; heap = same e.heap; references = h }
+
+keeps-attachments : (e : Environment) (a : Attachments) → Keeps e (record e { attachments = a })
+keeps-attachments e a = record { course = refl; frames = refl; heap = same e.heap; references = omega arith }
 
 counted-keeps : (r : ℕ) (e : Environment) (v : Option ℕ) → Keeps e (counted_up r e v).after
 counted-keeps r e None = keeps-all e
@@ -181,15 +186,28 @@ effect-keeps e (call.DeleteReference r) n h = keeps-references e _ (omega arith)
 effect-keeps e (call.ReferenceRef r) n h = counted-keeps r.0 e (referred_value e.references r.0)
 effect-keeps e (call.ReferenceUnref r) n h = keeps-references e _ (omega arith)
 effect-keeps e (call.GetReferenceValue r) n h = told-keeps e (referred_value e.references r.0)
+effect-keeps e (call.Wrap v payload None hint wanted) n h = keeps-attachments e _
+effect-keeps e (call.Unwrap v) n h = keeps-all e
+effect-keeps e (call.RemoveWrap v) n h = keeps-attachments e _
+effect-keeps e (call.TypeTagObject v lower upper) n h = keeps-attachments e _
+effect-keeps e (call.CheckObjectTypeTag v lower upper) n h = keeps-all e
+effect-keeps e (call.CreateExternal payload None hint) n h = record { course = refl; frames = refl; heap = handled e.heap _ _ refl refl refl (omega arith); references = omega arith }
 effect-keeps e call.Collect n h = collected-keeps e (reach e)
 effect-keeps e c n h = keeps-heap e c n h
+
+none-left : (a b : Option Status) → option_or a b ≡ None → a ≡ None
+none-left None b h = refl
+none-left (Some s) b h = cc
 
 none-right : (a b : Option Status) → option_or a b ≡ None → b ≡ None
 none-right None b h = h
 none-right (Some s) b h = cc
 
 given-keeps : (e : Environment) (c : Call) (n : ℕ) (s : Option Status) → early_refusal e c ≡ s → Keeps e (answer_unless e c n s).after
-given-keeps e c n None h = effect-keeps e c n (none-right (reference_refusal e.references c) (refusal_in e.texts e.heap c) (none-right (moment_refusal e c) (timely_refusal e c) h))
+given-keeps e c n None h =
+    let timely : timely_refusal e c ≡ None = none-right (moment_refusal e c) (timely_refusal e c) h in
+    let later : option_or (refusal_in e.texts e.heap c) (attachment_refusal e.attachments e.heap c) ≡ None = none-right (reference_refusal e.references c) _ timely in
+    effect-keeps e c n (none-left (refusal_in e.texts e.heap c) (attachment_refusal e.attachments e.heap c) later)
 given-keeps e c n (Some s) h = keeps-all e
 
 limit-keeps : (e : Environment) → Keeps e (with_depth_error e)

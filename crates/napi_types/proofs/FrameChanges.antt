@@ -8,6 +8,8 @@ use Rattle.napi_types.specs.declared.entry.Cause.TheVariants as cause
 use Rattle.napi_types.specs.declared.entry.Why.{Why}
 use Rattle.napi_types.specs.declared.ids.HandleId.{HandleId}
 use Rattle.napi_types.specs.declared.status.Status.{Status}
+use Rattle.napi_types.specs.Attachments.{Attachments}
+use Rattle.napi_types.specs.Book.{Book}
 use Rattle.napi_types.specs.Changes.{call_change}
 use Rattle.napi_types.specs.Ends.{end_change_by, uncut_call_end, end_change}
 use Rattle.napi_types.specs.Entering.{is_entering, enter_change, function_change, asked_change}
@@ -19,6 +21,22 @@ use Rattle.napi_types.specs.Refusals.{refusal}
 use Rattle.napi_types.specs.Room.{need}
 use Rattle.napi_types.proofs.Answers.{course_of, KeepsButAsk, call_change-keeps}
 
+-- WHAT IS ATTACHED
+-- what hangs on values: all that is attached to them, and the book of the tickets
+pub record Hangings : Type 0 where
+  pub attachments : Attachments
+  pub book : Book
+
+abbrev pub hangings_of : Environment → Hangings
+hangings_of e = record { attachments = e.attachments; book = e.book }
+
+pub record SameHangings (old new : Environment) : Type 0 where
+  pub attachments : new.attachments ≡ old.attachments
+  pub book : new.book ≡ old.book
+
+pub hangings-parts : (old new : Environment) → hangings_of new ≡ hangings_of old → SameHangings old new
+hangings-parts old new same = record { attachments = ap (λ (h : Hangings). h.attachments) same; book = ap (λ (h : Hangings). h.book) same }
+
 -- THE END OF A FRAME
 -- what the end of a frame keeps: all but its frame and its scopes, the pending exception and the last status; it issues one handle at most
 pub record KeepsButFrame (old new : Environment) : Type 0 where
@@ -29,15 +47,16 @@ pub record KeepsButFrame (old new : Environment) : Type 0 where
   pub handles : new.heap.handles ≤ old.heap.handles + 1
   pub scope_numbers : new.heap.scope_numbers ≡ old.heap.scope_numbers
   pub references : new.references ≡ old.references
+  pub hangings : hangings_of new ≡ hangings_of old
 
 left-keeps : (v : Option HandleId) (e : Environment) (pending : Option ℕ) → KeepsButFrame e (uncut_call_end v e pending).after
-left-keeps v e (Some p) = record { course = refl; frames = refl; values = refl; made = refl; handles = omega arith; scope_numbers = refl; references = refl }
-left-keeps v e None = record { course = refl; frames = refl; values = refl; made = refl; handles = omega arith; scope_numbers = refl; references = refl }
+left-keeps v e (Some p) = record { course = refl; frames = refl; values = refl; made = refl; handles = omega arith; scope_numbers = refl; references = refl; hangings = refl }
+left-keeps v e None = record { course = refl; frames = refl; values = refl; made = refl; handles = omega arith; scope_numbers = refl; references = refl; hangings = refl }
 
 by-cause : (v : Option HandleId) (cut : Option Why) (e : Environment) (c : Cause) → KeepsButFrame e (end_change_by v cut e c).after
-by-cause v (Some w) e cause.Call = record { course = refl; frames = refl; values = refl; made = refl; handles = omega arith; scope_numbers = refl; references = refl }
+by-cause v (Some w) e cause.Call = record { course = refl; frames = refl; values = refl; made = refl; handles = omega arith; scope_numbers = refl; references = refl; hangings = refl }
 by-cause v None e cause.Call = left-keeps v e e.pending
-by-cause v cut e _ = record { course = refl; frames = refl; values = refl; made = refl; handles = omega arith; scope_numbers = refl; references = refl }
+by-cause v cut e _ = record { course = refl; frames = refl; values = refl; made = refl; handles = omega arith; scope_numbers = refl; references = refl; hangings = refl }
 
 pub ended-keeps : (v : Option HandleId) (cut : Option Why) (e : Environment) → KeepsButFrame e (end_change v cut e).after
 ended-keeps v cut e = by-cause v cut e (cause_of e.frames)
@@ -52,10 +71,11 @@ pub record KeepsAndEnters (old new : Environment) (f : HandleId) : Type 0 where
   pub handles : new.heap.handles ≤ old.heap.handles + 1
   pub scope_numbers : new.heap.scope_numbers ≡ old.heap.scope_numbers
   pub references : new.references ≡ old.references
+  pub hangings : hangings_of new ≡ hangings_of old
 
 pub enter_change-keeps : (receiver : Option HandleId) (f : HandleId) (args : Args) (e : Environment) → KeepsAndEnters e (enter_change receiver f args e).after f
-enter_change-keeps None f args e = record { course = refl; frames = refl; values = refl; made = refl; handles = omega arith; scope_numbers = refl; references = refl }
-enter_change-keeps (Some h) f args e = record { course = refl; frames = refl; values = refl; made = refl; handles = omega arith; scope_numbers = refl; references = refl }
+enter_change-keeps None f args e = record { course = refl; frames = refl; values = refl; made = refl; handles = omega arith; scope_numbers = refl; references = refl; hangings = refl }
+enter_change-keeps (Some h) f args e = record { course = refl; frames = refl; values = refl; made = refl; handles = omega arith; scope_numbers = refl; references = refl; hangings = refl }
 
 -- WHAT A CALL COMES TO
 -- a call that enters no frame answers at once

@@ -79,7 +79,7 @@ function_change-other receiver f args n e (Some s) is = cc
 -- nothing refuses one
 asked-kept : (e : Environment) (c : Call) (n : ℕ) → IsCollection (asked_change e c n).entry → Collects e (asked_change e c n).after (asked_change e c n).entry
 asked-kept e (call.CallFunction receiver f args) n is = absurd (function_change-other receiver f args n e (refusal e (call.CallFunction receiver f args)) is)
-asked-kept e call.Collect n is = record { values = numbers-kept e.heap.values (roots e); unchanged = refl; references = refl; told = refl }
+asked-kept e call.Collect n is = record { values = numbers-kept e.heap.values (roots e); unchanged = refl; references = refl; attachments = refl; book = refl; told = refl }
 asked-kept e c n is = cc
 
 -- a step whose entry is one

@@ -14,6 +14,7 @@ use Rattle.napi_types.specs.declared.ids.TextNo.{TextNo}
 use Rattle.napi_types.specs.declared.status.Status.{Status}
 use Rattle.napi_types.specs.declared.status.Status.TheVariants as status
 use Rattle.napi_types.specs.Asks.{AsksWithin}
+use Rattle.napi_types.specs.AttachmentRefusals.{attachment_refusal}
 use Rattle.napi_types.specs.Calls.{addon_effect, effect, answer_unless, answer_unless_deep}
 use Rattle.napi_types.specs.Changes.{call_change, init_change}
 use Rattle.napi_types.specs.Ends.{end_change}
@@ -149,6 +150,12 @@ by-owned n e (call.DeleteReference r) k there all = all
 by-owned n e (call.ReferenceRef r) k there all = counted-up-owned n r.0 e (referred_value e.references r.0) all
 by-owned n e (call.ReferenceUnref r) k there all = all
 by-owned n e (call.GetReferenceValue r) k there all = told-owned n e (referred_value e.references r.0) all
+by-owned n e (call.Wrap v payload None hint wanted) k there all = all
+by-owned n e (call.Unwrap v) k there all = all
+by-owned n e (call.RemoveWrap v) k there all = all
+by-owned n e (call.TypeTagObject v lower upper) k there all = all
+by-owned n e (call.CheckObjectTypeTag v lower upper) k there all = all
+by-owned n e (call.CreateExternal payload None hint) k there all = one-more n _ _ e.heap.values all (no-function n (body.External payload) refl)
 by-owned n e call.Collect k there all = kept-owned n (reach e) e.heap.values all
 by-owned n e c k there all = heap-owned n (caller_of e.frames) e.heap c k there all
 
@@ -202,7 +209,8 @@ function-call_change e receiver f args h =
     let c : Call = call.CallFunction receiver f args in
     let early : early_refusal e c ≡ None = none-first (early_refusal e c) (depth_refusal e.frames c) h in
     let timely : timely_refusal e c ≡ None = none-last (moment_refusal e c) (timely_refusal e c) early in
-    let within : refusal_in e.texts e.heap c ≡ None = none-last (reference_refusal e.references c) (refusal_in e.texts e.heap c) timely in
+    let beside : option_or (refusal_in e.texts e.heap c) (attachment_refusal e.attachments e.heap c) ≡ None = none-last (reference_refusal e.references c) _ timely in
+    let within : refusal_in e.texts e.heap c ≡ None = none-first (refusal_in e.texts e.heap c) (attachment_refusal e.attachments e.heap c) beside in
     let later : option_or (kind_refusal e.heap c) (row_refusal e.heap c) ≡ None = none-last (unknown_refusal e.texts e.heap c) _ within in
     not-unless (is_function (handle_body e.heap f.0)) status.InvalidArg (none-last (kind_refusal e.heap c) (row_refusal e.heap c) later)
 

@@ -82,6 +82,11 @@ abbrev pub function_payload : Body → ℕ
 function_payload (body.Function addon entry payload) = payload
 function_payload _ = 0
 
+-- the payload of an external; a value of another kind is refused before it is read so
+abbrev pub external_payload : Body → ℕ
+external_payload (body.External payload) = payload
+external_payload _ = 0
+
 -- an error is an object that was created as one, whatever its properties are
 abbrev pub is_error_body : Body → Bool
 is_error_body (body.Object array error) = error

@@ -30,6 +30,7 @@ is_telling (call.GetValueInt64 _) = true
 is_telling (call.GetValueBigintInt64 _) = true
 is_telling (call.GetValueBool _) = true
 is_telling (call.GetValueStringUtf8 _) = true
+is_telling (call.GetValueExternal _) = true
 is_telling _ = false
 
 -- the other calls on values, properties and elements
@@ -78,6 +79,20 @@ is_reference_call (call.ReferenceUnref _) = true
 is_reference_call (call.GetReferenceValue _) = true
 is_reference_call _ = false
 
+-- the calls on wraps and type tags, where they register nothing
+abbrev pub is_wrap_call : Call → Bool
+is_wrap_call (call.Wrap _ _ None _ _) = true
+is_wrap_call (call.Unwrap _) = true
+is_wrap_call (call.RemoveWrap _) = true
+is_wrap_call (call.TypeTagObject _ _ _) = true
+is_wrap_call (call.CheckObjectTypeTag _ _ _) = true
+is_wrap_call _ = false
+
+-- the call that creates an external, where it registers nothing
+abbrev pub is_external_call : Call → Bool
+is_external_call (call.CreateExternal _ None _) = true
+is_external_call _ = false
+
 -- the collection
 abbrev pub is_collecting : Call → Bool
 is_collecting call.Collect = true
@@ -90,7 +105,8 @@ is_calling _ = false
 
 -- the calls that are built
 abbrev pub is_built : Call → Bool
-is_built c = is_scope_or_version c || is_exception_call c || is_reference_call c || is_collecting c || is_calling c || is_value_call c
+is_built c =
+    is_scope_or_version c || is_exception_call c || is_reference_call c || is_wrap_call c || is_external_call c || is_collecting c || is_calling c || is_value_call c
 
 -- what a frame is taken to ask: a call that is not built is never made, and the addon that asks it is taken to leave
 abbrev pub built_ask : Ask → Ask

@@ -7,6 +7,7 @@ use Rattle.napi_types.specs.declared.entry.Out.TheVariants as out
 use Rattle.napi_types.specs.Collection.{on_collection}
 use Rattle.napi_types.specs.Environment.{Environment, in_heap}
 use Rattle.napi_types.specs.ExceptionCalls.{on_exceptions, with_thrown_error}
+use Rattle.napi_types.specs.ExternalCalls.{on_externals}
 use Rattle.napi_types.specs.Frames.{caller_of}
 use Rattle.napi_types.specs.FunctionCalls.{on_functions}
 use Rattle.napi_types.specs.Heap.{Heap}
@@ -19,6 +20,7 @@ use Rattle.napi_types.specs.Replies.{Answer, accepts, refuses}
 use Rattle.napi_types.specs.ScopeCalls.{on_scopes}
 use Rattle.napi_types.specs.Texts.{depth_text}
 use Rattle.napi_types.specs.ValueCalls.{on_values}
+use Rattle.napi_types.specs.WrapCalls.{on_wraps}
 
 -- CALLS THAT ARE TOLD OF THE HEAP
 -- what each group of calls on values, properties and scopes says of a call, and the group of the others, where n is the number that it newly gives
@@ -48,6 +50,8 @@ abbrev pub groups : Environment → Call → ℕ → List (Option (Answer Enviro
 groups e c n =
     on_exceptions e c
     ∷ on_references e c n
+    ∷ on_wraps e c n
+    ∷ on_externals e c
     ∷ on_collection e c
     ∷ option_map (in_heap e) (on_functions (caller_of e.frames) e.heap c)
     ∷ map (option_map (in_heap e)) (heap_groups e.heap c n)

@@ -1,8 +1,10 @@
 -- What a collection answers and leaves.
-use Rattle.std.specs.Prelude.{ℕ, not, List, length, filter, Option, Some, None}
+use Rattle.std.specs.Prelude.{ℕ, Bool, not, List, length, filter, Option, Some, None}
 use Rattle.napi_types.specs.declared.call.Call.{Call}
 use Rattle.napi_types.specs.declared.call.Call.TheVariants as call
 use Rattle.napi_types.specs.declared.entry.Out.TheVariants as out
+use Rattle.napi_types.specs.Attachments.{left_on, hangs_on}
+use Rattle.napi_types.specs.Book.{due_where}
 use Rattle.napi_types.specs.Environment.{Environment}
 use Rattle.napi_types.specs.Lists.{has_number}
 use Rattle.napi_types.specs.References.{emptied}
@@ -17,11 +19,18 @@ those_of ns vs = filter (λ v. has_number v.number ns) vs
 abbrev pub all_but : List ℕ → List Value → List Value
 all_but ns vs = filter (λ v. not (has_number v.number ns)) vs
 
--- the values of these numbers stay; all others are gone, and the references to them name none
+-- a value is freed where it is none of those that stay
+abbrev pub is_freed : List ℕ → ℕ → Bool
+is_freed alive v = not (has_number v alive)
+
+-- the values of these numbers stay; all others are freed, the references to them name none, what is attached to them goes with them, and the tickets of their
+-- finalizers fall due
 abbrev pub collected : List ℕ → Environment → Environment
 collected alive e = record e {
   heap = record (e.heap) { values = those_of alive e.heap.values };
-  references = emptied (λ v. not (has_number v alive)) e.references;
+  references = emptied (is_freed alive) e.references;
+  attachments = left_on (is_freed alive) e.attachments;
+  book = due_where (hangs_on (is_freed alive) e.attachments) e.book;
 }
 
 -- `collect` keeps what the roots reach, and tells how many values it freed

@@ -1,14 +1,15 @@
 -- What each collection of a run keeps.
-use Rattle.std.specs.Prelude.{◌≡◌, not, List, ◌∷◌, length}
+use Rattle.std.specs.Prelude.{◌≡◌, List, ◌∷◌, length}
 use Rattle.napi_types.specs.declared.call.Ask.{Ask}
 use Rattle.napi_types.specs.declared.call.Call.TheVariants as call
 use Rattle.napi_types.specs.declared.entry.Entry.{Entry}
 use Rattle.napi_types.specs.declared.entry.Out.TheVariants as out
 use Rattle.napi_types.specs.declared.entry.What.TheVariants as what
 use Rattle.napi_types.specs.declared.status.Status.TheVariants as status
-use Rattle.napi_types.specs.Collection.{those_of, all_but}
+use Rattle.napi_types.specs.Attachments.{left_on, hangs_on}
+use Rattle.napi_types.specs.Book.{due_where}
+use Rattle.napi_types.specs.Collection.{those_of, all_but, is_freed}
 use Rattle.napi_types.specs.Environment.{Environment}
-use Rattle.napi_types.specs.Lists.{has_number}
 use Rattle.napi_types.specs.Machine.{Machine}
 use Rattle.napi_types.specs.Reach.{numbers}
 use Rattle.napi_types.specs.References.{emptied}
@@ -23,7 +24,11 @@ pub record Collects (old new : Environment) (x : Entry) : Type 0 where
   -- each of them as it was
   pub unchanged : new.heap.values ≡ those_of (reach old) old.heap.values
   -- the references to the others name none, and all others stay as they were
-  pub references : new.references ≡ emptied (λ v. not (has_number v (reach old))) old.references
+  pub references : new.references ≡ emptied (is_freed (reach old)) old.references
+  -- wraps, type tags and attached finalizers of the others are gone, and all others stay as they were
+  pub attachments : new.attachments ≡ left_on (is_freed (reach old)) old.attachments
+  -- the registered tickets that hung on a freed value are due, and every other ticket stays as it was
+  pub book : new.book ≡ due_where (hangs_on (is_freed (reach old)) old.attachments) old.book
   -- it is accepted, and tells how many values it freed
   pub told : x.reply ≡ plain status.Ok (out.Unsigned (length (all_but (reach old) old.heap.values)))
 

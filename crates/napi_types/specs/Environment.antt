@@ -4,6 +4,8 @@ use Rattle.napi_types.specs.declared.status.Status.{Status}
 use Rattle.napi_types.specs.declared.status.Status.TheVariants as status
 use Rattle.napi_types.specs.declared.entry.Phase.{Phase}
 use Rattle.napi_types.specs.declared.entry.Phase.TheVariants as phase
+use Rattle.napi_types.specs.Attachments.{Attachments, no_attachments}
+use Rattle.napi_types.specs.Book.{Book}
 use Rattle.napi_types.specs.Frames.{Frame}
 use Rattle.napi_types.specs.Heap.{Heap, new_heap}
 use Rattle.napi_types.specs.References.{ReferenceMap, no_references}
@@ -23,6 +25,9 @@ pub record Environment : Type 0 where
   -- the frames that stand, the innermost first
   pub frames : List Frame
   pub references : ReferenceMap
+  -- what is attached to values, and every finalizer and hook that was registered
+  pub attachments : Attachments
+  pub book : Book
   -- the creation number of the value that is the pending exception, where one is pending
   pub pending : Option ℕ
   -- the status of the last call
@@ -39,6 +44,8 @@ new_environment addons texts = record {
   heap = new_heap;
   frames = [];
   references = no_references;
+  attachments = no_attachments;
+  book = [];
   pending = None;
   last = status.Ok;
 }

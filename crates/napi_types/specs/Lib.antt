@@ -1,4 +1,6 @@
 pub mod Asks
+pub mod AttachmentRefusals
+pub mod Attachments
 pub mod Bodies
 pub mod Book
 pub mod Built
@@ -14,6 +16,7 @@ pub mod Entering
 pub mod Environment
 pub mod ExceptionCalls
 pub mod ExpectedKinds
+pub mod ExternalCalls
 pub mod Frames
 pub mod FunctionCalls
 pub mod Graph
@@ -69,3 +72,4 @@ pub mod ValueCalls
 pub mod Values
 pub mod VersionCall
 pub mod Weave
+pub mod WrapCalls

@@ -16,7 +16,7 @@ use Rattle.napi_types.specs.ExpectedKinds.{expects_if}
 -- THE CALL'S OWN REFUSALS
 -- a number is a whole number from -(2^53-1) to 2^53-1; an object with more than 65,536 names is not listed; an element's index is at most 65,535; scopes close innermost first;
 -- one handle escapes from an escapable scope; a reference is to an object, a function, an external or a symbol; only a function is called, and a thread-safe
--- function is made of one where a value is named; only an external is read as one
+-- function is made of one where a value is named; only an external is read as one; a wrap gives a reference only where it has a finalizer
 abbrev pub row_refusal : Heap → Call → Option Status
 row_refusal heap (call.CreateInt64 i) = unless (int_le (negsuc 9007199254740990) i && int_le i (pos 9007199254740991)) status.InvalidArg
 row_refusal heap (call.GetValueExternal h) = unless (is_external (handle_body heap h.0)) status.InvalidArg
@@ -26,6 +26,7 @@ row_refusal heap (call.CloseHandleScope s) = closing s.0 scope_kind.Plain (opene
 row_refusal heap (call.CloseEscapableHandleScope s) = closing s.0 scope_kind.Escapable (opened_scopes heap.scopes)
 row_refusal heap (call.EscapeHandle s _) = escaping s.0 (opened_scopes heap.scopes)
 row_refusal heap (call.CreateReference h _) = unless (is_referable (handle_body heap h.0)) status.InvalidArg
+row_refusal heap (call.Wrap _ _ None _ wanted) = when wanted status.InvalidArg
 row_refusal heap (call.CallFunction _ f _) = unless (is_function (handle_body heap f.0)) status.InvalidArg
 row_refusal heap (call.CreateThreadsafeFunction f _ _ _ _ _) = expects_if heap f is_function status.InvalidArg
 row_refusal heap _ = None

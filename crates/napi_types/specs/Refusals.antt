@@ -3,6 +3,7 @@ use Rattle.std.specs.Prelude.{ℕ, List, length, nat_le, Option, None}
 use Rattle.std.specs.Option.{option_or}
 use Rattle.napi_types.specs.declared.call.Call.{Call}
 use Rattle.napi_types.specs.declared.status.Status.{Status}
+use Rattle.napi_types.specs.AttachmentRefusals.{attachment_refusal}
 use Rattle.napi_types.specs.Environment.{Environment}
 use Rattle.napi_types.specs.Frames.{Frame, most_frames}
 use Rattle.napi_types.specs.Heap.{Heap}
@@ -19,9 +20,9 @@ use Rattle.napi_types.specs.ReferenceRefusals.{reference_refusal}
 abbrev pub refusal_in : ℕ → Heap → Call → Option Status
 refusal_in texts heap c = option_or (unknown_refusal texts heap c) (option_or (kind_refusal heap c) (row_refusal heap c))
 
--- the first refusal that applies to a call that comes at a right moment
+-- the first refusal that applies to a call that comes at a right moment: what is attached to a value is asked last
 abbrev pub timely_refusal : Environment → Call → Option Status
-timely_refusal e c = option_or (reference_refusal e.references c) (refusal_in e.texts e.heap c)
+timely_refusal e c = option_or (reference_refusal e.references c) (option_or (refusal_in e.texts e.heap c) (attachment_refusal e.attachments e.heap c))
 
 -- THE DEPTH LIMIT
 -- no function is called where as many frames stand as may

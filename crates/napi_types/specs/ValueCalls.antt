@@ -8,7 +8,7 @@ use Rattle.napi_types.specs.Heap.{Heap, handle_value, handle_body, handle_elemen
 use Rattle.napi_types.specs.HeapChanges.{handle_of, new_value, new_error}
 use Rattle.napi_types.specs.Replies.{Answer, accepts}
 use Rattle.napi_types.specs.Values.{undefined_value, null_value, true_value, false_value, global_value}
-use Rattle.napi_types.specs.Bodies.{kind_of, is_array, is_error_body, signed_of, flag_of, text_of, strictly_equal}
+use Rattle.napi_types.specs.Bodies.{kind_of, is_array, is_error_body, signed_of, flag_of, text_of, external_payload, strictly_equal}
 
 -- `get_*` of a starting value gives a new handle of it; `create_*` makes a value and gives its handle; the others tell what a handle's value is
 abbrev pub on_values : Heap → Call → Option (Answer Heap)
@@ -30,6 +30,7 @@ on_values heap (call.GetValueInt64 h) = Some (accepts (out.Signed (signed_of (ha
 on_values heap (call.GetValueBigintInt64 h) = Some (accepts (out.Signed (signed_of (handle_body heap h.0))) heap)
 on_values heap (call.GetValueBool h) = Some (accepts (out.Flag (flag_of (handle_body heap h.0))) heap)
 on_values heap (call.GetValueStringUtf8 h) = Some (accepts (out.Text (text_of (handle_body heap h.0))) heap)
+on_values heap (call.GetValueExternal h) = Some (accepts (out.Unsigned (external_payload (handle_body heap h.0))) heap)
 on_values heap (call.GetArrayLength h) = Some (accepts (out.Unsigned (length (handle_elements heap h.0))) heap)
 on_values heap (call.StrictEquals g h) =
     Some (accepts (out.Flag (strictly_equal (handle_body heap g.0) (handle_value heap g.0) (handle_body heap h.0) (handle_value heap h.0))) heap)
