@@ -21,6 +21,6 @@ abbrev pub RoomSuffices : Type 0
 RoomSuffices = (s : Setting) (bs : List Ask) (xs : List Entry)
     → 2 + 2 * length s.plans ≤ s.limits.journal → 4 ≤ s.limits.history → RunsBy s bs xs → HasRoom s xs (final_of s bs xs)
 
--- every collection of a run keeps exactly what the roots reach, and empties the references to all else
+-- every collection of a run keeps exactly what the roots reach, empties the references to all else, and takes away what is attached to it
 abbrev pub CollectionsKeepWhatIsReached : Type 0
 CollectionsKeepWhatIsReached = (m : Machine) (bs : List Ask) (xs : List Entry) → IsRunBy m bs xs → KeepsReached m bs xs

@@ -7,7 +7,8 @@ pub fn room_suffices()
     ensures { RoomSuffices }
 {}
 
-/// Each collection of a run keeps exactly the values that the roots reach, empties the references to the others, and tells how many it freed.
+/// Each collection of a run keeps exactly the values that the roots reach, empties the references to the others, takes away what is attached to them,
+/// and tells how many it freed. The registered tickets of their finalizers fall due.
 pub fn collections_keep_what_is_reached()
     ensures { CollectionsKeepWhatIsReached }
 {}
