@@ -4,10 +4,12 @@ use Rattle.std.specs.List.{All}
 use Rattle.std.specs.Option.{IfSome, unwrap_or}
 use Rattle.std.proofs.lemmas.List.Elements.{All-append, All-cons, All-nil, All-head, All-tail, All-filter, All-map, All-weaker}
 use Rattle.std.proofs.lemmas.Option.{IfSome_then}
+use Rattle.napi_types.specs.declared.body.Body.TheVariants as body
 use Rattle.napi_types.specs.declared.call.Call.{Call}
 use Rattle.napi_types.specs.declared.call.Call.TheVariants as call
 use Rattle.napi_types.specs.declared.ids.TextNo.{TextNo}
 use Rattle.napi_types.specs.declared.status.Status.{Status}
+use Rattle.napi_types.specs.Attachments.{Attachments}
 use Rattle.napi_types.specs.Calls.{effect, answer_unless, answer_unless_deep}
 use Rattle.napi_types.specs.Changes.{call_change}
 use Rattle.napi_types.specs.Environment.{Environment, with_heap}
@@ -20,12 +22,13 @@ use Rattle.napi_types.specs.ReferenceCalls.{with_references, counted_up, value_t
 use Rattle.napi_types.specs.References.{Reference, ReferenceMap, referred_value, with_reference, without_reference, with_count}
 use Rattle.napi_types.specs.Refusals.{early_refusal, depth_refusal}
 use Rattle.napi_types.specs.Values.{undefined_value}
+use Rattle.napi_types.specs.WrapCalls.{with_attachments}
 use Rattle.napi_types.proofs.Answers.{KeepsButAsk, call_change-keeps}
 use Rattle.machine_laws.specs.Consistency.{IsConsistent, IsLiveAmong, IsMap}
 use Rattle.machine_laws.proofs.Collected.{heap-kept, referred-kept, pending-kept}
 use Rattle.machine_laws.proofs.ConsistentCalls.{heap-call, handle-live, or-undefined}
 use Rattle.machine_laws.proofs.ConsistentHeaps.{IsConsistentHeap, HandlesStay, ComesTo, stays, with-handle}
-use Rattle.machine_laws.proofs.ConsistentValues.{with-thrown, thrown-live}
+use Rattle.machine_laws.proofs.ConsistentValues.{with-new, with-thrown, thrown-live}
 use Rattle.machine_laws.proofs.Rising.{more-map, fewer-map, counted-map, emptied-map}
 
 -- what holds of an environment, but what is said of its frames
@@ -142,6 +145,10 @@ told-good : (e : Environment) (o : Option ℕ) → IfSome o (IsLiveAmong e.heap.
 told-good e None live g = unmoved e g
 told-good e (Some v) live g = in-heap e (with_handle v e.heap) g (with-handle e.heap v g.heap live)
 
+-- ATTACHMENTS
+attaching : (e : Environment) (a : Attachments) → IsConsistentButFrames e → LeadsTo e (with_attachments a e)
+attaching e a g = record { good = record { heap = g.heap; referred = g.referred; references = g.references; pending = g.pending }; stay = stays e.heap }
+
 -- CALLS
 by-call : (e : Environment) (c : Call) (k : ℕ) → IsConsistentButFrames e → LeadsTo e (effect e c k).after
 by-call e (call.Throw v) k g = record { good = with-pending e (Some (handle_value e.heap v.0)) g (handle-live e.heap v.0 g.heap); stay = stays e.heap }
@@ -163,6 +170,12 @@ by-call e (call.ReferenceRef r) k g = counted-up-good e r.0 (referred_value e.re
 by-call e (call.ReferenceUnref r) k g = counted-good e r.0 _ g
 by-call e (call.GetReferenceValue r) k g =
     told-good e (referred_value e.references r.0) (row-of (λ o. IfSome o (IsLiveAmong e.heap.values)) r.0 e.references.rows tt g.referred) g
+by-call e (call.Wrap v payload None hint wanted) k g = attaching e _ g
+by-call e (call.Unwrap v) k g = unmoved e g
+by-call e (call.RemoveWrap v) k g = attaching e _ g
+by-call e (call.TypeTagObject v lower upper) k g = attaching e _ g
+by-call e (call.CheckObjectTypeTag v lower upper) k g = unmoved e g
+by-call e (call.CreateExternal payload None hint) k g = in-heap e _ g (with-new e.heap (body.External payload) g.heap)
 by-call e call.Collect k g = record {
   good = record {
     heap = heap-kept e g.heap;

@@ -22,3 +22,4 @@ pub mod StaleHandle
 pub mod StrongAndWeak
 pub mod Told
 pub mod TwoAddons
+pub mod WrapsAndTags

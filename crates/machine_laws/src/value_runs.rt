@@ -1,8 +1,9 @@
-//! Worked runs of properties, elements, references and collections, each as laws.
+//! Worked runs of properties, elements, references, wraps, type tags and collections, each as laws.
 ghost use Rattle.machine_laws.specs.Told.{EndsAsTold};
 ghost use Rattle.machine_laws.specs.PropertiesAndElements as properties_and_elements;
 ghost use Rattle.machine_laws.specs.StrongAndWeak as strong_and_weak;
 ghost use Rattle.machine_laws.specs.ReferenceCounts as reference_counts;
+ghost use Rattle.machine_laws.specs.WrapsAndTags as wraps_and_tags;
 
 /// Properties and elements: the entries are a run of their script and come to its end.
 pub fn properties_and_elements_ends()
@@ -48,4 +49,19 @@ pub fn reference_counts_prints()
 /// The greatest count is not passed, what was deleted is deleted once, and no reference is to a number.
 pub fn reference_counts_is_strict()
     ensures { reference_counts.IsStrict }
+{}
+
+/// A wrap, a type tag and an external, each made, asked for and refused, and a collection: the entries are a run of their script and come to its end.
+pub fn wraps_and_tags_ends()
+    ensures { EndsAsTold wraps_and_tags.setting wraps_and_tags.trace }
+{}
+
+/// The text of that run, line by line.
+pub fn wraps_and_tags_prints()
+    ensures { wraps_and_tags.Prints }
+{}
+
+/// What is wrapped is not wrapped again, its payload is told, and what has no tag is told so; after the collection nothing is attached.
+pub fn wraps_and_tags_is_strict()
+    ensures { wraps_and_tags.IsStrict }
 {}

@@ -6,12 +6,13 @@ use Rattle.napi_types.specs.declared.call.Call.TheVariants as call
 use Rattle.napi_types.specs.declared.entry.Out.TheVariants as out
 use Rattle.napi_types.specs.declared.status.Status.{Status}
 use Rattle.napi_types.specs.declared.status.Status.TheVariants as status
+use Rattle.napi_types.specs.AttachmentRefusals.{attachment_refusal}
 use Rattle.napi_types.specs.Calls.{answer_unless_deep}
 use Rattle.napi_types.specs.Environment.{Environment}
 use Rattle.napi_types.specs.Lists.{has_number, one, unless}
 use Rattle.napi_types.specs.NamedNumbers.{handles_of, texts_of, unknown_refusal}
 use Rattle.napi_types.specs.Moments.{moment_refusal}
-use Rattle.napi_types.specs.Refusals.{timely_refusal, depth_refusal}
+use Rattle.napi_types.specs.Refusals.{refusal_in, timely_refusal, depth_refusal}
 use Rattle.napi_types.specs.ReferenceRefusals.{reference_refusal}
 use Rattle.napi_types.specs.ExpectedKinds.{kind_refusal}
 use Rattle.napi_types.specs.OwnRefusals.{row_refusal}
@@ -39,6 +40,12 @@ after-of e c n None (Some d) s = refl
 after-of e c n (Some m) None s = refl
 after-of e c n (Some m) (Some d) s = refl
 
+-- the first of the tables of references and of the heap that refuses does so whatever is attached
+before-attached : (a b c : Option Status) (s : Status) → option_or a b ≡ Some s → option_or a (option_or b c) ≡ Some s
+before-attached (Some r) b c s h = h
+before-attached None (Some r) c s h = h
+before-attached None None c s h = cc
+
 -- a handle is unknown, so the first refusal of one that comes at a right moment is that of its arguments
 unknown-first : (e : Environment) (c : Call) (h : ℕ) → has_number h (handles_of c) ≡ true → gives e.heap.scopes h ≡ None
     → timely_refusal e c ≡ Some status.InvalidArg
@@ -47,8 +54,10 @@ unknown-first e c h here none =
     fails-all (λ n. is_some (gives e.heap.scopes n)) (handles_of c) h here (ap is_some none) in
     let unknown : unknown_refusal e.texts e.heap c ≡ Some status.InvalidArg =
     ap (λ b. unless (b && list_all (λ t. nat_lt t e.texts) (texts_of c)) status.InvalidArg) all in
+    let first : option_or (reference_refusal e.references c) (refusal_in e.texts e.heap c) ≡ Some status.InvalidArg =
     (named-alone e c).order
-    ∙ ap (λ s. option_or (option_or s (option_or (kind_refusal e.heap c) (row_refusal e.heap c))) (reference_refusal e.references c)) unknown
+    ∙ ap (λ s. option_or (option_or s (option_or (kind_refusal e.heap c) (row_refusal e.heap c))) (reference_refusal e.references c)) unknown in
+    before-attached (reference_refusal e.references c) (refusal_in e.texts e.heap c) (attachment_refusal e.attachments e.heap c) status.InvalidArg first
 
 unknown : RefusesUnknownHandles
 unknown e c h here none =

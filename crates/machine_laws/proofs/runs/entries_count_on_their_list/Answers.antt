@@ -15,9 +15,9 @@ use Rattle.napi_types.specs.Built.{built_ask}
 use Rattle.napi_types.specs.Choice.{choice}
 use Rattle.napi_types.specs.Frames.{Frame}
 use Rattle.napi_types.specs.Hub.{Hub, hub_next}
-use Rattle.napi_types.specs.Loop.{Event, Opens, Inits, Goes, EndsLoop, Drains, FinalsCome, IsGone}
+use Rattle.napi_types.specs.Loop.{Event, Goes, EndsLoop, Drains, FinalsCome}
 use Rattle.napi_types.specs.Machine.{Machine}
-use Rattle.napi_types.specs.Step.{Step, hub_moved, event_step, chosen, asked_step, frame_step, env_step, step_of, cut_of}
+use Rattle.napi_types.specs.Step.{Step, hub_moved, event_step, chosen, frame_step, env_step, step_of, cut_of}
 use Rattle.machine_laws.specs.RunLaws.{GrowsOn, EntriesCountOnTheirList}
 use Rattle.machine_laws.proofs.runs.entries_count_on_their_list.Goals as goal
 

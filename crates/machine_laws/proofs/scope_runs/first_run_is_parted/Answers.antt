@@ -1,6 +1,6 @@
-use Rattle.std.proofs.Common.{◌≡◌, List, ◌∷◌, ap, drop, refl, slice_index_or}
+use Rattle.std.proofs.Common.{◌≡◌, ◌∷◌, ap, drop, refl, slice_index_or}
 use Rattle.napi_types.specs.Parting.{IsParted}
-use Rattle.napi_types.specs.Weave.{Side, Journal, History}
+use Rattle.napi_types.specs.Weave.{Journal, History}
 use Rattle.napi_types.specs.Setting.{opening_of}
 use Rattle.machine_laws.specs.FirstRun.{setting, asks, history, journal_with_go, journal_without_end}
 use Rattle.machine_laws.specs.RunWords.{frame_end}
