@@ -2,10 +2,11 @@
 use Rattle.std.proofs.Common.{◌≡◌, ◌∙◌, ℕ, ◌<◌, ◌==◌, nat_lt, ◌||◌, Bool, true, false, not, cond, List, [], ◌∷◌, ◌++◌, filter, Option, Some, None, is_some, refl, ap, sym, subst, arith}
 use Rattle.std.specs.List.{All}
 use Rattle.std.specs.Option.{option_or, option_and_then}
-use Rattle.std.proofs.lemmas.Bool.{ltb-true}
+use Rattle.std.proofs.lemmas.Bool.{ltb-true, lt-ltb, le-ltb, or_parts}
 use Rattle.std.proofs.lemmas.Bool.Decides.{nat_tests}
 use Rattle.std.proofs.lemmas.List.Elements.{All-head, All-tail, All-cons, All-nil, All-append, All-filter}
 use Rattle.napi_types.specs.Lists.{found, has, with_record, as_map}
+use Rattle.napi_types.proofs.Maps.{filter_all, filter_none}
 
 -- NUMBERS APART
 pub same-tells : (m n : ℕ) → (m == n) ≡ true → m ≡ n
@@ -156,11 +157,12 @@ module _ {A : Type 0} (number : A → ℕ) where
 
   rising-append : (xs ys : List A) → IsRising number xs → IsRising number ys → All (λ x. All (λ y. number x < number y) ys) xs → IsRising number (xs ++ ys)
   rising-append [] ys left right between = right
-  rising-append (x ∷ xs) ys left right between =
-      (All-append (λ y. number x < number y) xs ys left.0 (All-head (λ z. All (λ y. number z < number y) ys) x xs between)
-      , rising-append xs ys left.1 right (All-tail (λ z. All (λ y. number z < number y) ys) x xs between))
+  rising-append (x ∷ xs) ys left right between = (
+    All-append (λ y. number x < number y) xs ys left.0 (All-head (λ z. All (λ y. number z < number y) ys) x xs between),
+    rising-append xs ys left.1 right (All-tail (λ z. All (λ y. number z < number y) ys) x xs between),
+  )
 
-  passing : (p : A → Bool) (xs : List A) → All (λ x. p x ≡ true) (filter p xs)
+  pub passing : (p : A → Bool) (xs : List A) → All (λ x. p x ≡ true) (filter p xs)
   passing p [] = All-nil (λ x. p x ≡ true)
   passing p (x ∷ xs) = by (p x) refl (passing p xs)
     where
@@ -214,3 +216,47 @@ module _ {A : Type 0} (number : A → ℕ) where
           let both : Some x ≡ Some y = sym (found-first x xs) ∙ same (number x) ∙ ap (λ n. found number n (y ∷ ys)) one ∙ found-first y ys in
           let first : x ≡ y = cc in
           ap (λ z. z ∷ xs) first ∙ ap (λ zs. y ∷ zs) (more first one)
+
+  -- LISTS THAT ARE MAPS
+  -- a list by rising number is the map of its records
+  pub rising-map : (xs : List A) → IsRising number xs → as_map number xs ≡ xs
+  rising-map xs rises = found-same (as_map number xs) xs (rising-as_map xs) rises (λ n. found-as_map n xs)
+
+  pub map-rising : (xs : List A) → as_map number xs ≡ xs → IsRising number xs
+  map-rising xs is = subst (IsRising number) is (rising-as_map xs)
+
+  -- one record more, and fewer, are a map again
+  pub as_map-with_record : (x : A) (xs : List A) → as_map number xs ≡ xs → as_map number (with_record number x xs) ≡ with_record number x xs
+  as_map-with_record x xs is = rising-map (with_record number x xs) (rising-with_record x xs (map-rising xs is))
+
+  pub as_map-kept : (p : A → Bool) (xs : List A) → as_map number xs ≡ xs → as_map number (filter p xs) ≡ filter p xs
+  as_map-kept p xs is = rising-map (filter p xs) (rising-filter p xs (map-rising xs is))
+
+  -- of records whose numbers pass a test the map is that of those that pass it
+  pub as_map-filter : (q : ℕ → Bool) (xs : List A) → as_map number (filter (λ x. q (number x)) xs) ≡ filter (λ x. q (number x)) (as_map number xs)
+  as_map-filter q xs =
+      found-same (as_map number (filter (λ x. q (number x)) xs)) (filter (λ x. q (number x)) (as_map number xs))
+      (rising-as_map (filter (λ x. q (number x)) xs)) (rising-filter (λ x. q (number x)) (as_map number xs) (rising-as_map xs))
+      (λ n. found-as_map n (filter (λ x. q (number x)) xs) ∙ found-filter q n xs ∙ ap (λ o. cond (q n) o None) (sym (found-as_map n xs))
+      ∙ sym (found-filter q n (as_map number xs)))
+
+  -- a list by rising number is what lies below an absent number, and what lies above it
+  pub parts-rising : (n : ℕ) (xs : List A) → IsRising number xs → has number n xs ≡ false → filter (λ y. nat_lt (number y) n) xs ++ filter (λ y. nat_lt n (number y)) xs ≡ xs
+  parts-rising n [] rises absent = refl
+  parts-rising n (x ∷ xs) rises absent =
+      let apart = or_parts (number x == n) (has number n xs) absent in
+      by (nat_lt (number x) n) (nat_lt n (number x)) refl refl (either (number x) n apart.0) (parts-rising n xs rises.1 apart.1)
+    where
+      either : (m k : ℕ) → (m == k) ≡ false → nat_lt m k ≡ not (nat_lt k m)
+      either m k apart = grind (arith, nat_tests)
+
+      by : (a b : Bool) → nat_lt (number x) n ≡ a → nat_lt n (number x) ≡ b → nat_lt (number x) n ≡ not (nat_lt n (number x))
+          → filter (λ y. nat_lt (number y) n) xs ++ filter (λ y. nat_lt n (number y)) xs ≡ xs
+          → cond a (x ∷ filter (λ y. nat_lt (number y) n) xs) (filter (λ y. nat_lt (number y) n) xs) ++ cond b (x ∷ filter (λ y. nat_lt n (number y)) xs) (filter (λ y. nat_lt n (number y)) xs) ≡ x ∷ xs
+      by true true below above one rest = let no : ⊥ = cc in absurd no
+      by true false below above one rest = ap (λ ys. x ∷ ys) rest
+      by false false below above one rest = let no : ⊥ = cc in absurd no
+      by false true below above one rest =
+          let first : n < number x = ltb-true n (number x) above in
+          ap (λ ys. ys ++ x ∷ filter (λ y. nat_lt n (number y)) xs) (filter_none (λ y. nat_lt (number y) n) xs (λ k d inside. le-ltb _ _ (omega (arith, first, rises.0 k d inside))))
+          ∙ ap (λ ys. x ∷ ys) (filter_all (λ y. nat_lt n (number y)) xs (λ k d inside. lt-ltb _ _ (omega (arith, first, rises.0 k d inside))))
