@@ -2,7 +2,8 @@
 ghost use Rattle.std.specs.Prelude.{◌≡◌, true, false, is_some, nat_lt, option_map, IfSome, IfOk, IfErr, OnOk};
 ghost use Rattle.napi_types.specs.Graph.{number_in, IsLive, IsSoundStore};
 ghost use Rattle.napi_types.specs.Scopes.{gives};
-ghost use Rattle.napi_types.specs.Bodies.{is_object_like, is_string, is_number, is_bigint, is_boolean, is_array, is_error_body, signed_of, flag_of, text_of, strictly_equal};
+ghost use Rattle.napi_types.specs.Bodies.{is_object_like, is_string, is_number, is_bigint, is_boolean, is_array, is_external, is_error_body, signed_of, flag_of, text_of};
+ghost use Rattle.napi_types.specs.Bodies.{external_payload, strictly_equal};
 ghost use Rattle.napi_types.specs.Properties.{element_at};
 ghost use Rattle.napi_types.specs.Values.{undefined_value};
 ghost use Rattle.std.specs.Option.{unwrap_or};
@@ -118,6 +119,19 @@ pub(crate) fn boolean(body: Body) -> Result<bool, Status>
     match body {
         Body::Boolean(flag) => Ok(flag),
         _ => Err(Status::BooleanExpected),
+    }
+}
+
+/// The payload of an external.
+pub(crate) fn external(body: Body) -> Result<u64, Status>
+    ensures ok { IfOk result (λ payload. payload ≡ external_payload body) }
+    ensures external { OnOk result (is_external body ≡ true) }
+    ensures other { IfErr result (λ status. is_external body ≡ false) }
+    ensures refused { IfErr result (λ status. status ≡ Status.InvalidArg) }
+{
+    match body {
+        Body::External(payload) => Ok(payload),
+        _ => Err(Status::InvalidArg),
     }
 }
 

@@ -5,8 +5,8 @@ ghost use Rattle.env_values.specs.Seen.{heap_of, HoldsLive};
 ghost use Rattle.env_values.specs.Steps.{Comes, ComesOf};
 
 use crate::known::{
-    array, bigint, boolean, element, equals_strictly, is_array_value, is_error_value, known_text,
-    number, object_like, text, value_of_handle,
+    array, bigint, boolean, element, equals_strictly, external, is_array_value, is_error_value,
+    known_text, number, object_like, text, value_of_handle,
 };
 use crate::stop::Stop;
 use handle_scope::Scopes;
@@ -47,6 +47,10 @@ pub(crate) fn tell(store: &Store, scopes: &Scopes, call: &Call) -> Result<Out, S
         Call::GetValueStringUtf8(value) => {
             let value = value_of_handle(store, scopes, value)?;
             Ok(Out::Text(text(value.body)?))
+        }
+        Call::GetValueExternal(value) => {
+            let value = value_of_handle(store, scopes, value)?;
+            Ok(Out::Unsigned(external(value.body)?))
         }
         _ => unreachable!(),
     }

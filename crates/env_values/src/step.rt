@@ -102,7 +102,8 @@ fn outcome(
         | Call::GetValueInt64(_)
         | Call::GetValueBigintInt64(_)
         | Call::GetValueBool(_)
-        | Call::GetValueStringUtf8(_) => tell(store, scopes, call),
+        | Call::GetValueStringUtf8(_)
+        | Call::GetValueExternal(_) => tell(store, scopes, call),
         Call::GetArrayLength(value) => get_array_length(store, scopes, value),
         Call::StrictEquals(left, right) => strict_equals(store, scopes, left, right),
         Call::SetNamedProperty(object, name, value) => {
