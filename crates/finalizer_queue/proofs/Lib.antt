@@ -1,0 +1,4 @@
+pub mod Heaps
+pub mod Lowest
+pub mod Moves
+pub mod Kept

@@ -1,0 +1,30 @@
+use Rattle.std.proofs.Common.{◌≡◌, ◌∙◌, true, sym, ap}
+use Rattle.napi_types.specs.Book.{is_begun, is_at, made_ended, moved_at}
+use Rattle.napi_types.specs.declared.duties.DueInfo.{DueInfo}
+use Rattle.finalizer_queue.specs.Kept.{ticket_number}
+use Rattle.finalizer_queue.specs.Rows.{state_of}
+use Rattle.finalizer_queue.proofs.Kept.{kept-ended, begun-unregistered}
+use Rattle.finalizer_queue.proofs.Moves.{IsRow, book_of-moved, row-passes}
+use Rattle.finalizer_queue.proofs.book.Book.done.Goals as goal
+use Rattle.finalizer_queue.proofs.book.Book.done.Goals.{After-index_mut}
+
+-- the ticket is that of the duty
+numbered : (c : After-index_mut) → ticket_number c.args.begun.duty ≡ c.in-Ticket.ticket.0
+numbered c = ap (λ (d : DueInfo). ticket_number d.duty) (sym c.end.ensures) ∙ ap ticket_number c.in-Ticket.is
+
+row : (c : After-index_mut) → IsRow c.self.inside.rows.items c.in-Ticket.ticket.0 c.index_mut.result.now × (is_begun (state_of c.index_mut.result.now.state) ≡ true)
+row c = row-passes is_begun c.self.inside.rows.items _ c.in-Ticket.ticket.0 _ (ap (λ k. k.book) c.self.view_is) (ap (is_at is_begun c.args.self.now.book) (sym (numbered c)) ∙ c.requires) c.index_mut.ensures.value
+
+pub end-requires-2 : goal.end-requires-2
+end-requires-2 c = (row c).1
+
+pub invariant_of-self : goal.invariant_of-self
+invariant_of-self c =
+    let before = (goal.at.invariant_of-self c).After-index_mut in
+    kept-ended _ _ _ _ _ _ c.self.invariant c.in-Ticket.ticket.0 _ _ (row before).0 (begun-unregistered _ (row before).1) c.end-2.ensures
+
+pub returns-clause-ended : goal.returns-clause-ended
+returns-clause-ended c =
+    let before = (goal.at.returns-clause-ended c).After-index_mut in
+    book_of-moved made_ended _ c.in-Ticket.ticket.0 _ _ (row before).0 c.end-2.ensures ∙ ap (λ k. moved_at made_ended c.in-Ticket.ticket.0 k.book) c.self.view_is
+    ∙ ap (λ n. moved_at made_ended n c.args.self.now.book) (sym (numbered before))

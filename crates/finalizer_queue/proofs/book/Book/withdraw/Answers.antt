@@ -1,0 +1,18 @@
+use Rattle.std.proofs.Common.{◌∙◌, ap}
+use Rattle.napi_types.specs.Book.{is_registered, made_withdrawn, moved_at}
+use Rattle.finalizer_queue.proofs.Kept.{kept-withdrawn}
+use Rattle.finalizer_queue.proofs.Moves.{book_of-moved, row-passes}
+use Rattle.finalizer_queue.proofs.book.Book.withdraw.Goals as goal
+
+pub withdraw-requires : goal.withdraw-requires
+withdraw-requires c = (row-passes is_registered c.self.inside.rows.items _ c.args.ticket.0 _ (ap (λ k. k.book) c.self.view_is) c.requires c.index_mut.ensures.value).1
+
+pub invariant_of-self : goal.invariant_of-self
+invariant_of-self c =
+    let row = row-passes is_registered c.self.inside.rows.items _ c.args.ticket.0 _ (ap (λ k. k.book) c.self.view_is) c.requires c.index_mut.ensures.value in
+    kept-withdrawn _ _ _ _ _ _ c.self.invariant c.args.ticket.0 _ _ row.0 c.withdraw.ensures
+
+pub returns-clause-withdrawn : goal.returns-clause-withdrawn
+returns-clause-withdrawn c =
+    let row = row-passes is_registered c.self.inside.rows.items _ c.args.ticket.0 _ (ap (λ k. k.book) c.self.view_is) c.requires c.index_mut.ensures.value in
+    book_of-moved made_withdrawn _ c.args.ticket.0 _ _ row.0 c.withdraw.ensures ∙ ap (λ k. moved_at made_withdrawn c.args.ticket.0 k.book) c.self.view_is

@@ -1,0 +1,53 @@
+-- How the rows stand for the book, and how the heap stands for the tickets that are due.
+use Rattle.std.specs.Prelude.{◌≡◌, ℕ, ◌+◌, ◌≤◌, ◌==◌, cond, List, map, length, count_by, Option, Some, None}
+use Rattle.std.specs.BinaryHeap.{IsHeap}
+use Rattle.std.specs.Ordering.{nat_cmp}
+use Rattle.std.specs.declared.cmp.Reverse.{Reverse}
+use Rattle.napi_types.specs.Book.{Book, Registration, TicketState, Registered, Due, Begun, Ended, Withdrawn, is_registered, is_due, is_at}
+use Rattle.napi_types.specs.declared.duties.Slip.{Slip}
+use Rattle.finalizer_queue.specs.declared.rows.NewDuty.{NewDuty}
+use Rattle.finalizer_queue.specs.declared.rows.RowState.{RowState}
+use Rattle.finalizer_queue.specs.declared.rows.RowState.TheVariants as state
+use Rattle.finalizer_queue.specs.declared.rows.Row.{Row}
+
+-- a duty that has come so far
+abbrev pub registration_in : TicketState → NewDuty → Registration
+registration_in s d = record { cause = d.cause; addon = d.addon; entry = d.entry; payload = d.payload; hint = d.hint; state = s }
+
+-- a duty as it is registered
+abbrev pub registration_of : NewDuty → Registration
+registration_of d = registration_in Registered d
+
+-- how far a row has come
+abbrev pub state_of : RowState → TicketState
+state_of (state.Registered slip) = Registered
+state_of (state.Due slip) = Due
+state_of state.Begun = Begun
+state_of state.Ended = Ended
+state_of state.Withdrawn = Withdrawn
+
+-- what a row was registered as, and how far it has come
+abbrev pub row_registration : Row → Registration
+row_registration row = registration_in (state_of row.state) row.duty
+
+-- the rows are the registrations, that of ticket 1 first
+abbrev pub book_of : List Row → Book
+book_of rows = map row_registration rows
+
+-- how many rows are registered
+abbrev pub registered_count : List Row → ℕ
+registered_count rows = count_by (λ row. is_registered (state_of row.state)) rows
+
+-- how many slips are spare
+abbrev pub spare_slips : Option Slip → ℕ
+spare_slips None = 0
+spare_slips (Some slip) = 1
+
+-- the heap has each ticket that is due once, and nothing else. It has a place for each row, and those that are due or registered are no more than the rows,
+-- so that each that is registered may fall due
+pub record AreKept (rows : List Row) (spare row_places : ℕ) (tickets : List (Reverse ℕ)) (count places : ℕ) : Type 0 where
+  pub order : IsHeap (λ x y. nat_cmp y.0 x.0) tickets
+  pub once : (n : ℕ) → count_by (λ t. t.0 == n) tickets ≡ cond (is_at is_due (book_of rows) n) 1 0
+  pub fits : count + registered_count rows ≤ length rows
+  pub heap_room : length rows + spare ≤ places
+  pub row_room : length rows + spare ≤ row_places
