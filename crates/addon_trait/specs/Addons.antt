@@ -1,5 +1,6 @@
--- Lists of addons, seen as the list of their plans and the list of their registers, both in the addons' order.
-use Rattle.std.specs.Prelude.{◌≡◌, ℕ, List, set, option_map}
+-- Lists of addons, seen as the list of their plans, the list of their registers and the list of what each has seen, all in the addons' order.
+use Rattle.std.specs.Prelude.{◌≡◌, ℕ, List, [], set, option_map, slice_index_or}
+use Rattle.napi_types.specs.declared.duties.DueInfo.{DueInfo}
 use Rattle.napi_types.specs.declared.op.Op.{Op}
 use Rattle.napi_types.specs.Plan.{Plan, plan_of, Registers, registers_of}
 
@@ -10,3 +11,7 @@ loaded_at plans which entries = set plans which (option_map (λ _. entries) (pla
 -- every other addon has the registers that it had
 abbrev pub OthersStay : Registers → Registers → ℕ → Type 0
 OthersStay old new which = new ≡ set old which (registers_of new which)
+
+-- what an addon has seen, by its number
+abbrev pub seen_of : List (List DueInfo) → ℕ → List DueInfo
+seen_of seens addon = slice_index_or seens addon []

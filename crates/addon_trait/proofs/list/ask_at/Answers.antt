@@ -13,3 +13,6 @@ pub returns-clause-asked : goal.returns-clause-asked
 returns-clause-asked g c =
     fact_here (λ plan regs. IfSome plan (λ p. c.ask.result ≡ plan_ask p regs c.args.entry c.args.step))
     _ _ _ _ _ (Some []) [] c.index_mut.ensures.value c.requires c.ask.ensures.asked
+
+pub returns-clause-seen : goal.returns-clause-seen
+returns-clause-seen g c = map-set_alike _ _ _ _ _ c.index_mut.ensures.value c.ask.ensures.seen

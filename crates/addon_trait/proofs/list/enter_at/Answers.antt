@@ -9,3 +9,6 @@ returns-clause-plans g c = map-set_alike _ _ _ _ _ c.index_mut.ensures.value c.e
 pub returns-clause-regs : goal.returns-clause-regs
 returns-clause-regs g c =
     map-set_by _ (with_gifts c.args.gifts.now) _ _ _ _ [] c.index_mut.ensures.value c.requires c.enter.ensures.regs
+
+pub returns-clause-seen : goal.returns-clause-seen
+returns-clause-seen g c = map-set_alike _ _ _ _ _ c.index_mut.ensures.value c.enter.ensures.seen

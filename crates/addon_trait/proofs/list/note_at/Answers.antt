@@ -13,3 +13,6 @@ pub returns-clause-kept : goal.returns-clause-kept
 returns-clause-kept g c =
     fact_after (λ plan before after. IfSome plan (λ p. after ≡ registers_after_reply p before c.args.entry c.args.step c.args.reply.now))
     _ _ _ _ _ _ (Some []) [] c.index_mut.ensures.value c.requires c.note.ensures.kept
+
+pub returns-clause-seen : goal.returns-clause-seen
+returns-clause-seen g c = map-set_alike _ _ _ _ _ c.index_mut.ensures.value c.note.ensures.seen
