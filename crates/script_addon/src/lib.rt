@@ -1,32 +1,35 @@
 //! The addon that follows its script: it tells its plan, and asks what the plan says.
-//! Contracts see it by `plan` and `regs` of the trait `Addon`. The program hands such addons to the top calls.
+//! Contracts see it by `plan`, `regs` and `seen` of the trait `Addon`. The program hands such addons to the top calls.
 #![tactic(auto)]
 
 ghost use Rattle.std.specs.Prelude.{◌≡◌, [], Some, set};
 ghost use Rattle.napi_types.specs.Registers.{operation, blank_registers};
 
 use addon_trait::Addon;
-use napi_types::{AddonPlan, Ask, Listed, Op, Reply, Status};
+use napi_types::{AddonPlan, Ask, Begun, Due, Listed, Op, Reply, SeenList, Status};
 use std::alloc::Global;
 
-/// An addon that keeps the plan of a script and 32 registers.
+/// An addon that keeps the plan of a script, 32 registers and what it has seen.
 #[derive(Drop)]
 pub struct ScriptAddon {
     plan: AddonPlan,
     registers: [u64; 32],
+    seen: SeenList,
 }
 
 impl ScriptAddon {
-    /// An addon with no entries, whose registers are 0. It takes no memory.
+    /// An addon with no entries, whose registers are 0 and which has seen nothing. It takes no memory.
     pub fn blank(alloc: Global) -> ScriptAddon
         ensures plan { ⟦<ScriptAddon as Addon>⟧.plan result ≡ Some [] }
         ensures regs { ⟦<ScriptAddon as Addon>⟧.regs result ≡ blank_registers }
+        ensures seen { ⟦<ScriptAddon as Addon>⟧.seen result ≡ [] }
     {
         ScriptAddon {
             plan: AddonPlan {
                 entries: Listed::of(Vec::new(alloc)),
             },
             registers: [0; 32],
+            seen: SeenList::new(),
         }
     }
 
@@ -55,6 +58,8 @@ impl Addon for ScriptAddon {
 
     ghost regs = { λ addon. addon.registers };
 
+    ghost seen = { λ addon. addon.seen };
+
     fn load(&mut self, given: AddonPlan) {
         self.plan = given;
         self.registers = [0; 32];
@@ -62,6 +67,12 @@ impl Addon for ScriptAddon {
 
     fn enter(&mut self, _entry: u32, gifts: &[u64; 8]) {
         self.registers[24..].copy_from_slice(gifts);
+    }
+
+    fn begin(&mut self, due: Due) -> Begun {
+        let info = *due.info();
+        self.enter(info.entry, &info.gifts);
+        due.begin(&mut self.seen)
     }
 
     fn ask(&mut self, entry: u32, step: u32) -> Ask {
