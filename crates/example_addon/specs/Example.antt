@@ -5,6 +5,7 @@ use Rattle.napi_types.specs.declared.call.Args.{Args}
 use Rattle.napi_types.specs.declared.call.Ask.{Ask}
 use Rattle.napi_types.specs.declared.call.Ask.TheVariants as ask
 use Rattle.napi_types.specs.declared.call.Call.TheVariants as call
+use Rattle.napi_types.specs.declared.duties.DueInfo.{DueInfo}
 use Rattle.napi_types.specs.declared.entry.Out.{Out}
 use Rattle.napi_types.specs.declared.entry.Out.TheVariants as out
 use Rattle.napi_types.specs.declared.entry.Reply.{Reply}
@@ -15,14 +16,15 @@ use Rattle.napi_types.specs.declared.status.Status.TheVariants as status
 use Rattle.example_addon.specs.declared.Progress.{Progress}
 use Rattle.example_addon.specs.declared.Progress.TheVariants as progress
 
--- what the addon keeps: how far its entry 0 has come, and what the last frame that a call entered was given
+-- what the addon keeps: how far its entry 0 has come, what the last frame was given that a call entered or a duty began, and the duties that began
 pub record ExampleState : Type 0 where
   pub progress : Progress
   pub gifts : List ℕ
+  pub seen : List DueInfo
 
--- as it starts: nothing was told, and nothing was given
+-- as it starts: nothing was told, nothing was given, and nothing was seen
 abbrev pub starting : ExampleState
-starting = record { progress = progress.Start; gifts = replicate 8 0 }
+starting = record { progress = progress.Start; gifts = replicate 8 0; seen = [] }
 
 -- one handle as the arguments of a call
 abbrev pub one_argument : HandleId → Args

@@ -3,12 +3,14 @@
 //! and what it keeps of each reply.
 #![tactic(auto)]
 
-ghost use Rattle.std.specs.Prelude.{◌≡◌, None};
+ghost use Rattle.std.specs.Prelude.{◌≡◌, [], ◌∷◌, ◌++◌, None};
 ghost use Rattle.napi_types.specs.Registers.{blank_registers, with_gifts};
 ghost use Rattle.example_addon.specs.Example.{starting, main_ask, callback_ask, ask_of, accepted_result, given_handle, given_reference, lowered_after, progress_after, noted};
 
 use addon_trait::Addon;
-use napi_types::{AddonPlan, Args, Ask, Call, HandleId, Out, RefId, Reply, Status};
+use napi_types::{
+    AddonPlan, Args, Ask, Begun, Call, Due, HandleId, Out, RefId, Reply, SeenList, Status,
+};
 use std::marker::Model;
 
 /// How far the addon has come in its entry 0, with what it was told on the way.
@@ -40,8 +42,10 @@ pub enum Progress {
 #[derive(Drop)]
 pub struct ExampleAddon {
     progress: Progress,
-    /// What the last frame that a call entered was given.
+    /// What the last frame was given that a call entered or a duty began.
     gifts: [u64; 8],
+    /// The duties that began.
+    seen: SeenList,
 }
 
 impl Model for ExampleAddon {
@@ -49,17 +53,18 @@ impl Model for ExampleAddon {
 
     ghost Value = { ExampleState };
 
-    ghost view = { λ addon. record { progress = addon.progress; gifts = addon.gifts } };
+    ghost view = { λ addon. record { progress = addon.progress; gifts = addon.gifts; seen = addon.seen } };
 }
 
 impl ExampleAddon {
-    /// An addon that was told nothing. It takes no memory.
+    /// An addon that was told nothing and has seen nothing. It takes no memory.
     pub fn new() -> ExampleAddon
         ensures { result ≡ starting }
     {
         ExampleAddon {
             progress: Progress::Start,
             gifts: [0; 8],
+            seen: SeenList::new(),
         }
     }
 }
@@ -172,8 +177,10 @@ impl Addon for ExampleAddon {
 
     ghost regs = { λ addon. with_gifts addon.gifts blank_registers };
 
+    ghost seen = { λ addon. addon.seen };
+
     fn load(&mut self, _given: AddonPlan)
-        ensures { self.new ≡ starting }
+        ensures { self.new ≡ record starting { seen = self.old.seen } }
     {
         self.progress = Progress::Start;
         self.gifts = [0; 8];
@@ -183,6 +190,14 @@ impl Addon for ExampleAddon {
         ensures { self.new ≡ record self.old { gifts = gifts.now } }
     {
         self.gifts = *gifts;
+    }
+
+    fn begin(&mut self, due: Due) -> Begun
+        ensures begun { result ≡ due }
+        ensures kept { self.new ≡ record self.old { gifts = due.gifts; seen = self.old.seen ++ due ∷ [] } }
+    {
+        self.gifts = due.info().gifts;
+        due.begin(&mut self.seen)
     }
 
     fn ask(&mut self, entry: u32, step: u32) -> Ask
