@@ -78,6 +78,9 @@ impl EnvRun {
         ensures limit { self.new.core.limit ≡ self.old.core.limit }
         ensures stage { stage_of self.new.core.env.phase ≡ stage_of self.old.core.env.phase }
 
+        // No duty begins, so what each addon has seen is as before.
+        ensures seen { map (λ b. seen b) addons.new.items ≡ map (λ b. seen b) addons.old.items }
+
         // Only the addon of the innermost frame after the turn may have other registers than before.
         ensures untouched { let before = map (λ b. regs b) addons.old.items in
             let after = map (λ b. regs b) addons.new.items in
@@ -170,11 +173,12 @@ fn hub_event(core: &mut EnvCore, history: &mut History)
 /// Runs an environment to its end, `gone`, with no other actor: one turn after another, and the hub's events where they are next.
 ///
 /// The first addons are those of the script, at least as many as the environment has. It returns, since each turn fills a place of the
-/// journal or makes one of the hub's events.
+/// journal or makes one of the hub's events. No duty begins, so what each addon has seen is as before.
 pub fn run_alone(env: &mut EnvRun, addons: &mut Vec<Box<dyn Addon>>)
     requires { env.old.core.env.addons ≤ length addons.old.items }
     ensures count { length addons.new.items ≡ length addons.old.items }
     ensures plans { map (λ b. plan b) addons.new.items ≡ map (λ b. plan b) addons.old.items }
+    ensures seen { map (λ b. seen b) addons.new.items ≡ map (λ b. seen b) addons.old.items }
     ensures gone { env.new.core.env.phase ≡ Phase.Gone }
     ensures addons { env.new.core.env.addons ≡ env.old.core.env.addons }
     ensures limit { env.new.core.limit ≡ env.old.core.limit }

@@ -49,7 +49,7 @@ fn taken(ask: Ask) -> Ask
     }
 }
 
-/// Ends the innermost frame. Where a call began it, the addon of its caller is told the reply.
+/// Ends the innermost frame. Where a call began it, the addon of its caller is told the reply. No addon has seen anything more.
 fn end_frame(
     core: &mut EnvCore,
     addons: &mut Vec<Box<dyn Addon>>,
@@ -62,6 +62,7 @@ fn end_frame(
     requires asks { cut ≡ Some Why.Asks → asks_made core.old.env.frames ≡ most_asks }
     ensures count { length addons.new.items ≡ length addons.old.items }
     ensures plans { map (λ b. plan b) addons.new.items ≡ map (λ b. plan b) addons.old.items }
+    ensures seen { map (λ b. seen b) addons.new.items ≡ map (λ b. seen b) addons.old.items }
     ensures ended { core.new ≡ after_change (end_change value cut core.old.env) core.old }
     ensures told { let before = map (λ b. regs b) addons.old.items in
         let after = map (λ b. regs b) addons.new.items in
@@ -85,6 +86,7 @@ fn ask_turn(core: &mut EnvCore, addons: &mut Vec<Box<dyn Addon>>, frame: Standin
     requires within { frame.asks < most_asks }
     ensures count { length addons.new.items ≡ length addons.old.items }
     ensures plans { map (λ b. plan b) addons.new.items ≡ map (λ b. plan b) addons.old.items }
+    ensures seen { map (λ b. seen b) addons.new.items ≡ map (λ b. seen b) addons.old.items }
     ensures turn { let before = map (λ b. regs b) addons.old.items in
         let after = map (λ b. regs b) addons.new.items in
         IsTurn (map (λ b. plan b) addons.old.items) core.old before core.new after }
@@ -111,6 +113,7 @@ fn frame_turn(core: &mut EnvCore, addons: &mut Vec<Box<dyn Addon>>, frame: Stand
     requires stands { head core.old.env.frames ≡ Some (machine_frame frame) }
     ensures count { length addons.new.items ≡ length addons.old.items }
     ensures plans { map (λ b. plan b) addons.new.items ≡ map (λ b. plan b) addons.old.items }
+    ensures seen { map (λ b. seen b) addons.new.items ≡ map (λ b. seen b) addons.old.items }
     ensures turn { let before = map (λ b. regs b) addons.old.items in
         let after = map (λ b. regs b) addons.new.items in
         IsTurn (map (λ b. plan b) addons.old.items) core.old before core.new after }
@@ -154,6 +157,7 @@ pub(crate) fn turn(core: &mut EnvCore, addons: &mut Vec<Box<dyn Addon>>) -> Loca
     requires enough { core.old.env.addons ≤ length addons.old.items }
     ensures count { length addons.new.items ≡ length addons.old.items }
     ensures plans { map (λ b. plan b) addons.new.items ≡ map (λ b. plan b) addons.old.items }
+    ensures seen { map (λ b. seen b) addons.new.items ≡ map (λ b. seen b) addons.old.items }
     ensures turn { result ≡ turn_of core.old.env }
     ensures made { let before = map (λ b. regs b) addons.old.items in
         let after = map (λ b. regs b) addons.new.items in

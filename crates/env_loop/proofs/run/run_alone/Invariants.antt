@@ -1,4 +1,5 @@
 use Rattle.std.proofs.Common.{◌≡◌, ℕ, List, Option, length, map, drop}
+use Rattle.napi_types.specs.declared.duties.DueInfo.{DueInfo}
 use Rattle.napi_types.specs.declared.op.Op.{Op}
 use Rattle.env_loop.specs.Runs.{Extends, GoesOn}
 use Rattle.env_loop.specs.Turns.{turns_left}
@@ -11,9 +12,12 @@ invariant-loop-env g l =
     let first_regs : List (List ℕ) = map (λ b. (goal.Addon-dyn g (b.vtable, b.value)).regs b.value) l.fn.addons.items in
     let plans : List (Option (List (List Op))) = map (λ b. (goal.Addon-dyn g (b.vtable, b.value)).plan b.value) l.addons.items in
     let regs : List (List ℕ) = map (λ b. (goal.Addon-dyn g (b.vtable, b.value)).regs b.value) l.addons.items in
+    let first_seen : List (List DueInfo) = map (λ b. (goal.Addon-dyn g (b.vtable, b.value)).seen b.value) l.fn.addons.items in
+    let seen : List (List DueInfo) = map (λ b. (goal.Addon-dyn g (b.vtable, b.value)).seen b.value) l.addons.items in
     record {
       count : length l.addons.items ≡ length l.fn.addons.items;
       plans : plans ≡ first_plans;
+      seen : seen ≡ first_seen;
       addons : l.env.core.env.addons ≡ l.fn.env.core.env.addons;
       others : drop l.fn.env.core.env.addons regs ≡ drop l.fn.env.core.env.addons first_regs;
       limit : l.env.core.limit ≡ l.fn.env.core.limit;
