@@ -17,7 +17,8 @@ const LIMITS: Limits = Limits {
     history: 4_194_304,
 };
 
-/// Gives each addon of the script its plan, and clears its registers: the first addons, in order. The others stay as they are.
+/// Gives each addon of the script its plan, and clears its registers: the first addons, in order. The others stay as they are, and
+/// no addon has seen anything more.
 fn load_all(addons: &mut Vec<Box<dyn Addon>>, given: Plans)
     requires enough { length given ≤ length addons.old.items }
     ensures count { length addons.new.items ≡ length addons.old.items }
@@ -26,6 +27,7 @@ fn load_all(addons: &mut Vec<Box<dyn Addon>>, given: Plans)
     ensures blank { let after = map (λ b. regs b) addons.new.items in
         (addon : ℕ) → addon < length given → registers_of after addon ≡ blank_registers }
     ensures others { drop (length given) (map (λ b. regs b) addons.new.items) ≡ drop (length given) (map (λ b. regs b) addons.old.items) }
+    ensures seen { map (λ b. seen b) addons.new.items ≡ map (λ b. seen b) addons.old.items }
 {
     for (addon, plan) in given.into_items().into_iter().enumerate() {
         load_at(addons, addon, plan);
@@ -35,7 +37,7 @@ fn load_all(addons: &mut Vec<Box<dyn Addon>>, given: Plans)
 /// Runs a script, whose addons are the first of those handed in: from the opening to `gone`.
 ///
 /// `given` are the plans of its addons, eight at most, and `texts` says how many texts it has. Want of memory comes before
-/// an addon is touched.
+/// an addon is touched. No duty begins, so what each addon has seen is as before.
 pub(crate) fn run(
     alloc: Global,
     given: Plans,
@@ -51,6 +53,7 @@ pub(crate) fn run(
         OnOk result (map (λ b. plan b) addons.new.items ≡ told_plans given before ++ drop (length given) before) }
     ensures others { let before = map (λ b. regs b) addons.old.items in
         OnOk result (drop (length given) (map (λ b. regs b) addons.new.items) ≡ drop (length given) before) }
+    ensures seen { map (λ b. seen b) addons.new.items ≡ map (λ b. seen b) addons.old.items }
     ensures err { OnErr result (addons.new.items ≡ addons.old.items) }
 {
     let count = given.items().len() as u32;

@@ -104,6 +104,7 @@ fn perform<K: Sink>(
     ensures sink { OnErr result (K.taken sink.new ≡ K.taken sink.old) }
     ensures left { OnErr result (left.new ≡ left.old) }
     ensures addons { OnErr result (addons.new.items ≡ addons.old.items) }
+    ensures seen { map (λ b. seen b) addons.new.items ≡ map (λ b. seen b) addons.old.items }
     ensures faults { K.faults sink.old ≤ K.faults sink.new }
 {
     if addons.len() < script.addons.items().len() {
@@ -148,6 +149,7 @@ fn attempt<S: Source, K: Sink>(
     ensures sink { OnErr result (K.taken sink.new ≡ K.taken sink.old) }
     ensures left { OnErr result (left.new ≡ left.old) }
     ensures addons { OnErr result (addons.new.items ≡ addons.old.items) }
+    ensures seen { map (λ b. seen b) addons.new.items ≡ map (λ b. seen b) addons.old.items }
     ensures unread { is_run_words words.now ≡ false → S.left source.new ≡ S.left source.old }
     ensures uncounted { is_run_words words.now ≡ false → S.faults source.new ≡ S.faults source.old }
     ensures counted_reads { result ≢ Err Line.ReadFault → S.faults source.new ≡ S.faults source.old }
@@ -196,6 +198,9 @@ pub fn host<R: Threads + Wait + Sync, S: Source, K: Sink, G: Gate>(
         × WroteLine (K.taken sink.old) (K.faults sink.old) (line_text line) (K.taken sink.new) (K.faults sink.new) }
     ensures left { ¬ IsRunStatus result → left.new ≡ left.old }
     ensures addons { ¬ IsRunStatus result → addons.new.items ≡ addons.old.items }
+
+    // At every status what each addon that was handed in has seen is as before, since no duty begins.
+    ensures seen { map (λ b. seen b) addons.new.items ≡ map (λ b. seen b) addons.old.items }
 
     // The same, status by status.
     ensures usage { (result ≡ 2) ↔ (is_run_words words.now ≡ false) }

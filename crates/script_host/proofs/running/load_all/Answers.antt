@@ -13,6 +13,7 @@ loop-addon-init g c =
       place = none;
       left = left;
       count = refl;
+      seen = refl;
       loaded =
           loaded-start c.args.given c.into_iter-addon-iterator.result.iter.rest.items _ _ all
           (rw (length-map c.args.addons.now.items _) c.requires.enough) (rw (length-map c.args.addons.now.items _) c.requires.enough);
@@ -36,6 +37,7 @@ loop-addon-preserved g c =
       place = omega (arith, longer, l.place, h.2);
       left = omega (arith, l.left, h.0.1, ap length h.0.0);
       count = now.count ∙ l.count;
+      seen = now.seen ∙ l.seen;
       loaded =
           loaded-turn c.args.given _ c.loop-addon.addon-iterator.iter.rest.items _ c.next.new.self.iter.rest.items _ _ _ _ _ _ c.in-Some.plan c.in-Some.addon
           l.loaded h.0.0 (h.1 ∙ l.place) more now.plans now.regs;
