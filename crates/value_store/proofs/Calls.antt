@@ -24,6 +24,10 @@ pub ok-then : {A E : Type 0} {P Q : Type 0} (r : Result A E) → (P → Q) → O
 ok-then (Ok a) f h = f h
 ok-then (Err e) f h = tt
 
+pub err-then : {A E : Type 0} {P Q : Type 0} (r : Result A E) → (P → Q) → OnErr r P → OnErr r Q
+err-then (Ok a) f h = tt
+err-then (Err e) f h = f h
+
 -- a call that changes one value or answers an error leaves the list in order
 pub changed-or-not : {A E : Type 0} (r : Result A E) (ps qs : List (Option Value)) (k : ℕ) (change : Value → Value) → IsNumbered (at_number ps) → IsGoodChange ps k change
     → OnOk r (qs ≡ changed_at k change ps) → OnErr r (qs ≡ ps) → IsNumbered (at_number qs)

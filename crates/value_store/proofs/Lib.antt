@@ -1,7 +1,7 @@
 pub mod Callers
 pub mod Calls
 pub mod Clearing
-pub mod Elements
+pub mod ElementMaps
 pub mod Errors
 pub mod GraphCalls
 pub mod Graphs
@@ -10,6 +10,7 @@ pub mod LiveValues
 pub mod Lookup
 pub mod Names
 pub mod Naming
+pub mod PlaceValues
 pub mod Properties
 pub mod Reading
 pub mod Starting

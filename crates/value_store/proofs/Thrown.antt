@@ -10,7 +10,8 @@ use Rattle.napi_types.specs.Values.{Value, children}
 use Rattle.napi_types.specs.NewValues.{made_after, error_of, thrown_strings, thrown_of}
 use Rattle.napi_types.specs.Graph.{StoreState, graph_of}
 use Rattle.napi_types.proofs.Issued.{above-up_to}
-use Rattle.value_store.specs.Places.{state_of, at_number, IsNumbered}
+use Rattle.value_store.specs.declared.place.Place.{Place}
+use Rattle.value_store.specs.Places.{value_here, state_of, at_number, HasValue, IsNumbered}
 use Rattle.value_store.specs.Changes.{MakesList}
 use Rattle.value_store.proofs.Lookup.{value_of-state_of, at_number-push, apart-below, same-number}
 use Rattle.value_store.proofs.States.{given}
@@ -24,13 +25,15 @@ pub last-parts : (ps : List (Option Value)) (vs : List Value) (w : Value) → ps
 last-parts ps vs w = ap (λ l. ps ++ l) (map-append Some vs (w ∷ [])) ∙ sym (append_assoc ps (map Some vs) (Some w ∷ []))
 
 -- the steps that add them, one after another
-pub last-done : (ps rs qs ts : List (Option Value)) (bs : List Body) (w v : Value) → rs ≡ ps → qs ≡ rs ++ map Some (made_after (length rs) bs) → ts ≡ qs ++ Some w ∷ [] → w ≡ v
-    → ts ≡ ps ++ map Some (made_after (length ps) bs ++ v ∷ [])
-last-done ps rs qs ts bs w v reserved each pushed value =
+pub last-done : (ps rs qs ts : List (Option Value)) (bs : List Body) (p : Place) (w : ℕ → Value) → rs ≡ ps → qs ≡ rs ++ map Some (made_after (length rs) bs) → ts ≡ qs ++ value_here (length qs + 1) p ∷ [] → HasValue p w
+    → ts ≡ ps ++ map Some (made_after (length ps) bs ++ w (length ps + length bs + 1) ∷ [])
+last-done ps rs qs ts bs p w reserved each pushed value =
+    let made : qs ≡ ps ++ map Some (made_after (length ps) bs) = each ∙ ap (λ l. l ++ map Some (made_after (length l) bs)) reserved in
     pushed
-    ∙ ap (λ l. l ++ Some w ∷ []) (each ∙ ap (λ l. l ++ map Some (made_after (length l) bs)) reserved)
-    ∙ ap (λ u. (ps ++ map Some (made_after (length ps) bs)) ++ Some u ∷ []) value
-    ∙ sym (last-parts ps (made_after (length ps) bs) v)
+    ∙ ap (λ o. qs ++ o ∷ []) (value (length qs + 1))
+    ∙ ap (λ n. qs ++ Some (w (n + 1)) ∷ []) (ap length made ∙ length-each ps bs)
+    ∙ ap (λ l. l ++ Some (w (length ps + length bs + 1)) ∷ []) made
+    ∙ sym (last-parts ps (made_after (length ps) bs) (w (length ps + length bs + 1)))
 
 -- WHAT IT DOES TO THE STATE
 module _ (ps qs : List (Option Value)) (s : StoreState) (view : state_of ps ≡ s) (all : IsNumbered (at_number ps)) (bs : List Body) (w : Value)

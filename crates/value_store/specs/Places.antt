@@ -1,11 +1,42 @@
 -- How the list of a store's values stands for the store's state.
-use Rattle.std.specs.Prelude.{◌≡◌, ℕ, zero, suc, ◌+◌, ◌-◌, ◌<◌, cond, List, [], length, map, Option, Some, None, option_map, IsSome, slice_index_or, slice_set}
+use Rattle.std.specs.Prelude.{◌≡◌, ℕ, zero, suc, ◌+◌, ◌-◌, ◌<◌, cond, List, [], ◌∷◌, length, map, Option, Some, None, option_map, IsSome, slice_index_or, slice_set}
 use Rattle.std.specs.List.{All}
-use Rattle.napi_types.specs.Values.{Value, children, value_at, starting_values}
+use Rattle.napi_types.specs.Values.{Value, fresh_value, children, value_at, starting_values}
 use Rattle.napi_types.specs.Properties.{Property, HasDistinctNames}
 use Rattle.std.specs.Option.{unwrap_or}
 use Rattle.napi_types.specs.Lists.{has_number, up_to}
 use Rattle.napi_types.specs.Graph.{Stored, StoreState}
+use Rattle.value_store.specs.declared.place.Place.{Place}
+use Rattle.value_store.specs.declared.place.Place.TheVariants.{Free, Plain, Full}
+
+-- the value that stands at a place with this number, none where it is free
+abbrev pub value_here : ℕ → Place → Option Value
+value_here n Free = None
+value_here n (Plain b) = Some (fresh_value n b)
+value_here n (Full b parts) = Some (record { number = n; body = b; properties = parts.value.properties; elements = parts.value.elements })
+
+-- the properties of the value at a place, none where it is free
+abbrev pub properties_here : Place → List Property
+properties_here Free = []
+properties_here (Plain b) = []
+properties_here (Full b parts) = parts.value.properties
+
+-- the values of places, of which the first has the number after this one
+abbrev pub values_from : ℕ → List Place → List (Option Value)
+values_from n [] = []
+values_from n (p ∷ ps) = value_here (n + 1) p ∷ values_from (n + 1) ps
+
+-- the values of a store's places, numbered from 1 on
+abbrev pub values_of : List Place → List (Option Value)
+values_of ps = values_from 0 ps
+
+-- a place has this value, whatever number the place tells
+abbrev pub HasValue : Place → (ℕ → Value) → Type 0
+HasValue p value = (n : ℕ) → value_here n p ≡ Some (value n)
+
+-- the value of a place is changed so, where there is one
+abbrev pub ChangesPlace : Place → Place → (Value → Value) → Type 0
+ChangesPlace old new change = (n : ℕ) → value_here n new ≡ option_map change (value_here n old)
 
 -- a value is named by its creation number
 abbrev pub stored_as : Value → Stored

@@ -30,9 +30,8 @@ listed_elements es count = map (element_of es) (range_with_len 0 count)
 abbrev pub numbers_in : List (ℕ × ValueId) → List ℕ
 numbers_in es = map (λ e. e.1.0) es
 
--- no name and no index stands twice, each index is below the count of the elements, and none is above 65,535
-pub record AreParts (properties elements : List (ℕ × ValueId)) (count : ℕ) : Type 0 where
-  pub names : IsDistinct nat_eq (keys_of properties)
-  pub indices : IsDistinct nat_eq (keys_of elements)
-  pub within : (at : ℕ) → IsSome (lookup (nat_eq at) elements) → at < count
+-- no index stands twice, each is below the count of the elements, and none is above 65,535
+pub record AreElements (entries : List (ℕ × ValueId)) (count : ℕ) : Type 0 where
+  pub indices : IsDistinct nat_eq (keys_of entries)
+  pub within : (at : ℕ) → IsSome (lookup (nat_eq at) entries) → at < count
   pub short : count ≤ most_index + 1

@@ -4,8 +4,10 @@
 //! value graph. The crates of values, of collection and of the environment stand above it.
 #![tactic(auto)]
 
+mod elements;
 mod info;
 mod parts;
+mod place;
 mod places;
 mod store;
 

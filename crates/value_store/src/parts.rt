@@ -4,6 +4,7 @@ ghost use Rattle.napi_types.specs.Lists.{HaveSameNumbers};
 ghost use Rattle.napi_types.specs.Properties.{most_index, property_at, property_set, property_removed, element_at, element_set};
 ghost use Rattle.value_store.specs.Properties.{numbers_in};
 
+use crate::elements::Elements;
 use indexmap::IndexMap;
 use indexmap::map::Slice;
 use napi_types::{NoMemory, TextNo, ValueId};
@@ -16,23 +17,25 @@ use std::marker::Model;
 pub(crate) struct Parts {
     // Keyed by the number of the name's text.
     properties: IndexMap<u32, ValueId>,
-    // Those that were set, keyed by their indices.
-    elements: IndexMap<u32, ValueId>,
-    // How many elements there are, holes counted.
-    count: u32,
+    // Made at the first element, since few values have both.
+    elements: Option<Box<Elements>>,
 }
 
 impl Model for Parts {
-    ghost use Rattle.value_store.specs.Properties.{ListedParts, listed_properties, listed_elements, AreParts};
+    ghost use Rattle.std.specs.Prelude.{nat_eq, option_map, []};
+    ghost use Rattle.std.specs.List.{IsDistinct};
+    ghost use Rattle.std.specs.Map.{keys_of};
+    ghost use Rattle.std.specs.Option.{unwrap_or};
+    ghost use Rattle.value_store.specs.Properties.{ListedParts, listed_properties};
 
     ghost Value = { ListedParts };
 
     ghost view = { λ parts. record {
       properties = listed_properties parts.properties.entries;
-      elements = listed_elements parts.elements.entries parts.count;
+      elements = unwrap_or (option_map (λ e. e.value) parts.elements) [];
     } };
 
-    ghost invariant = { λ parts. AreParts parts.properties.entries parts.elements.entries parts.count };
+    ghost invariant = { λ parts. IsDistinct nat_eq (keys_of parts.properties.entries) };
 }
 
 impl Parts {
@@ -42,8 +45,7 @@ impl Parts {
     {
         Parts {
             properties: IndexMap::new(alloc),
-            elements: IndexMap::new(alloc),
-            count: 0,
+            elements: None,
         }
     }
 
@@ -84,26 +86,43 @@ impl Parts {
         }
     }
 
-    pub(crate) fn set_element(&mut self, at: u32, to: ValueId) -> Result<(), NoMemory>
+    pub(crate) fn set_element(
+        &mut self,
+        alloc: Global,
+        at: u32,
+        to: ValueId,
+    ) -> Result<(), NoMemory>
         requires { at ≤ most_index }
         ensures set { OnOk result (self.new ≡ record self.old { elements = element_set at to.0 self.old.elements }) }
         ensures err { OnErr result (self.new ≡ self.old) }
     {
-        self.elements.insert(at, to)?;
-        self.count = self.count.max(at + 1);
-        Ok(())
+        match &mut self.elements {
+            Some(elements) => elements.set(at, to),
+            None => {
+                let mut elements = Elements::new(alloc);
+                elements.set(at, to)?;
+                self.elements = Some(Box::new(alloc, elements)?);
+                Ok(())
+            }
+        }
     }
 
     pub(crate) fn get_element(&self, at: u32) -> Option<ValueId>
         ensures { option_map (λ v. v.0) result ≡ element_at at self.now.elements }
     {
-        self.elements.get(&at).copied()
+        match &self.elements {
+            Some(elements) => elements.get(at),
+            None => None,
+        }
     }
 
     pub(crate) fn element_count(&self) -> u32
         ensures { result ≡ length self.now.elements }
     {
-        self.count
+        match &self.elements {
+            Some(elements) => elements.count(),
+            None => 0,
+        }
     }
 
     /// The values of the properties, and then the elements that were set.
@@ -113,9 +132,28 @@ impl Parts {
     {
         Children {
             properties: self.properties.as_slice(),
-            elements: self.elements.as_slice(),
+            elements: self.elements_set(),
         }
     }
+
+    /// The elements that were set, in the order in which they first were.
+    fn elements_set(&self) -> Slice<'_, u32, ValueId>
+        ensures same { HaveSameNumbers (numbers_in result) (filter_map (λ e. e) self.now.elements) }
+        ensures many { length result ≡ length (filter_map (λ e. e) self.now.elements) }
+        ensures fits { length result < 2 ^ 63 }
+    {
+        match &self.elements {
+            Some(elements) => elements.values(),
+            None => no_elements(),
+        }
+    }
+}
+
+/// No elements that were set.
+fn no_elements<'a>() -> Slice<'a, u32, ValueId>
+    ensures { result ≡ [] }
+{
+    Slice::new()
 }
 
 /// The children of a value, which it names: first the values of its properties, in the order in which their names were first set,

@@ -1,78 +1,93 @@
 //! The list of a store's values, read and changed by number.
-ghost use Rattle.std.specs.Prelude.{◌≡◌, ℕ, ◌+◌, ◌-◌, ◌<◌, ◌≤◌, ◌^◌, ◌++◌, [], ◌∷◌, true, length, map, vec_capacity, slice_get, slice_index_or, slice_set, is_some, cond, option_map, option_copied, IsSome, OnOk, OnErr, IfOk, Some, None};
+ghost use Rattle.std.specs.Prelude.{◌≡◌, ℕ, ◌+◌, ◌-◌, ◌<◌, ◌≤◌, ◌^◌, ◌++◌, [], ◌∷◌, true, length, map, vec_capacity, slice_get, slice_index_or, slice_set, is_some, cond, option_map, IsSome, OnOk, OnErr, IfOk, Some, None};
 ghost use Rattle.std.specs.List.{All};
 ghost use Rattle.napi_types.specs.Lists.{HaveSameNumbers};
 ghost use Rattle.napi_types.specs.Properties.{most_index, property_at, element_at};
 ghost use Rattle.napi_types.specs.Values.{with_property, without_property, with_element};
 ghost use Rattle.napi_types.specs.NewValues.{made_after, list_of, error_of, thrown_of};
 ghost use Rattle.value_store.specs.Changes.{numbers_of};
-ghost use Rattle.value_store.specs.Places.{at_number, changed_at, properties_at, elements_at, children_of, starting_list, IsCleared};
+ghost use Rattle.value_store.specs.Places.{value_here, values_of, at_number, changed_at, properties_at, elements_at, children_of, starting_list, IsCleared};
 
+use crate::place::Place;
 use crate::{Children, ValueInfo};
 use napi_types::{Body, NoMemory, TextNo, ValueId};
 use std::alloc::Global;
 
 /// The starting values.
-pub(crate) fn starting(alloc: Global) -> Result<Vec<Option<ValueInfo>>, NoMemory>
-    ensures { IfOk result (λ values. values.items ≡ starting_list) }
+pub(crate) fn starting(alloc: Global) -> Result<Vec<Place>, NoMemory>
+    ensures { IfOk result (λ values. values_of values.items ≡ starting_list) }
 {
     let values = [
-        Some(ValueInfo::new(1, Body::Undefined)),
-        Some(ValueInfo::new(2, Body::Null)),
-        Some(ValueInfo::new(3, Body::Boolean(true))),
-        Some(ValueInfo::new(4, Body::Boolean(false))),
-        Some(ValueInfo::new(
-            5,
-            Body::Object {
-                array: false,
-                error: false,
-            },
-        )),
+        Place::Plain(Body::Undefined),
+        Place::Plain(Body::Null),
+        Place::Plain(Body::Boolean(true)),
+        Place::Plain(Body::Boolean(false)),
+        Place::Plain(Body::Object {
+            array: false,
+            error: false,
+        }),
     ];
     Ok(Vec::from_array(alloc, values)?)
 }
 
+/// How many places there are.
+pub(crate) fn count(values: &[Place]) -> usize
+    ensures { result ≡ length (values_of values.now) }
+{
+    values.len()
+}
+
 /// Adds a value at a new place.
-pub(crate) fn push(values: &mut Vec<Option<ValueInfo>>, value: ValueInfo) -> Result<(), NoMemory>
-    ensures pushed { OnOk result (values.new.items ≡ values.old.items ++ Some value ∷ []) }
+pub(crate) fn push(values: &mut Vec<Place>, value: Place) -> Result<(), NoMemory>
+    ensures pushed { let number = length (values_of values.old.items) + 1 in
+        OnOk result (values_of values.new.items ≡ values_of values.old.items ++ value_here number value ∷ []) }
     ensures err { OnErr result (values.new.items ≡ values.old.items) }
 {
-    values.push(Some(value))?;
+    values.push(value)?;
     Ok(())
+}
+
+/// Adds a value at a new place that is reserved.
+fn push_reserved(values: &mut Vec<Place>, value: Place)
+    requires { length (values_of values.old.items) < vec_capacity values.old }
+    ensures pushed { let number = length (values_of values.old.items) + 1 in
+        values_of values.new.items ≡ values_of values.old.items ++ value_here number value ∷ [] }
+    ensures capacity { vec_capacity values.new ≡ vec_capacity values.old }
+{
+    values.push_reserved(value);
 }
 
 /// Adds a value of each of these bodies, in their order, and then an array of them. All memory is taken before the first.
 pub(crate) fn push_list(
     alloc: Global,
-    values: &mut Vec<Option<ValueInfo>>,
+    values: &mut Vec<Place>,
     bodies: &[Body],
 ) -> Result<(), NoMemory>
     requires count { length bodies.now ≤ most_index + 1 }
-    requires room { length values.old.items + length bodies.now + 2 < 2 ^ 48 }
-    ensures listed { OnOk result (values.new.items ≡ values.old.items ++ map Some (list_of (length values.old.items) bodies.now)) }
+    requires room { length (values_of values.old.items) + length bodies.now + 2 < 2 ^ 48 }
+    ensures listed { OnOk result (values_of values.new.items ≡ values_of values.old.items ++ map Some (list_of (length (values_of values.old.items)) bodies.now)) }
     ensures err { OnErr result (values.new.items ≡ values.old.items) }
 {
-    let before = values.len() as u64;
-    let number = before + bodies.len() as u64 + 1;
-    let array = ValueInfo::array(alloc, number, before + 1, bodies.len() as u32)?;
+    let first = count(values) as u64 + 1;
+    let array = Place::array(alloc, first, bodies.len() as u32)?;
     reserve(values, bodies.len() + 1)?;
     push_each(values, bodies);
-    values.push_reserved(Some(array));
+    push_reserved(values, array);
     Ok(())
 }
 
 /// Adds a string of each of an error's texts, the message first, and then the error of them. All memory is taken before the first.
 pub(crate) fn push_thrown(
     alloc: Global,
-    values: &mut Vec<Option<ValueInfo>>,
+    values: &mut Vec<Place>,
     code: Option<TextNo>,
     message: TextNo,
 ) -> Result<(), NoMemory>
-    requires { length values.old.items + 4 < 2 ^ 48 }
-    ensures thrown { OnOk result (values.new.items ≡ values.old.items ++ map Some (thrown_of (length values.old.items) code message)) }
+    requires { length (values_of values.old.items) + 4 < 2 ^ 48 }
+    ensures thrown { OnOk result (values_of values.new.items ≡ values_of values.old.items ++ map Some (thrown_of (length (values_of values.old.items)) code message)) }
     ensures err { OnErr result (values.new.items ≡ values.old.items) }
 {
-    let before = values.len() as u64;
+    let before = count(values) as u64;
     match code {
         None => push_error(
             alloc,
@@ -97,50 +112,48 @@ pub(crate) fn push_thrown(
 /// Adds a value of each of these bodies, in their order, and then an error of the values of these numbers.
 fn push_error(
     alloc: Global,
-    values: &mut Vec<Option<ValueInfo>>,
+    values: &mut Vec<Place>,
     strings: &[Body],
     code: Option<ValueId>,
     message: ValueId,
 ) -> Result<(), NoMemory>
-    requires { length values.old.items + length strings.now + 2 < 2 ^ 48 }
-    ensures added { let before = length values.old.items in
+    requires { length (values_of values.old.items) + length strings.now + 2 < 2 ^ 48 }
+    ensures added { let before = length (values_of values.old.items) in
         let error = error_of (before + length strings.now + 1) (option_map (λ c. c.0) code) message.0 in
-        OnOk result (values.new.items ≡ values.old.items ++ map Some (made_after before strings.now ++ error ∷ [])) }
+        OnOk result (values_of values.new.items ≡ values_of values.old.items ++ map Some (made_after before strings.now ++ error ∷ [])) }
     ensures err { OnErr result (values.new.items ≡ values.old.items) }
 {
-    let number = values.len() as u64 + strings.len() as u64 + 1;
-    let error = ValueInfo::error(alloc, number, code, message)?;
+    let error = Place::error(alloc, code, message)?;
     reserve(values, strings.len() + 1)?;
     push_each(values, strings);
-    values.push_reserved(Some(error));
+    push_reserved(values, error);
     Ok(())
 }
 
 /// Takes the memory for so many values more.
-fn reserve(values: &mut Vec<Option<ValueInfo>>, count: usize) -> Result<(), NoMemory>
+fn reserve(values: &mut Vec<Place>, count: usize) -> Result<(), NoMemory>
     ensures items { values.new.items ≡ values.old.items }
-    ensures reserved { OnOk result (length values.old.items + count ≤ vec_capacity values.new) }
+    ensures reserved { OnOk result (length (values_of values.old.items) + count ≤ vec_capacity values.new) }
 {
     values.reserve(count)?;
     Ok(())
 }
 
 /// Adds a value of each of these bodies, in their order, at places that are reserved.
-fn push_each(values: &mut Vec<Option<ValueInfo>>, bodies: &[Body])
-    requires room { length values.old.items + length bodies.now < 2 ^ 48 }
-    requires reserved { length values.old.items + length bodies.now ≤ vec_capacity values.old }
-    ensures made { values.new.items ≡ values.old.items ++ map Some (made_after (length values.old.items) bodies.now) }
+fn push_each(values: &mut Vec<Place>, bodies: &[Body])
+    requires room { length (values_of values.old.items) + length bodies.now < 2 ^ 48 }
+    requires reserved { length (values_of values.old.items) + length bodies.now ≤ vec_capacity values.old }
+    ensures made { values_of values.new.items ≡ values_of values.old.items ++ map Some (made_after (length (values_of values.old.items)) bodies.now) }
     ensures capacity { vec_capacity values.new ≡ vec_capacity values.old }
 {
     for body in bodies {
-        let number = values.len() as u64 + 1;
-        values.push_reserved(Some(ValueInfo::new(number, *body)));
+        push_reserved(values, Place::Plain(*body));
     }
 }
 
 /// The value of a number.
-pub(crate) fn value_at(values: &[Option<ValueInfo>], number: u64) -> Option<&ValueInfo>
-    ensures { option_copied result ≡ at_number values.now number }
+pub(crate) fn value_at(values: &[Place], number: u64) -> Option<ValueInfo<'_>>
+    ensures { result ≡ at_number (values_of values.now) number }
 {
     match number.checked_sub(1) {
         Some(place) => value_in(values, place as usize),
@@ -149,11 +162,11 @@ pub(crate) fn value_at(values: &[Option<ValueInfo>], number: u64) -> Option<&Val
 }
 
 /// The value at a place.
-pub(crate) fn value_in(values: &[Option<ValueInfo>], place: usize) -> Option<&ValueInfo>
-    ensures { option_copied result ≡ slice_index_or values.now place None }
+pub(crate) fn value_in(values: &[Place], place: usize) -> Option<ValueInfo<'_>>
+    ensures { result ≡ slice_index_or (values_of values.now) place None }
 {
     match values.get(place) {
-        Some(value) => value.as_ref(),
+        Some(value) => value.value(place as u64 + 1),
         None => None,
     }
 }
@@ -168,23 +181,20 @@ pub(crate) fn place_at(number: u64) -> usize
 
 pub(crate) fn set_prop(
     alloc: Global,
-    values: &mut Vec<Option<ValueInfo>>,
+    values: &mut Vec<Place>,
     number: u64,
     name: TextNo,
     to: ValueId,
 ) -> Result<(), NoMemory>
-    requires { IsSome (at_number values.old.items number) }
-    ensures set { OnOk result (values.new.items ≡ changed_at number (with_property name.0 to.0) values.old.items) }
+    requires { IsSome (at_number (values_of values.old.items) number) }
+    ensures set { OnOk result (values_of values.new.items ≡ changed_at number (with_property name.0 to.0) (values_of values.old.items)) }
     ensures err { OnErr result (values.new.items ≡ values.old.items) }
 {
-    match &mut values[place_at(number)] {
-        Some(value) => value.set_prop(alloc, name, to),
-        None => unreachable!(),
-    }
+    values[place_at(number)].set_prop(alloc, name, to)
 }
 
-pub(crate) fn get_prop(values: &[Option<ValueInfo>], number: u64, name: TextNo) -> Option<ValueId>
-    ensures { option_map (λ v. v.0) result ≡ property_at name.0 (properties_at number values.now) }
+pub(crate) fn get_prop(values: &[Place], number: u64, name: TextNo) -> Option<ValueId>
+    ensures { option_map (λ v. v.0) result ≡ property_at name.0 (properties_at number (values_of values.now)) }
 {
     match value_at(values, number) {
         Some(value) => value.get_prop(name),
@@ -192,10 +202,10 @@ pub(crate) fn get_prop(values: &[Option<ValueInfo>], number: u64, name: TextNo) 
     }
 }
 
-pub(crate) fn remove_prop(values: &mut Vec<Option<ValueInfo>>, number: u64, name: TextNo) -> bool
-    ensures there { IsSome (at_number values.old.items number) → values.new.items ≡ changed_at number (without_property name.0) values.old.items }
-    ensures absent { at_number values.old.items number ≡ None → values.new.items ≡ values.old.items }
-    ensures was_there { result ≡ is_some (property_at name.0 (properties_at number values.old.items)) }
+pub(crate) fn remove_prop(values: &mut Vec<Place>, number: u64, name: TextNo) -> bool
+    ensures there { IsSome (at_number (values_of values.old.items) number) → values_of values.new.items ≡ changed_at number (without_property name.0) (values_of values.old.items) }
+    ensures absent { at_number (values_of values.old.items) number ≡ None → values_of values.new.items ≡ values_of values.old.items }
+    ensures was_there { result ≡ is_some (property_at name.0 (properties_at number (values_of values.old.items))) }
 {
     if value_at(values, number).is_none() {
         return false;
@@ -203,19 +213,16 @@ pub(crate) fn remove_prop(values: &mut Vec<Option<ValueInfo>>, number: u64, name
     remove_prop_there(values, number, name)
 }
 
-fn remove_prop_there(values: &mut Vec<Option<ValueInfo>>, number: u64, name: TextNo) -> bool
-    requires { IsSome (at_number values.old.items number) }
-    ensures removed { values.new.items ≡ changed_at number (without_property name.0) values.old.items }
-    ensures was_there { result ≡ is_some (property_at name.0 (properties_at number values.old.items)) }
+fn remove_prop_there(values: &mut Vec<Place>, number: u64, name: TextNo) -> bool
+    requires { IsSome (at_number (values_of values.old.items) number) }
+    ensures removed { values_of values.new.items ≡ changed_at number (without_property name.0) (values_of values.old.items) }
+    ensures was_there { result ≡ is_some (property_at name.0 (properties_at number (values_of values.old.items))) }
 {
-    match &mut values[place_at(number)] {
-        Some(value) => value.remove_prop(name),
-        None => unreachable!(),
-    }
+    values[place_at(number)].remove_prop(name)
 }
 
-pub(crate) fn name_count(values: &[Option<ValueInfo>], number: u64) -> usize
-    ensures { result ≡ length (properties_at number values.now) }
+pub(crate) fn name_count(values: &[Place], number: u64) -> usize
+    ensures { result ≡ length (properties_at number (values_of values.now)) }
 {
     match value_at(values, number) {
         Some(value) => value.name_count(),
@@ -223,9 +230,9 @@ pub(crate) fn name_count(values: &[Option<ValueInfo>], number: u64) -> usize
     }
 }
 
-pub(crate) fn name_at(values: &[Option<ValueInfo>], number: u64, at: usize) -> TextNo
-    requires { at < length (properties_at number values.now) }
-    ensures { option_map (λ p. p.name) (slice_get (properties_at number values.now) at) ≡ Some result.0 }
+pub(crate) fn name_at(values: &[Place], number: u64, at: usize) -> TextNo
+    requires { at < length (properties_at number (values_of values.now)) }
+    ensures { option_map (λ p. p.name) (slice_get (properties_at number (values_of values.now)) at) ≡ Some result.0 }
 {
     match value_at(values, number) {
         Some(value) => value.name_at(at),
@@ -235,24 +242,21 @@ pub(crate) fn name_at(values: &[Option<ValueInfo>], number: u64, at: usize) -> T
 
 pub(crate) fn set_element(
     alloc: Global,
-    values: &mut Vec<Option<ValueInfo>>,
+    values: &mut Vec<Place>,
     number: u64,
     at: u32,
     to: ValueId,
 ) -> Result<(), NoMemory>
-    requires there { IsSome (at_number values.old.items number) }
+    requires there { IsSome (at_number (values_of values.old.items) number) }
     requires index { at ≤ most_index }
-    ensures set { OnOk result (values.new.items ≡ changed_at number (with_element at to.0) values.old.items) }
+    ensures set { OnOk result (values_of values.new.items ≡ changed_at number (with_element at to.0) (values_of values.old.items)) }
     ensures err { OnErr result (values.new.items ≡ values.old.items) }
 {
-    match &mut values[place_at(number)] {
-        Some(value) => value.set_element(alloc, at, to),
-        None => unreachable!(),
-    }
+    values[place_at(number)].set_element(alloc, at, to)
 }
 
-pub(crate) fn get_element(values: &[Option<ValueInfo>], number: u64, at: u32) -> Option<ValueId>
-    ensures { option_map (λ v. v.0) result ≡ element_at at (elements_at number values.now) }
+pub(crate) fn get_element(values: &[Place], number: u64, at: u32) -> Option<ValueId>
+    ensures { option_map (λ v. v.0) result ≡ element_at at (elements_at number (values_of values.now)) }
 {
     match value_at(values, number) {
         Some(value) => value.get_element(at),
@@ -260,8 +264,8 @@ pub(crate) fn get_element(values: &[Option<ValueInfo>], number: u64, at: u32) ->
     }
 }
 
-pub(crate) fn element_count(values: &[Option<ValueInfo>], number: u64) -> u32
-    ensures { result ≡ length (elements_at number values.now) }
+pub(crate) fn element_count(values: &[Place], number: u64) -> u32
+    ensures { result ≡ length (elements_at number (values_of values.now)) }
 {
     match value_at(values, number) {
         Some(value) => value.element_count(),
@@ -269,9 +273,9 @@ pub(crate) fn element_count(values: &[Option<ValueInfo>], number: u64) -> u32
     }
 }
 
-pub(crate) fn children(values: &[Option<ValueInfo>], number: u64) -> Children<'_>
-    ensures same { HaveSameNumbers result (children_of number values.now) }
-    ensures many { length result ≡ length (children_of number values.now) }
+pub(crate) fn children(values: &[Place], number: u64) -> Children<'_>
+    ensures same { HaveSameNumbers result (children_of number (values_of values.now)) }
+    ensures many { length result ≡ length (children_of number (values_of values.now)) }
 {
     match value_at(values, number) {
         Some(value) => value.children(),
@@ -280,9 +284,9 @@ pub(crate) fn children(values: &[Option<ValueInfo>], number: u64) -> Children<'_
 }
 
 /// Empties the places of these numbers.
-pub(crate) fn clear(values: &mut Vec<Option<ValueInfo>>, list: &[ValueId])
-    requires { All (λ n. IsSome (at_number values.old.items n)) (numbers_of list.now) }
-    ensures { IsCleared values.old.items values.new.items (numbers_of list.now) }
+pub(crate) fn clear(values: &mut Vec<Place>, list: &[ValueId])
+    requires { All (λ n. IsSome (at_number (values_of values.old.items) n)) (numbers_of list.now) }
+    ensures { IsCleared (values_of values.old.items) (values_of values.new.items) (numbers_of list.now) }
 {
     for id in list {
         empty(values, id.0);
@@ -290,10 +294,10 @@ pub(crate) fn clear(values: &mut Vec<Option<ValueInfo>>, list: &[ValueId])
 }
 
 /// Empties the place of a number.
-fn empty(values: &mut Vec<Option<ValueInfo>>, number: u64)
+fn empty(values: &mut Vec<Place>, number: u64)
     requires some { 0 < number }
-    requires within { number ≤ length values.old.items }
-    ensures { values.new.items ≡ slice_set values.old.items (number - 1) None }
+    requires within { number ≤ length (values_of values.old.items) }
+    ensures { values_of values.new.items ≡ slice_set (values_of values.old.items) (number - 1) None }
 {
-    values[place_at(number)] = None;
+    values[place_at(number)] = Place::Free;
 }

@@ -1,5 +1,5 @@
 //! The store: the values that were made and not freed, each under a number.
-ghost use Rattle.std.specs.Prelude.{◌≡◌, ◌+◌, ◌-◌, ◌<◌, ◌≤◌, ◌^◌, ◌++◌, [], ◌∷◌, not, filter, map, length, slice_get, is_some, option_map, option_copied, IfSome, IfOk, OnOk, OnErr, Some, None};
+ghost use Rattle.std.specs.Prelude.{◌≡◌, ◌+◌, ◌-◌, ◌<◌, ◌≤◌, ◌^◌, ◌++◌, [], ◌∷◌, not, filter, map, length, slice_get, is_some, option_map, IfSome, IfOk, OnOk, OnErr, Some, None};
 ghost use Rattle.std.specs.List.{All};
 ghost use Rattle.napi_types.specs.Lists.{has_number, HaveSameNumbers};
 ghost use Rattle.napi_types.specs.Values.{value_at, value_changed, fresh_value, with_property, without_property, with_element};
@@ -8,6 +8,7 @@ ghost use Rattle.napi_types.specs.Properties.{most_index, property_at, element_a
 ghost use Rattle.napi_types.specs.Graph.{value_of, number_in, renamed, graph_of, IsLive, IsSoundStore};
 ghost use Rattle.value_store.specs.Changes.{properties_in, elements_in, children_in, id_at, EachStandsOnce, numbers_of, IsNew, IsStarting, IsObject, StandsAt, ChangesOnly, Makes, MakesValue, MakesList, Frees, CanFree};
 
+use crate::place::Place;
 use crate::{Children, ValueInfo, places};
 use napi_types::{Body, NoMemory, TextNo, ValueId};
 use std::alloc::Global;
@@ -18,7 +19,7 @@ use std::marker::Model;
 pub struct Store {
     alloc: Global,
     // The value with the number n stands at n - 1. A place whose value was freed stays empty.
-    values: Vec<Option<ValueInfo>>,
+    values: Vec<Place>,
 }
 
 impl Model for Store {
@@ -26,11 +27,11 @@ impl Model for Store {
 
     ghost Value = { StoreState };
 
-    ghost use Rattle.value_store.specs.Places.{state_of, at_number, IsNumbered};
+    ghost use Rattle.value_store.specs.Places.{state_of, values_of, at_number, IsNumbered};
 
-    ghost view = { λ store. state_of store.values.items };
+    ghost view = { λ store. state_of (values_of store.values.items) };
 
-    ghost invariant = { λ store. IsNumbered (at_number store.values.items) };
+    ghost invariant = { λ store. IsNumbered (at_number (values_of store.values.items)) };
 }
 
 impl Store {
@@ -62,9 +63,8 @@ impl Store {
         ensures err { OnErr result (self.new ≡ self.old) }
         ensures sound { IsSoundStore self.old }
     {
-        let number = self.values.len() as u64 + 1;
-        let value = ValueInfo::new(number, body);
-        places::push(&mut self.values, value)?;
+        let number = places::count(&self.values) as u64 + 1;
+        places::push(&mut self.values, Place::Plain(body))?;
         Ok(ValueId(number))
     }
 
@@ -87,8 +87,8 @@ impl Store {
         ensures err { OnErr result (self.new ≡ self.old) }
         ensures sound { IsSoundStore self.old }
     {
-        let number = self.values.len() as u64 + 1;
-        let value = ValueInfo::error(self.alloc, number, code, message)?;
+        let number = places::count(&self.values) as u64 + 1;
+        let value = Place::error(self.alloc, code, message)?;
         places::push(&mut self.values, value)?;
         Ok(ValueId(number))
     }
@@ -106,7 +106,7 @@ impl Store {
         ensures sound { IsSoundStore self.old }
     {
         places::push_list(self.alloc, &mut self.values, bodies)?;
-        Ok(ValueId(self.values.len() as u64))
+        Ok(ValueId(places::count(&self.values) as u64))
     }
 
     /// Makes a string of each of these texts, the message first, and then an error of them: all of them or none. It answers with the
@@ -125,13 +125,13 @@ impl Store {
         ensures sound { IsSoundStore self.old }
     {
         places::push_thrown(self.alloc, &mut self.values, code, message)?;
-        let error = self.values.len() as u64;
+        let error = places::count(&self.values) as u64;
         Ok(ValueId(error))
     }
 
     /// The value of a number, `None` exactly where no live value has it. Constant time.
-    pub fn get(&self, id: ValueId) -> Option<&ValueInfo>
-        ensures value { option_copied result ≡ value_of self.now id.0 }
+    pub fn get(&self, id: ValueId) -> Option<ValueInfo<'_>>
+        ensures value { result ≡ value_of self.now id.0 }
         ensures graph { value_at (graph_of self.now) (number_in self.now id.0) ≡ option_map (renamed self.now) (value_of self.now id.0) }
         ensures sound { IsSoundStore self.now }
     {
@@ -242,7 +242,7 @@ impl Store {
         ensures once { EachStandsOnce self.now }
         ensures sound { IsSoundStore self.now }
     {
-        self.values.len()
+        places::count(&self.values)
     }
 
     /// The value at a place, `None` exactly where no live value stands there. Constant time.

@@ -1,4 +1,4 @@
-use Rattle.value_store.proofs.Elements.{number-at}
+use Rattle.value_store.proofs.ElementMaps.{number-at}
 use Rattle.value_store.proofs.parts.value_in.Goals as goal
 
 pub returns : goal.returns

@@ -1,6 +1,6 @@
 use Rattle.std.proofs.Common.{◌≤◌, ◌∙◌, length, inl, inr}
 use Rattle.std.proofs.lemmas.Bool.{cases_lt}
-use Rattle.value_store.proofs.Elements.{number-front, number-behind}
+use Rattle.value_store.proofs.ElementMaps.{number-front, number-behind}
 use Rattle.value_store.proofs.parts.Children.at.Goals as goal
 
 pub returns-in-Some : goal.returns-in-Some

@@ -1,5 +1,6 @@
+use Rattle.value_store.specs.Places.{values_of}
 use Rattle.value_store.proofs.Reading.{is-starting}
 use Rattle.value_store.proofs.store.Store.starting.Goals as goal
 
 pub returns : goal.returns
-returns c = rw c.from.ensures (is-starting c.self.inside.values.items c.args.self.now c.self.view_is c.self.invariant c.args.which c.requires)
+returns c = rw c.from.ensures (is-starting (values_of c.self.inside.values.items) c.args.self.now c.self.view_is c.self.invariant c.args.which c.requires)

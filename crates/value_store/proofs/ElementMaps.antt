@@ -13,7 +13,7 @@ use Rattle.napi_types.specs.Lists.{has_number, HaveSameNumbers}
 use Rattle.napi_types.specs.NewValues.{array_of}
 use Rattle.napi_types.specs.Properties.{Property, element_at, element_set}
 use Rattle.napi_types.specs.Values.{with_element}
-use Rattle.value_store.specs.Properties.{property_of, listed_properties, listed_elements, element_of, numbers_in, AreParts}
+use Rattle.value_store.specs.Properties.{property_of, listed_properties, listed_elements, element_of, numbers_in}
 use Rattle.value_store.proofs.Lookup.{other-number, same-number}
 use Rattle.value_store.proofs.Properties.{same-flip}
 
@@ -202,21 +202,22 @@ many-listed (e ∷ es) count distinct within =
     set-many (listed_elements es count) e.0 e.1.0 more.less more.hole in
     omega (arith, rest, one) ∙ sym (ap (λ l. length (filter_map (λ (o : Option ℕ). o) l)) more.now)
 
--- and so for both maps
-pub children-parts : (ps es : List (ℕ × ValueId)) (count : ℕ) → AreParts ps es count → HaveSameNumbers (numbers_in ps ++ numbers_in es) (map (λ p. p.value) (listed_properties ps) ++ filter_map (λ e. e) (listed_elements es count))
-children-parts ps es count parts n =
-    list_any-append (λ m. m == n) (numbers_in ps) (numbers_in es)
-    ∙ ap (λ b. has_number n (numbers_in ps) || b) (children-listed es count parts.indices parts.within n)
-    ∙ ap (λ l. has_number n l || has_number n (filter_map (λ (e : Option ℕ). e) (listed_elements es count))) (values ps)
-    ∙ sym (list_any-append (λ m. m == n) (map (λ (p : Property). p.value) (listed_properties ps)) (filter_map (λ (e : Option ℕ). e) (listed_elements es count)))
+-- and so beside the properties
+pub children-parts : (ps fs : List (ℕ × ValueId)) (es : List (Option ℕ)) → HaveSameNumbers (numbers_in fs) (filter_map (λ e. e) es) → HaveSameNumbers (numbers_in ps ++ numbers_in fs) (map (λ p. p.value) (listed_properties ps) ++ filter_map (λ e. e) es)
+children-parts ps fs es same n =
+    list_any-append (λ m. m == n) (numbers_in ps) (numbers_in fs)
+    ∙ ap (λ b. has_number n (numbers_in ps) || b) (same n)
+    ∙ ap (λ l. has_number n l || has_number n (filter_map (λ (e : Option ℕ). e) es)) (values ps)
+    ∙ sym (list_any-append (λ m. m == n) (map (λ (p : Property). p.value) (listed_properties ps)) (filter_map (λ (e : Option ℕ). e) es))
   where
     values : (ps : List (ℕ × ValueId)) → numbers_in ps ≡ map (λ (p : Property). p.value) (listed_properties ps)
     values [] = refl
     values (p ∷ ps) = ap (λ l. p.1.0 ∷ l) (values ps)
 
-pub many-parts : (ps es : List (ℕ × ValueId)) (count : ℕ) → AreParts ps es count → length (numbers_in ps ++ numbers_in es) ≡ length (map (λ (p : Property). p.value) (listed_properties ps) ++ filter_map (λ (e : Option ℕ). e) (listed_elements es count))
-many-parts ps es count parts =
-    length-append (numbers_in ps) (numbers_in es)
-    ∙ ap (λ n. n + length (numbers_in es)) (length-map ps (λ (e : ℕ × ValueId). e.1.0) ∙ sym (length-map ps property_of) ∙ sym (length-map (listed_properties ps) (λ (p : Property). p.value)))
-    ∙ ap (λ n. length (map (λ (p : Property). p.value) (listed_properties ps)) + n) (length-map es (λ (e : ℕ × ValueId). e.1.0) ∙ many-listed es count parts.indices parts.within)
-    ∙ sym (length-append (map (λ (p : Property). p.value) (listed_properties ps)) (filter_map (λ (e : Option ℕ). e) (listed_elements es count)))
+pub many-parts : (ps fs : List (ℕ × ValueId)) (es : List (Option ℕ)) → length fs ≡ length (filter_map (λ (e : Option ℕ). e) es)
+    → length (numbers_in ps ++ numbers_in fs) ≡ length (map (λ (p : Property). p.value) (listed_properties ps) ++ filter_map (λ (e : Option ℕ). e) es)
+many-parts ps fs es many =
+    length-append (numbers_in ps) (numbers_in fs)
+    ∙ ap (λ n. n + length (numbers_in fs)) (length-map ps (λ (e : ℕ × ValueId). e.1.0) ∙ sym (length-map ps property_of) ∙ sym (length-map (listed_properties ps) (λ (p : Property). p.value)))
+    ∙ ap (λ n. length (map (λ (p : Property). p.value) (listed_properties ps)) + n) (length-map fs (λ (e : ℕ × ValueId). e.1.0) ∙ many)
+    ∙ sym (length-append (map (λ (p : Property). p.value) (listed_properties ps)) (filter_map (λ (e : Option ℕ). e) es))

@@ -1,7 +1,0 @@
-use Rattle.std.proofs.Common.{sym}
-use Rattle.std.proofs.lemmas.List.FromFn.{length-map-range_with_len}
-use Rattle.value_store.specs.Properties.{element_of}
-use Rattle.value_store.proofs.parts.Parts.element_count.Goals as goal
-
-pub returns : goal.returns
-returns c = rw (← c.self.view_is) (sym (length-map-range_with_len (element_of c.self.inside.elements.entries) 0 c.self.inside.count))

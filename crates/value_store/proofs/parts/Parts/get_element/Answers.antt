@@ -1,8 +1,0 @@
-use Rattle.std.proofs.Common.{◌∙◌, sym, ap, option_map}
-use Rattle.napi_types.specs.declared.ids.ValueId.{ValueId}
-use Rattle.value_store.proofs.Elements.{element_at-listed}
-use Rattle.value_store.proofs.parts.Parts.get_element.Goals as goal
-
-pub returns : goal.returns
-returns c =
-    rw (← c.self.view_is) (ap (option_map (λ (v : ValueId). v.0)) (c.copied.ensures ∙ c.get.ensures.value) ∙ sym (element_at-listed c.self.inside.elements.entries c.self.inside.count c.args.at c.self.invariant.within))

@@ -1,0 +1,139 @@
+//! One place of a store, and the value that stands there.
+ghost use Rattle.std.specs.Prelude.{◌≡◌, ◌+◌, ◌^◌, ◌<◌, ◌≤◌, IfOk, OnOk, OnErr, option_map, is_some};
+ghost use Rattle.std.specs.List.{range_with_len};
+ghost use Rattle.napi_types.specs.Values.{with_property, without_property, with_element};
+ghost use Rattle.napi_types.specs.NewValues.{array_of, error_of};
+ghost use Rattle.napi_types.specs.Properties.{most_index, property_at};
+ghost use Rattle.value_store.specs.Places.{value_here, properties_here, HasValue, ChangesPlace};
+
+use crate::ValueInfo;
+use crate::parts::Parts;
+use napi_types::{Body, NoMemory, TextNo, ValueId};
+use std::alloc::Global;
+
+/// An array as it is created.
+const ARRAY: Body = Body::Object {
+    array: true,
+    error: false,
+};
+
+/// An error as it is created.
+const ERROR: Body = Body::Object {
+    array: false,
+    error: true,
+};
+
+/// The name of an error's message.
+const MESSAGE: TextNo = TextNo(0);
+
+/// The name of an error's code.
+const CODE: TextNo = TextNo(1);
+
+/// A place of a store. The number of a value is told by its place, and not kept in it.
+#[derive(Drop)]
+pub(crate) enum Place {
+    /// No value: the one that stood here was freed.
+    Free,
+    /// A value that never had a property or an element.
+    Plain(Body),
+    /// A value, and its properties and elements. These are made at the first.
+    Full(Body, Box<Parts>),
+}
+
+impl Place {
+    /// An array of so many values, whose numbers count up from the first.
+    pub(crate) fn array(alloc: Global, first: u64, count: u32) -> Result<Place, NoMemory>
+        requires count { count ≤ most_index + 1 }
+        requires numbers { first + count < 2 ^ 64 }
+        ensures { IfOk result (λ place. HasValue place (λ n. array_of n (range_with_len first count))) }
+    {
+        let mut place = Place::Plain(ARRAY);
+        for at in 0..count {
+            place.set_element(alloc, at, ValueId(first + u64::from(at)))?;
+        }
+        Ok(place)
+    }
+
+    /// An error: an object with its message and, where one is given, its code, in this order.
+    pub(crate) fn error(
+        alloc: Global,
+        code: Option<ValueId>,
+        message: ValueId,
+    ) -> Result<Place, NoMemory>
+        ensures { IfOk result (λ place. HasValue place (λ n. error_of n (option_map (λ c. c.0) code) message.0)) }
+    {
+        let mut place = Place::Plain(ERROR);
+        place.set_prop(alloc, MESSAGE, message)?;
+        if let Some(code) = code {
+            place.set_prop(alloc, CODE, code)?;
+        }
+        Ok(place)
+    }
+
+    /// The value, with the number that the place tells.
+    pub(crate) fn value(&self, number: u64) -> Option<ValueInfo<'_>>
+        ensures { result ≡ value_here number self.now }
+    {
+        match self {
+            Place::Free => None,
+            Place::Plain(body) => Some(ValueInfo::plain(number, *body)),
+            Place::Full(body, parts) => Some(ValueInfo::full(number, *body, parts)),
+        }
+    }
+
+    /// Sets a property of the value, where there is one. A name that is there keeps its place, and a new one goes last.
+    pub(crate) fn set_prop(
+        &mut self,
+        alloc: Global,
+        name: TextNo,
+        to: ValueId,
+    ) -> Result<(), NoMemory>
+        ensures set { OnOk result (ChangesPlace self.old self.new (with_property name.0 to.0)) }
+        ensures err { OnErr result (self.new ≡ self.old) }
+    {
+        match self {
+            Place::Free => Ok(()),
+            Place::Plain(body) => {
+                let mut parts = Parts::new(alloc);
+                parts.set_prop(name, to)?;
+                *self = Place::Full(*body, Box::new(alloc, parts)?);
+                Ok(())
+            }
+            Place::Full(_, parts) => parts.set_prop(name, to),
+        }
+    }
+
+    /// Removes a property of the value, and tells whether the name was there. The others keep their order.
+    pub(crate) fn remove_prop(&mut self, name: TextNo) -> bool
+        ensures removed { ChangesPlace self.old self.new (without_property name.0) }
+        ensures was { result ≡ is_some (property_at name.0 (properties_here self.old)) }
+    {
+        match self {
+            Place::Free | Place::Plain(_) => false,
+            Place::Full(_, parts) => parts.remove_prop(name),
+        }
+    }
+
+    /// Sets an element of the value, where there is one. What lies between the end and a later index is holes, which take no memory.
+    pub(crate) fn set_element(
+        &mut self,
+        alloc: Global,
+        at: u32,
+        to: ValueId,
+    ) -> Result<(), NoMemory>
+        requires { at ≤ most_index }
+        ensures set { OnOk result (ChangesPlace self.old self.new (with_element at to.0)) }
+        ensures err { OnErr result (self.new ≡ self.old) }
+    {
+        match self {
+            Place::Free => Ok(()),
+            Place::Plain(body) => {
+                let mut parts = Parts::new(alloc);
+                parts.set_element(alloc, at, to)?;
+                *self = Place::Full(*body, Box::new(alloc, parts)?);
+                Ok(())
+            }
+            Place::Full(_, parts) => parts.set_element(alloc, at, to),
+        }
+    }
+}
