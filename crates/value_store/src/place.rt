@@ -10,6 +10,7 @@ use crate::ValueInfo;
 use crate::parts::Parts;
 use napi_types::{Body, NoMemory, TextNo, ValueId};
 use std::alloc::Global;
+use std::mem::size_of;
 
 /// An array as it is created.
 const ARRAY: Body = Body::Object {
@@ -39,6 +40,9 @@ pub(crate) enum Place {
     /// A value, and its properties and elements. These are made at the first.
     Full(Body, Box<Parts>),
 }
+
+// Freed places stay, so a run pays this for each value that it ever made (docs/COST.md).
+const _: () = prove!(size_of::<Place>() == 40);
 
 impl Place {
     /// An array of so many values, whose numbers count up from the first.
