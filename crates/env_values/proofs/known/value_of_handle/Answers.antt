@@ -10,4 +10,4 @@ unreachable-requires c =
 
 pub returns-clause-ok : goal.returns-clause-ok
 returns-clause-ok c =
-    known-value c.args.store.now c.args.scopes.now c.args.handle.0 _ c.in-Some-get.value.now c.in-Some.ensures c.in-Some-get.ensures.value c.body.ensures c.get.ensures.graph
+    known-value c.args.store.now c.args.scopes.now c.args.handle.0 _ c.in-Some-get.value c.in-Some.ensures c.in-Some-get.ensures.value c.body.ensures c.get.ensures.graph
