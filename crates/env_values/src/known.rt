@@ -162,7 +162,7 @@ pub(crate) fn is_error_value(body: Body) -> bool
 }
 
 /// Recalls what holds of every store, which a store tells where it gives a value.
-pub(crate) fn recall(store: &Store)
+pub fn recall(store: &Store)
     ensures { IsSoundStore store.now }
 {
     let _ = store.get(store.starting(0));

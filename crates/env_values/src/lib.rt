@@ -14,5 +14,6 @@ mod stop;
 mod values;
 
 pub use errors::{error_value, thrown_value};
-pub use known::or_undefined;
+pub use known::{or_undefined, recall};
+pub use makes::give_new;
 pub use step::value_step;

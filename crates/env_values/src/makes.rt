@@ -23,8 +23,8 @@ pub(crate) fn give(store: &Store, scopes: &mut Scopes, value: ValueId) -> Result
     Ok(Out::Handle(scopes.issue(value)?))
 }
 
-/// A new value, and its handle. The place of the handle is taken first, so that a value is made only where its handle can be.
-pub(crate) fn give_new(store: &mut Store, scopes: &mut Scopes, body: Body) -> Result<Out, NoMemory>
+/// Makes a value, and gives its handle. The place of the handle is taken first, so that a value is made only where its handle can be.
+pub fn give_new(store: &mut Store, scopes: &mut Scopes, body: Body) -> Result<Out, NoMemory>
     requires able { CanMake 1 store.old scopes.old }
     ensures gives { let before = heap_of store.old scopes.old in
         Gives (new_value body before) before result (heap_of store.new scopes.new) }
