@@ -1,8 +1,12 @@
 //! What an addon that tells no plan is asked and told, in order. No clause says it, since a contract knows nothing of such an addon.
-ghost use Rattle.std.specs.Prelude.{None};
+ghost use Rattle.std.specs.Prelude.{◌≤◌, length, None};
 
 use super::*;
-use napi_types::{AddonPlan, Ask, Call, Reply};
+use addon_trait::{ask_at, begin_at, enter_at, load_at, note_at};
+use napi_types::{
+    AddonPlan, Ask, Begun, Call, Cause, Due, DueInfo, Duty, Listed, Out, Reply, Slip, Status,
+    Ticket,
+};
 use std::alloc::AllocError;
 use std::cell::RefCell;
 use std::process::Abort;
@@ -31,6 +35,15 @@ fn add_line(
     write!(text, "\n")
 }
 
+/// The number of a duty, whatever it is.
+fn number_of(duty: Duty) -> u64 {
+    match duty {
+        Duty::Ticket(ticket) => ticket.0,
+        Duty::Work(number) | Duty::Item(_, number) => number,
+        Duty::Function(function) => function.0,
+    }
+}
+
 impl Listener {
     fn write_line(&self, what: &str, entry: u64, numbers: &[u64]) {
         if let Ok(mut heard) = self.heard.try_borrow_mut() {
@@ -48,6 +61,8 @@ impl Addon for Listener {
 
     ghost regs = { λ addon. ⟦<ScriptAddon as Addon>⟧.regs addon.follower };
 
+    ghost seen = { λ addon. ⟦<ScriptAddon as Addon>⟧.seen addon.follower };
+
     fn load(&mut self, given: AddonPlan) {
         let entries = given.entries.items().len();
         self.follower.load(given);
@@ -57,6 +72,16 @@ impl Addon for Listener {
     fn enter(&mut self, entry: u32, gifts: &[u64; 8]) {
         self.follower.enter(entry, gifts);
         self.write_line("enter", entry as u64, gifts);
+    }
+
+    fn begin(&mut self, due: Due) -> Begun {
+        let info = *due.info();
+        let begun = self.follower.begin(due);
+        let status = info.status.number() as u64;
+        let about = [info.addon as u64, status, info.runs as u64];
+        self.write_line("duty", number_of(info.duty), &about);
+        self.write_line(info.cause.name(), info.entry as u64, &info.gifts);
+        begun
     }
 
     fn ask(&mut self, entry: u32, step: u32) -> Ask {
@@ -74,13 +99,8 @@ impl Addon for Listener {
     }
 }
 
-/// The status of a run of two addons that write what they are told into this text.
-fn status_of_listeners<R: Threads + Wait + Sync>(
-    rt: &R,
-    alloc: Global,
-    script: &[u8],
-    text: &Rc<RefCell<String>>,
-) -> Result<u8, Fail> {
+/// Two addons that write what they are told into this text.
+fn listeners(alloc: Global, text: &Rc<RefCell<String>>) -> Result<Vec<Box<dyn Addon>>, Fail> {
     let mut addons: Vec<Box<dyn Addon>> = Vec::new(alloc);
     for number in 0..2 {
         let listener = Listener {
@@ -90,9 +110,28 @@ fn status_of_listeners<R: Threads + Wait + Sync>(
         };
         addons.push(Box::new(alloc, listener)?)?;
     }
+    Ok(addons)
+}
+
+/// The status of a run of two addons that write what they are told into this text.
+fn status_of_listeners<R: Threads + Wait + Sync>(
+    rt: &R,
+    alloc: Global,
+    script: &[u8],
+    text: &Rc<RefCell<String>>,
+) -> Result<u8, Fail> {
+    let mut addons = listeners(alloc, text)?;
     let mut sink = MemSink::new(alloc, LONGEST, Vec::new(alloc));
     let mut left = Record::blank(alloc);
     status_with(rt, alloc, script, &mut addons, &mut sink, &mut left)
+}
+
+/// What was written, where no addon is left.
+fn written(text: Rc<RefCell<String>>) -> Result<String, Fail> {
+    match Rc::into_inner(text) {
+        Some(cell) => Ok(cell.into_inner()),
+        None => Err(Fail::new("an addon is left")),
+    }
 }
 
 /// What two addons are told in a run.
@@ -102,10 +141,7 @@ fn heard<R: Threads + Wait + Sync>(rt: &R, alloc: Global, script: &[u8]) -> Resu
     if status != 0 {
         return Err(Fail::new("the run has no trace"));
     }
-    match Rc::into_inner(text) {
-        Some(cell) => Ok(cell.into_inner()),
-        None => Err(Fail::new("an addon is left")),
-    }
+    written(text)
 }
 
 /// A text in which the line `endless` stands for 65,536 asks of the first addon's entry that never leaves, each with its reply.
@@ -249,5 +285,69 @@ fn addons_are_told_each_begin_and_each_reply(rt: HostRuntime) -> Result<(), Fail
         let expected = expanded(alloc, text)?;
         compare(&rt, subject, found.as_str(), expected.as_str());
     }
+    Ok(())
+}
+
+/// A finalizer of entry 4 of the second addon.
+const FINALIZER: DueInfo = DueInfo {
+    duty: Duty::Ticket(Ticket(7)),
+    cause: Cause::Finalize,
+    addon: 1,
+    entry: 4,
+    status: Status::Ok,
+    gifts: [70, 71, 0, 0, 0, 0, 0, 0],
+    runs: true,
+};
+
+/// Each call of an addon of the list, with the addon that is told it.
+const CALLED: &str = "0 load 0
+1 load 0
+0 enter 3 1 11 0 0 0 12 13 0
+1 duty 7 1 0 1
+1 finalize 4 70 71 0 0 0 0 0 0
+0 ask 3 5
+1 ask 4 0
+0 note 3 5 0
+1 note 4 0 0
+";
+
+/// A plan with no entries.
+fn no_plan(alloc: Global) -> AddonPlan {
+    AddonPlan {
+        entries: Listed::of(Vec::new(alloc)),
+    }
+}
+
+/// Makes each call of an addon of the list, and answers what the duty told in the end.
+fn call_each(alloc: Global, addons: &mut Vec<Box<dyn Addon>>, due: Due) -> DueInfo
+    requires { 2 ≤ length addons.old.items }
+{
+    load_at(addons, 0, no_plan(alloc));
+    load_at(addons, 1, no_plan(alloc));
+    enter_at(addons, 0, 3, &[1, 11, 0, 0, 0, 12, 13, 0]);
+    let begun = begin_at(addons, 1, due);
+    let _ = ask_at(addons, 0, 3, 5);
+    let _ = ask_at(addons, 1, 4, 0);
+    let reply = Reply::plain(Status::Ok, Out::Nothing);
+    note_at(addons, 0, 3, 5, &reply);
+    note_at(addons, 1, 4, 0, &reply);
+    begun.end()
+}
+
+#[test]
+fn each_call_of_a_list_is_told_to_its_addon(rt: HostRuntime) -> Result<(), Fail> {
+    let alloc = rt.alloc();
+    let text = Rc::new(alloc, RefCell::new(String::new(alloc)))?;
+    let mut addons = listeners(alloc, &text)?;
+    let Ok(slip) = Slip::new(alloc) else {
+        return Err(Fail::new("the slip found no memory"));
+    };
+    if addons.len() < 2 {
+        return Err(Fail::new("an addon is missing"));
+    }
+    let info = call_each(alloc, &mut addons, slip.arm(FINALIZER));
+    assert_eq!(rt; (info.duty, info.gifts), (FINALIZER.duty, FINALIZER.gifts));
+    drop(addons);
+    compare(&rt, "calls of a list", written(text)?.as_str(), CALLED);
     Ok(())
 }

@@ -2,7 +2,7 @@
 ghost use Rattle.std.specs.Prelude.{None};
 
 use super::*;
-use napi_types::{AddonPlan, Args, Ask, Call, HandleId, Reply};
+use napi_types::{AddonPlan, Args, Ask, Begun, Call, Due, HandleId, Reply, SeenList};
 
 /// What an addon does, whatever its script says.
 #[derive(Clone, Copy)]
@@ -20,7 +20,17 @@ enum Way {
 #[derive(Drop)]
 struct Unplanned {
     registers: [u64; 32],
+    seen: SeenList,
     way: Way,
+}
+
+/// An addon that does this, whose registers are all 7.
+fn that_does(way: Way) -> Unplanned {
+    Unplanned {
+        registers: [7; 32],
+        seen: SeenList::new(),
+        way,
+    }
 }
 
 impl Addon for Unplanned {
@@ -28,12 +38,20 @@ impl Addon for Unplanned {
 
     ghost regs = { λ addon. addon.registers };
 
+    ghost seen = { λ addon. addon.seen };
+
     fn load(&mut self, _given: AddonPlan) {
         self.registers = [0; 32];
     }
 
     fn enter(&mut self, _entry: u32, gifts: &[u64; 8]) {
         self.registers[24..].copy_from_slice(gifts);
+    }
+
+    fn begin(&mut self, due: Due) -> Begun {
+        let info = *due.info();
+        self.enter(info.entry, &info.gifts);
+        due.begin(&mut self.seen)
     }
 
     fn ask(&mut self, entry: u32, step: u32) -> Ask {
@@ -66,8 +84,7 @@ fn status_without_plan<R: Threads + Wait + Sync>(
 ) -> Result<u8, Fail> {
     let mut addons: Vec<Box<dyn Addon>> = Vec::new(alloc);
     for _ in 0..3 {
-        let registers = [7; 32];
-        addons.push(Box::new(alloc, Unplanned { registers, way })?)?;
+        addons.push(Box::new(alloc, that_does(way))?)?;
     }
     status_with(rt, alloc, script, &mut addons, sink, left)
 }
@@ -175,9 +192,7 @@ fn each_addon_of_the_script_has_its_frame(rt: HostRuntime) -> Result<(), Fail> {
 
 #[test]
 fn an_addon_may_heed_no_plan(rt: HostRuntime) -> Result<(), Fail> {
-    let registers = [7; 32];
-    let way = Way::Stays;
-    let mut addon: Box<dyn Addon> = Box::new(rt.alloc(), Unplanned { registers, way })?;
+    let mut addon: Box<dyn Addon> = Box::new(rt.alloc(), that_does(Way::Stays))?;
     addon.enter(0, &[1, 2, 3, 4, 5, 6, 7, 8]);
     assert!(rt; matches!(addon.ask(0, 65_535), Ask::Do(Call::GetUndefined)));
     Ok(())
