@@ -11,6 +11,7 @@ use std::test::Fail;
 
 mod calls;
 mod cuts;
+mod duties;
 mod many_names;
 mod numbers;
 mod texts;
