@@ -1,4 +1,5 @@
 pub mod Heaps
+pub mod Kept
 pub mod Lowest
 pub mod Moves
-pub mod Kept
+pub mod Taken

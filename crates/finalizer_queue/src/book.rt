@@ -159,7 +159,8 @@ impl Book {
         ensures spare { self.old.spare ≤ self.new.spare }
     {
         let Reverse(number) = self.due.pop()?;
-        Some(rows::begin(&mut self.rows[(number - 1) as usize], Ticket(number)))
+        let due = rows::begin(&mut self.rows[(number - 1) as usize], Ticket(number));
+        Some(due)
     }
 
     /// A ticket that is registered falls due and begins at once, as a cleanup hook does.

@@ -9,3 +9,6 @@ mod rows;
 
 pub use book::Book;
 pub use rows::NewDuty;
+
+#[cfg(test)]
+mod tests;

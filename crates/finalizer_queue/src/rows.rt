@@ -56,16 +56,12 @@ pub(crate) fn fall_due(row: &mut Row) -> bool
     ensures was { result ≡ is_registered (row_registration row.old).state }
     ensures due { row_registration row.new ≡ moved made_due (row_registration row.old) }
 {
-    match mem::replace(&mut row.state, RowState::Begun) {
-        RowState::Registered(slip) => {
-            row.state = RowState::Due(slip);
-            true
-        }
-        other => {
-            row.state = other;
-            false
-        }
-    }
+    let (state, has_fallen) = match mem::replace(&mut row.state, RowState::Begun) {
+        RowState::Registered(slip) => (RowState::Due(slip), true),
+        other => (other, false),
+    };
+    row.state = state;
+    has_fallen
 }
 
 /// A row that is registered is withdrawn, and gives its memory back.
@@ -101,16 +97,13 @@ pub(crate) fn end(row: &mut Row)
 fn info_of(ticket: Ticket, duty: NewDuty) -> DueInfo
     ensures { result ≡ due_info ticket.0 (registration_of duty) }
 {
-    let mut gifts = [0; 8];
-    gifts[0] = duty.payload;
-    gifts[1] = duty.hint;
     DueInfo {
         duty: Duty::Ticket(ticket),
         cause: duty.cause,
         addon: duty.addon,
         entry: duty.entry,
         status: Status::Ok,
-        gifts,
+        gifts: [duty.payload, duty.hint, 0, 0, 0, 0, 0, 0],
         runs: true,
     }
 }

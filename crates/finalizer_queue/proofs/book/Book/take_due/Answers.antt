@@ -11,7 +11,7 @@ due : (c : In_ok-number) → is_at is_due (book_of c.self.inside.rows.items) c.i
 due c = popped-due _ _ _ _ _ _ _ c.in_ok-number.field-0 c.self.invariant c.in_ok-number.ensures.permutation
 
 row : (c : After-index_mut) → IsRow c.self.inside.rows.items c.in_ok-number.field-0.0 c.index_mut.result.now × (is_due (state_of c.index_mut.result.now.state) ≡ true)
-row c = row-passes is_due c.self.inside.rows.items _ c.in_ok-number.field-0.0 _ refl (due (goal.at.begin-requires c).In_ok-number) c.index_mut.ensures.value
+row c = row-passes is_due c.self.inside.rows.items _ c.in_ok-number.field-0.0 _ refl (due (goal.at.begin-due-requires c).In_ok-number) c.index_mut.ensures.value
 
 pub overflow_sub-number : goal.overflow_sub-number
 overflow_sub-number c = (is_at-within is_due _ _ (due (goal.at.overflow_sub-number c).In_ok-number)).0
@@ -21,13 +21,13 @@ index_mut-requires c =
     let given = is_at-within is_due c.self.inside.rows.items c.in_ok-number.field-0.0 (due (goal.at.index_mut-requires c).In_ok-number) in
     omega (arith, given.0, given.1, c.self.inside.rows.ok.0)
 
-pub begin-requires : goal.begin-requires
-begin-requires c = due-waits _ (row c).1
+pub begin-due-requires : goal.begin-due-requires
+begin-due-requires c = due-waits _ (row c).1
 
 pub invariant_of-self-2 : goal.invariant_of-self-2
 invariant_of-self-2 c =
     let is = row (goal.at.invariant_of-self-2 c).After-index_mut in
-    kept-taken _ _ _ _ _ _ _ _ _ c.self.invariant c.in_ok-number.field-0.0 _ _ is.0 is.1 c.begin.ensures.begun
+    kept-taken _ _ _ _ _ _ _ _ _ c.self.invariant c.in_ok-number.field-0.0 _ _ is.0 is.1 c.begin-due.ensures.begun
     c.in_ok-number.field-0 refl c.in_ok-number.ensures.permutation (c.in_ok-number.ensures.heap_order c.self.invariant.order).0 c.in_ok-number.ensures.len c.pop.ensures.capacity
 
 lowest : (c : In_ok-number) → lowest_due c.args.self.now.book ≡ Some c.in_ok-number.field-0.0
@@ -48,8 +48,8 @@ returns-clause-taken c =
       registration = row_registration c.index_mut.result.now;
       lowest = lowest (goal.at.returns-clause-taken c).In_ok-number;
       registered = ap (λ k. registration_at k.book c.in_ok-number.field-0.0) (sym c.self.view_is) ∙ registration_at-row _ c.in_ok-number.field-0.0 _ is.0;
-      told = c.begin.ensures.told;
-      begun = book_of-moved made_begun _ c.in_ok-number.field-0.0 _ _ is.0 (moved-begun _ _ is.1 c.begin.ensures.begun) ∙ ap (λ k. moved_at made_begun c.in_ok-number.field-0.0 k.book) c.self.view_is;
+      told = c.begin-due.ensures.told;
+      begun = book_of-moved made_begun _ c.in_ok-number.field-0.0 _ _ is.0 (moved-begun _ _ is.1 c.begin-due.ensures.begun) ∙ ap (λ k. moved_at made_begun c.in_ok-number.field-0.0 k.book) c.self.view_is;
     }
 
 pub returns-in_err-number-clause-none : goal.returns-in_err-number-clause-none
