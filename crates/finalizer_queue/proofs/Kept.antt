@@ -17,12 +17,16 @@ use Rattle.finalizer_queue.proofs.Heaps.{times, times-moved, times-more, bound-t
 use Rattle.finalizer_queue.proofs.Lowest.{lowest-is, lowest-none, lowest-some}
 use Rattle.finalizer_queue.proofs.Moves.{IsRow, apart-above, is_at-row, is_at-set, is_at-within}
 
+itself : (n : ℕ) → ◌≡◌ {A = ℕ} (cond (n == n) 1 0) 1
+itself n = grind arith
+
 one_if-cond : (b p q : Bool) → ◌≡◌ {A = ℕ} (cond b (cond p 1 0) (cond q 1 0)) (cond (cond b p q) 1 0)
 one_if-cond true p q = refl
 one_if-cond false p q = refl
 
 -- a row is written in the place of the ticket n, and the heap then has that ticket once if it is due, and the others as before
-pub kept-set : (rows : List Row) (spare row_places count places count_after places_after : ℕ) (ts us : List (Reverse ℕ)) → AreKept rows spare row_places ts count places
+pub kept-set : (rows : List Row) (spare row_places count places count_after places_after : ℕ) (ts us : List (Reverse ℕ))
+    → AreKept rows spare row_places ts count places
     → (n : ℕ) (x y : Row) → IsRow rows n x
     → IsHeap (λ a b. nat_cmp b.0 a.0) us → ((m : ℕ) → times m us ≡ cond (m == n) (cond (is_due (state_of y.state)) 1 0) (times m ts))
     → count_after + cond (is_registered (state_of y.state)) 1 0 ≤ count + cond (is_registered (state_of x.state)) 1 0 → places ≤ places_after
@@ -70,7 +74,9 @@ pub kept-withdrawn : (rows : List Row) (spare row_places count places : ℕ) (ts
     → (n : ℕ) (x y : Row) → IsRow rows n x
     → row_registration y ≡ moved made_withdrawn (row_registration x) → AreKept (set rows (n - 1) y) spare row_places ts count places
 kept-withdrawn rows spare row_places count places ts kept n x y row is =
-    kept-beside rows spare row_places count places ts kept n x y row (ap is_due (state-moved made_withdrawn x y is) ∙ as_due (state_of x.state)) (ap is_registered (state-moved made_withdrawn x y is) ∙ waits (state_of x.state))
+    kept-beside rows spare row_places count places ts kept n x y row
+    (ap is_due (state-moved made_withdrawn x y is) ∙ as_due (state_of x.state))
+    (ap is_registered (state-moved made_withdrawn x y is) ∙ waits (state_of x.state))
   where
     as_due : (s : TicketState) → is_due (made_withdrawn s) ≡ is_due s
     as_due Registered = refl
@@ -136,7 +142,9 @@ pub kept-stays : (rows : List Row) (spare row_places count places : ℕ) (ts : L
     → row_registration y ≡ moved made_due (row_registration x) → AreKept (set rows (n - 1) y) spare row_places ts count places
 kept-stays rows spare row_places count places ts kept n x y row none is =
     let same : made_due (state_of x.state) ≡ state_of x.state = stays (state_of x.state) none in
-    kept-beside rows spare row_places count places ts kept n x y row (ap is_due (state-moved made_due x y is ∙ same)) (ap is_registered (state-moved made_due x y is ∙ same) ∙ none)
+    kept-beside rows spare row_places count places ts kept n x y row
+    (ap is_due (state-moved made_due x y is ∙ same))
+    (ap is_registered (state-moved made_due x y is ∙ same) ∙ none)
   where
     stays : (s : TicketState) → is_registered s ≡ false → made_due s ≡ s
     stays Registered none = let no : ⊥ = cc in absurd no
@@ -150,17 +158,15 @@ pushed-times : (m n : ℕ) (t : Reverse ℕ) (ts us : List (Reverse ℕ)) → t.
 pushed-times m n t ts us is perm none = times-moved m (t ∷ ts) us perm ∙ times-more m t ts ∙ by (m == n) refl
   where
     by : (b : Bool) → (m == n) ≡ b → cond (t.0 == m) 1 0 + times m ts ≡ cond b 1 (times m ts)
-    by true here = let same : m ≡ n = grind (arith, nat_tests, here) in rw (is, same, none) (one n)
-      where
-        one : (n : ℕ) → ◌≡◌ {A = ℕ} (cond (n == n) 1 0 + 0) 1
-        one n = grind arith
+    by true here = let same : m ≡ n = grind (arith, nat_tests, here) in rw (is, same, none) (omega (arith, itself n))
     by false here = rw is (other m n here)
       where
         other : (m n : ℕ) → (m == n) ≡ false → cond (n == m) 1 0 + times m ts ≡ times m ts
         other m n here = grind (arith, here)
 
 -- a ticket that is registered falls due, and the heap has it then
-pub kept-due : (rows : List Row) (spare row_places count places count_after places_after : ℕ) (ts us : List (Reverse ℕ)) → AreKept rows spare row_places ts count places
+pub kept-due : (rows : List Row) (spare row_places count places count_after places_after : ℕ) (ts us : List (Reverse ℕ))
+    → AreKept rows spare row_places ts count places
     → (n : ℕ) (x y : Row) → IsRow rows n x → is_registered (state_of x.state) ≡ true
     → row_registration y ≡ moved made_due (row_registration x)
     → (t : Reverse ℕ) → t.0 ≡ n → IsPermutation (t ∷ ts) us → IsHeap (λ a b. nat_cmp b.0 a.0) us → count_after ≡ count + 1 → places ≤ places_after
@@ -168,7 +174,8 @@ pub kept-due : (rows : List Row) (spare row_places count places count_after plac
 kept-due rows spare row_places count places count_after places_after ts us kept n x y row some is t named perm heap more wider =
     let due : state_of y.state ≡ Due = state-moved made_due x y is ∙ falls (state_of x.state) some in
     let none : times n ts ≡ 0 = kept.once n ∙ ap (λ b. cond b 1 0) (is_at-row is_due rows n x row ∙ before (state_of x.state) some) in
-    let has : (m : ℕ) → times m us ≡ cond (m == n) (cond (is_due (state_of y.state)) 1 0) (times m ts) = λ m. pushed-times m n t ts us named perm none ∙ ap (λ s. cond (m == n) (cond (is_due s) 1 0) (times m ts)) (sym due) in
+    let has : (m : ℕ) → times m us ≡ cond (m == n) (cond (is_due (state_of y.state)) 1 0) (times m ts) =
+    λ m. pushed-times m n t ts us named perm none ∙ ap (λ s. cond (m == n) (cond (is_due s) 1 0) (times m ts)) (sym due) in
     let after : ◌≡◌ {A = ℕ} (cond (is_registered (state_of y.state)) 1 0) 0 = ap (λ s. cond (is_registered s) 1 0) due in
     let was : ◌≡◌ {A = ℕ} (cond (is_registered (state_of x.state)) 1 0) 1 = ap (λ b. cond b 1 0) some in
     kept-set rows spare row_places count places count_after places_after ts us kept n x y row heap has (omega (arith, after, was, more)) wider
@@ -197,16 +204,14 @@ popped-times m n t ts us is perm once = by (m == n) refl (sym (times-moved m ts 
         let one : ◌≡◌ {A = ℕ} (cond (t.0 == m) 1 0) 1 = rw (is, same) (itself n) in
         let all : times m ts ≡ 1 = ap (λ i. times i ts) same ∙ once in
         omega (arith, sums, one, all)
-      where
-        itself : (n : ℕ) → ◌≡◌ {A = ℕ} (cond (n == n) 1 0) 1
-        itself n = grind arith
     by false here sums = let zero_more : ◌≡◌ {A = ℕ} (cond (t.0 == m) 1 0) 0 = rw is (other m n here) in omega (arith, sums, zero_more)
       where
         other : (m n : ℕ) → (m == n) ≡ false → ◌≡◌ {A = ℕ} (cond (n == m) 1 0) 0
         other m n here = grind (arith, here)
 
 -- a ticket that is due begins, and the heap has it no more
-pub kept-taken : (rows : List Row) (spare row_places count places count_after places_after : ℕ) (ts us : List (Reverse ℕ)) → AreKept rows spare row_places ts count places
+pub kept-taken : (rows : List Row) (spare row_places count places count_after places_after : ℕ) (ts us : List (Reverse ℕ))
+    → AreKept rows spare row_places ts count places
     → (n : ℕ) (x y : Row) → IsRow rows n x → is_due (state_of x.state) ≡ true
     → row_registration y ≡ moved made_due_and_begun (row_registration x)
     → (t : Reverse ℕ) → t.0 ≡ n → IsPermutation ts (t ∷ us) → IsHeap (λ a b. nat_cmp b.0 a.0) us → count_after + 1 ≡ count → places_after ≡ places
@@ -214,7 +219,8 @@ pub kept-taken : (rows : List Row) (spare row_places count places count_after pl
 kept-taken rows spare row_places count places count_after places_after ts us kept n x y row some is t named perm heap fewer same =
     let begun : state_of y.state ≡ Begun = state-moved made_due_and_begun x y is ∙ begins (state_of x.state) some in
     let once : times n ts ≡ 1 = kept.once n ∙ ap (λ b. cond b 1 0) (is_at-row is_due rows n x row ∙ some) in
-    let has : (m : ℕ) → times m us ≡ cond (m == n) (cond (is_due (state_of y.state)) 1 0) (times m ts) = λ m. popped-times m n t ts us named perm once ∙ ap (λ s. cond (m == n) (cond (is_due s) 1 0) (times m ts)) (sym begun) in
+    let has : (m : ℕ) → times m us ≡ cond (m == n) (cond (is_due (state_of y.state)) 1 0) (times m ts) =
+    λ m. popped-times m n t ts us named perm once ∙ ap (λ s. cond (m == n) (cond (is_due s) 1 0) (times m ts)) (sym begun) in
     let after : ◌≡◌ {A = ℕ} (cond (is_registered (state_of y.state)) 1 0) 0 = ap (λ s. cond (is_registered s) 1 0) begun in
     kept-set rows spare row_places count places count_after places_after ts us kept n x y row heap has (omega (arith, after, fewer)) (omega (arith, same))
   where
@@ -276,9 +282,6 @@ pub popped-due : (rows : List Row) (spare row_places count places : ℕ) (ts us 
     → IsPermutation ts (t ∷ us) → is_at is_due (book_of rows) t.0 ≡ true
 popped-due rows spare row_places count places ts us t kept perm =
     times-due rows spare row_places count places ts kept t.0 (omega (arith, itself t.0, times-moved t.0 ts (t ∷ us) perm, times-more t.0 t us))
-  where
-    itself : (n : ℕ) → ◌≡◌ {A = ℕ} (cond (n == n) 1 0) 1
-    itself n = grind arith
 
 -- and is the lowest that is
 pub popped-lowest : (rows : List Row) (spare row_places count places : ℕ) (ts us : List (Reverse ℕ)) (t : Reverse ℕ) → AreKept rows spare row_places ts count places
@@ -314,9 +317,6 @@ filled-lowest rows spare row_places count places (t ∷ ts) kept long =
     let given = is_at-within is_due rows t.0 is in
     let filled : (count == 0) ≡ false = apart-above count 0 (omega (arith, long)) in
     ap not filled ∙ sym (lowest-some (book_of rows) t.0 given.0 (omega (arith, given.1, length-map rows row_registration)) is)
-  where
-    itself : (n : ℕ) → ◌≡◌ {A = ℕ} (cond (n == n) 1 0) 1
-    itself n = grind arith
 
 -- a place in the heap is free for a ticket that is registered
 pub room-free : (rows : List Row) (spare row_places count places : ℕ) (ts : List (Reverse ℕ)) → AreKept rows spare row_places ts count places

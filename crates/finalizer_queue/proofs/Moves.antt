@@ -45,7 +45,8 @@ pub book_of-moved : (move : TicketState → TicketState) (rows : List Row) (n : 
     → row_registration y ≡ moved move (row_registration x) → book_of (set rows (n - 1) y) ≡ moved_at move n (book_of rows)
 book_of-moved move rows n x y row is =
     let read : slice_get (book_of rows) (n - 1) ≡ Some (row_registration x) =
-    slice_get-map row_registration rows (n - 1) ∙ ap (option_map row_registration) (slice_get_read rows (length rows) (n - 1) x refl (omega (arith, row.above, row.within)) row.here) in
+    slice_get-map row_registration rows (n - 1)
+    ∙ ap (option_map row_registration) (slice_get_read rows (length rows) (n - 1) x refl (omega (arith, row.above, row.within)) row.here) in
     map-set row_registration rows (n - 1) y ∙ moved_from-at move 1 (n - 1) n (book_of rows) (row_registration x) (row_registration y) (omega (arith, row.above)) read is
 
 -- WHAT IS UNDER A TICKET

@@ -26,5 +26,6 @@ invariant_of-self c =
 pub returns-clause-ended : goal.returns-clause-ended
 returns-clause-ended c =
     let before = (goal.at.returns-clause-ended c).After-index_mut in
-    book_of-moved made_ended _ c.in-Ticket.ticket.0 _ _ (row before).0 c.end-2.ensures ∙ ap (λ k. moved_at made_ended c.in-Ticket.ticket.0 k.book) c.self.view_is
+    book_of-moved made_ended _ c.in-Ticket.ticket.0 _ _ (row before).0 c.end-2.ensures
+    ∙ ap (λ k. moved_at made_ended c.in-Ticket.ticket.0 k.book) c.self.view_is
     ∙ ap (λ n. moved_at made_ended n c.args.self.now.book) (sym (numbered before))

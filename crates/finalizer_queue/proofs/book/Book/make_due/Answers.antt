@@ -28,8 +28,10 @@ invariant_of-self-else-fall_due c =
 
 pub returns-in-Ok-clause-due : goal.returns-in-Ok-clause-due
 returns-in-Ok-clause-due c =
-    book_of-moved made_due _ c.args.ticket.0 _ _ (row (goal.at.returns-in-Ok-clause-due c).After-index_mut) c.fall_due.ensures.due ∙ ap (λ k. moved_at made_due c.args.ticket.0 k.book) c.self.view_is
+    book_of-moved made_due _ c.args.ticket.0 _ _ (row (goal.at.returns-in-Ok-clause-due c).After-index_mut) c.fall_due.ensures.due
+    ∙ ap (λ k. moved_at made_due c.args.ticket.0 k.book) c.self.view_is
 
 pub returns-else-fall_due-clause-due : goal.returns-else-fall_due-clause-due
 returns-else-fall_due-clause-due c =
-    book_of-moved made_due _ c.args.ticket.0 _ _ (row (goal.at.returns-else-fall_due-clause-due c).After-index_mut) c.fall_due.ensures.due ∙ ap (λ k. moved_at made_due c.args.ticket.0 k.book) c.self.view_is
+    book_of-moved made_due _ c.args.ticket.0 _ _ (row (goal.at.returns-else-fall_due-clause-due c).After-index_mut) c.fall_due.ensures.due
+    ∙ ap (λ k. moved_at made_due c.args.ticket.0 k.book) c.self.view_is

@@ -49,7 +49,8 @@ returns-clause-taken c =
       lowest = lowest (goal.at.returns-clause-taken c).In_ok-number;
       registered = ap (λ k. registration_at k.book c.in_ok-number.field-0.0) (sym c.self.view_is) ∙ registration_at-row _ c.in_ok-number.field-0.0 _ is.0;
       told = c.begin-due.ensures.told;
-      begun = book_of-moved made_begun _ c.in_ok-number.field-0.0 _ _ is.0 (moved-begun _ _ is.1 c.begin-due.ensures.begun) ∙ ap (λ k. moved_at made_begun c.in_ok-number.field-0.0 k.book) c.self.view_is;
+      begun = book_of-moved made_begun _ c.in_ok-number.field-0.0 _ _ is.0 (moved-begun _ _ is.1 c.begin-due.ensures.begun)
+          ∙ ap (λ k. moved_at made_begun c.in_ok-number.field-0.0 k.book) c.self.view_is;
     }
 
 pub returns-in_err-number-clause-none : goal.returns-in_err-number-clause-none

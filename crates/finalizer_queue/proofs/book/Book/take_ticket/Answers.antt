@@ -27,4 +27,5 @@ returns-clause-told c =
 pub returns-clause-begun : goal.returns-clause-begun
 returns-clause-begun c =
     let is = row (goal.at.returns-clause-begun c).After-index_mut in
-    book_of-moved made_due_and_begun _ c.args.ticket.0 _ _ is.0 c.begin.ensures.begun ∙ ap (λ k. moved_at made_due_and_begun c.args.ticket.0 k.book) c.self.view_is
+    book_of-moved made_due_and_begun _ c.args.ticket.0 _ _ is.0 c.begin.ensures.begun
+    ∙ ap (λ k. moved_at made_due_and_begun c.args.ticket.0 k.book) c.self.view_is
