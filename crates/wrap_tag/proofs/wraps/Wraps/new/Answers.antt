@@ -1,0 +1,7 @@
+use Rattle.std.proofs.Common.{◌∙◌, ap}
+use Rattle.wrap_tag.specs.Rows.{attachments_of}
+use Rattle.wrap_tag.proofs.Attaching.{attachments_of-none}
+use Rattle.wrap_tag.proofs.wraps.Wraps.new.Goals as goal
+
+pub returns : goal.returns
+returns c = ap attachments_of c.new.ensures.empty ∙ attachments_of-none
