@@ -6,7 +6,9 @@ use Rattle.std.proofs.lemmas.List.Elements.{All-nil, All-cons, All-head, All-tai
 use Rattle.napi_types.specs.declared.call.Call.TheVariants as call
 use Rattle.napi_types.specs.declared.entry.Out.TheVariants as out
 use Rattle.napi_types.specs.declared.status.Status.TheVariants as status
-use Rattle.napi_types.specs.Collection.{those_of, all_but, collected}
+use Rattle.napi_types.specs.Attachments.{Attachments, left_on, hangs_on}
+use Rattle.napi_types.specs.Book.{Book, due_where}
+use Rattle.napi_types.specs.Collection.{those_of, all_but, is_freed, collected}
 use Rattle.napi_types.specs.Environment.{Environment}
 use Rattle.napi_types.specs.Frames.{Frame}
 use Rattle.napi_types.specs.Graph.{StoreState, IsLive, number_in, graph_of}
@@ -50,10 +52,10 @@ frees-others s t roots freed all frees kept = record { frees = frees; told = tol
 
 module _ (s t : StoreState) (ids freed alive : List ℕ) (c : FreesOthers s t ids freed alive) where
   -- a value that was not freed is what it was
-  stays-live : (id : ℕ) → has_number id freed ≡ false → IsLive s id → IsLive t id
+  pub stays-live : (id : ℕ) → has_number id freed ≡ false → IsLive s id → IsLive t id
   stays-live id h live = subst (λ (o : Option Value). IsSome o) (sym (c.frees.others id h)) live
 
-  stays-number : (id : ℕ) → has_number id freed ≡ false → number_in t id ≡ number_in s id
+  pub stays-number : (id : ℕ) → has_number id freed ≡ false → number_in t id ≡ number_in s id
   stays-number id h = ap (λ (o : Option Value). unwrap_or (option_map (λ v. v.number) o) 0) (c.frees.others id h)
 
   -- REFERENCES
@@ -160,8 +162,9 @@ state-collected s t scopes frames m n p ids freed alive i r c e =
 pub collected-answers : (e : Environment) (s t : StoreState) (scopes : HandleScopes) (frames : List Frame) (m n : ReferenceMap) (p : Option ℕ) (ids freed alive : List ℕ) (count : ℕ)
     → IsState s scopes frames p m → AreRoots s scopes m p ids → alive ≡ reach_from (graph_of s) (map (number_in s) ids) → FreesOthers s t ids freed alive
     → graph_of t ≡ those_of alive (graph_of s) → count ≡ length (all_but alive (graph_of s)) → n ≡ emptied (λ v. has_number v freed) m
-    → AnswersInTime (whole e s scopes m p) call.Collect (plain status.Ok (out.Unsigned count)) (whole e t scopes n p)
-collected-answers e s t scopes frames m n p ids freed alive count i r are c graph counted empty =
+    → (hung : Attachments) (book : Book) → hung ≡ left_on (is_freed alive) e.attachments → book ≡ due_where (hangs_on (is_freed alive) e.attachments) e.book
+    → AnswersInTime (whole e s scopes m p) call.Collect (plain status.Ok (out.Unsigned count)) (record (whole e t scopes n p) { attachments = hung; book = book })
+collected-answers e s t scopes frames m n p ids freed alive count i r are c graph counted empty hung book left due =
     let before : Environment = whole e s scopes m p in
     let k : KeepsRoots freed scopes m p = keeps-roots s t scopes m p ids freed alive r c in
     let reached : alive ≡ reach before = are ∙ reach_from-same (graph_of s) (map (number_in s) ids) (roots before) (roots-seen s e scopes m p ids r) in
@@ -174,12 +177,16 @@ collected-answers e s t scopes frames m n p ids freed alive count i r are c grap
     let references : references_seen t n ≡ emptied (λ v. not (has_number v (reach before))) (references_seen s m) =
     ap (references_seen t) empty ∙ seen-emptied s t ids freed alive c m i.referred ∙ ap (λ a. emptied (λ v. not (has_number v a)) (references_seen s m)) reached in
     let pending : pending_seen t p ≡ pending_seen s p = thrown-kept s t ids freed alive c p k.pending in
-    let step : Heap → ReferenceMap → Option ℕ → Environment = λ h l q. record e { heap = h; references = l; pending = q } in
+    let alive_here : Environment → List ℕ → Environment = λ x l. record x { attachments = left_on (is_freed l) e.attachments; book = due_where (hangs_on (is_freed l) e.attachments) e.book } in
+    let step : Heap → ReferenceMap → Option ℕ → Environment = λ h l q. record e { heap = h; references = l; attachments = hung; book = book; pending = q } in
     record {
       fresh = refl;
       reply = ap (λ l. plain status.Ok (out.Unsigned l)) (counted ∙ ap (λ a. length (all_but a (graph_of s))) reached);
       after =
           ap (λ h. step h (references_seen t n) (pending_seen t p)) heap
           ∙ ap (λ l. step (collected (reach before) before).heap l (pending_seen t p)) references
-          ∙ ap (λ q. step (collected (reach before) before).heap (collected (reach before) before).references q) pending;
+          ∙ ap (λ q. step (collected (reach before) before).heap (collected (reach before) before).references q) pending
+          ∙ ap (λ l. record (collected (reach before) before) { attachments = l; book = book }) left
+          ∙ ap (λ l. record (collected (reach before) before) { attachments = left_on (is_freed alive) e.attachments; book = l }) due
+          ∙ ap (alive_here (collected (reach before) before)) reached;
     }

@@ -1,5 +1,5 @@
 -- A core stays one where an entry is written.
-use Rattle.std.proofs.Common.{◌≡◌, ◌≤◌, ◌≢◌, ℕ, ◌+◌, ◌-◌, nat_lt, Bool, true, false, ◌&&◌, IsTrue, List, [], ◌∷◌, ◌++◌, length, Option, is_none, subst, sym, ap, ◌∙◌, arith, length-append, refl}
+use Rattle.std.proofs.Common.{◌≡◌, ◌≤◌, ◌≢◌, ℕ, ◌+◌, ◌-◌, nat_lt, Bool, true, false, ◌&&◌, IsTrue, List, [], ◌∷◌, ◌++◌, length, Option, Some, None, is_none, subst, sym, ap, ◌∙◌, arith, length-append, refl}
 use Rattle.napi_types.specs.declared.call.Call.{Call}
 use Rattle.napi_types.specs.declared.call.Call.TheVariants as call
 use Rattle.napi_types.specs.declared.entry.Entry.{Entry}
@@ -85,8 +85,10 @@ other-at-once e c h = ap (λ b. b && is_none (refusal e c)) h
 
 pub other-need : (c : Call) → is_built c ≡ true → is_calling c ≡ false → need c ≡ 1
 other-need (call.CallFunction receiver f args) b h = cc
-other-need (call.CreateExternal payload finalizer hint) b h = cc
-other-need (call.Wrap object payload finalizer hint ref) b h = cc
+other-need (call.CreateExternal payload None hint) b h = refl
+other-need (call.CreateExternal payload (Some entry) hint) b h = cc
+other-need (call.Wrap object payload None hint wanted) b h = refl
+other-need (call.Wrap object payload (Some entry) hint wanted) b h = cc
 other-need (call.AddFinalizer object payload finalizer hint ref) b h = cc
 other-need (call.SetInstanceData payload finalizer hint) b h = cc
 other-need (call.AddEnvCleanupHook entry arg) b h = cc

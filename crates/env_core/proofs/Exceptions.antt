@@ -93,8 +93,8 @@ accepted-throw e store scopes h v given =
     let known : gives (heap_of store scopes).scopes h.0 ≡ Some (number_in store v) = known-handle store scopes h.0 v given in
     let none : refusal_in e.texts (heap_of store scopes) (call.Throw h) ≡ None = throw-refusal e.texts (heap_of store scopes) h true (ap is_some known) in
     let value : handle_value (heap_of store scopes) h.0 ≡ number_in store v = ap (λ o. unwrap_or o undefined_value) known in
-    let answer : answer_unless env (call.Throw h) 0 (refusal_in e.texts (heap_of store scopes) (call.Throw h)) ≡ accepts out.Nothing (with_pending (Some (number_in store v)) env) =
-    ap (answer_unless env (call.Throw h) 0) none ∙ ap (λ n. accepts out.Nothing (with_pending (Some n) env)) value in
+    let answer : answer_unless env (call.Throw h) 0 (timely_refusal env (call.Throw h)) ≡ accepts out.Nothing (with_pending (Some (number_in store v)) env) =
+    ap (λ o. answer_unless env (call.Throw h) 0 (option_or o None)) none ∙ ap (λ n. accepts out.Nothing (with_pending (Some n) env)) value in
     record { fresh = refl; reply = ap (λ (a : Answer Environment). a.reply) (sym answer); after = ap (λ (a : Answer Environment). a.after) (sym answer) }
 
 -- THROW_ERROR
@@ -116,9 +116,9 @@ pub accepted-thrown : (e : Environment) (s t : StoreState) (scopes : HandleScope
 accepted-thrown e s t scopes code message id known heap number =
     let env : Environment = with_parts e s scopes in
     let none : refusal_in e.texts (heap_of s scopes) (call.ThrowError code message) ≡ None = thrown-refusal e.texts (heap_of s scopes) code message true known in
-    let answer : answer_unless env (call.ThrowError code message) 0 (refusal_in e.texts (heap_of s scopes) (call.ThrowError code message))
+    let answer : answer_unless env (call.ThrowError code message) 0 (timely_refusal env (call.ThrowError code message))
     ≡ accepts out.Nothing (with_pending (Some (thrown_number code message (heap_of s scopes))) (with_heap env (with_thrown code message (heap_of s scopes)))) =
-    ap (answer_unless env (call.ThrowError code message) 0) none in
+    ap (λ o. answer_unless env (call.ThrowError code message) 0 (option_or o None)) none in
     record {
       fresh = refl;
       reply = ap (λ (a : Answer Environment). a.reply) (sym answer);

@@ -1,11 +1,14 @@
+pub mod Attaching
 pub mod Called
 pub mod Collecting
 pub mod Cores
 pub mod Ending
 pub mod Exceptions
+pub mod Freeing
 pub mod Knowing
 pub mod Looking
 pub mod Referring
+pub mod Renaming
 pub mod Rooting
 pub mod Scopes
 pub mod SeenScopes

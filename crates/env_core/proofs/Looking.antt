@@ -1,14 +1,20 @@
 -- The values of handles.
-use Rattle.std.proofs.Common.{◌≡◌, ℕ, ap, sym, ◌∙◌, Option, Some, None, option_map, is_some, IfSome}
-use Rattle.std.specs.Option.{unwrap_or}
+use Rattle.std.proofs.Common.{◌≡◌, ℕ, Bool, true, false, ap, sym, ◌∙◌, Option, Some, None, option_map, is_some, IfSome}
+use Rattle.std.specs.Option.{unwrap_or, option_or}
 use Rattle.napi_types.specs.declared.body.Body.TheVariants as body
+use Rattle.napi_types.specs.declared.ids.HandleId.{HandleId}
 use Rattle.napi_types.specs.declared.ids.ValueId.{ValueId}
+use Rattle.napi_types.specs.declared.status.Status.TheVariants as status
+use Rattle.napi_types.specs.ExpectedKinds.{expects}
 use Rattle.napi_types.specs.Graph.{StoreState, IsLive, number_in, value_of, graph_of, renamed}
 use Rattle.napi_types.specs.Heap.{handle_value, handle_body}
+use Rattle.napi_types.specs.Lists.{unless}
 use Rattle.napi_types.specs.Scopes.{gives}
 use Rattle.napi_types.specs.Values.{Value, undefined_value, value_at}
 use Rattle.handle_scope.specs.HandleScopes.{HandleScopes}
 use Rattle.env_values.specs.Seen.{heap_of, HoldsLive}
+use Rattle.env_core.specs.declared.handles.Takes.{Takes}
+use Rattle.env_core.specs.Attaching.{is_accepted, target_refusal}
 use Rattle.env_values.proofs.HandleValues.{given-live}
 use Rattle.env_values.proofs.Seen.{gives-seen}
 
@@ -36,3 +42,18 @@ pub held-seen : (store : StoreState) (scopes : HandleScopes) (h : ℕ) (o : Opti
     → is_some o ≡ is_some (gives (heap_of store scopes).scopes h)
 held-seen store scopes h None e = ap (λ (o : Option ℕ). is_some (option_map (number_in store) o)) e ∙ ap is_some (sym (gives-seen store scopes.frames h))
 held-seen store scopes h (Some v) e = ap (λ (o : Option ℕ). is_some (option_map (number_in store) o)) e ∙ ap is_some (sym (gives-seen store scopes.frames h))
+
+-- A VALUE THAT A CALL TAKES
+module _ (store : StoreState) (scopes : HandleScopes) (h : HandleId) (kinds : Takes) (o : Option ValueId) (looked : option_map (λ (v : ValueId). v.0) o ≡ gives scopes.frames h.0) where
+  known-told : (b : Bool) → is_some o ≡ b → target_refusal kinds (heap_of store scopes) h
+      ≡ option_or (unless b status.InvalidArg) (expects (heap_of store scopes) h (is_accepted kinds) status.ObjectExpected)
+  known-told b is =
+      ap (λ k. option_or (unless k status.InvalidArg) (expects (heap_of store scopes) h (is_accepted kinds) status.ObjectExpected)) (sym (held-seen store scopes h.0 o looked) ∙ is)
+
+  -- no open scope holds the handle
+  pub target-unknown : is_some o ≡ false → Some status.InvalidArg ≡ target_refusal kinds (heap_of store scopes) h
+  target-unknown none = sym (known-told false none)
+
+  -- the value is of another kind, or is taken
+  pub target-told : (b : Bool) → is_some o ≡ true → is_accepted kinds (handle_body (heap_of store scopes) h.0) ≡ b → unless b status.ObjectExpected ≡ target_refusal kinds (heap_of store scopes) h
+  target-told b there taken = ap (λ k. unless k status.ObjectExpected) (sym taken) ∙ sym (known-told true there)

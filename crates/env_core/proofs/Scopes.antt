@@ -10,6 +10,7 @@ use Rattle.napi_types.specs.declared.ids.ScopeKind.{ScopeKind}
 use Rattle.napi_types.specs.declared.ids.ScopeKind.TheVariants as scope_kind
 use Rattle.napi_types.specs.declared.status.Status.{Status}
 use Rattle.napi_types.specs.declared.status.Status.TheVariants as status
+use Rattle.napi_types.specs.AttachmentRefusals.{attachment_refusal}
 use Rattle.napi_types.specs.Calls.{effect, answer_unless}
 use Rattle.napi_types.specs.Environment.{Environment, with_heap, in_heap}
 use Rattle.napi_types.specs.Frames.{Frame}
@@ -69,7 +70,9 @@ accepted-open e store old new scope_kind.Escapable scope fresh opened = record {
 pub by-refusal : (e : Environment) (store : StoreState) (old new : HandleScopes) (c : Call) (s : Status)
     → reference_refusal e.references c ≡ None → refusal_in e.texts (heap_of store old) c ≡ Some s → new ≡ old → AnswersInTime (with_parts e store old) c (plain s out.Nothing) (with_parts e store new)
 by-refusal e store old new c s none why same =
-    let first : Some s ≡ timely_refusal (with_parts e store old) c = sym why ∙ ap (λ o. option_or o (refusal_in e.texts (heap_of store old) c)) (sym none) in
+    let later : Option Status = attachment_refusal e.attachments (heap_of store old) c in
+    let first : Some s ≡ timely_refusal (with_parts e store old) c =
+    sym (ap (λ o. option_or o later) why) ∙ ap (λ o. option_or o (option_or (refusal_in e.texts (heap_of store old) c) later)) (sym none) in
     record {
       fresh = refl;
       reply = ap (λ (o : Option Status). (answer_unless (with_parts e store old) c 0 o).reply) first;
@@ -87,11 +90,13 @@ refused-close e store old new scope_kind.Escapable scope s h same =
 
 -- what a close answers that nothing refuses
 by-close : (e : Environment) (store : StoreState) (old new : HandleScopes) (c : Call)
-    → reference_refusal e.references c ≡ None → refusal_in e.texts (heap_of store old) c ≡ None → effect (with_parts e store old) c 0 ≡ in_heap (with_parts e store old) (accepts out.Nothing (in_scopes close_in (heap_of store old))) → new ≡ without_innermost_scope old
+    → reference_refusal e.references c ≡ None → refusal_in e.texts (heap_of store old) c ≡ None → attachment_refusal e.attachments (heap_of store old) c ≡ None → effect (with_parts e store old) c 0 ≡ in_heap (with_parts e store old) (accepts out.Nothing (in_scopes close_in (heap_of store old))) → new ≡ without_innermost_scope old
     → AnswersInTime (with_parts e store old) c (plain status.Ok out.Nothing) (with_parts e store new)
-by-close e store old new c none why is closed =
+by-close e store old new c none why later is closed =
     let env : Environment = with_parts e store old in
-    let first : timely_refusal env c ≡ None = ap (λ o. option_or o (refusal_in e.texts (heap_of store old) c)) none ∙ why in
+    let hung : Option Status = attachment_refusal e.attachments (heap_of store old) c in
+    let first : timely_refusal env c ≡ None =
+    ap (λ o. option_or o (option_or (refusal_in e.texts (heap_of store old) c) hung)) none ∙ ap (λ o. option_or o hung) why ∙ later in
     let answer : answer_unless env c 0 (timely_refusal env c) ≡ in_heap env (accepts out.Nothing (in_scopes close_in (heap_of store old))) =
     ap (answer_unless env c 0) first ∙ is in
     record {
@@ -108,9 +113,9 @@ pub accepted-close : (e : Environment) (store : StoreState) (old new : HandleSco
     → None ≡ closing scope.0 kind (opened_scopes old.frames) → new ≡ without_innermost_scope old
     → AnswersInTime (with_parts e store old) (closing_call kind scope) (plain status.Ok out.Nothing) (with_parts e store new)
 accepted-close e store old new scope_kind.Plain scope h closed =
-    by-close e store old new (call.CloseHandleScope scope) refl (closing-seen store scope.0 scope_kind.Plain old.frames ∙ sym h) refl closed
+    by-close e store old new (call.CloseHandleScope scope) refl (closing-seen store scope.0 scope_kind.Plain old.frames ∙ sym h) refl refl closed
 accepted-close e store old new scope_kind.Escapable scope h closed =
-    by-close e store old new (call.CloseEscapableHandleScope scope) refl (closing-seen store scope.0 scope_kind.Escapable old.frames ∙ sym h) refl closed
+    by-close e store old new (call.CloseEscapableHandleScope scope) refl (closing-seen store scope.0 scope_kind.Escapable old.frames ∙ sym h) refl refl closed
 
 -- the refusals of an escape: an unknown handle, and then those of its row
 escape-refusal : (texts : ℕ) (heap : Heap) (scope : ScopeId) (h : HandleId) (b : Bool) → is_some (gives heap.scopes h.0) ≡ b
@@ -149,8 +154,8 @@ accepted-escape e store old new scope h made v given why next escaped =
     let value : handle_value heap h.0 ≡ number_in store v = ap (λ o. unwrap_or o undefined_value) known in
     let env : Environment = with_parts e store old in
     let given_handle : ℕ → Answer Environment = λ n. in_heap env (accepts (out.Handle (record { 0 = old.handles + 1 })) (with_escaped scope.0 n heap)) in
-    let answer : answer_unless env (call.EscapeHandle scope h) 0 (refusal_in e.texts heap (call.EscapeHandle scope h)) ≡ given_handle (number_in store v) =
-    ap (answer_unless env (call.EscapeHandle scope h) 0) none ∙ ap given_handle value in
+    let answer : answer_unless env (call.EscapeHandle scope h) 0 (timely_refusal env (call.EscapeHandle scope h)) ≡ given_handle (number_in store v) =
+    ap (λ o. answer_unless env (call.EscapeHandle scope h) 0 (option_or o None)) none ∙ ap given_handle value in
     record {
       fresh = refl;
       reply = ap (λ n. plain status.Ok (out.Handle (record { 0 = n }))) next ∙ ap (λ (a : Answer Environment). a.reply) (sym answer);

@@ -6,6 +6,7 @@ use Rattle.napi_types.specs.declared.call.Call.TheVariants as call
 use Rattle.napi_types.specs.declared.ids.ScopeKind.{ScopeKind}
 use Rattle.napi_types.specs.declared.ids.ScopeKind.TheVariants as scope_kind
 use Rattle.napi_types.specs.declared.ids.TextNo.{TextNo}
+use Rattle.napi_types.specs.AttachmentRefusals.{attachment_refusal}
 use Rattle.napi_types.specs.Built.{is_value_call}
 use Rattle.napi_types.specs.Environment.{Environment}
 use Rattle.napi_types.specs.Graph.{StoreState}
@@ -33,11 +34,11 @@ opening_unrefused e scope_kind.Escapable = refl
 -- an error is thrown whose texts are known
 pub thrown-unrefused : (e : Environment) (code : Option TextNo) (message : TextNo) → true ≡ is_known e.texts e.heap (call.ThrowError code message)
     → timely_refusal e (call.ThrowError code message) ≡ None
-thrown-unrefused e code message known = thrown-refusal e.texts e.heap code message true (sym known)
+thrown-unrefused e code message known = ap (λ o. option_or o None) (thrown-refusal e.texts e.heap code message true (sym known))
 
 -- neither references nor the heap tell a refusal
-pub reference-unrefused : (e : Environment) (s : StoreState) (m : ReferenceMap) (c : Call) → None ≡ reference_refusal m c → refusal_in e.texts e.heap c ≡ None
-    → timely_refusal (referring e s m) c ≡ None
+pub reference-unrefused : (e : Environment) (s : StoreState) (m : ReferenceMap) (c : Call) → None ≡ reference_refusal m c
+    → option_or (refusal_in e.texts e.heap c) (attachment_refusal e.attachments e.heap c) ≡ None → timely_refusal (referring e s m) c ≡ None
 reference-unrefused e s m c h k = by-reference (referring e s m) c None (seen-refusal s m c ∙ sym h) k
 
 -- a call on values finds no memory

@@ -3,15 +3,21 @@ use Rattle.std.proofs.Common.{◌≡◌, ℕ, true, List, [], ◌∷◌, length,
 use Rattle.std.specs.List.{All}
 use Rattle.std.proofs.lemmas.List.{length-map}
 use Rattle.std.proofs.lemmas.List.Elements.{All-nil, All-cons, All-head, All-tail}
+use Rattle.napi_types.specs.declared.body.Body.TheVariants as body
 use Rattle.napi_types.specs.declared.call.Call.{Call}
 use Rattle.napi_types.specs.declared.call.Call.TheVariants as call
+use Rattle.napi_types.specs.declared.entry.Out.{Out}
 use Rattle.napi_types.specs.declared.status.Status.{Status}
+use Rattle.napi_types.specs.declared.status.Status.TheVariants as status
+use Rattle.napi_types.specs.AttachmentRefusals.{attachment_refusal}
+use Rattle.napi_types.specs.Attachments.{Attachments}
 use Rattle.napi_types.specs.Built.{is_value_call}
 use Rattle.napi_types.specs.declared.entry.Reply.{Reply}
 use Rattle.napi_types.specs.Heap.{Heap}
 use Rattle.napi_types.specs.Frames.{caller_of}
 use Rattle.napi_types.specs.Graph.{StoreState, IsLive}
-use Rattle.napi_types.specs.Replies.{Answer}
+use Rattle.napi_types.specs.HeapChanges.{new_value}
+use Rattle.napi_types.specs.Replies.{Answer, accepts, plain}
 use Rattle.napi_types.specs.Environment.{Environment, with_heap, in_heap}
 use Rattle.napi_types.specs.Calls.{addon_effect, heap_answer_unless, heap_answer, effect, answer_unless}
 use Rattle.napi_types.specs.References.{Reference, ReferenceMap}
@@ -21,6 +27,10 @@ use Rattle.napi_types.specs.Changes.{is_fresh_result, number_of}
 use Rattle.std.specs.Option.{option_or}
 use Rattle.handle_scope.specs.HandleScopes.{HandleScopes}
 use Rattle.env_values.specs.Seen.{seen_frame, heap_of, KeepsValues}
+use Rattle.napi_types.specs.Book.{Book}
+use Rattle.env_core.specs.Attaching.{attachments_seen, IsAttached}
+use Rattle.env_core.proofs.Attaching.{attachments-kept}
+use Rattle.env_core.proofs.Referring.{or-none, accepted-timely}
 use Rattle.env_core.specs.Referring.{seen_reference, references_seen, RefersToLive}
 use Rattle.env_core.specs.State.{pending_seen, AnswersInTime}
 use Rattle.napi_types.proofs.Answers.{heap_answer-keeps}
@@ -63,6 +73,12 @@ accepted-in_heap e (call.DeleteReference r) n v = cc
 accepted-in_heap e (call.ReferenceRef r) n v = cc
 accepted-in_heap e (call.ReferenceUnref r) n v = cc
 accepted-in_heap e (call.GetReferenceValue r) n v = cc
+accepted-in_heap e (call.Wrap object payload finalizer hint wanted) n v = cc
+accepted-in_heap e (call.Unwrap object) n v = cc
+accepted-in_heap e (call.RemoveWrap object) n v = cc
+accepted-in_heap e (call.TypeTagObject object lower upper) n v = cc
+accepted-in_heap e (call.CheckObjectTypeTag object lower upper) n v = cc
+accepted-in_heap e (call.CreateExternal payload finalizer hint) n v = cc
 accepted-in_heap e call.Collect n v = cc
 accepted-in_heap e _ n v = refl
 
@@ -78,8 +94,18 @@ no-reference m (call.ReferenceUnref r) h = cc
 no-reference m (call.GetReferenceValue r) h = cc
 no-reference m _ h = refl
 
+-- nor does it read what is attached to values
+no-attachment : (a : Attachments) (heap : Heap) (c : Call) → is_value_call c ≡ true → attachment_refusal a heap c ≡ None
+no-attachment a heap (call.Wrap object payload finalizer hint wanted) h = cc
+no-attachment a heap (call.Unwrap object) h = cc
+no-attachment a heap (call.RemoveWrap object) h = cc
+no-attachment a heap (call.TypeTagObject object lower upper) h = cc
+no-attachment a heap _ h = refl
+
 pub timely-value : (e : Environment) (c : Call) → is_value_call c ≡ true → timely_refusal e c ≡ refusal_in e.texts e.heap c
-timely-value e c h = ap (λ o. option_or o (refusal_in e.texts e.heap c)) (no-reference e.references c h)
+timely-value e c h =
+    ap (λ o. option_or o (option_or (refusal_in e.texts e.heap c) (attachment_refusal e.attachments e.heap c))) (no-reference e.references c h)
+    ∙ ap (option_or (refusal_in e.texts e.heap c)) (no-attachment e.attachments e.heap c h) ∙ or-none (refusal_in e.texts e.heap c)
 
 -- the reply of such a call, and the heap that it leaves, are the machine's answer in the environment
 pub value-answers : {E : Type 0} (e : Environment) (addon : ℕ) (c : Call) (heap : Heap) (result : Result Reply E) → is_value_call c ≡ true → addon ≡ caller_of e.frames
@@ -143,12 +169,28 @@ rows-kept s t (r ∷ rs) kept live =
 pub references-kept : (s t : StoreState) (m : ReferenceMap) → KeepsValues s t → RefersToLive s m → references_seen t m ≡ references_seen s m
 references-kept s t m kept live = ap (λ l. record m { rows = l }) (rows-kept s t m.rows kept live)
 
+-- where the heap is seen as it was, so is all that names its values
+pub same-seen : (e : Environment) (s t : StoreState) (old new : HandleScopes) (m : ReferenceMap) (a : Attachments) (book : Book) (p : Option ℕ) → KeepsValues s t → RefersToLive s m → IsAttached s a book
+    → IfSome p (IsLive s) → heap_of t new ≡ heap_of s old
+    → record e { heap = heap_of t new; references = references_seen t m; attachments = attachments_seen t a; pending = pending_seen t p }
+    ≡ record e { heap = heap_of s old; references = references_seen s m; attachments = attachments_seen s a; pending = pending_seen s p }
+same-seen e s t old new m a book p kept live attached alive same =
+    ap (λ (h : Heap). record e { heap = h; references = references_seen t m; attachments = attachments_seen t a; pending = pending_seen t p }) same
+    ∙ ap (λ l. record e { heap = heap_of s old; references = l; attachments = attachments_seen t a; pending = pending_seen t p }) (references-kept s t m kept live)
+    ∙ ap (λ l. record e { heap = heap_of s old; references = references_seen s m; attachments = l; pending = pending_seen t p }) (attachments-kept s t kept a book attached)
+    ∙ ap (λ q. record e { heap = heap_of s old; references = references_seen s m; attachments = attachments_seen s a; pending = q }) (pending-kept s t p kept alive)
+
 -- a call that finds no memory leaves what the machine sees
-pub stopped-same : {A E : Type 0} (e : Environment) (s t : StoreState) (old new : HandleScopes) (m : ReferenceMap) (p : Option ℕ) (r : Result A E) → KeepsValues s t → RefersToLive s m → IfSome p (IsLive s)
-    → OnErr r (heap_of t new ≡ heap_of s old)
-    → OnErr r (record e { heap = heap_of t new; references = references_seen t m; pending = pending_seen t p } ≡ record e { heap = heap_of s old; references = references_seen s m; pending = pending_seen s p })
-stopped-same e s t old new m p (Ok x) kept live alive same = tt
-stopped-same e s t old new m p (Err x) kept live alive same =
-    ap (λ (h : Heap). record e { heap = h; references = references_seen t m; pending = pending_seen t p }) same
-    ∙ ap (λ l. record e { heap = heap_of s old; references = l; pending = pending_seen t p }) (references-kept s t m kept live)
-    ∙ ap (λ q. record e { heap = heap_of s old; references = references_seen s m; pending = q }) (pending-kept s t p kept alive)
+pub stopped-same : {A E : Type 0} (e : Environment) (s t : StoreState) (old new : HandleScopes) (m : ReferenceMap) (a : Attachments) (book : Book) (p : Option ℕ) (r : Result A E)
+    → KeepsValues s t → RefersToLive s m → IsAttached s a book → IfSome p (IsLive s) → OnErr r (heap_of t new ≡ heap_of s old)
+    → OnErr r (record e { heap = heap_of t new; references = references_seen t m; attachments = attachments_seen t a; pending = pending_seen t p }
+    ≡ record e { heap = heap_of s old; references = references_seen s m; attachments = attachments_seen s a; pending = pending_seen s p })
+stopped-same e s t old new m a book p (Ok x) kept live attached alive same = tt
+stopped-same e s t old new m a book p (Err x) kept live attached alive same = same-seen e s t old new m a book p kept live attached alive same
+
+-- AN EXTERNAL
+-- the call that creates one gives its handle, in the heap that it leaves
+pub external-answers : (e : Environment) (payload hint : ℕ) (o : Out) (heap : Heap) → new_value (body.External payload) e.heap ≡ accepts o heap
+    → AnswersInTime e (call.CreateExternal payload None hint) (plain status.Ok o) (with_heap e heap)
+external-answers e payload hint o heap is =
+    accepted-timely e (with_heap e heap) (call.CreateExternal payload None hint) o refl (ap (λ (a : Answer Heap). is_fresh_result e a.reply.out) (sym is)) (ap (in_heap e) is)

@@ -1,3 +1,4 @@
+pub mod Attaching
 pub mod Core
 pub mod Journal
 pub mod Referring

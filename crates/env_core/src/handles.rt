@@ -1,13 +1,15 @@
 //! The values of handles.
-ghost use Rattle.std.specs.Prelude.{◌≡◌};
+ghost use Rattle.std.specs.Prelude.{◌≡◌, IfOk, OnOk};
+ghost use Rattle.std.specs.Result.{result_err};
 ghost use Rattle.napi_types.specs.FunctionCalls.{left_value};
-ghost use Rattle.napi_types.specs.Graph.{IsLive, number_in};
+ghost use Rattle.napi_types.specs.Graph.{IsLive, IsSoundStore, number_in};
 ghost use Rattle.napi_types.specs.Heap.{handle_value, handle_body};
+ghost use Rattle.env_core.specs.Attaching.{is_accepted, target_refusal};
 ghost use Rattle.env_values.specs.Seen.{heap_of, HoldsLive};
 
 use env_values::or_undefined;
 use handle_scope::Scopes;
-use napi_types::{Body, HandleId, ValueId};
+use napi_types::{Body, HandleId, Status, ValueId};
 use value_store::Store;
 
 /// The value of a handle, undefined where no open scope holds it.
@@ -23,7 +25,8 @@ pub fn value_of(store: &Store, scopes: &Scopes, handle: HandleId) -> ValueId
 #[tactic(auto, using(crate::proofs::Looking::looked_body))]
 pub fn body_of(store: &Store, scopes: &Scopes, handle: HandleId) -> Body
     requires { HoldsLive store.now scopes.now }
-    ensures { result ≡ handle_body (heap_of store.now scopes.now) handle.0 }
+    ensures body { result ≡ handle_body (heap_of store.now scopes.now) handle.0 }
+    ensures sound { IsSoundStore store.now }
 {
     match store.get(value_of(store, scopes, handle)) {
         Some(value) => value.body(),
@@ -41,4 +44,49 @@ pub fn left_by(store: &Store, scopes: &Scopes, value: Option<HandleId>) -> Value
         Some(handle) => value_of(store, scopes, handle),
         None => or_undefined(store, None),
     }
+}
+
+/// The kinds of value to which a call attaches something, or of which it reads what is attached.
+#[derive(Clone, Copy, Debug, PartialEq, Eq)]
+pub enum Takes {
+    /// An object or a function, as a wrap does.
+    Objects,
+    /// These, and an external, as a type tag does.
+    ObjectsAndExternals,
+}
+
+impl Takes {
+    /// Whether a value is of such a kind.
+    fn accepts(self, body: Body) -> bool
+        ensures { result ≡ is_accepted self body }
+    {
+        match body {
+            Body::Object { .. } | Body::Function { .. } => true,
+            Body::External(_) => self == Takes::ObjectsAndExternals,
+            _ => false,
+        }
+    }
+}
+
+/// The value of a handle, for a call that takes values of these kinds. It is refused where no open scope holds the handle, and
+/// where the value is of another kind.
+pub fn target(
+    store: &Store,
+    scopes: &Scopes,
+    handle: HandleId,
+    takes: Takes,
+) -> Result<ValueId, Status>
+    requires { HoldsLive store.now scopes.now }
+    ensures live { IfOk result (λ v. IsLive store.now v.0) }
+    ensures number { IfOk result (λ v. number_in store.now v.0 ≡ handle_value (heap_of store.now scopes.now) handle.0) }
+    ensures refusal { result_err result ≡ target_refusal takes (heap_of store.now scopes.now) handle }
+    ensures sound { OnOk result (IsSoundStore store.now) }
+{
+    if scopes.look(handle).is_none() {
+        return Err(Status::InvalidArg);
+    }
+    if !takes.accepts(body_of(store, scopes, handle)) {
+        return Err(Status::ObjectExpected);
+    }
+    Ok(value_of(store, scopes, handle))
 }

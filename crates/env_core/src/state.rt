@@ -16,16 +16,19 @@ ghost use Rattle.napi_types.specs.Properties.{most_names};
 ghost use Rattle.env_core.specs.Core.{next_init};
 ghost use Rattle.env_core.specs.State.{HasNumbersFor, Calls, Answers, AnswersInTime, opening_call, closing_call};
 
+mod attachments;
 mod calling;
 mod collection;
 mod ends;
 mod exceptions;
+mod externals;
 mod references;
 
 use crate::frames::{Frames, StandingFrame};
 pub use calling::Called;
 use env_values::value_step;
 use exception_state::Exceptions;
+use finalizer_queue::Book;
 use handle_scope::{ScopeKind, Scopes};
 use napi_reference::Refs;
 use napi_types::{
@@ -35,6 +38,7 @@ use napi_types::{
 use std::alloc::Global;
 use std::marker::Model;
 use value_store::Store;
+use wrap_tag::Wraps;
 
 /// The environment's state.
 #[derive(Drop)]
@@ -49,6 +53,8 @@ pub struct State {
     scopes: Scopes,
     frames: Frames,
     references: Refs,
+    wraps: Wraps,
+    book: Book,
     exceptions: Exceptions,
 }
 
@@ -59,6 +65,7 @@ impl Model for State {
 
     ghost use Rattle.env_values.specs.Seen.{heap_of};
     ghost use Rattle.napi_reference.specs.Places.{map_of};
+    ghost use Rattle.env_core.specs.Attaching.{attachments_seen, IsAttached};
     ghost use Rattle.env_core.specs.Referring.{references_seen};
     ghost use Rattle.env_core.specs.State.{pending_seen, IsState};
 
@@ -71,11 +78,14 @@ impl Model for State {
       heap = heap_of state.store state.scopes;
       frames = state.frames;
       references = references_seen state.store (map_of state.references);
+      attachments = attachments_seen state.store state.wraps.attachments;
+      book = state.book.book;
       pending = pending_seen state.store state.exceptions.pending;
       last = state.exceptions.last;
     } };
 
-    ghost invariant = { λ state. IsState state.store state.scopes state.frames state.exceptions.pending (map_of state.references) };
+    ghost invariant = { λ state. IsState state.store state.scopes state.frames state.exceptions.pending (map_of state.references)
+        × IsAttached state.store state.wraps.attachments state.book.book };
 }
 
 impl State {
@@ -87,6 +97,8 @@ impl State {
         let scopes = Scopes::new(alloc)?;
         let frames = Frames::new(alloc)?;
         let references = Refs::new(alloc)?;
+        let wraps = Wraps::new(alloc)?;
+        let book = Book::new(alloc)?;
         Ok(State {
             alloc,
             addons,
@@ -98,6 +110,8 @@ impl State {
             scopes,
             frames,
             references,
+            wraps,
+            book,
             exceptions: Exceptions::new(),
         })
     }
@@ -259,6 +273,18 @@ impl State {
             Call::ReferenceRef(reference) => Ok(self.reference_ref(*reference)),
             Call::ReferenceUnref(reference) => Ok(self.reference_unref(*reference)),
             Call::GetReferenceValue(reference) => self.get_reference_value(*reference),
+            Call::Wrap(object, payload, None, hint, wanted) => {
+                self.wrap(*object, *payload, *hint, *wanted)
+            }
+            Call::Unwrap(object) => Ok(self.unwrap(*object)),
+            Call::RemoveWrap(object) => Ok(self.remove_wrap(*object)),
+            Call::TypeTagObject(object, lower, upper) => {
+                self.type_tag_object(*object, *lower, *upper)
+            }
+            Call::CheckObjectTypeTag(object, lower, upper) => {
+                Ok(self.check_object_type_tag(*object, *lower, *upper))
+            }
+            Call::CreateExternal(payload, None, hint) => self.create_external(*payload, *hint),
             Call::Collect => self.collect(),
             Call::Throw(handle) => Ok(self.throw(*handle)),
             Call::ThrowError(code, message) => self.throw_error(*code, *message),

@@ -6,11 +6,12 @@ ghost use Rattle.env_core.specs.State.{AnswersInTime};
 
 use super::State;
 use crate::roots::roots_of;
+use env_values::recall;
 use napi_types::{NoMemory, Out, Reply, Status};
 
 impl State {
-    /// Frees the values that the roots do not reach, empties the references to them, and tells how many there were. All
-    /// memory is taken before the first change.
+    /// Frees the values that the roots do not reach, and tells how many there were: the references to them are emptied, what is
+    /// attached to them goes, and the tickets of their finalizers fall due. All memory is taken before the first change.
     pub(super) fn collect(&mut self) -> Result<Reply, NoMemory>
         ensures ok { IfOk result (λ reply. AnswersInTime self.old call_of.Collect reply self.new) }
         ensures err { OnErr result (self.new ≡ self.old) }
@@ -23,8 +24,11 @@ impl State {
             &self.references,
             self.exceptions.pending(),
         )?;
+        // What is attached to live values is told apart by their creation numbers.
+        recall(&self.store);
         let freed = trace_collect::collect(self.alloc, &mut self.store, &roots)?;
         self.references.empty_of(&freed);
+        self.wraps.gone_all(&freed, &mut self.book);
         Ok(Reply::plain(Status::Ok, Out::Unsigned(freed.len() as u64)))
     }
 }

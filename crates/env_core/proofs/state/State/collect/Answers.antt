@@ -5,6 +5,8 @@ use Rattle.trace_collect.specs.Collects.{reached}
 use Rattle.env_core.specs.Rooting.{AreRoots}
 use Rattle.env_core.specs.contracts.state.State.{the_view}
 use Rattle.env_core.proofs.Rooting.{roots-start}
+use Rattle.env_core.specs.Attaching.{attachments_seen}
+use Rattle.env_core.proofs.Freeing.{seen-left, due-seen, given-freed, attached-left}
 use Rattle.env_core.proofs.Collecting.{frees-others, strong-kept, state-collected, collected-answers}
 use Rattle.env_core.proofs.state.State.collect.Goals as goal
 
@@ -35,8 +37,12 @@ invariant_of-self-2 c =
     let are = subst P c.pending.ensures (rw c.deref.ensures.value c.in_ok-roots.ensures) in
     let freed = numbers_of c.in_ok-freed.freed.items in
     let others = frees-others s.store c.collect.new.store roots freed k.freed k.frees k.roots in
-    state-collected s.store c.collect.new.store s.scopes s.frames (map_of s.references) (map_of c.empty_of.new.self) s.exceptions.pending roots freed (reached s.store roots)
-    c.self.invariant are others (rw c.deref-2.ensures.value at c.empty_of.ensures.emptied)
+    let alive = reached s.store roots in (
+      state-collected s.store c.collect.new.store s.scopes s.frames (map_of s.references) (map_of c.empty_of.new.self) s.exceptions.pending roots freed alive
+          c.self.invariant.0 are others (rw c.deref-2.ensures.value at c.empty_of.ensures.emptied),
+      rw (c.gone_all.ensures.forgotten, c.gone_all.ensures.due, c.deref-3.ensures.value)
+          (attached-left s.store c.collect.new.store roots freed alive others c.recall.ensures s.wraps.attachments s.book.book c.self.invariant.1),
+    )
 
 pub returns-clause-ok : goal.returns-clause-ok
 returns-clause-ok c =
@@ -47,7 +53,20 @@ returns-clause-ok c =
     let are = subst P c.pending.ensures (rw c.deref.ensures.value c.in_ok-roots.ensures) in
     let freed = numbers_of c.in_ok-freed.freed.items in
     let others = frees-others s.store c.collect.new.store roots freed k.freed k.frees k.roots in
+    let alive = reached s.store roots in
     rw (← c.self.view_is)
     (rw (c.plain.ensures, c.len.ensures)
     (collected-answers (the_view s) s.store c.collect.new.store s.scopes s.frames (map_of s.references) (map_of c.empty_of.new.self) s.exceptions.pending roots freed (reached s.store roots) c.in_ok-freed.freed.len
-    c.self.invariant are refl others k.graph (c.in_ok-freed.freed.ok.0 ∙ k.count) (rw c.deref-2.ensures.value at c.empty_of.ensures.emptied)))
+    c.self.invariant.0 are refl others k.graph (c.in_ok-freed.freed.ok.0 ∙ k.count) (rw c.deref-2.ensures.value at c.empty_of.ensures.emptied)
+    (attachments_seen c.collect.new.store c.gone_all.new.self.attachments) c.gone_all.new.book.book
+    (rw (c.gone_all.ensures.forgotten, c.deref-3.ensures.value) (seen-left s.store c.collect.new.store roots freed alive others c.recall.ensures s.wraps.attachments s.book.book c.self.invariant.1))
+    (rw (c.gone_all.ensures.due, c.deref-3.ensures.value) (due-seen s.store c.collect.new.store roots freed alive others c.recall.ensures s.wraps.attachments s.book.book c.self.invariant.1))))
+
+pub gone_all-requires : goal.gone_all-requires
+gone_all-requires c =
+    let s = c.self.inside in
+    let k = c.in_ok-freed.ensures in
+    let roots = numbers_of c.deref.result.now in
+    let freed = numbers_of c.in_ok-freed.freed.items in
+    let others = frees-others s.store c.collect.new.store roots freed k.freed k.frees k.roots in
+    rw c.deref-3.ensures.value (given-freed s.store c.collect.new.store roots freed (reached s.store roots) others c.recall.ensures s.wraps.attachments s.book.book c.self.invariant.1)

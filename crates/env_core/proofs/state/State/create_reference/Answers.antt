@@ -12,16 +12,18 @@ use Rattle.env_core.proofs.state.State.create_reference.Goals as goal
 pub invariant_of-self-2 : goal.invariant_of-self-2
 invariant_of-self-2 c =
     let s = c.self.inside in
-    let i = c.self.invariant in
-    record {
-      live = i.live;
-      frames = i.frames;
-      calls = i.calls;
-      pending = i.pending;
-      referred =
-          subst (RefersToLive s.store) (sym c.in_ok-reference.ensures.made)
-          (AllValues-with_reference (IsLive s.store) c.in_ok-reference.reference.0 c.value_of-value.result.0 c.args.count (map_of s.references) c.value_of-value.ensures.live i.referred);
-    }
+    let i = c.self.invariant.0 in (
+      record {
+        live = i.live;
+        frames = i.frames;
+        calls = i.calls;
+        pending = i.pending;
+        referred =
+            subst (RefersToLive s.store) (sym c.in_ok-reference.ensures.made)
+            (AllValues-with_reference (IsLive s.store) c.in_ok-reference.reference.0 c.value_of-value.result.0 c.args.count (map_of s.references) c.value_of-value.ensures.live i.referred);
+      },
+      c.self.invariant.1,
+    )
 
 pub returns-clause-ok : goal.returns-clause-ok
 returns-clause-ok c =

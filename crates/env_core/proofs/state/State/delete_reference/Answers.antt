@@ -13,18 +13,20 @@ use Rattle.env_core.proofs.state.State.delete_reference.Goals as goal
 pub invariant_of-self : goal.invariant_of-self
 invariant_of-self c =
     let s = c.self.inside in
-    let i = c.self.invariant in
-    let P : ReferenceMap → Type 0 = λ m. RefersToLive s.store m in
-    record {
-      live = i.live;
-      frames = i.frames;
-      calls = i.calls;
-      pending = i.pending;
-      referred = elim c.match-delete.branch [
-        | in-Ok w ↦ subst P (sym w.in-Ok.ensures.deleted) (AllValues-without_reference (IsLive s.store) c.args.reference.0 (map_of s.references) i.referred)
-        | in-Err w ↦ subst P (sym (ap map_of w.in-Err.ensures.err)) i.referred
-      ];
-    }
+    let i = c.self.invariant.0 in
+    let P : ReferenceMap → Type 0 = λ m. RefersToLive s.store m in (
+      record {
+        live = i.live;
+        frames = i.frames;
+        calls = i.calls;
+        pending = i.pending;
+        referred = elim c.match-delete.branch [
+          | in-Ok w ↦ subst P (sym w.in-Ok.ensures.deleted) (AllValues-without_reference (IsLive s.store) c.args.reference.0 (map_of s.references) i.referred)
+          | in-Err w ↦ subst P (sym (ap map_of w.in-Err.ensures.err)) i.referred
+        ];
+      },
+      c.self.invariant.1,
+    )
 
 pub returns : goal.returns
 returns c =

@@ -2,6 +2,7 @@ use Rattle.std.proofs.Common.{None}
 use Rattle.napi_reference.specs.Places.{map_of}
 use Rattle.env_core.specs.contracts.state.State.{the_view}
 use Rattle.env_values.proofs.Giving.{thrown-heap}
+use Rattle.env_core.proofs.Attaching.{attachments-kept}
 use Rattle.env_core.proofs.Exceptions.{limit-thrown}
 use Rattle.env_core.proofs.ValueAnswers.{references-kept}
 use Rattle.env_core.proofs.state.State.exceed_depth.Goals as goal
@@ -12,6 +13,10 @@ returns-clause-after c =
     let t = c.thrown_value.new.store in
     let k = c.in_ok-error.ensures in
     rw (← c.self.view_is)
-    (rw (c.set.ensures, references-kept s.store t (map_of s.references) k.kept c.self.invariant.referred)
+    (rw (
+      c.set.ensures,
+      references-kept s.store t (map_of s.references) k.kept c.self.invariant.0.referred,
+      attachments-kept s.store t k.kept s.wraps.attachments s.book.book c.self.invariant.1,
+    )
     (limit-thrown (the_view s) s.store t s.scopes None (record { 0 = 2 }) c.in_ok-error.error.0
-    (thrown-heap s.store t s.scopes None (record { 0 = 2 }) k.kept.numbers c.self.invariant.live k.made k.graph) k.number))
+    (thrown-heap s.store t s.scopes None (record { 0 = 2 }) k.kept.numbers c.self.invariant.0.live k.made k.graph) k.number))

@@ -13,9 +13,11 @@ use Rattle.env_core.proofs.state.State.get_reference_value.Goals as goal
 pub invariant_of-self-in-Ok-Some : goal.invariant_of-self-in-Ok-Some
 invariant_of-self-in-Ok-Some c =
     let s = c.self.inside in
-    let v = c.in-Ok-Some.value.0 in
-    state-issued s.store s.scopes c.issue.new.self s.frames s.exceptions.pending v c.self.invariant
-    (value-live s.store (map_of s.references) c.args.reference.0 v (sym (ap (option_map (λ (x : ValueId). x.0)) c.in-Ok-Some.field-0-is) ∙ c.in-Ok-Some.ensures.value) c.self.invariant.referred) c.in_ok-handle-in-Ok-Some.ensures.ok
+    let v = c.in-Ok-Some.value.0 in (
+      state-issued s.store s.scopes c.issue.new.self s.frames s.exceptions.pending v c.self.invariant.0
+          (value-live s.store (map_of s.references) c.args.reference.0 v (sym (ap (option_map (λ (x : ValueId). x.0)) c.in-Ok-Some.field-0-is) ∙ c.in-Ok-Some.ensures.value) c.self.invariant.0.referred) c.in_ok-handle-in-Ok-Some.ensures.ok,
+      c.self.invariant.1,
+    )
 
 pub returns-in_ok-handle-in-Ok-Some-clause-ok : goal.returns-in_ok-handle-in-Ok-Some-clause-ok
 returns-in_ok-handle-in-Ok-Some-clause-ok c =
@@ -25,7 +27,7 @@ returns-in_ok-handle-in-Ok-Some-clause-ok c =
     rw (← c.self.view_is)
     (rw c.plain.ensures
     (told-answers (the_view s) s.store (map_of s.references) s.scopes c.issue.new.self c.args.reference h.handle v refl c.in-Ok-Some.ensures.refusal (sym (ap (option_map (λ (x : ValueId). x.0)) c.in-Ok-Some.field-0-is) ∙ c.in-Ok-Some.ensures.value) h.ensures.handle
-    (given-heap s.store s.store s.scopes c.issue.new.self v (number_in s.store v) (λ n live. refl) c.self.invariant.live refl h.ensures.ok)))
+    (given-heap s.store s.store s.scopes c.issue.new.self v (number_in s.store v) (λ n live. refl) c.self.invariant.0.live refl h.ensures.ok)))
 
 pub returns-in-Ok-None-clause-ok : goal.returns-in-Ok-None-clause-ok
 returns-in-Ok-None-clause-ok c =

@@ -7,14 +7,16 @@ use Rattle.env_core.proofs.state.State.reference_ref.Goals as goal
 pub invariant_of-self : goal.invariant_of-self
 invariant_of-self c =
     let s = c.self.inside in
-    let i = c.self.invariant in
-    record {
-      live = i.live;
-      frames = i.frames;
-      calls = i.calls;
-      pending = i.pending;
-      referred = raised-told-live s.store (map_of s.references) (map_of c.add.new.self) c.args.reference.0 c.add.result i.referred c.add.ensures.counted (λ none. ap map_of (c.add.ensures.gone_stays none)) (err-mapped c.add.result s.references c.add.new.self c.add.ensures.err);
-    }
+    let i = c.self.invariant.0 in (
+      record {
+        live = i.live;
+        frames = i.frames;
+        calls = i.calls;
+        pending = i.pending;
+        referred = raised-told-live s.store (map_of s.references) (map_of c.add.new.self) c.args.reference.0 c.add.result i.referred c.add.ensures.counted (λ none. ap map_of (c.add.ensures.gone_stays none)) (err-mapped c.add.result s.references c.add.new.self c.add.ensures.err);
+      },
+      c.self.invariant.1,
+    )
 
 pub returns : goal.returns
 returns c =

@@ -6,14 +6,16 @@ use Rattle.env_core.proofs.state.State.reference_unref.Goals as goal
 pub invariant_of-self : goal.invariant_of-self
 invariant_of-self c =
     let s = c.self.inside in
-    let i = c.self.invariant in
-    record {
-      live = i.live;
-      frames = i.frames;
-      calls = i.calls;
-      pending = i.pending;
-      referred = lowered-told-live s.store (map_of s.references) (map_of c.take.new.self) c.args.reference.0 c.take.result i.referred c.take.ensures.counted (err-mapped c.take.result s.references c.take.new.self c.take.ensures.err);
-    }
+    let i = c.self.invariant.0 in (
+      record {
+        live = i.live;
+        frames = i.frames;
+        calls = i.calls;
+        pending = i.pending;
+        referred = lowered-told-live s.store (map_of s.references) (map_of c.take.new.self) c.args.reference.0 c.take.result i.referred c.take.ensures.counted (err-mapped c.take.result s.references c.take.new.self c.take.ensures.err);
+      },
+      c.self.invariant.1,
+    )
 
 pub returns : goal.returns
 returns c =

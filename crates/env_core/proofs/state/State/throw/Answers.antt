@@ -11,13 +11,16 @@ returns-in_default c =
 pub invariant_of-self : goal.invariant_of-self
 invariant_of-self c =
     let s = c.self.inside in
-    rw c.set.ensures (record {
-      live = c.self.invariant.live;
-      frames = c.self.invariant.frames;
-      calls = c.self.invariant.calls;
-      pending = given-live s.store s.scopes c.args.handle.0 c.in-Some.value.0 c.self.invariant.live c.in-Some.ensures;
-      referred = c.self.invariant.referred;
-    })
+    rw c.set.ensures (
+      record {
+        live = c.self.invariant.0.live;
+        frames = c.self.invariant.0.frames;
+        calls = c.self.invariant.0.calls;
+        pending = given-live s.store s.scopes c.args.handle.0 c.in-Some.value.0 c.self.invariant.0.live c.in-Some.ensures;
+        referred = c.self.invariant.0.referred;
+      },
+      c.self.invariant.1,
+    )
 
 pub returns : goal.returns
 returns c =

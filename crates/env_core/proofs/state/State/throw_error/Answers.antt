@@ -6,6 +6,7 @@ use Rattle.napi_reference.specs.Places.{map_of}
 use Rattle.env_core.specs.contracts.state.State.{the_view}
 use Rattle.env_values.specs.Seen.{heap_of}
 use Rattle.env_values.proofs.Giving.{thrown-heap}
+use Rattle.env_core.proofs.Attaching.{attachments-kept}
 use Rattle.env_core.proofs.Exceptions.{accepted-thrown}
 use Rattle.env_core.proofs.Unrefused.{on-err, thrown-unrefused}
 use Rattle.env_core.proofs.ValueAnswers.{references-kept}
@@ -19,9 +20,14 @@ returns-clause-ok c =
     let P : Environment → Type 0 = λ e. true ≡ is_known e.texts e.heap (call_of.ThrowError c.args.code c.args.message) in
     let known : is_known s.texts (heap_of s.store s.scopes) (call_of.ThrowError c.args.code c.args.message) ≡ true = sym (subst P (sym c.self.view_is) c.if-not-knows.ensures) in
     rw (← c.self.view_is)
-    (rw (c.plain-2.ensures, c.set.ensures, references-kept s.store t (map_of s.references) k.kept c.self.invariant.referred)
+    (rw (
+      c.plain-2.ensures,
+      c.set.ensures,
+      references-kept s.store t (map_of s.references) k.kept c.self.invariant.0.referred,
+      attachments-kept s.store t k.kept s.wraps.attachments s.book.book c.self.invariant.1,
+    )
     (accepted-thrown (the_view s) s.store t s.scopes c.args.code c.args.message c.in_ok-error.error.0 known
-    (thrown-heap s.store t s.scopes c.args.code c.args.message k.kept.numbers c.self.invariant.live k.made k.graph) k.number))
+    (thrown-heap s.store t s.scopes c.args.code c.args.message k.kept.numbers c.self.invariant.0.live k.made k.graph) k.number))
 
 pub returns-in_err-error-clause-unrefused : goal.returns-in_err-error-clause-unrefused
 returns-in_err-error-clause-unrefused c = on-err _ (thrown-unrefused c.args.self.now c.args.code c.args.message c.if-not-knows.ensures)

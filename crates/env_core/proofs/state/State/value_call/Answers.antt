@@ -2,6 +2,7 @@ use Rattle.std.proofs.Common.{◌∙◌}
 use Rattle.napi_reference.specs.Places.{map_of}
 use Rattle.env_core.specs.contracts.state.State.{the_view}
 use Rattle.env_values.specs.Seen.{heap_of}
+use Rattle.env_core.proofs.Attaching.{attached-kept, attachments-kept}
 use Rattle.env_core.proofs.ValueAnswers.{value-answers, value-frames, pending-live, pending-kept, referred-live, references-kept, stopped-same}
 use Rattle.env_core.proofs.Unrefused.{value-unrefused}
 use Rattle.env_core.proofs.state.State.value_call.Goals as goal
@@ -9,21 +10,27 @@ use Rattle.env_core.proofs.state.State.value_call.Goals as goal
 pub invariant_of-self : goal.invariant_of-self
 invariant_of-self c =
     let s = c.self.inside in
-    let k = c.value_step in
-    record {
-      live = k.ensures.live;
-      frames = value-frames s.texts c.caller-addon.result c.args.call.now s.store k.new.store s.scopes k.new.scopes k.result k.ensures.after k.ensures.err ∙ c.self.invariant.frames;
-      calls = k.ensures.calls ∙ c.self.invariant.calls;
-      pending = pending-live s.store k.new.store s.exceptions.pending k.ensures.kept c.self.invariant.pending;
-      referred = referred-live s.store k.new.store (map_of s.references) k.ensures.kept c.self.invariant.referred;
-    }
+    let k = c.value_step in (
+      record {
+        live = k.ensures.live;
+        frames = value-frames s.texts c.caller-addon.result c.args.call.now s.store k.new.store s.scopes k.new.scopes k.result k.ensures.after k.ensures.err ∙ c.self.invariant.0.frames;
+        calls = k.ensures.calls ∙ c.self.invariant.0.calls;
+        pending = pending-live s.store k.new.store s.exceptions.pending k.ensures.kept c.self.invariant.0.pending;
+        referred = referred-live s.store k.new.store (map_of s.references) k.ensures.kept c.self.invariant.0.referred;
+      },
+      attached-kept s.store k.new.store k.ensures.kept s.wraps.attachments s.book.book c.self.invariant.1,
+    )
 
 pub returns-clause-ok : goal.returns-clause-ok
 returns-clause-ok c =
     let s = c.self.inside in
     let k = c.value_step in
     rw (← c.self.view_is)
-    (rw (pending-kept s.store k.new.store s.exceptions.pending k.ensures.kept c.self.invariant.pending, references-kept s.store k.new.store (map_of s.references) k.ensures.kept c.self.invariant.referred)
+    (rw (
+      pending-kept s.store k.new.store s.exceptions.pending k.ensures.kept c.self.invariant.0.pending,
+      references-kept s.store k.new.store (map_of s.references) k.ensures.kept c.self.invariant.0.referred,
+      attachments-kept s.store k.new.store k.ensures.kept s.wraps.attachments s.book.book c.self.invariant.1,
+    )
     (value-answers (the_view s) c.caller-addon.result c.args.call.now (heap_of k.new.store k.new.scopes) k.result c.requires.value_call (rw (← c.self.view_is) at c.caller-addon.ensures) k.ensures.reply k.ensures.after))
 
 pub returns-clause-err : goal.returns-clause-err
@@ -31,7 +38,7 @@ returns-clause-err c =
     let s = c.self.inside in
     let k = c.value_step in
     rw (← c.self.view_is)
-    (stopped-same (the_view s) s.store k.new.store s.scopes k.new.scopes (map_of s.references) s.exceptions.pending k.result k.ensures.kept c.self.invariant.referred c.self.invariant.pending k.ensures.err)
+    (stopped-same (the_view s) s.store k.new.store s.scopes k.new.scopes (map_of s.references) s.wraps.attachments s.book.book s.exceptions.pending k.result k.ensures.kept c.self.invariant.0.referred c.self.invariant.1 c.self.invariant.0.pending k.ensures.err)
 
 pub returns-clause-unrefused : goal.returns-clause-unrefused
 returns-clause-unrefused c = rw (← c.self.view_is) (value-unrefused (the_view c.self.inside) c.args.call.now c.value_step.result c.requires.value_call c.value_step.ensures.unrefused)

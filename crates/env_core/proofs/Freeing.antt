@@ -1,0 +1,162 @@
+-- What is attached to values, as some of them are freed.
+use Rattle.std.proofs.Common.{◌≡◌, ◌∙◌, ℕ, ◌≤◌, ◌==◌, ◌&&◌, ◌||◌, Bool, true, false, not, cond, List, [], ◌∷◌, ◌++◌, length, map, filter, get_or, Option, Some, None, IfSome, refl, ap, sym, subst}
+use Rattle.std.specs.List.{All, list_any, filter_map, cons_option}
+use Rattle.std.proofs.lemmas.List.Elements.{All-head, All-tail, All-cons, All-nil, All-append, All-filter, All-map}
+use Rattle.std.proofs.lemmas.List.Folds.{list_any-append}
+use Rattle.napi_types.specs.Attachments.{Wrapped, Tagged, Attached, Attachments, left_on, tickets_where, hangs_on}
+use Rattle.napi_types.specs.Book.{Book, due_where}
+use Rattle.napi_types.specs.Collection.{is_freed}
+use Rattle.napi_types.specs.Graph.{StoreState, IsSoundStore, IsLive, number_in}
+use Rattle.napi_types.specs.Lists.{has_number}
+use Rattle.finalizer_queue.proofs.Moves.{length-due_where}
+use Rattle.napi_types.proofs.Found.{passing, map-rising, as_map-kept}
+use Rattle.wrap_tag.specs.Wraps.{AreGiven}
+use Rattle.wrap_tag.proofs.Dues.{due_where-same}
+use Rattle.env_core.specs.Attaching.{seen_wrap, seen_tag, seen_attached, attachments_seen, IsGiven, IsAttached}
+use Rattle.env_core.proofs.Attaching.{number-apart}
+use Rattle.env_core.proofs.Collecting.{FreesOthers, stays-live, stays-number}
+use Rattle.env_core.proofs.Renaming.{listed-filter, seen-filter, list_any-seen}
+
+-- TESTS ON LISTS
+any-same : {A : Type 0} (p q : A → Bool) (xs : List A) → All (λ x. p x ≡ q x) xs → list_any p xs ≡ list_any q xs
+any-same p q [] same = refl
+any-same p q (x ∷ xs) same = ap (λ b. b || list_any p xs) (All-head (λ y. p y ≡ q y) x xs same) ∙ ap (λ b. q x || b) (any-same p q xs (All-tail (λ y. p y ≡ q y) x xs same))
+
+any-map : {A B : Type 0} (p : B → Bool) (f : A → B) (xs : List A) → list_any p (map f xs) ≡ list_any (λ x. p (f x)) xs
+any-map p f [] = refl
+any-map p f (x ∷ xs) = ap (λ b. p (f x) || b) (any-map p f xs)
+
+-- a test of what is there
+abbrev holds_of : (ℕ → Bool) → Option ℕ → Bool
+holds_of p None = false
+holds_of p (Some n) = p n
+
+any-filter_map : {A : Type 0} (p : ℕ → Bool) (g : A → Option ℕ) (xs : List A) → list_any p (filter_map g xs) ≡ list_any (λ x. holds_of p (g x)) xs
+any-filter_map p g [] = refl
+any-filter_map p g (x ∷ xs) = by (g x) (any-filter_map p g xs)
+  where
+    by : (o : Option ℕ) → list_any p (filter_map g xs) ≡ list_any (λ y. holds_of p (g y)) xs
+        → list_any p (cons_option o (filter_map g xs)) ≡ (holds_of p o || list_any (λ y. holds_of p (g y)) xs)
+    by None rest = rest
+    by (Some n) rest = ap (λ b. p n || b) rest
+
+any-filter : {A : Type 0} (p : ℕ → Bool) (f : A → ℕ) (q : A → Bool) (xs : List A) → list_any p (map f (filter q xs)) ≡ list_any (λ x. q x && p (f x)) xs
+any-filter p f q [] = refl
+any-filter p f q (x ∷ xs) = by (q x) (any-filter p f q xs)
+  where
+    by : (b : Bool) → list_any p (map f (filter q xs)) ≡ list_any (λ y. q y && p (f y)) xs
+        → list_any p (map f (cond b (x ∷ filter q xs) (filter q xs))) ≡ ((b && p (f x)) || list_any (λ y. q y && p (f y)) xs)
+    by true rest = ap (λ b. p (f x) || b) rest
+    by false rest = rest
+
+-- WHAT IS FREED
+module _ (s t : StoreState) (ids freed alive : List ℕ) (c : FreesOthers s t ids freed alive) (sound : IsSoundStore s) (a : Attachments) (book : Book) (i : IsAttached s a book) where
+  not-freed : (id : ℕ) → not (has_number id freed) ≡ true → has_number id freed ≡ false
+  not-freed id is = by (has_number id freed) is
+    where
+      by : (b : Bool) → not b ≡ true → b ≡ false
+      by true e = cc
+      by false e = refl
+
+  told : (id : ℕ) → IsLive s id → not (is_freed alive (number_in s id)) ≡ not (has_number id freed)
+  told id live = ap not (sym (c.told id live))
+
+  -- of the values that are attached to, those that stay are seen as they were
+  kept : {A : Type 0} (value : A → ℕ) (see new : A → A) (xs : List A) → ((x : A) → number_in t (value x) ≡ number_in s (value x) → new x ≡ see x) → All (λ x. not (has_number (value x) freed) ≡ true → new x ≡ see x) xs
+  kept value see new xs same = λ k x inside stays. same (get_or xs k x) (stays-number s t ids freed alive c (value (get_or xs k x)) (not-freed (value (get_or xs k x)) stays))
+
+  tests : {A : Type 0} (value : A → ℕ) (xs : List A) → All (λ x. IsLive s (value x)) xs → All (λ x. not (is_freed alive (number_in s (value x))) ≡ not (has_number (value x) freed)) xs
+  tests value xs live = λ k x inside. told (value (get_or xs k x)) (live k x inside)
+
+  pub seen-left : attachments_seen t (left_on (λ v. has_number v freed) a) ≡ left_on (is_freed alive) (attachments_seen s a)
+  seen-left =
+      let stays : ℕ → Bool = λ v. not (has_number v freed) in
+      let lives : ℕ → Bool = λ n. not (is_freed alive n) in
+      let apart = number-apart s sound in
+      let wraps = seen-filter (λ (w : Wrapped). w.value) (number_in s) (seen_wrap s) (λ w. refl) (IsLive s) apart (seen_wrap t) stays lives a.wraps (tests (λ (w : Wrapped). w.value) a.wraps i.wraps)
+      (kept (λ (w : Wrapped). w.value) (seen_wrap s) (seen_wrap t) a.wraps (λ w same. ap (λ n. record w { value = n }) same)) in
+      let tags = seen-filter (λ (w : Tagged). w.value) (number_in s) (seen_tag s) (λ w. refl) (IsLive s) apart (seen_tag t) stays lives a.tags (tests (λ (w : Tagged). w.value) a.tags i.tags)
+      (kept (λ (w : Tagged). w.value) (seen_tag s) (seen_tag t) a.tags (λ w same. ap (λ n. record w { value = n }) same)) in
+      let tickets = listed-filter (λ (w : Attached). w.value) (number_in s) (seen_attached s) (λ w. refl) (IsLive s) apart (seen_attached t) stays lives a.tickets
+      (tests (λ (w : Attached). w.value) a.tickets i.tickets) (kept (λ (w : Attached). w.value) (seen_attached s) (seen_attached t) a.tickets (λ w same. ap (λ n. record w { value = n }) same)) in
+      let here : Attachments = attachments_seen t (left_on (λ v. has_number v freed) a) in
+      let there : Attachments = left_on (is_freed alive) (attachments_seen s a) in
+      ap (λ l. record { wraps = l; tags = here.tags; tickets = here.tickets }) wraps
+      ∙ ap (λ l. record { wraps = there.wraps; tags = l; tickets = here.tickets }) tags
+      ∙ ap (λ l. record { wraps = there.wraps; tags = there.tags; tickets = l }) tickets
+
+  -- THE TICKETS THAT FALL DUE
+  abbrev hit : ℕ → ℕ → Bool
+  hit n m = m == n
+
+  freed-same : (id n : ℕ) (o : Option ℕ) → IsLive s id → holds_of (hit n) (cond (has_number id freed) o None) ≡ holds_of (hit n) (cond (is_freed alive (number_in s id)) o None)
+  freed-same id n o live = ap (λ b. holds_of (hit n) (cond b o None)) (c.told id live)
+
+  hangs-same : (n : ℕ) → hangs_on (λ v. has_number v freed) a n ≡ hangs_on (is_freed alive) (attachments_seen s a) n
+  hangs-same n =
+      let mine : Wrapped → Bool = λ w. holds_of (hit n) (cond (has_number w.value freed) w.ticket None) in
+      let seen : Wrapped → Bool = λ w. holds_of (hit n) (cond (is_freed alive w.value) w.ticket None) in
+      let wraps : list_any (hit n) (filter_map (λ w. cond (has_number w.value freed) w.ticket None) a.wraps)
+      ≡ list_any (hit n) (filter_map (λ w. cond (is_freed alive w.value) w.ticket None) (attachments_seen s a).wraps) =
+      any-filter_map (hit n) (λ (w : Wrapped). cond (has_number w.value freed) w.ticket None) a.wraps
+      ∙ any-same mine (λ w. seen (seen_wrap s w)) a.wraps (λ k w inside. freed-same (get_or a.wraps k w).value n (get_or a.wraps k w).ticket (i.wraps k w inside))
+      ∙ sym (any-map seen (seen_wrap s) a.wraps)
+      ∙ sym (list_any-seen (λ (w : Wrapped). w.value) (number_in s) (seen_wrap s) (λ w. refl) (IsLive s) (number-apart s sound) seen a.wraps i.wraps
+      (map-rising (λ (w : Wrapped). w.value) a.wraps i.wrapped_once))
+      ∙ sym (any-filter_map (hit n) (λ (w : Wrapped). cond (is_freed alive w.value) w.ticket None) (attachments_seen s a).wraps) in
+      let tickets : list_any (hit n) (map (λ t. t.ticket) (filter (λ t. has_number t.value freed) a.tickets))
+      ≡ list_any (hit n) (map (λ t. t.ticket) (filter (λ t. is_freed alive t.value) (attachments_seen s a).tickets)) =
+      any-filter (hit n) (λ (x : Attached). x.ticket) (λ x. has_number x.value freed) a.tickets
+      ∙ any-same (λ (x : Attached). has_number x.value freed && hit n x.ticket) (λ x. is_freed alive (number_in s x.value) && hit n x.ticket) a.tickets
+      (λ k x inside. ap (λ b. b && hit n (get_or a.tickets k x).ticket) (c.told (get_or a.tickets k x).value (i.tickets k x inside)))
+      ∙ sym (any-map (λ (x : Attached). is_freed alive x.value && hit n x.ticket) (seen_attached s) a.tickets)
+      ∙ sym (any-filter (hit n) (λ (x : Attached). x.ticket) (λ x. is_freed alive x.value) (attachments_seen s a).tickets) in
+      list_any-append (hit n) (filter_map (λ w. cond (has_number w.value freed) w.ticket None) a.wraps) (map (λ t. t.ticket) (filter (λ t. has_number t.value freed) a.tickets))
+      ∙ ap (λ b. b || list_any (hit n) (map (λ t. t.ticket) (filter (λ t. has_number t.value freed) a.tickets))) wraps
+      ∙ ap (λ b. list_any (hit n) (filter_map (λ w. cond (is_freed alive w.value) w.ticket None) (attachments_seen s a).wraps) || b) tickets
+      ∙ sym (list_any-append (hit n) (filter_map (λ w. cond (is_freed alive w.value) w.ticket None) (attachments_seen s a).wraps)
+      (map (λ t. t.ticket) (filter (λ t. is_freed alive t.value) (attachments_seen s a).tickets)))
+
+  pub due-seen : due_where (hangs_on (λ v. has_number v freed) a) book ≡ due_where (hangs_on (is_freed alive) (attachments_seen s a)) book
+  due-seen = due_where-same (hangs_on (λ v. has_number v freed) a) (hangs_on (is_freed alive) (attachments_seen s a)) book hangs-same
+
+  -- the book gave each of them
+  given-some : (o : Option ℕ) (b : Bool) (ns : List ℕ) → IfSome o (IsGiven book) → All (IsGiven book) ns → All (IsGiven book) (cons_option (cond b o None) ns)
+  given-some None true ns here rest = rest
+  given-some None false ns here rest = rest
+  given-some (Some n) true ns here rest = All-cons (IsGiven book) n ns here rest
+  given-some (Some n) false ns here rest = rest
+
+  given-wraps : (ws : List Wrapped) → All (λ w. IfSome w.ticket (IsGiven book)) ws → All (IsGiven book) (filter_map (λ w. cond (has_number w.value freed) w.ticket None) ws)
+  given-wraps [] all = All-nil (IsGiven book)
+  given-wraps (w ∷ ws) all =
+      given-some w.ticket (has_number w.value freed) (filter_map (λ w. cond (has_number w.value freed) w.ticket None) ws) (All-head (λ (x : Wrapped). IfSome x.ticket (IsGiven book)) w ws all)
+      (given-wraps ws (All-tail (λ (x : Wrapped). IfSome x.ticket (IsGiven book)) w ws all))
+
+  pub given-freed : AreGiven (tickets_where (λ v. has_number v freed) a) book
+  given-freed =
+      All-append (IsGiven book) (filter_map (λ w. cond (has_number w.value freed) w.ticket None) a.wraps) (map (λ t. t.ticket) (filter (λ t. has_number t.value freed) a.tickets))
+      (given-wraps a.wraps i.given_with_wraps)
+      (All-map (IsGiven book) (λ (x : Attached). x.ticket) (filter (λ t. has_number t.value freed) a.tickets) (All-filter (λ t. has_number t.value freed) (λ (x : Attached). IsGiven book x.ticket) a.tickets i.given))
+
+  -- WHAT IS LEFT
+  live-left : {A : Type 0} (value : A → ℕ) (xs : List A) → All (λ x. IsLive s (value x)) xs → All (λ x. IsLive t (value x)) (filter (λ x. not (has_number (value x) freed)) xs)
+  live-left {A = A} value xs live =
+      let stays : A → Bool = λ x. not (has_number (value x) freed) in
+      λ k x inside. stays-live s t ids freed alive c (value (get_or (filter stays xs) k x)) (not-freed (value (get_or (filter stays xs) k x)) (passing value stays xs k x inside))
+      (All-filter stays (λ y. IsLive s (value y)) xs live k x inside)
+
+  pub attached-left : IsAttached t (left_on (λ v. has_number v freed) a) (due_where (hangs_on (λ v. has_number v freed) a) book)
+  attached-left =
+      let same = length-due_where (hangs_on (λ v. has_number v freed) a) book in
+      record {
+        wraps = live-left (λ (w : Wrapped). w.value) a.wraps i.wraps;
+        tags = live-left (λ (w : Tagged). w.value) a.tags i.tags;
+        tickets = live-left (λ (w : Attached). w.value) a.tickets i.tickets;
+        wrapped_once = as_map-kept (λ (w : Wrapped). w.value) (λ w. not (has_number w.value freed)) a.wraps i.wrapped_once;
+        tagged_once = as_map-kept (λ (w : Tagged). w.value) (λ w. not (has_number w.value freed)) a.tags i.tagged_once;
+        given_with_wraps = All-filter (λ w. not (has_number w.value freed)) (λ (w : Wrapped). IfSome w.ticket (λ n. (1 ≤ n) × (n ≤ length (due_where (hangs_on (λ v. has_number v freed) a) book)))) a.wraps
+            (subst (λ l. All (λ (w : Wrapped). IfSome w.ticket (λ n. (1 ≤ n) × (n ≤ l))) a.wraps) (sym same) i.given_with_wraps);
+        given = All-filter (λ w. not (has_number w.value freed)) (λ (w : Attached). (1 ≤ w.ticket) × (w.ticket ≤ length (due_where (hangs_on (λ v. has_number v freed) a) book))) a.tickets
+            (subst (λ l. All (λ (w : Attached). (1 ≤ w.ticket) × (w.ticket ≤ l)) a.tickets) (sym same) i.given);
+      }

@@ -1,0 +1,62 @@
+-- What is attached to values, as the machine sees it.
+use Rattle.std.specs.Prelude.{◌≡◌, ℕ, ◌≤◌, Bool, List, length, map, Option, is_some, IfSome}
+use Rattle.std.specs.List.{All}
+use Rattle.std.specs.Option.{option_or}
+use Rattle.napi_types.specs.declared.body.Body.{Body}
+use Rattle.napi_types.specs.declared.ids.HandleId.{HandleId}
+use Rattle.napi_types.specs.declared.status.Status.{Status}
+use Rattle.napi_types.specs.declared.status.Status.TheVariants as status
+use Rattle.napi_types.specs.Attachments.{Attachments, Wrapped, Tagged, Attached}
+use Rattle.napi_types.specs.Bodies.{is_object_like, is_taggable}
+use Rattle.napi_types.specs.Book.{Book}
+use Rattle.napi_types.specs.ExpectedKinds.{expects}
+use Rattle.napi_types.specs.Graph.{StoreState, IsLive, number_in}
+use Rattle.napi_types.specs.Heap.{Heap}
+use Rattle.napi_types.specs.Lists.{as_map, unless}
+use Rattle.napi_types.specs.Scopes.{gives}
+use Rattle.env_core.specs.declared.handles.Takes.{Takes}
+use Rattle.env_core.specs.declared.handles.Takes.TheVariants as takes
+
+-- WHAT THE MACHINE SEES
+-- a wrap, a tag and a finalizer have the creation number of their value, where the crate below has the store's number
+abbrev pub seen_wrap : StoreState → Wrapped → Wrapped
+seen_wrap store w = record w { value = number_in store w.value }
+
+abbrev pub seen_tag : StoreState → Tagged → Tagged
+seen_tag store t = record t { value = number_in store t.value }
+
+abbrev pub seen_attached : StoreState → Attached → Attached
+seen_attached store t = record t { value = number_in store t.value }
+
+-- all that is attached to values
+abbrev pub attachments_seen : StoreState → Attachments → Attachments
+attachments_seen store a = record {
+  wraps = as_map (λ w. w.value) (map (seen_wrap store) a.wraps);
+  tags = as_map (λ t. t.value) (map (seen_tag store) a.tags);
+  tickets = map (seen_attached store) a.tickets;
+}
+
+-- WHAT HOLDS OF IT
+-- the book gave the ticket
+abbrev pub IsGiven : Book → ℕ → Type 0
+IsGiven book ticket = (1 ≤ ticket) × (ticket ≤ length book)
+
+-- what is attached is attached to live values, a value has one wrap and one tag at most, and the book gave each ticket
+pub record IsAttached (store : StoreState) (a : Attachments) (book : Book) : Type 0 where
+  pub wraps : All (λ w. IsLive store w.value) a.wraps
+  pub tags : All (λ t. IsLive store t.value) a.tags
+  pub tickets : All (λ t. IsLive store t.value) a.tickets
+  pub wrapped_once : as_map (λ w. w.value) a.wraps ≡ a.wraps
+  pub tagged_once : as_map (λ t. t.value) a.tags ≡ a.tags
+  pub given_with_wraps : All (λ w. IfSome w.ticket (IsGiven book)) a.wraps
+  pub given : All (λ t. IsGiven book t.ticket) a.tickets
+
+-- WHAT A CALL TAKES
+-- what a wrap may be of, and what a type tag may be on
+abbrev pub is_accepted : Takes → Body → Bool
+is_accepted takes.Objects b = is_object_like b
+is_accepted takes.ObjectsAndExternals b = is_taggable b
+
+-- why a handle's value is not taken: no open scope holds the handle, or else the value is of another kind
+abbrev pub target_refusal : Takes → Heap → HandleId → Option Status
+target_refusal kinds heap h = option_or (unless (is_some (gives heap.scopes h.0)) status.InvalidArg) (expects heap h (is_accepted kinds) status.ObjectExpected)
