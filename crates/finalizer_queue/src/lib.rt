@@ -9,6 +9,3 @@ mod rows;
 
 pub use book::Book;
 pub use rows::NewDuty;
-
-#[cfg(test)]
-mod tests;

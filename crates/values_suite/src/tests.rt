@@ -7,10 +7,12 @@ use napi_types::{Body, NoMemory, TextNo, ValueId};
 use std::process::Abort;
 use value_store::Store;
 
+mod attachments;
 mod collections;
 mod exceptions;
 mod references;
 mod scopes;
+mod tickets;
 mod values;
 
 const PLAIN: Body = Body::Object {

@@ -1,21 +1,21 @@
 -- What a change of one row changes of the maps that the rows stand for.
-use Rattle.std.proofs.Common.{◌≡◌, ◌∙◌, ℕ, ◌==◌, nat_eq, ◌||◌, ◌&&◌, Bool, true, false, not, cond, List, [], ◌∷◌, ◌++◌, map, filter, Option, Some, None, option_map, is_some, refl, ap, sym, subst, arith}
-use Rattle.std.specs.List.{IsDistinct, filter_map, list_any}
+use Rattle.std.proofs.Common.{◌≡◌, ◌∙◌, ℕ, ◌==◌, nat_eq, ◌||◌, ◌&&◌, Bool, true, false, cond, List, [], ◌∷◌, Option, Some, None, option_map, is_some, refl, ap, sym, arith}
+use Rattle.std.specs.List.{IsDistinct}
 use Rattle.std.specs.Map.{keys_of}
-use Rattle.std.specs.Option.{option_and_then, option_to_list, unwrap_or}
+use Rattle.std.specs.Option.{option_and_then, unwrap_or}
 use Rattle.std.proofs.lemmas.Bool.Decides.{nat_tests}
 use Rattle.napi_types.specs.Lists.{found, has, has_number}
 use Rattle.napi_types.specs.Attachments.{Attachments, Wrapped, Tagged, Attached, no_attachments, wrap_of, tag_of, with_wrap, without_wrap, with_tag, with_attached, left_on}
 use Rattle.napi_types.specs.declared.ids.Ticket.{Ticket}
-use Rattle.napi_types.proofs.Found.{has-found, same-self, same-tells}
+use Rattle.napi_types.proofs.Found.{has-found, same-tells}
 use Rattle.wrap_tag.specs.declared.row.Row.{Row}
 use Rattle.wrap_tag.specs.declared.row.Wrap.{Wrap}
 use Rattle.wrap_tag.specs.declared.row.Tag.{Tag}
 use Rattle.wrap_tag.specs.declared.row.Chain.{Chain}
 use Rattle.wrap_tag.specs.Rows.{tickets_of_chain, tickets_beside, blank_row, unwrapped_row, wrapped_as, tagged_as, wrap_in, tag_in, row_of, is_attached, attachments_of, AreRows, PutsRow}
 use Rattle.wrap_tag.specs.Wraps.{WrapState}
-use Rattle.wrap_tag.proofs.ByValue.{listed, IsByValue, same-from, equal-tests, found-mapped, mapped-with, mapped-same, mapped-without}
-use Rattle.wrap_tag.proofs.ByTicket.{ticket, attached, absent-attached, attached-same, attached-with, attached-without}
+use Rattle.wrap_tag.proofs.ByValue.{IsByValue, same-from, equal-tests, found-mapped, mapped-with, mapped-same, mapped-without}
+use Rattle.wrap_tag.proofs.ByTicket.{ticket, absent-attached, attached-same, attached-with, attached-without}
 
 -- THE MAPS
 

@@ -1,5 +1,5 @@
 -- How the rows of values stand for what is attached to them.
-use Rattle.std.specs.Prelude.{◌≡◌, ℕ, nat_eq, Bool, true, cond, List, [], ◌∷◌, ◌++◌, map, filter_map, Option, Some, None, option_map}
+use Rattle.std.specs.Prelude.{◌≡◌, ℕ, nat_eq, Bool, true, cond, List, [], ◌∷◌, ◌++◌, map, filter_map, Option, None, option_map}
 use Rattle.std.specs.Option.{unwrap_or, option_and_then, option_to_list}
 use Rattle.std.specs.List.{IsDistinct, flat_map}
 use Rattle.std.specs.Map.{keys_of, lookup}

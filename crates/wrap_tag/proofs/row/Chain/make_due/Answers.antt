@@ -1,5 +1,4 @@
-use Rattle.std.proofs.Common.{◌≡◌, ◌∙◌, ◌∷◌, Bool, false, ℕ, List, refl, sym, ap, arith}
-use Rattle.std.proofs.lemmas.List.Elements.{All-tail}
+use Rattle.std.proofs.Common.{◌≡◌, ◌∙◌, ◌∷◌, sym, ap, arith}
 use Rattle.napi_types.specs.Lists.{has_number}
 use Rattle.napi_types.specs.Book.{due_where}
 use Rattle.wrap_tag.specs.Rows.{tickets_of_chain}

@@ -1,4 +1,4 @@
-use Rattle.std.proofs.Common.{◌≡◌, ◌∙◌, ℕ, ◌++◌, length, option_map, sym, ap, subst, refl, Option}
+use Rattle.std.proofs.Common.{◌≡◌, ◌∙◌, ◌++◌, option_map, sym, ap, subst, Option}
 use Rattle.std.specs.Option.{option_to_list}
 use Rattle.napi_types.specs.Lists.{has_number}
 use Rattle.napi_types.specs.Book.{due_where}

@@ -1,10 +1,8 @@
-use Rattle.std.proofs.Common.{◌≡◌, ◌∙◌, ℕ, ◌==◌, Bool, true, sym, ap, subst, refl}
-use Rattle.std.specs.Option.{unwrap_or}
+use Rattle.std.proofs.Common.{◌≡◌, ◌∙◌, ℕ, ◌==◌, sym, ap, refl}
 use Rattle.napi_types.specs.Lists.{has_number}
 use Rattle.napi_types.specs.Attachments.{tickets_of, left_on}
-use Rattle.napi_types.specs.Book.{due_where}
-use Rattle.wrap_tag.specs.Rows.{attachments_of, tickets_of_row}
-use Rattle.wrap_tag.proofs.Attaching.{maps-left, are-without}
+use Rattle.wrap_tag.specs.Rows.{tickets_of_row}
+use Rattle.wrap_tag.proofs.Attaching.{maps-left}
 use Rattle.wrap_tag.proofs.Freeing.{has-tickets_of}
 use Rattle.wrap_tag.proofs.Dues.{due_where-same, given-among}
 use Rattle.wrap_tag.proofs.wraps.Wraps.gone.Goals as goal

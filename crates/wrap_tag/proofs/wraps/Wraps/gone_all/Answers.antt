@@ -1,6 +1,5 @@
-use Rattle.std.proofs.Common.{◌≡◌, ◌∙◌, ℕ, ◌+◌, length, take, get_or, sym, ap, arith, List}
+use Rattle.std.proofs.Common.{◌≡◌, ◌∙◌, ◌+◌, take, get_or, sym, ap, arith}
 use Rattle.std.proofs.lemmas.List.{take_all}
-use Rattle.napi_types.specs.declared.ids.ValueId.{ValueId}
 use Rattle.napi_types.specs.Attachments.{left_on, hangs_on}
 use Rattle.napi_types.specs.Book.{due_where}
 use Rattle.wrap_tag.specs.Wraps.{among}

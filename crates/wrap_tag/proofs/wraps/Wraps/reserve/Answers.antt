@@ -1,4 +1,4 @@
-use Rattle.std.proofs.Common.{◌≡◌, ◌∙◌, sym, ap}
+use Rattle.std.proofs.Common.{◌≡◌, ◌∙◌, ap}
 use Rattle.wrap_tag.specs.Rows.{attachments_of}
 use Rattle.wrap_tag.proofs.Attaching.{reordered-maps}
 use Rattle.wrap_tag.proofs.wraps.Wraps.reserve.Goals.{in-Some-1, in-None-1}

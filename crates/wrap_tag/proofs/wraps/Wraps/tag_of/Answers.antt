@@ -1,4 +1,4 @@
-use Rattle.std.proofs.Common.{◌≡◌, ◌∙◌, None, Some, ℕ, option_map, sym, ap}
+use Rattle.std.proofs.Common.{◌∙◌, None, Some, ℕ, option_map, sym, ap}
 use Rattle.wrap_tag.proofs.Attaching.{tag_of-part}
 use Rattle.wrap_tag.proofs.wraps.Wraps.tag_of.Goals as goal
 

@@ -1,4 +1,4 @@
-use Rattle.std.proofs.Common.{◌≡◌, ◌∙◌, None, Some, option_map, sym, ap}
+use Rattle.std.proofs.Common.{◌∙◌, None, Some, option_map, sym, ap}
 use Rattle.wrap_tag.proofs.Attaching.{wrap_of-part}
 use Rattle.wrap_tag.proofs.wraps.Wraps.wrapped.Goals as goal
 

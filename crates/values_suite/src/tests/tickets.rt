@@ -1,21 +1,12 @@
 //! What shows of a ticket in every state after every move, and each call on its happy path.
-ghost use Rattle.std.specs.Prelude.{◌≡◌, ◌+◌, ◌<◌, ◌++◌, ◌∷◌, [], length, Ok};
+ghost use Rattle.std.specs.Prelude.{◌≡◌, ◌+◌, ◌<◌, ◌++◌, ◌∷◌, [], length};
 ghost use Rattle.finalizer_queue.specs.Rows.{registration_of};
 
-use crate::{Book, NewDuty};
-use napi_types::{Cause, DueInfo, Duty, NoMemory, SeenList, Ticket};
+use super::ample;
+use finalizer_queue::{Book, NewDuty};
+use napi_types::{Cause, DueInfo, Duty, SeenList, Ticket};
 use std::alloc::Global;
 use std::process::Abort;
-
-/// What was made where there was memory.
-fn ample<T>(rt: &impl Abort, outcome: Result<T, NoMemory>) -> T
-    ensures { outcome ≡ Ok result }
-{
-    match outcome {
-        Ok(value) => value,
-        Err(NoMemory) => panic!(rt; "there is no memory"),
-    }
-}
 
 const FINALIZER: NewDuty = NewDuty {
     cause: Cause::Finalize,

@@ -3,7 +3,7 @@ use Rattle.napi_types.specs.declared.duties.DueInfo.{DueInfo}
 use Rattle.napi_types.specs.Book.{is_begun, is_at}
 use Rattle.finalizer_queue.specs.Kept.{ticket_number}
 use Rattle.finalizer_queue.proofs.Taken.{takes-begun}
-use Rattle.finalizer_queue.proofs.tests.run.Goals as goal
+use Rattle.values_suite.proofs.tests.tickets.run.Goals as goal
 
 pub done-requires : goal.done-requires
 done-requires c =
