@@ -45,6 +45,10 @@ told-uncut e (Some v) = refl
 by-uncut : (e : Environment) (c : Call) (n : ℕ) → cut_of (effect e c n).reply.out ≡ None
 by-uncut e (call.ReferenceRef r) n = raised-uncut r.0 e (referred_value e.references r.0)
 by-uncut e (call.GetReferenceValue r) n = told-uncut e (referred_value e.references r.0)
+by-uncut e (call.Wrap object payload None hint wanted) n = refl
+by-uncut e (call.Wrap object payload (Some entry) hint wanted) n = refl
+by-uncut e (call.CreateExternal payload None hint) n = refl
+by-uncut e (call.CreateExternal payload (Some entry) hint) n = refl
 by-uncut e c n = refl
 
 given-uncut : (e : Environment) (c : Call) (n : ℕ) (x : Option Status) → cut_of (answer_unless e c n x).reply.out ≡ None
