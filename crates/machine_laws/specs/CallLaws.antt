@@ -41,7 +41,8 @@ pub record RefusesArgument (e : Environment) (c : Call) : Type 0 where
 abbrev pub RefusesUnknownHandles : Type 0
 RefusesUnknownHandles = (e : Environment) (c : Call) (h : ℕ) → has_number h (handles_of c) ≡ true → gives e.heap.scopes h ≡ None → RefusesArgument e c
 
--- the same of each of these calls by itself, whatever the table says of the handles that calls name: of `typeof`, and of those that are not built
+-- the same of each of these calls by itself, whatever the table says of the handles that calls name: of `typeof`, of those on externals, wraps and type tags, and of those
+-- that are not built
 pub record RefusesUnknownByRow (e : Environment) (h : HandleId) : Type 0 where
   pub typeof : RefusesArgument e (call.Typeof h)
   pub external : RefusesArgument e (call.GetValueExternal h)

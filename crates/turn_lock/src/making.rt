@@ -14,6 +14,8 @@ use std::alloc::Global;
 
 impl<S: Told + Drop> Turn<S> {
     /// A lock over a value that tells no rows yet, and its passes, at least one, with the numbers from 0 in order.
+    ///
+    /// Where there is no memory it makes none, and the value is dropped. The time grows with the passes.
     pub fn new(alloc: Global, value: S, passes: u32) -> Result<(Turn<S>, Vec<Pass>), NoMemory>
         requires some { 1 ≤ passes }
         requires blank { S.told value ≡ [] }

@@ -19,7 +19,7 @@ pub trait Told {
     /// The rows, in the order in which they were added.
     ghost told: { Self → List Row };
 
-    /// How many rows there are.
+    /// How many rows there are. It is asked whenever the turn is given back, so it should take constant time.
     fn told_len(&self) -> u64
         ensures { result ≡ length (told self.now) };
 }
