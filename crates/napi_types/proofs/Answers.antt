@@ -1,20 +1,31 @@
 -- What every call of the environment keeps, and by how much it may grow.
-use Rattle.std.proofs.Common.{◌≡◌, ◌≤◌, ℕ, ◌+◌, nat_lt, Bool, true, false, List, [], ◌∷◌, length, refl, ap, ◌∙◌, Option, Some, None, arith}
+use Rattle.std.proofs.Common.{◌≡◌, ◌≤◌, ℕ, ◌+◌, ◌*◌, nat_lt, Bool, true, false, cond, List, [], ◌∷◌, length, refl, sym, ap, ◌∙◌, Option, Some, None, is_some, IfSome, arith}
 use Rattle.std.proofs.lemmas.List.{length-map}
 use Rattle.std.specs.Option.{option_or}
 use Rattle.napi_types.specs.declared.call.Call.{Call}
 use Rattle.napi_types.specs.declared.call.Call.TheVariants as call
+use Rattle.napi_types.specs.declared.body.Body.TheVariants as body
+use Rattle.napi_types.specs.declared.entry.Duty.{Duty}
+use Rattle.napi_types.specs.declared.entry.Out.{Out}
 use Rattle.napi_types.specs.declared.entry.Phase.{Phase}
+use Rattle.napi_types.specs.declared.entry.Reply.{Reply}
 use Rattle.napi_types.specs.declared.ids.TextNo.{TextNo}
 use Rattle.napi_types.specs.declared.status.Status.{Status}
 use Rattle.napi_types.specs.declared.status.Status.TheVariants as status
-use Rattle.napi_types.specs.Attachments.{Attachments}
+use Rattle.napi_types.specs.Attachments.{Attachments, wrap_ticket}
 use Rattle.napi_types.specs.AttachmentRefusals.{attachment_refusal}
+use Rattle.napi_types.specs.Book.{Book, is_registered, is_at, owed_tickets}
+use Rattle.napi_types.specs.ExternalCalls.{attached_if}
+use Rattle.napi_types.specs.Guards.{is_registering}
 use Rattle.napi_types.specs.Lists.{first_changed, when}
-use Rattle.napi_types.specs.Environment.{Environment}
+use Rattle.napi_types.specs.Environment.{Environment, in_heap}
+use Rattle.napi_types.specs.Registering.{finalizer_if, ticket_if, registering_if, registered_only, withdrawing}
+use Rattle.napi_types.specs.Replies.{Answer, accepts, refuses}
+use Rattle.napi_types.specs.Room.{one_if, need, reserved_journal}
+use Rattle.napi_types.specs.WrapCalls.{referring_if, wrapping, finalizing}
 use Rattle.napi_types.specs.Frames.{caller_of}
-use Rattle.napi_types.specs.Heap.{Heap, handle_properties}
-use Rattle.napi_types.specs.HeapChanges.{with_handle, with_thrown}
+use Rattle.napi_types.specs.Heap.{Heap, handle_value, handle_properties}
+use Rattle.napi_types.specs.HeapChanges.{new_value, with_handle, with_thrown}
 use Rattle.napi_types.specs.PropertyCalls.{names_of}
 use Rattle.napi_types.specs.References.{ReferenceMap, referred_value}
 use Rattle.napi_types.specs.ReferenceCalls.{value_told, counted_up}
@@ -23,11 +34,12 @@ use Rattle.napi_types.specs.Roots.{reach}
 use Rattle.napi_types.specs.NamedNumbers.{unknown_refusal}
 use Rattle.napi_types.specs.ExpectedKinds.{kind_refusal}
 use Rattle.napi_types.specs.OwnRefusals.{row_refusal}
-use Rattle.napi_types.specs.Moments.{moment_refusal}
+use Rattle.napi_types.specs.Moments.{is_tearing, guard_refusal, registering_refusal, moment_refusal}
 use Rattle.napi_types.specs.Refusals.{refusal_in, timely_refusal, early_refusal, depth_refusal}
 use Rattle.napi_types.specs.ReferenceRefusals.{reference_refusal}
 use Rattle.napi_types.specs.Calls.{heap_effect, addon_effect, heap_answer_unless, heap_answer, effect, answer_unless, answer_unless_deep, with_depth_error, answer}
 use Rattle.napi_types.specs.Changes.{call_change}
+use Rattle.napi_types.proofs.BookSteps.{BookStep, stays, adds, drops, collects, step-owed}
 use Rattle.napi_types.proofs.Maps.{length-with_record}
 
 length-changed : {A : Type 0} (f : A → A) (xs : List A) → length (first_changed f xs) ≡ length xs
@@ -140,59 +152,116 @@ course-parts old new same = record {
   phase = ap (λ (c : Course). c.phase) same;
 }
 
--- what a call keeps of the environment: all but the heap, the references, what is attached to values, the book and the pending exception. It issues one reference number at most
-pub record Keeps (old new : Environment) : Type 0 where
-  pub course : course_of new ≡ course_of old
-  pub frames : new.frames ≡ old.frames
-  pub heap : HeapKeeps old.heap new.heap
-  pub references : length new.references.issued ≤ length old.references.issued + 1
+-- what an answer keeps of the environment: all but the heap, the references, what is attached to values, the book and the pending exception. It issues one
+-- reference number at most, and changes the book in one of the ways of a call
+pub record Keeps (old : Environment) (a : Answer Environment) : Type 0 where
+  pub course : course_of a.after ≡ course_of old
+  pub frames : a.after.frames ≡ old.frames
+  pub heap : HeapKeeps old.heap a.after.heap
+  pub references : length a.after.references.issued ≤ length old.references.issued + 1
+  pub book : BookStep (caller_of old.frames) old.book a.reply.made a.reply.dropped a.after.book
 
-keeps-all : (e : Environment) → Keeps e e
-keeps-all e = record { course = refl; frames = refl; heap = same e.heap; references = omega arith }
+accepts-all : (e : Environment) (o : Out) → Keeps e (accepts o e)
+accepts-all e o = record { course = refl; frames = refl; heap = same e.heap; references = omega arith; book = stays e.book refl }
 
-keeps-heap : (e : Environment) (c : Call) (n : ℕ) → refusal_in e.texts e.heap c ≡ None → Keeps e (record e { heap = (addon_effect (caller_of e.frames) e.heap c n).after })
-keeps-heap e c n h = record { course = refl; frames = refl; heap = addon_effect-keeps e.texts (caller_of e.frames) e.heap c n h; references = omega arith }
+refuses-all : (e : Environment) (s : Status) → Keeps e (refuses s e)
+refuses-all e s = record { course = refl; frames = refl; heap = same e.heap; references = omega arith; book = stays e.book refl }
+
+-- a call that is told of the heap neither makes nor withdraws a duty
+heap-made : (addon : ℕ) (heap : Heap) (c : Call) (n : ℕ) → (addon_effect addon heap c n).reply.made ≡ None
+heap-made addon heap call.OpenHandleScope n = refl
+heap-made addon heap _ n = refl
+
+heap-dropped : (addon : ℕ) (heap : Heap) (c : Call) (n : ℕ) → (addon_effect addon heap c n).reply.dropped ≡ None
+heap-dropped addon heap call.OpenHandleScope n = refl
+heap-dropped addon heap _ n = refl
+
+stays-so : (addon : ℕ) (b : Book) (made dropped : Option Duty) → made ≡ None → dropped ≡ None → BookStep addon b made dropped b
+stays-so addon b made dropped m d = rw (m, d) (stays b refl)
+
+keeps-heap : (e : Environment) (c : Call) (n : ℕ) → refusal_in e.texts e.heap c ≡ None → Keeps e (in_heap e (addon_effect (caller_of e.frames) e.heap c n))
+keeps-heap e c n h =
+    record { course = refl; frames = refl; heap = addon_effect-keeps e.texts (caller_of e.frames) e.heap c n h; references = omega arith; book = stays-so (caller_of e.frames) e.book _ _ (heap-made (caller_of e.frames) e.heap c n) (heap-dropped (caller_of e.frames) e.heap c n) }
 
 thrown-keeps : (heap : Heap) (code : Option TextNo) (message : TextNo) → HeapKeeps heap (with_thrown code message heap)
 thrown-keeps heap None message = in-scopes-made heap _ refl (omega arith) (omega arith) (omega arith)
 thrown-keeps heap (Some code) message = in-scopes-made heap _ refl (omega arith) (omega arith) (omega arith)
 
--- the references, or the values, are others, and nothing is issued
-keeps-references : (e : Environment) (m : ReferenceMap) → length m.issued ≤ length e.references.issued + 1 → Keeps e (record e { references = m })
-keeps-references e m h = record { course = refl; frames = refl; heap = same e.heap; references = h }
+-- the references, or what is attached, are others, and nothing is issued
+keeps-references : (e : Environment) (m : ReferenceMap) (o : Out) → length m.issued ≤ length e.references.issued + 1 → Keeps e (accepts o (record e { references = m }))
+keeps-references e m o h = record { course = refl; frames = refl; heap = same e.heap; references = h; book = stays e.book refl }
 
-keeps-attachments : (e : Environment) (a : Attachments) → Keeps e (record e { attachments = a })
-keeps-attachments e a = record { course = refl; frames = refl; heap = same e.heap; references = omega arith }
+keeps-attachments : (e : Environment) (a : Attachments) (o : Out) → Keeps e (accepts o (record e { attachments = a }))
+keeps-attachments e a o = record { course = refl; frames = refl; heap = same e.heap; references = omega arith; book = stays e.book refl }
 
-counted-keeps : (r : ℕ) (e : Environment) (v : Option ℕ) → Keeps e (counted_up r e v).after
-counted-keeps r e None = keeps-all e
-counted-keeps r e (Some v) = keeps-references e _ (omega arith)
+counted-keeps : (r : ℕ) (e : Environment) (v : Option ℕ) → Keeps e (counted_up r e v)
+counted-keeps r e None = accepts-all e _
+counted-keeps r e (Some v) = keeps-references e _ _ (omega arith)
 
-told-keeps : (e : Environment) (v : Option ℕ) → Keeps e (value_told e v).after
-told-keeps e None = keeps-all e
-told-keeps e (Some v) = record { course = refl; frames = refl; heap = handled e.heap e.heap _ refl refl refl (omega arith); references = omega arith }
+told-keeps : (e : Environment) (v : Option ℕ) → Keeps e (value_told e v)
+told-keeps e None = accepts-all e _
+told-keeps e (Some v) = record { course = refl; frames = refl; heap = handled e.heap e.heap _ refl refl refl (omega arith); references = omega arith; book = stays e.book refl }
 
-collected-keeps : (e : Environment) (alive : List ℕ) → Keeps e (collected alive e)
-collected-keeps e alive = record { course = refl; frames = refl; heap = in-scopes e.heap _ refl (omega arith) (omega arith) refl; references = omega arith }
+collected-keeps : (e : Environment) (alive : List ℕ) (o : Out) → Keeps e (accepts o (collected alive e))
+collected-keeps e alive o = record { course = refl; frames = refl; heap = in-scopes e.heap _ refl (omega arith) (omega arith) refl; references = omega arith; book = collects _ _ refl }
 
-effect-keeps : (e : Environment) (c : Call) (n : ℕ) → refusal_in e.texts e.heap c ≡ None → Keeps e (effect e c n).after
-effect-keeps e (call.Throw v) n h = record { course = refl; frames = refl; heap = same e.heap; references = omega arith }
-effect-keeps e (call.ThrowError code message) n h = record { course = refl; frames = refl; heap = thrown-keeps e.heap code message; references = omega arith }
-effect-keeps e call.IsExceptionPending n h = keeps-all e
-effect-keeps e call.GetLastErrorInfo n h = keeps-all e
-effect-keeps e call.GetAndClearLastException n h = record { course = refl; frames = refl; heap = handled e.heap e.heap _ refl refl refl (omega arith); references = omega arith }
-effect-keeps e (call.CreateReference v count) n h = keeps-references e _ (length-with_record (λ m. m) n e.references.issued)
-effect-keeps e (call.DeleteReference r) n h = keeps-references e _ (omega arith)
+-- a call that registers
+wrapping-keeps : (e : Environment) (v payload : ℕ) (entry : Option ℕ) (hint : ℕ) (wanted : Bool) (n : ℕ) → Keeps e (wrapping e v payload entry hint wanted n)
+wrapping-keeps e v payload None hint false n = keeps-attachments e _ _
+wrapping-keeps e v payload None hint true n =
+    record { course = refl; frames = refl; heap = same e.heap; references = length-with_record (λ m. m) n e.references.issued; book = stays e.book refl }
+wrapping-keeps e v payload (Some entry) hint false n = record { course = refl; frames = refl; heap = same e.heap; references = omega arith; book = adds _ _ refl refl (λ h. cc) refl }
+wrapping-keeps e v payload (Some entry) hint true n =
+    record { course = refl; frames = refl; heap = same e.heap; references = length-with_record (λ m. m) n e.references.issued; book = adds _ _ refl refl (λ h. cc) refl }
+
+finalizing-keeps : (e : Environment) (v payload entry hint : ℕ) (wanted : Bool) (n : ℕ) → Keeps e (finalizing e v payload entry hint wanted n)
+finalizing-keeps e v payload entry hint false n = record { course = refl; frames = refl; heap = same e.heap; references = omega arith; book = adds _ _ refl refl (λ h. cc) refl }
+finalizing-keeps e v payload entry hint true n =
+    record { course = refl; frames = refl; heap = same e.heap; references = length-with_record (λ m. m) n e.references.issued; book = adds _ _ refl refl (λ h. cc) refl }
+
+external-keeps : (e : Environment) (payload : ℕ) (entry : Option ℕ) (hint : ℕ)
+    → Keeps e (registering_if (finalizer_if e payload entry hint)
+    (in_heap (record e { attachments = attached_if (e.heap.made + 1) (ticket_if e.book entry) e.attachments }) (new_value (body.External payload) e.heap)))
+external-keeps e payload None hint = record { course = refl; frames = refl; heap = handled e.heap _ _ refl refl refl (omega arith); references = omega arith; book = stays e.book refl }
+external-keeps e payload (Some entry) hint =
+    record { course = refl; frames = refl; heap = handled e.heap _ _ refl refl refl (omega arith); references = omega arith; book = adds _ _ refl refl (λ h. cc) refl }
+
+-- a call that withdraws: what it withdraws is registered
+pub registered-only : (book : Book) (o : Option ℕ) → IfSome (registered_only book o) (λ n. is_at is_registered book n ≡ true)
+registered-only book None = tt
+registered-only book (Some n) = by (is_at is_registered book n) refl
+  where
+    by : (b : Bool) → is_at is_registered book n ≡ b → IfSome (cond b (Some n) None) (λ m. is_at is_registered book m ≡ true)
+    by true h = h
+    by false h = tt
+
+withdrawing-keeps : (e : Environment) (a : Attachments) (o : Out) (t : Option ℕ) → IfSome t (λ n. is_at is_registered e.book n ≡ true)
+    → Keeps e (withdrawing t (accepts o (record e { attachments = a })))
+withdrawing-keeps e a o None h = keeps-attachments e a o
+withdrawing-keeps e a o (Some n) h = record { course = refl; frames = refl; heap = same e.heap; references = omega arith; book = drops n _ h refl }
+
+effect-keeps : (e : Environment) (c : Call) (n : ℕ) → refusal_in e.texts e.heap c ≡ None → Keeps e (effect e c n)
+effect-keeps e (call.Throw v) n h = record { course = refl; frames = refl; heap = same e.heap; references = omega arith; book = stays e.book refl }
+effect-keeps e (call.ThrowError code message) n h = record { course = refl; frames = refl; heap = thrown-keeps e.heap code message; references = omega arith; book = stays e.book refl }
+effect-keeps e call.IsExceptionPending n h = accepts-all e _
+effect-keeps e call.GetLastErrorInfo n h = accepts-all e _
+effect-keeps e call.GetAndClearLastException n h =
+    record { course = refl; frames = refl; heap = handled e.heap e.heap _ refl refl refl (omega arith); references = omega arith; book = stays e.book refl }
+effect-keeps e (call.CreateReference v count) n h = keeps-references e _ _ (length-with_record (λ m. m) n e.references.issued)
+effect-keeps e (call.DeleteReference r) n h = keeps-references e _ _ (omega arith)
 effect-keeps e (call.ReferenceRef r) n h = counted-keeps r.0 e (referred_value e.references r.0)
-effect-keeps e (call.ReferenceUnref r) n h = keeps-references e _ (omega arith)
+effect-keeps e (call.ReferenceUnref r) n h = keeps-references e _ _ (omega arith)
 effect-keeps e (call.GetReferenceValue r) n h = told-keeps e (referred_value e.references r.0)
-effect-keeps e (call.Wrap v payload None hint wanted) n h = keeps-attachments e _
-effect-keeps e (call.Unwrap v) n h = keeps-all e
-effect-keeps e (call.RemoveWrap v) n h = keeps-attachments e _
-effect-keeps e (call.TypeTagObject v lower upper) n h = keeps-attachments e _
-effect-keeps e (call.CheckObjectTypeTag v lower upper) n h = keeps-all e
-effect-keeps e (call.CreateExternal payload None hint) n h = record { course = refl; frames = refl; heap = handled e.heap _ _ refl refl refl (omega arith); references = omega arith }
-effect-keeps e call.Collect n h = collected-keeps e (reach e)
+effect-keeps e (call.Wrap v payload entry hint wanted) n h = wrapping-keeps e (handle_value e.heap v.0) payload entry hint wanted n
+effect-keeps e (call.Unwrap v) n h = accepts-all e _
+effect-keeps e (call.RemoveWrap v) n h =
+    let t : Option ℕ = wrap_ticket e.attachments (handle_value e.heap v.0) in
+    withdrawing-keeps e _ _ (registered_only e.book t) (registered-only e.book t)
+effect-keeps e (call.TypeTagObject v lower upper) n h = keeps-attachments e _ _
+effect-keeps e (call.CheckObjectTypeTag v lower upper) n h = accepts-all e _
+effect-keeps e (call.AddFinalizer v payload entry hint wanted) n h = finalizing-keeps e (handle_value e.heap v.0) payload entry hint wanted n
+effect-keeps e (call.CreateExternal payload entry hint) n h = external-keeps e payload entry hint
+effect-keeps e call.Collect n h = collected-keeps e (reach e) _
 effect-keeps e c n h = keeps-heap e c n h
 
 none-left : (a b : Option Status) → option_or a b ≡ None → a ≡ None
@@ -203,35 +272,131 @@ none-right : (a b : Option Status) → option_or a b ≡ None → b ≡ None
 none-right None b h = h
 none-right (Some s) b h = cc
 
-given-keeps : (e : Environment) (c : Call) (n : ℕ) (s : Option Status) → early_refusal e c ≡ s → Keeps e (answer_unless e c n s).after
+given-keeps : (e : Environment) (c : Call) (n : ℕ) (s : Option Status) → early_refusal e c ≡ s → Keeps e (answer_unless e c n s)
 given-keeps e c n None h =
     let timely : timely_refusal e c ≡ None = none-right (moment_refusal e c) (timely_refusal e c) h in
     let later : option_or (refusal_in e.texts e.heap c) (attachment_refusal e.attachments e.heap c) ≡ None = none-right (reference_refusal e.references c) _ timely in
     effect-keeps e c n (none-left (refusal_in e.texts e.heap c) (attachment_refusal e.attachments e.heap c) later)
-given-keeps e c n (Some s) h = keeps-all e
+given-keeps e c n (Some s) h = refuses-all e s
 
-limit-keeps : (e : Environment) → Keeps e (with_depth_error e)
-limit-keeps e = record { course = refl; frames = refl; heap = thrown-keeps e.heap None _; references = omega arith }
+limit-keeps : (e : Environment) (s : Status) → Keeps e (refuses s (with_depth_error e))
+limit-keeps e s = record { course = refl; frames = refl; heap = thrown-keeps e.heap None _; references = omega arith; book = stays e.book refl }
 
-at-keeps : (e : Environment) (c : Call) (n : ℕ) (early deep : Option Status) → early_refusal e c ≡ early → Keeps e (answer_unless_deep e c n early deep).after
+at-keeps : (e : Environment) (c : Call) (n : ℕ) (early deep : Option Status) → early_refusal e c ≡ early → Keeps e (answer_unless_deep e c n early deep)
 at-keeps e c n early None h = given-keeps e c n early h
-at-keeps e c n None (Some s) h = limit-keeps e
-at-keeps e c n (Some r) (Some s) h = keeps-all e
+at-keeps e c n None (Some s) h = limit-keeps e s
+at-keeps e c n (Some r) (Some s) h = refuses-all e r
 
-pub answer-keeps : (e : Environment) (c : Call) (n : ℕ) → Keeps e (answer e c n).after
+pub answer-keeps : (e : Environment) (c : Call) (n : ℕ) → Keeps e (answer e c n)
 answer-keeps e c n = at-keeps e c n (early_refusal e c) (depth_refusal e.frames c) refl
 
--- what a call's entry keeps: the addons, the opening, the init frames that began, the phase, and how many frames stand; one of them has made one ask more
-pub record KeepsButAsk (old new : Environment) : Type 0 where
+-- WHAT IS MADE
+-- a call that makes a duty has places for its frame, and is one that registers
+pub record MakesFor (c : Call) (made : Option Duty) : Type 0 where
+  pub places : 1 + 2 * one_if (is_some made) ≤ need c
+  pub registers : is_some made ≡ true → is_registering c ≡ true
+
+no-cut : (b : Bool) → b ≡ false → b ≡ true → ⊥
+no-cut true h k = cc
+no-cut false h k = cc
+
+makes-none : (c : Call) (made : Option Duty) → 1 ≤ need c → made ≡ None → MakesFor c made
+makes-none c made one none = rw none (record { places = omega (arith, one); registers = λ h. cc })
+
+-- each call needs a place for its entry
+pub needs-place : (c : Call) → 1 ≤ need c
+needs-place (call.CallFunction receiver f args) = omega arith
+needs-place c = omega arith
+
+dropping-none : (t : Option ℕ) (a : Answer Environment) → a.reply.made ≡ None → (withdrawing t a).reply.made ≡ None
+dropping-none None a h = h
+dropping-none (Some n) a h = h
+
+counted-none : (r : ℕ) (e : Environment) (v : Option ℕ) → (counted_up r e v).reply.made ≡ None
+counted-none r e None = refl
+counted-none r e (Some v) = refl
+
+value-none : (e : Environment) (v : Option ℕ) → (value_told e v).reply.made ≡ None
+value-none e None = refl
+value-none e (Some v) = refl
+
+referring-none : (wanted : Bool) (n v : ℕ) (e : Environment) → (referring_if wanted n v e).reply.made ≡ None
+referring-none true n v e = refl
+referring-none false n v e = refl
+
+effect-makes : (e : Environment) (c : Call) (n : ℕ) → MakesFor c (effect e c n).reply.made
+effect-makes e (call.ReferenceRef r) n = makes-none (call.ReferenceRef r) _ (omega arith) (counted-none r.0 e (referred_value e.references r.0))
+effect-makes e (call.GetReferenceValue r) n = makes-none (call.GetReferenceValue r) _ (omega arith) (value-none e (referred_value e.references r.0))
+effect-makes e (call.Wrap v payload None hint wanted) n = makes-none (call.Wrap v payload None hint wanted) _ (omega arith) (referring-none wanted n _ _)
+effect-makes e (call.Wrap v payload (Some entry) hint wanted) n = record { places = omega arith; registers = λ h. refl }
+effect-makes e (call.RemoveWrap v) n = makes-none (call.RemoveWrap v) _ (omega arith) (dropping-none (registered_only e.book (wrap_ticket e.attachments (handle_value e.heap v.0))) _ refl)
+effect-makes e (call.AddFinalizer v payload entry hint wanted) n = record { places = omega arith; registers = λ h. refl }
+effect-makes e (call.CreateExternal payload None hint) n = makes-none (call.CreateExternal payload None hint) _ (omega arith) refl
+effect-makes e (call.CreateExternal payload (Some entry) hint) n = record { places = omega arith; registers = λ h. refl }
+effect-makes e c n = makes-none c _ (needs-place c) refl
+
+given-makes : (e : Environment) (c : Call) (n : ℕ) (s : Option Status) → MakesFor c (answer_unless e c n s).reply.made
+given-makes e c n None = effect-makes e c n
+given-makes e c n (Some s) = makes-none c _ (needs-place c) refl
+
+at-makes : (e : Environment) (c : Call) (n : ℕ) (early deep : Option Status) → MakesFor c (answer_unless_deep e c n early deep).reply.made
+at-makes e c n early None = given-makes e c n early
+at-makes e c n None (Some s) = makes-none c _ (needs-place c) refl
+at-makes e c n (Some r) (Some s) = makes-none c _ (needs-place c) refl
+
+pub answer-makes : (e : Environment) (c : Call) (n : ℕ) → MakesFor c (answer e c n).reply.made
+answer-makes e c n = at-makes e c n (early_refusal e c) (depth_refusal e.frames c)
+
+-- in the teardown a call that registers is refused, so no duty is made
+torn : (e : Environment) (c : Call) → is_tearing e.phase ≡ true → is_registering c ≡ true → moment_refusal e c ≡ None → ⊥
+torn e c tearing registers none =
+    let late : registering_refusal e c ≡ None = none-right (guard_refusal e c) (registering_refusal e c) none in
+    let is : registering_refusal e c ≡ Some status.GenericFailure = rw (registers, tearing) refl in
+    let no : Some status.GenericFailure ≡ None = sym is ∙ late in
+    cc
+
+not-some : (o : Option Duty) → (is_some o ≡ true → ⊥) → o ≡ None
+not-some None h = refl
+not-some (Some d) h = absurd (h refl)
+
+torn-given : (e : Environment) (c : Call) (n : ℕ) (s : Option Status) → is_tearing e.phase ≡ true → early_refusal e c ≡ s → (answer_unless e c n s).reply.made ≡ None
+torn-given e c n (Some s) tearing is = refl
+torn-given e c n None tearing is =
+    not-some (effect e c n).reply.made (λ some. torn e c tearing ((effect-makes e c n).registers some) (none-left (moment_refusal e c) (timely_refusal e c) is))
+
+torn-at : (e : Environment) (c : Call) (n : ℕ) (early deep : Option Status) → is_tearing e.phase ≡ true → early_refusal e c ≡ early → (answer_unless_deep e c n early deep).reply.made ≡ None
+torn-at e c n early None tearing is = torn-given e c n early tearing is
+torn-at e c n None (Some s) tearing is = refl
+torn-at e c n (Some r) (Some s) tearing is = refl
+
+pub torn-makes-none : (e : Environment) (c : Call) (n : ℕ) → is_tearing e.phase ≡ true → (answer e c n).reply.made ≡ None
+torn-makes-none e c n tearing = torn-at e c n (early_refusal e c) (depth_refusal e.frames c) tearing refl
+
+-- A CALL'S ENTRY
+-- what a call of this entry keeps: the addons, the opening, the init frames that began, the phase, and how many frames stand; one of them has made one ask more. The
+-- book changes in one of the ways of a call, and there are places for the duty that is made
+pub record KeepsButAsk (c : Call) (old : Environment) (r : Reply) (new : Environment) : Type 0 where
   pub course : course_of new ≡ course_of old
   pub depth : length new.frames ≡ length old.frames
   pub heap : HeapKeeps old.heap new.heap
   pub references : length new.references.issued ≤ length old.references.issued + 1
+  pub book : BookStep (caller_of old.frames) old.book r.made r.dropped new.book
+  pub makes : MakesFor c r.made
 
-pub call_change-keeps : (e : Environment) (c : Call) (n : ℕ) → KeepsButAsk e (call_change e c n).after
+pub call_change-keeps : (e : Environment) (c : Call) (n : ℕ) → KeepsButAsk c e (call_change e c n).entry.reply (call_change e c n).after
 call_change-keeps e c n = record {
   course = (answer-keeps e c n).course;
   depth = length-changed _ (answer e c n).after.frames ∙ ap length (answer-keeps e c n).frames;
   heap = (answer-keeps e c n).heap;
   references = (answer-keeps e c n).references;
+  book = (answer-keeps e c n).book;
+  makes = answer-makes e c n;
 }
+
+-- the law of room: the places that are reserved after a call, and two for a duty that it withdrew, are those before it and two for a duty that it made
+pub call-reserved : (e : Environment) (c : Call) (r : Reply) (new : Environment) → KeepsButAsk c e r new
+    → reserved_journal new + 2 * one_if (is_some r.dropped) ≡ reserved_journal e + 2 * one_if (is_some r.made)
+call-reserved e c r new k =
+    let course = course-parts e new k.course in
+    let waits : owed_tickets new.book + one_if (is_some r.dropped) ≡ owed_tickets e.book + one_if (is_some r.made) = step-owed (caller_of e.frames) e.book r.made r.dropped new.book k.book in
+    rw (course.opened, course.phase, course.addons, course.inits, k.depth) (omega (arith, waits))

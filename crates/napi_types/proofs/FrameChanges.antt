@@ -1,25 +1,30 @@
 -- What the begin and the end of frames keep.
-use Rattle.std.proofs.Common.{◌≡◌, ◌≤◌, ℕ, suc, ◌+◌, false, List, [], ◌∷◌, length, refl, ap, Option, Some, None, arith, is_none}
+use Rattle.std.proofs.Common.{◌≡◌, ◌≤◌, ℕ, suc, ◌+◌, ◌*◌, false, List, [], ◌∷◌, length, refl, ap, Option, Some, None, arith, is_none, is_some}
 use Rattle.napi_types.specs.declared.call.Args.{Args}
 use Rattle.napi_types.specs.declared.call.Call.{Call}
 use Rattle.napi_types.specs.declared.call.Call.TheVariants as call
 use Rattle.napi_types.specs.declared.entry.Cause.{Cause}
 use Rattle.napi_types.specs.declared.entry.Cause.TheVariants as cause
+use Rattle.napi_types.specs.declared.entry.Duty.{Duty}
+use Rattle.napi_types.specs.declared.entry.Duty.TheVariants as duty
+use Rattle.napi_types.specs.declared.entry.Reply.{Reply}
 use Rattle.napi_types.specs.declared.entry.Why.{Why}
 use Rattle.napi_types.specs.declared.ids.HandleId.{HandleId}
 use Rattle.napi_types.specs.declared.status.Status.{Status}
 use Rattle.napi_types.specs.Attachments.{Attachments}
-use Rattle.napi_types.specs.Book.{Book}
+use Rattle.napi_types.specs.Book.{Book, owed_tickets}
 use Rattle.napi_types.specs.Changes.{call_change}
-use Rattle.napi_types.specs.Ends.{end_change_by, uncut_call_end, end_change}
+use Rattle.napi_types.specs.Ends.{duty_ended, end_change_by, uncut_call_end, end_change}
 use Rattle.napi_types.specs.Entering.{is_entering, enter_change, function_change, asked_change}
 use Rattle.napi_types.specs.Environment.{Environment}
-use Rattle.napi_types.specs.Frames.{cause_of, ask_counted}
+use Rattle.napi_types.specs.Frames.{caller_of, cause_of, duty_of, ask_counted}
 use Rattle.napi_types.specs.FunctionCalls.{callee_of}
 use Rattle.napi_types.specs.Lists.{tail, first_changed}
 use Rattle.napi_types.specs.Refusals.{refusal}
-use Rattle.napi_types.specs.Room.{need}
+use Rattle.napi_types.specs.Room.{one_if, need}
 use Rattle.napi_types.proofs.Answers.{course_of, KeepsButAsk, call_change-keeps}
+use Rattle.napi_types.proofs.Books.{owed-ended}
+use Rattle.napi_types.proofs.BookSteps.{step-owed}
 
 -- WHAT IS ATTACHED
 -- what hangs on values: all that is attached to them, and the book of the tickets
@@ -38,7 +43,12 @@ pub hangings-parts : (old new : Environment) → hangings_of new ≡ hangings_of
 hangings-parts old new same = record { attachments = ap (λ (h : Hangings). h.attachments) same; book = ap (λ (h : Hangings). h.book) same }
 
 -- THE END OF A FRAME
--- what the end of a frame keeps: all but its frame and its scopes, the pending exception and the last status; it issues one handle at most
+-- the book after a frame that began for this reason: that of a call ends no duty
+abbrev pub book_left : Cause → Option Duty → Book → Book
+book_left cause.Call d book = book
+book_left _ d book = duty_ended d book
+
+-- what the end of a frame keeps: all but its frame and its scopes, its duty, the pending exception and the last status; it issues one handle at most
 pub record KeepsButFrame (old new : Environment) : Type 0 where
   pub course : course_of new ≡ course_of old
   pub frames : new.frames ≡ tail old.frames
@@ -47,19 +57,57 @@ pub record KeepsButFrame (old new : Environment) : Type 0 where
   pub handles : new.heap.handles ≤ old.heap.handles + 1
   pub scope_numbers : new.heap.scope_numbers ≡ old.heap.scope_numbers
   pub references : new.references ≡ old.references
-  pub hangings : hangings_of new ≡ hangings_of old
+  pub attachments : new.attachments ≡ old.attachments
+  pub book : new.book ≡ book_left (cause_of old.frames) (duty_of old.frames) old.book
 
-left-keeps : (v : Option HandleId) (e : Environment) (pending : Option ℕ) → KeepsButFrame e (uncut_call_end v e pending).after
-left-keeps v e (Some p) = record { course = refl; frames = refl; values = refl; made = refl; handles = omega arith; scope_numbers = refl; references = refl; hangings = refl }
-left-keeps v e None = record { course = refl; frames = refl; values = refl; made = refl; handles = omega arith; scope_numbers = refl; references = refl; hangings = refl }
+-- the same, where the frame began for this reason
+record KeepsButFrameBy (c : Cause) (old new : Environment) : Type 0 where
+  pub course : course_of new ≡ course_of old
+  pub frames : new.frames ≡ tail old.frames
+  pub values : new.heap.values ≡ old.heap.values
+  pub made : new.heap.made ≡ old.heap.made
+  pub handles : new.heap.handles ≤ old.heap.handles + 1
+  pub scope_numbers : new.heap.scope_numbers ≡ old.heap.scope_numbers
+  pub references : new.references ≡ old.references
+  pub attachments : new.attachments ≡ old.attachments
+  pub book : new.book ≡ book_left c (duty_of old.frames) old.book
 
-by-cause : (v : Option HandleId) (cut : Option Why) (e : Environment) (c : Cause) → KeepsButFrame e (end_change_by v cut e c).after
-by-cause v (Some w) e cause.Call = record { course = refl; frames = refl; values = refl; made = refl; handles = omega arith; scope_numbers = refl; references = refl; hangings = refl }
+left-keeps : (v : Option HandleId) (e : Environment) (pending : Option ℕ) → KeepsButFrameBy cause.Call e (uncut_call_end v e pending).after
+left-keeps v e (Some p) = record { course = refl; frames = refl; values = refl; made = refl; handles = omega arith; scope_numbers = refl; references = refl; attachments = refl; book = refl }
+left-keeps v e None = record { course = refl; frames = refl; values = refl; made = refl; handles = omega arith; scope_numbers = refl; references = refl; attachments = refl; book = refl }
+
+by-cause : (v : Option HandleId) (cut : Option Why) (e : Environment) (c : Cause) → KeepsButFrameBy c e (end_change_by v cut e c).after
+by-cause v (Some w) e cause.Call =
+    record { course = refl; frames = refl; values = refl; made = refl; handles = omega arith; scope_numbers = refl; references = refl; attachments = refl; book = refl }
 by-cause v None e cause.Call = left-keeps v e e.pending
-by-cause v cut e _ = record { course = refl; frames = refl; values = refl; made = refl; handles = omega arith; scope_numbers = refl; references = refl; hangings = refl }
+by-cause v cut e _ = record { course = refl; frames = refl; values = refl; made = refl; handles = omega arith; scope_numbers = refl; references = refl; attachments = refl; book = refl }
 
 pub ended-keeps : (v : Option HandleId) (cut : Option Why) (e : Environment) → KeepsButFrame e (end_change v cut e).after
-ended-keeps v cut e = by-cause v cut e (cause_of e.frames)
+ended-keeps v cut e =
+    let k : KeepsButFrameBy (cause_of e.frames) e (end_change v cut e).after = by-cause v cut e (cause_of e.frames) in
+    record {
+      course = k.course;
+      frames = k.frames;
+      values = k.values;
+      made = k.made;
+      handles = k.handles;
+      scope_numbers = k.scope_numbers;
+      references = k.references;
+      attachments = k.attachments;
+      book = k.book;
+    }
+
+-- no ticket comes or goes with the end of a frame
+owed-duty : (d : Option Duty) (book : Book) → owed_tickets (duty_ended d book) ≡ owed_tickets book
+owed-duty (Some (duty.Ticket t)) book = owed-ended t.0 book
+owed-duty (Some (duty.Work n)) book = refl
+owed-duty (Some (duty.Item f n)) book = refl
+owed-duty (Some (duty.Function f)) book = refl
+owed-duty None book = refl
+
+pub owed-left : (c : Cause) (d : Option Duty) (book : Book) → owed_tickets (book_left c d book) ≡ owed_tickets book
+owed-left cause.Call d book = refl
+owed-left _ d book = owed-duty d book
 
 -- THE BEGIN OF A CALL'S FRAME
 -- what an accepted call of a function keeps: all but its frame and its scope; it makes no value, and issues one handle at most
@@ -93,41 +141,40 @@ pub asked_change-enter_change : (e : Environment) (receiver : Option HandleId) (
     → asked_change e (call.CallFunction receiver f args) n ≡ enter_change receiver f args e
 asked_change-enter_change e receiver f args n h = ap (λ s. function_change receiver f args n e s) h
 
--- what a call keeps, and how many frames stand after it: it owes no more ends than it has places for
+-- what a call keeps, and how many ends and frames it owes: no more than it has places for
 pub record KeepsButFrames (old new : Environment) (places : ℕ) : Type 0 where
   pub course : course_of new ≡ course_of old
-  pub depth : length new.frames + 1 ≤ length old.frames + places
+  pub owed : length new.frames + 2 * owed_tickets new.book + 1 ≤ length old.frames + 2 * owed_tickets old.book + places
 
 length-changed : {A : Type 0} (f : A → A) (xs : List A) → length (first_changed f xs) ≡ length xs
 length-changed f [] = refl
 length-changed f (x ∷ xs) = refl
 
-counted : (a b c : ℕ) → a ≡ b → 1 ≤ c → a + 1 ≤ b + c
-counted a b c e h = omega (arith, e, h)
-
-call_change-fits : (e : Environment) (c : Call) (n : ℕ) → 1 ≤ need c → KeepsButFrames e (call_change e c n).after (need c)
-call_change-fits e c n one =
-    let k : KeepsButAsk e (call_change e c n).after = call_change-keeps e c n in
-    record { course = k.course; depth = counted (length (call_change e c n).after.frames) (length e.frames) (need c) k.depth one }
+call_change-fits : (e : Environment) (c : Call) (n : ℕ) → KeepsButFrames e (call_change e c n).after (need c)
+call_change-fits e c n =
+    let r : Reply = (call_change e c n).entry.reply in
+    let new : Environment = (call_change e c n).after in
+    let k : KeepsButAsk c e r new = call_change-keeps e c n in
+    let waits : owed_tickets new.book + one_if (is_some r.dropped) ≡ owed_tickets e.book + one_if (is_some r.made) = step-owed (caller_of e.frames) e.book r.made r.dropped new.book k.book in
+    record { course = k.course; owed = owed (length new.frames) (length e.frames) (owed_tickets new.book) (owed_tickets e.book) (one_if (is_some r.made)) (one_if (is_some r.dropped)) (need c) k.depth waits k.makes.places }
+  where
+    owed : (a b w v m d n : ℕ) → a ≡ b → w + d ≡ v + m → 1 + 2 * m ≤ n → a + 2 * w + 1 ≤ b + 2 * v + n
+    owed a b w v m d n same waits places = omega (arith, same, waits, places)
 
 function_change-fits : (receiver : Option HandleId) (f : HandleId) (args : Args) (n : ℕ) (e : Environment) (s : Option Status)
     → KeepsButFrames e (function_change receiver f args n e s).after 2
-function_change-fits receiver f args n e (Some s) = call_change-fits e (call.CallFunction receiver f args) n (omega arith)
+function_change-fits receiver f args n e (Some s) = call_change-fits e (call.CallFunction receiver f args) n
 function_change-fits receiver f args n e None =
-    let k : KeepsAndEnters e (enter_change receiver f args e).after f = enter_change-keeps receiver f args e in
+    let new : Environment = (enter_change receiver f args e).after in
+    let k : KeepsAndEnters e new f = enter_change-keeps receiver f args e in
     record {
       course = k.course;
-      depth = two (length (enter_change receiver f args e).after.frames) (length e.frames) (length (ask_counted e.frames)) (ap length k.frames) (length-changed _ e.frames);
+      owed = two (length new.frames) (length e.frames) (length (ask_counted e.frames)) (owed_tickets new.book) (owed_tickets e.book) (ap length k.frames) (length-changed _ e.frames) (ap owed_tickets (hangings-parts e new k.hangings).book);
     }
   where
-    two : (a b c : ℕ) → a ≡ suc c → c ≡ b → a + 1 ≤ b + 2
-    two a b c h k = omega (arith, h, k)
-
--- each call needs a place for its entry
-pub needs-place : (c : Call) → 1 ≤ need c
-needs-place (call.CallFunction receiver f args) = omega arith
-needs-place c = omega arith
+    two : (a b c w v : ℕ) → a ≡ suc c → c ≡ b → w ≡ v → a + 2 * w + 1 ≤ b + 2 * v + 2
+    two a b c w v h k same = omega (arith, h, k, same)
 
 pub asked_change-fits : (e : Environment) (c : Call) (n : ℕ) → KeepsButFrames e (asked_change e c n).after (need c)
 asked_change-fits e (call.CallFunction receiver f args) n = function_change-fits receiver f args n e (refusal e (call.CallFunction receiver f args))
-asked_change-fits e c n = call_change-fits e c n (needs-place c)
+asked_change-fits e c n = call_change-fits e c n

@@ -20,6 +20,7 @@ use Rattle.napi_types.specs.declared.entry.What.TheVariants as what
 use Rattle.napi_types.specs.declared.entry.Why.{Why}
 use Rattle.napi_types.specs.declared.ids.HandleId.{HandleId}
 use Rattle.napi_types.specs.declared.status.Status.{Status}
+use Rattle.napi_types.specs.Book.{Registration, registration_at}
 use Rattle.napi_types.specs.Built.{built_ask}
 use Rattle.napi_types.specs.Changes.{number_of}
 use Rattle.napi_types.specs.Choice.{choice}
@@ -29,12 +30,12 @@ use Rattle.napi_types.specs.Environment.{Environment}
 use Rattle.napi_types.specs.Frames.{Frame, cause_of}
 use Rattle.napi_types.specs.Hub.{Hub, hub_next}
 use Rattle.napi_types.specs.CollectionLaw.{Collects, KeepsReached}
-use Rattle.napi_types.specs.Loop.{Event, Opens, Inits, Goes, EndsLoop, Drains, FinalsCome, IsGone}
+use Rattle.napi_types.specs.Loop.{Event, Opens, Inits, Tickets, Goes, EndsLoop, Drains, FinalsCome, IsGone}
 use Rattle.napi_types.specs.Machine.{Machine}
 use Rattle.napi_types.specs.Refusals.{refusal}
 use Rattle.napi_types.specs.Roots.{roots}
 use Rattle.napi_types.specs.Run.{after, IsNext, IsRunBy}
-use Rattle.napi_types.specs.Step.{Step, hub_moved, event_step, chosen, asked_step, frame_step, env_step, step_of, step, cut_of}
+use Rattle.napi_types.specs.Step.{Step, hub_moved, ticket_step, event_step, chosen, asked_step, frame_step, env_step, step_of, step, cut_of}
 use Rattle.napi_types.proofs.Reaching.{numbers-kept}
 
 -- an entry of a collection
@@ -46,9 +47,14 @@ hub-other : (m : Machine) (event : HostStep) (p : Phase) (o : Out) (h : Option H
 hub-other m event p o None is = cc
 hub-other m event p o (Some h) is = cc
 
+ticket-other : (m : Machine) (n : ℕ) (r : Option Registration) → IsCollection (ticket_step m n r).entry → ⊥
+ticket-other m n None is = cc
+ticket-other m n (Some r) is = cc
+
 event-other : (m : Machine) (event : Event) → IsCollection (event_step m event).entry → ⊥
 event-other m Opens is = cc
 event-other m (Inits n) is = cc
+event-other m (Tickets n) is = ticket-other m n (registration_at m.env.book n) is
 event-other m Goes is = hub-other m host.Go phase.Live out.Nothing (hub_next m.hub host.Go) is
 event-other m (EndsLoop w) is = hub-other m host.LoopEnd phase.Hooks (out.Ended w) (hub_next m.hub host.LoopEnd) is
 event-other m Drains is = hub-other m host.Drain phase.Drain (out.Unsigned 0) (hub_next m.hub host.Drain) is

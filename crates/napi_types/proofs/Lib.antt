@@ -1,4 +1,6 @@
 pub mod Answers
+pub mod BookSteps
+pub mod Books
 pub mod Found
 pub mod FrameChanges
 pub mod FrameEnds
@@ -7,6 +9,8 @@ pub mod Keeping
 pub mod Maps
 pub mod Owners
 pub mod Reaching
+pub mod Registrations
 pub mod Rooms
 pub mod Runs
+pub mod StandingFrames
 pub mod Weaves

@@ -16,14 +16,21 @@ use Rattle.napi_types.specs.declared.status.Status.TheVariants as status
 use Rattle.napi_types.specs.Asks.{AsksWithin}
 use Rattle.napi_types.specs.AttachmentRefusals.{attachment_refusal}
 use Rattle.napi_types.specs.Calls.{addon_effect, effect, answer_unless, answer_unless_deep}
-use Rattle.napi_types.specs.Changes.{call_change, init_change}
+use Rattle.napi_types.specs.Attachments.{wrap_ticket}
+use Rattle.napi_types.specs.Book.{Registration, registration_at, due_info}
+use Rattle.napi_types.specs.Changes.{call_change, init_change, in_phase}
+use Rattle.napi_types.specs.declared.entry.Phase.{Phase}
+use Rattle.napi_types.specs.Registering.{registered_only, withdrawing}
+use Rattle.napi_types.specs.Replies.{Answer}
+use Rattle.napi_types.specs.Tickets.{ticket_change}
+use Rattle.napi_types.specs.WrapCalls.{wrapping}
 use Rattle.napi_types.specs.Ends.{end_change}
 use Rattle.napi_types.specs.Entering.{enter_change, function_change, asked_change}
 use Rattle.napi_types.specs.Environment.{Environment}
 use Rattle.napi_types.specs.declared.entry.Cause.TheVariants as cause
-use Rattle.napi_types.specs.Frames.{Frame, frame_of, caller_of, ask_counted, asks_made, most_asks}
+use Rattle.napi_types.specs.Frames.{Frame, frame_of, frame_of_duty, caller_of, ask_counted, asks_made, most_asks}
 use Rattle.napi_types.specs.FunctionCalls.{callee_of}
-use Rattle.napi_types.specs.Heap.{Heap, handle_body, handle_properties}
+use Rattle.napi_types.specs.Heap.{Heap, handle_value, handle_body, handle_properties}
 use Rattle.napi_types.specs.HeapChanges.{with_thrown}
 use Rattle.napi_types.specs.Lists.{tail, unless, has_number}
 use Rattle.napi_types.specs.Owners.{BelongsTo, IsOwned}
@@ -44,7 +51,8 @@ use Rattle.napi_types.specs.NewValues.{made_after, list_of, thrown_strings, thro
 use Rattle.napi_types.specs.Bodies.{is_function, function_addon, text_of}
 use Rattle.napi_types.proofs.Answers.{answer-keeps}
 use Rattle.napi_types.proofs.Runs.{and-left, and-right}
-use Rattle.napi_types.proofs.FrameChanges.{KeepsButFrame, ended-keeps, KeepsAndEnters, enter_change-keeps}
+use Rattle.napi_types.proofs.FrameChanges.{KeepsButFrame, ended-keeps, KeepsAndEnters, enter_change-keeps, hangings-parts}
+use Rattle.napi_types.proofs.Registrations.{KeptByMoves, registered-holds, call-all, ended-all, begun-all, phase-all}
 
 -- VALUES
 abbrev Ours : ℕ → Value → Type 0
@@ -52,6 +60,13 @@ Ours n v = BelongsTo n v.body
 
 abbrev Below : ℕ → Frame → Type 0
 Below n f = f.addon < n
+
+-- a ticket whose frame runs one of them
+abbrev Entered : ℕ → Registration → Type 0
+Entered n r = r.addon < n
+
+entered-kept : (n : ℕ) → KeptByMoves (Entered n)
+entered-kept n = record { due = λ r h. h; withdrawn = λ r h. h; begun = λ r h. h; ended = λ r h. h }
 
 abbrev NoFunction : Body → Type 0
 NoFunction b = is_function b ≡ false
@@ -139,6 +154,17 @@ told-owned : (n : ℕ) (e : Environment) (v : Option ℕ) → AreOwned n e.heap.
 told-owned n e None all = all
 told-owned n e (Some v) all = all
 
+wrapped-owned : (n : ℕ) (e : Environment) (v payload : ℕ) (entry : Option ℕ) (hint : ℕ) (wanted : Bool) (k : ℕ) → AreOwned n e.heap.values
+    → AreOwned n (wrapping e v payload entry hint wanted k).after.heap.values
+wrapped-owned n e v payload None hint false k all = all
+wrapped-owned n e v payload None hint true k all = all
+wrapped-owned n e v payload (Some entry) hint false k all = all
+wrapped-owned n e v payload (Some entry) hint true k all = all
+
+dropping-owned : (n : ℕ) (t : Option ℕ) (a : Answer Environment) → AreOwned n a.after.heap.values → AreOwned n (withdrawing t a).after.heap.values
+dropping-owned n None a all = all
+dropping-owned n (Some t) a all = all
+
 by-owned : (n : ℕ) (e : Environment) (c : Call) (k : ℕ) → caller_of e.frames < n → AreOwned n e.heap.values → AreOwned n (effect e c k).after.heap.values
 by-owned n e (call.Throw v) k there all = all
 by-owned n e (call.ThrowError code message) k there all = thrown-owned n e.heap code message all
@@ -150,12 +176,15 @@ by-owned n e (call.DeleteReference r) k there all = all
 by-owned n e (call.ReferenceRef r) k there all = counted-up-owned n r.0 e (referred_value e.references r.0) all
 by-owned n e (call.ReferenceUnref r) k there all = all
 by-owned n e (call.GetReferenceValue r) k there all = told-owned n e (referred_value e.references r.0) all
-by-owned n e (call.Wrap v payload None hint wanted) k there all = all
+by-owned n e (call.Wrap v payload entry hint wanted) k there all = wrapped-owned n e (handle_value e.heap v.0) payload entry hint wanted k all
 by-owned n e (call.Unwrap v) k there all = all
-by-owned n e (call.RemoveWrap v) k there all = all
+by-owned n e (call.RemoveWrap v) k there all = dropping-owned n (registered_only e.book (wrap_ticket e.attachments (handle_value e.heap v.0))) _ all
 by-owned n e (call.TypeTagObject v lower upper) k there all = all
 by-owned n e (call.CheckObjectTypeTag v lower upper) k there all = all
+by-owned n e (call.AddFinalizer v payload entry hint false) k there all = all
+by-owned n e (call.AddFinalizer v payload entry hint true) k there all = all
 by-owned n e (call.CreateExternal payload None hint) k there all = one-more n _ _ e.heap.values all (no-function n (body.External payload) refl)
+by-owned n e (call.CreateExternal payload (Some entry) hint) k there all = one-more n _ _ e.heap.values all (no-function n (body.External payload) refl)
 by-owned n e call.Collect k there all = kept-owned n (reach e) e.heap.values all
 by-owned n e c k there all = heap-owned n (caller_of e.frames) e.heap c k there all
 
@@ -188,6 +217,7 @@ call_change-owned n e c k stands o =
     record {
       frames = subst P (sym (answer-keeps e c k).frames) (counted-owned n e.frames o.frames);
       functions = at-owned n e c k (early_refusal e c) (depth_refusal e.frames c) (caller-owned n e.frames stands o.frames) o.functions;
+      tickets = call-all (Entered n) (entered-kept n) e c k (λ made r who why. subst (λ a. a < n) (sym who) (caller-owned n e.frames stands o.frames)) o.tickets;
     }
 
 none-first : (a b : Option Status) → option_or a b ≡ None → a ≡ None
@@ -228,6 +258,7 @@ enter_change-owned n e receiver f args h o =
     record {
       frames = subst P (sym k.frames) (All-cons (Below n) (callee_of e.heap f) (ask_counted e.frames) (callee-owned n e receiver f args h o) (counted-owned n e.frames o.frames));
       functions = subst Q (sym k.values) o.functions;
+      tickets = subst (λ b. All (Entered n) b) (sym (hangings-parts e (enter_change receiver f args e).after k.hangings).book) o.tickets;
     }
 
 function_change-owned : (n : ℕ) (e : Environment) (receiver : Option HandleId) (f : HandleId) (args : Args) (k : ℕ) (s : Option Status)
@@ -245,10 +276,24 @@ owned-ended n e v cut o =
     let k : KeepsButFrame e (end_change v cut e).after = ended-keeps v cut e in
     let P : List Frame → Type 0 = λ fs. All (Below n) fs in
     let Q : List Value → Type 0 = λ vs. AreOwned n vs in
-    record { frames = subst P (sym k.frames) (tail-owned n e.frames o.frames); functions = subst Q (sym k.values) o.functions }
+    record {
+      frames = subst P (sym k.frames) (tail-owned n e.frames o.frames);
+      functions = subst Q (sym k.values) o.functions;
+      tickets = ended-all (Entered n) (entered-kept n) e v cut o.tickets;
+    }
 
 pub owned-init : (n : ℕ) (e : Environment) (addon : ℕ) → addon < n → IsOwned n e → IsOwned n (init_change addon e).after
-owned-init n e addon there o = record { frames = All-cons (Below n) (frame_of cause.Init addon 0) e.frames there o.frames; functions = o.functions }
+owned-init n e addon there o = record { frames = All-cons (Below n) (frame_of cause.Init addon 0) e.frames there o.frames; functions = o.functions; tickets = o.tickets }
+
+pub owned-ticket : (n : ℕ) (e : Environment) (t : ℕ) (r : Registration) → registration_at e.book t ≡ Some r → IsOwned n e → IsOwned n (ticket_change t r e).after
+owned-ticket n e t r there o = record {
+  frames = All-cons (Below n) (frame_of_duty (due_info t r)) e.frames (registered-holds (Entered n) t e.book r there o.tickets) o.frames;
+  functions = o.functions;
+  tickets = begun-all (Entered n) (entered-kept n) t e.book o.tickets;
+}
+
+pub owned-phase : (n : ℕ) (e : Environment) (p : Phase) → IsOwned n e → IsOwned n (in_phase p e)
+owned-phase n e p o = record { frames = o.frames; functions = o.functions; tickets = phase-all (Entered n) (entered-kept n) p e.book o.tickets }
 
 -- the starting values are no functions
 none-owned : (n : ℕ) (vs : List Value) → IsTrue (list_all (λ v. not (is_function v.body)) vs) → AreOwned n vs
@@ -296,6 +341,9 @@ pub within-ended : (e : Environment) (v : Option HandleId) (cut : Option Why) �
 within-ended e v cut all =
     let P : List Frame → Type 0 = λ fs. All Spare fs in
     subst P (sym (ended-keeps v cut e).frames) (tail-within e.frames all)
+
+pub within-ticket : (e : Environment) (t : ℕ) (r : Registration) → AsksWithin e → AsksWithin (ticket_change t r e).after
+within-ticket e t r all = All-cons Spare (frame_of_duty (due_info t r)) e.frames (omega arith) all
 
 pub within-init : (e : Environment) (addon : ℕ) → AsksWithin e → AsksWithin (init_change addon e).after
 within-init e addon all = All-cons Spare (frame_of cause.Init addon 0) e.frames (omega arith) all

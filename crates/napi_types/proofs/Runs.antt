@@ -1,7 +1,12 @@
 -- Laws of runs: they grow at their end.
-use Rattle.std.proofs.Common.{◌≡◌, Bool, true, false, ◌&&◌, List, [], ◌∷◌, ◌++◌, IsTrue, refl, ap}
+use Rattle.std.proofs.Common.{◌≡◌, ◌∙◌, ◌==◌, ℕ, Bool, true, false, ◌&&◌, List, [], ◌∷◌, ◌++◌, IsTrue, refl, sym, ap, append_assoc}
+use Rattle.std.proofs.lemmas.List.{append-nil}
+use Rattle.std.proofs.lemmas.List.Elements.{filter-append}
+use Rattle.std.specs.Option.{option_to_list}
+use Rattle.napi_types.specs.declared.duties.DueInfo.{DueInfo}
 use Rattle.napi_types.specs.declared.entry.Entry.{Entry}
 use Rattle.napi_types.specs.declared.call.Ask.{Ask}
+use Rattle.napi_types.specs.Begins.{begun_info, begun_along, of_addon}
 use Rattle.napi_types.specs.Machine.{Machine}
 use Rattle.napi_types.specs.Run.{after, IsNext, IsRunBy, final}
 use Rattle.napi_types.specs.Parting.{sides_along}
@@ -59,3 +64,16 @@ sides-more m [] [] a x r = refl
 sides-more m (b ∷ bs) (y ∷ ys) a x r = ap (λ l. (step m b y).side ∷ l) (sides-more (after m b y) bs ys a x r.1)
 sides-more m [] (y ∷ ys) a x r = absurd r
 sides-more m (b ∷ bs) [] a x r = absurd r
+
+-- and so have the duties whose frames begin along it
+pub begun-more : (m : Machine) (bs : List Ask) (xs : List Entry) (a : Ask) (x : Entry)
+    → IsRunBy m bs xs → begun_along m (bs ++ a ∷ []) (xs ++ x ∷ []) ≡ begun_along m bs xs ++ option_to_list (begun_info (final m bs xs) x)
+begun-more m [] [] a x r = append-nil (option_to_list (begun_info m x))
+begun-more m (b ∷ bs) (y ∷ ys) a x r =
+    ap (λ l. option_to_list (begun_info m y) ++ l) (begun-more (after m b y) bs ys a x r.1)
+    ∙ sym (append_assoc (option_to_list (begun_info m y)) (begun_along (after m b y) bs ys) (option_to_list (begun_info (final (after m b y) bs ys) x)))
+begun-more m [] (y ∷ ys) a x r = absurd r
+begun-more m (b ∷ bs) [] a x r = absurd r
+
+pub of_addon-append : (addon : ℕ) (xs ys : List DueInfo) → of_addon addon (xs ++ ys) ≡ of_addon addon xs ++ of_addon addon ys
+of_addon-append addon xs ys = filter-append (λ (d : DueInfo). d.addon == addon) xs ys

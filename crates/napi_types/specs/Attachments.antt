@@ -1,7 +1,7 @@
 -- What is attached to values: wraps, type tags, and the finalizers beside those of wraps. Wraps and tags are finite maps from the creation number of a
 -- value, and attached finalizers a finite map from their tickets.
 use Rattle.std.specs.Prelude.{ℕ, ◌==◌, Bool, false, not, ◌&&◌, cond, List, [], map, filter, ◌++◌, filter_map, Option, None, option_map}
-use Rattle.std.specs.Option.{unwrap_or}
+use Rattle.std.specs.Option.{unwrap_or, option_and_then}
 use Rattle.napi_types.specs.Lists.{found, has, has_number, with_record}
 
 -- a wrap: the native data that `napi_wrap` ties to an object, and the ticket of its finalizer, where it has one
@@ -48,6 +48,10 @@ is_tagged a v = has (λ t. t.value) v a.tags
 -- what `napi_unwrap` gives: the native data of an object's wrap; one that is not wrapped, which each call refuses, reads as 0
 abbrev pub wrap_payload : Attachments → ℕ → ℕ
 wrap_payload a v = unwrap_or (option_map (λ w. w.payload) (wrap_of a v)) 0
+
+-- the ticket of the finalizer that its wrap was given, where there is one
+abbrev pub wrap_ticket : Attachments → ℕ → Option ℕ
+wrap_ticket a v = option_and_then (λ w. w.ticket) (wrap_of a v)
 
 -- what `napi_check_object_type_tag` tells: the value has this tag, and not another one or none
 abbrev pub has_tag : Attachments → ℕ → ℕ → ℕ → Bool

@@ -1,9 +1,10 @@
 -- The book of finalizers and cleanup hooks: each that is registered gets the next ticket, counted from 1. A ticket falls due or is withdrawn, begins once it
 -- is due, and ends once it has begun, and moves in no other way.
-use Rattle.std.specs.Prelude.{ℕ, zero, suc, ◌==◌, Bool, true, false, cond, List, [], ◌∷◌, length, replicate, find, slice_get, Option, None, option_map}
+use Rattle.std.specs.Prelude.{ℕ, zero, suc, ◌+◌, ◌==◌, Bool, true, false, ◌||◌, cond, List, [], ◌∷◌, ◌++◌, length, filter, replicate, find, slice_get, Option, None, option_map}
 use Rattle.std.specs.Option.{unwrap_or}
 use Rattle.napi_types.specs.declared.duties.DueInfo.{DueInfo}
 use Rattle.napi_types.specs.declared.entry.Cause.{Cause}
+use Rattle.napi_types.specs.declared.entry.Duty.{Duty}
 use Rattle.napi_types.specs.declared.entry.Duty.TheVariants as duty
 use Rattle.napi_types.specs.declared.status.Status.TheVariants as status
 use Rattle.napi_types.specs.Lists.{up_to}
@@ -28,6 +29,10 @@ is_due _ = false
 abbrev pub is_begun : TicketState → Bool
 is_begun Begun = true
 is_begun _ = false
+
+-- a ticket that is registered or due: places are kept for its frame
+abbrev pub is_owed : TicketState → Bool
+is_owed s = is_registered s || is_due s
 
 -- only a registered ticket falls due
 abbrev pub made_due : TicketState → TicketState
@@ -80,6 +85,19 @@ is_at test book n = unwrap_or (option_map (λ r. test r.state) (registration_at 
 abbrev pub lowest_due : Book → Option ℕ
 lowest_due book = find (is_at is_due book) (up_to (length book))
 
+-- how many tickets are registered or due
+abbrev pub owed_tickets : Book → ℕ
+owed_tickets book = length (filter (λ r. is_owed r.state) book)
+
+-- REGISTERING
+-- the ticket that the next registration gets
+abbrev pub new_ticket : Book → ℕ
+new_ticket book = length book + 1
+
+-- one registration more
+abbrev pub with_registration : Registration → Book → Book
+with_registration r book = book ++ r ∷ []
+
 -- MOVES
 abbrev pub moved : (TicketState → TicketState) → Registration → Registration
 moved move r = record r { state = move r.state }
@@ -106,10 +124,14 @@ abbrev pub all_due : Book → Book
 all_due book = due_where (λ n. true) book
 
 -- WHAT A TICKET TELLS
+-- the duty of a ticket
+abbrev pub ticket_duty : ℕ → Duty
+ticket_duty n = duty.Ticket (record { 0 = n })
+
 -- what the duty of a ticket tells as it begins: its data and its hint are the gifts, and its frame makes asks
 abbrev pub due_info : ℕ → Registration → DueInfo
 due_info n r = record {
-  duty = duty.Ticket (record { 0 = n });
+  duty = ticket_duty n;
   cause = r.cause;
   addon = r.addon;
   entry = r.entry;

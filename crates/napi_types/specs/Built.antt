@@ -79,18 +79,19 @@ is_reference_call (call.ReferenceUnref _) = true
 is_reference_call (call.GetReferenceValue _) = true
 is_reference_call _ = false
 
--- the calls on wraps and type tags, where they register nothing
+-- the calls on wraps, type tags and finalizers
 abbrev pub is_wrap_call : Call → Bool
-is_wrap_call (call.Wrap _ _ None _ _) = true
+is_wrap_call (call.Wrap _ _ _ _ _) = true
 is_wrap_call (call.Unwrap _) = true
 is_wrap_call (call.RemoveWrap _) = true
 is_wrap_call (call.TypeTagObject _ _ _) = true
 is_wrap_call (call.CheckObjectTypeTag _ _ _) = true
+is_wrap_call (call.AddFinalizer _ _ _ _ _) = true
 is_wrap_call _ = false
 
--- the call that creates an external, where it registers nothing
+-- the call that creates an external
 abbrev pub is_external_call : Call → Bool
-is_external_call (call.CreateExternal _ None _) = true
+is_external_call (call.CreateExternal _ _ _) = true
 is_external_call _ = false
 
 -- the collection

@@ -15,6 +15,7 @@ use Rattle.napi_types.specs.declared.entry.HostStep.TheVariants as host
 use Rattle.napi_types.specs.declared.entry.Actor.TheVariants as actor
 use Rattle.napi_types.specs.declared.entry.Phase.{Phase}
 use Rattle.napi_types.specs.declared.entry.Phase.TheVariants as phase
+use Rattle.napi_types.specs.Book.{Book, all_due}
 use Rattle.napi_types.specs.Lists.{has_number}
 use Rattle.napi_types.specs.Numbers.{napi_version}
 use Rattle.napi_types.specs.Frames.{frame_of, begin_told, ask_counted, is_asking, asks_made, most_asks}
@@ -88,6 +89,11 @@ call_change e c n = record { entry = call_entry e c (answer e c n).reply; after 
 abbrev pub gone_change : Environment → Change
 gone_change e = record { entry = host_entry host.Gone out.Nothing; after = record e { phase = phase.Gone } }
 
+-- as `finals` comes, every ticket that is registered falls due
+abbrev pub book_in : Phase → Book → Book
+book_in phase.Finals book = all_due book
+book_in _ book = book
+
 -- the environment after the hub's event that starts the phase
 abbrev pub in_phase : Phase → Environment → Environment
-in_phase p e = record e { phase = p }
+in_phase p e = record e { phase = p; book = book_in p e.book }

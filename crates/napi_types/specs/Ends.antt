@@ -2,6 +2,8 @@
 use Rattle.std.specs.Prelude.{ℕ, ◌+◌, Option, Some, None}
 use Rattle.napi_types.specs.declared.entry.Cause.{Cause}
 use Rattle.napi_types.specs.declared.entry.Cause.TheVariants as cause
+use Rattle.napi_types.specs.declared.entry.Duty.{Duty}
+use Rattle.napi_types.specs.declared.entry.Duty.TheVariants as duty
 use Rattle.napi_types.specs.declared.entry.HostStep.TheVariants as host
 use Rattle.napi_types.specs.declared.entry.Out.{Out}
 use Rattle.napi_types.specs.declared.entry.Out.TheVariants as out
@@ -9,9 +11,10 @@ use Rattle.napi_types.specs.declared.entry.Why.{Why}
 use Rattle.napi_types.specs.declared.ids.HandleId.{HandleId}
 use Rattle.napi_types.specs.declared.status.Status.{Status}
 use Rattle.napi_types.specs.declared.status.Status.TheVariants as status
+use Rattle.napi_types.specs.Book.{Book, made_ended, moved_at}
 use Rattle.napi_types.specs.Changes.{Change, host_told, host_entry}
 use Rattle.napi_types.specs.Environment.{Environment}
-use Rattle.napi_types.specs.Frames.{cause_of}
+use Rattle.napi_types.specs.Frames.{cause_of, duty_of}
 use Rattle.napi_types.specs.FunctionCalls.{left_value}
 use Rattle.napi_types.specs.Heap.{Heap}
 use Rattle.napi_types.specs.HeapChanges.{with_handle, without_frame}
@@ -44,9 +47,17 @@ end_out (Some w) pending = out.Cut w
 end_out None (Some v) = out.Uncaught
 end_out None None = out.Nothing
 
--- a pending exception is cleared
+-- the duty that began a frame ends with it: a ticket that has begun has ended
+abbrev pub duty_ended : Option Duty → Book → Book
+duty_ended (Some (duty.Ticket ticket)) book = moved_at made_ended ticket.0 book
+duty_ended _ book = book
+
+-- a pending exception is cleared, and the duty that began the frame ends
 abbrev pub outermost_end_change : Option Why → Environment → Change
-outermost_end_change cut e = record { entry = host_entry host.End (end_out cut e.pending); after = record (without_innermost_frame e) { pending = None } }
+outermost_end_change cut e = record {
+  entry = host_entry host.End (end_out cut e.pending);
+  after = record (without_innermost_frame e) { pending = None; book = duty_ended (duty_of e.frames) e.book };
+}
 
 -- a frame that began for this reason ends
 abbrev pub end_change_by : Option HandleId → Option Why → Environment → Cause → Change

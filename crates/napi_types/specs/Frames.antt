@@ -1,5 +1,6 @@
 -- The frames that stand: each runs one entry of one addon.
-use Rattle.std.specs.Prelude.{ℕ, ◌+◌, ◌-◌, Bool, true, false, List, [], ◌∷◌, Option, None}
+use Rattle.std.specs.Prelude.{ℕ, ◌+◌, ◌-◌, Bool, true, false, List, [], ◌∷◌, Option, Some, None}
+use Rattle.napi_types.specs.declared.duties.DueInfo.{DueInfo}
 use Rattle.napi_types.specs.declared.entry.Cause.{Cause}
 use Rattle.napi_types.specs.declared.entry.Cause.TheVariants as cause
 use Rattle.napi_types.specs.declared.entry.Duty.{Duty}
@@ -20,6 +21,10 @@ pub record Frame : Type 0 where
 -- a frame that no duty began, as it begins
 abbrev pub frame_of : Cause → ℕ → ℕ → Frame
 frame_of c addon entry = record { cause = c; addon = addon; entry = entry; duty = None; makes_asks = true; asks = 0 }
+
+-- a frame that a duty began, as it begins
+abbrev pub frame_of_duty : DueInfo → Frame
+frame_of_duty d = record { cause = d.cause; addon = d.addon; entry = d.entry; duty = Some d.duty; makes_asks = d.runs; asks = 0 }
 
 -- what the begin of a frame tells
 abbrev pub begin_told : Frame → Out
@@ -42,6 +47,11 @@ caller_of (f ∷ fs) = f.addon
 abbrev pub cause_of : List Frame → Cause
 cause_of [] = cause.Init
 cause_of (f ∷ fs) = f.cause
+
+-- the duty that began the innermost frame, where one did
+abbrev pub duty_of : List Frame → Option Duty
+duty_of [] = None
+duty_of (f ∷ fs) = f.duty
 
 -- whether the innermost frame makes asks
 abbrev pub is_asking : List Frame → Bool

@@ -1,6 +1,7 @@
 pub mod Asks
 pub mod AttachmentRefusals
 pub mod Attachments
+pub mod Begins
 pub mod Bodies
 pub mod Book
 pub mod Built
@@ -10,6 +11,7 @@ pub mod Changes
 pub mod Choice
 pub mod Collection
 pub mod CollectionLaw
+pub mod Duties
 pub mod Edge
 pub mod Ends
 pub mod Entering
@@ -45,6 +47,7 @@ pub mod ReferenceCalls
 pub mod ReferenceRefusals
 pub mod References
 pub mod Refusals
+pub mod Registering
 pub mod Registers
 pub mod Replies
 pub mod Room
@@ -68,6 +71,7 @@ pub mod Step
 pub mod Teardown
 pub mod Text
 pub mod Texts
+pub mod Tickets
 pub mod ValueCalls
 pub mod Values
 pub mod VersionCall

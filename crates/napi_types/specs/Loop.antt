@@ -1,12 +1,16 @@
--- The events with no frame, and those of the environment's own up to the end of the loop.
-use Rattle.std.specs.Prelude.{ℕ, cond, nat_lt, Option, Some, None}
+-- The events of the environment where no frame stands, and those of its own up to the end of the loop.
+use Rattle.std.specs.Prelude.{ℕ, cond, nat_lt, Option, Some, None, option_map}
 use Rattle.napi_types.specs.declared.entry.LoopEnd.{LoopEnd}
+use Rattle.napi_types.specs.declared.entry.Phase.{Phase}
+use Rattle.napi_types.specs.declared.entry.Phase.TheVariants as phase
+use Rattle.napi_types.specs.Book.{lowest_due}
 use Rattle.napi_types.specs.Environment.{Environment}
 
--- an event of the environment with no frame: the opening, the init frame of an addon, the four events of the hub, and the end
+-- an event of the environment where no frame stands: the opening, the init frame of an addon, the frame of a ticket, the four events of the hub, and the end
 pub data Event : Type 0 where
   Opens : Event
   Inits : ℕ → Event
+  Tickets : ℕ → Event
   Goes : Event
   EndsLoop : LoopEnd → Event
   Drains : Event
@@ -17,6 +21,19 @@ pub data Event : Type 0 where
 abbrev pub init_choice : Environment → Option Event
 init_choice e = cond e.opened (cond (nat_lt e.inits e.addons) (Some (Inits e.inits)) None) (Some Opens)
 
--- in the loop the environment has no event of its own: no ticket is due, and none asks to exit
+-- the ticket that begins next: in the loop and after `finals` the lowest that is due; in every other phase what is due waits
+abbrev pub ticket_in : Environment → Phase → Option ℕ
+ticket_in e phase.Live = lowest_due e.book
+ticket_in e phase.Finals = lowest_due e.book
+ticket_in e _ = None
+
+abbrev pub next_ticket : Environment → Option ℕ
+next_ticket e = ticket_in e e.phase
+
+-- the frame of that ticket
+abbrev pub ticket_choice : Environment → Phase → Option Event
+ticket_choice e p = option_map Tickets (ticket_in e p)
+
+-- in the loop this is the only event of the environment's own
 abbrev pub loop_choice : Environment → Option Event
-loop_choice e = None
+loop_choice e = ticket_choice e phase.Live

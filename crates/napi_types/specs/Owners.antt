@@ -1,4 +1,4 @@
--- Each frame that stands runs an addon of the script, and each function belongs to one.
+-- Each frame that stands runs an addon of the script, and so does the frame of each ticket; each function belongs to one.
 use Rattle.std.specs.Prelude.{◌≡◌, ◌<◌, ℕ, true}
 use Rattle.std.specs.List.{All}
 use Rattle.napi_types.specs.declared.body.Body.{Body}
@@ -13,3 +13,4 @@ BelongsTo addons b = is_function b ≡ true → function_addon b < addons
 pub record IsOwned (addons : ℕ) (e : Environment) : Type 0 where
   pub frames : All (λ f. f.addon < addons) e.frames
   pub functions : All (λ v. BelongsTo addons v.body) e.heap.values
+  pub tickets : All (λ r. r.addon < addons) e.book

@@ -4,6 +4,7 @@ use Rattle.napi_types.specs.declared.call.Ask.{Ask}
 use Rattle.napi_types.specs.declared.call.Ask.TheVariants as ask
 use Rattle.napi_types.specs.declared.op.Op.{Op}
 use Rattle.napi_types.specs.declared.call.Call.TheVariants as call
+use Rattle.napi_types.specs.declared.duties.DueInfo.{DueInfo}
 use Rattle.napi_types.specs.declared.entry.Actor.{Actor}
 use Rattle.napi_types.specs.declared.entry.Actor.TheVariants as actor
 use Rattle.napi_types.specs.declared.entry.Entry.{Entry}
@@ -12,7 +13,7 @@ use Rattle.napi_types.specs.declared.entry.HostStep.TheVariants as host
 use Rattle.napi_types.specs.declared.entry.Reply.{Reply}
 use Rattle.napi_types.specs.declared.entry.What.{What}
 use Rattle.napi_types.specs.declared.entry.What.TheVariants as what
-use Rattle.napi_types.specs.Environment.{Environment}
+use Rattle.napi_types.specs.Begins.{told_at}
 use Rattle.napi_types.specs.Frames.{Frame, at_last_ask}
 use Rattle.napi_types.specs.FunctionCalls.{callee_of, call_gifts}
 use Rattle.napi_types.specs.Heap.{Heap}
@@ -72,30 +73,35 @@ caller_after_reply ps rss (f ∷ fs) r = set rss f.addon (addon_after_reply (pla
 abbrev pub with_addon_gifts : Registers → ℕ → List ℕ → Registers
 with_addon_gifts rss addon gifts = set rss addon (with_gifts gifts (registers_of rss addon))
 
--- the gifts of the frame that a call of a function enters; an init frame is given nothing, and its registers stay
+-- the gifts of the frame that a call of a function enters
 abbrev pub with_callee_gifts : Registers → Heap → Ask → Registers
 with_callee_gifts rss heap (ask.Do (call.CallFunction receiver f args)) = with_addon_gifts rss (callee_of heap f).addon (call_gifts heap receiver f args)
 with_callee_gifts rss heap _ = rss
 
+-- the gifts of a frame that begins: what its duty tells, where a duty began it, or else those of the call; an init frame is given nothing, and its registers stay
+abbrev pub with_begun_gifts : Registers → Heap → Ask → Option DueInfo → Registers
+with_begun_gifts rss heap a (Some d) = with_addon_gifts rss d.addon d.gifts
+with_begun_gifts rss heap a None = with_callee_gifts rss heap a
+
 -- a call's result goes to its register, that of a call of a function at the end of its frame: it is then the last ask that the caller made
-abbrev pub after_host_event : List Plan → Registers → Environment → Ask → Reply → HostStep → Registers
-after_host_event ps rss e a r host.Begin = with_callee_gifts rss e.heap a
-after_host_event ps rss e a r host.End = caller_after_reply ps rss (at_last_ask (tail e.frames)) r
-after_host_event ps rss e a r _ = rss
+abbrev pub after_host_event : List Plan → Registers → Machine → Ask → Reply → HostStep → Registers
+after_host_event ps rss m a r host.Begin = with_begun_gifts rss m.env.heap a (told_at m r.out)
+after_host_event ps rss m a r host.End = caller_after_reply ps rss (at_last_ask (tail m.env.frames)) r
+after_host_event ps rss m a r _ = rss
 
 -- what happened is a call, or an event of the host
-abbrev pub after_event : List Plan → Registers → Environment → Ask → Reply → What → Registers
-after_event ps rss e a r (what.Call c) = caller_after_reply ps rss e.frames r
-after_event ps rss e a r (what.Host h) = after_host_event ps rss e a r h
+abbrev pub after_event : List Plan → Registers → Machine → Ask → Reply → What → Registers
+after_event ps rss m a r (what.Call c) = caller_after_reply ps rss m.env.frames r
+after_event ps rss m a r (what.Host h) = after_host_event ps rss m a r h
 
 -- an entry of the environment changes them so; one of a thread or a worker changes none, whatever it tells
-abbrev pub after_entry : List Plan → Registers → Environment → Ask → Entry → Actor → Registers
-after_entry ps rss e a x actor.Env = after_event ps rss e a x.reply x.what
-after_entry ps rss e a x _ = rss
+abbrev pub after_entry : List Plan → Registers → Machine → Ask → Entry → Actor → Registers
+after_entry ps rss m a x actor.Env = after_event ps rss m a x.reply x.what
+after_entry ps rss m a x _ = rss
 
 -- the registers after an entry, at this ask
 abbrev pub registers_after : List Plan → Registers → Machine → Ask → Entry → Registers
-registers_after ps rss m a x = after_entry ps rss m.env a x x.actor
+registers_after ps rss m a x = after_entry ps rss m a x x.actor
 
 -- the registers after entries
 abbrev pub registers_along : List Plan → Registers → Machine → List Ask → List Entry → Registers

@@ -1,5 +1,6 @@
 -- The room in the journal and in the history: places that entries take, places that are reserved, and what a call needs.
 use Rattle.std.specs.Prelude.{ℕ, ◌+◌, ◌-◌, ◌*◌, Bool, true, false, cond, not, ◌||◌, nat_lt, min, length}
+use Rattle.napi_types.specs.Book.{owed_tickets}
 use Rattle.napi_types.specs.CallFacts.{facts_of}
 use Rattle.napi_types.specs.declared.call.Call.{Call}
 use Rattle.napi_types.specs.declared.entry.Phase.{Phase}
@@ -24,9 +25,10 @@ abbrev pub gone_place : Phase → ℕ
 gone_place phase.Gone = 0
 gone_place _ = 1
 
--- the places that the journal still owes: the opening, `gone`, two for each init frame to come, and the end of each frame that stands
+-- the places that the journal still owes: the opening, `gone`, two for each init frame to come, the end of each frame that stands, and two for the frame
+-- of each ticket that is registered or due
 abbrev pub reserved_journal : Environment → ℕ
-reserved_journal e = one_if (not e.opened) + gone_place e.phase + 2 * (e.addons - e.inits) + length e.frames
+reserved_journal e = one_if (not e.opened) + gone_place e.phase + 2 * (e.addons - e.inits) + length e.frames + 2 * owed_tickets e.book
 
 -- how many of the four great events have still to happen
 abbrev pub stage_places : Stage → ℕ
@@ -53,8 +55,8 @@ abbrev pub room_of : Machine → Call → Room
 room_of m c = cond (is_shared c) (history_room m.hub m.history_length m.limits.history) (journal_room m.env m.journal_length m.limits.journal)
 
 -- the places that a call needs in the list in which its entry stands, counted as if it were accepted: one for its entry, and those of the events that it
--- owes: the end of the frame that it enters, the frame of the duty that it makes, the start and the finish of a queued work, the close and the finish of a
--- thread-safe function. A work owes nothing until it is queued
+-- owes. These are the end of the frame that it enters and the frame of the duty that it makes; the start and the finish of a queued work; the close and the
+-- finish of a thread-safe function. A work owes nothing until it is queued
 abbrev pub need : Call → ℕ
 need c = (facts_of c).need
 
@@ -70,9 +72,9 @@ first_places = 65536
 abbrev pub is_full : Room → Call → Bool
 is_full r c = nat_lt r.limit (r.occupied + need c)
 
--- a call that takes memory beside that of its places in the list of its entry: one whose result is a newly issued number, `escape_handle` excepted, whose
--- place was kept when the scope opened; one that registers, `queue_async_work` excepted; one that sets a property or an element, wraps or tags, or makes an
--- error; and a collection
+-- a call that takes memory beside that of its places in the list of its entry. Such is one whose result is a newly issued number, `escape_handle` excepted,
+-- whose place was kept when the scope opened, and one that registers, `queue_async_work` excepted. So are those that set a property or an element, wrap or tag,
+-- or make an error, and a collection
 abbrev pub is_growing : Call → Bool
 is_growing c = (facts_of c).grows
 

@@ -1,5 +1,5 @@
 -- The entry that must stand next, what it leaves, and whether it may stand there.
-use Rattle.std.specs.Prelude.{◌+◌, ◌==◌, Bool, true, false, not, ◌&&◌, List, [], ◌∷◌, Option, Some, None}
+use Rattle.std.specs.Prelude.{ℕ, ◌+◌, ◌==◌, Bool, true, false, not, ◌&&◌, List, [], ◌∷◌, Option, Some, None}
 use Rattle.napi_types.specs.declared.call.Call.{Call}
 use Rattle.napi_types.specs.declared.call.Ask.{Ask}
 use Rattle.napi_types.specs.declared.call.Ask.TheVariants as ask
@@ -14,6 +14,7 @@ use Rattle.napi_types.specs.declared.entry.Why.{Why}
 use Rattle.napi_types.specs.declared.entry.Why.TheVariants as why
 use Rattle.napi_types.specs.declared.entry.Phase.{Phase}
 use Rattle.napi_types.specs.declared.entry.Phase.TheVariants as phase
+use Rattle.napi_types.specs.Book.{Registration, is_due, registration_at}
 use Rattle.napi_types.specs.Built.{built_ask}
 use Rattle.napi_types.specs.Frames.{Frame, asks_made, most_asks}
 use Rattle.napi_types.specs.Hub.{Hub, hub_next}
@@ -23,7 +24,8 @@ use Rattle.napi_types.specs.Changes.{Change, host_entry, opening_change, init_ch
 use Rattle.napi_types.specs.Choice.{choice}
 use Rattle.napi_types.specs.Ends.{end_change}
 use Rattle.napi_types.specs.Entering.{asked_change}
-use Rattle.napi_types.specs.Loop.{Event, Opens, Inits, Goes, EndsLoop, Drains, FinalsCome, IsGone}
+use Rattle.napi_types.specs.Loop.{Event, Opens, Inits, Tickets, Goes, EndsLoop, Drains, FinalsCome, IsGone}
+use Rattle.napi_types.specs.Tickets.{ticket_change}
 use Rattle.napi_types.specs.Weave.{Side, Journal, History}
 
 -- an entry, the list on which it stands, the machine after it, and whether it may stand
@@ -55,11 +57,17 @@ hub_moved m event p o (Some h) = record {
 abbrev pub by_hub : Machine → HostStep → Phase → Out → Step
 by_hub m event p o = hub_moved m event p o (hub_next m.hub event)
 
--- EVENTS WITH NO FRAME
--- the step of each event with no frame
+-- EVENTS WHERE NO FRAME STANDS
+-- the frame of a ticket begins; that of one that was never given, or is not due, may not
+abbrev pub ticket_step : Machine → ℕ → Option Registration → Step
+ticket_step m n None = no_step m
+ticket_step m n (Some r) = locally m (ticket_change n r m.env) (is_due r.state)
+
+-- the step of each event where no frame stands
 abbrev pub event_step : Machine → Event → Step
 event_step m Opens = locally m (opening_change m.env) true
 event_step m (Inits n) = locally m (init_change n m.env) true
+event_step m (Tickets n) = ticket_step m n (registration_at m.env.book n)
 event_step m Goes = by_hub m host.Go phase.Live out.Nothing
 event_step m (EndsLoop w) = by_hub m host.LoopEnd phase.Hooks (out.Ended w)
 -- no work is queued, so none is cancelled

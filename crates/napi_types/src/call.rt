@@ -150,8 +150,8 @@ pub enum Call {
 }
 
 impl Call {
-    /// Whether the call is built so far; `create_external` and `wrap` are only without a finalizer. A call that is not built is
-    /// never made: an addon that asks it is taken to leave its frame.
+    /// Whether the call is built so far. A call that is not built is never made: an addon that asks it is taken to leave its
+    /// frame.
     pub fn is_built(&self) -> bool
         ensures { result ≡ is_built self.now }
     {
@@ -172,12 +172,13 @@ impl Call {
             | Call::ReferenceRef(_)
             | Call::ReferenceUnref(_)
             | Call::GetReferenceValue(_)
-            | Call::CreateExternal(_, None, _)
-            | Call::Wrap(_, _, None, _, _)
+            | Call::CreateExternal(..)
+            | Call::Wrap(..)
             | Call::Unwrap(_)
             | Call::RemoveWrap(_)
             | Call::TypeTagObject(..)
             | Call::CheckObjectTypeTag(..)
+            | Call::AddFinalizer(..)
             | Call::Collect
             | Call::GetVersion => true,
             _ => self.is_value_call(),

@@ -1,4 +1,4 @@
-//! Duties that fall due: the tokens that must be spent, so that no duty is lost and none begins twice, and the list of what an addon has seen.
+//! Duties that fall due: the tokens that must be spent, so that none that is taken is lost and none begins twice, and the list of what an addon has seen.
 //!
 //! A [`Slip`] has the memory for one line of such a list. It is armed with what a duty tells, and is then a [`Due`]; that
 //! begins, and is then a [`Begun`]; that ends. The language lets neither of the last two go and uses neither twice.
@@ -44,7 +44,7 @@ impl Drop for Lines {
     }
 }
 
-/// The memory for one line of a [`SeenList`].
+/// The memory for one line of a [`SeenList`]. It is taken as a duty is made, so that none is wanted as the duty begins.
 #[derive(Drop)]
 pub struct Slip {
     place: Box<Lines>,
