@@ -15,5 +15,5 @@ mod values;
 
 pub use errors::{error_value, thrown_value};
 pub use known::{or_undefined, recall};
-pub use makes::give_new;
+pub use makes::make_held;
 pub use step::value_step;

@@ -2,6 +2,7 @@
 ghost use Rattle.std.specs.Prelude.{◌≡◌, ◌≢◌, ◌+◌, ◌<◌, ◌≤◌, ◌^◌, [], length, IfOk, OnOk, OnErr};
 ghost use Rattle.napi_types.specs.Graph.{IsLive, number_in};
 ghost use Rattle.napi_types.specs.HeapChanges.{handle_of, new_value, new_list};
+ghost use Rattle.napi_types.specs.Replies.{accepts};
 ghost use Rattle.env_values.specs.Keeping.{CanGive, CanMake, KeepsScopes, KeepsHeap};
 ghost use Rattle.env_values.specs.Seen.{heap_of};
 ghost use Rattle.env_values.specs.Steps.{Gives};
@@ -23,18 +24,37 @@ pub(crate) fn give(store: &Store, scopes: &mut Scopes, value: ValueId) -> Result
     Ok(Out::Handle(scopes.issue(value)?))
 }
 
-/// Makes a value, and gives its handle. The place of the handle is taken first, so that a value is made only where its handle can be.
-pub fn give_new(store: &mut Store, scopes: &mut Scopes, body: Body) -> Result<Out, NoMemory>
+/// Makes a value, and gives its handle.
+pub(crate) fn give_new(store: &mut Store, scopes: &mut Scopes, body: Body) -> Result<Out, NoMemory>
     requires able { CanMake 1 store.old scopes.old }
     ensures gives { let before = heap_of store.old scopes.old in
         Gives (new_value body before) before result (heap_of store.new scopes.new) }
+    ensures keeps { KeepsHeap store.old scopes.old store.new scopes.new }
+{
+    let (_, out) = make_held(store, scopes, body)?;
+    Ok(out)
+}
+
+/// The same, with the number under which the store has the value. The place of the handle is taken first, so that a value is made
+/// only where its handle can be.
+pub fn make_held(
+    store: &mut Store,
+    scopes: &mut Scopes,
+    body: Body,
+) -> Result<(ValueId, Out), NoMemory>
+    requires able { CanMake 1 store.old scopes.old }
+    ensures live { IfOk result (λ held. IsLive store.new held.0.0) }
+    ensures number { IfOk result (λ held. number_in store.new held.0.0 ≡ store.old.made + 1) }
+    ensures gives { let before = heap_of store.old scopes.old in
+        IfOk result (λ held. new_value body before ≡ accepts held.1 (heap_of store.new scopes.new)) }
+    ensures err { OnErr result (heap_of store.new scopes.new ≡ heap_of store.old scopes.old) }
     ensures keeps { KeepsHeap store.old scopes.old store.new scopes.new }
 {
     scopes.reserve()?;
     // A value that a scope holds has another number than a new one.
     recall(store);
     let value = store.make(body)?;
-    Ok(Out::Handle(scopes.issue_reserved(value)))
+    Ok((value, Out::Handle(scopes.issue_reserved(value))))
 }
 
 /// A new handle of a starting value, by its place in their order: undefined, null, true, false, the global object.

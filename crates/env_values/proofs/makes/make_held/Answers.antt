@@ -1,11 +1,12 @@
-use Rattle.std.proofs.Common.{◌≡◌, ◌∙◌, ◌+◌, ap, refl}
+use Rattle.std.proofs.Common.{◌≡◌, ◌∙◌, ◌+◌, Option, option_map, IsSome, ap, refl, subst, sym}
+use Rattle.std.specs.Option.{unwrap_or}
 use Rattle.napi_types.specs.HeapChanges.{with_value}
-use Rattle.napi_types.specs.Values.{fresh_value}
+use Rattle.napi_types.specs.Values.{Value, fresh_value}
 use Rattle.handle_scope.specs.HandleScopes.{HandleScopes, with_issued_handle, with_reserved_place}
 use Rattle.env_values.specs.Seen.{heap_of}
 use Rattle.env_values.proofs.Giving.{given-answer, made-heap, made-live}
 use Rattle.env_values.proofs.Keeping.{keeps_made}
-use Rattle.env_values.proofs.makes.give_new.Goals as goal
+use Rattle.env_values.proofs.makes.make_held.Goals as goal
 
 pub returns-clause-gives : goal.returns-clause-gives
 returns-clause-gives c =
@@ -27,3 +28,9 @@ returns-clause-keeps c =
       scopes = record { live = made-live c.args.store.now c.make.new.self (with_reserved_place scopes) c.issue_reserved.new.self c.in_ok-value.value.0 _ c.in_ok-value.ensures.made c.requires.able.give.live issued; calls = ap (λ (x : HandleScopes). x.by_call) issued };
       values = keeps_made c.args.store.now c.make.new.self c.in_ok-value.value.0 _ c.recall.ensures c.in_ok-value.ensures.made;
     }
+
+pub returns-clause-live : goal.returns-clause-live
+returns-clause-live c = subst (λ (o : Option Value). IsSome o) (sym c.in_ok-value.ensures.made.named) refl
+
+pub returns-clause-number : goal.returns-clause-number
+returns-clause-number c = ap (λ (o : Option Value). unwrap_or (option_map (λ (v : Value). v.number) o) 0) c.in_ok-value.ensures.made.named
