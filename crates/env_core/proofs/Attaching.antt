@@ -1,38 +1,35 @@
 -- What is attached to values as the machine sees it, and what the calls on it answer.
-use Rattle.std.proofs.Common.{◌≡◌, ◌∙◌, ℕ, ◌≤◌, ◌==◌, ◌&&◌, ◌||◌, Bool, true, false, not, cond, List, [], ◌∷◌, ◌++◌, length, map, filter, get_or, Option, Some, None, is_some, IsSome, IfSome, option_map, refl, ap, sym, subst}
-use Rattle.std.specs.List.{All, list_any, filter_map}
+use Rattle.std.proofs.Common.{◌≡◌, ◌∙◌, ℕ, ◌==◌, ◌&&◌, ◌||◌, Bool, true, false, not, List, [], ◌∷◌, map, get_or, Option, Some, None, is_some, IsSome, IfSome, option_map, refl, ap, sym}
+use Rattle.std.specs.List.{All}
 use Rattle.std.specs.Option.{unwrap_or, option_or}
-use Rattle.std.proofs.lemmas.List.Elements.{All-head, All-tail, All-cons, All-nil, All-append, All-filter}
-use Rattle.std.proofs.lemmas.List.Folds.{list_any-append}
+use Rattle.std.proofs.lemmas.List.Elements.{All-head, All-tail, All-nil, All-filter}
 use Rattle.napi_types.specs.declared.call.Call.{Call}
 use Rattle.napi_types.specs.declared.call.Call.TheVariants as call
-use Rattle.napi_types.specs.declared.entry.Out.{Out}
 use Rattle.napi_types.specs.declared.entry.Out.TheVariants as out
 use Rattle.napi_types.specs.declared.ids.HandleId.{HandleId}
 use Rattle.napi_types.specs.declared.status.Status.{Status}
 use Rattle.napi_types.specs.declared.status.Status.TheVariants as status
-use Rattle.napi_types.specs.AttachmentRefusals.{attachment_refusal}
-use Rattle.napi_types.specs.Attachments.{Wrapped, Tagged, Attached, Attachments, no_attachments, wrap_of, tag_of, is_wrapped, is_tagged, wrap_payload, has_tag, with_wrap, without_wrap, with_tag, left_on, tickets_where, hangs_on}
+use Rattle.napi_types.specs.Attachments.{Wrapped, Tagged, Attached, Attachments, no_attachments, wrap_of, tag_of, is_wrapped, is_tagged, wrap_payload, has_tag, with_wrap, without_wrap, with_tag}
 use Rattle.napi_types.specs.Book.{Book}
 use Rattle.napi_types.specs.Environment.{Environment}
 use Rattle.napi_types.specs.ExpectedKinds.{expects}
 use Rattle.napi_types.specs.Graph.{StoreState, IsSoundStore, IsLive, value_of, number_in}
-use Rattle.napi_types.specs.Heap.{Heap, handle_value}
-use Rattle.napi_types.specs.Lists.{found, has, has_number, with_record, as_map, when, unless}
-use Rattle.napi_types.specs.Refusals.{refusal_in, timely_refusal}
+use Rattle.napi_types.specs.Heap.{handle_value}
+use Rattle.napi_types.specs.Lists.{as_map, when, unless}
+use Rattle.napi_types.specs.Refusals.{timely_refusal}
 use Rattle.napi_types.specs.Replies.{accepts, plain}
-use Rattle.napi_types.specs.ReferenceRefusals.{reference_refusal}
 use Rattle.napi_types.specs.Scopes.{gives}
 use Rattle.napi_types.specs.Values.{Value}
-use Rattle.napi_types.proofs.Found.{same-tells, same-self, IsRising, has-found, map-rising, as_map-with_record, as_map-kept}
+use Rattle.napi_types.proofs.Found.{same-tells, same-self, has-found, as_map-with_record, as_map-kept}
 use Rattle.napi_types.proofs.Maps.{All-with_record}
 use Rattle.env_values.specs.Seen.{KeepsValues}
 use Rattle.env_core.specs.declared.handles.Takes.{Takes}
 use Rattle.env_core.specs.declared.handles.Takes.TheVariants as takes
 use Rattle.env_core.specs.Attaching.{seen_wrap, seen_tag, seen_attached, attachments_seen, IsGiven, IsAttached, is_accepted, target_refusal}
+use Rattle.env_core.specs.Registering.{wants_alone}
 use Rattle.env_core.specs.State.{AnswersInTime}
 use Rattle.env_core.proofs.Referring.{refused-timely, accepted-timely}
-use Rattle.env_core.proofs.Renaming.{same-renamed, found-seen, has-seen, seen-with_record, seen-filter, list_any-seen}
+use Rattle.env_core.proofs.Renaming.{same-renamed, found-seen, has-seen, seen-with_record, seen-filter}
 
 -- no two live values have one creation number
 pub number-apart : (s : StoreState) → IsSoundStore s → (m n : ℕ) → IsLive s m → IsLive s n → number_in s m ≡ number_in s n → m ≡ n
@@ -83,16 +80,17 @@ attached-new s = record {
   given = All-nil (λ (t : Attached). IsGiven [] t.ticket);
 }
 
-pub attached-with_wrap : (s : StoreState) (a : Attachments) (book : Book) (v payload : ℕ) → IsAttached s a book → IsLive s v → IsAttached s (with_wrap v payload None a) book
-attached-with_wrap s a book v payload i live =
-    let wrap : Wrapped = record { value = v; payload = payload; ticket = None } in
+pub attached-with_wrap : (s : StoreState) (a : Attachments) (book : Book) (v payload : ℕ) (ticket : Option ℕ) → IfSome ticket (IsGiven book) → IsAttached s a book → IsLive s v
+    → IsAttached s (with_wrap v payload ticket a) book
+attached-with_wrap s a book v payload ticket given i live =
+    let wrap : Wrapped = record { value = v; payload = payload; ticket = ticket } in
     record {
       wraps = All-with_record (λ (w : Wrapped). w.value) wrap (λ w. IsLive s w.value) a.wraps live i.wraps;
       tags = i.tags;
       tickets = i.tickets;
       wrapped_once = as_map-with_record (λ (w : Wrapped). w.value) wrap a.wraps i.wrapped_once;
       tagged_once = i.tagged_once;
-      given_with_wraps = All-with_record (λ (w : Wrapped). w.value) wrap (λ w. IfSome w.ticket (IsGiven book)) a.wraps tt i.given_with_wraps;
+      given_with_wraps = All-with_record (λ (w : Wrapped). w.value) wrap (λ w. IfSome w.ticket (IsGiven book)) a.wraps given i.given_with_wraps;
       given = i.given;
     }
 
@@ -172,10 +170,15 @@ timely-row e h kinds row hung = ap (λ o. option_or o hung) (regrouped (is_some 
 abbrev pub wrapped_here : Environment → HandleId → Bool
 wrapped_here e h = is_wrapped e.attachments (handle_value e.heap h.0)
 
-pub timely-wrap : (e : Environment) (h : HandleId) (payload hint : ℕ) (wanted : Bool)
-    → timely_refusal e (call.Wrap h payload None hint wanted)
-    ≡ option_or (option_or (target_refusal takes.Objects e.heap h) (when wanted status.InvalidArg)) (when (wrapped_here e h) status.InvalidArg)
-timely-wrap e h payload hint wanted = timely-row e h takes.Objects (when wanted status.InvalidArg) (when (wrapped_here e h) status.InvalidArg)
+pub timely-wrap : (e : Environment) (h : HandleId) (payload : ℕ) (finalizer : Option ℕ) (hint : ℕ) (wanted : Bool)
+    → timely_refusal e (call.Wrap h payload finalizer hint wanted)
+    ≡ option_or (option_or (target_refusal takes.Objects e.heap h) (when (wants_alone finalizer wanted) status.InvalidArg)) (when (wrapped_here e h) status.InvalidArg)
+timely-wrap e h payload None hint wanted = timely-row e h takes.Objects (when wanted status.InvalidArg) (when (wrapped_here e h) status.InvalidArg)
+timely-wrap e h payload (Some entry) hint wanted = timely-row e h takes.Objects None (when (wrapped_here e h) status.InvalidArg)
+
+pub timely-finalizer : (e : Environment) (h : HandleId) (payload entry hint : ℕ) (wanted : Bool)
+    → timely_refusal e (call.AddFinalizer h payload entry hint wanted) ≡ option_or (option_or (target_refusal takes.Objects e.heap h) None) None
+timely-finalizer e h payload entry hint wanted = timely-row e h takes.Objects None None
 
 pub timely-unwrap : (e : Environment) (h : HandleId)
     → timely_refusal e (call.Unwrap h) ≡ option_or (option_or (target_refusal takes.Objects e.heap h) None) (unless (wrapped_here e h) status.InvalidArg)
@@ -207,6 +210,14 @@ target-taken e c o row hung is none = is ∙ ap (λ p. option_or (option_or p ro
 pub untold : {A : Type 0} (o : Option A) → is_some o ≡ false → None ≡ o
 untold None h = refl
 untold (Some x) h = cc
+
+-- a value that has no wrap
+pub wrap-free : (a : Attachments) (v : ℕ) → None ≡ option_map (λ (w : Wrapped). w.payload) (wrap_of a v) → is_wrapped a v ≡ false
+wrap-free a v is = has-found (λ (w : Wrapped). w.value) v a.wraps ∙ by (wrap_of a v) is
+  where
+    by : (p : Option Wrapped) → None ≡ option_map (λ (w : Wrapped). w.payload) p → is_some p ≡ false
+    by None at = refl
+    by (Some w) at = let no : ⊥ = cc in absurd no
 
 -- the halves of a tag
 abbrev pub halves : Tagged → ℕ × ℕ
@@ -273,45 +284,28 @@ module _ (e : Environment) (s : StoreState) (sound : IsSoundStore s) (a : Attach
       mapped (Some t) = refl
 
   -- WRAPS
-  unwrapped : None ≡ option_map (λ (w : Wrapped). w.payload) (wrap_of a v) → is_wrapped a v ≡ false
-  unwrapped is = has-found (λ (w : Wrapped). w.value) v a.wraps ∙ by (wrap_of a v) is
-    where
-      by : (p : Option Wrapped) → None ≡ option_map (λ (w : Wrapped). w.payload) p → is_some p ≡ false
-      by None at = refl
-      by (Some w) at = let no : ⊥ = cc in absurd no
-
-  pub wrap-refused : (payload hint : ℕ) (wanted : Bool) (o : Option ℕ) → None ≡ target_refusal takes.Objects e.heap h → o ≡ option_map (λ (w : Wrapped). w.payload) (wrap_of a v) → wanted || is_some o ≡ true
-      → AnswersInTime (attaching e s a) (call.Wrap h payload None hint wanted) (plain status.InvalidArg out.Nothing) (attaching e s a)
-  wrap-refused payload hint wanted o taken is either =
-      refused-timely (attaching e s a) (call.Wrap h payload None hint wanted) status.InvalidArg
-      (target-taken (attaching e s a) (call.Wrap h payload None hint wanted) (target_refusal takes.Objects e.heap h) (when wanted status.InvalidArg) (when (wrapped_here (attaching e s a) h) status.InvalidArg)
-      (timely-wrap (attaching e s a) h payload hint wanted) taken
-      ∙ ap (λ b. option_or (when wanted status.InvalidArg) (when b status.InvalidArg)) (seen-is_wrapped o is) ∙ by wanted (is_some o) either)
+  pub wrap-refused : (payload hint : ℕ) (finalizer : Option ℕ) (wanted : Bool) (o : Option ℕ) → None ≡ target_refusal takes.Objects e.heap h
+      → o ≡ option_map (λ (w : Wrapped). w.payload) (wrap_of a v) → wants_alone finalizer wanted || is_some o ≡ true
+      → AnswersInTime (attaching e s a) (call.Wrap h payload finalizer hint wanted) (plain status.InvalidArg out.Nothing) (attaching e s a)
+  wrap-refused payload hint finalizer wanted o taken is either =
+      refused-timely (attaching e s a) (call.Wrap h payload finalizer hint wanted) status.InvalidArg
+      (target-taken (attaching e s a) (call.Wrap h payload finalizer hint wanted) (target_refusal takes.Objects e.heap h) (when (wants_alone finalizer wanted) status.InvalidArg)
+      (when (wrapped_here (attaching e s a) h) status.InvalidArg) (timely-wrap (attaching e s a) h payload finalizer hint wanted) taken
+      ∙ ap (λ b. option_or (when (wants_alone finalizer wanted) status.InvalidArg) (when b status.InvalidArg)) (seen-is_wrapped o is) ∙ by (wants_alone finalizer wanted) (is_some o) either)
     where
       by : (b c : Bool) → b || c ≡ true → option_or (when b status.InvalidArg) (when c status.InvalidArg) ≡ Some status.InvalidArg
       by true c at = refl
       by false true at = refl
       by false false at = cc
 
-  pub wrap-unrefused : (payload hint : ℕ) (wanted : Bool) (o : Option ℕ) → None ≡ target_refusal takes.Objects e.heap h → o ≡ option_map (λ (w : Wrapped). w.payload) (wrap_of a v) → wanted || is_some o ≡ false
-      → timely_refusal (attaching e s a) (call.Wrap h payload None hint wanted) ≡ None
-  wrap-unrefused payload hint wanted o taken is neither =
-      target-taken (attaching e s a) (call.Wrap h payload None hint wanted) (target_refusal takes.Objects e.heap h) (when wanted status.InvalidArg) (when (wrapped_here (attaching e s a) h) status.InvalidArg)
-      (timely-wrap (attaching e s a) h payload hint wanted) taken
-      ∙ ap (λ b. option_or (when wanted status.InvalidArg) (when b status.InvalidArg)) (seen-is_wrapped o is) ∙ by wanted (is_some o) neither
-    where
-      by : (b c : Bool) → b || c ≡ false → option_or (when b status.InvalidArg) (when c status.InvalidArg) ≡ None
-      by true c at = cc
-      by false true at = cc
-      by false false at = refl
-
-  pub wrap-answers : (payload hint : ℕ) (wanted : Bool) (new : Attachments) → None ≡ option_map (λ (w : Wrapped). w.payload) (wrap_of a v) → new ≡ with_wrap v payload None a
-      → timely_refusal (attaching e s a) (call.Wrap h payload None hint wanted) ≡ None
-      → AnswersInTime (attaching e s a) (call.Wrap h payload None hint wanted) (plain status.Ok out.Nothing) (attaching e s new)
-  wrap-answers payload hint wanted new free is none =
-      accepted-timely (attaching e s a) (attaching e s new) (call.Wrap h payload None hint wanted) out.Nothing none refl
-      (ap (λ x. accepts out.Nothing (record e { attachments = x }))
-      (ap (λ n. with_wrap n payload None (attachments_seen s a)) (sym number) ∙ sym (ap (attachments_seen s) is ∙ seen-with_wrap s sound a v payload None live i.wraps i.wrapped_once (unwrapped free))))
+  pub wrap-unrefused : (payload hint : ℕ) (finalizer : Option ℕ) (wanted : Bool) (o : Option ℕ) → None ≡ target_refusal takes.Objects e.heap h
+      → o ≡ option_map (λ (w : Wrapped). w.payload) (wrap_of a v) → wants_alone finalizer wanted ≡ false → is_some o ≡ false
+      → timely_refusal (attaching e s a) (call.Wrap h payload finalizer hint wanted) ≡ None
+  wrap-unrefused payload hint finalizer wanted o taken is apart free =
+      target-taken (attaching e s a) (call.Wrap h payload finalizer hint wanted) (target_refusal takes.Objects e.heap h) (when (wants_alone finalizer wanted) status.InvalidArg)
+      (when (wrapped_here (attaching e s a) h) status.InvalidArg) (timely-wrap (attaching e s a) h payload finalizer hint wanted) taken
+      ∙ ap (λ b. option_or (when (wants_alone finalizer wanted) status.InvalidArg) (when b status.InvalidArg)) (seen-is_wrapped o is ∙ free)
+      ∙ ap (λ b. option_or (when b status.InvalidArg) None) apart
 
   pub unwrap-answers : (payload : ℕ) → None ≡ target_refusal takes.Objects e.heap h → Some payload ≡ option_map (λ (w : Wrapped). w.payload) (wrap_of a v)
       → AnswersInTime (attaching e s a) (call.Unwrap h) (plain status.Ok (out.Unsigned payload)) (attaching e s a)
@@ -328,16 +322,11 @@ module _ (e : Environment) (s : StoreState) (sound : IsSoundStore s) (a : Attach
       (target-taken (attaching e s a) (call.Unwrap h) (target_refusal takes.Objects e.heap h) None (unless (wrapped_here (attaching e s a) h) status.InvalidArg) (timely-unwrap (attaching e s a) h) taken
       ∙ ap (λ b. unless b status.InvalidArg) (seen-is_wrapped None is))
 
-  pub remove-answers : (payload : ℕ) (new : Attachments) → None ≡ target_refusal takes.Objects e.heap h → Some payload ≡ option_map (λ (w : Wrapped). w.payload) (wrap_of a v) → new ≡ without_wrap v a
-      → AnswersInTime (attaching e s a) (call.RemoveWrap h) (plain status.Ok (out.Unsigned payload)) (attaching e s new)
-  remove-answers payload new taken is left =
-      accepted-timely (attaching e s a) (attaching e s new) (call.RemoveWrap h) (out.Unsigned payload)
-      (target-taken (attaching e s a) (call.RemoveWrap h) (target_refusal takes.Objects e.heap h) None (unless (wrapped_here (attaching e s a) h) status.InvalidArg) (timely-remove (attaching e s a) h) taken
-      ∙ ap (λ b. unless b status.InvalidArg) (seen-is_wrapped (Some payload) is))
-      refl
-      (ap (λ k. accepts (out.Unsigned k) (record e { attachments = without_wrap (handle_value e.heap h.0) (attachments_seen s a) })) (sym (seen-payload payload is))
-      ∙ ap (λ x. accepts (out.Unsigned payload) (record e { attachments = x }))
-      (ap (λ n. without_wrap n (attachments_seen s a)) (sym number) ∙ sym (ap (attachments_seen s) left ∙ seen-without_wrap s sound a v live i.wraps)))
+  pub remove-unrefused : (payload : ℕ) → None ≡ target_refusal takes.Objects e.heap h → Some payload ≡ option_map (λ (w : Wrapped). w.payload) (wrap_of a v)
+      → timely_refusal (attaching e s a) (call.RemoveWrap h) ≡ None
+  remove-unrefused payload taken is =
+      target-taken (attaching e s a) (call.RemoveWrap h) (target_refusal takes.Objects e.heap h) None (unless (wrapped_here (attaching e s a) h) status.InvalidArg) (timely-remove (attaching e s a) h) taken
+      ∙ ap (λ b. unless b status.InvalidArg) (seen-is_wrapped (Some payload) is)
 
   pub remove-refused : None ≡ target_refusal takes.Objects e.heap h → None ≡ option_map (λ (w : Wrapped). w.payload) (wrap_of a v)
       → AnswersInTime (attaching e s a) (call.RemoveWrap h) (plain status.InvalidArg out.Nothing) (attaching e s a)

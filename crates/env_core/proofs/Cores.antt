@@ -1,26 +1,42 @@
 -- A core stays one where an entry is written.
-use Rattle.std.proofs.Common.{◌≡◌, ◌≤◌, ◌≢◌, ℕ, ◌+◌, ◌-◌, nat_lt, Bool, true, false, ◌&&◌, IsTrue, List, [], ◌∷◌, ◌++◌, length, Option, Some, None, is_none, subst, sym, ap, ◌∙◌, arith, length-append, refl}
+use Rattle.std.proofs.Common.{◌≡◌, ◌≤◌, ◌≢◌, ℕ, ◌+◌, ◌-◌, ◌*◌, ◌==◌, nat_lt, Bool, true, false, ◌&&◌, IsTrue, List, [], ◌∷◌, ◌++◌, length, Option, Some, None, is_none, is_some, subst, sym, ap, ◌∙◌, arith, length-append, refl}
+use Rattle.napi_types.specs.declared.call.Args.{Args}
 use Rattle.napi_types.specs.declared.call.Call.{Call}
 use Rattle.napi_types.specs.declared.call.Call.TheVariants as call
+use Rattle.napi_types.specs.declared.entry.Cause.{Cause}
+use Rattle.napi_types.specs.declared.entry.Cause.TheVariants as cause
+use Rattle.napi_types.specs.declared.entry.Duty.{Duty}
+use Rattle.napi_types.specs.declared.entry.Duty.TheVariants as duty
 use Rattle.napi_types.specs.declared.entry.Entry.{Entry}
 use Rattle.napi_types.specs.declared.entry.Local.{Local}
+use Rattle.napi_types.specs.declared.entry.Phase.{Phase}
+use Rattle.napi_types.specs.declared.entry.Phase.TheVariants as phase
+use Rattle.napi_types.specs.declared.entry.Reply.{Reply}
 use Rattle.napi_types.specs.declared.entry.Why.{Why}
 use Rattle.napi_types.specs.declared.ids.HandleId.{HandleId}
-use Rattle.napi_types.specs.Built.{is_built, is_calling}
-use Rattle.napi_types.specs.Changes.{call_change, number_of}
-use Rattle.napi_types.specs.Ends.{end_change}
+use Rattle.napi_types.specs.declared.status.Status.{Status}
+use Rattle.napi_types.specs.Book.{Book, Registration, registration_at, lowest_due, owed_tickets, made_due, made_begun, made_ended, moved_at}
+use Rattle.napi_types.specs.Built.{is_calling}
+use Rattle.napi_types.specs.Calls.{answer_unless_deep}
+use Rattle.napi_types.specs.Changes.{call_change, number_of, book_in, in_phase}
+use Rattle.napi_types.specs.Ends.{duty_ended, end_change_by, outermost_end_change, end_change}
 use Rattle.napi_types.specs.Entering.{is_entering}
 use Rattle.napi_types.specs.Environment.{Environment}
-use Rattle.napi_types.specs.Frames.{Frame}
+use Rattle.napi_types.specs.Frames.{Frame, caller_of, cause_of, duty_of}
 use Rattle.napi_types.specs.Lists.{tail}
-use Rattle.napi_types.specs.Refusals.{refusal}
-use Rattle.napi_types.specs.Room.{reserved_journal, need, is_full}
+use Rattle.napi_types.specs.Loop.{ticket_in, next_ticket}
+use Rattle.napi_types.specs.Phases.{next_phase}
+use Rattle.napi_types.specs.Refusals.{refusal, early_refusal, depth_refusal}
+use Rattle.napi_types.specs.Room.{one_if, gone_place, reserved_journal, need, is_full}
+use Rattle.napi_types.specs.Tickets.{ticket_change}
 use Rattle.env_core.specs.Journal.{Pages}
 use Rattle.env_core.specs.Core.{Core, IsCore, after_change, room_in}
 use Rattle.env_core.specs.State.{Calls}
 use Rattle.env_core.specs.Steps.{Replies}
-use Rattle.napi_types.proofs.Answers.{course-parts, KeepsButAsk}
-use Rattle.napi_types.proofs.FrameChanges.{KeepsButFrame, ended-keeps}
+use Rattle.napi_types.proofs.Answers.{course-parts, KeepsButAsk, call_change-keeps, call-reserved}
+use Rattle.napi_types.proofs.Books.{owed-due_where, owed-begun, IsDueAt, lowest-due, length-moved}
+use Rattle.napi_types.proofs.BookSteps.{step-length}
+use Rattle.napi_types.proofs.FrameChanges.{book_left, owed-left, KeepsButFrame, ended-keeps}
 
 -- the core of an environment and a journal
 abbrev pub core_of : Environment → Pages → Core
@@ -34,8 +50,8 @@ written x promised pages = record pages { entries = pages.entries ++ record { at
 core-pushed : (old new : Environment) (pages after : Pages) (x : Entry) (k : ℕ) → IsCore old pages → after ≡ written x k pages
     → k ≡ reserved_journal new → length pages.entries + 1 + k ≤ pages.limit
     → new.heap.handles ≤ old.heap.handles + 1 → length new.heap.scope_numbers ≤ length old.heap.scope_numbers + 1 → length new.references.issued ≤ length old.references.issued + 1 → new.heap.made ≤ old.heap.made + 65537
-    → IsCore new after
-core-pushed old new pages after x k c e promised room handles scopes references made =
+    → length new.book ≤ length old.book + 1 → IsCore new after
+core-pushed old new pages after x k c e promised room handles scopes references made tickets =
     let P : Pages → Type 0 = λ p. IsCore new p in
     let l : Local = record { at = pages.position; entry = x } in
     let grown : length (pages.entries ++ l ∷ []) ≡ length pages.entries + 1 = length-append pages.entries (l ∷ []) in
@@ -46,29 +62,82 @@ core-pushed old new pages after x k c e promised room handles scopes references 
       handles = omega (arith, c.handles, handles, grown);
       scopes = omega (arith, c.scopes, scopes, grown);
       references = omega (arith, c.references, references, grown);
+      tickets = omega (arith, c.tickets, tickets, grown);
       values = omega (arith, c.values, made, grown);
     })
 
--- a call reserves no place and gives none back
-pub reserved-kept : (old new : Environment) → KeepsButAsk old new → reserved_journal new ≡ reserved_journal old
-reserved-kept old new k = let course = course-parts old new k.course in rw (course.opened, course.phase, course.addons, course.inits, k.depth) refl
+-- what a call keeps, by its entry
+pub calls-keep : (old new : Environment) (c : Call) (x : Entry) → Calls old c x new → KeepsButAsk c old x.reply new
+calls-keep old new c x calls =
+    let n : ℕ = number_of x.reply.out in
+    let P : Entry → Type 0 = λ y. KeepsButAsk c old y.reply (call_change old c n).after in
+    let Q : Environment → Type 0 = λ e. KeepsButAsk c old x.reply e in
+    subst Q (sym calls.after) (subst P (sym calls.entry) (call_change-keeps old c n))
 
-pub core-call_change : (old new : Environment) (pages after : Pages) (x : Entry) (n : ℕ) → IsCore old pages → KeepsButAsk old new
-    → length pages.entries + pages.promised + 1 ≤ pages.limit → n ≡ pages.promised → after ≡ written x n pages → IsCore new after
-core-call_change old new pages after x n c k room same e =
-    let kept : reserved_journal new ≡ reserved_journal old = reserved-kept old new k in
-    core-pushed old new pages after x n c e (same ∙ c.reserved ∙ sym kept) (omega (arith, same, room)) k.heap.handles k.heap.scopes k.references k.heap.made
+-- a call of a function withdraws nothing
+called-drops : (e : Environment) (receiver : Option HandleId) (f : HandleId) (args : Args) (n : ℕ) (early deep : Option Status)
+    → (answer_unless_deep e (call.CallFunction receiver f args) n early deep).reply.dropped ≡ None
+called-drops e receiver f args n None None = refl
+called-drops e receiver f args n None (Some s) = refl
+called-drops e receiver f args n (Some s) None = refl
+called-drops e receiver f args n (Some s) (Some deep) = refl
+
+pub called-places : (e : Environment) (receiver : Option HandleId) (f : HandleId) (args : Args) (x : Entry) (new : Environment) (promised : ℕ)
+    → Calls e (call.CallFunction receiver f args) x new → promised + 2 - 1 - 1 + 2 * one_if (is_some x.reply.dropped) ≡ promised + 2 * one_if (is_some x.reply.made)
+called-places e receiver f args x new promised calls =
+    let c : Call = call.CallFunction receiver f args in
+    let places : 1 + 2 * one_if (is_some x.reply.made) ≤ 2 = (calls-keep e new c x calls).makes.places in
+    let drops : x.reply.dropped ≡ None =
+    ap (λ (y : Entry). y.reply.dropped) calls.entry ∙ called-drops e receiver f args (number_of x.reply.out) (early_refusal e c) (depth_refusal e.frames c) in
+    let none : one_if (is_some x.reply.dropped) ≡ 0 = ap (λ o. one_if (is_some o)) drops in
+    omega (arith, places, none)
+
+-- a duty that is made has places for its frame, and one that is withdrawn had them
+pub record KeepsPlaces (promised : ℕ) (c : Call) (r : Reply) : Type 0 where
+  pub made : 1 + 2 * one_if (is_some r.made) ≤ need c
+  pub dropped : 2 * one_if (is_some r.dropped) ≤ promised + 2 * one_if (is_some r.made)
+
+pub places-kept : (old new : Environment) (pages : Pages) (c : Call) (r : Reply) → IsCore old pages → KeepsButAsk c old r new → KeepsPlaces pages.promised c r
+places-kept old new pages c r core k =
+    let law : reserved_journal new + 2 * one_if (is_some r.dropped) ≡ reserved_journal old + 2 * one_if (is_some r.made) = call-reserved old c r new k in
+    record { made = k.makes.places; dropped = omega (arith, law, core.reserved) }
+
+pub core-call_change : (old new : Environment) (pages after : Pages) (c : Call) (x : Entry) (n : ℕ) → IsCore old pages → KeepsButAsk c old x.reply new
+    → length pages.entries + pages.promised + need c ≤ pages.limit
+    → n + 2 * one_if (is_some x.reply.dropped) ≡ pages.promised + 2 * one_if (is_some x.reply.made) → after ≡ written x n pages → IsCore new after
+core-call_change old new pages after c x n core k room left e =
+    let law : reserved_journal new + 2 * one_if (is_some x.reply.dropped) ≡ reserved_journal old + 2 * one_if (is_some x.reply.made) = call-reserved old c x.reply new k in
+    let places : 1 + 2 * one_if (is_some x.reply.made) ≤ need c = k.makes.places in
+    core-pushed old new pages after x n core e (omega (arith, law, left, core.reserved)) (omega (arith, left, places, room)) k.heap.handles k.heap.scopes k.references k.heap.made
+    (step-length (caller_of old.frames) old.book x.reply.made x.reply.dropped new.book k.book)
 
 length-left : (fs : List Frame) → fs ≢ [] → length (tail fs) + 1 ≡ length fs
 length-left [] h = absurd (h refl)
 length-left (f ∷ fs) h = omega arith
 
+length-duty : (d : Option Duty) (book : Book) → length (duty_ended d book) ≡ length book
+length-duty (Some (duty.Ticket t)) book = length-moved made_ended (λ m. m == t.0) book
+length-duty (Some (duty.Work n)) book = refl
+length-duty (Some (duty.Item f n)) book = refl
+length-duty (Some (duty.Function f)) book = refl
+length-duty None book = refl
+
+length-book_left : (c : Cause) (d : Option Duty) (book : Book) → length (book_left c d book) ≡ length book
+length-book_left cause.Call d book = refl
+length-book_left _ d book = length-duty d book
+
+-- a frame that no call began ends as an outermost one
+pub end-outermost : (v : Option HandleId) (cut : Option Why) (e : Environment) (c : Cause) → c ≢ cause.Call → end_change_by v cut e c ≡ outermost_end_change cut e
+end-outermost v cut e cause.Call uncalled = absurd (uncalled refl)
+end-outermost v cut e _ uncalled = refl
+
 -- the end of a frame fills its place
 reserved-ended : (old new : Environment) → old.frames ≢ [] → KeepsButFrame old new → reserved_journal new + 1 ≡ reserved_journal old
 reserved-ended old new stands k =
     let left : length (tail old.frames) + 1 ≡ length old.frames = length-left old.frames stands in
+    let owed : owed_tickets (book_left (cause_of old.frames) (duty_of old.frames) old.book) ≡ owed_tickets old.book = owed-left (cause_of old.frames) (duty_of old.frames) old.book in
     let course = course-parts old new k.course in
-    rw (course.opened, course.phase, course.addons, course.inits, k.frames) (omega (arith, left))
+    rw (course.opened, course.phase, course.addons, course.inits, k.frames, k.book) (omega (arith, left, owed))
 
 pub core-ended : (old new : Environment) (pages after : Pages) (x : Entry) (v : Option HandleId) (cut : Option Why) → IsCore old pages → old.frames ≢ []
     → new ≡ (end_change v cut old).after → after ≡ written x (pages.promised - 1) pages → IsCore new after
@@ -78,24 +147,72 @@ core-ended old new pages after x v cut c stands h e =
     let fewer : reserved_journal new + 1 ≡ reserved_journal old = reserved-ended old new stands k in
     core-pushed old new pages after x (pages.promised - 1) c e (omega (arith, fewer, c.reserved)) (omega (arith, fewer, c.reserved, c.within))
     k.handles (omega (arith, ap length k.scope_numbers)) (omega (arith, ap (λ m. length m.issued) k.references)) (omega (arith, k.made))
+    (omega (arith, ap length k.book, length-book_left (cause_of old.frames) (duty_of old.frames) old.book))
+
+-- THE FRAME OF A TICKET
+-- a ticket that begins had two places, and its begin fills one
+pub reserved-begun : (old new : Environment) (n : ℕ) (r : Registration) → lowest_due old.book ≡ Some n → registration_at old.book n ≡ Some r → new ≡ (ticket_change n r old).after
+    → reserved_journal new + 1 ≡ reserved_journal old
+reserved-begun old new n r lowest there is =
+    let d : IsDueAt old.book n = lowest-due old.book n lowest in
+    let owed : owed_tickets (moved_at made_begun n old.book) + 1 ≡ owed_tickets old.book = owed-begun n old.book d.registration d.there d.due in
+    rw is (omega (arith, owed))
+
+pub core-begun : (old new : Environment) (pages after : Pages) (x : Entry) (n : ℕ) (r : Registration) → IsCore old pages → lowest_due old.book ≡ Some n → registration_at old.book n ≡ Some r
+    → new ≡ (ticket_change n r old).after → after ≡ written x (pages.promised - 1) pages → IsCore new after
+core-begun old new pages after x n r c lowest there is e =
+    let fewer : reserved_journal new + 1 ≡ reserved_journal old = reserved-begun old new n r lowest there is in
+    core-pushed old new pages after x (pages.promised - 1) c e (omega (arith, fewer, c.reserved)) (omega (arith, fewer, c.reserved, c.within))
+    (omega (arith, ap (λ (s : Environment). s.heap.handles) is)) (omega (arith, ap (λ (s : Environment). length s.heap.scope_numbers) is))
+    (omega (arith, ap (λ (s : Environment). length s.references.issued) is)) (omega (arith, ap (λ (s : Environment). s.heap.made) is))
+    (omega (arith, ap (λ (s : Environment). length s.book) is, length-moved made_begun (λ m. m == n) old.book))
+
+-- a ticket is next only in a phase in which tickets begin, and is the lowest that is due
+pub next-lowest : (e : Environment) (n : ℕ) → next_ticket e ≡ Some n → lowest_due e.book ≡ Some n
+next-lowest e n is = by e.phase is
+  where
+    by : (p : Phase) → ticket_in e p ≡ Some n → lowest_due e.book ≡ Some n
+    by phase.Live is = is
+    by phase.Finals is = is
+    by _ is = let no : ⊥ = cc in absurd no
+
+-- A PHASE STARTS
+owed-in : (p : Phase) (book : Book) → owed_tickets (book_in p book) ≡ owed_tickets book
+owed-in phase.Finals book = owed-due_where (λ n. true) book
+owed-in _ book = refl
+
+length-in : (p : Phase) (book : Book) → length (book_in p book) ≡ length book
+length-in phase.Finals book = length-moved made_due (λ n. true) book
+length-in _ book = refl
+
+one-place : (p : Phase) → p ≢ phase.Gone → gone_place p ≡ 1
+one-place phase.Gone stays = absurd (stays refl)
+one-place _ stays = refl
+
+goes-on : (p q : Phase) → next_phase p ≡ Some q → gone_place p ≡ 1
+goes-on phase.Gone q next = let no : ⊥ = cc in absurd no
+goes-on _ q next = refl
+
+-- the phases before the last owe the same places
+pub core-phase : (old new : Environment) (pages after : Pages) (p : Phase) (n : ℕ) → IsCore old pages → next_phase old.phase ≡ Some p → p ≢ phase.Gone → new ≡ in_phase p old
+    → after ≡ record pages { position = n } → IsCore new after
+core-phase old new pages after p n c next stays is e =
+    let places : gone_place p ≡ gone_place old.phase = one-place p stays ∙ sym (goes-on old.phase p next) in
+    let same : reserved_journal (in_phase p old) ≡ reserved_journal old = rw (places, owed-in p old.book) refl in
+    rw (is, e) (record {
+      reserved = c.reserved ∙ sym same;
+      within = c.within;
+      small = c.small;
+      handles = c.handles;
+      scopes = c.scopes;
+      references = c.references;
+      tickets = omega (arith, c.tickets, length-in p old.book);
+      values = c.values;
+    })
 
 -- WHAT A STEP TELLS
 pub other-at-once : (e : Environment) (c : Call) → is_calling c ≡ false → is_entering e c ≡ false
 other-at-once e c h = ap (λ b. b && is_none (refusal e c)) h
-
-pub other-need : (c : Call) → is_built c ≡ true → is_calling c ≡ false → need c ≡ 1
-other-need (call.CallFunction receiver f args) b h = cc
-other-need (call.CreateExternal payload None hint) b h = refl
-other-need (call.CreateExternal payload (Some entry) hint) b h = cc
-other-need (call.Wrap object payload None hint wanted) b h = refl
-other-need (call.Wrap object payload (Some entry) hint wanted) b h = cc
-other-need (call.AddFinalizer object payload finalizer hint ref) b h = cc
-other-need (call.SetInstanceData payload finalizer hint) b h = cc
-other-need (call.AddEnvCleanupHook entry arg) b h = cc
-other-need (call.QueueAsyncWork w) b h = cc
-other-need (call.CreateThreadsafeFunction f entry most initial finalizer context) b h = cc
-other-need (call.CallThreadsafeFunction f payload mode) b h = cc
-other-need _ b h = refl
 
 not-lt : (a b : ℕ) → b ≤ a → nat_lt a b ≡ false
 not-lt a b h = grind arith

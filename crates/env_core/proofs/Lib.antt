@@ -1,4 +1,5 @@
 pub mod Attaching
+pub mod Beginning
 pub mod Called
 pub mod Collecting
 pub mod Cores
@@ -8,6 +9,7 @@ pub mod Freeing
 pub mod Knowing
 pub mod Looking
 pub mod Referring
+pub mod Registered
 pub mod Renaming
 pub mod Rooting
 pub mod Scopes

@@ -115,15 +115,19 @@ refused-timely e c s why = record {
   after = ap (λ (o : Option Status). (answer_unless e c 0 o).after) (sym why);
 }
 
--- one that is accepted
-pub accepted-timely : (e new : Environment) (c : Call) (o : Out) → timely_refusal e c ≡ None → is_fresh_result e o ≡ true → effect e c (number_of o) ≡ accepts o new → AnswersInTime e c (plain status.Ok o) new
-accepted-timely e new c o none fresh is =
-    let answer : answer_unless e c (number_of o) (timely_refusal e c) ≡ accepts o new = ap (answer_unless e c (number_of o)) none ∙ is in
+-- one that is accepted, whatever duties its reply tells
+pub replied-timely : (e new : Environment) (c : Call) (r : Reply) → timely_refusal e c ≡ None → is_fresh_result e r.out ≡ true → effect e c (number_of r.out) ≡ record { reply = r; after = new } → AnswersInTime e c r new
+replied-timely e new c r none fresh is =
+    let answer : answer_unless e c (number_of r.out) (timely_refusal e c) ≡ record { reply = r; after = new } = ap (answer_unless e c (number_of r.out)) none ∙ is in
     record {
       fresh = fresh;
       reply = ap (λ (a : Answer Environment). a.reply) (sym answer);
       after = ap (λ (a : Answer Environment). a.after) (sym answer);
     }
+
+-- the same where it tells none
+pub accepted-timely : (e new : Environment) (c : Call) (o : Out) → timely_refusal e c ≡ None → is_fresh_result e o ≡ true → effect e c (number_of o) ≡ accepts o new → AnswersInTime e c (plain status.Ok o) new
+accepted-timely e new c o none fresh is = replied-timely e new c (plain status.Ok o) none fresh is
 
 pub or-none : (o : Option Status) → option_or o None ≡ o
 or-none None = refl

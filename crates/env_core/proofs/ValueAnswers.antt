@@ -3,12 +3,9 @@ use Rattle.std.proofs.Common.{◌≡◌, ℕ, true, List, [], ◌∷◌, length,
 use Rattle.std.specs.List.{All}
 use Rattle.std.proofs.lemmas.List.{length-map}
 use Rattle.std.proofs.lemmas.List.Elements.{All-nil, All-cons, All-head, All-tail}
-use Rattle.napi_types.specs.declared.body.Body.TheVariants as body
 use Rattle.napi_types.specs.declared.call.Call.{Call}
 use Rattle.napi_types.specs.declared.call.Call.TheVariants as call
-use Rattle.napi_types.specs.declared.entry.Out.{Out}
 use Rattle.napi_types.specs.declared.status.Status.{Status}
-use Rattle.napi_types.specs.declared.status.Status.TheVariants as status
 use Rattle.napi_types.specs.AttachmentRefusals.{attachment_refusal}
 use Rattle.napi_types.specs.Attachments.{Attachments}
 use Rattle.napi_types.specs.Built.{is_value_call}
@@ -16,8 +13,7 @@ use Rattle.napi_types.specs.declared.entry.Reply.{Reply}
 use Rattle.napi_types.specs.Heap.{Heap}
 use Rattle.napi_types.specs.Frames.{caller_of}
 use Rattle.napi_types.specs.Graph.{StoreState, IsLive}
-use Rattle.napi_types.specs.HeapChanges.{new_value}
-use Rattle.napi_types.specs.Replies.{Answer, accepts, plain}
+use Rattle.napi_types.specs.Replies.{Answer}
 use Rattle.napi_types.specs.Environment.{Environment, with_heap, in_heap}
 use Rattle.napi_types.specs.Calls.{addon_effect, heap_answer_unless, heap_answer, effect, answer_unless}
 use Rattle.napi_types.specs.References.{Reference, ReferenceMap}
@@ -30,7 +26,7 @@ use Rattle.env_values.specs.Seen.{seen_frame, heap_of, KeepsValues}
 use Rattle.napi_types.specs.Book.{Book}
 use Rattle.env_core.specs.Attaching.{attachments_seen, IsAttached}
 use Rattle.env_core.proofs.Attaching.{attachments-kept}
-use Rattle.env_core.proofs.Referring.{or-none, accepted-timely}
+use Rattle.env_core.proofs.Referring.{or-none}
 use Rattle.env_core.specs.Referring.{seen_reference, references_seen, RefersToLive}
 use Rattle.env_core.specs.State.{pending_seen, AnswersInTime}
 use Rattle.napi_types.proofs.Answers.{heap_answer-keeps}
@@ -78,6 +74,7 @@ accepted-in_heap e (call.Unwrap object) n v = cc
 accepted-in_heap e (call.RemoveWrap object) n v = cc
 accepted-in_heap e (call.TypeTagObject object lower upper) n v = cc
 accepted-in_heap e (call.CheckObjectTypeTag object lower upper) n v = cc
+accepted-in_heap e (call.AddFinalizer object payload entry hint wanted) n v = cc
 accepted-in_heap e (call.CreateExternal payload finalizer hint) n v = cc
 accepted-in_heap e call.Collect n v = cc
 accepted-in_heap e _ n v = refl
@@ -187,10 +184,3 @@ pub stopped-same : {A E : Type 0} (e : Environment) (s t : StoreState) (old new 
     ≡ record e { heap = heap_of s old; references = references_seen s m; attachments = attachments_seen s a; pending = pending_seen s p })
 stopped-same e s t old new m a book p (Ok x) kept live attached alive same = tt
 stopped-same e s t old new m a book p (Err x) kept live attached alive same = same-seen e s t old new m a book p kept live attached alive same
-
--- AN EXTERNAL
--- the call that creates one gives its handle, in the heap that it leaves
-pub external-answers : (e : Environment) (payload hint : ℕ) (o : Out) (heap : Heap) → new_value (body.External payload) e.heap ≡ accepts o heap
-    → AnswersInTime e (call.CreateExternal payload None hint) (plain status.Ok o) (with_heap e heap)
-external-answers e payload hint o heap is =
-    accepted-timely e (with_heap e heap) (call.CreateExternal payload None hint) o refl (ap (λ (a : Answer Heap). is_fresh_result e a.reply.out) (sym is)) (ap (in_heap e) is)

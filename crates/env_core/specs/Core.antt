@@ -37,7 +37,7 @@ next_init e = cond (nat_lt e.inits e.addons) (Some e.inits) None
 abbrev pub room_in : Core → Room
 room_in core = journal_room core.env (length core.journal) core.limit
 
--- the promised places are the reserved ones, each number that was given out has an entry, and no entry made more than 65,537 values
+-- the promised places are the reserved ones, each number and each ticket that was given out has an entry, and no entry made more than 65,537 values
 pub record IsCore (e : Environment) (pages : Pages) : Type 0 where
   pub reserved : pages.promised ≡ reserved_journal e
   pub within : length pages.entries + pages.promised ≤ pages.limit
@@ -45,4 +45,5 @@ pub record IsCore (e : Environment) (pages : Pages) : Type 0 where
   pub handles : e.heap.handles ≤ length pages.entries
   pub scopes : length e.heap.scope_numbers ≤ length pages.entries
   pub references : length e.references.issued ≤ length pages.entries
+  pub tickets : length e.book ≤ length pages.entries
   pub values : e.heap.made ≤ 65537 * length pages.entries + 5

@@ -1,7 +1,9 @@
 pub mod Attaching
+pub mod Beginning
 pub mod Core
 pub mod Journal
 pub mod Referring
+pub mod Registering
 pub mod Rooting
 pub mod Standing
 pub mod State

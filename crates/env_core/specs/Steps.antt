@@ -1,20 +1,24 @@
 -- What a step of a frame comes to.
-use Rattle.std.specs.Prelude.{◌≡◌, ℕ, ◌+◌, ◌<◌, ◌⊎◌, false, IsTrue, List, min, Option, None}
+use Rattle.std.specs.Prelude.{◌≡◌, ℕ, ◌+◌, ◌<◌, ◌⊎◌, false, IsTrue, List, min, Option, Some, None}
 use Rattle.napi_types.specs.declared.call.Args.{Args}
 use Rattle.napi_types.specs.declared.call.Call.{Call}
 use Rattle.napi_types.specs.declared.call.Call.TheVariants as call
+use Rattle.napi_types.specs.declared.duties.DueInfo.{DueInfo}
 use Rattle.napi_types.specs.declared.entry.Out.TheVariants as out
 use Rattle.napi_types.specs.declared.entry.Reply.{Reply}
 use Rattle.napi_types.specs.declared.entry.Target.{Target}
 use Rattle.napi_types.specs.declared.ids.HandleId.{HandleId}
 use Rattle.napi_types.specs.declared.status.Status.{Status}
 use Rattle.napi_types.specs.declared.status.Status.TheVariants as status
+use Rattle.napi_types.specs.Book.{Registration, registration_at, due_info}
+use Rattle.napi_types.specs.Loop.{next_ticket}
 use Rattle.napi_types.specs.Refusals.{early_refusal}
 use Rattle.napi_types.specs.Room.{Room, is_full, is_growing, need, first_places}
 use Rattle.napi_types.specs.Changes.{Change, call_change, call_entry, with_noted_status, number_of, is_fresh_result}
 use Rattle.napi_types.specs.Entering.{is_entering, enter_change}
 use Rattle.napi_types.specs.Environment.{Environment}
 use Rattle.napi_types.specs.Replies.{plain}
+use Rattle.napi_types.specs.Tickets.{ticket_change}
 use Rattle.env_core.specs.declared.env.Stepped.{Stepped}
 use Rattle.env_core.specs.declared.env.Stepped.TheVariants as stepped
 use Rattle.env_core.specs.Core.{Core, after_change, room_in}
@@ -79,6 +83,15 @@ pub record EntersBy (old : Core) (receiver : Option HandleId) (f : HandleId) (ar
 abbrev pub Enters : Core → Call → Target → List ℕ → Core → Type 0
 Enters old (call.CallFunction receiver f args) target gifts new = EntersBy old receiver f args target gifts new
 Enters old _ target gifts new = ⊥
+
+-- a ticket, the next one, begins: this is what it tells, and the core wrote the begin of its frame
+pub record BeginsTicket (old : Core) (due : DueInfo) (new : Core) : Type 0 where
+  pub ticket : ℕ
+  pub registration : Registration
+  pub next : next_ticket old.env ≡ Some ticket
+  pub registered : registration_at old.env.book ticket ≡ Some registration
+  pub told : due ≡ due_info ticket registration
+  pub after : new ≡ after_change (ticket_change ticket registration old.env) old
 
 -- a call's entry with a status and no result, where the environment is this one; its status is noted and its ask is counted
 abbrev pub refused_call : Core → Call → Status → Environment → Change

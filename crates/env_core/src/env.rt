@@ -1,26 +1,28 @@
 //! The environment with its journal.
-ghost use Rattle.std.specs.Prelude.{◌≡◌, ◌≢◌, ℕ, ◌+◌, ◌-◌, ◌*◌, ◌<◌, ◌≤◌, [], length, option_map, Some, None, true, false, IfOk, IsTrue, ◌↔◌};
-ghost use Rattle.napi_types.specs.Room.{is_full, most_entries};
+ghost use Rattle.std.specs.Prelude.{◌≡◌, ◌≢◌, ℕ, ◌+◌, ◌-◌, ◌*◌, ◌<◌, ◌≤◌, [], length, option_map, Some, None, is_some, true, false, IfOk, IfSome, IsTrue, ◌↔◌};
+ghost use Rattle.napi_types.specs.Room.{is_full, need, one_if, most_entries};
 ghost use Rattle.napi_types.specs.declared.call.Call.TheVariants as call_of;
+ghost use Rattle.napi_types.specs.declared.entry.Cause.TheVariants as cause;
 ghost use Rattle.napi_types.specs.Built.{is_built, is_calling};
 ghost use Rattle.napi_types.specs.Calls.{with_depth_error};
 ghost use Rattle.napi_types.specs.Changes.{call_change, init_change};
-ghost use Rattle.napi_types.specs.Frames.{asks_made, most_asks};
+ghost use Rattle.napi_types.specs.Frames.{asks_made, cause_of, duty_of, most_asks};
 ghost use Rattle.napi_types.specs.Ends.{end_change};
-ghost use Rattle.napi_types.specs.Lists.{head};
+ghost use Rattle.napi_types.specs.Lists.{head, tail};
+ghost use Rattle.napi_types.specs.Loop.{next_ticket};
 ghost use Rattle.napi_types.specs.Numbers.{napi_version};
 ghost use Rattle.napi_types.specs.Refusals.{early_refusal, depth_refusal};
 ghost use Rattle.napi_types.specs.Phases.{next_phase};
 ghost use Rattle.env_core.specs.Standing.{machine_frame};
 ghost use Rattle.env_core.specs.Core.{opened_core, after_change, after_phase, next_init, room_in};
-ghost use Rattle.env_core.specs.Steps.{IfReply, IfEnter, IfStop, Replies, Enters, EntersBy, RefusedAs, StopsBy, IsAtOnce, IsLocal};
+ghost use Rattle.env_core.specs.Steps.{IfReply, IfEnter, IfStop, Replies, Enters, EntersBy, RefusedAs, StopsBy, IsAtOnce, IsLocal, BeginsTicket};
 
 use crate::frames::StandingFrame;
 use crate::journal::Journal;
 use crate::state::{Called, State};
 use napi_types::{
-    Args, Call, Entry, HandleId, Limits, Local, LocalList, NoMemory, Phase, Reply, SharedCall,
-    Status, Target, Why,
+    Args, Begun, Call, Due, Duty, Entry, HandleId, Limits, Local, LocalList, NoMemory, Phase,
+    Reply, SharedCall, Status, Target, Why,
 };
 use std::alloc::Global;
 use std::marker::Model;
@@ -137,16 +139,21 @@ impl EnvCore {
         ensures full { IsTrue (is_full (room_in self.old) call.now) → result ≡ Stepped.Stop Status.TraceFull }
         ensures at_once { IsAtOnce result }
     {
-        if let Err(status) = self.journal.promise(1) {
+        let places = places_of(call);
+        if let Err(status) = self.journal.promise(places) {
             return Stepped::Stop(status);
         }
         match self.state.call(step, call) {
             Ok(entry) => {
                 self.journal.push(entry);
+                // A duty that was made keeps the places of its frame, and one that was withdrawn gives them back.
+                let kept = frame_places(entry.reply.made);
+                let freed = frame_places(entry.reply.dropped);
+                self.journal.give_back(places - 1 - kept + freed);
                 Stepped::Reply(entry.reply)
             }
             Err(NoMemory) => {
-                self.journal.give_back(1);
+                self.journal.give_back(places);
                 Stepped::Stop(Status::NoMemory)
             }
         }
@@ -204,12 +211,45 @@ impl EnvCore {
         self.journal.push(entry);
     }
 
-    /// Ends the innermost frame, cut or not, and answers the reply of its `end`. It takes no memory.
+    /// Begins the frame of the next ticket, and hands out what it tells. `None` exactly where no ticket is next: in the loop and after
+    /// `finals` the lowest that is due is next, and in every other phase none is. It takes no memory.
+    pub fn next_local(&mut self) -> Option<Due>
+        requires alone { self.old.env.frames ≡ [] }
+        ensures none { (result ≡ None) ↔ (next_ticket self.old.env ≡ None) }
+        ensures stays { result ≡ None → self.new ≡ self.old }
+        ensures begun { IfSome result (λ due. BeginsTicket self.old due self.new) }
+    {
+        let (begin, due) = self.state.begin_ticket()?;
+        self.journal.push(begin);
+        Some(due)
+    }
+
+    /// Whether a ticket is next: whether [`EnvCore::next_local`] would begin one.
+    pub fn has_local(&self) -> bool
+        ensures { result ≡ is_some (next_ticket self.now.env) }
+    {
+        self.state.has_local()
+    }
+
+    /// Ends the frame of a ticket, which stands alone, cut or not. Nobody is told the reply of its `end`. It takes no memory.
+    pub fn end_duty(&mut self, begun: Begun, cut: Option<Why>)
+        requires duty { duty_of self.old.env.frames ≡ Some begun.duty }
+        requires alone { tail self.old.env.frames ≡ [] }
+        requires outermost { cause_of self.old.env.frames ≢ cause.Call }
+        requires asks { cut ≡ Some Why.Asks → asks_made self.old.env.frames ≡ most_asks }
+        ensures { self.new ≡ after_change (end_change None cut self.old.env) self.old }
+    {
+        let entry = self.state.end_duty(begun, cut);
+        self.journal.push(entry);
+    }
+
+    /// Ends the innermost frame, which no duty began, cut or not, and answers the reply of its `end`. It takes no memory.
     ///
     /// A frame is cut as `Asks` only after its 65,536th ask. The frame of a call leaves the value of a handle to its caller, where it
     /// was not cut and no exception is pending; an init frame leaves its value to nobody, so `value` changes nothing.
     pub fn leave(&mut self, value: Option<HandleId>, cut: Option<Why>) -> Reply
         requires standing { self.old.env.frames ≢ [] }
+        requires plain { duty_of self.old.env.frames ≡ None }
         requires asks { cut ≡ Some Why.Asks → asks_made self.old.env.frames ≡ most_asks }
         ensures reply { result ≡ (end_change value cut self.old.env).entry.reply }
         ensures ended { self.new ≡ after_change (end_change value cut self.old.env) self.old }
@@ -219,8 +259,9 @@ impl EnvCore {
         entry.reply
     }
 
-    /// Moves to the next phase. `position` is the length of the history just after the hub's event that starts it.
-    /// For `Gone` the entry `gone` is written, and the position is left unused. It takes no memory.
+    /// Moves to the next phase. In `Finals` every ticket that is registered is due. `position` is the length of the history just
+    /// after the hub's event that starts it. For `Gone` the entry `gone` is written, and the position is left unused. It takes no
+    /// memory.
     ///
     /// `Live` may come before all addons had their init frame: that it does not is for the crate that runs frames to keep.
     pub fn advance(&mut self, phase: Phase, position: u64)
@@ -289,5 +330,24 @@ impl EnvCore {
         ensures { result + (room_in self.now).occupied ≡ (room_in self.now).limit }
     {
         self.journal.room()
+    }
+}
+
+/// How many places a call needs that is no call of a function: one for its entry, and two for the frame of the duty that it makes.
+fn places_of(call: &Call) -> u32
+    requires built { is_built call.now ≡ true }
+    requires at_once { is_calling call.now ≡ false }
+    ensures { result ≡ need call.now }
+{
+    if call.is_registering() { 3 } else { 1 }
+}
+
+/// The places of a duty's frame, its begin and its end, where there is a duty.
+fn frame_places(duty: Option<Duty>) -> u32
+    ensures { result ≡ 2 * one_if (is_some duty) }
+{
+    match duty {
+        Some(_) => 2,
+        None => 0,
     }
 }

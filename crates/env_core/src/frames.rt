@@ -4,19 +4,21 @@ ghost use Rattle.napi_types.specs.Frames.{most_frames, ask_counted, asks_made, m
 ghost use Rattle.napi_types.specs.Lists.{head, tail};
 ghost use Rattle.env_core.specs.Standing.{machine_frame};
 
-use napi_types::{Cause, NoMemory};
+use napi_types::{Cause, Duty, NoMemory};
 use std::alloc::Global;
 use std::marker::Model;
 
 /// How many frames may stand, the outermost counted.
 pub const MOST_FRAMES: u32 = 64;
 
-/// A frame: why it began, which entry of which addon it runs, and how many asks it made. Its scopes stand beside it.
+/// A frame: why it began, which entry of which addon it runs, the duty that began it where one did, and how many asks it made.
+/// Its scopes stand beside it.
 #[derive(Clone, Copy)]
 pub struct StandingFrame {
     pub cause: Cause,
     pub addon: u32,
     pub entry: u32,
+    pub duty: Option<Duty>,
     pub asks: u32,
 }
 

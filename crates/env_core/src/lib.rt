@@ -8,6 +8,7 @@ mod env;
 mod frames;
 mod handles;
 mod journal;
+mod registering;
 mod roots;
 mod state;
 

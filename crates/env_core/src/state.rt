@@ -11,8 +11,10 @@ ghost use Rattle.env_core.specs.Standing.{machine_frame};
 ghost use Rattle.napi_types.specs.NamedNumbers.{is_known};
 ghost use Rattle.napi_types.specs.Moments.{is_tearing, moment_refusal};
 ghost use Rattle.napi_types.specs.Refusals.{timely_refusal, early_refusal};
+ghost use Rattle.napi_types.specs.Registering.{finalizer_if};
 ghost use Rattle.napi_types.specs.Room.{is_growing};
 ghost use Rattle.napi_types.specs.Properties.{most_names};
+ghost use Rattle.finalizer_queue.specs.Rows.{registration_of};
 ghost use Rattle.env_core.specs.Core.{next_init};
 ghost use Rattle.env_core.specs.State.{HasNumbersFor, Calls, Answers, AnswersInTime, opening_call, closing_call};
 
@@ -23,12 +25,13 @@ mod ends;
 mod exceptions;
 mod externals;
 mod references;
+mod tickets;
 
 use crate::frames::{Frames, StandingFrame};
 pub use calling::Called;
 use env_values::value_step;
 use exception_state::Exceptions;
-use finalizer_queue::Book;
+use finalizer_queue::{Book, NewDuty};
 use handle_scope::{ScopeKind, Scopes};
 use napi_reference::Refs;
 use napi_types::{
@@ -66,6 +69,7 @@ impl Model for State {
     ghost use Rattle.env_values.specs.Seen.{heap_of};
     ghost use Rattle.napi_reference.specs.Places.{map_of};
     ghost use Rattle.env_core.specs.Attaching.{attachments_seen, IsAttached};
+    ghost use Rattle.env_core.specs.Beginning.{IsBookOf};
     ghost use Rattle.env_core.specs.Referring.{references_seen};
     ghost use Rattle.env_core.specs.State.{pending_seen, IsState};
 
@@ -85,7 +89,8 @@ impl Model for State {
     } };
 
     ghost invariant = { λ state. IsState state.store state.scopes state.frames state.exceptions.pending (map_of state.references)
-        × IsAttached state.store state.wraps.attachments state.book.book };
+        × IsAttached state.store state.wraps.attachments state.book.book
+        × IsBookOf state.frames state.book.book };
 }
 
 impl State {
@@ -140,6 +145,7 @@ impl State {
             cause: Cause::Init,
             addon,
             entry: 0,
+            duty: None,
             asks: 0,
         });
         self.inits += 1;
@@ -273,8 +279,11 @@ impl State {
             Call::ReferenceRef(reference) => Ok(self.reference_ref(*reference)),
             Call::ReferenceUnref(reference) => Ok(self.reference_unref(*reference)),
             Call::GetReferenceValue(reference) => self.get_reference_value(*reference),
-            Call::Wrap(object, payload, None, hint, wanted) => {
-                self.wrap(*object, *payload, *hint, *wanted)
+            Call::Wrap(object, payload, finalizer, hint, wanted) => {
+                self.wrap(*object, *payload, *finalizer, *hint, *wanted)
+            }
+            Call::AddFinalizer(object, payload, entry, hint, wanted) => {
+                self.add_finalizer(*object, *payload, *entry, *hint, *wanted)
             }
             Call::Unwrap(object) => Ok(self.unwrap(*object)),
             Call::RemoveWrap(object) => Ok(self.remove_wrap(*object)),
@@ -284,7 +293,9 @@ impl State {
             Call::CheckObjectTypeTag(object, lower, upper) => {
                 Ok(self.check_object_type_tag(*object, *lower, *upper))
             }
-            Call::CreateExternal(payload, None, hint) => self.create_external(*payload, *hint),
+            Call::CreateExternal(payload, finalizer, hint) => {
+                self.create_external(*payload, *finalizer, *hint)
+            }
             Call::Collect => self.collect(),
             Call::Throw(handle) => Ok(self.throw(*handle)),
             Call::ThrowError(code, message) => self.throw_error(*code, *message),
@@ -330,6 +341,19 @@ impl State {
             Some(frame) => frame.addon,
             None => 0,
         }
+    }
+
+    /// A finalizer as a call registers it, where the call names an entry: the entry is one of the addon that calls.
+    fn finalizer_if(&self, payload: u64, entry: Option<u32>, hint: u64) -> Option<NewDuty>
+        ensures { option_map registration_of result ≡ finalizer_if self.now payload entry hint }
+    {
+        Some(NewDuty {
+            cause: Cause::Finalize,
+            addon: self.caller(),
+            entry: entry?,
+            payload,
+            hint,
+        })
     }
 
     /// A scope of this kind and a fresh number opens inside the innermost one.
@@ -389,11 +413,15 @@ impl State {
         host_entry(HostStep::Gone, Out::Nothing)
     }
 
-    /// The phase starts.
+    /// The phase starts. At `finals` every ticket that is registered falls due.
     pub fn enter(&mut self, phase: Phase)
         ensures { self.new ≡ in_phase phase self.old }
     {
         self.phase = phase;
+        match phase {
+            Phase::Finals => self.book.all_due(),
+            _ => {}
+        }
     }
 
     /// How far the environment has come.

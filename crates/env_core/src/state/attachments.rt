@@ -1,38 +1,88 @@
-//! Calls on wraps and type tags.
-ghost use Rattle.std.specs.Prelude.{◌≡◌, None, IfOk, OnErr};
+//! Calls on wraps, type tags and finalizers.
+ghost use Rattle.std.specs.Prelude.{◌≡◌, ◌+◌, ◌<◌, ◌^◌, length, None, IfOk, OnErr};
 ghost use Rattle.napi_types.specs.declared.call.Call.TheVariants as call_of;
 ghost use Rattle.napi_types.specs.Refusals.{timely_refusal};
 ghost use Rattle.env_core.specs.State.{AnswersInTime};
 
 use super::State;
 use crate::handles::{Takes, target};
+use crate::registering::{
+    attach_if, refer_if, register_if, reserve_attached, reserve_ticket, wants_alone, withdraw_if,
+};
 use napi_types::{HandleId, NoMemory, Out, Reply, Status};
 
 impl State {
-    /// Ties a payload to an object, where none is tied. Without a finalizer the hint is kept for nobody, and no reference is
-    /// given: `wanted` tells that one is, which is refused.
+    /// Ties a payload to an object, where none is tied, and registers a finalizer where the call names an entry. Only then a weak
+    /// reference may be wanted: else it is refused, and the hint is kept for nobody.
     pub(super) fn wrap(
         &mut self,
         object: HandleId,
         payload: u64,
+        finalizer: Option<u32>,
         hint: u64,
         wanted: bool,
     ) -> Result<Reply, NoMemory>
-        ensures ok { IfOk result (λ reply. AnswersInTime self.old (call_of.Wrap object payload None hint wanted) reply self.new) }
+        requires references { length self.old.references.issued + 2 < 2 ^ 48 }
+        requires tickets { length self.old.book < 2 ^ 62 }
+        ensures ok { IfOk result (λ reply. AnswersInTime self.old (call_of.Wrap object payload finalizer hint wanted) reply self.new) }
         ensures err { OnErr result (self.new ≡ self.old) }
-        ensures unrefused { OnErr result (timely_refusal self.old (call_of.Wrap object payload None hint wanted) ≡ None) }
+        ensures unrefused { OnErr result (timely_refusal self.old (call_of.Wrap object payload finalizer hint wanted) ≡ None) }
     {
-        let _ = hint;
         let value = match target(&self.store, &self.scopes, object, Takes::Objects) {
             Ok(value) => value,
             Err(status) => return Ok(Reply::plain(status, Out::Nothing)),
         };
-        if wanted || self.wraps.wrapped(value).is_some() {
+        if wants_alone(finalizer, wanted) {
             return Ok(Reply::plain(Status::InvalidArg, Out::Nothing));
         }
+        if self.wraps.wrapped(value).is_some() {
+            return Ok(Reply::plain(Status::InvalidArg, Out::Nothing));
+        }
+        let duty = self.finalizer_if(payload, finalizer, hint);
+        let ticket = reserve_ticket(&mut self.book, duty)?;
         self.wraps.reserve()?;
-        self.wraps.wrap(value, payload, None);
-        Ok(Reply::plain(Status::Ok, Out::Nothing))
+        let out = refer_if(&mut self.references, value, wanted)?;
+        self.wraps.wrap(value, payload, ticket);
+        let made = register_if(&mut self.book, duty);
+        Ok(Reply {
+            status: Status::Ok,
+            out,
+            dropped: None,
+            made,
+        })
+    }
+
+    /// Registers a finalizer of an object, beside that of its wrap and any that were added before. Where a weak reference is
+    /// wanted it gives one.
+    pub(super) fn add_finalizer(
+        &mut self,
+        object: HandleId,
+        payload: u64,
+        entry: u32,
+        hint: u64,
+        wanted: bool,
+    ) -> Result<Reply, NoMemory>
+        requires references { length self.old.references.issued + 2 < 2 ^ 48 }
+        requires tickets { length self.old.book < 2 ^ 62 }
+        ensures ok { IfOk result (λ reply. AnswersInTime self.old (call_of.AddFinalizer object payload entry hint wanted) reply self.new) }
+        ensures err { OnErr result (self.new ≡ self.old) }
+        ensures unrefused { OnErr result (timely_refusal self.old (call_of.AddFinalizer object payload entry hint wanted) ≡ None) }
+    {
+        let value = match target(&self.store, &self.scopes, object, Takes::Objects) {
+            Ok(value) => value,
+            Err(status) => return Ok(Reply::plain(status, Out::Nothing)),
+        };
+        let duty = self.finalizer_if(payload, Some(entry), hint);
+        let ticket = reserve_attached(&mut self.book, &mut self.wraps, duty)?;
+        let out = refer_if(&mut self.references, value, wanted)?;
+        attach_if(&mut self.wraps, value, ticket);
+        let made = register_if(&mut self.book, duty);
+        Ok(Reply {
+            status: Status::Ok,
+            out,
+            dropped: None,
+            made,
+        })
     }
 
     /// The payload that is tied to an object.
@@ -49,7 +99,8 @@ impl State {
         }
     }
 
-    /// Takes the wrap off an object, and tells its payload.
+    /// Takes the wrap off an object, and tells its payload. Its finalizer is withdrawn where it is still registered: one that is
+    /// due begins.
     pub(super) fn remove_wrap(&mut self, object: HandleId) -> Reply
         ensures { AnswersInTime self.old (call_of.RemoveWrap object) result self.new }
     {
@@ -58,7 +109,12 @@ impl State {
             Err(status) => return Reply::plain(status, Out::Nothing),
         };
         match self.wraps.unwrap_out(value) {
-            Some((payload, _)) => Reply::plain(Status::Ok, Out::Unsigned(payload)),
+            Some((payload, ticket)) => Reply {
+                status: Status::Ok,
+                out: Out::Unsigned(payload),
+                dropped: withdraw_if(&mut self.book, ticket),
+                made: None,
+            },
             None => Reply::plain(Status::InvalidArg, Out::Nothing),
         }
     }

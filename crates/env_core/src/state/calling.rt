@@ -171,6 +171,7 @@ impl State {
                     cause: Cause::Call,
                     addon,
                     entry,
+                    duty: None,
                     asks: 0,
                 });
                 let begin = host_entry(

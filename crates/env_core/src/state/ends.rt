@@ -1,7 +1,7 @@
 //! Ends of frames.
 ghost use Rattle.std.specs.Prelude.{◌≡◌, ◌≢◌, ◌<◌, ◌^◌, [], Some, None};
-ghost use Rattle.napi_types.specs.Ends.{end_change, call_end_change, uncut_call_end, call_end_with, outermost_end_change};
-ghost use Rattle.napi_types.specs.Frames.{cause_of};
+ghost use Rattle.napi_types.specs.Ends.{end_change, call_end_change, uncut_call_end, call_end_with, outermost_end_change, end_out};
+ghost use Rattle.napi_types.specs.Frames.{cause_of, duty_of};
 ghost use Rattle.napi_types.specs.HeapChanges.{without_frame};
 
 use super::{State, host_entry, host_told};
@@ -9,9 +9,11 @@ use crate::handles::left_by;
 use napi_types::{Cause, Entry, HandleId, HostStep, Out, Status, Why};
 
 impl State {
-    /// The innermost frame ends, cut or not, and its scopes close. It leaves the value of a handle, where it names one.
+    /// The innermost frame, which no duty began, ends, cut or not, and its scopes close. It leaves the value of a handle, where it names
+    /// one.
     pub fn leave(&mut self, value: Option<HandleId>, cut: Option<Why>) -> Entry
         requires standing { self.old.frames ≢ [] }
+        requires plain { duty_of self.old.frames ≡ None }
         requires handles { self.old.heap.handles < 2 ^ 62 }
         ensures entry { result ≡ (end_change value cut self.old).entry }
         ensures after { self.new ≡ (end_change value cut self.old).after }
@@ -25,20 +27,30 @@ impl State {
         }
     }
 
-    /// A frame that no call began ends. An exception that is pending is cleared.
+    /// A frame that neither a call nor a duty began ends. An exception that is pending is cleared.
     fn leave_outermost(&mut self, cut: Option<Why>) -> Entry
-        requires { self.old.frames ≢ [] }
+        requires standing { self.old.frames ≢ [] }
+        requires plain { duty_of self.old.frames ≡ None }
         ensures entry { result ≡ (outermost_end_change cut self.old).entry }
         ensures after { self.new ≡ (outermost_end_change cut self.old).after }
     {
+        let out = self.clear_at_end(cut);
         self.scopes.leave_frame();
         self.frames.pop();
-        let out = match (cut, self.exceptions.clear()) {
+        host_entry(HostStep::End, out)
+    }
+
+    /// An exception that is pending is cleared as an outermost frame ends. What the frame's end tells: that it was cut, or else that
+    /// an exception was pending.
+    pub(super) fn clear_at_end(&mut self, cut: Option<Why>) -> Out
+        ensures out { result ≡ end_out cut self.old.pending }
+        ensures cleared { self.new ≡ record self.old { pending = None } }
+    {
+        match (cut, self.exceptions.clear()) {
             (Some(why), _) => Out::Cut(why),
             (None, Some(_)) => Out::Uncaught,
             (None, None) => Out::Nothing,
-        };
-        host_entry(HostStep::End, out)
+        }
     }
 
     /// The frame of a call ends, and its end has the call's reply.

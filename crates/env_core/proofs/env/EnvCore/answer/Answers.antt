@@ -1,34 +1,61 @@
-use Rattle.std.proofs.Common.{◌∙◌, ◌+◌, ◌-◌, ap, subst, sym, arith}
-use Rattle.napi_types.specs.Environment.{Environment}
-use Rattle.napi_types.specs.Changes.{number_of}
+use Rattle.std.proofs.Common.{◌∙◌, ◌+◌, ◌-◌, ℕ, ap, arith, sym}
 use Rattle.env_core.specs.Journal.{Pages}
-use Rattle.napi_types.proofs.Answers.{KeepsButAsk, call_change-keeps}
-use Rattle.env_core.proofs.Cores.{written, core-call_change, replied, other-at-once, other-need, fits-in, never-full}
+use Rattle.env_core.proofs.Cores.{KeepsPlaces, written, calls-keep, places-kept, core-call_change, replied, other-at-once, fits-in, never-full}
 use Rattle.env_core.proofs.env.EnvCore.answer.Goals as goal
+use Rattle.env_core.proofs.env.EnvCore.answer.Goals.{After-give_back-arg-1}
+
+-- what the reply keeps of the places
+kept : (c : After-give_back-arg-1) → KeepsPlaces c.self.inside.journal.promised c.args.call.now c.in-Ok.entry.reply
+kept c =
+    let s = c.self.inside in
+    places-kept s.state c.call.new.self s.journal c.args.call.now c.in-Ok.entry.reply c.self.invariant (calls-keep s.state c.call.new.self c.args.call.now c.in-Ok.entry c.in-Ok.ensures.ok)
+
+pub overflow_sub-places : goal.overflow_sub-places
+overflow_sub-places c = let k = kept c in omega (arith, c.places_of-places.ensures, k.made)
+
+pub overflow_sub-places-in-Ok : goal.overflow_sub-places-in-Ok
+overflow_sub-places-in-Ok c = let k = kept c in omega (arith, c.places_of-places.ensures, c.frame_places-kept.ensures, k.made)
+
+pub give_back-requires : goal.give_back-requires
+give_back-requires c =
+    let k = kept c in
+    omega (
+      arith,
+      c.places_of-places.ensures,
+      c.frame_places-kept.ensures,
+      c.frame_places-freed.ensures,
+      k.made,
+      k.dropped,
+      ap (λ (p : Pages). p.promised) c.push.ensures,
+      ap (λ (p : Pages). p.promised) c.in_default.ensures.ok,
+    )
 
 pub invariant_of-self-in-Ok : goal.invariant_of-self-in-Ok
 invariant_of-self-in-Ok c =
     let s = c.self.inside in
-    let n = number_of c.in-Ok.entry.reply.out in
-    let P : Environment → Type 0 = λ e. KeepsButAsk s.state e in
-    core-call_change s.state c.call.new.self s.journal c.push.new.self c.in-Ok.entry (s.journal.promised + 1 - 1) c.self.invariant
-    (subst P (sym c.in-Ok.ensures.ok.after) (call_change-keeps s.state c.args.call.now n))
-    c.in_default.ensures.room (omega arith)
-    (c.push.ensures ∙ ap (λ (p : Pages). written c.in-Ok.entry (p.promised - 1) p) c.in_default.ensures.ok)
+    let x = c.in-Ok.entry in
+    let left : ℕ = c.places_of-places.result - 1 - c.frame_places-kept.result + c.frame_places-freed.result in
+    let k : KeepsPlaces s.journal.promised c.args.call.now x.reply = places-kept s.state c.call.new.self s.journal c.args.call.now x.reply c.self.invariant (calls-keep s.state c.call.new.self c.args.call.now x c.in-Ok.ensures.ok) in
+    core-call_change s.state c.call.new.self s.journal c.give_back.new.self c.args.call.now x (s.journal.promised + c.places_of-places.result - 1 - left) c.self.invariant
+    (calls-keep s.state c.call.new.self c.args.call.now x c.in-Ok.ensures.ok)
+    (omega (arith, c.places_of-places.ensures, c.in_default.ensures.room))
+    (omega (arith, c.places_of-places.ensures, c.frame_places-kept.ensures, c.frame_places-freed.ensures, k.made, k.dropped))
+    (c.give_back.ensures ∙ ap (λ (p : Pages). record p { promised = p.promised - left }) c.push.ensures ∙ ap (λ (p : Pages). written x (p.promised - 1 - left) p) c.in_default.ensures.ok)
 
 pub returns-in-Ok-clause-reply : goal.returns-in-Ok-clause-reply
 returns-in-Ok-clause-reply c =
     let s = c.self.inside in
+    let x = c.in-Ok.entry in
+    let left : ℕ = c.places_of-places.result - 1 - c.frame_places-kept.result + c.frame_places-freed.result in
     rw (← c.self.view_is)
-    (replied s.state c.call.new.self s.journal c.push.new.self c.args.call.now c.in-Ok.entry (s.journal.promised + 1 - 1)
-    (c.push.ensures ∙ ap (λ (p : Pages). written c.in-Ok.entry (p.promised - 1) p) c.in_default.ensures.ok)
+    (replied s.state c.call.new.self s.journal c.give_back.new.self c.args.call.now x (s.journal.promised + c.places_of-places.result - 1 - left)
+    (c.give_back.ensures ∙ ap (λ (p : Pages). record p { promised = p.promised - left }) c.push.ensures ∙ ap (λ (p : Pages). written x (p.promised - 1 - left) p) c.in_default.ensures.ok)
     (other-at-once s.state c.args.call.now c.requires.at_once)
-    (fits-in s.state s.journal c.args.call.now 1 c.self.invariant (other-need c.args.call.now c.requires.built c.requires.at_once) c.in_default.ensures.room)
+    (fits-in s.state s.journal c.args.call.now c.places_of-places.result c.self.invariant (sym c.places_of-places.ensures) c.in_default.ensures.room)
     c.in-Ok.ensures.ok)
 
 pub returns-in-Ok-clause-full : goal.returns-in-Ok-clause-full
 returns-in-Ok-clause-full c =
     let s = c.self.inside in
     rw (← c.self.view_is)
-    (never-full _
-    (fits-in s.state s.journal c.args.call.now 1 c.self.invariant (other-need c.args.call.now c.requires.built c.requires.at_once) c.in_default.ensures.room))
+    (never-full _ (fits-in s.state s.journal c.args.call.now c.places_of-places.result c.self.invariant (sym c.places_of-places.ensures) c.in_default.ensures.room))

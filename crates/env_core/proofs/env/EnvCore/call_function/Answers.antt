@@ -1,23 +1,18 @@
-use Rattle.std.proofs.Common.{◌∙◌, ◌+◌, ◌-◌, ap, subst, sym, arith}
+use Rattle.std.proofs.Common.{◌∙◌, ◌+◌, ◌-◌, ap}
 use Rattle.napi_types.specs.declared.call.Call.{Call}
 use Rattle.napi_types.specs.declared.call.Call.TheVariants as call_of
-use Rattle.napi_types.specs.Environment.{Environment}
-use Rattle.napi_types.specs.Changes.{number_of}
 use Rattle.env_core.specs.Journal.{Pages}
 use Rattle.env_core.specs.State.{RefusesCall}
-use Rattle.napi_types.proofs.Answers.{KeepsButAsk, call_change-keeps}
-use Rattle.env_core.proofs.Cores.{written, core-call_change}
+use Rattle.env_core.proofs.Cores.{written, calls-keep, called-places, core-call_change}
 use Rattle.env_core.proofs.env.EnvCore.call_function.Goals as goal
 
 pub invariant_of-self-in-Ok-Refused : goal.invariant_of-self-in-Ok-Refused
 invariant_of-self-in-Ok-Refused c =
     let s = c.self.inside in
     let x = c.in-Ok-Refused.entry in
-    let n = number_of x.reply.out in
-    let P : Environment → Type 0 = λ e. KeepsButAsk s.state e in
     let made : Call = call_of.CallFunction c.args.receiver c.args.function c.args.args.now in
     let ok : RefusesCall s.state made x c.call_function.new.self = rw c.in-Ok-Refused.field-0-is at c.in-Ok-Refused.ensures.ok in
-    core-call_change s.state c.call_function.new.self s.journal c.give_back.new.self x (s.journal.promised + 2 - 1 - 1) c.self.invariant
-    (subst P (sym ok.calls.after) (call_change-keeps s.state made n))
-    (omega (arith, c.in_default.ensures.room)) (omega arith)
+    core-call_change s.state c.call_function.new.self s.journal c.give_back.new.self made x (s.journal.promised + 2 - 1 - 1) c.self.invariant
+    (calls-keep s.state c.call_function.new.self made x ok.calls)
+    c.in_default.ensures.room (called-places s.state c.args.receiver c.args.function c.args.args.now x c.call_function.new.self s.journal.promised ok.calls)
     (c.give_back.ensures ∙ ap (λ (p : Pages). record p { promised = p.promised - 1 }) c.push.ensures ∙ ap (λ (p : Pages). written x (p.promised - 1 - 1) p) c.in_default.ensures.ok)

@@ -4,6 +4,7 @@ use Rattle.napi_reference.specs.Places.{map_of}
 use Rattle.trace_collect.specs.Collects.{reached}
 use Rattle.env_core.specs.Rooting.{AreRoots}
 use Rattle.env_core.specs.contracts.state.State.{the_view}
+use Rattle.env_core.proofs.Beginning.{book-due}
 use Rattle.env_core.proofs.Rooting.{roots-start}
 use Rattle.env_core.specs.Attaching.{attachments_seen}
 use Rattle.env_core.proofs.Freeing.{seen-left, due-seen, given-freed, attached-left}
@@ -42,6 +43,7 @@ invariant_of-self-2 c =
           c.self.invariant.0 are others (rw c.deref-2.ensures.value at c.empty_of.ensures.emptied),
       rw (c.gone_all.ensures.forgotten, c.gone_all.ensures.due, c.deref-3.ensures.value)
           (attached-left s.store c.collect.new.store roots freed alive others c.recall.ensures s.wraps.attachments s.book.book c.self.invariant.1),
+      book-due s.frames s.book.book c.gone_all.new.book.book _ c.gone_all.ensures.due c.self.invariant.2,
     )
 
 pub returns-clause-ok : goal.returns-clause-ok

@@ -23,6 +23,7 @@ invariant_of-self-2 c =
             (AllValues-with_reference (IsLive s.store) c.in_ok-reference.reference.0 c.value_of-value.result.0 c.args.count (map_of s.references) c.value_of-value.ensures.live i.referred);
       },
       c.self.invariant.1,
+      c.self.invariant.2,
     )
 
 pub returns-clause-ok : goal.returns-clause-ok

@@ -26,6 +26,7 @@ invariant_of-self c =
         ];
       },
       c.self.invariant.1,
+      c.self.invariant.2,
     )
 
 pub returns : goal.returns

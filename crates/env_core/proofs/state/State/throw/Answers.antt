@@ -20,6 +20,7 @@ invariant_of-self c =
         referred = c.self.invariant.0.referred;
       },
       c.self.invariant.1,
+      c.self.invariant.2,
     )
 
 pub returns : goal.returns

@@ -32,6 +32,7 @@ invariant_of-self-2 c =
       c.self.invariant.0,
       subst (λ (a : Attachments). IsAttached s.store a s.book.book) (sym (c.tag.ensures.tagged ∙ ap (with_tag v c.args.lower c.args.upper) c.reserve.ensures.same))
           (attached-with_tag s.store s.wraps.attachments s.book.book v c.args.lower c.args.upper c.self.invariant.1 k.live),
+      c.self.invariant.2,
     )
 
 pub returns-clause-ok : goal.returns-clause-ok

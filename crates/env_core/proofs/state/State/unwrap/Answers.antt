@@ -1,4 +1,3 @@
-use Rattle.std.proofs.Common.{◌∙◌, Some, sym, ap}
 use Rattle.env_core.specs.contracts.state.State.{the_view}
 use Rattle.env_core.proofs.Attaching.{unwrap-answers, unwrap-refused}
 use Rattle.env_core.proofs.state.State.unwrap.Goals as goal

@@ -19,6 +19,7 @@ invariant_of-self c =
         referred = referred-live s.store k.new.store (map_of s.references) k.ensures.kept c.self.invariant.0.referred;
       },
       attached-kept s.store k.new.store k.ensures.kept s.wraps.attachments s.book.book c.self.invariant.1,
+      c.self.invariant.2,
     )
 
 pub returns-clause-ok : goal.returns-clause-ok

@@ -1,0 +1,218 @@
+-- The tickets of the frames that stand have begun, and stay so until they end.
+use Rattle.std.proofs.Common.{◌≡◌, ◌≢◌, ◌∙◌, ℕ, zero, suc, ◌==◌, Bool, true, false, cond, List, [], ◌∷◌, ◌++◌, get_or, slice_get, length, map, ◌≤◌, Option, Some, None, IfSome, option_map, refl, sym, ap, subst}
+use Rattle.std.specs.List.{All, cons_option}
+use Rattle.std.specs.Option.{unwrap_or}
+use Rattle.std.proofs.lemmas.List.{append-nil}
+use Rattle.std.proofs.lemmas.List.Elements.{All-head, All-tail, All-cons, All-nil, All-push}
+use Rattle.napi_types.specs.declared.entry.Cause.{Cause}
+use Rattle.napi_types.specs.declared.entry.Cause.TheVariants as cause
+use Rattle.napi_types.specs.declared.entry.Duty.{Duty}
+use Rattle.napi_types.specs.declared.entry.Duty.TheVariants as duty
+use Rattle.napi_types.specs.declared.entry.Why.{Why}
+use Rattle.napi_types.specs.Attachments.{Wrapped, Attached, Attachments}
+use Rattle.napi_types.specs.Book.{Book, Registration, TicketState, Registered, Due, Begun, Ended, Withdrawn, is_begun, is_at, registration_at, made_due, made_withdrawn, made_begun, made_ended, moved, moved_at, moved_where, due_where, with_registration}
+use Rattle.napi_types.specs.Duties.{duties_of}
+use Rattle.napi_types.specs.Ends.{duty_ended, without_innermost_frame, outermost_end_change}
+use Rattle.napi_types.specs.Environment.{Environment}
+use Rattle.napi_types.specs.Frames.{Frame, duty_of, ask_counted}
+use Rattle.napi_types.specs.Graph.{StoreState, IsLive}
+use Rattle.napi_types.specs.Lists.{tail}
+use Rattle.napi_types.specs.References.{ReferenceMap}
+use Rattle.napi_types.specs.Scopes.{Held, held_by_frames}
+use Rattle.finalizer_queue.specs.Kept.{ticket_number}
+use Rattle.finalizer_queue.proofs.Moves.{registration_at-moved_where}
+use Rattle.handle_scope.specs.HandleScopes.{HandleScopes, with_frame_scopes}
+use Rattle.napi_types.proofs.Books.{length-moved, All-moved}
+use Rattle.napi_types.proofs.Registrations.{registered-holds}
+use Rattle.env_core.specs.Attaching.{IsAttached}
+use Rattle.env_core.specs.Beginning.{AreBegun, IsBookOf}
+use Rattle.env_core.specs.State.{IsState, is_by_call}
+
+-- what is under a ticket has begun
+abbrev has_begun : Option Registration → Bool
+has_begun o = unwrap_or (option_map (λ (r : Registration). is_begun r.state) o) false
+
+-- THE BOOK CHANGES
+-- every ticket that has begun is still one that has
+abbrev StayBegun : Book → Book → Type 0
+StayBegun old new = (n : ℕ) → is_at is_begun old n ≡ true → is_at is_begun new n ≡ true
+
+stays-begun : (frames : List Frame) (old new : Book) → StayBegun old new → AreBegun frames old → AreBegun frames new
+stays-begun frames old new stays begun = λ k d inside. stays (ticket_number (get_or (duties_of frames) k d)) (begun k d inside)
+
+same-book : (frames : List Frame) (mid new : Book) → new ≡ mid → IsBookOf frames mid → IsBookOf frames new
+same-book frames mid new is book = let P : Book → Type 0 = λ b. IsBookOf frames b in subst P (sym is) book
+
+moved-uncalled : (move : TicketState → TicketState) (test : ℕ → Bool) (book : Book) → All (λ r. r.cause ≢ cause.Call) book → All (λ r. r.cause ≢ cause.Call) (moved_where move test book)
+moved-uncalled move test book all = All-moved (λ (r : Registration). r.cause ≢ cause.Call) move (λ r h. h) test book all
+
+-- one registration more
+found-before : (r : Registration) (rs : List Registration) (p : ℕ) → has_begun (slice_get rs p) ≡ true → slice_get (rs ++ r ∷ []) p ≡ slice_get rs p
+found-before r [] p is = let no : ⊥ = cc in absurd no
+found-before r (q ∷ rs) zero is = refl
+found-before r (q ∷ rs) (suc p) is = found-before r rs p is
+
+registered-stays : (r : Registration) (book : Book) → StayBegun book (with_registration r book)
+registered-stays r book zero is = is
+registered-stays r book (suc p) is = ap has_begun (found-before r book p is) ∙ is
+
+pub book-registered : (frames : List Frame) (old new : Book) (r : Registration) → new ≡ with_registration r old → r.cause ≢ cause.Call → IsBookOf frames old → IsBookOf frames new
+book-registered frames old new r is uncalled book =
+    same-book frames (with_registration r old) new is (record {
+      begun = stays-begun frames old (with_registration r old) (registered-stays r old) book.begun;
+      uncalled = All-push (λ (q : Registration). q.cause ≢ cause.Call) old r book.uncalled uncalled;
+    })
+
+-- a move that a ticket does not make once it has begun
+moved-begun : (move : TicketState → TicketState) → ((s : TicketState) → is_begun s ≡ true → is_begun (move s) ≡ true) → (b : Bool) (o : Option Registration) → has_begun o ≡ true
+    → has_begun (option_map (λ r. cond b (moved move r) r) o) ≡ true
+moved-begun move keeps b None is = is
+moved-begun move keeps true (Some r) is = keeps r.state is
+moved-begun move keeps false (Some r) is = is
+
+moved-stays : (move : TicketState → TicketState) → ((s : TicketState) → is_begun s ≡ true → is_begun (move s) ≡ true) → (test : ℕ → Bool) (book : Book) → StayBegun book (moved_where move test book)
+moved-stays move keeps test book n is = ap has_begun (registration_at-moved_where move test book n) ∙ moved-begun move keeps (test n) (registration_at book n) is
+
+withdrawn-keeps : (s : TicketState) → is_begun s ≡ true → is_begun (made_withdrawn s) ≡ true
+withdrawn-keeps Registered is = cc
+withdrawn-keeps Due is = is
+withdrawn-keeps Begun is = is
+withdrawn-keeps Ended is = is
+withdrawn-keeps Withdrawn is = is
+
+due-keeps : (s : TicketState) → is_begun s ≡ true → is_begun (made_due s) ≡ true
+due-keeps Registered is = cc
+due-keeps Due is = is
+due-keeps Begun is = is
+due-keeps Ended is = is
+due-keeps Withdrawn is = is
+
+moved-book : (frames : List Frame) (move : TicketState → TicketState) → ((s : TicketState) → is_begun s ≡ true → is_begun (move s) ≡ true) → (test : ℕ → Bool) (old new : Book)
+    → new ≡ moved_where move test old → IsBookOf frames old → IsBookOf frames new
+moved-book frames move keeps test old new is book =
+    same-book frames (moved_where move test old) new is (record {
+      begun = stays-begun frames old (moved_where move test old) (moved-stays move keeps test old) book.begun;
+      uncalled = moved-uncalled move test old book.uncalled;
+    })
+
+pub book-withdrawn : (frames : List Frame) (old new : Book) (n : ℕ) → new ≡ moved_at made_withdrawn n old → IsBookOf frames old → IsBookOf frames new
+book-withdrawn frames old new n is book = moved-book frames made_withdrawn withdrawn-keeps (λ m. m == n) old new is book
+
+pub book-due : (frames : List Frame) (old new : Book) (test : ℕ → Bool) → new ≡ due_where test old → IsBookOf frames old → IsBookOf frames new
+book-due frames old new test is book = moved-book frames made_due due-keeps test old new is book
+
+-- the book gave what it gave before, however its tickets moved
+pub attached-moved : (s : StoreState) (a : Attachments) (old new : Book) → length new ≡ length old → IsAttached s a old → IsAttached s a new
+attached-moved s a old new same i = record {
+  wraps = i.wraps;
+  tags = i.tags;
+  tickets = i.tickets;
+  wrapped_once = i.wrapped_once;
+  tagged_once = i.tagged_once;
+  given_with_wraps = subst (λ l. All (λ (w : Wrapped). IfSome w.ticket (λ n. (1 ≤ n) × (n ≤ l))) a.wraps) (sym same) i.given_with_wraps;
+  given = subst (λ l. All (λ (t : Attached). (1 ≤ t.ticket) × (t.ticket ≤ l)) a.tickets) (sym same) i.given;
+}
+
+pub attached-at : (s : StoreState) (a : Attachments) (old new : Book) (move : TicketState → TicketState) (n : ℕ) → new ≡ moved_at move n old → IsAttached s a old → IsAttached s a new
+attached-at s a old new move n is i = attached-moved s a old new (ap length is ∙ length-moved move (λ m. m == n) old) i
+
+-- THE FRAMES CHANGE
+-- one ask more
+pub book-counted : (frames : List Frame) (book : Book) → IsBookOf frames book → IsBookOf (ask_counted frames) book
+book-counted [] book is = is
+book-counted (f ∷ frames) book is = record { begun = is.begun; uncalled = is.uncalled }
+
+-- a frame less
+less-begun : (P : Duty → Type 0) (o : Option Duty) (ds : List Duty) → All P (cons_option o ds) → All P ds
+less-begun P None ds all = all
+less-begun P (Some d) ds all = All-tail P d ds all
+
+pub book-left : (frames left : List Frame) (book : Book) → left ≡ tail frames → IsBookOf frames book → IsBookOf left book
+book-left frames left book is k = let P : List Frame → Type 0 = λ fs. IsBookOf fs book in subst P (sym is) (record { begun = fewer frames k.begun; uncalled = k.uncalled })
+  where
+    fewer : (fs : List Frame) → AreBegun fs book → AreBegun (tail fs) book
+    fewer [] all = all
+    fewer (f ∷ fs) all = less-begun (λ d. is_at is_begun book (ticket_number d) ≡ true) f.duty (duties_of fs) all
+
+uncalled-ended : (d : Duty) (book : Book) → All (λ r. r.cause ≢ cause.Call) book → All (λ r. r.cause ≢ cause.Call) (duty_ended (Some d) book)
+uncalled-ended (duty.Ticket t) book all = moved-uncalled made_ended (λ m. m == t.0) book all
+uncalled-ended (duty.Work n) book all = all
+uncalled-ended (duty.Item f n) book all = all
+uncalled-ended (duty.Function f) book all = all
+
+-- the only frame is gone, and its duty has ended
+pub book-ended : (frames left : List Frame) (old new : Book) (d : Duty) → left ≡ [] → new ≡ duty_ended (Some d) old → IsBookOf frames old → IsBookOf left new
+book-ended frames left old new d none is book =
+    let P : List Frame → Type 0 = λ fs. IsBookOf fs new in
+    subst P (sym none) (same-book [] (duty_ended (Some d) old) new is (record {
+      begun = All-nil (λ (q : Duty). is_at is_begun (duty_ended (Some d) old) (ticket_number q) ≡ true);
+      uncalled = uncalled-ended d old book.uncalled;
+    }))
+
+-- the frame of a ticket that begins stands alone
+pub book-begun : (frames left : List Frame) (old new : Book) (f : Frame) (d : Duty) (n : ℕ) → frames ≡ [] → new ≡ moved_at made_begun n old → left ≡ f ∷ frames → f.duty ≡ Some d
+    → is_at is_begun new (ticket_number d) ≡ true → IsBookOf frames old → IsBookOf left new
+book-begun frames left old new f d n none moves is of begun book =
+    let P : List Frame → Type 0 = λ fs. IsBookOf fs new in
+    let Q : List Duty → Type 0 = λ ds. All (λ (q : Duty). is_at is_begun new (ticket_number q) ≡ true) ds in
+    let R : Book → Type 0 = λ b. All (λ (r : Registration). r.cause ≢ cause.Call) b in
+    let duties : duties_of (f ∷ frames) ≡ d ∷ [] = ap (λ o. cons_option o (duties_of frames)) of ∙ ap (λ fs. d ∷ duties_of fs) none in
+    subst P (sym is) (record {
+      begun = subst Q (sym duties) (All-cons (λ (q : Duty). is_at is_begun new (ticket_number q) ≡ true) d [] begun (All-nil (λ (q : Duty). is_at is_begun new (ticket_number q) ≡ true)));
+      uncalled = subst R (sym moves) (moved-uncalled made_begun (λ m. m == n) old book.uncalled);
+    })
+
+-- and no call began it
+pub ticket-uncalled : (frames : List Frame) (book : Book) (n : ℕ) (r : Registration) → registration_at book n ≡ Some r → IsBookOf frames book → r.cause ≢ cause.Call
+ticket-uncalled frames book n r there is = registered-holds (λ (q : Registration). q.cause ≢ cause.Call) n book r there is.uncalled
+
+not-by-call : (c : Cause) → c ≢ cause.Call → is_by_call c ≡ false
+not-by-call cause.Call uncalled = absurd (uncalled refl)
+not-by-call _ uncalled = refl
+
+pub state-begun : {m : ReferenceMap} (store : StoreState) (old new : HandleScopes) (frames left : List Frame) (thrown : Option ℕ) (f : Frame) → IsState store old frames thrown m
+    → new ≡ with_frame_scopes old → left ≡ f ∷ frames → f.cause ≢ cause.Call → IsState store new left thrown m
+state-begun store old new frames left thrown f s scopes is uncalled =
+    let P : List Held → Type 0 = λ hs. All (λ (h : Held). IsLive store h.value) hs in
+    rw (scopes, is) (record {
+      live = subst P (sym (append-nil (held_by_frames old.frames))) s.live;
+      frames = ap suc s.frames;
+      calls = ap (λ bs. false ∷ bs) s.calls ∙ ap (λ b. b ∷ map (λ (g : Frame). is_by_call g.cause) frames) (sym (not-by-call f.cause uncalled));
+      pending = s.pending;
+      referred = s.referred;
+    })
+
+-- the duty of the innermost frame has begun
+pub innermost-begun : (frames : List Frame) (book : Book) (d : Duty) → duty_of frames ≡ Some d → AreBegun frames book → is_at is_begun book (ticket_number d) ≡ true
+innermost-begun [] book d has begun = let no : ⊥ = cc in absurd no
+innermost-begun (f ∷ frames) book d has begun =
+    let P : List Duty → Type 0 = λ ds. All (λ (q : Duty). is_at is_begun book (ticket_number q) ≡ true) ds in
+    All-head (λ (q : Duty). is_at is_begun book (ticket_number q) ≡ true) d (duties_of frames) (subst P (ap (λ o. cons_option o (duties_of frames)) has) begun)
+
+-- and its ticket ends with the frame
+pub duty_ticket : (d : Duty) (book : Book) → is_at is_begun book (ticket_number d) ≡ true → moved_at made_ended (ticket_number d) book ≡ duty_ended (Some d) book
+duty_ticket (duty.Ticket t) book begun = refl
+duty_ticket (duty.Work n) book begun = let no : ⊥ = cc in absurd no
+duty_ticket (duty.Item f n) book begun = let no : ⊥ = cc in absurd no
+duty_ticket (duty.Function f) book begun = let no : ⊥ = cc in absurd no
+
+length-duty : (d : Duty) (book : Book) → length (duty_ended (Some d) book) ≡ length book
+length-duty (duty.Ticket t) book = length-moved made_ended (λ m. m == t.0) book
+length-duty (duty.Work n) book = refl
+length-duty (duty.Item f n) book = refl
+length-duty (duty.Function f) book = refl
+
+pub attached-ended : (s : StoreState) (a : Attachments) (old new : Book) (d : Duty) → new ≡ duty_ended (Some d) old → IsAttached s a old → IsAttached s a new
+attached-ended s a old new d is i = attached-moved s a old new (ap length is ∙ length-duty d old) i
+
+-- the environment as such a frame has ended
+pub left-with : (e mid new : Environment) (cut : Option Why) (d : Duty) → mid ≡ record e { pending = None } → duty_of e.frames ≡ Some d
+    → new ≡ record (without_innermost_frame mid) { book = duty_ended (Some d) mid.book } → new ≡ (outermost_end_change cut e).after
+left-with e mid new cut d cleared has is =
+    is
+    ∙ ap (λ (m : Environment). record (without_innermost_frame m) { book = duty_ended (Some d) m.book }) cleared
+    ∙ ap (λ o. record (without_innermost_frame e) { pending = None; book = duty_ended o e.book }) (sym has)
+
+pub duty-stands : (frames : List Frame) (d : Duty) → duty_of frames ≡ Some d → frames ≢ []
+duty-stands [] d has = let no : ⊥ = cc in absurd no
+duty-stands (f ∷ frames) d has = λ h. cc

@@ -1,0 +1,23 @@
+use Rattle.std.proofs.Common.{◌≡◌, ◌∙◌, [], ap, refl, sym}
+use Rattle.napi_types.specs.declared.duties.DueInfo.{DueInfo}
+use Rattle.napi_types.specs.Book.{is_begun, is_at, due_info, made_begun}
+use Rattle.napi_types.specs.Environment.{Environment}
+use Rattle.finalizer_queue.specs.Kept.{ticket_number}
+use Rattle.finalizer_queue.proofs.Taken.{takes-begun}
+use Rattle.env_core.proofs.Beginning.{attached-at, book-begun, ticket-uncalled, state-begun}
+use Rattle.env_core.proofs.state.State.begin_due.Goals as goal
+
+pub invariant_of-self-2 : goal.invariant_of-self-2
+invariant_of-self-2 c =
+    let s = c.self.inside in
+    let taken = c.in_ok-due.ensures.taken in
+    let none : s.frames ≡ [] = ap (λ (e : Environment). e.frames) c.self.view_is ∙ c.requires.alone in
+    let info : c.info-told.result.now ≡ due_info taken.ticket taken.registration = c.info-told.ensures ∙ taken.told in
+    let uncalled = ticket-uncalled s.frames s.book.book taken.ticket taken.registration taken.registered c.self.invariant.2 in (
+      state-begun s.store s.scopes c.enter_frame.new.self s.frames c.push.new.self s.exceptions.pending _ c.self.invariant.0 c.enter_frame.ensures c.push.ensures
+          (λ h. uncalled (sym (ap (λ (d : DueInfo). d.cause) info) ∙ h)),
+      attached-at s.store s.wraps.attachments s.book.book c.take_due.new.self.book made_begun taken.ticket taken.begun c.self.invariant.1,
+      book-begun s.frames c.push.new.self s.book.book c.take_due.new.self.book _ c.info-told.result.now.duty taken.ticket none taken.begun c.push.ensures refl
+          (ap (λ (d : DueInfo). is_at is_begun c.take_due.new.self.book (ticket_number d.duty)) c.info-told.ensures ∙ takes-begun s.book.book c.take_due.new.self.book c.in_ok-due.due taken)
+          c.self.invariant.2,
+    )

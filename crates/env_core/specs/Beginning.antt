@@ -1,0 +1,32 @@
+-- Tickets whose frames begin, and whose frames stand.
+use Rattle.std.specs.Prelude.{◌≡◌, ◌≢◌, ℕ, true, List, Some}
+use Rattle.std.specs.List.{All}
+use Rattle.napi_types.specs.declared.duties.DueInfo.{DueInfo}
+use Rattle.napi_types.specs.declared.entry.Cause.TheVariants as cause
+use Rattle.napi_types.specs.declared.entry.Entry.{Entry}
+use Rattle.napi_types.specs.Book.{Book, Registration, is_begun, is_at, registration_at, due_info}
+use Rattle.napi_types.specs.Duties.{duties_of}
+use Rattle.napi_types.specs.Environment.{Environment}
+use Rattle.napi_types.specs.Frames.{Frame}
+use Rattle.napi_types.specs.Loop.{next_ticket}
+use Rattle.napi_types.specs.Tickets.{ticket_change}
+use Rattle.finalizer_queue.specs.Kept.{ticket_number}
+
+-- each duty whose frame stands is that of a ticket that has begun
+abbrev pub AreBegun : List Frame → Book → Type 0
+AreBegun frames book = All (λ d. is_at is_begun book (ticket_number d) ≡ true) (duties_of frames)
+
+-- a book beside the frames that stand: the tickets of those frames have begun, and no ticket's frame is one that a call begins
+pub record IsBookOf (frames : List Frame) (book : Book) : Type 0 where
+  pub begun : AreBegun frames book
+  pub uncalled : All (λ r. r.cause ≢ cause.Call) book
+
+-- the next ticket begins: its frame's entry, what it tells, and the environment after it
+pub record BeginsFrame (old : Environment) (x : Entry) (due : DueInfo) (new : Environment) : Type 0 where
+  pub ticket : ℕ
+  pub registration : Registration
+  pub next : next_ticket old ≡ Some ticket
+  pub registered : registration_at old.book ticket ≡ Some registration
+  pub told : due ≡ due_info ticket registration
+  pub entry : x ≡ (ticket_change ticket registration old).entry
+  pub after : new ≡ (ticket_change ticket registration old).after

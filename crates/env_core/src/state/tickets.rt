@@ -1,0 +1,89 @@
+//! The frames of tickets, as they begin and as they end.
+ghost use Rattle.std.specs.Prelude.{◌≡◌, [], true, Some, None, IfSome, ◌↔◌};
+ghost use Rattle.std.specs.Option.{is_some};
+ghost use Rattle.napi_types.specs.Book.{is_begun, is_at, lowest_due};
+ghost use Rattle.napi_types.specs.Ends.{duty_ended, outermost_end_change};
+ghost use Rattle.napi_types.specs.Frames.{duty_of};
+ghost use Rattle.napi_types.specs.Lists.{tail};
+ghost use Rattle.napi_types.specs.Loop.{next_ticket};
+ghost use Rattle.finalizer_queue.specs.Kept.{ticket_number};
+ghost use Rattle.env_core.specs.Beginning.{BeginsFrame};
+
+use super::{State, host_entry};
+use crate::frames::StandingFrame;
+use finalizer_queue::Book;
+use napi_types::{Begun, Due, Entry, HostStep, Out, Phase, Why};
+
+impl State {
+    /// Whether a ticket is next.
+    pub fn has_local(&self) -> bool
+        ensures { result ≡ is_some (next_ticket self.now) }
+    {
+        match self.phase {
+            Phase::Live | Phase::Finals => self.book.has_due(),
+            _ => false,
+        }
+    }
+
+    /// The frame of the next ticket begins, with a scope of its own: its entry, and what the ticket tells. It takes no memory.
+    pub fn begin_ticket(&mut self) -> Option<(Entry, Due)>
+        requires alone { self.old.frames ≡ [] }
+        ensures none { (result ≡ None) ↔ (next_ticket self.old ≡ None) }
+        ensures stays { result ≡ None → self.new ≡ self.old }
+        ensures begun { IfSome result (λ begin. BeginsFrame self.old begin.0 begin.1 self.new) }
+    {
+        match self.phase {
+            Phase::Live | Phase::Finals => self.begin_due(),
+            _ => None,
+        }
+    }
+
+    /// The frame of the lowest ticket that is due begins, in a phase in which tickets do.
+    fn begin_due(&mut self) -> Option<(Entry, Due)>
+        requires alone { self.old.frames ≡ [] }
+        requires next { next_ticket self.old ≡ lowest_due self.old.book }
+        ensures none { (result ≡ None) ↔ (lowest_due self.old.book ≡ None) }
+        ensures stays { result ≡ None → self.new ≡ self.old }
+        ensures begun { IfSome result (λ begin. BeginsFrame self.old begin.0 begin.1 self.new) }
+    {
+        let due = self.book.take_due()?;
+        let told = *due.info();
+        self.scopes.enter_frame();
+        self.frames.push(StandingFrame {
+            cause: told.cause,
+            addon: told.addon,
+            entry: told.entry,
+            duty: Some(told.duty),
+            asks: 0,
+        });
+        let begin = host_entry(
+            HostStep::Begin,
+            Out::Begin(told.cause, told.addon, told.entry, Some(told.duty)),
+        );
+        Some((begin, due))
+    }
+
+    /// The frame of a ticket ends, which stands alone, cut or not, and its scopes close. The ticket has ended, and an exception that
+    /// is pending is cleared.
+    pub fn end_duty(&mut self, begun: Begun, cut: Option<Why>) -> Entry
+        requires duty { duty_of self.old.frames ≡ Some begun.duty }
+        requires alone { tail self.old.frames ≡ [] }
+        ensures entry { result ≡ (outermost_end_change cut self.old).entry }
+        ensures after { self.new ≡ (outermost_end_change cut self.old).after }
+    {
+        let out = self.clear_at_end(cut);
+        self.scopes.leave_frame();
+        self.frames.pop();
+        end_ticket(&mut self.book, begun);
+        host_entry(HostStep::End, out)
+    }
+}
+
+/// A duty that has begun, which is that of a ticket, ends.
+#[tactic(auto, using(crate::proofs::Beginning::duty_ticket))]
+fn end_ticket(book: &mut Book, begun: Begun)
+    requires { is_at is_begun book.old.book (ticket_number begun.duty) ≡ true }
+    ensures { book.new.book ≡ duty_ended (Some begun.duty) book.old.book }
+{
+    book.done(begun);
+}
