@@ -21,7 +21,7 @@ use Rattle.napi_types.specs.Step.{may_cut}
 use Rattle.napi_types.specs.Setting.{Setting}
 use Rattle.env_core.specs.Core.{Core, after_change, room_in}
 use Rattle.env_core.specs.Steps.{GrowsUnrefused, PassesFirstPlaces, StopsBy}
-use Rattle.env_loop.specs.Recording.{machine_of, why_stopped}
+use Rattle.env_loop.specs.Recording.{AddonStates, machine_of, why_stopped}
 use Rattle.env_loop.specs.Runs.{IsSoundEnvironment}
 use Rattle.env_loop.specs.Turns.{IsAsked, IsTurn}
 use Rattle.napi_types.proofs.FrameEnds.{ended-ends}
@@ -34,13 +34,13 @@ use Rattle.env_loop.proofs.Ends.{callers_of, IsToldEnd, ended-turn}
 abbrev MayCut : Core → Ask → Why → Type 0
 MayCut core a w = (s : Setting) (history : List Entry) → core.limit ≡ s.limits.journal → may_cut (machine_of s.limits core history) (built_ask a) w ≡ true
 
-cut-turn : {ps : List Plan} {core : Core} {all : Registers} {f : Frame} {a : Ask} → InFrame ps core.env all f a → (w : Why) (new : Core) (now : Registers)
+cut-turn : {ps : List Plan} {core : Core} {all : AddonStates} {f : Frame} {a : Ask} → InFrame ps core.env all.registers f a → (w : Why) (new : Core) (now : AddonStates)
     → MayCut core a w
-    → new ≡ after_change (end_change None (Some w) core.env) core → IsToldEnd ps all core.env None (Some w) now → IsTurn ps core all new now
-cut-turn {ps} {core} {all} {f} {a} i w new now may made told =
+    → new ≡ after_change (end_change None (Some w) core.env) core → IsToldEnd ps all.registers core.env None (Some w) now.registers → now.seen ≡ all.seen → IsTurn ps core all new now
+cut-turn {ps} {core} {all} {f} {a} i w new now may made told same =
     ended-turn i None (Some w) new now
     (λ s history limit. cut-next (machine_of s.limits core history) a w (end_change None (Some w) core.env).entry.reply.out f (tail core.env.frames) (in-stands i)
-    (ended-ends None (Some w) core.env).told (may s history limit)) made told
+    (ended-ends None (Some w) core.env).told (may s history limit)) made told same
 
 -- ITS CALL STOPPED
 -- a call that grows, or passes the first places, may want memory
@@ -67,24 +67,24 @@ stopped-may s core history a c t limit may made stops =
         (wants_memory core.env (room_of (machine_of s.limits core history) c) c stops.0) stops.1
     by _ stops = absurd stops
 
-stopped-turn : (ps : List Plan) (core new : Core) (all now : Registers) (f : Frame) (a : Ask) (c : Call) (t : Status) (w : Why) → InFrame ps core.env all f a
+stopped-turn : (ps : List Plan) (core new : Core) (all now : AddonStates) (f : Frame) (a : Ask) (c : Call) (t : Status) (w : Why) → InFrame ps core.env all.registers f a
     → f.asks < most_asks → ask.Do c ≡ built_ask a
-    → StopsBy core.env (room_in core) c t → w ≡ why_stopped t → new ≡ after_change (end_change None (Some w) core.env) core → IsToldEnd ps all core.env None (Some w) now
+    → StopsBy core.env (room_in core) c t → w ≡ why_stopped t → new ≡ after_change (end_change None (Some w) core.env) core → IsToldEnd ps all.registers core.env None (Some w) now.registers → now.seen ≡ all.seen
     → IsTurn ps core all new now
-stopped-turn ps core new all now f a c t w i below made stops reason ended told =
+stopped-turn ps core new all now f a c t w i below made stops reason ended told same =
     cut-turn i w new now
-    (λ s history limit. ap (λ x. may_cut (machine_of s.limits core history) (built_ask a) x) reason ∙ stopped-may s core history a c t limit (in-calls i below) made stops) ended told
+    (λ s history limit. ap (λ x. may_cut (machine_of s.limits core history) (built_ask a) x) reason ∙ stopped-may s core history a c t limit (in-calls i below) made stops) ended told same
 
 -- a call that stopped changed nothing, so its frame ends where it stood
-pub stopped-turn-at : (ps qs : List Plan) (core stopped new : Core) (all mid now : Registers) (f : Frame) (a : Ask) (c : Call) (t : Status) (w : Why)
-    → InFrame ps core.env all f a → f.asks < most_asks → ask.Do c ≡ built_ask a → StopsBy core.env (room_in core) c t → w ≡ why_stopped t
-    → stopped ≡ core → new ≡ after_change (end_change None (Some w) stopped.env) stopped → qs ≡ ps → mid ≡ all → IsToldEnd qs mid stopped.env None (Some w) now
+pub stopped-turn-at : (ps qs : List Plan) (core stopped new : Core) (all : AddonStates) (mid : Registers) (now : AddonStates) (f : Frame) (a : Ask) (c : Call) (t : Status) (w : Why)
+    → InFrame ps core.env all.registers f a → f.asks < most_asks → ask.Do c ≡ built_ask a → StopsBy core.env (room_in core) c t → w ≡ why_stopped t
+    → stopped ≡ core → new ≡ after_change (end_change None (Some w) stopped.env) stopped → qs ≡ ps → mid ≡ all.registers → IsToldEnd qs mid stopped.env None (Some w) now.registers → now.seen ≡ all.seen
     → IsTurn ps core all new now
-stopped-turn-at ps qs core stopped new all mid now f a c t w i below made stops reason same ended plans registers told =
+stopped-turn-at ps qs core stopped new all mid now f a c t w i below made stops reason same ended plans registers told unseen =
     let P : Core → Type 0 = λ x. new ≡ after_change (end_change None (Some w) x.env) x in
-    let Q : Core → Type 0 = λ x. IsToldEnd ps all x.env None (Some w) now in
+    let Q : Core → Type 0 = λ x. IsToldEnd ps all.registers x.env None (Some w) now.registers in
     stopped-turn ps core new all now f a c t w i below made stops reason (subst P same ended)
-    (subst Q same (told-from ps qs all mid now (callers_of stopped.env) (end_change None (Some w) stopped.env).entry.reply plans registers told))
+    (subst Q same (told-from ps qs all.registers mid now.registers (callers_of stopped.env) (end_change None (Some w) stopped.env).entry.reply plans registers told)) unseen
 
 -- IT HAS MADE ALL ITS ASKS
 -- an ask that the plan gives, where one is told
@@ -95,11 +95,11 @@ some-ask ps all f = by (plan_of ps f.addon)
     by None = (ask.Leave None, tt)
     by (Some p) = (plan_ask p (registers_of all f.addon) f.entry f.asks, refl)
 
-pub spent-turn : (ps : List Plan) (core new : Core) (all now : Registers) (f : Frame) → IsSoundEnvironment core.env → head core.env.frames ≡ Some f → f.makes_asks ≡ true
+pub spent-turn : (ps : List Plan) (core new : Core) (all now : AddonStates) (f : Frame) → IsSoundEnvironment core.env → head core.env.frames ≡ Some f → f.makes_asks ≡ true
     → f.asks ≡ most_asks
-    → new ≡ after_change (end_change None (Some why.Asks) core.env) core → IsToldEnd ps all core.env None (Some why.Asks) now → IsTurn ps core all new now
-spent-turn ps core new all now f sound top makes spent made told =
-    let would = some-ask ps all f in
-    let i : InFrame ps core.env all f would.0 = record { sound = sound; top = top; makes = makes; asked = would.1 } in
+    → new ≡ after_change (end_change None (Some why.Asks) core.env) core → IsToldEnd ps all.registers core.env None (Some why.Asks) now.registers → now.seen ≡ all.seen → IsTurn ps core all new now
+spent-turn ps core new all now f sound top makes spent made told same =
+    let would = some-ask ps all.registers f in
+    let i : InFrame ps core.env all.registers f would.0 = record { sound = sound; top = top; makes = makes; asked = would.1 } in
     let all_made : (asks_made core.env.frames == most_asks) ≡ true = ap (λ gs. asks_made gs == most_asks) (in-stands i) ∙ ap (λ k. k == most_asks) spent in
-    cut-turn i why.Asks new now (λ s history limit. all_made) made told
+    cut-turn i why.Asks new now (λ s history limit. all_made) made told same

@@ -1,17 +1,21 @@
 -- A turn in which the innermost frame ends.
-use Rattle.std.proofs.Common.{◌≡◌, ◌<◌, ℕ, ◌-◌, true, List, ◌∷◌, ap, subst, sym, ◌∙◌, Option, Some, None, IfSome}
+use Rattle.std.proofs.Common.{◌≡◌, ◌<◌, ℕ, ◌-◌, true, false, List, ◌∷◌, ap, subst, sym, ◌∙◌, Option, Some, None, IfSome, is_some}
 use Rattle.std.specs.List.{All}
+use Rattle.std.specs.Option.{option_to_list}
 use Rattle.napi_types.specs.declared.call.Ask.{Ask}
 use Rattle.napi_types.specs.declared.call.Ask.TheVariants as ask
+use Rattle.napi_types.specs.declared.duties.DueInfo.{DueInfo}
+use Rattle.napi_types.specs.declared.entry.Duty.{Duty}
 use Rattle.napi_types.specs.declared.entry.Entry.{Entry}
 use Rattle.napi_types.specs.declared.entry.Reply.{Reply}
 use Rattle.napi_types.specs.declared.entry.Why.{Why}
 use Rattle.napi_types.specs.declared.ids.HandleId.{HandleId}
 use Rattle.napi_types.specs.Built.{built_ask}
 use Rattle.napi_types.specs.Changes.{Change}
+use Rattle.napi_types.specs.Duties.{duties_of}
 use Rattle.napi_types.specs.Ends.{end_change}
 use Rattle.napi_types.specs.Environment.{Environment}
-use Rattle.napi_types.specs.Frames.{Frame, at_last_ask, most_asks}
+use Rattle.napi_types.specs.Frames.{Frame, duty_of, at_last_ask, most_asks}
 use Rattle.napi_types.specs.Lists.{head, tail}
 use Rattle.napi_types.specs.Machine.{Machine}
 use Rattle.napi_types.specs.Phases.{stage_of}
@@ -21,18 +25,20 @@ use Rattle.napi_types.specs.Step.{locally, env_step}
 use Rattle.napi_types.specs.Setting.{Setting}
 use Rattle.addon_trait.specs.Addons.{OthersStay}
 use Rattle.env_core.specs.Core.{Core, after_change}
-use Rattle.env_loop.specs.Recording.{machine_of, Continues}
-use Rattle.env_loop.specs.Runs.{IsSoundEnvironment}
+use Rattle.env_loop.specs.Recording.{AddonStates, machine_of, HasSeen, Continues}
+use Rattle.env_loop.specs.Runs.{IsSoundEnvironment, Holds}
 use Rattle.env_loop.specs.Turns.{IsTold, OnlyInnermostChanges, IsTurn}
 use Rattle.napi_types.proofs.Answers.{course-parts}
 use Rattle.napi_types.proofs.FrameChanges.{KeepsButFrame, ended-keeps}
 use Rattle.napi_types.proofs.FrameEnds.{Ends, ended-ends}
 use Rattle.napi_types.proofs.Owners.{owned-ended}
+use Rattle.napi_types.proofs.StandingFrames.{duties-plain}
 use Rattle.env_loop.proofs.Recordings.{local-grown}
-use Rattle.env_loop.proofs.Steps.{leave-next, by-env}
+use Rattle.env_loop.proofs.Steps.{leave-next, by-env, ended-untold}
 use Rattle.env_loop.proofs.Frames.{head-stands, head-below, tail-below, InFrame, in-stands, in-some, in-asks, sound-ended}
 use Rattle.env_loop.proofs.Registers.{Kept, told-others, caller-touched, asked-in, registers_after_reply-in}
-use Rattle.env_loop.proofs.Turns.{after_change-turn}
+use Rattle.env_loop.proofs.Seen.{begins-none, seen-same}
+use Rattle.env_loop.proofs.Turns.{none-there, after_change-turn, seen-stays}
 
 -- the frame around the innermost one, whose addon is told the reply to the ask that it made last
 abbrev pub callers_of : Environment → List Frame
@@ -47,49 +53,57 @@ abbrev pub EndIsNext : Core → Ask → Option HandleId → Option Why → Type 
 EndIsNext core a v cut = (s : Setting) (history : List Entry) → core.limit ≡ s.limits.journal
     → env_step (machine_of s.limits core history) a (end_change v cut core.env).entry.reply.out core.env.frames ≡ locally (machine_of s.limits core history) (end_change v cut core.env) true
 
-ended-goes : {ps : List Plan} {core : Core} {all : Registers} {f : Frame} {a : Ask} → InFrame ps core.env all f a
-    → (v : Option HandleId) (cut : Option Why) (now : Registers)
-    → EndIsNext core a v cut → IsToldEnd ps all core.env v cut now → Continues ps core all (after_change (end_change v cut core.env) core) now
-ended-goes {ps} {core} {all} {f} {a} i v cut now next told = λ s history of rec.
+ended-goes : {ps : List Plan} {core : Core} {all : AddonStates} {f : Frame} {a : Ask} → InFrame ps core.env all.registers f a
+    → (v : Option HandleId) (cut : Option Why) (now : AddonStates)
+    → EndIsNext core a v cut → IsToldEnd ps all.registers core.env v cut now.registers → now.seen ≡ all.seen → Continues ps core all (after_change (end_change v cut core.env) core) now
+ended-goes {ps} {core} {all} {f} {a} i v cut now next told same = λ s history firsts of rec.
     let change : Change = end_change v cut core.env in
     let m : Machine = machine_of s.limits core history in
     let x : Entry = change.entry in
     let e : Ends cut x = ended-ends v cut core.env in
     let callers : List Frame = callers_of core.env in
-    let keeps : Kept s.plans now (caller_after_reply s.plans rec.own callers x.reply) =
-    registers_after_reply-in s ps core history all now callers x.reply of rec (tail-below core.env.addons core.env.frames i.sound.owned.frames) told in
-    local-grown s core history all rec a change (caller_after_reply s.plans rec.own callers x.reply) now
+    let keeps : Kept s.plans now.registers (caller_after_reply s.plans rec.own callers x.reply) =
+    registers_after_reply-in s ps core history all firsts now.registers callers x.reply of rec (tail-below core.env.addons core.env.frames i.sound.owned.frames) told in
+    local-grown s core history all firsts rec a change (caller_after_reply s.plans rec.own callers x.reply) now
     (by-env m a x (locally m change true) e.who (next s history rec.limit))
-    e.who (asked-in i s history of rec)
-    (ap (λ w. after_event s.plans rec.own core.env a x.reply w) e.is)
+    e.who (asked-in i s history firsts of rec)
+    (ap (λ w. after_event s.plans rec.own m a x.reply w) e.is)
     keeps.count keeps.agrees
+    (let P : Option DueInfo → Type 0 = λ d. HasSeen all.seen (option_to_list d) now.seen in subst P (sym (ended-untold m v cut core.env)) (seen-same all.seen now.seen same))
     (ap stage_of (course-parts core.env (end_change v cut core.env).after (ended-keeps v cut core.env).course).phase)
 
-pub ended-turn : {ps : List Plan} {core : Core} {all : Registers} {f : Frame} {a : Ask} → InFrame ps core.env all f a
-    → (v : Option HandleId) (cut : Option Why) (new : Core) (now : Registers)
-    → EndIsNext core a v cut → new ≡ after_change (end_change v cut core.env) core → IsToldEnd ps all core.env v cut now → IsTurn ps core all new now
-ended-turn {ps} {core} {all} {f} {a} i v cut new now next made told =
+pub ended-turn : {ps : List Plan} {core : Core} {all : AddonStates} {f : Frame} {a : Ask} → InFrame ps core.env all.registers f a
+    → (v : Option HandleId) (cut : Option Why) (new : Core) (now : AddonStates)
+    → EndIsNext core a v cut → new ≡ after_change (end_change v cut core.env) core → IsToldEnd ps all.registers core.env v cut now.registers → now.seen ≡ all.seen → IsTurn ps core all new now
+ended-turn {ps} {core} {all} {f} {a} i v cut new now next made told same =
     let k : KeepsButFrame core.env (end_change v cut core.env).after = ended-keeps v cut core.env in
     let course = course-parts core.env (end_change v cut core.env).after k.course in
     let there : All (λ g. g.addon < core.env.addons) (callers_of core.env) = tail-below core.env.addons core.env.frames i.sound.owned.frames in
-    let U : List Frame → Type 0 = λ l. OnlyInnermostChanges core.env.frames l all now in
+    let U : List Frame → Type 0 = λ l. OnlyInnermostChanges core.env.frames l all.registers now.registers in
     after_change-turn ps core new all now (end_change v cut core.env) made
-    (told-others core.env.addons ps all now (callers_of core.env) (end_change v cut core.env).entry.reply there told)
-    (subst U (sym k.frames) (caller-touched ps all now core.env.frames (tail core.env.frames) (end_change v cut core.env).entry.reply (in-some i) told))
-    (sound-ended i v cut) course.addons (ap stage_of course.phase) (ended-goes i v cut now next told)
+    (told-others core.env.addons ps all.registers now.registers (callers_of core.env) (end_change v cut core.env).entry.reply there told)
+    (subst U (sym k.frames) (caller-touched ps all.registers now.registers core.env.frames (tail core.env.frames) (end_change v cut core.env).entry.reply (in-some i) told))
+    (seen-stays core.env all now (begins-none core.env (in-some i)) same)
+    (sound-ended i v cut) course.addons (ap stage_of course.phase) (ended-goes i v cut now next told same)
 
 -- the frame leaves
-pub left-turn : (ps : List Plan) (core new : Core) (all now : Registers) (f : Frame) (a : Ask) (v : Option HandleId) → InFrame ps core.env all f a
+pub left-turn : (ps : List Plan) (core new : Core) (all now : AddonStates) (f : Frame) (a : Ask) (v : Option HandleId) → InFrame ps core.env all.registers f a
     → f.asks < most_asks → ask.Leave v ≡ built_ask a
-    → new ≡ after_change (end_change v None core.env) core → IsToldEnd ps all core.env v None now → IsTurn ps core all new now
-left-turn ps core new all now f a v i below left made told =
+    → new ≡ after_change (end_change v None core.env) core → IsToldEnd ps all.registers core.env v None now.registers → now.seen ≡ all.seen → IsTurn ps core all new now
+left-turn ps core new all now f a v i below left made told same =
     ended-turn i v None new now
     (λ s history limit. leave-next (machine_of s.limits core history) a v (end_change v None core.env).entry.reply.out f (tail core.env.frames) (in-stands i) left
-    (ended-ends v None core.env).told (in-asks i below)) made told
+    (ended-ends v None core.env).told (in-asks i below)) made told same
 
 -- THE CALLER IS TOLD
 frames-left : (core new : Core) (v : Option HandleId) (cut : Option Why) → new ≡ after_change (end_change v cut core.env) core → new.env.frames ≡ tail core.env.frames
 frames-left core new v cut made = ap (λ (c : Core). c.env.frames) made ∙ (ended-keeps v cut core.env).frames
+
+-- a frame that no duty began takes none away
+pub plain-left : (core new : Core) (v : Option HandleId) (cut : Option Why) (d : Option Duty) (begun : Option DueInfo) → d ≡ duty_of core.env.frames → is_some d ≡ false
+    → new ≡ after_change (end_change v cut core.env) core → Holds core.env.frames begun → Holds new.env.frames begun
+plain-left core new v cut d begun told none made held =
+    ap duties_of (frames-left core new v cut made) ∙ duties-plain core.env.frames (sym told ∙ none-there d none) ∙ held
 
 -- the caller's addon is there
 pub caller-there : (core new : Core) (v : Option HandleId) (cut : Option Why) (f : Frame) → IsSoundEnvironment core.env → new ≡ after_change (end_change v cut core.env) core

@@ -5,5 +5,7 @@ pub mod Frames
 pub mod Recordings
 pub mod Registers
 pub mod Runs
+pub mod Seen
 pub mod Steps
+pub mod Tickets
 pub mod Turns

@@ -3,6 +3,7 @@ use Rattle.std.proofs.Common.{◌≡◌, ℕ, ◌+◌, ◌<◌, true, false, IsT
 use Rattle.std.proofs.lemmas.List.{length-map, get_or-map}
 use Rattle.napi_types.specs.declared.call.Ask.{Ask}
 use Rattle.napi_types.specs.declared.entry.Actor.TheVariants as actor
+use Rattle.napi_types.specs.declared.duties.DueInfo.{DueInfo}
 use Rattle.napi_types.specs.declared.entry.Entry.{Entry}
 use Rattle.napi_types.specs.declared.entry.HostStep.{HostStep}
 use Rattle.napi_types.specs.declared.entry.HostStep.TheVariants as host
@@ -12,6 +13,9 @@ use Rattle.napi_types.specs.declared.entry.LoopEnd.TheVariants as loop_end
 use Rattle.napi_types.specs.declared.entry.Phase.{Phase}
 use Rattle.napi_types.specs.declared.entry.Phase.TheVariants as phase
 use Rattle.napi_types.specs.declared.call.Ask.TheVariants as ask
+use Rattle.std.specs.Option.{option_to_list}
+use Rattle.napi_types.specs.Begins.{told_at, begun_info, begun_along}
+use Rattle.napi_types.specs.Book.{lowest_due}
 use Rattle.napi_types.specs.Machine.{Machine}
 use Rattle.napi_types.specs.Parting.{sides_along}
 use Rattle.napi_types.specs.Step.{Step, step, locally}
@@ -24,21 +28,24 @@ use Rattle.napi_types.specs.Weave.{Side, Journal, History, weave, sides, RisesBe
 use Rattle.napi_types.specs.Setting.{Setting, opening_of, RunsBy, final_of, final_registers, planned_asks}
 use Rattle.env_core.specs.Core.{Core, after_change, opened_core}
 use Rattle.napi_types.specs.Phases.{stage_of}
-use Rattle.env_loop.specs.Recording.{machine_of, AgreesWhereTold, AgreesWith, IsRecorded, IsEnded}
-use Rattle.napi_types.proofs.Runs.{run-more, final-more, asked-more, registers-more, sides-more}
+use Rattle.env_loop.specs.Recording.{AddonStates, machine_of, AgreesWhereTold, AgreesWith, HasSeen, IsRecorded, IsEnded}
+use Rattle.napi_types.proofs.Runs.{run-more, final-more, asked-more, registers-more, sides-more, begun-more}
+use Rattle.env_loop.proofs.Seen.{seen-same, seen-more}
 use Rattle.napi_types.proofs.Weaves.{weave-local, weave-shared, sides-local, sides-shared, rises-append, rises-more}
 
 -- what one more entry makes of a run by its asks
-pub record Grown (s : Setting) (asks : List Ask) (xs : List Entry) (after : Machine) (registers : Registers) (sides : List Side) : Type 0 where
+pub record Grown (s : Setting) (asks : List Ask) (xs : List Entry) (after : Machine) (registers : Registers) (sides : List Side) (begun : List DueInfo) : Type 0 where
   pub run : RunsBy s asks xs
   pub final : final_of s asks xs ≡ after
   pub registers_are : final_registers s asks xs ≡ registers
   pub sides_are : sides_along (opening_of s) asks xs ≡ sides
+  pub begun_are : begun_along (opening_of s) asks xs ≡ begun
 
 pub grow : (s : Setting) (bs : List Ask) (xs : List Entry) (m : Machine) (rss : Registers) (a : Ask) (x : Entry) (st : Step)
     → RunsBy s bs xs → final_of s bs xs ≡ m → final_registers s bs xs ≡ rss
     → step m a x ≡ st → x ≡ st.entry → IsTrue st.may → a ≡ asked s.plans rss m a x.actor
     → Grown s (bs ++ a ∷ []) (xs ++ x ∷ []) st.after (registers_after s.plans rss m a x) (sides_along (opening_of s) bs xs ++ st.side ∷ [])
+    (begun_along (opening_of s) bs xs ++ option_to_list (begun_info m x))
 grow s bs xs m rss a x st r f g next entry may here =
     let P : Machine → Type 0 = λ n. IsNext n a x in
     let Q : Step → Type 0 = λ t. (x ≡ t.entry) × IsTrue t.may in
@@ -62,29 +69,35 @@ grow s bs xs m rss a x st r f g next entry may here =
           sides-more (opening_of s) bs xs a x r.steps
           ∙ ap (λ n. sides_along (opening_of s) bs xs ++ (step n a x).side ∷ []) f
           ∙ ap (λ t. sides_along (opening_of s) bs xs ++ t.side ∷ []) next;
+      begun_are =
+          begun-more (opening_of s) bs xs a x r.steps
+          ∙ ap (λ n. begun_along (opening_of s) bs xs ++ option_to_list (begun_info n x)) f;
     }
 
 -- a local event goes into the journal
-pub local-grown : (s : Setting) (core : Core) (history : List Entry) (all : Registers) (r : IsRecorded s core history all)
-    (a : Ask) (c : Change) (own : Registers) (after_all : Registers)
+pub local-grown : (s : Setting) (core : Core) (history : List Entry) (all : AddonStates) (firsts : List (List DueInfo)) (r : IsRecorded s core history all firsts)
+    (a : Ask) (c : Change) (own : Registers) (after_all : AddonStates)
     → step (machine_of s.limits core history) a c.entry ≡ locally (machine_of s.limits core history) c true
     → c.entry.actor ≡ actor.Env
     → a ≡ frames_ask s.plans r.own core.env.frames a
-    → after_event s.plans r.own core.env a c.entry.reply c.entry.what ≡ own
+    → after_event s.plans r.own (machine_of s.limits core history) a c.entry.reply c.entry.what ≡ own
     → length own ≡ length s.plans
-    → AgreesWith s.plans after_all own
+    → AgreesWith s.plans after_all.registers own
+    → HasSeen all.seen (option_to_list (begun_info (machine_of s.limits core history) c.entry)) after_all.seen
     → stage_of c.after.phase ≡ stage_of core.env.phase
-    → IsRecorded s (after_change c core) history after_all
-local-grown s core history all r a c own after_all next who here kept count agrees staged =
+    → IsRecorded s (after_change c core) history after_all firsts
+local-grown s core history all firsts r a c own after_all next who here kept count agrees seen staged =
     let m : Machine = machine_of s.limits core history in
     let xs : List Entry = weave core.journal history in
-    let g : Grown s (r.asks ++ a ∷ []) (xs ++ c.entry ∷ []) (locally m c true).after (registers_after s.plans r.own m a c.entry) (sides_along (opening_of s) r.asks xs ++ Journal ∷ []) =
+    let g : Grown s (r.asks ++ a ∷ []) (xs ++ c.entry ∷ []) (locally m c true).after (registers_after s.plans r.own m a c.entry) (sides_along (opening_of s) r.asks xs ++ Journal ∷ [])
+    (begun_along (opening_of s) r.asks xs ++ option_to_list (begun_info m c.entry)) =
     grow s r.asks xs m r.own a c.entry (locally m c true) r.run r.final r.registers next refl refl (here ∙ ap (asked s.plans r.own m a) (sym who)) in
     let woven : weave (core.journal ++ record { at = core.position; entry = c.entry } ∷ []) history ≡ xs ++ c.entry ∷ [] =
     ap (λ n. weave (core.journal ++ record { at = n; entry = c.entry } ∷ []) history) r.position ∙ weave-local core.journal history c.entry in
     let longer : length core.journal + 1 ≡ length (core.journal ++ record { at = core.position; entry = c.entry } ∷ []) =
     sym (length-append core.journal (record { at = core.position; entry = c.entry } ∷ [])) in
     let R : List Entry → Type 0 = λ ys. RunsBy s (r.asks ++ a ∷ []) ys in
+    let B : List DueInfo → Type 0 = λ l. HasSeen firsts l after_all.seen in
     record {
       asks = r.asks ++ a ∷ [];
       own = own;
@@ -93,9 +106,12 @@ local-grown s core history all r a c own after_all next who here kept count agre
           ap (λ ys. final_of s (r.asks ++ a ∷ []) ys) woven ∙ g.final
           ∙ ap (λ n. record m { env = c.after; journal_length = n }) longer
           ∙ ap (λ t. record m { env = c.after; hub = record { stage = t }; journal_length = length (core.journal ++ record { at = core.position; entry = c.entry } ∷ []) }) (sym staged);
-      registers = ap (λ ys. final_registers s (r.asks ++ a ∷ []) ys) woven ∙ g.registers_are ∙ ap (after_entry s.plans r.own core.env a c.entry) who ∙ kept;
+      registers = ap (λ ys. final_registers s (r.asks ++ a ∷ []) ys) woven ∙ g.registers_are ∙ ap (after_entry s.plans r.own m a c.entry) who ∙ kept;
       count = count;
       agrees = agrees;
+      seen =
+          subst B (sym (ap (λ ys. begun_along (opening_of s) (r.asks ++ a ∷ []) ys) woven ∙ g.begun_are))
+          (seen-more firsts all.seen after_all.seen (begun_along (opening_of s) r.asks xs) (option_to_list (begun_info m c.entry)) r.seen seen);
       limit = r.limit;
       position = r.position;
       rises = rises-append 0 (length history) core.journal (record { at = core.position; entry = c.entry }) r.position r.rises;
@@ -108,26 +124,29 @@ local-grown s core history all r a c own after_all next who here kept count agre
 abbrev pub hub_left : Machine → Phase → Machine
 hub_left m p = record m { env = in_phase p m.env; hub = record { stage = stage_of p }; history_length = m.history_length + 1 }
 
--- an event of the hub goes into the history, and its phase starts; it leaves the registers
-pub shared-grown : (s : Setting) (core : Core) (history : List Entry) (all : Registers) (r : IsRecorded s core history all)
+-- an event of the hub goes into the history, and its phase starts; it leaves the registers, and no duty begins
+pub shared-grown : (s : Setting) (core : Core) (history : List Entry) (all : AddonStates) (firsts : List (List DueInfo)) (r : IsRecorded s core history all firsts)
     (event : HostStep) (o : Out) (p : Phase)
     → core.env.frames ≡ []
     → step (machine_of s.limits core history) (ask.Leave None) (host_entry event o)
     ≡ record { entry = host_entry event o; side = History; after = hub_left (machine_of s.limits core history) p; may = true }
-    → ((rss : Registers) (reply : Reply) → after_host_event s.plans rss core.env (ask.Leave None) reply event ≡ rss)
-    → IsRecorded s (record core { env = in_phase p core.env; position = length history + 1 }) (history ++ host_entry event o ∷ []) all
-shared-grown s core history all r event o p alone next leaves =
+    → ((rss : Registers) (m : Machine) (reply : Reply) → after_host_event s.plans rss m (ask.Leave None) reply event ≡ rss)
+    → ((m : Machine) → told_at m o ≡ None)
+    → IsRecorded s (record core { env = in_phase p core.env; position = length history + 1 }) (history ++ host_entry event o ∷ []) all firsts
+shared-grown s core history all firsts r event o p alone next leaves none =
     let m : Machine = machine_of s.limits core history in
     let xs : List Entry = weave core.journal history in
     let x : Entry = host_entry event o in
     let nothing : ask.Leave None ≡ asked s.plans r.own m (ask.Leave None) actor.Env = rw alone refl in
     let st : Step = record { entry = x; side = History; after = hub_left m p; may = true } in
-    let g : Grown s (r.asks ++ ask.Leave None ∷ []) (xs ++ x ∷ []) (hub_left m p) (registers_after s.plans r.own m (ask.Leave None) x) (sides_along (opening_of s) r.asks xs ++ History ∷ []) =
+    let g : Grown s (r.asks ++ ask.Leave None ∷ []) (xs ++ x ∷ []) (hub_left m p) (registers_after s.plans r.own m (ask.Leave None) x) (sides_along (opening_of s) r.asks xs ++ History ∷ [])
+    (begun_along (opening_of s) r.asks xs ++ option_to_list (begun_info m x)) =
     grow s r.asks xs m r.own (ask.Leave None) x st r.run r.final r.registers next refl refl nothing in
     let woven : weave core.journal (history ++ x ∷ []) ≡ xs ++ x ∷ [] = weave-shared core.journal history x r.rises in
     let longer : length (history ++ x ∷ []) ≡ length history + 1 = length-append history (x ∷ []) in
     let R : List Entry → Type 0 = λ ys. RunsBy s (r.asks ++ ask.Leave None ∷ []) ys in
     let U : ℕ → Type 0 = λ n. RisesBetween 0 n core.journal in
+    let B : List DueInfo → Type 0 = λ l. HasSeen firsts l all.seen in
     record {
       asks = r.asks ++ ask.Leave None ∷ [];
       own = r.own;
@@ -135,9 +154,14 @@ shared-grown s core history all r event o p alone next leaves =
       final =
           ap (λ ys. final_of s (r.asks ++ ask.Leave None ∷ []) ys) woven ∙ g.final
           ∙ ap (λ n. record m { env = in_phase p core.env; hub = record { stage = stage_of p }; history_length = n }) (sym longer);
-      registers = ap (λ ys. final_registers s (r.asks ++ ask.Leave None ∷ []) ys) woven ∙ g.registers_are ∙ leaves r.own x.reply;
+      registers = ap (λ ys. final_registers s (r.asks ++ ask.Leave None ∷ []) ys) woven ∙ g.registers_are ∙ leaves r.own m x.reply;
       count = r.count;
       agrees = r.agrees;
+      seen =
+          subst B
+          (sym (ap (λ ys. begun_along (opening_of s) (r.asks ++ ask.Leave None ∷ []) ys) woven ∙ g.begun_are
+          ∙ ap (λ d. begun_along (opening_of s) r.asks xs ++ option_to_list d) (none m)))
+          (seen-more firsts all.seen all.seen (begun_along (opening_of s) r.asks xs) [] r.seen (seen-same all.seen all.seen refl));
       limit = r.limit;
       position = sym longer;
       rises = subst U (sym longer) (rises-more 0 (length history) (length history + 1) core.journal (omega arith) r.rises);
@@ -148,31 +172,32 @@ shared-grown s core history all r event o p alone next leaves =
 
 -- THE EVENTS WITH NO FRAME, one after another
 -- every init frame has begun, so the run goes live
-pub go-grown : (s : Setting) (core : Core) (history : List Entry) (all : Registers) → IsRecorded s core history all
+pub go-grown : (s : Setting) (core : Core) (history : List Entry) (all : AddonStates) (firsts : List (List DueInfo)) → IsRecorded s core history all firsts
     → core.env.frames ≡ [] → core.env.phase ≡ phase.Init → core.env.opened ≡ true → nat_lt core.env.inits core.env.addons ≡ false
-    → IsRecorded s (record core { env = in_phase phase.Live core.env; position = length history + 1 }) (history ++ host_entry host.Go out.Nothing ∷ []) all
-go-grown s core history all r alone here opened every = shared-grown s core history all r host.Go out.Nothing phase.Live alone (rw (alone, here, opened, every) refl) (λ rss reply. refl)
+    → IsRecorded s (record core { env = in_phase phase.Live core.env; position = length history + 1 }) (history ++ host_entry host.Go out.Nothing ∷ []) all firsts
+go-grown s core history all firsts r alone here opened every = shared-grown s core history all firsts r host.Go out.Nothing phase.Live alone (rw (alone, here, opened, every) refl) (λ rss m reply. refl) (λ m. refl)
 
-pub loop_end-grown : (s : Setting) (core : Core) (history : List Entry) (all : Registers) → IsRecorded s core history all
-    → core.env.frames ≡ [] → core.env.phase ≡ phase.Live
-    → IsRecorded s (record core { env = in_phase phase.Hooks core.env; position = length history + 1 }) (history ++ host_entry host.LoopEnd (out.Ended loop_end.Idle) ∷ []) all
-loop_end-grown s core history all r alone here = shared-grown s core history all r host.LoopEnd (out.Ended loop_end.Idle) phase.Hooks alone (rw (alone, here) refl) (λ rss reply. refl)
+pub loop_end-grown : (s : Setting) (core : Core) (history : List Entry) (all : AddonStates) (firsts : List (List DueInfo)) → IsRecorded s core history all firsts
+    → core.env.frames ≡ [] → core.env.phase ≡ phase.Live → lowest_due core.env.book ≡ None
+    → IsRecorded s (record core { env = in_phase phase.Hooks core.env; position = length history + 1 }) (history ++ host_entry host.LoopEnd (out.Ended loop_end.Idle) ∷ []) all firsts
+loop_end-grown s core history all firsts r alone here none = shared-grown s core history all firsts r host.LoopEnd (out.Ended loop_end.Idle) phase.Hooks alone (rw (alone, here, none) refl) (λ rss m reply. refl) (λ m. refl)
 
-pub drain-grown : (s : Setting) (core : Core) (history : List Entry) (all : Registers) → IsRecorded s core history all
+pub drain-grown : (s : Setting) (core : Core) (history : List Entry) (all : AddonStates) (firsts : List (List DueInfo)) → IsRecorded s core history all firsts
     → core.env.frames ≡ [] → core.env.phase ≡ phase.Hooks
-    → IsRecorded s (record core { env = in_phase phase.Drain core.env; position = length history + 1 }) (history ++ host_entry host.Drain (out.Unsigned 0) ∷ []) all
-drain-grown s core history all r alone here = shared-grown s core history all r host.Drain (out.Unsigned 0) phase.Drain alone (rw (alone, here) refl) (λ rss reply. refl)
+    → IsRecorded s (record core { env = in_phase phase.Drain core.env; position = length history + 1 }) (history ++ host_entry host.Drain (out.Unsigned 0) ∷ []) all firsts
+drain-grown s core history all firsts r alone here = shared-grown s core history all firsts r host.Drain (out.Unsigned 0) phase.Drain alone (rw (alone, here) refl) (λ rss m reply. refl) (λ m. refl)
 
-pub finals-grown : (s : Setting) (core : Core) (history : List Entry) (all : Registers) → IsRecorded s core history all
+pub finals-grown : (s : Setting) (core : Core) (history : List Entry) (all : AddonStates) (firsts : List (List DueInfo)) → IsRecorded s core history all firsts
     → core.env.frames ≡ [] → core.env.phase ≡ phase.Drain
-    → IsRecorded s (record core { env = in_phase phase.Finals core.env; position = length history + 1 }) (history ++ host_entry host.Finals out.Nothing ∷ []) all
-finals-grown s core history all r alone here = shared-grown s core history all r host.Finals out.Nothing phase.Finals alone (rw (alone, here) refl) (λ rss reply. refl)
+    → IsRecorded s (record core { env = in_phase phase.Finals core.env; position = length history + 1 }) (history ++ host_entry host.Finals out.Nothing ∷ []) all firsts
+finals-grown s core history all firsts r alone here = shared-grown s core history all firsts r host.Finals out.Nothing phase.Finals alone (rw (alone, here) refl) (λ rss m reply. refl) (λ m. refl)
 
-pub gone_change-grown : (s : Setting) (core : Core) (history : List Entry) (all : Registers) → IsRecorded s core history all
-    → core.env.frames ≡ [] → core.env.phase ≡ phase.Finals
-    → IsRecorded s (after_change (gone_change core.env) core) history all
-gone_change-grown s core history all r alone here =
-    local-grown s core history all r (ask.Leave None) (gone_change core.env) r.own all (rw (alone, here) refl) refl (rw alone refl) refl r.count r.agrees (rw here refl)
+pub gone_change-grown : (s : Setting) (core : Core) (history : List Entry) (all : AddonStates) (firsts : List (List DueInfo)) → IsRecorded s core history all firsts
+    → core.env.frames ≡ [] → core.env.phase ≡ phase.Finals → lowest_due core.env.book ≡ None
+    → IsRecorded s (after_change (gone_change core.env) core) history all firsts
+gone_change-grown s core history all firsts r alone here none =
+    local-grown s core history all firsts r (ask.Leave None) (gone_change core.env) r.own all (rw (alone, here, none) refl) refl (rw alone refl) refl r.count r.agrees
+    (seen-same all.seen all.seen refl) (rw here refl)
 
 -- THE INIT FRAMES
 -- blank registers are those that the run starts from
@@ -181,8 +206,8 @@ agrees-blank None mine own e f = tt
 agrees-blank (Some p) mine own e f = e ∙ sym f
 
 -- a core that opened is a recorded run, where the addons' registers are cleared
-pub opened-recorded : (s : Setting) (all : Registers) → ((addon : ℕ) → addon < length s.plans → registers_of all addon ≡ blank_registers)
-    → IsRecorded s (opened_core (length s.plans) s.texts s.limits.journal) [] all
+pub opened-recorded : (s : Setting) (all : AddonStates) → ((addon : ℕ) → addon < length s.plans → registers_of all.registers addon ≡ blank_registers)
+    → IsRecorded s (opened_core (length s.plans) s.texts s.limits.journal) [] all all.seen
 opened-recorded s all blank = record {
   asks = ask.Leave None ∷ [];
   own = loaded_registers s.plans;
@@ -190,8 +215,9 @@ opened-recorded s all blank = record {
   final = refl;
   registers = refl;
   count = length-map s.plans (λ (p : Plan). blank_registers);
-  agrees = λ addon below. agrees-blank (plan_of s.plans addon) (registers_of all addon) (registers_of (loaded_registers s.plans) addon) (blank addon below)
+  agrees = λ addon below. agrees-blank (plan_of s.plans addon) (registers_of all.registers addon) (registers_of (loaded_registers s.plans) addon) (blank addon below)
       (get_or-map (λ (p : Plan). blank_registers) s.plans addon None [] below);
+  seen = seen-same all.seen all.seen refl;
   limit = refl;
   position = refl;
   rises = (omega arith, omega arith);
@@ -199,22 +225,24 @@ opened-recorded s all blank = record {
 }
 
 -- the next addon's init frame begins
-pub init-grown : (s : Setting) (core : Core) (history : List Entry) (all : Registers) → IsRecorded s core history all
+pub init-grown : (s : Setting) (core : Core) (history : List Entry) (all : AddonStates) (firsts : List (List DueInfo)) → IsRecorded s core history all firsts
     → core.env.frames ≡ [] → core.env.phase ≡ phase.Init → core.env.opened ≡ true → nat_lt core.env.inits core.env.addons ≡ true
-    → IsRecorded s (after_change (init_change core.env.inits core.env) core) history all
-init-grown s core history all r alone here opened more =
-    local-grown s core history all r (ask.Leave None) (init_change core.env.inits core.env) r.own all (rw (alone, here, opened, more) refl) refl (rw alone refl) refl r.count r.agrees refl
+    → IsRecorded s (after_change (init_change core.env.inits core.env) core) history all firsts
+init-grown s core history all firsts r alone here opened more =
+    local-grown s core history all firsts r (ask.Leave None) (init_change core.env.inits core.env) r.own all (rw (alone, here, opened, more) refl) refl (rw alone refl) refl r.count r.agrees
+    (seen-same all.seen all.seen refl) refl
 
 -- THE END
 -- a recorded run whose environment is gone came to its end
-pub gone_change-ended : (s : Setting) (core : Core) (history : List Entry) (all : Registers) → IsRecorded s core history all → core.env.phase ≡ phase.Gone
-    → IsEnded s core.journal history all
-gone_change-ended s core history all r here = record {
+pub gone_change-ended : (s : Setting) (core : Core) (history : List Entry) (all : AddonStates) (firsts : List (List DueInfo)) → IsRecorded s core history all firsts
+    → core.env.phase ≡ phase.Gone → IsEnded s core.journal history all firsts
+gone_change-ended s core history all firsts r here = record {
   asks = r.asks;
   ended = record { run = r.run; gone = ap (λ (m : Machine). m.env.phase) r.final ∙ here };
   journal_length = ap (λ (m : Machine). m.journal_length) r.final;
   history_length = ap (λ (m : Machine). m.history_length) r.final;
   rises = r.rises;
   parted = r.parted;
-  agrees = subst (λ (own : Registers). AgreesWith s.plans all own) (sym r.registers) r.agrees;
+  agrees = subst (λ (own : Registers). AgreesWith s.plans all.registers own) (sym r.registers) r.agrees;
+  seen = r.seen;
 }

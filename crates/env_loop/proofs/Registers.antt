@@ -1,21 +1,23 @@
 -- What is asked by the plans, and what the registers keep.
-use Rattle.std.proofs.Common.{◌≡◌, ◌≢◌, ◌<◌, ℕ, cond, List, [], ◌∷◌, length, set, drop, refl, ap, subst, sym, ◌∙◌, arith, Some, None, IfSome, inl, inr}
+use Rattle.std.proofs.Common.{◌≡◌, ◌≢◌, ◌<◌, ℕ, cond, List, [], ◌∷◌, length, set, drop, refl, ap, subst, sym, ◌∙◌, arith, Option, Some, None, IfSome, inl, inr}
 use Rattle.std.specs.List.{All}
 use Rattle.std.proofs.lemmas.List.{get_or-set_same, get_or-set_other, length-set, drop-set-lt}
 use Rattle.std.proofs.lemmas.List.Elements.{All-head}
 use Rattle.std.proofs.lemmas.Bool.{cases_eq}
 use Rattle.napi_types.specs.declared.call.Ask.{Ask}
 use Rattle.napi_types.specs.declared.call.Ask.TheVariants as ask
+use Rattle.napi_types.specs.declared.duties.DueInfo.{DueInfo}
+use Rattle.napi_types.specs.declared.entry.Duty.{Duty}
 use Rattle.napi_types.specs.declared.entry.Entry.{Entry}
 use Rattle.napi_types.specs.declared.entry.Reply.{Reply}
-use Rattle.napi_types.specs.Frames.{Frame, ask_counted, at_last_ask}
-use Rattle.napi_types.specs.Plan.{Plan, plan_of, frame_ask, frames_ask, addon_after_reply, caller_after_reply, Registers, registers_of}
+use Rattle.napi_types.specs.Frames.{Frame, duty_of, ask_counted, at_last_ask}
+use Rattle.napi_types.specs.Plan.{Plan, plan_of, frame_ask, frames_ask, addon_after_reply, caller_after_reply, with_addon_gifts, Registers, registers_of}
 use Rattle.napi_types.specs.Registers.{plan_ask, registers_after_reply, with_gifts}
 use Rattle.napi_types.specs.Setting.{Setting}
 use Rattle.addon_trait.specs.Addons.{OthersStay}
 use Rattle.env_core.specs.Core.{Core}
-use Rattle.env_loop.specs.Recording.{IsOf, AgreesWhereTold, AgreesWith, IsRecorded}
-use Rattle.env_loop.specs.Turns.{IsTold, OnlyInnermostChanges}
+use Rattle.env_loop.specs.Recording.{AddonStates, IsOf, AgreesWhereTold, AgreesWith, IsRecorded}
+use Rattle.env_loop.specs.Turns.{IsTold, OnlyGiven, OnlyInnermostChanges}
 use Rattle.env_loop.proofs.Frames.{InFrame, in-stands, in-there}
 
 -- WHAT IS ASKED, AND WHAT IS KEPT
@@ -89,10 +91,21 @@ told-from ps qs all mid now fs r plans registers told =
     subst P plans (subst Q registers told)
 
 -- WHOSE REGISTERS CHANGE
--- no addon's, where no frame stood
-pub none-touched : (before after : List Frame) (all : Registers) → before ≡ [] → OnlyInnermostChanges before after all all
-none-touched [] after all alone = refl
-none-touched (f ∷ fs) after all alone = cc
+-- no addon's, where a frame begins that no duty began, or none, ..
+pub none-touched : (before after : List Frame) (all : Registers) → before ≡ [] → duty_of after ≡ None → OnlyInnermostChanges before after all all
+none-touched [] [] all alone plain = refl
+none-touched [] (g ∷ gs) all alone plain =
+    let P : Option Duty → Type 0 = λ d. OnlyGiven d g.addon all all in
+    subst P (sym plain) refl
+none-touched (f ∷ fs) after all alone plain = cc
+
+-- .. that of the frame that a duty begins, ..
+pub begun-touched : (before rest : List Frame) (g : Frame) (d : Duty) (all now : Registers) → before ≡ [] → g.duty ≡ Some d → OthersStay all now g.addon
+    → OnlyInnermostChanges before (g ∷ rest) all now
+begun-touched [] rest g d all now alone is others =
+    let P : Option Duty → Type 0 = λ o. OnlyGiven o g.addon all now in
+    subst P (sym is) others
+begun-touched (f ∷ fs) rest g d all now alone is others = cc
 
 -- that of the frame that is told the reply to its ask, ..
 pub asking-touched : (ps : List Plan) (all now : Registers) (before fs : List Frame) (r : Reply) → before ≢ [] → IsTold ps all fs r now
@@ -114,22 +127,52 @@ pub callee-touched : (all now : Registers) (before rest : List Frame) (g : Frame
 callee-touched all now [] rest g some others = absurd (some refl)
 callee-touched all now (f ∷ before) rest g some others = others
 
+-- WHAT IS GIVEN
+-- the registers of an addon that was given its gifts, and those of the others
+pub given-there : (all now : Registers) (i : ℕ) (gifts : List ℕ) → i < length all → now ≡ with_addon_gifts all i gifts
+    → registers_of now i ≡ with_gifts gifts (registers_of all i)
+given-there all now i gifts inside e = ap (λ l. registers_of l i) e ∙ get_or-set_same all i (with_gifts gifts (registers_of all i)) [] inside
+
+pub others-given : (all now : Registers) (i : ℕ) (gifts : List ℕ) → i < length all → now ≡ with_addon_gifts all i gifts → OthersStay all now i
+others-given all now i gifts inside e = e ∙ ap (λ v. set all i v) (sym (given-there all now i gifts inside e))
+
+-- the addons that are no addons of the script keep theirs
+pub given-others : (n : ℕ) (all now : Registers) (i : ℕ) (gifts : List ℕ) → i < n → now ≡ with_addon_gifts all i gifts → drop n now ≡ drop n all
+given-others n all now i gifts below e = ap (drop n) e ∙ drop-set-lt n all i (with_gifts gifts (registers_of all i)) below
+
+-- what was given, where the registers are those of before
+pub given-from : (all mid now : Registers) (i : ℕ) (gifts : List ℕ) → mid ≡ all → now ≡ with_addon_gifts mid i gifts → now ≡ with_addon_gifts all i gifts
+given-from all mid now i gifts registers given = given ∙ ap (λ x. with_addon_gifts x i gifts) registers
+
+-- they are the run's, where the run was given them too
+pub given-kept : (ps : List Plan) (all own now : Registers) (i : ℕ) (gifts : List ℕ) → length own ≡ length ps → AgreesWith ps all own → i < length ps → i < length all
+    → now ≡ with_addon_gifts all i gifts → Kept ps now (with_addon_gifts own i gifts)
+given-kept ps all own now i gifts count agrees inside there given =
+    let v : List ℕ = with_gifts gifts (registers_of own i) in
+    record {
+      count = length-set own i v ∙ count;
+      agrees =
+          agrees-set ps all now own i v count agrees (others-given all now i gifts there given)
+          (agrees-with_gifts (plan_of ps i) gifts (registers_of all i) (registers_of own i) (registers_of now i) (agrees i inside) (given-there all now i gifts there given));
+    }
+
 -- IN A RECORDED RUN
 -- what the innermost frame asks is what the run's plans and registers give
-pub asked-in : {ps : List Plan} {core : Core} {all : Registers} {f : Frame} {a : Ask} → InFrame ps core.env all f a → (s : Setting) (history : List Entry)
-    → IsOf s ps core
-    → (r : IsRecorded s core history all) → a ≡ frames_ask s.plans r.own core.env.frames a
-asked-in {ps} {core} {all} {f} {a} i s history of r =
+pub asked-in : {ps : List Plan} {core : Core} {all : AddonStates} {f : Frame} {a : Ask} → InFrame ps core.env all.registers f a → (s : Setting) (history : List Entry)
+    (firsts : List (List DueInfo)) → IsOf s ps core
+    → (r : IsRecorded s core history all firsts) → a ≡ frames_ask s.plans r.own core.env.frames a
+asked-in {ps} {core} {all} {f} {a} i s history firsts of r =
     let there : f.addon < core.env.addons = in-there i in
     let below : f.addon < length s.plans = omega (arith, of.count, there) in
-    frame-asked (plan_of ps f.addon) (plan_of s.plans f.addon) f (registers_of all f.addon) (registers_of r.own f.addon) a (of.first f.addon below) (r.agrees f.addon below) i.asked
+    frame-asked (plan_of ps f.addon) (plan_of s.plans f.addon) f (registers_of all.registers f.addon) (registers_of r.own f.addon) a (of.first f.addon below) (r.agrees f.addon below) i.asked
     ∙ ap (λ b. cond b (frame_ask (plan_of s.plans f.addon) (registers_of r.own f.addon) f a) (ask.Leave None)) (sym i.makes)
     ∙ ap (λ gs. frames_ask s.plans r.own gs a) (sym (in-stands i))
 
 -- what is told to the innermost of these frames is what the run's registers keep
-pub registers_after_reply-in : (s : Setting) (ps : List Plan) (core : Core) (history : List Entry) (all now : Registers) (fs : List Frame) (r : Reply) → IsOf s ps core
-    → (rec : IsRecorded s core history all) → All (λ f. f.addon < core.env.addons) fs → IsTold ps all fs r now
+pub registers_after_reply-in : (s : Setting) (ps : List Plan) (core : Core) (history : List Entry) (all : AddonStates) (firsts : List (List DueInfo)) (now : Registers)
+    (fs : List Frame) (r : Reply) → IsOf s ps core
+    → (rec : IsRecorded s core history all firsts) → All (λ f. f.addon < core.env.addons) fs → IsTold ps all.registers fs r now
     → Kept s.plans now (caller_after_reply s.plans rec.own fs r)
-registers_after_reply-in s ps core history all now fs r of rec there told =
+registers_after_reply-in s ps core history all firsts now fs r of rec there told =
     let below : All (λ f. f.addon < length s.plans) fs = subst (λ (n : ℕ). All (λ f. f.addon < n) fs) (sym of.count) there in
-    told-registers_after_reply s.plans ps all rec.own now fs r below of.first rec.count rec.agrees told
+    told-registers_after_reply s.plans ps all.registers rec.own now fs r below of.first rec.count rec.agrees told

@@ -5,20 +5,28 @@ use Rattle.napi_types.specs.declared.call.Ask.TheVariants as ask
 use Rattle.napi_types.specs.declared.call.Call.{Call}
 use Rattle.napi_types.specs.declared.call.Call.TheVariants as call
 use Rattle.napi_types.specs.declared.entry.Actor.TheVariants as actor
+use Rattle.napi_types.specs.declared.entry.Cause.{Cause}
+use Rattle.napi_types.specs.declared.entry.Cause.TheVariants as cause
 use Rattle.napi_types.specs.declared.entry.Entry.{Entry}
 use Rattle.napi_types.specs.declared.entry.Out.{Out}
+use Rattle.napi_types.specs.declared.entry.Out.TheVariants as out
 use Rattle.napi_types.specs.declared.entry.Why.{Why}
 use Rattle.napi_types.specs.declared.status.Status.{Status}
 use Rattle.napi_types.specs.declared.ids.HandleId.{HandleId}
+use Rattle.napi_types.specs.Attachments.{wrap_payload, wrap_ticket, with_wrap, without_wrap}
+use Rattle.napi_types.specs.Begins.{told_at}
+use Rattle.napi_types.specs.Book.{Registration}
 use Rattle.napi_types.specs.Built.{is_built, built_ask}
 use Rattle.napi_types.specs.Calls.{addon_effect, effect, answer_unless, answer_unless_deep}
 use Rattle.napi_types.specs.Changes.{number_of, is_fresh_result, may_ask, may_call}
-use Rattle.napi_types.specs.Ends.{end_change}
+use Rattle.napi_types.specs.Ends.{end_out, uncut_call_end, end_change_by, end_change}
 use Rattle.napi_types.specs.Entering.{asked_change}
 use Rattle.napi_types.specs.Environment.{Environment}
-use Rattle.napi_types.specs.Frames.{Frame}
-use Rattle.napi_types.specs.Heap.{Heap}
+use Rattle.napi_types.specs.Frames.{Frame, cause_of}
+use Rattle.napi_types.specs.Heap.{Heap, handle_value}
 use Rattle.napi_types.specs.Machine.{Machine}
+use Rattle.napi_types.specs.Registering.{finalizer_if, ticket_if, registering_if, registered_only, withdrawing}
+use Rattle.napi_types.specs.Replies.{Answer, accepts}
 use Rattle.napi_types.specs.Room.{journal_room, room_of, is_full}
 use Rattle.napi_types.specs.Step.{Step, step, step_of, locally, env_step, frame_step, cut_of, may_cut}
 use Rattle.napi_types.specs.Setting.{Setting}
@@ -27,38 +35,89 @@ use Rattle.env_core.specs.Core.{Core, room_in}
 use Rattle.env_loop.specs.Recording.{machine_of}
 use Rattle.napi_types.specs.ReferenceCalls.{counted_up, value_told}
 use Rattle.napi_types.specs.References.{referred_value}
+use Rattle.napi_types.specs.WrapCalls.{with_attachments, referring_if, wrapping, finalizing, unwrapping}
 
 -- WHAT IS TOLD
--- what a call answers is no cut
-heap-uncut : (addon : ℕ) (heap : Heap) (c : Call) (n : ℕ) → cut_of (addon_effect addon heap c n).reply.out ≡ None
-heap-uncut addon heap call.OpenHandleScope n = refl
-heap-uncut addon heap _ n = refl
+-- a result tells of no cut, and of no duty that begins
+pub record TellsNoFrame (o : Out) : Type 0 where
+  pub uncut : cut_of o ≡ None
+  pub untold : (m : Machine) → told_at m o ≡ None
 
-raised-uncut : (r : ℕ) (e : Environment) (v : Option ℕ) → cut_of (counted_up r e v).reply.out ≡ None
-raised-uncut r e None = refl
-raised-uncut r e (Some v) = refl
+-- what a call answers is so
+heap-tells : (addon : ℕ) (heap : Heap) (c : Call) (n : ℕ) → TellsNoFrame (addon_effect addon heap c n).reply.out
+heap-tells addon heap call.OpenHandleScope n = record { uncut = refl; untold = λ m. refl }
+heap-tells addon heap _ n = record { uncut = refl; untold = λ m. refl }
 
-told-uncut : (e : Environment) (v : Option ℕ) → cut_of (value_told e v).reply.out ≡ None
-told-uncut e None = refl
-told-uncut e (Some v) = refl
+raised-tells : (r : ℕ) (e : Environment) (v : Option ℕ) → TellsNoFrame (counted_up r e v).reply.out
+raised-tells r e None = record { uncut = refl; untold = λ m. refl }
+raised-tells r e (Some v) = record { uncut = refl; untold = λ m. refl }
 
-by-uncut : (e : Environment) (c : Call) (n : ℕ) → cut_of (effect e c n).reply.out ≡ None
-by-uncut e (call.ReferenceRef r) n = raised-uncut r.0 e (referred_value e.references r.0)
-by-uncut e (call.GetReferenceValue r) n = told-uncut e (referred_value e.references r.0)
-by-uncut e (call.Wrap object payload None hint wanted) n = refl
-by-uncut e (call.Wrap object payload (Some entry) hint wanted) n = refl
-by-uncut e (call.CreateExternal payload None hint) n = refl
-by-uncut e (call.CreateExternal payload (Some entry) hint) n = refl
-by-uncut e c n = refl
+told-tells : (e : Environment) (v : Option ℕ) → TellsNoFrame (value_told e v).reply.out
+told-tells e None = record { uncut = refl; untold = λ m. refl }
+told-tells e (Some v) = record { uncut = refl; untold = λ m. refl }
 
-given-uncut : (e : Environment) (c : Call) (n : ℕ) (x : Option Status) → cut_of (answer_unless e c n x).reply.out ≡ None
-given-uncut e c n (Some x) = refl
-given-uncut e c n None = by-uncut e c n
+referring-tells : (wanted : Bool) (n v : ℕ) (e : Environment) → TellsNoFrame (referring_if wanted n v e).reply.out
+referring-tells false n v e = record { uncut = refl; untold = λ m. refl }
+referring-tells true n v e = record { uncut = refl; untold = λ m. refl }
 
-pub reply-uncut : (e : Environment) (c : Call) (n : ℕ) (early deep : Option Status) → cut_of (answer_unless_deep e c n early deep).reply.out ≡ None
-reply-uncut e c n early None = given-uncut e c n early
-reply-uncut e c n None (Some d) = refl
-reply-uncut e c n (Some s) (Some d) = refl
+registering-tells : (r : Option Registration) (a : Answer Environment) → TellsNoFrame a.reply.out → TellsNoFrame (registering_if r a).reply.out
+registering-tells None a tells = tells
+registering-tells (Some r) a tells = record { uncut = tells.uncut; untold = tells.untold }
+
+withdrawing-tells : (n : Option ℕ) (a : Answer Environment) → TellsNoFrame a.reply.out → TellsNoFrame (withdrawing n a).reply.out
+withdrawing-tells None a tells = tells
+withdrawing-tells (Some n) a tells = record { uncut = tells.uncut; untold = tells.untold }
+
+wrapping-tells : (e : Environment) (v payload : ℕ) (entry : Option ℕ) (hint : ℕ) (wanted : Bool) (n : ℕ) → TellsNoFrame (wrapping e v payload entry hint wanted n).reply.out
+wrapping-tells e v payload entry hint wanted n =
+    let wrapped : Environment = with_attachments (with_wrap v payload (ticket_if e.book entry) e.attachments) e in
+    registering-tells (finalizer_if e payload entry hint) (referring_if wanted n v wrapped) (referring-tells wanted n v wrapped)
+
+finalizing-tells : (e : Environment) (v payload entry hint : ℕ) (wanted : Bool) (n : ℕ) → TellsNoFrame (finalizing e v payload entry hint wanted n).reply.out
+finalizing-tells e v payload entry hint true n = record { uncut = refl; untold = λ m. refl }
+finalizing-tells e v payload entry hint false n = record { uncut = refl; untold = λ m. refl }
+
+unwrapping-tells : (e : Environment) (v : ℕ) → TellsNoFrame (unwrapping e v).reply.out
+unwrapping-tells e v =
+    withdrawing-tells (registered_only e.book (wrap_ticket e.attachments v))
+    (accepts (out.Unsigned (wrap_payload e.attachments v)) (with_attachments (without_wrap v e.attachments) e)) (record { uncut = refl; untold = λ m. refl })
+
+by-tells : (e : Environment) (c : Call) (n : ℕ) → TellsNoFrame (effect e c n).reply.out
+by-tells e (call.ReferenceRef r) n = raised-tells r.0 e (referred_value e.references r.0)
+by-tells e (call.GetReferenceValue r) n = told-tells e (referred_value e.references r.0)
+by-tells e (call.Wrap object payload entry hint wanted) n = wrapping-tells e (handle_value e.heap object.0) payload entry hint wanted n
+by-tells e (call.AddFinalizer object payload entry hint wanted) n = finalizing-tells e (handle_value e.heap object.0) payload entry hint wanted n
+by-tells e (call.RemoveWrap object) n = unwrapping-tells e (handle_value e.heap object.0)
+by-tells e (call.CreateExternal payload None hint) n = record { uncut = refl; untold = λ m. refl }
+by-tells e (call.CreateExternal payload (Some entry) hint) n = record { uncut = refl; untold = λ m. refl }
+by-tells e c n = record { uncut = refl; untold = λ m. refl }
+
+given-tells : (e : Environment) (c : Call) (n : ℕ) (x : Option Status) → TellsNoFrame (answer_unless e c n x).reply.out
+given-tells e c n (Some x) = record { uncut = refl; untold = λ m. refl }
+given-tells e c n None = by-tells e c n
+
+pub reply-tells : (e : Environment) (c : Call) (n : ℕ) (early deep : Option Status) → TellsNoFrame (answer_unless_deep e c n early deep).reply.out
+reply-tells e c n early None = given-tells e c n early
+reply-tells e c n None (Some d) = record { uncut = refl; untold = λ m. refl }
+reply-tells e c n (Some s) (Some d) = record { uncut = refl; untold = λ m. refl }
+
+-- and so does the end of a frame tell of no duty that begins
+end-untold : (m : Machine) (cut : Option Why) (p : Option ℕ) → told_at m (end_out cut p) ≡ None
+end-untold m (Some w) p = refl
+end-untold m None None = refl
+end-untold m None (Some v) = refl
+
+left-untold : (m : Machine) (v : Option HandleId) (e : Environment) (p : Option ℕ) → told_at m (uncut_call_end v e p).entry.reply.out ≡ None
+left-untold m v e None = refl
+left-untold m v e (Some p) = refl
+
+by-untold : (m : Machine) (v : Option HandleId) (cut : Option Why) (e : Environment) (c : Cause) → told_at m (end_change_by v cut e c).entry.reply.out ≡ None
+by-untold m v (Some w) e cause.Call = refl
+by-untold m v None e cause.Call = left-untold m v e e.pending
+by-untold m v cut e _ = end-untold m cut e.pending
+
+pub ended-untold : (m : Machine) (v : Option HandleId) (cut : Option Why) (e : Environment) → told_at m (end_change v cut e).entry.reply.out ≡ None
+ended-untold m v cut e = by-untold m v cut e (cause_of e.frames)
 
 -- STEPS
 pub two_may : (a b : Bool) → a ≡ true → b ≡ true → (a && b) ≡ true

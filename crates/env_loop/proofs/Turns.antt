@@ -1,32 +1,52 @@
 -- A turn, and the turns of events with no frame.
-use Rattle.std.proofs.Common.{◌≡◌, ◌<◌, ℕ, nat_lt, Bool, true, false, cond, List, [], drop, refl, ap, subst, sym, ◌∙◌, arith, Some, None}
+use Rattle.std.proofs.Common.{◌≡◌, ◌<◌, ℕ, nat_lt, Bool, true, false, cond, List, [], drop, refl, ap, subst, sym, ◌∙◌, arith, Option, Some, None, is_some}
+use Rattle.std.specs.Option.{option_to_list}
+use Rattle.napi_types.specs.declared.duties.DueInfo.{DueInfo}
 use Rattle.napi_types.specs.declared.entry.Phase.TheVariants as phase
 use Rattle.napi_types.specs.Changes.{Change, init_change, gone_change}
+use Rattle.napi_types.specs.Environment.{Environment}
+use Rattle.napi_types.specs.Frames.{duty_of}
+use Rattle.napi_types.specs.Loop.{ticket_in, next_ticket}
 use Rattle.napi_types.specs.Phases.{stage_of}
-use Rattle.napi_types.specs.Plan.{Plan, Registers}
+use Rattle.napi_types.specs.Plan.{Plan}
 use Rattle.env_core.specs.Core.{Core, after_change, next_init}
-use Rattle.env_loop.specs.Recording.{Continues}
+use Rattle.env_loop.specs.Recording.{AddonStates, HasSeen, Continues}
 use Rattle.env_loop.specs.Runs.{IsSoundEnvironment}
-use Rattle.env_loop.specs.Turns.{OnlyInnermostChanges, IsTurn}
+use Rattle.env_loop.specs.Turns.{begins_next, OnlyInnermostChanges, IsTurn}
 use Rattle.napi_types.proofs.Owners.{owned-init, within-init}
+use Rattle.napi_types.proofs.StandingFrames.{nested-init}
 use Rattle.env_loop.proofs.Registers.{none-touched}
+use Rattle.env_loop.proofs.Seen.{begins-ticket, seen-same}
 use Rattle.env_loop.proofs.Recordings.{init-grown, gone_change-grown}
 
+-- what is not there is none
+pub none-there : {A : Type 0} (o : Option A) → is_some o ≡ false → o ≡ None
+none-there None h = refl
+none-there (Some x) h = cc
+
 -- a turn that writes down a change
-pub after_change-turn : (ps : List Plan) (core new : Core) (all now : Registers) (change : Change) → new ≡ after_change change core
-    → drop core.env.addons now ≡ drop core.env.addons all → OnlyInnermostChanges core.env.frames change.after.frames all now
+pub after_change-turn : (ps : List Plan) (core new : Core) (all now : AddonStates) (change : Change) → new ≡ after_change change core
+    → drop core.env.addons now.registers ≡ drop core.env.addons all.registers → OnlyInnermostChanges core.env.frames change.after.frames all.registers now.registers
+    → HasSeen all.seen (option_to_list (begins_next core.env)) now.seen
     → IsSoundEnvironment change.after → change.after.addons ≡ core.env.addons → stage_of change.after.phase ≡ stage_of core.env.phase
     → Continues ps core all (after_change change core) now
     → IsTurn ps core all new now
-after_change-turn ps core new all now change made others untouched sound addons stage goes =
+after_change-turn ps core new all now change made others untouched seen sound addons stage goes =
     let P : Core → Type 0 = λ c. IsTurn ps core all c now in
     subst P (sym made) (record {
       others = others;
       untouched = untouched;
+      seen = seen;
       sound = sound;
       kept = record { addons = addons; stage = stage; limit = refl; one = record { entry = record { at = core.position; entry = change.entry }; last = refl } };
       recorded = goes;
     })
+
+-- what addons have seen stays where no duty begins
+pub seen-stays : (e : Environment) (all now : AddonStates) → begins_next e ≡ None → now.seen ≡ all.seen → HasSeen all.seen (option_to_list (begins_next e)) now.seen
+seen-stays e all now none same =
+    let P : Option DueInfo → Type 0 = λ d. HasSeen all.seen (option_to_list d) now.seen in
+    subst P (sym none) (seen-same all.seen now.seen same)
 
 -- AN EVENT WITH NO FRAME
 lt-of : (core : Core) (i : ℕ) → Some i ≡ next_init core.env → (nat_lt core.env.inits core.env.addons ≡ true) × (i ≡ core.env.inits)
@@ -40,7 +60,7 @@ below-of : (a b : ℕ) → nat_lt a b ≡ true → a < b
 below-of a b h = grind arith
 
 -- the next init frame begins
-pub init-turn : (ps : List Plan) (all : Registers) (core new : Core) (i : ℕ) → IsSoundEnvironment core.env → core.env.frames ≡ [] → core.env.phase ≡ phase.Init
+pub init-turn : (ps : List Plan) (all : AddonStates) (core new : Core) (i : ℕ) → IsSoundEnvironment core.env → core.env.frames ≡ [] → core.env.phase ≡ phase.Init
     → Some i ≡ next_init core.env
     → new ≡ after_change (init_change i core.env) core → IsTurn ps core all new all
 init-turn ps all core new i sound alone here next made =
@@ -51,20 +71,36 @@ init-turn ps all core new i sound alone here next made =
       opened = sound.opened;
       owned = owned-init core.env.addons core.env i there sound.owned;
       asks = within-init core.env i sound.asks;
+      nested = nested-init i core.env alone;
+      uncalled = sound.uncalled;
       gone = λ g. let z : phase.Init ≡ phase.Gone = sym here ∙ g in cc;
     } in
-    after_change-turn ps core new all all (init_change i core.env) made refl (none-touched core.env.frames _ all alone) begun refl refl
-    (subst R (sym more.1) (λ s history of r. init-grown s core history all r alone here sound.opened more.0))
+    after_change-turn ps core new all all (init_change i core.env) made refl (none-touched core.env.frames (init_change i core.env).after.frames all.registers alone refl)
+    (seen-stays core.env all all (begins-ticket core.env None alone (ap (ticket_in core.env) here)) refl) begun refl refl
+    (subst R (sym more.1) (λ s history firsts of r. init-grown s core history all firsts r alone here sound.opened more.0))
 
 -- the environment is gone
-pub gone_change-turn : (ps : List Plan) (all : Registers) (core new : Core) → IsSoundEnvironment core.env → core.env.frames ≡ [] → core.env.phase ≡ phase.Finals
+gone_from : (ps : List Plan) (all : AddonStates) (core new : Core) → IsSoundEnvironment core.env → core.env.frames ≡ [] → core.env.phase ≡ phase.Finals → next_ticket core.env ≡ None
     → new ≡ after_change (gone_change core.env) core → IsTurn ps core all new all
-gone_change-turn ps all core new sound alone here made =
+gone_from ps all core new sound alone here none made =
     let left : IsSoundEnvironment (gone_change core.env).after = record {
       opened = sound.opened;
-      owned = record { frames = sound.owned.frames; functions = sound.owned.functions };
+      owned = record { frames = sound.owned.frames; functions = sound.owned.functions; tickets = sound.owned.tickets };
       asks = sound.asks;
+      nested = sound.nested;
+      uncalled = sound.uncalled;
       gone = λ g. alone;
     } in
-    after_change-turn ps core new all all (gone_change core.env) made refl (none-touched core.env.frames _ all alone) left refl (ap stage_of (sym here))
-    (λ s history of r. gone_change-grown s core history all r alone here)
+    after_change-turn ps core new all all (gone_change core.env) made refl
+    (none-touched core.env.frames core.env.frames all.registers alone (ap duty_of alone))
+    (seen-stays core.env all all (begins-ticket core.env None alone none) refl) left refl (ap stage_of (sym here))
+    (λ s history firsts of r. gone_change-grown s core history all firsts r alone here (ap (ticket_in core.env) (sym here) ∙ none))
+
+-- nothing changed before
+pub gone_change-turn : (ps : List Plan) (all now : AddonStates) (core mid new : Core) → IsSoundEnvironment core.env → core.env.frames ≡ [] → core.env.phase ≡ phase.Finals
+    → next_ticket core.env ≡ None → mid ≡ core → now.registers ≡ all.registers → now.seen ≡ all.seen
+    → new ≡ after_change (gone_change mid.env) mid → IsTurn ps core all new now
+gone_change-turn ps all now core mid new sound alone here none same registers seen made =
+    let states : now ≡ all = ap (λ r. record now { registers = r }) registers ∙ ap (λ t. record all { seen = t }) seen in
+    let P : AddonStates → Type 0 = λ x. IsTurn ps core all new x in
+    subst P (sym states) (gone_from ps all core new sound alone here none (made ∙ ap (λ c. after_change (gone_change c.env) c) same))

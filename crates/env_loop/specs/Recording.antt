@@ -1,6 +1,7 @@
--- A run as it is recorded: the environment's core, the history, and the registers of the addons.
-use Rattle.std.specs.Prelude.{◌≡◌, ℕ, ◌<◌, List, length, Some, None}
+-- A run as it is recorded: the environment's core, the history, and what contracts see of the addons.
+use Rattle.std.specs.Prelude.{◌≡◌, ℕ, ◌<◌, List, ◌++◌, length, Some, None}
 use Rattle.napi_types.specs.declared.call.Ask.{Ask}
+use Rattle.napi_types.specs.declared.duties.DueInfo.{DueInfo}
 use Rattle.napi_types.specs.declared.entry.Entry.{Entry}
 use Rattle.napi_types.specs.declared.entry.Local.{Local}
 use Rattle.napi_types.specs.declared.entry.Limits.{Limits}
@@ -8,6 +9,7 @@ use Rattle.napi_types.specs.declared.entry.Why.{Why}
 use Rattle.napi_types.specs.declared.entry.Why.TheVariants as why
 use Rattle.napi_types.specs.declared.status.Status.{Status}
 use Rattle.napi_types.specs.declared.status.Status.TheVariants as status
+use Rattle.napi_types.specs.Begins.{begun_along, of_addon}
 use Rattle.napi_types.specs.Environment.{Environment}
 use Rattle.napi_types.specs.Hub.{Hub}
 use Rattle.napi_types.specs.Parting.{IsParted}
@@ -16,7 +18,13 @@ use Rattle.napi_types.specs.Machine.{Machine}
 use Rattle.napi_types.specs.Plan.{Plan, plan_of, Registers, registers_of}
 use Rattle.napi_types.specs.Weave.{weave, RisesBetween}
 use Rattle.napi_types.specs.Setting.{Setting, RunsBy, EndsBy, opening_of, final_of, final_registers}
+use Rattle.addon_trait.specs.Addons.{seen_of}
 use Rattle.env_core.specs.Core.{Core}
+
+-- of every addon that was handed in: its registers, and what it has seen
+pub record AddonStates : Type 0 where
+  pub registers : Registers
+  pub seen : List (List DueInfo)
 
 -- the hub of a run without other actors: its events so far are told by the phase
 abbrev pub hub_of : Environment → Hub
@@ -41,31 +49,37 @@ AgreesWhereTold (Some plan) mine own = mine ≡ own
 abbrev pub AgreesWith : List Plan → Registers → Registers → Type 0
 AgreesWith plans all own = (addon : ℕ) → addon < length plans → AgreesWhereTold (plan_of plans addon) (registers_of all addon) (registers_of own addon)
 
--- the weave of the journal and the history is a run of the script, it came to this machine, and the registers of its addons are the run's;
--- `all` are the registers of every addon that was handed in, and the script's addons are the first ones
-pub record IsRecorded (s : Setting) (core : Core) (history : List Entry) (all : Registers) : Type 0 where
+-- each addon has seen, after what it saw first, the duties whose frames of its began along a run, in their order, each with what it told
+abbrev pub HasSeen : List (List DueInfo) → List DueInfo → List (List DueInfo) → Type 0
+HasSeen firsts begun seen = (addon : ℕ) → seen_of seen addon ≡ seen_of firsts addon ++ of_addon addon begun
+
+-- the weave of the journal and the history is a run of the script, it came to this machine, the registers of its addons are the run's, and each addon has
+-- seen, after what it saw first, what began in the run. `all` is what is seen of every addon that was handed in, and the script's addons are the first ones
+pub record IsRecorded (s : Setting) (core : Core) (history : List Entry) (all : AddonStates) (firsts : List (List DueInfo)) : Type 0 where
   pub asks : List Ask
   pub own : Registers
   pub run : RunsBy s asks (weave core.journal history)
   pub final : final_of s asks (weave core.journal history) ≡ machine_of s.limits core history
   pub registers : final_registers s asks (weave core.journal history) ≡ own
   pub count : length own ≡ length s.plans
-  pub agrees : AgreesWith s.plans all own
+  pub agrees : AgreesWith s.plans all.registers own
+  pub seen : HasSeen firsts (begun_along (opening_of s) asks (weave core.journal history)) all.seen
   pub limit : core.limit ≡ s.limits.journal
   pub position : core.position ≡ length history
   pub rises : RisesBetween 0 (length history) core.journal
   pub parted : IsParted (opening_of s) asks core.journal history
 
 -- a run that came to its end, as it is left: the weave of the two lists is a run of the script to `gone`, the journal stands in the order of
--- its places, each list has its own entries, and the registers of the script's addons are the run's
-pub record IsEnded (s : Setting) (journal : List Local) (history : List Entry) (all : Registers) : Type 0 where
+-- its places, each list has its own entries, the registers of the script's addons are the run's, and each addon has seen what began in the run
+pub record IsEnded (s : Setting) (journal : List Local) (history : List Entry) (all : AddonStates) (firsts : List (List DueInfo)) : Type 0 where
   pub asks : List Ask
   pub ended : EndsBy s asks (weave journal history)
   pub journal_length : (final_of s asks (weave journal history)).journal_length ≡ length journal
   pub history_length : (final_of s asks (weave journal history)).history_length ≡ length history
   pub rises : RisesBetween 0 (length history) journal
   pub parted : IsParted (opening_of s) asks journal history
-  pub agrees : AgreesWith s.plans all (final_registers s asks (weave journal history))
+  pub agrees : AgreesWith s.plans all.registers (final_registers s asks (weave journal history))
+  pub seen : HasSeen firsts (begun_along (opening_of s) asks (weave journal history)) all.seen
 
 -- why a frame is cut whose call stopped with this status
 abbrev pub why_stopped : Status → Why
@@ -77,7 +91,7 @@ pub record IsOf (s : Setting) (plans : List Plan) (core : Core) : Type 0 where
   pub count : length s.plans ≡ core.env.addons
   pub first : (addon : ℕ) → addon < length s.plans → plan_of s.plans addon ≡ plan_of plans addon
 
--- whatever script of these addons it is a run of, the recorded run goes on from one core and these registers to another
-abbrev pub Continues : List Plan → Core → Registers → Core → Registers → Type 0
+-- whatever script of these addons it is a run of, and whatever they saw first, the recorded run goes on from one core and these addons to another
+abbrev pub Continues : List Plan → Core → AddonStates → Core → AddonStates → Type 0
 Continues plans old all new now =
-    (s : Setting) (history : List Entry) → IsOf s plans old → IsRecorded s old history all → IsRecorded s new history now
+    (s : Setting) (history : List Entry) (firsts : List (List DueInfo)) → IsOf s plans old → IsRecorded s old history all firsts → IsRecorded s new history now firsts

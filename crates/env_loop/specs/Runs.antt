@@ -1,42 +1,56 @@
--- A running environment: its core, and the hub's entries so far.
-use Rattle.std.specs.Prelude.{◌≡◌, ◌+◌, true, List, [], ◌∷◌, ◌++◌, length}
+-- A running environment: its core, the hub's entries so far, and the duty whose frame stands.
+use Rattle.std.specs.Prelude.{◌≡◌, ◌≢◌, ◌+◌, true, List, [], ◌∷◌, ◌++◌, length, Option, None, option_map}
+use Rattle.std.specs.List.{All}
+use Rattle.std.specs.Option.{option_to_list}
+use Rattle.napi_types.specs.declared.duties.DueInfo.{DueInfo}
+use Rattle.napi_types.specs.declared.entry.Cause.TheVariants as cause
 use Rattle.napi_types.specs.declared.entry.Entry.{Entry}
 use Rattle.napi_types.specs.declared.entry.Local.{Local}
 use Rattle.napi_types.specs.declared.entry.Phase.TheVariants as phase
 use Rattle.napi_types.specs.Asks.{AsksWithin}
+use Rattle.napi_types.specs.Duties.{duties_of, AreNested}
 use Rattle.napi_types.specs.Environment.{Environment}
+use Rattle.napi_types.specs.Frames.{Frame}
 use Rattle.napi_types.specs.Owners.{IsOwned}
 use Rattle.napi_types.specs.Phases.{stage_of}
-use Rattle.napi_types.specs.Plan.{Plan, Registers}
+use Rattle.napi_types.specs.Plan.{Plan}
 use Rattle.napi_types.specs.Room.{stage_places}
 use Rattle.napi_types.specs.Setting.{Setting}
 use Rattle.env_core.specs.Core.{Core, opened_core}
-use Rattle.env_loop.specs.Recording.{IsOf, IsRecorded}
+use Rattle.env_loop.specs.Recording.{AddonStates, IsOf, IsRecorded}
 
--- the environment with its journal, and the history
+-- the environment with its journal, the history, and what the duty told whose frame stands, where one does
 pub record Run : Type 0 where
   pub core : Core
   pub history : List Entry
+  pub begun : Option DueInfo
 
 -- a run of which no turn was made: the environment has opened
 abbrev pub opened_run : Core → Run
-opened_run core = record { core = core; history = [] }
+opened_run core = record { core = core; history = []; begun = None }
 
 -- a core as it opens
 abbrev pub IsOpened : Core → Type 0
 IsOpened core = core ≡ opened_core core.env.addons core.env.texts core.limit
 
--- what the frames of a run keep: each runs an addon of the script and makes no more asks than it may, each function belongs to an addon of the script, and
--- no frame stands once the environment is gone
+-- what the frames of a run keep: each runs an addon of the script and makes no more asks than it may, a frame that a duty began is the outermost one, and no
+-- call begins the frame of a ticket; each function and each ticket belongs to an addon of the script, and no frame stands once the environment is gone
 pub record IsSoundEnvironment (e : Environment) : Type 0 where
   pub opened : e.opened ≡ true
   pub owned : IsOwned e.addons e
   pub asks : AsksWithin e
+  pub nested : AreNested e.frames
+  pub uncalled : All (λ r. r.cause ≢ cause.Call) e.book
   pub gone : e.phase ≡ phase.Gone → e.frames ≡ []
 
--- the same of a run, and its history has an entry for each of the hub's events that happened
-pub record IsRunning (core : Core) (history : List Entry) : Type 0 where
+-- the duty that began one of these frames is the one that has begun and has not ended, if there is one
+abbrev pub Holds : List Frame → Option DueInfo → Type 0
+Holds fs begun = duties_of fs ≡ option_to_list (option_map (λ d. d.duty) begun)
+
+-- the same of a run, the duty of its frames is the one that it holds, and its history has an entry for each of the hub's events that happened
+pub record IsRunning (core : Core) (history : List Entry) (begun : Option DueInfo) : Type 0 where
   pub sound : IsSoundEnvironment core.env
+  pub held : Holds core.env.frames begun
   pub events : length history + stage_places (stage_of core.env.phase) ≡ 4
 
 -- the second list has one entry more at its end
@@ -51,12 +65,12 @@ pub record Extends (old new : Run) : Type 0 where
   pub journal : new.core.journal ≡ old.core.journal ++ locals
   pub history : new.history ≡ old.history ++ shareds
 
--- whatever script of these addons it is a run of, the recorded run goes on from one run and these registers to another
-abbrev pub GoesOn : List Plan → Run → Registers → Run → Registers → Type 0
+-- whatever script of these addons it is a run of, and whatever they saw first, the recorded run goes on from one run and these addons to another
+abbrev pub GoesOn : List Plan → Run → AddonStates → Run → AddonStates → Type 0
 GoesOn plans old all new now =
-    (s : Setting) → IsOf s plans old.core → IsRecorded s old.core old.history all → IsRecorded s new.core new.history now
+    (s : Setting) (firsts : List (List DueInfo)) → IsOf s plans old.core → IsRecorded s old.core old.history all firsts → IsRecorded s new.core new.history now firsts
 
--- the hub made its next event, which is one entry more in the history; the journal, the limit, the addons and their registers are as before
+-- the hub made its next event, which is one entry more in the history; the journal, the limit, the frames, the addons and what is seen of them are as before
 pub record MovesOn (old new : Run) : Type 0 where
   pub left : stage_places (stage_of old.core.env.phase) ≡ stage_places (stage_of new.core.env.phase) + 1
   pub event : Entry
@@ -64,5 +78,7 @@ pub record MovesOn (old new : Run) : Type 0 where
   pub addons : new.core.env.addons ≡ old.core.env.addons
   pub limit : new.core.limit ≡ old.core.limit
   pub journal : new.core.journal ≡ old.core.journal
+  pub frames : new.core.env.frames ≡ old.core.env.frames
+  pub begun : new.begun ≡ old.begun
   pub sound : IsSoundEnvironment old.core.env → IsSoundEnvironment new.core.env
-  pub recorded : (plans : List Plan) (all : Registers) → GoesOn plans old all new all
+  pub recorded : (plans : List Plan) (all : AddonStates) → GoesOn plans old all new all

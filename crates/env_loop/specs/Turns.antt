@@ -1,11 +1,16 @@
 -- What a turn of the environment comes to.
 use Rattle.std.specs.Prelude.{◌≡◌, ℕ, ◌+◌, ◌-◌, List, [], ◌∷◌, length, drop, Option, Some, None, IfSome, option_map}
+use Rattle.std.specs.Option.{option_to_list}
 use Rattle.napi_types.specs.declared.call.Ask.{Ask}
+use Rattle.napi_types.specs.declared.duties.DueInfo.{DueInfo}
+use Rattle.napi_types.specs.declared.entry.Duty.{Duty}
 use Rattle.napi_types.specs.declared.entry.Reply.{Reply}
-use Rattle.napi_types.specs.Choice.{choice}
+use Rattle.napi_types.specs.Begins.{duty_info}
+use Rattle.napi_types.specs.Book.{ticket_duty}
+use Rattle.napi_types.specs.Choice.{local_choice, choice}
 use Rattle.napi_types.specs.Environment.{Environment}
 use Rattle.napi_types.specs.Frames.{Frame}
-use Rattle.napi_types.specs.Loop.{Event}
+use Rattle.napi_types.specs.Loop.{Event, Tickets}
 use Rattle.napi_types.specs.Machine.{Machine}
 use Rattle.napi_types.specs.Phases.{stage_of}
 use Rattle.napi_types.specs.Plan.{Plan, plan_of, Registers, registers_of}
@@ -17,7 +22,7 @@ use Rattle.addon_trait.specs.Addons.{OthersStay}
 use Rattle.env_core.specs.Core.{Core}
 use Rattle.env_loop.specs.declared.turn.LocalTurn.{LocalTurn}
 use Rattle.env_loop.specs.declared.turn.LocalTurn.TheVariants as turn
-use Rattle.env_loop.specs.Recording.{hub_of, Continues}
+use Rattle.env_loop.specs.Recording.{AddonStates, HasSeen, hub_of, Continues}
 use Rattle.env_loop.specs.Runs.{Run, IsSoundEnvironment, OneMore}
 
 -- a turn makes an entry where a frame stands, and else where the entry of the next event stands in the journal; where it stands in the history, the hub has to
@@ -40,6 +45,19 @@ uncounted e = record { env = e; hub = hub_of e; journal_length = 0; history_leng
 abbrev pub turn_of : Environment → LocalTurn
 turn_of e = turn_at e.frames (side_of (uncounted e) (choice (uncounted e)))
 
+-- the ticket whose frame an event begins, where it begins one
+abbrev pub ticket_of : Option Event → Option ℕ
+ticket_of (Some (Tickets n)) = Some n
+ticket_of _ = None
+
+-- what the ticket tells that begins in the next turn, where one does: none begins while a frame stands
+abbrev pub begins_over : Environment → List Frame → Option DueInfo
+begins_over e [] = duty_info (uncounted e) (option_map ticket_duty (ticket_of (local_choice e)))
+begins_over e (f ∷ fs) = None
+
+abbrev pub begins_next : Environment → Option DueInfo
+begins_next e = begins_over e e.frames
+
 -- how many turns are left at most: one for each place that the journal has left, and one for each event of the hub to come
 abbrev pub turns_left : Run → ℕ
 turns_left run = (run.core.limit - length run.core.journal) + stage_places (stage_of run.core.env.phase)
@@ -55,11 +73,16 @@ IsTold plans all [] r now = now ≡ all
 IsTold plans all (f ∷ fs) r now =
     OthersStay all now f.addon × IfSome (plan_of plans f.addon) (λ p. registers_of now f.addon ≡ registers_after_reply p (registers_of all f.addon) f.entry f.asks r)
 
+-- a frame that begins where none stood changes its addon's registers, and no other's, where a duty began it; an init frame is given nothing
+abbrev pub OnlyGiven : Option Duty → ℕ → Registers → Registers → Type 0
+OnlyGiven None addon all now = now ≡ all
+OnlyGiven (Some d) addon all now = OthersStay all now addon
+
 -- a turn, by the frames before it and those after it, changes the registers of the addon that runs the innermost frame after it, and of no other addon.
--- Where no frame stood before it, or none stands after it, every addon keeps its registers
+-- Where an init frame begins, or no frame stands after it, every addon keeps its registers
 abbrev pub OnlyInnermostChanges : List Frame → List Frame → Registers → Registers → Type 0
-OnlyInnermostChanges [] after all now = now ≡ all
-OnlyInnermostChanges (f ∷ fs) [] all now = now ≡ all
+OnlyInnermostChanges before [] all now = now ≡ all
+OnlyInnermostChanges [] (g ∷ gs) all now = OnlyGiven g.duty g.addon all now
 OnlyInnermostChanges (f ∷ fs) (g ∷ gs) all now = OthersStay all now g.addon
 
 -- a turn keeps the addons and the journal's limit and makes no event of the hub; it leaves one entry
@@ -69,11 +92,12 @@ pub record KeepsRun (old new : Core) : Type 0 where
   pub limit : new.limit ≡ old.limit
   pub one : OneMore old.journal new.journal
 
--- a turn: the addons that are no addons of the script keep their registers, only the innermost frame's addon may have other ones, and a run that was
--- recorded goes on
-pub record IsTurn (plans : List Plan) (old : Core) (all : Registers) (new : Core) (now : Registers) : Type 0 where
-  pub others : drop old.env.addons now ≡ drop old.env.addons all
-  pub untouched : OnlyInnermostChanges old.env.frames new.env.frames all now
+-- a turn: the addons that are no addons of the script keep their registers, only the innermost frame's addon may have other ones, an addon has seen a duty
+-- more where its frame begins, and a run that was recorded goes on
+pub record IsTurn (plans : List Plan) (old : Core) (all : AddonStates) (new : Core) (now : AddonStates) : Type 0 where
+  pub others : drop old.env.addons now.registers ≡ drop old.env.addons all.registers
+  pub untouched : OnlyInnermostChanges old.env.frames new.env.frames all.registers now.registers
+  pub seen : HasSeen all.seen (option_to_list (begins_next old.env)) now.seen
   pub sound : IsSoundEnvironment new.env
   pub kept : KeepsRun old new
   pub recorded : Continues plans old all new now

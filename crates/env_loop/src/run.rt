@@ -1,17 +1,22 @@
 //! A running environment, and a run without other actors.
-ghost use Rattle.std.specs.Prelude.{◌≡◌, ◌≢◌, ◌+◌, ◌<◌, ◌≤◌, ◌↔◌, [], ◌∷◌, ◌++◌, length, map, drop, IfOk, Some};
+ghost use Rattle.std.specs.Prelude.{◌≡◌, ◌≢◌, ℕ, ◌+◌, ◌<◌, ◌≤◌, ◌↔◌, [], ◌∷◌, ◌++◌, length, map, drop, IfOk, Option, Some, None};
+ghost use Rattle.std.specs.Option.{option_to_list};
+ghost use Rattle.napi_types.specs.declared.duties.DueInfo.{DueInfo};
+ghost use Rattle.napi_types.specs.Begins.{of_addon};
 ghost use Rattle.napi_types.specs.Changes.{host_entry, in_phase};
 ghost use Rattle.napi_types.specs.Phases.{next_phase, stage_of};
 ghost use Rattle.napi_types.specs.Room.{stage_places};
+ghost use Rattle.addon_trait.specs.Addons.{seen_of};
+ghost use Rattle.env_loop.specs.Recording.{AddonStates};
 ghost use Rattle.env_loop.specs.Runs.{IsOpened, opened_run, OneMore, Extends, GoesOn, MovesOn};
-ghost use Rattle.env_loop.specs.Turns.{turn_of, OnlyInnermostChanges};
+ghost use Rattle.env_loop.specs.Turns.{turn_of, begins_next, OnlyInnermostChanges};
 
 use crate::history::History;
 use crate::turn::{LocalTurn, turn};
 use addon_trait::Addon;
 use env_core::EnvCore;
 use napi_types::{
-    Actor, Entry, HostStep, LoopEnd, NoMemory, Out, Phase, Record, Reply, Status, What,
+    Actor, Begun, Entry, HostStep, LoopEnd, NoMemory, Out, Phase, Record, Reply, Status, What,
 };
 use std::alloc::Global;
 use std::marker::Model;
@@ -22,6 +27,8 @@ use std::marker::Model;
 pub struct EnvRun {
     core: EnvCore,
     history: History,
+    // The duty whose frame stands: it has begun, and ends with the frame.
+    begun: Option<Begun>,
 }
 
 impl Model for EnvRun {
@@ -29,9 +36,9 @@ impl Model for EnvRun {
 
     ghost Value = { Run };
 
-    ghost view = { λ run. record { core = run.core; history = run.history } };
+    ghost view = { λ run. record { core = run.core; history = run.history; begun = run.begun } };
 
-    ghost invariant = { λ run. IsRunning run.core run.history };
+    ghost invariant = { λ run. IsRunning run.core run.history run.begun };
 }
 
 impl EnvRun {
@@ -41,12 +48,19 @@ impl EnvRun {
         ensures { IfOk result (λ run. run ≡ opened_run core) }
     {
         let history = History::new(alloc)?;
-        Ok(EnvRun { core, history })
+        Ok(EnvRun {
+            core,
+            history,
+            begun: None,
+        })
     }
 
     /// Makes one turn: the next ask of the innermost frame, or the next event where no frame stands. `Made` is one entry
     /// more in the journal. `NeedsHub` is answered where the next event is one of the hub, and again until the hub has made it;
     /// `Gone` once the environment is gone. After those two all is as it was.
+    ///
+    /// In the loop and after `finals` the lowest ticket that is due begins its frame, where no frame stands; its addon has then
+    /// seen what it tells. The ticket ends with its frame.
     ///
     /// The first addons are those of the script, at least as many as the environment has. The time is that of the call, or of
     /// closing the scopes of the frame that ends.
@@ -67,10 +81,11 @@ impl EnvRun {
         // Another turn changed nothing.
         ensures stays { result ≢ LocalTurn.Made → self.new ≡ self.old }
         ensures same { result ≢ LocalTurn.Made → map (λ b. regs b) addons.new.items ≡ map (λ b. regs b) addons.old.items }
+        ensures unseen { result ≢ LocalTurn.Made → map (λ b. seen b) addons.new.items ≡ map (λ b. seen b) addons.old.items }
 
         // A run that was recorded goes on, and the addons that are no addons of the script keep their registers.
-        ensures recorded { let before = map (λ b. regs b) addons.old.items in
-            let after = map (λ b. regs b) addons.new.items in
+        ensures recorded { let before : AddonStates = record { registers = map (λ b. regs b) addons.old.items; seen = map (λ b. seen b) addons.old.items } in
+            let after : AddonStates = record { registers = map (λ b. regs b) addons.new.items; seen = map (λ b. seen b) addons.new.items } in
             GoesOn (map (λ b. plan b) addons.old.items) self.old before self.new after }
         ensures others { let n = self.old.core.env.addons in
             drop n (map (λ b. regs b) addons.new.items) ≡ drop n (map (λ b. regs b) addons.old.items) }
@@ -78,15 +93,17 @@ impl EnvRun {
         ensures limit { self.new.core.limit ≡ self.old.core.limit }
         ensures stage { stage_of self.new.core.env.phase ≡ stage_of self.old.core.env.phase }
 
-        // No duty begins, so what each addon has seen is as before.
-        ensures seen { map (λ b. seen b) addons.new.items ≡ map (λ b. seen b) addons.old.items }
+        // The addon of a ticket that begins has seen what it tells, after what it saw before. No other addon has seen anything more.
+        ensures seen { let before = map (λ b. seen b) addons.old.items in
+            let after = map (λ b. seen b) addons.new.items in
+            (addon : ℕ) → seen_of after addon ≡ seen_of before addon ++ of_addon addon (option_to_list (begins_next self.old.core.env)) }
 
         // Only the addon of the innermost frame after the turn may have other registers than before.
         ensures untouched { let before = map (λ b. regs b) addons.old.items in
             let after = map (λ b. regs b) addons.new.items in
             result ≡ LocalTurn.Made → OnlyInnermostChanges self.old.core.env.frames self.new.core.env.frames before after }
     {
-        turn(&mut self.core, addons)
+        turn(&mut self.core, &mut self.begun, addons)
     }
 
     /// Makes the hub's next event, where one is next.
@@ -104,7 +121,9 @@ impl EnvRun {
         let EnvRun {
             core: _,
             history: _,
+            begun,
         } = self;
+        none_stands(begun);
     }
 
     /// Hands out the journal and the history of a run that came to its end. It takes no memory.
@@ -113,11 +132,26 @@ impl EnvRun {
         ensures journal { result.journal ≡ self.core.journal }
         ensures history { result.history ≡ self.history }
     {
-        let EnvRun { core, history } = self;
+        let EnvRun {
+            core,
+            history,
+            begun,
+        } = self;
+        none_stands(begun);
         Record {
             journal: core.into_journal(),
             history: history.into_entries(),
         }
+    }
+}
+
+/// Spends what a run holds of a duty whose frame stands, where none stands.
+fn none_stands(begun: Option<Begun>)
+    requires { begun ≡ None }
+{
+    if let Some(begun) = begun {
+        let _ = begun.end();
+        unreachable!();
     }
 }
 
@@ -146,11 +180,13 @@ fn move_on(core: &mut EnvCore, history: &mut History, event: HostStep, out: Out,
     core.advance(phase, history.len());
 }
 
-/// The hub's next event: `go`, then `loop_end`, since nothing is left to do, then `drain` and `finals`, which find nothing.
+/// The hub's next event: `go`, then `loop_end`, since nothing is left to do, then `drain`, which finds nothing, and `finals`, at which every
+/// ticket that is registered falls due.
 fn hub_event(core: &mut EnvCore, history: &mut History)
     requires needs { turn_of core.old.env ≡ LocalTurn.NeedsHub }
     requires events { length history.old + stage_places (stage_of core.old.env.phase) ≡ 4 }
-    ensures { MovesOn (record { core = core.old; history = history.old }) (record { core = core.new; history = history.new }) }
+    ensures { (begun : Option DueInfo) → MovesOn (record { core = core.old; history = history.old; begun = begun })
+        (record { core = core.new; history = history.new; begun = begun }) }
 {
     match core.phase() {
         Phase::Init => move_on(core, history, HostStep::Go, Out::Nothing, Phase::Live),
@@ -173,18 +209,17 @@ fn hub_event(core: &mut EnvCore, history: &mut History)
 /// Runs an environment to its end, `gone`, with no other actor: one turn after another, and the hub's events where they are next.
 ///
 /// The first addons are those of the script, at least as many as the environment has. It returns, since each turn fills a place of the
-/// journal or makes one of the hub's events. No duty begins, so what each addon has seen is as before.
+/// journal or makes one of the hub's events.
 pub fn run_alone(env: &mut EnvRun, addons: &mut Vec<Box<dyn Addon>>)
     requires { env.old.core.env.addons ≤ length addons.old.items }
     ensures count { length addons.new.items ≡ length addons.old.items }
     ensures plans { map (λ b. plan b) addons.new.items ≡ map (λ b. plan b) addons.old.items }
-    ensures seen { map (λ b. seen b) addons.new.items ≡ map (λ b. seen b) addons.old.items }
     ensures gone { env.new.core.env.phase ≡ Phase.Gone }
     ensures addons { env.new.core.env.addons ≡ env.old.core.env.addons }
     ensures limit { env.new.core.limit ≡ env.old.core.limit }
     ensures extends { Extends env.old env.new }
-    ensures recorded { let before = map (λ b. regs b) addons.old.items in
-        let after = map (λ b. regs b) addons.new.items in
+    ensures recorded { let before : AddonStates = record { registers = map (λ b. regs b) addons.old.items; seen = map (λ b. seen b) addons.old.items } in
+        let after : AddonStates = record { registers = map (λ b. regs b) addons.new.items; seen = map (λ b. seen b) addons.new.items } in
         GoesOn (map (λ b. plan b) addons.old.items) env.old before env.new after }
     ensures others { let n = env.old.core.env.addons in
         drop n (map (λ b. regs b) addons.new.items) ≡ drop n (map (λ b. regs b) addons.old.items) }

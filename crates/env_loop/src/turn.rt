@@ -1,19 +1,20 @@
 //! One turn of the environment: an ask of the innermost frame, or the next event where no frame stands.
-ghost use Rattle.std.specs.Prelude.{◌≡◌, ◌≢◌, ◌<◌, ◌≤◌, [], length, map, List, Some};
+ghost use Rattle.std.specs.Prelude.{◌≡◌, ◌≢◌, ◌<◌, ◌≤◌, [], length, map, Some, None, true, false, is_some};
 ghost use Rattle.napi_types.specs.Built.{built_ask};
 ghost use Rattle.napi_types.specs.Lists.{head, tail};
-ghost use Rattle.napi_types.specs.Plan.{Plan, Registers};
 ghost use Rattle.env_core.specs.Standing.{machine_frame};
-ghost use Rattle.env_loop.specs.Recording.{why_stopped};
-ghost use Rattle.env_loop.specs.Runs.{IsSoundEnvironment};
+ghost use Rattle.env_loop.specs.Recording.{AddonStates, why_stopped};
+ghost use Rattle.env_loop.specs.Runs.{IsSoundEnvironment, Holds};
 ghost use Rattle.napi_types.specs.Ends.{end_change};
-ghost use Rattle.napi_types.specs.Frames.{at_last_ask, asks_made, most_asks};
+ghost use Rattle.napi_types.specs.Frames.{at_last_ask, asks_made, duty_of, most_asks};
+ghost use Rattle.napi_types.specs.Loop.{next_ticket};
 ghost use Rattle.env_core.specs.Core.{after_change};
 ghost use Rattle.env_loop.specs.Turns.{turn_of, IsTold, IsTurn};
 
-use addon_trait::{Addon, ask_at, enter_at, note_at};
+use addon_trait::{Addon, ask_at, begin_at, enter_at, note_at};
 use env_core::{EnvCore, StandingFrame, Stepped};
-use napi_types::{Ask, Call, HandleId, Phase, Status, Why};
+use napi_types::{Ask, Begun, Call, Duty, HandleId, Phase, Status, Why};
+use std::mem;
 
 /// How many asks a frame may make.
 const MOST_ASKS: u32 = 65536;
@@ -49,14 +50,34 @@ fn taken(ask: Ask) -> Ask
     }
 }
 
-/// Ends the innermost frame. Where a call began it, the addon of its caller is told the reply. No addon has seen anything more.
+/// Ends the frame of a duty, which stands alone, and the duty with it.
+fn end_duty(core: &mut EnvCore, begun: &mut Option<Begun>, cut: Option<Why>)
+    requires sound { IsSoundEnvironment core.old.env }
+    requires held { Holds core.old.env.frames begun.old }
+    requires duty { duty_of core.old.env.frames ≢ None }
+    requires asks { cut ≡ Some Why.Asks → asks_made core.old.env.frames ≡ most_asks }
+    ensures ended { core.new ≡ after_change (end_change None cut core.old.env) core.old }
+    ensures spent { begun.new ≡ None }
+{
+    let Some(standing) = begun.take() else {
+        unreachable!();
+    };
+    core.end_duty(standing, cut);
+}
+
+/// Ends the innermost frame, which this duty began, if one did; the duty ends with it, and nobody is told a reply. Where a call began the
+/// frame, the addon of its caller is told the reply. No addon has seen anything more.
 fn end_frame(
     core: &mut EnvCore,
+    begun: &mut Option<Begun>,
     addons: &mut Vec<Box<dyn Addon>>,
+    duty: Option<Duty>,
     value: Option<HandleId>,
     cut: Option<Why>,
 )
     requires sound { IsSoundEnvironment core.old.env }
+    requires held { Holds core.old.env.frames begun.old }
+    requires duty { duty ≡ duty_of core.old.env.frames }
     requires enough { core.old.env.addons ≤ length addons.old.items }
     requires standing { core.old.env.frames ≢ [] }
     requires asks { cut ≡ Some Why.Asks → asks_made core.old.env.frames ≡ most_asks }
@@ -64,11 +85,16 @@ fn end_frame(
     ensures plans { map (λ b. plan b) addons.new.items ≡ map (λ b. plan b) addons.old.items }
     ensures seen { map (λ b. seen b) addons.new.items ≡ map (λ b. seen b) addons.old.items }
     ensures ended { core.new ≡ after_change (end_change value cut core.old.env) core.old }
+    ensures held { Holds core.new.env.frames begun.new }
     ensures told { let before = map (λ b. regs b) addons.old.items in
         let after = map (λ b. regs b) addons.new.items in
         let caller = at_last_ask (tail core.old.env.frames) in
         IsTold (map (λ b. plan b) addons.old.items) before caller (end_change value cut core.old.env).entry.reply after }
 {
+    if duty.is_some() {
+        end_duty(core, begun, cut);
+        return;
+    }
     let reply = core.leave(value, cut);
     let Some(caller) = core.frame() else {
         return;
@@ -79,59 +105,131 @@ fn end_frame(
 }
 
 /// What the innermost frame asks: its call, or its end. A call that stops cuts the frame.
-fn ask_turn(core: &mut EnvCore, addons: &mut Vec<Box<dyn Addon>>, frame: StandingFrame)
+fn ask_turn(
+    core: &mut EnvCore,
+    begun: &mut Option<Begun>,
+    addons: &mut Vec<Box<dyn Addon>>,
+    frame: StandingFrame,
+)
     requires sound { IsSoundEnvironment core.old.env }
+    requires held { Holds core.old.env.frames begun.old }
     requires enough { core.old.env.addons ≤ length addons.old.items }
     requires stands { head core.old.env.frames ≡ Some (machine_frame frame) }
     requires within { frame.asks < most_asks }
     ensures count { length addons.new.items ≡ length addons.old.items }
     ensures plans { map (λ b. plan b) addons.new.items ≡ map (λ b. plan b) addons.old.items }
     ensures seen { map (λ b. seen b) addons.new.items ≡ map (λ b. seen b) addons.old.items }
-    ensures turn { let before = map (λ b. regs b) addons.old.items in
-        let after = map (λ b. regs b) addons.new.items in
+    ensures held { Holds core.new.env.frames begun.new }
+    ensures turn { let before : AddonStates = record { registers = map (λ b. regs b) addons.old.items; seen = map (λ b. seen b) addons.old.items } in
+        let after : AddonStates = record { registers = map (λ b. regs b) addons.new.items; seen = map (λ b. seen b) addons.new.items } in
         IsTurn (map (λ b. plan b) addons.old.items) core.old before core.new after }
 {
     let addon = frame.addon as usize;
     let ask = ask_at(addons, addon, frame.entry, frame.asks);
     match taken(ask) {
-        Ask::Leave(value) => end_frame(core, addons, value, None),
+        Ask::Leave(value) => end_frame(core, begun, addons, frame.duty, value, None),
         Ask::Do(call) => match core.step(frame.asks, &call) {
             Stepped::Reply(reply) => note_at(addons, addon, frame.entry, frame.asks, &reply),
             Stepped::Enter(target, gifts) => {
                 enter_at(addons, target.addon as usize, target.entry, &gifts);
             }
-            Stepped::Stop(status) => end_frame(core, addons, None, Some(why(status))),
+            Stepped::Stop(status) => {
+                end_frame(core, begun, addons, frame.duty, None, Some(why(status)));
+            }
             Stepped::Shared(_) => unreachable!(),
         },
     }
 }
 
 /// A turn of the innermost frame: what it asks, or its end where it has made all its asks.
-fn frame_turn(core: &mut EnvCore, addons: &mut Vec<Box<dyn Addon>>, frame: StandingFrame)
+fn frame_turn(
+    core: &mut EnvCore,
+    begun: &mut Option<Begun>,
+    addons: &mut Vec<Box<dyn Addon>>,
+    frame: StandingFrame,
+)
     requires sound { IsSoundEnvironment core.old.env }
+    requires held { Holds core.old.env.frames begun.old }
     requires enough { core.old.env.addons ≤ length addons.old.items }
     requires stands { head core.old.env.frames ≡ Some (machine_frame frame) }
     ensures count { length addons.new.items ≡ length addons.old.items }
     ensures plans { map (λ b. plan b) addons.new.items ≡ map (λ b. plan b) addons.old.items }
     ensures seen { map (λ b. seen b) addons.new.items ≡ map (λ b. seen b) addons.old.items }
-    ensures turn { let before = map (λ b. regs b) addons.old.items in
-        let after = map (λ b. regs b) addons.new.items in
+    ensures held { Holds core.new.env.frames begun.new }
+    ensures turn { let before : AddonStates = record { registers = map (λ b. regs b) addons.old.items; seen = map (λ b. seen b) addons.old.items } in
+        let after : AddonStates = record { registers = map (λ b. regs b) addons.new.items; seen = map (λ b. seen b) addons.new.items } in
         IsTurn (map (λ b. plan b) addons.old.items) core.old before core.new after }
 {
     if frame.asks >= MOST_ASKS {
-        end_frame(core, addons, None, Some(Why::Asks));
+        end_frame(core, begun, addons, frame.duty, None, Some(Why::Asks));
         return;
     }
-    ask_turn(core, addons, frame);
+    ask_turn(core, begun, addons, frame);
+}
+
+/// The next ticket begins its frame, where one is next: its addon is given what it tells. Answers whether one began.
+fn ticket_turn(
+    core: &mut EnvCore,
+    begun: &mut Option<Begun>,
+    addons: &mut Vec<Box<dyn Addon>>,
+) -> bool
+    requires sound { IsSoundEnvironment core.old.env }
+    requires held { Holds core.old.env.frames begun.old }
+    requires alone { core.old.env.frames ≡ [] }
+    requires enough { core.old.env.addons ≤ length addons.old.items }
+    ensures count { length addons.new.items ≡ length addons.old.items }
+    ensures plans { map (λ b. plan b) addons.new.items ≡ map (λ b. plan b) addons.old.items }
+    ensures held { Holds core.new.env.frames begun.new }
+    ensures began { result ≡ is_some (next_ticket core.old.env) }
+    ensures made { let before : AddonStates = record { registers = map (λ b. regs b) addons.old.items; seen = map (λ b. seen b) addons.old.items } in
+        let after : AddonStates = record { registers = map (λ b. regs b) addons.new.items; seen = map (λ b. seen b) addons.new.items } in
+        result ≡ true → IsTurn (map (λ b. plan b) addons.old.items) core.old before core.new after }
+    ensures stays { result ≡ false → core.new ≡ core.old }
+    ensures same { result ≡ false → map (λ b. regs b) addons.new.items ≡ map (λ b. regs b) addons.old.items }
+    ensures unseen { result ≡ false → map (λ b. seen b) addons.new.items ≡ map (λ b. seen b) addons.old.items }
+    ensures spent { result ≡ false → begun.new ≡ begun.old }
+{
+    let Some(due) = core.next_local() else {
+        return false;
+    };
+    let addon = due.info().addon as usize;
+    let started = begin_at(addons, addon, due);
+    keep(begun, started);
+    true
+}
+
+/// Keeps the duty whose frame stands, where none stood.
+fn keep(begun: &mut Option<Begun>, started: Begun)
+    requires { begun.old ≡ None }
+    ensures { begun.new ≡ Some started }
+{
+    if let Some(earlier) = mem::replace(begun, Some(started)) {
+        let _ = earlier.end();
+        unreachable!();
+    }
 }
 
 /// A turn where no frame stands: the next event, if it is one of the environment alone.
-fn event_turn(core: &mut EnvCore) -> LocalTurn
+fn event_turn(
+    core: &mut EnvCore,
+    begun: &mut Option<Begun>,
+    addons: &mut Vec<Box<dyn Addon>>,
+) -> LocalTurn
     requires sound { IsSoundEnvironment core.old.env }
+    requires held { Holds core.old.env.frames begun.old }
     requires alone { core.old.env.frames ≡ [] }
+    requires enough { core.old.env.addons ≤ length addons.old.items }
+    ensures count { length addons.new.items ≡ length addons.old.items }
+    ensures plans { map (λ b. plan b) addons.new.items ≡ map (λ b. plan b) addons.old.items }
+    ensures held { Holds core.new.env.frames begun.new }
     ensures turn { result ≡ turn_of core.old.env }
-    ensures made { result ≡ LocalTurn.Made → (plans : List Plan) (all : Registers) → IsTurn plans core.old all core.new all }
+    ensures made { let before : AddonStates = record { registers = map (λ b. regs b) addons.old.items; seen = map (λ b. seen b) addons.old.items } in
+        let after : AddonStates = record { registers = map (λ b. regs b) addons.new.items; seen = map (λ b. seen b) addons.new.items } in
+        result ≡ LocalTurn.Made → IsTurn (map (λ b. plan b) addons.old.items) core.old before core.new after }
     ensures stays { result ≢ LocalTurn.Made → core.new ≡ core.old }
+    ensures same { result ≢ LocalTurn.Made → map (λ b. regs b) addons.new.items ≡ map (λ b. regs b) addons.old.items }
+    ensures unseen { result ≢ LocalTurn.Made → map (λ b. seen b) addons.new.items ≡ map (λ b. seen b) addons.old.items }
+    ensures spent { result ≢ LocalTurn.Made → begun.new ≡ begun.old }
 {
     match core.phase() {
         Phase::Init => match core.next_init() {
@@ -141,36 +239,52 @@ fn event_turn(core: &mut EnvCore) -> LocalTurn
             }
             None => LocalTurn::NeedsHub,
         },
-        Phase::Live | Phase::Hooks | Phase::Drain => LocalTurn::NeedsHub,
+        Phase::Live => {
+            if ticket_turn(core, begun, addons) {
+                LocalTurn::Made
+            } else {
+                LocalTurn::NeedsHub
+            }
+        }
+        Phase::Hooks | Phase::Drain => LocalTurn::NeedsHub,
         Phase::Finals => {
-            // `Gone` is no event of the hub, so no position is noted.
-            core.advance(Phase::Gone, 0);
+            if !ticket_turn(core, begun, addons) {
+                // `Gone` is no event of the hub, so no position is noted.
+                core.advance(Phase::Gone, 0);
+            }
             LocalTurn::Made
         }
         Phase::Gone => LocalTurn::Gone,
     }
 }
 
-/// One turn, over the core of a run. See `EnvRun::local_turn`.
-pub(crate) fn turn(core: &mut EnvCore, addons: &mut Vec<Box<dyn Addon>>) -> LocalTurn
+/// One turn, over the core of a run and the duty whose frame stands. See `EnvRun::local_turn`.
+pub(crate) fn turn(
+    core: &mut EnvCore,
+    begun: &mut Option<Begun>,
+    addons: &mut Vec<Box<dyn Addon>>,
+) -> LocalTurn
     requires sound { IsSoundEnvironment core.old.env }
+    requires held { Holds core.old.env.frames begun.old }
     requires enough { core.old.env.addons ≤ length addons.old.items }
     ensures count { length addons.new.items ≡ length addons.old.items }
     ensures plans { map (λ b. plan b) addons.new.items ≡ map (λ b. plan b) addons.old.items }
-    ensures seen { map (λ b. seen b) addons.new.items ≡ map (λ b. seen b) addons.old.items }
+    ensures held { Holds core.new.env.frames begun.new }
     ensures turn { result ≡ turn_of core.old.env }
-    ensures made { let before = map (λ b. regs b) addons.old.items in
-        let after = map (λ b. regs b) addons.new.items in
+    ensures made { let before : AddonStates = record { registers = map (λ b. regs b) addons.old.items; seen = map (λ b. seen b) addons.old.items } in
+        let after : AddonStates = record { registers = map (λ b. regs b) addons.new.items; seen = map (λ b. seen b) addons.new.items } in
         result ≡ LocalTurn.Made → IsTurn (map (λ b. plan b) addons.old.items) core.old before core.new after }
     ensures room { result ≡ LocalTurn.Made → length core.old.journal < core.old.limit }
     ensures stays { result ≢ LocalTurn.Made → core.new ≡ core.old }
     ensures same { result ≢ LocalTurn.Made → map (λ b. regs b) addons.new.items ≡ map (λ b. regs b) addons.old.items }
+    ensures unseen { result ≢ LocalTurn.Made → map (λ b. seen b) addons.new.items ≡ map (λ b. seen b) addons.old.items }
+    ensures spent { result ≢ LocalTurn.Made → begun.new ≡ begun.old }
 {
     match core.frame() {
         Some(frame) => {
-            frame_turn(core, addons, frame);
+            frame_turn(core, begun, addons, frame);
             LocalTurn::Made
         }
-        None => event_turn(core),
+        None => event_turn(core, begun, addons),
     }
 }

@@ -3,7 +3,7 @@ use Rattle.env_loop.proofs.Runs.{goes-then, fewer-after, fewer-turn, others-then
 use Rattle.env_loop.proofs.run.run_alone.Goals as goal
 
 pub loop-env-init : goal.loop-env-init
-loop-env-init g c = record { count = refl; plans = refl; seen = refl; addons = refl; others = refl; limit = refl; extends = extends-none c.args.env.now; goes = λ s of r. r }
+loop-env-init g c = record { count = refl; plans = refl; addons = refl; others = refl; limit = refl; extends = extends-none c.args.env.now; goes = λ s firsts of r. r }
 
 pub local_turn-requires : goal.local_turn-requires
 local_turn-requires g c = omega (arith, c.requires, c.loop-env.invariant.count, c.loop-env.invariant.addons)
@@ -20,7 +20,6 @@ loop-env-preserved-in-Made g c =
     record {
       count = k.count ∙ i.count;
       plans = k.plans ∙ i.plans;
-      seen = k.seen ∙ i.seen;
       addons = k.addons ∙ i.addons;
       others = others-then _ _ _ _ _ i.addons i.others k.others;
       limit = k.limit ∙ i.limit;
@@ -40,7 +39,6 @@ loop-env-preserved g c =
     record {
       count = k.count ∙ i.count;
       plans = k.plans ∙ i.plans;
-      seen = k.seen ∙ i.seen;
       addons = m.addons ∙ k.addons ∙ i.addons;
       others = others-then _ _ _ _ _ i.addons i.others k.others;
       limit = m.limit ∙ k.limit ∙ i.limit;
@@ -55,9 +53,6 @@ returns-in-Gone-clause-count g c = c.in-Gone.ensures.count ∙ c.loop-env.invari
 
 pub returns-in-Gone-clause-plans : goal.returns-in-Gone-clause-plans
 returns-in-Gone-clause-plans g c = c.in-Gone.ensures.plans ∙ c.loop-env.invariant.plans
-
-pub returns-in-Gone-clause-seen : goal.returns-in-Gone-clause-seen
-returns-in-Gone-clause-seen g c = c.in-Gone.ensures.seen ∙ c.loop-env.invariant.seen
 
 pub returns-in-Gone-clause-recorded : goal.returns-in-Gone-clause-recorded
 returns-in-Gone-clause-recorded g c =

@@ -17,12 +17,11 @@ invariant-loop-env g l =
     record {
       count : length l.addons.items ≡ length l.fn.addons.items;
       plans : plans ≡ first_plans;
-      seen : seen ≡ first_seen;
       addons : l.env.core.env.addons ≡ l.fn.env.core.env.addons;
       others : drop l.fn.env.core.env.addons regs ≡ drop l.fn.env.core.env.addons first_regs;
       limit : l.env.core.limit ≡ l.fn.env.core.limit;
       extends : Extends l.fn.env l.env;
-      goes : GoesOn first_plans l.fn.env first_regs l.env regs;
+      goes : GoesOn first_plans l.fn.env (record { registers = first_regs; seen = first_seen }) l.env (record { registers = regs; seen = seen });
     }
 
 -- each turn fills a place of the journal, and each event of the hub comes once
