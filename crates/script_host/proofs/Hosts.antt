@@ -1,6 +1,7 @@
 -- What the top call knows of a run that was made.
 use Rattle.std.proofs.Common.{◌≡◌, ◌≤◌, ◌+◌, ◌*◌, ℕ, List, ◌++◌, length, drop, refl, subst, arith, lit≤}
 use Rattle.std.proofs.Common.{◌⊎◌, inl, inr, Option}
+use Rattle.napi_types.specs.declared.duties.DueInfo.{DueInfo}
 use Rattle.napi_types.specs.declared.entry.Entry.{Entry}
 use Rattle.napi_types.specs.declared.entry.Local.{Local}
 use Rattle.napi_types.specs.declared.lists.AddonPlan.{AddonPlan}
@@ -9,7 +10,7 @@ use Rattle.napi_types.specs.declared.script.Script.{Script}
 use Rattle.napi_types.specs.declared.script.Wrong.{Wrong}
 use Rattle.napi_types.specs.declared.script.Wrong.TheVariants as wrong
 use Rattle.napi_types.specs.Laws.{HasRoom}
-use Rattle.napi_types.specs.Plan.{Plan, Registers}
+use Rattle.napi_types.specs.Plan.{Plan}
 use Rattle.napi_types.specs.Room.{most_entries}
 use Rattle.napi_types.specs.ScriptReading.{IsNoJson}
 use Rattle.napi_types.specs.Script.{IsWrong}
@@ -17,55 +18,57 @@ use Rattle.napi_types.specs.Weave.{weave}
 use Rattle.napi_types.specs.Setting.{opening_of, final_of}
 use Rattle.napi_types.proofs.Keeping.{kept-run}
 use Rattle.napi_types.proofs.Rooms.{room-suffices}
-use Rattle.env_loop.specs.Recording.{IsEnded}
+use Rattle.env_loop.specs.Recording.{AddonStates, IsEnded}
 use Rattle.script_host.specs.Loading.{told_plans, setting_with}
 use Rattle.script_host.specs.declared.words.Line.{Line}
 use Rattle.script_host.specs.declared.words.Line.TheVariants as line
 use Rattle.script_host.specs.Words.{line_status}
-use Rattle.script_host.specs.Host.{IsStatus, Ran, setting_of, Causes, Gave, HasTooManyAddons, GaveRefused}
+use Rattle.script_host.specs.Host.{IsStatus, Handed, Ran, setting_of, Causes, Gave, HasTooManyAddons, GaveRefused}
 use Rattle.script_host.proofs.Loading.{length-told, length-told-le}
 
 -- the lists of a run with few addons are within their limits
-lists-within : (plans : List Plan) (texts : ℕ) (journal : List Local) (history : List Entry) (all : Registers) → length plans ≤ 8
-    → (e : IsEnded (setting_with plans texts) journal history all)
+lists-within : (plans : List Plan) (texts : ℕ) (journal : List Local) (history : List Entry) (all : AddonStates) (firsts : List (List DueInfo)) → length plans ≤ 8
+    → (e : IsEnded (setting_with plans texts) journal history all firsts)
     → HasRoom (setting_with plans texts) (weave journal history) (final_of (setting_with plans texts) e.asks (weave journal history))
-lists-within plans texts journal history all few e =
+lists-within plans texts journal history all firsts few e =
     let opens : 2 + 2 * length plans ≤ most_entries = omega arith in
     room-suffices (setting_with plans texts) e.asks (weave journal history) opens (lit≤ tt) e.ended.run
 
-pub journal-within : (given : List AddonPlan) (handed : List Plan) (texts : ℕ) (journal : List Local) (history : List Entry) (all : Registers) → length given ≤ 8
-    → IsEnded (setting_with (told_plans given handed) texts) journal history all → length journal ≤ most_entries
-journal-within given handed texts journal history all few e =
+pub journal-within : (given : List AddonPlan) (handed : List Plan) (texts : ℕ) (journal : List Local) (history : List Entry) (all : AddonStates) (firsts : List (List DueInfo)) → length given ≤ 8
+    → IsEnded (setting_with (told_plans given handed) texts) journal history all firsts → length journal ≤ most_entries
+journal-within given handed texts journal history all firsts few e =
     let fewer : length (told_plans given handed) ≤ 8 = omega (arith, length-told-le given handed) in
-    let room = lists-within (told_plans given handed) texts journal history all fewer e in
+    let room = lists-within (told_plans given handed) texts journal history all firsts fewer e in
     omega (arith, room.journal, e.journal_length)
 
-pub history-within : (given : List AddonPlan) (handed : List Plan) (texts : ℕ) (journal : List Local) (history : List Entry) (all : Registers) → length given ≤ 8
-    → IsEnded (setting_with (told_plans given handed) texts) journal history all → length history ≤ most_entries
-history-within given handed texts journal history all few e =
+pub history-within : (given : List AddonPlan) (handed : List Plan) (texts : ℕ) (journal : List Local) (history : List Entry) (all : AddonStates) (firsts : List (List DueInfo)) → length given ≤ 8
+    → IsEnded (setting_with (told_plans given handed) texts) journal history all firsts → length history ≤ most_entries
+history-within given handed texts journal history all firsts few e =
     let fewer : length (told_plans given handed) ≤ 8 = omega (arith, length-told-le given handed) in
-    let room = lists-within (told_plans given handed) texts journal history all fewer e in
+    let room = lists-within (told_plans given handed) texts journal history all firsts fewer e in
     omega (arith, room.history, e.history_length)
 
 -- a run of the script's addons, as the top call tells it
-pub ran-of : (script : Script) (texts : ℕ) (handed after : List Plan) (registers registers_after : Registers) (left : Record)
-    → texts ≡ length script.texts → length script.addons ≤ length handed
-    → IsEnded (setting_with (told_plans script.addons handed) texts) left.journal left.history registers_after
-    → after ≡ told_plans script.addons handed ++ drop (length script.addons) handed
-    → drop (length script.addons) registers_after ≡ drop (length script.addons) registers
-    → Ran script handed registers left after registers_after
-ran-of script texts handed after registers registers_after left counted enough ended loaded others =
-    let E : ℕ → Type 0 = λ n. IsEnded (setting_with (told_plans script.addons handed) n) left.journal left.history registers_after in
-    let e : IsEnded (setting_of script handed) left.journal left.history registers_after = subst E counted ended in
+pub ran-of : (script : Script) (texts : ℕ) (handed after : Handed) (left : Record)
+    → texts ≡ length script.texts → length script.addons ≤ length handed.plans
+    → IsEnded (setting_with (told_plans script.addons handed.plans) texts) left.journal left.history (record { registers = after.registers; seen = after.seen }) handed.seen
+    → after.plans ≡ told_plans script.addons handed.plans ++ drop (length script.addons) handed.plans
+    → drop (length script.addons) after.registers ≡ drop (length script.addons) handed.registers
+    → Ran script handed left after
+ran-of script texts handed after left counted enough ended loaded others =
+    let states : AddonStates = record { registers = after.registers; seen = after.seen } in
+    let E : ℕ → Type 0 = λ n. IsEnded (setting_with (told_plans script.addons handed.plans) n) left.journal left.history states handed.seen in
+    let e : IsEnded (setting_of script handed.plans) left.journal left.history states handed.seen = subst E counted ended in
     record {
       enough = enough;
       run = record {
         asks = e.asks;
         ended = e.ended;
-        collected = kept-run (opening_of (setting_of script handed)) e.asks (weave left.journal left.history) e.ended.run.steps;
+        collected = kept-run (opening_of (setting_of script handed.plans)) e.asks (weave left.journal left.history) e.ended.run.steps;
         rises = e.rises;
         parted = e.parted;
-        agrees = λ addon below. e.agrees addon (omega (arith, length-told script.addons handed enough));
+        agrees = λ addon below. e.agrees addon (omega (arith, length-told script.addons handed.plans enough));
+        seen = e.seen;
       };
       loaded = loaded;
       others = others;

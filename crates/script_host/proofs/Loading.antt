@@ -1,6 +1,7 @@
 -- The addons of a script are loaded, and the run comes to its end.
 use Rattle.std.proofs.Common.{◌≡◌, ◌≢◌, ◌<◌, ◌≤◌, ℕ, suc, ◌+◌, ◌++◌, List, [], ◌∷◌, length, set, drop, option_map, refl, ap, subst, sym, ◌∙◌, arith, below_more, append_assoc, length-append}
 use Rattle.std.proofs.lemmas.List.{get_or-set_same, get_or-set_other, drop-set-lt, get_or_append_left, length-set, nil_from_length, append-nil}
+use Rattle.napi_types.specs.declared.duties.DueInfo.{DueInfo}
 use Rattle.napi_types.specs.declared.entry.Entry.{Entry}
 use Rattle.napi_types.specs.declared.entry.Local.{Local}
 use Rattle.napi_types.specs.declared.lists.AddonPlan.{AddonPlan}
@@ -11,7 +12,7 @@ use Rattle.napi_types.specs.Room.{most_entries}
 use Rattle.napi_types.specs.Setting.{Setting}
 use Rattle.env_core.specs.Core.{Core, opened_core}
 use Rattle.addon_trait.specs.Addons.{loaded_at}
-use Rattle.env_loop.specs.Recording.{IsRecorded, IsEnded, IsOf}
+use Rattle.env_loop.specs.Recording.{AddonStates, IsRecorded, IsEnded, IsOf}
 use Rattle.env_loop.specs.Runs.{Run, opened_run, GoesOn}
 use Rattle.env_loop.proofs.Recordings.{opened-recorded, gone_change-ended}
 use Rattle.script_host.specs.Loading.{told_plans, setting_with}
@@ -105,14 +106,14 @@ loaded-end given done rest first plans before registers l none =
 
 -- THE WHOLE RUN
 -- the opening, and all that came after it
-pub whole-ended : (given : List AddonPlan) (handed loaded : List Plan) (texts count : ℕ) (core : Core) (start ran : Run) (journal : List Local) (left : List Entry) (all now : Registers)
+pub whole-ended : (given : List AddonPlan) (handed loaded : List Plan) (texts count : ℕ) (core : Core) (start ran : Run) (journal : List Local) (left : List Entry) (all now : AddonStates) (firsts : List (List DueInfo))
     → length given ≤ length handed → count ≡ length given
     → core ≡ opened_core count texts most_entries → start ≡ opened_run core
     → loaded ≡ told_plans given handed ++ drop (length given) handed
-    → ((addon : ℕ) → addon < length given → registers_of all addon ≡ blank_registers)
+    → ((addon : ℕ) → addon < length given → registers_of all.registers addon ≡ blank_registers) → all.seen ≡ firsts
     → GoesOn loaded start all ran now → ran.core.env.phase ≡ phase.Gone → journal ≡ ran.core.journal → left ≡ ran.history
-    → IsEnded (setting_with (told_plans given handed) texts) journal left now
-whole-ended given handed loaded texts count core start ran journal left all now enough counted opens starts plans blank goes gone_there lists history =
+    → IsEnded (setting_with (told_plans given handed) texts) journal left now firsts
+whole-ended given handed loaded texts count core start ran journal left all now firsts enough counted opens starts plans blank same_seen goes gone_there lists history =
     let told : List Plan = told_plans given handed in
     let s : Setting = setting_with told texts in
     let as_many : length told ≡ length given = length-told given handed enough in
@@ -120,12 +121,13 @@ whole-ended given handed loaded texts count core start ran journal left all now 
     let opened : core ≡ opened_core (length told) texts most_entries = opens ∙ ap (λ n. opened_core n texts most_entries) same in
     let R : Run → Type 0 = λ r. GoesOn loaded r all ran now in
     let from_core : GoesOn loaded (opened_run core) all ran now = subst R starts goes in
-    let C : Core → Type 0 = λ c. IsRecorded s c [] all in
-    let recorded : IsRecorded s core [] all = subst C (sym opened) (opened-recorded s all (λ addon below. blank addon (omega (arith, as_many, below)))) in
+    let C : Core → Type 0 = λ c. IsRecorded s c [] all all.seen in
+    let recorded : IsRecorded s core [] all all.seen = subst C (sym opened) (opened-recorded s all (λ addon below. blank addon (omega (arith, as_many, below)))) in
     let of : IsOf s loaded core = record {
       count = sym (ap (λ (c : Core). c.env.addons) opened);
       first = λ addon below. sym (ap (λ l. plan_of l addon) plans ∙ get_or_append_left told (drop (length given) handed) _ addon below);
     } in
-    let J : List Local → Type 0 = λ x. IsEnded s x left now in
-    let H : List Entry → Type 0 = λ x. IsEnded s ran.core.journal x now in
-    subst J (sym lists) (subst H (sym history) (gone_change-ended s ran.core ran.history now (from_core s of recorded) gone_there))
+    let F : List (List DueInfo) → Type 0 = λ x. IsEnded s ran.core.journal ran.history now x in
+    let J : List Local → Type 0 = λ x. IsEnded s x left now firsts in
+    let H : List Entry → Type 0 = λ x. IsEnded s ran.core.journal x now firsts in
+    subst J (sym lists) (subst H (sym history) (subst F same_seen (gone_change-ended s ran.core ran.history now all.seen (from_core s all.seen of recorded) gone_there)))

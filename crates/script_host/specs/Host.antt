@@ -3,10 +3,12 @@ use Rattle.std.specs.Prelude.{◌≡◌, ◌≤◌, ◌<◌, ◌^◌, ℕ, Bool,
 use Rattle.std.specs.List.{list_any}
 use Rattle.std.specs.Io.KnownBytes.{prepend_known, append_known, IsAtEnd}
 use Rattle.napi_types.specs.declared.call.Ask.{Ask}
+use Rattle.napi_types.specs.declared.duties.DueInfo.{DueInfo}
 use Rattle.napi_types.specs.declared.lists.Record.{Record}
 use Rattle.napi_types.specs.declared.script.Script.{Script}
 use Rattle.napi_types.specs.declared.script.Wrong.{Wrong}
 use Rattle.napi_types.specs.declared.script.Wrong.TheVariants as wrong
+use Rattle.napi_types.specs.Begins.{begun_along, of_addon}
 use Rattle.napi_types.specs.Edge.{HasRisen, TookFront}
 use Rattle.napi_types.specs.CollectionLaw.{KeepsReached}
 use Rattle.napi_types.specs.Parting.{IsParted}
@@ -16,6 +18,7 @@ use Rattle.napi_types.specs.Script.{IsScript, IsWrong, HasWrongShape}
 use Rattle.napi_types.specs.Text.{text}
 use Rattle.napi_types.specs.Weave.{weave, RisesBetween}
 use Rattle.napi_types.specs.Setting.{Setting, EndsBy, opening_of, final_registers}
+use Rattle.addon_trait.specs.Addons.{seen_of}
 use Rattle.script_host.specs.Reading.{longest_source, GaveTooMany}
 use Rattle.env_loop.specs.Recording.{AgreesWhereTold}
 use Rattle.script_host.specs.Loading.{told_plans, setting_with}
@@ -34,7 +37,7 @@ setting_of script handed = setting_with (told_plans script.addons handed) (lengt
 
 -- the two lists are the journal and the history of a run of the script that ends in `gone`, the journal in the order of its places; each collection of the
 -- run keeps exactly what its roots reach; and the registers of each addon that tells its plan are the run's
-pub record IsRunOf (script : Script) (handed : List Plan) (left : Record) (registers : List (List ℕ)) : Type 0 where
+pub record IsRunOf (script : Script) (handed : List Plan) (left : Record) (registers : List (List ℕ)) (seens seens_after : List (List DueInfo)) : Type 0 where
   pub asks : List Ask
   pub ended : EndsBy (setting_of script handed) asks (weave left.journal left.history)
   pub collected : KeepsReached (opening_of (setting_of script handed)) asks (weave left.journal left.history)
@@ -42,13 +45,23 @@ pub record IsRunOf (script : Script) (handed : List Plan) (left : Record) (regis
   pub parted : IsParted (opening_of (setting_of script handed)) asks left.journal left.history
   pub agrees : (addon : ℕ) → addon < length script.addons → AgreesWhereTold (plan_of (setting_of script handed).plans addon)
       (registers_of registers addon) (registers_of (final_registers (setting_of script handed) asks (weave left.journal left.history)) addon)
+  -- each addon that was handed in has seen, after what it had seen before, exactly the duties whose frames of its began in the run, in their order, each with
+  -- its gifts
+  pub seen : (addon : ℕ) → seen_of seens_after addon
+      ≡ seen_of seens addon ++ of_addon addon (begun_along (opening_of (setting_of script handed)) asks (weave left.journal left.history))
+
+-- what contracts see of the addons that were handed in: their plans, their registers, and what each has seen
+pub record Handed : Type 0 where
+  pub plans : List Plan
+  pub registers : List (List ℕ)
+  pub seen : List (List DueInfo)
 
 -- the script's addons were loaded and run, and the others handed in are as they were
-pub record Ran (script : Script) (handed : List Plan) (registers : List (List ℕ)) (left : Record) (plans_after : List Plan) (registers_after : List (List ℕ)) : Type 0 where
-  pub enough : length script.addons ≤ length handed
-  pub run : IsRunOf script handed left registers_after
-  pub loaded : plans_after ≡ told_plans script.addons handed ++ drop (length script.addons) handed
-  pub others : drop (length script.addons) registers_after ≡ drop (length script.addons) registers
+pub record Ran (script : Script) (handed : Handed) (left : Record) (after : Handed) : Type 0 where
+  pub enough : length script.addons ≤ length handed.plans
+  pub run : IsRunOf script handed.plans left after.registers handed.seen after.seen
+  pub loaded : after.plans ≡ told_plans script.addons handed.plans ++ drop (length script.addons) handed.plans
+  pub others : drop (length script.addons) after.registers ≡ drop (length script.addons) handed.registers
 
 -- a script that the host can run: it has eight addons at most, and its texts can be counted in 32 bits
 pub record IsSmall (script : Script) : Type 0 where

@@ -2,7 +2,7 @@
 ghost use Rattle.std.specs.Prelude.{◌≡◌, ℕ, ◌<◌, ◌≤◌, ◌++◌, length, map, drop, IfOk, OnOk, OnErr};
 ghost use Rattle.napi_types.specs.Plan.{registers_of};
 ghost use Rattle.napi_types.specs.Registers.{blank_registers};
-ghost use Rattle.env_loop.specs.Recording.{IsEnded};
+ghost use Rattle.env_loop.specs.Recording.{AddonStates, IsEnded};
 ghost use Rattle.script_host.specs.Loading.{told_plans, setting_with};
 
 use addon_trait::{Addon, load_at};
@@ -37,7 +37,7 @@ fn load_all(addons: &mut Vec<Box<dyn Addon>>, given: Plans)
 /// Runs a script, whose addons are the first of those handed in: from the opening to `gone`.
 ///
 /// `given` are the plans of its addons, eight at most, and `texts` says how many texts it has. Want of memory comes before
-/// an addon is touched. No duty begins, so what each addon has seen is as before.
+/// an addon is touched.
 pub(crate) fn run(
     alloc: Global,
     given: Plans,
@@ -47,13 +47,13 @@ pub(crate) fn run(
     requires few { length given ≤ 8 }
     requires enough { length given ≤ length addons.old.items }
     ensures ended { let told = told_plans given (map (λ b. plan b) addons.old.items) in
-        let after = map (λ b. regs b) addons.new.items in
-        IfOk result (λ left. IsEnded (setting_with told texts) left.journal left.history after) }
+        let after : AddonStates = record { registers = map (λ b. regs b) addons.new.items; seen = map (λ b. seen b) addons.new.items } in
+        let firsts = map (λ b. seen b) addons.old.items in
+        IfOk result (λ left. IsEnded (setting_with told texts) left.journal left.history after firsts) }
     ensures plans { let before = map (λ b. plan b) addons.old.items in
         OnOk result (map (λ b. plan b) addons.new.items ≡ told_plans given before ++ drop (length given) before) }
     ensures others { let before = map (λ b. regs b) addons.old.items in
         OnOk result (drop (length given) (map (λ b. regs b) addons.new.items) ≡ drop (length given) before) }
-    ensures seen { map (λ b. seen b) addons.new.items ≡ map (λ b. seen b) addons.old.items }
     ensures err { OnErr result (addons.new.items ≡ addons.old.items) }
 {
     let count = given.items().len() as u32;

@@ -2,7 +2,7 @@
 ghost use Rattle.std.specs.Prelude.{◌≡◌, ◌≢◌, ◌≤◌, ◌<◌, ◌^◌, ℕ, ◌↔◌, ◌==◌, List, length, map, true, false, IfOk, OnOk, OnErr, IfErr, ◌⊎◌};
 ghost use Rattle.std.specs.Io.KnownBytes.{append_known};
 ghost use Rattle.napi_types.specs.Edge.{HasRisen, TookFront};
-ghost use Rattle.script_host.specs.Host.{Ran, IsSmall, trace_of, WroteTrace, is_whole, IsStatus, IsRunStatus};
+ghost use Rattle.script_host.specs.Host.{Handed, Ran, IsSmall, trace_of, WroteTrace, is_whole, IsStatus, IsRunStatus};
 ghost use Rattle.script_host.specs.Host.{GaveScript, GaveRefused, GaveTooMuch, Causes, WroteLine, IsRead, IsTooLong, IsRefused, IsRunnable};
 ghost use Rattle.script_host.specs.Reading.{GaveFront};
 ghost use Rattle.script_host.specs.Words.{is_run_words, line_text, line_status};
@@ -93,9 +93,17 @@ fn perform<K: Sink>(
     left: &mut Record,
 ) -> Result<Written, Line>
     requires { IsSmall script }
-    ensures ran { let plans = map (λ b. plan b) addons.old.items in
-        let registers = map (λ b. regs b) addons.old.items in
-        OnOk result (Ran script plans registers left.new (map (λ b. plan b) addons.new.items) (map (λ b. regs b) addons.new.items)) }
+    ensures ran { let before : Handed = record {
+      plans = map (λ b. plan b) addons.old.items;
+      registers = map (λ b. regs b) addons.old.items;
+      seen = map (λ b. seen b) addons.old.items;
+    } in
+        let after : Handed = record {
+          plans = map (λ b. plan b) addons.new.items;
+          registers = map (λ b. regs b) addons.new.items;
+          seen = map (λ b. seen b) addons.new.items;
+        } in
+        OnOk result (Ran script before left.new after) }
     ensures whole { result ≡ Ok Written.Whole → K.taken sink.new ≡ append_known (K.taken sink.old) (trace_of script left.new) }
     ensures cut { result ≡ Ok Written.Cut → TookFront (K.taken sink.old) (trace_of script left.new) (K.taken sink.new) }
     ensures fault { result ≡ Ok Written.Cut → HasRisen (K.faults sink.old) (K.faults sink.new) }
@@ -104,7 +112,6 @@ fn perform<K: Sink>(
     ensures sink { OnErr result (K.taken sink.new ≡ K.taken sink.old) }
     ensures left { OnErr result (left.new ≡ left.old) }
     ensures addons { OnErr result (addons.new.items ≡ addons.old.items) }
-    ensures seen { map (λ b. seen b) addons.new.items ≡ map (λ b. seen b) addons.old.items }
     ensures faults { K.faults sink.old ≤ K.faults sink.new }
 {
     if addons.len() < script.addons.items().len() {
@@ -139,17 +146,24 @@ fn attempt<S: Source, K: Sink>(
     left: &mut Record,
 ) -> Result<Written, Line>
     ensures words { OnOk result (is_run_words words.now ≡ true) }
-    ensures ran { let plans = map (λ b. plan b) addons.old.items in
-        let registers = map (λ b. regs b) addons.old.items in
+    ensures ran { let before : Handed = record {
+      plans = map (λ b. plan b) addons.old.items;
+      registers = map (λ b. regs b) addons.old.items;
+      seen = map (λ b. seen b) addons.old.items;
+    } in
+        let after : Handed = record {
+          plans = map (λ b. plan b) addons.new.items;
+          registers = map (λ b. regs b) addons.new.items;
+          seen = map (λ b. seen b) addons.new.items;
+        } in
         OnOk result ((script : Script) × GaveScript (S.left source.old) (S.left source.new) script
-        × Ran script plans registers left.new (map (λ b. plan b) addons.new.items) (map (λ b. regs b) addons.new.items)
+        × Ran script before left.new after
         × WroteTrace (is_whole result) (K.taken sink.old) (K.faults sink.old) (trace_of script left.new) (K.taken sink.new) (K.faults sink.new)) }
     ensures err { IfErr result (λ line.
         Causes line words.now (S.left source.old) (S.left source.new) (S.faults source.old) (S.faults source.new) (length addons.old.items)) }
     ensures sink { OnErr result (K.taken sink.new ≡ K.taken sink.old) }
     ensures left { OnErr result (left.new ≡ left.old) }
     ensures addons { OnErr result (addons.new.items ≡ addons.old.items) }
-    ensures seen { map (λ b. seen b) addons.new.items ≡ map (λ b. seen b) addons.old.items }
     ensures unread { is_run_words words.now ≡ false → S.left source.new ≡ S.left source.old }
     ensures uncounted { is_run_words words.now ≡ false → S.faults source.new ≡ S.faults source.old }
     ensures counted_reads { result ≢ Err Line.ReadFault → S.faults source.new ≡ S.faults source.old }
@@ -185,11 +199,20 @@ pub fn host<R: Threads + Wait + Sync, S: Source, K: Sink, G: Gate>(
     ensures known { IsStatus result }
 
     // At 0 and 5 the source gave a script, the two lists of `left` are a run of it to its end, each collection of which kept
-    // exactly what its roots reached, and the sink took the run's text.
-    ensures ran { let plans = map (λ b. plan b) addons.old.items in
-        let registers = map (λ b. regs b) addons.old.items in
+    // exactly what its roots reached, and the sink took the run's text. Each addon has seen, after what it had seen before, what
+    // began of its in the run.
+    ensures ran { let before : Handed = record {
+      plans = map (λ b. plan b) addons.old.items;
+      registers = map (λ b. regs b) addons.old.items;
+      seen = map (λ b. seen b) addons.old.items;
+    } in
+        let after : Handed = record {
+          plans = map (λ b. plan b) addons.new.items;
+          registers = map (λ b. regs b) addons.new.items;
+          seen = map (λ b. seen b) addons.new.items;
+        } in
         IsRunStatus result → (script : Script) × GaveScript (S.left source.old) (S.left source.new) script
-        × Ran script plans registers left.new (map (λ b. plan b) addons.new.items) (map (λ b. regs b) addons.new.items)
+        × Ran script before left.new after
         × WroteTrace (result == 0) (K.taken sink.old) (K.faults sink.old) (trace_of script left.new) (K.taken sink.new) (K.faults sink.new) }
 
     // At every other status a line has its cause, and stands in place of the trace.
@@ -198,9 +221,6 @@ pub fn host<R: Threads + Wait + Sync, S: Source, K: Sink, G: Gate>(
         × WroteLine (K.taken sink.old) (K.faults sink.old) (line_text line) (K.taken sink.new) (K.faults sink.new) }
     ensures left { ¬ IsRunStatus result → left.new ≡ left.old }
     ensures addons { ¬ IsRunStatus result → addons.new.items ≡ addons.old.items }
-
-    // At every status what each addon that was handed in has seen is as before, since no duty begins.
-    ensures seen { map (λ b. seen b) addons.new.items ≡ map (λ b. seen b) addons.old.items }
 
     // The same, status by status.
     ensures usage { (result ≡ 2) ↔ (is_run_words words.now ≡ false) }

@@ -5,7 +5,7 @@ use Rattle.script_host.proofs.running.run.Goals as goal
 
 pub returns-clause-ended : goal.returns-clause-ended
 returns-clause-ended g c =
-    whole-ended c.args.given _ _ c.args.texts _ c.in_ok-core.core c.in_ok-env.env c.run_alone.new.env c.into_record.result.journal c.into_record.result.history _ _
+    whole-ended c.args.given _ _ c.args.texts _ c.in_ok-core.core c.in_ok-env.env c.run_alone.new.env c.into_record.result.journal c.into_record.result.history _ _ _
     (rw (length-map c.args.addons.now.items _) c.requires.enough) (ap length c.items.ensures)
-    c.in_ok-core.ensures c.in_ok-env.ensures c.load_all.ensures.plans c.load_all.ensures.blank
+    c.in_ok-core.ensures c.in_ok-env.ensures c.load_all.ensures.plans c.load_all.ensures.blank c.load_all.ensures.seen
     c.run_alone.ensures.recorded c.run_alone.ensures.gone c.into_record.ensures.journal c.into_record.ensures.history
