@@ -1,5 +1,5 @@
 -- What may come where no frame stands, and where one does.
-use Rattle.std.proofs.Common.{◌≡◌, ◌≤◌, ℕ, nat_lt, Bool, true, false, cond, List, [], ◌∷◌, IsTrue, refl, ap, sym, ◌∙◌, subst, Option, Some, None, arith}
+use Rattle.std.proofs.Common.{◌≡◌, ◌≤◌, ℕ, nat_lt, Bool, true, false, cond, List, [], ◌∷◌, IsTrue, refl, ap, sym, ◌∙◌, subst, Option, Some, None, option_map, arith}
 use Rattle.std.specs.Option.{option_or, IfSome}
 use Rattle.napi_types.specs.declared.call.Ask.{Ask}
 use Rattle.napi_types.specs.declared.call.Ask.TheVariants as ask
@@ -20,6 +20,7 @@ use Rattle.napi_types.specs.declared.entry.What.TheVariants as what
 use Rattle.napi_types.specs.declared.entry.Why.{Why}
 use Rattle.napi_types.specs.declared.ids.HandleId.{HandleId}
 use Rattle.napi_types.specs.declared.status.Status.{Status}
+use Rattle.napi_types.specs.Book.{Registration, lowest_due, registration_at}
 use Rattle.napi_types.specs.Built.{built_ask}
 use Rattle.napi_types.specs.Changes.{number_of}
 use Rattle.napi_types.specs.Choice.{local_choice, local_choice_in, hub_choice, hub_choice_at, choice}
@@ -28,14 +29,14 @@ use Rattle.napi_types.specs.Entering.{function_change, asked_change}
 use Rattle.napi_types.specs.Environment.{Environment}
 use Rattle.napi_types.specs.Frames.{Frame}
 use Rattle.napi_types.specs.Hub.{Hub, Stage, Before, Going, Looped, Drained, Final, stage_after, staged, hub_next}
-use Rattle.napi_types.specs.Loop.{Event, Opens, Inits, Goes, EndsLoop, Drains, FinalsCome, IsGone}
+use Rattle.napi_types.specs.Loop.{Event, Opens, Inits, Tickets, Goes, EndsLoop, Drains, FinalsCome, IsGone}
 use Rattle.napi_types.specs.Machine.{Machine}
 use Rattle.napi_types.specs.Refusals.{refusal}
 use Rattle.napi_types.specs.Phases.{stage_of}
 use Rattle.napi_types.specs.Run.{IsNext, after, final}
-use Rattle.napi_types.specs.Step.{Step, locally, hub_moved, event_step, chosen, frame_step, env_step, step_of, step, cut_of}
+use Rattle.napi_types.specs.Step.{Step, locally, hub_moved, ticket_step, event_step, chosen, frame_step, env_step, step_of, step, cut_of}
 use Rattle.napi_types.specs.Setting.{opening_of, final_of}
-use Rattle.machine_laws.specs.Choices.{is_of_frames, NoneIsChosenInFrames, TellsFrame, BeginsTellTheirFrames, OwnEventsComeFirst, IsOfHub, HubEventsComeLast, MayGo, GoComesAfterInitFrames, GoneComesAfterFinals, HubIsInPhase, GoComesOnlyAfterInitFrames, GoneComesOnlyAfterFinals}
+use Rattle.machine_laws.specs.Choices.{is_of_frames, NoneIsChosenInFrames, TellsFrame, BeginsTellTheirFrames, OwnEventsComeFirst, IsOfHub, HubEventsComeLast, MayGo, GoComesAfterInitFrames, GoneComesAfterFinals, HubIsInPhase, GoComesOnlyAfterInitFrames}
 use Rattle.napi_types.proofs.Answers.{course-parts}
 use Rattle.napi_types.proofs.FrameChanges.{ended-keeps, asked_change-fits}
 use Rattle.napi_types.proofs.FrameEnds.{ended-ends}
@@ -77,9 +78,14 @@ moved-tells : (m : Machine) (event : HostStep) (p : Phase) (o : Out) (h : Option
 moved-tells m event p o None other is = cc
 moved-tells m event p o (Some h) other is = let z : event ≡ host.Begin = cc in absurd (other z)
 
+ticket-tells : (m : Machine) (n : ℕ) (r : Option Registration) → Tells (ticket_step m n r)
+ticket-tells m n None is = cc
+ticket-tells m n (Some r) is = record { frame = _; outer = _; stands = refl; told = refl }
+
 event-tells : (m : Machine) (v : Event) → Tells (event_step m v)
 event-tells m Opens is = cc
 event-tells m (Inits n) is = record { frame = _; outer = _; stands = refl; told = refl }
+event-tells m (Tickets n) is = ticket-tells m n (registration_at m.env.book n) is
 event-tells m Goes is = moved-tells m host.Go phase.Live out.Nothing (hub_next m.hub host.Go) (λ z. cc) is
 event-tells m (EndsLoop w) is = moved-tells m host.LoopEnd phase.Hooks (out.Ended w) (hub_next m.hub host.LoopEnd) (λ z. cc) is
 event-tells m Drains is = moved-tells m host.Drain phase.Drain (out.Unsigned 0) (hub_next m.hub host.Drain) (λ z. cc) is
@@ -123,13 +129,13 @@ begins-tell m a x next is =
 
 -- WHERE NO FRAME STANDS
 -- what may come is the environment's, ..
-by-env : (m : Machine) (a : Ask) (x : Entry) (who : Actor) → IsTrue (step_of m a x who).may → who ≡ actor.Env
+pub by-env : (m : Machine) (a : Ask) (x : Entry) (who : Actor) → IsTrue (step_of m a x who).may → who ≡ actor.Env
 by-env m a x actor.Env h = refl
 by-env m a x (actor.Thread n) h = cc
 by-env m a x (actor.Worker n) h = cc
 
 -- .. the event that is chosen
-chosen-next : (m : Machine) (a : Ask) (x : Entry) → x.actor ≡ actor.Env → m.env.frames ≡ [] → step m a x ≡ chosen m (choice m)
+pub chosen-next : (m : Machine) (a : Ask) (x : Entry) → x.actor ≡ actor.Env → m.env.frames ≡ [] → step m a x ≡ chosen m (choice m)
 chosen-next m a x who alone = ap (step_of m a x) who ∙ ap (env_step m a x.reply.out) alone
 
 -- where something else comes, no frame stands
@@ -138,12 +144,12 @@ none-stands m a x [] stands other next = refl
 none-stands m a x (f ∷ fs) stands other next = let z : true ≡ false = sym (none-in-frames m f fs a x stands next) ∙ other in cc
 
 -- no frame stands, and the entry is that of the event that is chosen
-record IsAlone (m : Machine) (x : Entry) : Type 0 where
+pub record IsAlone (m : Machine) (x : Entry) : Type 0 where
   pub alone : m.env.frames ≡ []
   pub entry : x ≡ (chosen m (choice m)).entry
   pub may : IsTrue (chosen m (choice m)).may
 
-alone-next : (m : Machine) (a : Ask) (x : Entry) → is_of_frames x.what x.reply.out ≡ false → IsNext m a x → IsAlone m x
+pub alone-next : (m : Machine) (a : Ask) (x : Entry) → is_of_frames x.what x.reply.out ≡ false → IsNext m a x → IsAlone m x
 alone-next m a x other next =
     let alone : m.env.frames ≡ [] = none-stands m a x m.env.frames refl other next in
     let s : step m a x ≡ chosen m (choice m) = chosen-next m a x (by-env m a x x.actor next.1) alone in
@@ -153,6 +159,7 @@ alone-next m a x other next =
 abbrev IsOwn : Event → Type 0
 IsOwn Opens = Unit {0}
 IsOwn (Inits n) = Unit {0}
+IsOwn (Tickets n) = Unit {0}
 IsOwn IsGone = Unit {0}
 IsOwn _ = ⊥
 
@@ -164,16 +171,31 @@ init-own n true true v h = of-some (Inits n) v h tt
 init-own n true false v h = cc
 init-own n false c v h = of-some Opens v h tt
 
+loop-own : (o : Option ℕ) (v : Event) → option_map Tickets o ≡ Some v → IsOwn v
+loop-own None v h = cc
+loop-own (Some n) v h = of-some (Tickets n) v h tt
+
+finals-own : (o : Option ℕ) (v : Event) → option_or (option_map Tickets o) (Some IsGone) ≡ Some v → IsOwn v
+finals-own None v h = of-some IsGone v h tt
+finals-own (Some n) v h = of-some (Tickets n) v h tt
+
 local-own : (e : Environment) (p : Phase) (v : Event) → local_choice_in e p ≡ Some v → IsOwn v
 local-own e phase.Init v h = init-own e.inits e.opened (nat_lt e.inits e.addons) v h
-local-own e phase.Finals v h = of-some IsGone v h tt
+local-own e phase.Live v h = loop-own (lowest_due e.book) v h
+local-own e phase.Finals v h = finals-own (lowest_due e.book) v h
 local-own e _ v h = cc
 
 -- they do not read the hub
+ticket-next : (m : Machine) (h : Hub) (n : ℕ) (r : Option Registration) (x : Entry) → (x ≡ (ticket_step m n r).entry) × IsTrue (ticket_step m n r).may
+    → (x ≡ (ticket_step (record m { hub = h }) n r).entry) × IsTrue (ticket_step (record m { hub = h }) n r).may
+ticket-next m h n None x next = next
+ticket-next m h n (Some r) x next = next
+
 own-next : (m : Machine) (h : Hub) (v : Event) (x : Entry) → IsOwn v → (x ≡ (event_step m v).entry) × IsTrue (event_step m v).may
     → (x ≡ (event_step (record m { hub = h }) v).entry) × IsTrue (event_step (record m { hub = h }) v).may
 own-next m h Opens x own n = n
 own-next m h (Inits k) x own n = n
+own-next m h (Tickets k) x own n = ticket-next m h k (registration_at m.env.book k) x n
 own-next m h IsGone x own n = n
 own-next m h _ x own n = absurd own
 
@@ -226,12 +248,17 @@ init-go m true false x is e = (refl, refl)
 init-go m true true x is e = let z : what.Host host.Go ≡ what.Host host.Begin = sym is ∙ ap (λ (y : Entry). y.what) e in cc
 init-go m false c x is e = let z : what.Host host.Go ≡ what.Host host.Opened = sym is ∙ ap (λ (y : Entry). y.what) e in cc
 
+ticket-go : (m : Machine) (n : ℕ) (r : Option Registration) (x : Entry) → x.what ≡ what.Host host.Go → x ≡ (ticket_step m n r).entry → ⊥
+ticket-go m n None x is e = let z : what.Host host.Go ≡ what.Host host.Gone = sym is ∙ ap (λ (y : Entry). y.what) e in cc
+ticket-go m n (Some r) x is e = let z : what.Host host.Go ≡ what.Host host.Begin = sym is ∙ ap (λ (y : Entry). y.what) e in cc
+
 -- so it is the hub's in every phase
 own-go : (m : Machine) (v : Option Event) (x : Entry) → ((w : Event) → v ≡ Some w → IsOwn w) → x.what ≡ what.Host host.Go
     → x ≡ (chosen m (option_or v (hub_choice m.hub))).entry → v ≡ None
 own-go m None x own is e = refl
 own-go m (Some Opens) x own is e = let z : what.Host host.Go ≡ what.Host host.Opened = sym is ∙ ap (λ (y : Entry). y.what) e in cc
 own-go m (Some (Inits n)) x own is e = let z : what.Host host.Go ≡ what.Host host.Begin = sym is ∙ ap (λ (y : Entry). y.what) e in cc
+own-go m (Some (Tickets n)) x own is e = absurd (ticket-go m n (registration_at m.env.book n) x is e)
 own-go m (Some IsGone) x own is e = let z : what.Host host.Go ≡ what.Host host.Gone = sym is ∙ ap (λ (y : Entry). y.what) e in cc
 own-go m (Some Goes) x own is e = absurd (own Goes refl)
 own-go m (Some (EndsLoop w)) x own is e = absurd (own (EndsLoop w) refl)
@@ -271,12 +298,23 @@ init-other m n true false s x is e t = hub-other m s x is e t
 init-other m n true true s x is e t = let z : what.Host host.Gone ≡ what.Host host.Begin = sym is ∙ ap (λ (y : Entry). y.what) e in cc
 init-other m n false c s x is e t = let z : what.Host host.Gone ≡ what.Host host.Opened = sym is ∙ ap (λ (y : Entry). y.what) e in cc
 
+ticket-other : (m : Machine) (n : ℕ) (r : Option Registration) (x : Entry) → x.what ≡ what.Host host.Gone → x ≡ (ticket_step m n r).entry
+    → IsTrue (ticket_step m n r).may → ⊥
+ticket-other m n None x is e t = cc
+ticket-other m n (Some r) x is e t = let z : what.Host host.Gone ≡ what.Host host.Begin = sym is ∙ ap (λ (y : Entry). y.what) e in cc
+
+loop-other : (m : Machine) (o : Option ℕ) (s : Stage) (x : Entry) → x.what ≡ what.Host host.Gone
+    → x ≡ (chosen m (option_or (option_map Tickets o) (hub_choice_at s))).entry
+    → IsTrue (chosen m (option_or (option_map Tickets o) (hub_choice_at s))).may → ⊥
+loop-other m None s x is e t = hub-other m s x is e t
+loop-other m (Some n) s x is e t = ticket-other m n (registration_at m.env.book n) x is e t
+
 gone-in : (m : Machine) (p : Phase) (s : Stage) (x : Entry) → x.what ≡ what.Host host.Gone
     → x ≡ (chosen m (option_or (local_choice_in m.env p) (hub_choice_at s))).entry
     → IsTrue (chosen m (option_or (local_choice_in m.env p) (hub_choice_at s))).may → p ≡ phase.Finals
 gone-in m phase.Init s x is e t = absurd (init-other m m.env.inits m.env.opened (nat_lt m.env.inits m.env.addons) s x is e t)
 gone-in m phase.Finals s x is e t = refl
-gone-in m phase.Live s x is e t = absurd (hub-other m s x is e t)
+gone-in m phase.Live s x is e t = absurd (loop-other m (lowest_due m.env.book) s x is e t)
 gone-in m phase.Hooks s x is e t = absurd (hub-other m s x is e t)
 gone-in m phase.Drain s x is e t = absurd (hub-other m s x is e t)
 gone-in m phase.Gone s x is e t = absurd (hub-other m s x is e t)
@@ -312,10 +350,15 @@ finals-moves : (s : Stage) → IfSome (stage_after s host.Finals) (λ t. t ≡ F
 finals-moves Drained = refl
 finals-moves _ = tt
 
+ticket-in : (m : Machine) (n : ℕ) (r : Option Registration) → InPhase m → InPhase (ticket_step m n r).after
+ticket-in m n None here = here
+ticket-in m n (Some r) here = here
+
 -- each event keeps it, but that `gone` comes once the hub has made its last event
 event-in : (m : Machine) (v : Event) → (v ≡ IsGone → m.hub.stage ≡ Final) → InPhase m → InPhase (event_step m v).after
 event-in m Opens end here = here
 event-in m (Inits n) end here = here
+event-in m (Tickets n) end here = ticket-in m n (registration_at m.env.book n) here
 event-in m Goes end here = moved-in m host.Go phase.Live out.Nothing (stage_after m.hub.stage host.Go) (go-moves m.hub.stage) here
 event-in m (EndsLoop w) end here =
     moved-in m host.LoopEnd phase.Hooks (out.Ended w) (stage_after m.hub.stage host.LoopEnd) (loop_end-moves m.hub.stage) here
@@ -340,13 +383,17 @@ init-not-gone n true true s h = cc
 init-not-gone n true false s h = hub-not-gone s h
 init-not-gone n false c s h = cc
 
-gone-final : (e : Environment) (p : Phase) (s : Stage) → option_or (local_choice_in e p) (hub_choice_at s) ≡ Some IsGone → stage_of p ≡ Final
-gone-final e phase.Init s h = absurd (init-not-gone e.inits e.opened (nat_lt e.inits e.addons) s h)
-gone-final e phase.Finals s h = refl
-gone-final e phase.Gone s h = refl
-gone-final e phase.Live s h = absurd (hub-not-gone s h)
-gone-final e phase.Hooks s h = absurd (hub-not-gone s h)
-gone-final e phase.Drain s h = absurd (hub-not-gone s h)
+loop-not-gone : (o : Option ℕ) (s : Stage) → option_or (option_map Tickets o) (hub_choice_at s) ≡ Some IsGone → ⊥
+loop-not-gone None s h = hub-not-gone s h
+loop-not-gone (Some n) s h = cc
+
+pub gone-phase : (e : Environment) (p : Phase) (s : Stage) → option_or (local_choice_in e p) (hub_choice_at s) ≡ Some IsGone → p ≡ phase.Finals
+gone-phase e phase.Init s h = absurd (init-not-gone e.inits e.opened (nat_lt e.inits e.addons) s h)
+gone-phase e phase.Live s h = absurd (loop-not-gone (lowest_due e.book) s h)
+gone-phase e phase.Hooks s h = absurd (hub-not-gone s h)
+gone-phase e phase.Drain s h = absurd (hub-not-gone s h)
+gone-phase e phase.Finals s h = refl
+gone-phase e phase.Gone s h = absurd (hub-not-gone s h)
 
 frame-in : (m : Machine) (a : Ask) (o : Out) (cut : Option Why) → InPhase m → InPhase (frame_step m a o cut).after
 frame-in m a o (Some w) here =
@@ -360,7 +407,7 @@ frame-in m (ask.Do c) o None here =
     here ∙ ap stage_of (sym (course-parts m.env d (asked_change-fits m.env c (number_of o)).course).phase)
 
 env-in : (m : Machine) (a : Ask) (o : Out) (fs : List Frame) → InPhase m → InPhase (env_step m a o fs).after
-env-in m a o [] here = chosen-in m (choice m) (λ is. here ∙ gone-final m.env m.env.phase m.hub.stage is) here
+env-in m a o [] here = chosen-in m (choice m) (λ is. here ∙ ap stage_of (gone-phase m.env m.env.phase m.hub.stage is)) here
 env-in m a o (f ∷ fs) here = frame-in m (built_ask a) o (cut_of o) here
 
 step-in : (m : Machine) (a : Ask) (x : Entry) (who : Actor) → InPhase m → InPhase (step_of m a x who).after
@@ -392,9 +439,3 @@ go-of-runs s bs xs a x run next is =
     let init : m.env.phase ≡ phase.Init = before-init m.env.phase (sym (go-stage m x is here) ∙ hub-in-phase s bs xs run) in
     let may : MayGo m = go-last m a x next is in
     record { phase = init; alone = may.alone; opened = may.opened init; begun = may.begun init }
-
-pub gone-of-runs : GoneComesOnlyAfterFinals
-gone-of-runs s bs xs a x run next is =
-    let m : Machine = final_of s bs xs in
-    let last : (m.env.frames ≡ []) × (m.env.phase ≡ phase.Finals) = gone-last m a x next is in
-    record { phase = last.1; alone = last.0; stage = hub-in-phase s bs xs run ∙ ap stage_of last.1 }

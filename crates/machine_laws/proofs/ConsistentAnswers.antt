@@ -9,7 +9,8 @@ use Rattle.napi_types.specs.declared.call.Call.{Call}
 use Rattle.napi_types.specs.declared.call.Call.TheVariants as call
 use Rattle.napi_types.specs.declared.ids.TextNo.{TextNo}
 use Rattle.napi_types.specs.declared.status.Status.{Status}
-use Rattle.napi_types.specs.Attachments.{Attachments}
+use Rattle.napi_types.specs.Attachments.{Attachments, wrap_ticket, with_attached}
+use Rattle.napi_types.specs.Book.{Book, Registration, made_withdrawn, moved_at, new_ticket, with_registration}
 use Rattle.napi_types.specs.Calls.{effect, answer_unless, answer_unless_deep}
 use Rattle.napi_types.specs.Changes.{call_change}
 use Rattle.napi_types.specs.Environment.{Environment, with_heap}
@@ -21,8 +22,10 @@ use Rattle.napi_types.specs.Lists.{found}
 use Rattle.napi_types.specs.ReferenceCalls.{with_references, counted_up, value_told}
 use Rattle.napi_types.specs.References.{Reference, ReferenceMap, referred_value, with_reference, without_reference, with_count}
 use Rattle.napi_types.specs.Refusals.{early_refusal, depth_refusal}
+use Rattle.napi_types.specs.Registering.{finalizer_if, registering_if, registered_only, withdrawing}
+use Rattle.napi_types.specs.Replies.{Answer}
 use Rattle.napi_types.specs.Values.{undefined_value}
-use Rattle.napi_types.specs.WrapCalls.{with_attachments}
+use Rattle.napi_types.specs.WrapCalls.{with_attachments, referring_if}
 use Rattle.napi_types.proofs.Answers.{KeepsButAsk, call_change-keeps}
 use Rattle.machine_laws.specs.Consistency.{IsConsistent, IsLiveAmong, IsMap}
 use Rattle.machine_laws.proofs.Collected.{heap-kept, referred-kept, pending-kept}
@@ -145,9 +148,41 @@ told-good : (e : Environment) (o : Option ℕ) → IfSome o (IsLiveAmong e.heap.
 told-good e None live g = unmoved e g
 told-good e (Some v) live g = in-heap e (with_handle v e.heap) g (with-handle e.heap v g.heap live)
 
--- ATTACHMENTS
+-- ATTACHMENTS AND TICKETS
 attaching : (e : Environment) (a : Attachments) → IsConsistentButFrames e → LeadsTo e (with_attachments a e)
 attaching e a g = record { good = record { heap = g.heap; referred = g.referred; references = g.references; pending = g.pending }; stay = stays e.heap }
+
+-- the book may change besides
+booked : (e new : Environment) (book : Book) → LeadsTo e new → LeadsTo e (record new { book = book })
+booked e new book led =
+    record { good = record { heap = led.good.heap; referred = led.good.referred; references = led.good.references; pending = led.good.pending }; stay = led.stay }
+
+registered-good : (e : Environment) (r : Option Registration) (a : Answer Environment) → LeadsTo e a.after → LeadsTo e (registering_if r a).after
+registered-good e None a led = led
+registered-good e (Some r) a led = booked e a.after (with_registration r a.after.book) led
+
+withdrawn-good : (e : Environment) (n : Option ℕ) (a : Answer Environment) → LeadsTo e a.after → LeadsTo e (withdrawing n a).after
+withdrawn-good e None a led = led
+withdrawn-good e (Some n) a led = booked e a.after (moved_at made_withdrawn n a.after.book) led
+
+-- a weak reference to a live value, where one is wanted
+referring-good : (e : Environment) (wanted : Bool) (n v : ℕ) → IsLiveAmong e.heap.values v → IsConsistentButFrames e → LeadsTo e (referring_if wanted n v e).after
+referring-good e false n v live g = unmoved e g
+referring-good e true n v live g =
+    referring e _ g (rows-more (λ o. IfSome o (IsLiveAmong e.heap.values)) n v 0 e.references live g.referred) (more-map n v 0 e.references g.references)
+
+attached-good : (e : Environment) (a : Attachments) (wanted : Bool) (n v : ℕ) → IsLiveAmong e.heap.values v → IsConsistentButFrames e
+    → LeadsTo e (referring_if wanted n v (with_attachments a e)).after
+attached-good e a wanted n v live g =
+    let new : Environment = with_attachments a e in
+    let led : LeadsTo new (referring_if wanted n v new).after = referring-good new wanted n v live (attaching e a g).good in
+    record { good = led.good; stay = led.stay }
+
+-- a new value with what is attached to it
+made-good : (e : Environment) (a : Attachments) (heap : Heap) → IsConsistentButFrames e → ComesTo e.heap heap → LeadsTo e (with_heap (with_attachments a e) heap)
+made-good e a heap g comes =
+    let led : LeadsTo (with_attachments a e) (with_heap (with_attachments a e) heap) = in-heap (with_attachments a e) heap (attaching e a g).good comes in
+    record { good = led.good; stay = led.stay }
 
 -- CALLS
 by-call : (e : Environment) (c : Call) (k : ℕ) → IsConsistentButFrames e → LeadsTo e (effect e c k).after
@@ -170,12 +205,19 @@ by-call e (call.ReferenceRef r) k g = counted-up-good e r.0 (referred_value e.re
 by-call e (call.ReferenceUnref r) k g = counted-good e r.0 _ g
 by-call e (call.GetReferenceValue r) k g =
     told-good e (referred_value e.references r.0) (row-of (λ o. IfSome o (IsLiveAmong e.heap.values)) r.0 e.references.rows tt g.referred) g
-by-call e (call.Wrap v payload None hint wanted) k g = attaching e _ g
+by-call e (call.Wrap v payload entry hint wanted) k g =
+    registered-good e (finalizer_if e payload entry hint) _ (attached-good e _ wanted k (handle_value e.heap v.0) (handle-live e.heap v.0 g.heap) g)
 by-call e (call.Unwrap v) k g = unmoved e g
-by-call e (call.RemoveWrap v) k g = attaching e _ g
+by-call e (call.RemoveWrap v) k g = withdrawn-good e (registered_only e.book (wrap_ticket e.attachments (handle_value e.heap v.0))) _ (attaching e _ g)
+by-call e (call.AddFinalizer v payload entry hint wanted) k g =
+    let a : Attachments = with_attached (handle_value e.heap v.0) (new_ticket e.book) e.attachments in
+    let led : LeadsTo e (referring_if wanted k (handle_value e.heap v.0) (with_attachments a e)).after =
+    attached-good e a wanted k (handle_value e.heap v.0) (handle-live e.heap v.0 g.heap) g in
+    booked e _ _ led
 by-call e (call.TypeTagObject v lower upper) k g = attaching e _ g
 by-call e (call.CheckObjectTypeTag v lower upper) k g = unmoved e g
-by-call e (call.CreateExternal payload None hint) k g = in-heap e _ g (with-new e.heap (body.External payload) g.heap)
+by-call e (call.CreateExternal payload entry hint) k g =
+    registered-good e (finalizer_if e payload entry hint) _ (made-good e _ _ g (with-new e.heap (body.External payload) g.heap))
 by-call e call.Collect k g = record {
   good = record {
     heap = heap-kept e g.heap;
@@ -205,7 +247,7 @@ pub call_change-follows : (e : Environment) (c : Call) (k : ℕ) → IsConsisten
 call_change-follows e c k old =
     let led : LeadsTo e _ = at-good e c k (early_refusal e c) (depth_refusal e.frames c) (parts-of e old) in
     let new : Environment = (call_change e c k).after in
-    let keeps : KeepsButAsk e new = call_change-keeps e c k in
+    let keeps : KeepsButAsk c e (call_change e c k).entry.reply new = call_change-keeps e c k in
     let good : IsConsistentButFrames new = record {
       heap = led.good.heap;
       referred = led.good.referred;

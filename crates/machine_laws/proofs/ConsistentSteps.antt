@@ -22,22 +22,23 @@ use Rattle.napi_types.specs.declared.entry.Why.{Why}
 use Rattle.napi_types.specs.declared.ids.HandleId.{HandleId}
 use Rattle.napi_types.specs.declared.status.Status.{Status}
 use Rattle.napi_types.specs.declared.status.Status.TheVariants as status
+use Rattle.napi_types.specs.Book.{Book, Registration, due_info, made_begun, moved_at, registration_at}
 use Rattle.napi_types.specs.Built.{built_ask}
-use Rattle.napi_types.specs.Changes.{opening_change, init_change, gone_change, in_phase, number_of}
+use Rattle.napi_types.specs.Changes.{opening_change, gone_change, in_phase, number_of}
 use Rattle.napi_types.specs.Ends.{end_change_by, uncut_call_end, end_change}
 use Rattle.napi_types.specs.Entering.{enter_change, function_change, asked_change}
 use Rattle.napi_types.specs.Environment.{Environment}
-use Rattle.napi_types.specs.Frames.{Frame, cause_of, most_frames, ask_counted}
+use Rattle.napi_types.specs.Frames.{Frame, frame_of, frame_of_duty, cause_of, most_frames, ask_counted}
 use Rattle.napi_types.specs.FunctionCalls.{left_value, with_receiver}
 use Rattle.napi_types.specs.Heap.{Heap}
 use Rattle.napi_types.specs.HeapChanges.{with_handle, with_frame, without_frame}
 use Rattle.napi_types.specs.Hub.{Hub, hub_next}
 use Rattle.napi_types.specs.Lists.{first_changed, tail, when}
-use Rattle.napi_types.specs.Loop.{Event, Opens, Inits, Goes, EndsLoop, Drains, FinalsCome, IsGone}
+use Rattle.napi_types.specs.Loop.{Event, Opens, Inits, Tickets, Goes, EndsLoop, Drains, FinalsCome, IsGone}
 use Rattle.napi_types.specs.Machine.{Machine}
 use Rattle.napi_types.specs.Refusals.{refusal, early_refusal, depth_refusal}
 use Rattle.napi_types.specs.Run.{after, final}
-use Rattle.napi_types.specs.Step.{Step, hub_moved, event_step, chosen, asked_step, frame_step, env_step, step_of, cut_of}
+use Rattle.napi_types.specs.Step.{Step, hub_moved, ticket_step, event_step, chosen, asked_step, frame_step, env_step, step_of, cut_of}
 use Rattle.napi_types.specs.Values.{undefined_value}
 use Rattle.machine_laws.specs.Consistency.{IsConsistent, IsLiveAmong}
 use Rattle.machine_laws.proofs.ConsistentAnswers.{IsConsistentButFrames, Follows, parts-of, whole-of, in-heap, call_change-follows}
@@ -66,12 +67,12 @@ then-follows : (a b c : Environment) → Follows a b → Follows b c → Follows
 then-follows a b c one two = record { good = two.good; stay = stays-then a.heap b.heap c.heap one.stay two.stay }
 
 -- THE END OF A FRAME
--- a frame ends, its heap is left for another, and an exception that is pending may be cleared
-ended-follows : (e : Environment) (heap : Heap) (pending : Option ℕ) (s : Status) → IsConsistent e → ComesTo e.heap heap
+-- a frame ends, its heap is left for another, an exception that is pending may be cleared, and the book may change
+ended-follows : (e : Environment) (heap : Heap) (pending : Option ℕ) (s : Status) (book : Book) → IsConsistent e → ComesTo e.heap heap
     → length heap.scopes ≡ length (tail e.heap.scopes) → IsConsistentButFrames (record e { heap = heap; pending = pending })
-    → Follows e (record e { heap = heap; frames = tail e.frames; pending = pending; last = s })
-ended-follows e heap pending s c comes same g =
-    let new : Environment = record e { heap = heap; frames = tail e.frames; pending = pending; last = s } in
+    → Follows e (record e { heap = heap; frames = tail e.frames; pending = pending; last = s; book = book })
+ended-follows e heap pending s book c comes same g =
+    let new : Environment = record e { heap = heap; frames = tail e.frames; pending = pending; last = s; book = book } in
     let good : IsConsistentButFrames new = record { heap = g.heap; referred = g.referred; references = g.references; pending = g.pending } in
     record {
       good = whole-of new good (same ∙ length-tail e.heap.scopes e.frames c.frames) (omega (arith, tail-shorter e.frames, c.depth));
@@ -83,7 +84,7 @@ kept-ended : (e : Environment) (heap : Heap) (s : Status) → IsConsistent e →
     → Follows e (record e { heap = heap; frames = tail e.frames; last = s })
 kept-ended e heap s c comes same =
     let g : IsConsistentButFrames (record e { heap = heap }) = (in-heap e heap (parts-of e c) comes).good in
-    ended-follows e heap e.pending s c comes same (record { heap = g.heap; referred = g.referred; references = g.references; pending = g.pending })
+    ended-follows e heap e.pending s e.book c comes same (record { heap = g.heap; referred = g.referred; references = g.references; pending = g.pending })
 
 left-live : (e : Environment) (v : Option HandleId) → IsConsistentHeap e.heap → IsLiveAmong e.heap.values (left_value e.heap v)
 left-live e None g = g.starting 0 0 (omega arith)
@@ -104,7 +105,7 @@ by-cause v None e cause.Call c = left-follows v e e.pending c
 by-cause v cut e _ c =
     let left : ComesTo e.heap (without_frame e.heap) = without-frame e.heap (parts-of e c).heap in
     let g : IsConsistentButFrames (record e { heap = without_frame e.heap }) = (in-heap e (without_frame e.heap) (parts-of e c) left).good in
-    ended-follows e (without_frame e.heap) None e.last c left refl (record { heap = g.heap; referred = g.referred; references = g.references; pending = tt })
+    ended-follows e (without_frame e.heap) None e.last _ c left refl (record { heap = g.heap; referred = g.referred; references = g.references; pending = tt })
 
 frame-follows : (v : Option HandleId) (cut : Option Why) (e : Environment) → IsConsistent e → Follows e (end_change v cut e).after
 frame-follows v cut e c = by-cause v cut e (cause_of e.frames) c
@@ -161,18 +162,20 @@ asked-follows : (e : Environment) (c : Call) (k : ℕ) → IsConsistent e → Fo
 asked-follows e (call.CallFunction receiver f args) k c = function_change-follows e receiver f args k (refusal e (call.CallFunction receiver f args)) refl c
 asked-follows e c k old = call_change-follows e c k old
 
--- EVENTS WITH NO FRAME
+-- EVENTS WHERE NO FRAME STANDS
 -- what is neither heap, references, pending exception nor frames may change
 other-follows : (e new : Environment) → IsConsistentButFrames new → length new.heap.scopes ≡ length e.heap.scopes → length new.frames ≡ length e.frames
     → HandlesStay e.heap new.heap → IsConsistent e → Follows e new
 other-follows e new g scopes frames stay c = record { good = whole-of new g (scopes ∙ c.frames ∙ sym frames) (omega (arith, frames, c.depth)); stay = stay }
 
-init-follows : (e : Environment) (n : ℕ) → e.frames ≡ [] → IsConsistent e → Follows e (init_change n e).after
-init-follows e n none c =
+-- an outermost frame begins, and addons that had theirs and the book may change
+begun-follows : (e : Environment) (inits : ℕ) (book : Book) (f : Frame) → e.frames ≡ [] → IsConsistent e
+    → Follows e (record e { inits = inits; book = book; heap = with_frame e.heap; frames = f ∷ e.frames })
+begun-follows e inits book f none c =
     let g : IsConsistentButFrames e = parts-of e c in
     let frame : ComesTo e.heap (with_frame e.heap) = with-frame e.heap g.heap in
     let led : IsConsistentButFrames (record e { heap = with_frame e.heap }) = (in-heap e (with_frame e.heap) g frame).good in
-    let new : Environment = (init_change n e).after in
+    let new : Environment = record e { inits = inits; book = book; heap = with_frame e.heap; frames = f ∷ e.frames } in
     let good : IsConsistentButFrames new = record { heap = led.heap; referred = led.referred; references = led.references; pending = led.pending } in
     record { good = whole-of new good (ap suc c.frames) (omega (arith, ap length none)); stay = frame.stay }
 
@@ -187,12 +190,17 @@ hub-follows m event p o (Some h) c =
     let good : IsConsistentButFrames (in_phase p m.env) = record { heap = g.heap; referred = g.referred; references = g.references; pending = g.pending } in
     other-follows m.env (in_phase p m.env) good refl refl (stays m.env.heap) c
 
+ticket-follows : (m : Machine) (n : ℕ) (r : Option Registration) → m.env.frames ≡ [] → IsConsistent m.env → StepFollows m (ticket_step m n r)
+ticket-follows m n None none c = same-follows m.env c
+ticket-follows m n (Some r) none c = begun-follows m.env m.env.inits (moved_at made_begun n m.env.book) (frame_of_duty (due_info n r)) none c
+
 event-follows : (m : Machine) (event : Event) → m.env.frames ≡ [] → IsConsistent m.env → StepFollows m (event_step m event)
 event-follows m Opens none c =
     let g : IsConsistentButFrames m.env = parts-of m.env c in
     let good : IsConsistentButFrames (opening_change m.env).after = record { heap = g.heap; referred = g.referred; references = g.references; pending = g.pending } in
     other-follows m.env (opening_change m.env).after good refl refl (stays m.env.heap) c
-event-follows m (Inits n) none c = init-follows m.env n none c
+event-follows m (Inits n) none c = begun-follows m.env (m.env.inits + 1) m.env.book (frame_of cause.Init n 0) none c
+event-follows m (Tickets n) none c = ticket-follows m n (registration_at m.env.book n) none c
 event-follows m Goes none c = hub-follows m host.Go phase.Live out.Nothing (hub_next m.hub host.Go) c
 event-follows m (EndsLoop w) none c = hub-follows m host.LoopEnd phase.Hooks (out.Ended w) (hub_next m.hub host.LoopEnd) c
 event-follows m Drains none c = hub-follows m host.Drain phase.Drain (out.Unsigned 0) (hub_next m.hub host.Drain) c

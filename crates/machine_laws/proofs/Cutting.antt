@@ -3,6 +3,7 @@ use Rattle.std.proofs.Common.{◌≡◌, ◌<◌, ℕ, ◌==◌, ◌&&◌, false
 use Rattle.napi_types.specs.declared.call.Ask.{Ask}
 use Rattle.napi_types.specs.declared.call.Ask.TheVariants as ask
 use Rattle.napi_types.specs.declared.call.Call.{Call}
+use Rattle.napi_types.specs.declared.call.Call.TheVariants as call
 use Rattle.napi_types.specs.declared.entry.Actor.{Actor}
 use Rattle.napi_types.specs.declared.entry.Actor.TheVariants as actor
 use Rattle.napi_types.specs.declared.entry.Entry.{Entry}
@@ -11,17 +12,18 @@ use Rattle.napi_types.specs.declared.entry.Why.{Why}
 use Rattle.napi_types.specs.declared.entry.Why.TheVariants as why
 use Rattle.napi_types.specs.Built.{is_built, built_ask}
 use Rattle.napi_types.specs.Changes.{is_fresh_result, may_ask, may_call}
-use Rattle.machine_laws.specs.Cuts.{cut_by, first_called}
+use Rattle.machine_laws.specs.Cuts.{cut_by, first_called, two_left}
 use Rattle.napi_types.specs.declared.entry.Cause.{Cause}
 use Rattle.napi_types.specs.declared.entry.Cause.TheVariants as cause
 use Rattle.napi_types.specs.Ends.{end_change_by, end_change}
 use Rattle.napi_types.specs.Environment.{Environment}
+use Rattle.napi_types.specs.Guards.{is_registering}
 use Rattle.napi_types.specs.Machine.{Machine}
 use Rattle.napi_types.specs.Room.{room_of, may_want_memory, need, is_full}
 use Rattle.napi_types.specs.Run.{IsNext}
 use Rattle.napi_types.specs.Frames.{Frame, cause_of, is_asking, asks_made}
 use Rattle.napi_types.specs.Step.{Step, env_step, step_of, frame_step, cut_of}
-use Rattle.napi_types.proofs.FrameChanges.{needs-place}
+use Rattle.napi_types.proofs.Answers.{needs-place}
 use Rattle.napi_types.proofs.Rooms.{built-room}
 use Rattle.napi_types.proofs.Runs.{and-left, and-right}
 
@@ -92,13 +94,35 @@ full-only m c f fs e full early o None h =
     let P : Bool → Type 0 = λ b. IsTrue (may_call m.env && is_fresh_result m.env o && not b) in
     let k : IsTrue false = and-right (may_call m.env && is_fresh_result m.env o) false (subst P full h) in cc
 
--- at this ask, after the first call in the tight journal: whatever may come is the entry, ..
-abbrev pub Steps : Entry → Ask → Type 0
-Steps y a = (o : Out) (w : Option Why) → IsTrue (frame_step first_called a o w).may → (frame_step first_called a o w).entry ≡ y
+-- at this ask of a frame: whatever may come is the entry, ..
+abbrev pub Steps : Machine → Entry → Ask → Type 0
+Steps m y a = (o : Out) (w : Option Why) → IsTrue (frame_step m a o w).may → (frame_step m a o w).entry ≡ y
 
 -- .. and it may come
-abbrev pub MayStand : Out → Option Why → Entry → Ask → Type 0
-MayStand o w y a = (y ≡ (frame_step first_called a o w).entry) × IsTrue (frame_step first_called a o w).may
+abbrev pub MayStand : Machine → Out → Option Why → Entry → Ask → Type 0
+MayStand m o w y a = (y ≡ (frame_step m a o w).entry) × IsTrue (frame_step m a o w).may
+
+-- what a call that is built is taken for
+pub built-asks : (c : Call) → is_built c ≡ true → built_ask (ask.Do c) ≡ ask.Do c
+built-asks c built = rw built refl
+
+-- where two places are left a call that registers is full
+needs-three : (c : Call) → is_built c ≡ true → is_registering c ≡ true → need c ≡ 3
+needs-three (call.CreateExternal payload None hint) built registers = cc
+needs-three (call.CreateExternal payload (Some entry) hint) built registers = refl
+needs-three (call.Wrap h payload None hint wanted) built registers = cc
+needs-three (call.Wrap h payload (Some entry) hint wanted) built registers = refl
+needs-three (call.AddFinalizer h payload entry hint wanted) built registers = refl
+needs-three (call.SetInstanceData payload finalizer hint) built registers = cc
+needs-three (call.AddEnvCleanupHook entry arg) built registers = cc
+needs-three (call.CreateAsyncWork job completion payload) built registers = cc
+needs-three (call.QueueAsyncWork w) built registers = cc
+needs-three (call.CreateThreadsafeFunction f entry most initial finalizer context) built registers = cc
+needs-three (call.CallThreadsafeFunction f payload mode) built registers = cc
+needs-three c built registers = cc
+
+pub two-full : (c : Call) → is_built c ≡ true → is_registering c ≡ true → is_full (room_of two_left c) c ≡ true
+two-full c built registers = ap (λ x. is_full x c) (built-room two_left c built) ∙ ap (λ n. nat_lt 6 (4 + n)) (needs-three c built registers)
 
 -- the cut after the last ask may come there, and not before
 told-cut : (c : Cause) (w : Why) → cut_of (cut_by c w).reply.out ≡ Some w

@@ -1,4 +1,5 @@
 mod Asks
+mod Beginning
 mod Children
 mod Choosing
 mod Collected
@@ -18,5 +19,6 @@ mod Misses
 mod Naming
 mod Rising
 mod Rows
+mod Settling
 mod StableHandles
 mod Unordered

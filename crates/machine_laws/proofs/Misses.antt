@@ -1,8 +1,10 @@
 -- What it takes to show that entries are no run.
-use Rattle.std.proofs.Common.{◌≡◌, ℕ, Bool, false, List, [], IsTrue, subst, slice_index_or}
+use Rattle.std.proofs.Common.{◌≡◌, ℕ, Bool, false, List, [], IsTrue, Option, Some, subst, slice_index_or}
 use Rattle.napi_types.specs.declared.call.Ask.{Ask}
 use Rattle.napi_types.specs.declared.entry.Actor.{Actor}
 use Rattle.napi_types.specs.declared.entry.Actor.TheVariants as actor
+use Rattle.napi_types.specs.declared.entry.Duty.{Duty}
+use Rattle.napi_types.specs.declared.entry.Duty.TheVariants as duty
 use Rattle.napi_types.specs.declared.entry.Entry.{Entry}
 use Rattle.napi_types.specs.declared.entry.HostStep.TheVariants as host
 use Rattle.napi_types.specs.declared.entry.LoopEnd.{LoopEnd}
@@ -48,6 +50,15 @@ told_text d _ = d
 abbrev pub told_reason : LoopEnd → Out → LoopEnd
 told_reason d (out.Ended e) = e
 told_reason d _ = d
+
+-- the ticket whose frame begins
+abbrev ticket_of : ℕ → Option Duty → ℕ
+ticket_of d (Some (duty.Ticket n)) = n.0
+ticket_of d _ = d
+
+abbrev pub told_ticket : ℕ → Out → ℕ
+told_ticket d (out.Begin cause addon entry due) = ticket_of d due
+told_ticket d _ = d
 
 -- a run of a script whose plans are all told is one at its told asks
 pub told-steps : (s : Setting) (xs : List Entry) → IsTrue (all_told s) → IsRun s xs → IsRunBy (opening_of s) (told_asks s xs) xs

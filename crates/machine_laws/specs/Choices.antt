@@ -1,16 +1,21 @@
 -- Which event comes next where no frame stands.
-use Rattle.std.specs.Prelude.{◌≡◌, ◌≤◌, Bool, true, false, List, [], ◌∷◌, Some, None}
+use Rattle.std.specs.Prelude.{◌≡◌, ◌<◌, ◌≤◌, ℕ, Bool, true, false, List, [], ◌∷◌, Some, None}
 use Rattle.napi_types.specs.declared.call.Ask.{Ask}
+use Rattle.napi_types.specs.declared.entry.Cause.{Cause}
 use Rattle.napi_types.specs.declared.entry.Cause.TheVariants as cause
+use Rattle.napi_types.specs.declared.entry.Duty.{Duty}
 use Rattle.napi_types.specs.declared.entry.Entry.{Entry}
 use Rattle.napi_types.specs.declared.entry.HostStep.TheVariants as host
 use Rattle.napi_types.specs.declared.entry.Out.{Out}
 use Rattle.napi_types.specs.declared.entry.Out.TheVariants as out
+use Rattle.napi_types.specs.declared.entry.Phase.{Phase}
 use Rattle.napi_types.specs.declared.entry.Phase.TheVariants as phase
 use Rattle.napi_types.specs.declared.entry.What.{What}
 use Rattle.napi_types.specs.declared.entry.What.TheVariants as what
+use Rattle.napi_types.specs.Book.{Book, Registration, is_due, is_at, due_info, lowest_due, registration_at, owed_tickets, ticket_duty}
+use Rattle.napi_types.specs.Changes.{host_entry}
 use Rattle.napi_types.specs.Choice.{local_choice, hub_choice}
-use Rattle.napi_types.specs.Frames.{Frame, begin_told}
+use Rattle.napi_types.specs.Frames.{Frame, frame_of_duty, begin_told}
 use Rattle.napi_types.specs.Hub.{Hub, Final}
 use Rattle.napi_types.specs.Loop.{Event}
 use Rattle.napi_types.specs.Machine.{Machine}
@@ -81,6 +86,46 @@ GoComesAfterInitFrames = (m : Machine) (a : Ask) (x : Entry) → IsNext m a x �
 abbrev pub GoneComesAfterFinals : Type 0
 GoneComesAfterFinals = (m : Machine) (a : Ask) (x : Entry) → IsNext m a x → x.what ≡ what.Host host.Gone → (m.env.frames ≡ []) × (m.env.phase ≡ phase.Finals)
 
+-- TICKETS
+-- the phases in which tickets begin: the loop, and the last one before the end
+abbrev pub begins_tickets : Phase → Bool
+begins_tickets phase.Live = true
+begins_tickets phase.Finals = true
+begins_tickets _ = false
+
+-- the entry is the begin of the frame of this ticket, which is due
+pub record IsOfTicket (m : Machine) (n : ℕ) (x : Entry) : Type 0 where
+  pub registration : Registration
+  pub there : registration_at m.env.book n ≡ Some registration
+  pub due : is_due registration.state ≡ true
+  pub entry : x ≡ host_entry host.Begin (begin_told (frame_of_duty (due_info n registration)))
+
+-- in these phases the lowest ticket that is due comes first: before the loop ends, and before the environment is gone
+abbrev pub LowestDueTicketComesFirst : Type 0
+LowestDueTicketComesFirst = (m : Machine) (n : ℕ) (a : Ask) (x : Entry) → m.env.frames ≡ [] → begins_tickets m.env.phase ≡ true → lowest_due m.env.book ≡ Some n
+    → IsNext m a x → IsOfTicket m n x
+
+-- the duty that begins a frame is that of the lowest ticket that is due, and no frame stands
+pub record BeginsLowest (m : Machine) (d : Duty) : Type 0 where
+  pub ticket : ℕ
+  pub duty : d ≡ ticket_duty ticket
+  pub alone : m.env.frames ≡ []
+  pub phase : begins_tickets m.env.phase ≡ true
+  pub lowest : lowest_due m.env.book ≡ Some ticket
+
+-- a duty begins a frame in these phases alone: in the phases before the loop, of the hooks and of the drain what is due waits
+abbrev pub FinalizersBeginInTheLoopOrAtTheEnd : Type 0
+FinalizersBeginInTheLoopOrAtTheEnd = (m : Machine) (a : Ask) (x : Entry) (c : Cause) (addon entry : ℕ) (d : Duty) → IsNext m a x
+    → x.what ≡ what.Host host.Begin → x.reply.out ≡ out.Begin c addon entry (Some d) → BeginsLowest m d
+
+-- it is the lowest: it is due, and none below it is
+pub record IsLowestDue (book : Book) (n : ℕ) : Type 0 where
+  pub due : is_at is_due book n ≡ true
+  pub below : (k : ℕ) → k < n → is_at is_due book k ≡ false
+
+abbrev pub LowestDueIsLowest : Type 0
+LowestDueIsLowest = (book : Book) (n : ℕ) → lowest_due book ≡ Some n → IsLowestDue book n
+
 -- EVENTS OF RUNS
 -- at every moment of a run the hub is as far as the phase says
 abbrev pub HubIsInPhase : Type 0
@@ -98,11 +143,12 @@ abbrev pub GoComesOnlyAfterInitFrames : Type 0
 GoComesOnlyAfterInitFrames = (s : Setting) (bs : List Ask) (xs : List Entry) (a : Ask) (x : Entry) → IsRunBy (opening_of s) bs xs
     → IsNext (final_of s bs xs) a x → x.what ≡ what.Host host.Go → IsReadyToGo (final_of s bs xs)
 
--- .. and `gone` comes once the hub has made its last event
+-- .. and `gone` comes once the hub has made its last event, and each finalizer has begun or was withdrawn
 pub record IsReadyToEnd (m : Machine) : Type 0 where
   pub phase : m.env.phase ≡ phase.Finals
   pub alone : m.env.frames ≡ []
   pub stage : m.hub.stage ≡ Final
+  pub spent : owed_tickets m.env.book ≡ 0
 
 abbrev pub GoneComesOnlyAfterFinals : Type 0
 GoneComesOnlyAfterFinals = (s : Setting) (bs : List Ask) (xs : List Entry) (a : Ask) (x : Entry) → IsRunBy (opening_of s) bs xs

@@ -1,5 +1,5 @@
 -- Where a frame is cut.
-use Rattle.std.specs.Prelude.{◌≡◌, ◌<◌, true, false, List, [], ◌∷◌, ◌++◌, Option, None}
+use Rattle.std.specs.Prelude.{◌≡◌, ◌<◌, ℕ, Bool, true, false, List, [], ◌∷◌, ◌++◌, Option, Some, None}
 use Rattle.napi_types.specs.declared.call.Ask.{Ask}
 use Rattle.napi_types.specs.declared.call.Ask.TheVariants as ask
 use Rattle.napi_types.specs.declared.call.Call.{Call}
@@ -18,12 +18,14 @@ use Rattle.napi_types.specs.declared.status.Status.TheVariants as status
 use Rattle.napi_types.specs.Built.{is_built}
 use Rattle.napi_types.specs.Changes.{host_told, host_entry}
 use Rattle.napi_types.specs.Ends.{end_change}
+use Rattle.napi_types.specs.Guards.{is_registering}
 use Rattle.napi_types.specs.Machine.{Machine}
 use Rattle.napi_types.specs.Plan.{Plan, Registers, asked}
+use Rattle.napi_types.specs.Refusals.{refusal}
 use Rattle.napi_types.specs.Room.{need}
 use Rattle.napi_types.specs.Run.{IsNext}
 use Rattle.napi_types.specs.Frames.{Frame}
-use Rattle.machine_laws.specs.RunWords.{call_at, opening_entries}
+use Rattle.machine_laws.specs.RunWords.{call_at, call_making, ticket, opening_entries}
 use Rattle.napi_types.specs.Setting.{Setting, RunsBy, final_of}
 
 -- the end by a cut of a frame that began for this reason: that of a call's frame says that the call failed
@@ -36,9 +38,13 @@ abbrev pub IsOnlyNext : Machine → Ask → Entry → Type 0
 IsOnlyNext m a x = IsNext m a x × ((y : Entry) → IsNext m a y → y ≡ x)
 
 -- A TIGHT JOURNAL
--- a script of one addon that tells no plan, with room for five entries in the journal: four are needed without any call
+-- a script of one addon that tells no plan, with room for so many entries in the journal: four are needed without any call
+abbrev pub script_within : ℕ → Setting
+script_within room = record { plans = None ∷ []; texts = 3; limits = record { journal = room; history = 4 } }
+
+-- one place is left for calls
 abbrev pub tight : Setting
-tight = record { plans = None ∷ []; texts = 3; limits = record { journal = 5; history = 4 } }
+tight = script_within 5
 
 -- what is asked until the addon's frame has begun: nothing
 abbrev pub opening_asks : List Ask
@@ -79,6 +85,24 @@ FullAtSecondCall = (c : Call) → is_built c ≡ true → IsOnlyNext first_calle
 -- an addon that asks another call is taken to leave
 abbrev pub LeavesAtUnbuiltCall : Type 0
 LeavesAtUnbuiltCall = (c : Call) → is_built c ≡ false → IsOnlyNext first_called (ask.Do c) (host_entry host.End out.Nothing)
+
+-- A CALL THAT REGISTERS
+-- the machine as the frame has begun, where two places are left for calls
+abbrev pub two_left : Machine
+two_left = final_of (script_within 6) opening_asks opening_entries
+
+-- an external with a finalizer, as it is made
+abbrev pub external_made : ℕ → ℕ → ℕ → Entry
+external_made payload entry hint = call_making 0 (call.CreateExternal payload (Some entry) hint) status.Ok (out.Handle (record { 0 = 1 })) (ticket 1)
+
+pub record RegistersWithThreePlaces : Type 0 where
+  -- with two places left the frame is cut as full at each call that registers, and nothing else may come, ..
+  pub full : (c : Call) → is_built c ≡ true → is_registering c ≡ true → IsOnlyNext two_left (ask.Do c) (cut_by cause.Init why.Full)
+  -- .. also at one that would be refused: no handle is held there
+  pub refused : (h : HandleId) (payload entry hint : ℕ) (wanted : Bool) → refusal two_left.env (call.AddFinalizer h payload entry hint wanted) ≡ Some status.InvalidArg
+  -- with three it has its places
+  pub room : (payload entry hint : ℕ)
+      → RunsBy (script_within 7) (opening_asks ++ ask.Do (call.CreateExternal payload (Some entry) hint) ∷ []) (opening_entries ++ external_made payload entry hint ∷ [])
 
 -- THE LAST ASK
 -- a frame that has made 65,536 asks is cut for that whatever it would ask, and nothing else may come

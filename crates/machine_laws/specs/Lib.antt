@@ -5,8 +5,11 @@ pub mod Computing
 pub mod Consistency
 pub mod ConsistencyMisses
 pub mod Cuts
+pub mod Cycle
 pub mod Depth
 pub mod EscapeTwice
+pub mod ExternalsTagsFinalizers
+pub mod FinalizerLaws
 pub mod FirstRun
 pub mod HandleAfterScope
 pub mod HandleLaws
@@ -22,4 +25,5 @@ pub mod StaleHandle
 pub mod StrongAndWeak
 pub mod Told
 pub mod TwoAddons
+pub mod WrapTwice
 pub mod WrapsAndTags

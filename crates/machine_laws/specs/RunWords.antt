@@ -1,5 +1,5 @@
 -- Words that small runs are written by.
-use Rattle.std.specs.Prelude.{ℕ, ◌+◌, List, [], ◌∷◌, ◌++◌, take, drop, Some, None, codes}
+use Rattle.std.specs.Prelude.{ℕ, ◌+◌, List, [], ◌∷◌, ◌++◌, take, drop, Option, Some, None, codes}
 use Rattle.napi_types.specs.declared.call.Call.{Call}
 use Rattle.napi_types.specs.declared.op.Op.{Op}
 use Rattle.napi_types.specs.declared.status.Status.{Status}
@@ -12,6 +12,9 @@ use Rattle.napi_types.specs.declared.entry.LoopEnd.TheVariants as loop_end
 use Rattle.napi_types.specs.declared.entry.Out.{Out}
 use Rattle.napi_types.specs.declared.entry.Out.TheVariants as out
 use Rattle.napi_types.specs.declared.entry.What.TheVariants as what
+use Rattle.napi_types.specs.declared.entry.Duty.{Duty}
+use Rattle.napi_types.specs.declared.entry.Reply.{Reply}
+use Rattle.napi_types.specs.Book.{ticket_duty}
 use Rattle.napi_types.specs.Replies.{plain}
 use Rattle.napi_types.specs.Changes.{host_told, host_entry}
 use Rattle.napi_types.specs.Setting.{Setting}
@@ -31,13 +34,29 @@ script_of_entries entries = record {
 abbrev pub script_of : List Op → Setting
 script_of operations = script_of_entries (operations ∷ [])
 
--- a call where so many frames stand: the number of the ask, the call, its status and its result
+-- a call where so many frames stand: the number of the ask, the call and its reply
+abbrev pub call_replied : ℕ → ℕ → Call → Reply → Entry
+call_replied depth n c r = record { actor = actor.Env; depth = depth; step = n; what = what.Call c; reply = r; given = None }
+
+-- one that makes no duty and withdraws none, with its status and its result
 abbrev pub call_in : ℕ → ℕ → Call → Status → Out → Entry
-call_in depth n c s o = record { actor = actor.Env; depth = depth; step = n; what = what.Call c; reply = plain s o; given = None }
+call_in depth n c s o = call_replied depth n c (plain s o)
 
 -- a call in the only frame
 abbrev pub call_at : ℕ → Call → Status → Out → Entry
 call_at n c s o = call_in 1 n c s o
+
+-- the same of a call that makes a duty, where it makes one, ..
+abbrev pub call_making : ℕ → Call → Status → Out → Option Duty → Entry
+call_making n c s o d = call_replied 1 n c (record (plain s o) { made = d })
+
+-- .. and of one that withdraws a duty, where it withdraws one
+abbrev pub call_dropping : ℕ → Call → Status → Out → Option Duty → Entry
+call_dropping n c s o d = call_replied 1 n c (record (plain s o) { dropped = d })
+
+-- the duty of a ticket that a call makes or withdraws
+abbrev pub ticket : ℕ → Option Duty
+ticket n = Some (ticket_duty n)
 
 -- the begin of a call's frame, of this entry of the only addon
 abbrev pub call_begins : ℕ → Entry
@@ -63,9 +82,16 @@ frame_end = host_entry host.End out.Nothing
 abbrev pub loop_ended : LoopEnd → Entry
 loop_ended reason = host_entry host.LoopEnd (out.Ended reason)
 
--- .. the history's four, ..
+-- .. the history's four, that after which the loop begins, ..
+abbrev pub go_entry : Entry
+go_entry = host_entry host.Go out.Nothing
+
+-- .. and those from its end on, ..
+abbrev pub ending_events : List Entry
+ending_events = loop_ended loop_end.Idle ∷ host_entry host.Drain (out.Unsigned 0) ∷ host_entry host.Finals out.Nothing ∷ []
+
 abbrev pub great_events : List Entry
-great_events = host_entry host.Go out.Nothing ∷ loop_ended loop_end.Idle ∷ host_entry host.Drain (out.Unsigned 0) ∷ host_entry host.Finals out.Nothing ∷ []
+great_events = go_entry ∷ ending_events
 
 -- .. and the end of the run
 abbrev pub gone_entry : Entry
@@ -74,6 +100,18 @@ gone_entry = host_entry host.Gone out.Nothing
 -- a whole run of one init frame without shared calls: its calls among these events
 abbrev pub run_of_calls : List Entry → List Entry
 run_of_calls calls = opening_entries ++ calls ++ frame_end ∷ great_events ++ gone_entry ∷ []
+
+-- the begin of the frame of a finalizer of this ticket, which runs entry 1 of the only addon
+abbrev pub finalizer_begins : ℕ → Entry
+finalizer_begins n = host_entry host.Begin (out.Begin cause.Finalize 0 1 (ticket n))
+
+-- its frame, with these calls
+abbrev pub finalizer_runs : ℕ → List Entry → List Entry
+finalizer_runs n calls = finalizer_begins n ∷ calls ++ frame_end ∷ []
+
+-- a whole run of one init frame and of finalizers: its calls, the frames that begin in the loop, and those that begin after `finals`
+abbrev pub run_of_finalizers : List Entry → List Entry → List Entry → List Entry
+run_of_finalizers calls in_loop at_end = opening_entries ++ calls ++ frame_end ∷ go_entry ∷ in_loop ++ ending_events ++ at_end ++ gone_entry ∷ []
 
 -- the entries without the one at this place, counted from 0
 abbrev pub left_out : ℕ → List Entry → List Entry

@@ -3,6 +3,7 @@ ghost use Rattle.machine_laws.specs.Told.{EndsAsTold};
 ghost use Rattle.machine_laws.specs.Choices.{NoneIsChosenInFrames, BeginsTellTheirFrames, OwnEventsComeFirst, HubEventsComeLast};
 ghost use Rattle.machine_laws.specs.Choices.{GoComesAfterInitFrames, GoneComesAfterFinals, HubIsInPhase};
 ghost use Rattle.machine_laws.specs.Choices.{GoComesOnlyAfterInitFrames, GoneComesOnlyAfterFinals};
+ghost use Rattle.machine_laws.specs.Choices.{LowestDueTicketComesFirst, FinalizersBeginInTheLoopOrAtTheEnd, LowestDueIsLowest};
 ghost use Rattle.machine_laws.specs.TwoAddons as two_addons;
 
 /// Where a frame stands no event is chosen: what comes is a call, the begin of a call's frame, or the end of a frame.
@@ -35,6 +36,21 @@ pub fn gone_comes_after_finals()
     ensures { GoneComesAfterFinals }
 {}
 
+/// In the loop and after `finals` the lowest ticket that is due comes first, before the event of the hub and before `gone`.
+pub fn lowest_due_ticket_comes_first()
+    ensures { LowestDueTicketComesFirst }
+{}
+
+/// A finalizer begins in the loop or after `finals`, where no frame stands, and is the lowest that is due. In every other phase it waits.
+pub fn finalizers_begin_in_the_loop_or_at_the_end()
+    ensures { FinalizersBeginInTheLoopOrAtTheEnd }
+{}
+
+/// The lowest ticket that is due is due, and none below it is.
+pub fn lowest_due_is_lowest()
+    ensures { LowestDueIsLowest }
+{}
+
 /// At every moment of a run the hub is as far as the environment's phase says.
 pub fn hub_is_in_phase()
     ensures { HubIsInPhase }
@@ -45,7 +61,7 @@ pub fn go_comes_only_after_init_frames()
     ensures { GoComesOnlyAfterInitFrames }
 {}
 
-/// In a run `gone` comes after `finals` alone, once the hub has made its last event.
+/// In a run `gone` comes after `finals` alone, once the hub has made its last event and each finalizer has begun or was withdrawn.
 pub fn gone_comes_only_after_finals()
     ensures { GoneComesOnlyAfterFinals }
 {}

@@ -6,6 +6,8 @@
 pub mod calls;
 pub mod choices;
 pub mod cuts;
+pub mod finalizer_runs;
+pub mod finalizers;
 pub mod function_runs;
 pub mod handles;
 pub mod maps;

@@ -1,4 +1,4 @@
-use Rattle.machine_laws.proofs.Choosing.{gone-of-runs}
+use Rattle.machine_laws.proofs.Settling.{gone-of-runs}
 use Rattle.machine_laws.proofs.choices.gone_comes_only_after_finals.Goals as goal
 
 pub returns : goal.returns

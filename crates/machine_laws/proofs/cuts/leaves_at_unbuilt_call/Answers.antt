@@ -25,8 +25,8 @@ leaves-only o (Some why.Memory) h = cc
 
 leaves : (c : Call) → is_built c ≡ false → IsOnlyNext first_called (ask.Do c) (host_entry host.End out.Nothing)
 leaves c b = (
-  subst (λ a. MayStand out.Nothing None (host_entry host.End out.Nothing) a) (sym (unbuilt c b)) (refl, refl),
-  only-in-frame first_called (ask.Do c) _ _ (host_entry host.End out.Nothing) refl (subst (λ a. Steps (host_entry host.End out.Nothing) a) (sym (unbuilt c b)) leaves-only),
+  subst (λ a. MayStand first_called out.Nothing None (host_entry host.End out.Nothing) a) (sym (unbuilt c b)) (refl, refl),
+  only-in-frame first_called (ask.Do c) _ _ (host_entry host.End out.Nothing) refl (subst (λ a. Steps first_called (host_entry host.End out.Nothing) a) (sym (unbuilt c b)) leaves-only),
 )
 
 pub returns : goal.returns

@@ -1,4 +1,4 @@
-use Rattle.std.proofs.Common.{List, [], ◌∷◌, IsTrue, refl, Option, Some, None}
+use Rattle.std.proofs.Common.{ℕ, List, [], ◌∷◌, IsTrue, refl, Option, Some, None}
 use Rattle.napi_types.specs.declared.call.Ask.{Ask}
 use Rattle.napi_types.specs.declared.call.Ask.TheVariants as ask
 use Rattle.napi_types.specs.declared.entry.Actor.{Actor}
@@ -11,13 +11,14 @@ use Rattle.napi_types.specs.declared.entry.Out.TheVariants as out
 use Rattle.napi_types.specs.declared.entry.Phase.{Phase}
 use Rattle.napi_types.specs.declared.entry.Phase.TheVariants as phase
 use Rattle.napi_types.specs.declared.entry.Why.{Why}
+use Rattle.napi_types.specs.Book.{Registration, registration_at}
 use Rattle.napi_types.specs.Built.{built_ask}
 use Rattle.napi_types.specs.Choice.{choice}
 use Rattle.napi_types.specs.Frames.{Frame}
 use Rattle.napi_types.specs.Hub.{Hub, hub_next}
-use Rattle.napi_types.specs.Loop.{Event, Goes, EndsLoop, Drains, FinalsCome}
+use Rattle.napi_types.specs.Loop.{Event, Tickets, Goes, EndsLoop, Drains, FinalsCome}
 use Rattle.napi_types.specs.Machine.{Machine}
-use Rattle.napi_types.specs.Step.{Step, hub_moved, event_step, chosen, frame_step, env_step, step_of, cut_of}
+use Rattle.napi_types.specs.Step.{Step, hub_moved, ticket_step, event_step, chosen, frame_step, env_step, step_of, cut_of}
 use Rattle.machine_laws.specs.RunLaws.{GrowsOn, EntriesCountOnTheirList}
 use Rattle.machine_laws.proofs.runs.entries_count_on_their_list.Goals as goal
 
@@ -29,7 +30,12 @@ moved-counts : (m : Machine) (event : HostStep) (p : Phase) (o : Out) (h : Optio
 moved-counts m event p o None t = cc
 moved-counts m event p o (Some h) t = (refl, refl)
 
+ticket-counts : (m : Machine) (n : ℕ) (r : Option Registration) → Counts m (ticket_step m n r)
+ticket-counts m n None t = cc
+ticket-counts m n (Some r) t = (refl, refl)
+
 event-counts : (m : Machine) (event : Event) → Counts m (event_step m event)
+event-counts m (Tickets n) t = ticket-counts m n (registration_at m.env.book n) t
 event-counts m Goes t = moved-counts m host.Go phase.Live out.Nothing (hub_next m.hub host.Go) t
 event-counts m (EndsLoop w) t = moved-counts m host.LoopEnd phase.Hooks (out.Ended w) (hub_next m.hub host.LoopEnd) t
 event-counts m Drains t = moved-counts m host.Drain phase.Drain (out.Unsigned 0) (hub_next m.hub host.Drain) t
