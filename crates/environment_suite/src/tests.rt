@@ -4,7 +4,7 @@ ghost use Rattle.std.specs.Prelude.{◌+◌, ◌*◌, ◌≤◌, ◌<◌, ◌≢
 ghost use Rattle.napi_types.specs.Room.{most_entries};
 
 use env_core::{EnvCore, Stepped};
-use napi_types::{Call, HandleId, Limits, NAPI_VERSION, Out, Status, Why};
+use napi_types::{Call, Duty, HandleId, Limits, NAPI_VERSION, Out, Status, Why};
 use std::alloc::Global;
 use std::process::Abort;
 use std::test::Fail;
@@ -12,8 +12,10 @@ use std::test::Fail;
 mod calls;
 mod cuts;
 mod duties;
+mod finalizers;
 mod many_names;
 mod numbers;
+mod registered;
 mod texts;
 mod turns;
 
@@ -23,10 +25,11 @@ type Told = (&'static str, u64);
 /// A result that tells nothing.
 const NOTHING: Told = ("nothing", 0);
 
-/// No frame is entered.
+/// No frame is entered, and no ticket is made or withdrawn.
 const NO_GIFTS: [u64; 8] = [0; 8];
 
-/// What something comes to: a status and a result, and the gifts of a frame that was entered.
+/// What something comes to: a status and a result, and the gifts of a frame that was entered, or the ticket that was made and the
+/// one that was withdrawn.
 type Found = (Status, Told, [u64; 8]);
 
 /// What is done with an environment, and what it is to answer.
@@ -38,6 +41,10 @@ enum Act {
     Accepted(Call),
     /// A call that is accepted and tells this.
     Told(Call, Told),
+    /// A call that is accepted, tells this, and registers under this ticket.
+    Registered(Call, Told, u64),
+    /// A call that is accepted, tells this, and withdraws this ticket.
+    Withdrawn(Call, Told, u64),
     /// A call that is refused with this status.
     Refused(Call, Status),
     /// A call of a function that enters a frame of this entry of the first addon, with these gifts.
@@ -56,6 +63,8 @@ enum Act {
     Depth(u32),
     /// So many entries stand in the journal.
     Journal(usize),
+    /// So many places of the journal are neither taken nor promised.
+    Room(u32),
 }
 
 /// An environment in the init frame of its first addon, where there are so many addons and texts.
@@ -91,7 +100,7 @@ fn stepped(core: &mut EnvCore, call: &Call) -> Result<Stepped, Fail> {
     Ok(core.step(frame.asks, call))
 }
 
-/// What a result tells.
+/// What a result tells: of the begin of a frame the ticket that began it, 0 where none did.
 fn told(out: Out) -> Told {
     match out {
         Out::Nothing => NOTHING,
@@ -100,6 +109,7 @@ fn told(out: Out) -> Told {
         Out::Handle(handle) => ("handle", handle.0),
         Out::Flag(flag) => ("flag", flag as u64),
         Out::Ref(reference) => ("reference", reference.0),
+        Out::Begin(_, _, _, duty) => ("begin", ticket_of(duty)),
         Out::Uncaught => ("uncaught", 0),
         Out::Cut(Why::Memory) => ("cut for memory", 0),
         Out::Cut(Why::Full) => ("cut for room", 0),
@@ -120,20 +130,33 @@ fn answer(stepped: &Stepped) -> (Status, Told) {
     }
 }
 
-/// The gifts of a frame that a step entered.
-fn gifts(stepped: &Stepped) -> [u64; 8] {
+/// The number of a ticket, 0 where there is none.
+fn ticket_of(duty: Option<Duty>) -> u64 {
+    match duty {
+        Some(Duty::Ticket(ticket)) => ticket.0,
+        _ => 0,
+    }
+}
+
+/// The gifts of a frame that a step entered, or the tickets that a reply made and withdrew.
+fn numbers_of(stepped: &Stepped) -> [u64; 8] {
     match stepped {
         Stepped::Enter(_, gifts) => *gifts,
+        Stepped::Reply(reply) => {
+            let (made, dropped) = (ticket_of(reply.made), ticket_of(reply.dropped));
+            [made, dropped, 0, 0, 0, 0, 0, 0]
+        }
         _ => NO_GIFTS,
     }
 }
 
-/// The end of the innermost frame.
+/// The end of the innermost frame, which no ticket began.
 fn left(core: &mut EnvCore, value: Option<HandleId>, cut: Option<Why>) -> Result<Found, Fail>
     requires { cut ≢ Some Why.Asks }
 {
-    if core.frame().is_none() {
-        return Err(Fail::new("no frame stands"));
+    match core.frame() {
+        Some(frame) if frame.duty.is_none() => {}
+        _ => return Err(Fail::new("no such frame stands")),
     }
     let reply = core.leave(value, cut);
     Ok((reply.status, told(reply.out), NO_GIFTS))
@@ -156,12 +179,14 @@ fn found(core: &mut EnvCore, act: &Act) -> Result<Found, Fail> {
         Act::Given(call, _)
         | Act::Accepted(call)
         | Act::Told(call, _)
+        | Act::Registered(call, _, _)
+        | Act::Withdrawn(call, _, _)
         | Act::Refused(call, _)
         | Act::Entered(call, _, _)
         | Act::Full(call) => {
             let step = stepped(core, call)?;
             let (status, result) = answer(&step);
-            Ok((status, result, gifts(&step)))
+            Ok((status, result, numbers_of(&step)))
         }
         Act::Left(value, _, _) => left(core, *value, None),
         Act::Cut(_) => left(core, None, Some(Why::Memory)),
@@ -173,6 +198,7 @@ fn found(core: &mut EnvCore, act: &Act) -> Result<Found, Fail> {
             ("journal", core.journal().len() as u64),
             NO_GIFTS,
         )),
+        Act::Room(_) => Ok((Status::Ok, ("room", core.room() as u64), NO_GIFTS)),
     }
 }
 
@@ -182,6 +208,12 @@ fn expected(act: &Act) -> Found {
         Act::Given(_, handle) => (Status::Ok, ("handle", *handle), NO_GIFTS),
         Act::Accepted(_) | Act::Begun => (Status::Ok, NOTHING, NO_GIFTS),
         Act::Told(_, result) => (Status::Ok, *result, NO_GIFTS),
+        Act::Registered(_, result, ticket) => {
+            (Status::Ok, *result, [*ticket, 0, 0, 0, 0, 0, 0, 0])
+        }
+        Act::Withdrawn(_, result, ticket) => {
+            (Status::Ok, *result, [0, *ticket, 0, 0, 0, 0, 0, 0])
+        }
         Act::Refused(_, status) => (*status, NOTHING, NO_GIFTS),
         Act::Entered(_, entry, gifts) => (Status::Ok, ("entry", *entry as u64), *gifts),
         Act::Full(_) => (Status::TraceFull, ("stop", 0), NO_GIFTS),
@@ -190,6 +222,7 @@ fn expected(act: &Act) -> Found {
         Act::CutFull(status) => (*status, ("cut for room", 0), NO_GIFTS),
         Act::Depth(depth) => (Status::Ok, ("depth", *depth as u64), NO_GIFTS),
         Act::Journal(length) => (Status::Ok, ("journal", *length as u64), NO_GIFTS),
+        Act::Room(places) => (Status::Ok, ("room", *places as u64), NO_GIFTS),
     }
 }
 

@@ -11,6 +11,7 @@ use std::thread::Threads;
 mod example;
 mod faults;
 mod lengths;
+mod seen;
 mod standard;
 mod told;
 mod unplanned;

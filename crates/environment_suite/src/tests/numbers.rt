@@ -1,5 +1,5 @@
-//! The numbers of handles, scopes and references: each counts from 1 in the order in which they are given, over all frames, and none
-//! comes twice. A refused call gives none.
+//! The numbers of handles, scopes, references and tickets: each counts from 1 in the order in which they are given, over all frames,
+//! and none comes twice. A refused call gives none.
 use super::{Act, NOTHING, compare};
 use napi_types::{Call, HandleId, RefId, ScopeId, Status, TextNo};
 use std::test::Fail;
@@ -76,4 +76,49 @@ const SCOPES_AND_REFERENCES: [Act; 22] = [
 #[test]
 fn scopes_and_references(rt: HostRuntime) -> Result<(), Fail> {
     compare(&rt, rt.alloc(), &SCOPES_AND_REFERENCES)
+}
+
+const EXTERNAL: Call = Call::CreateExternal(9, Some(1), 0);
+
+const TICKETS: [Act; 16] = [
+    Act::Registered(EXTERNAL, ("handle", 1), 1),
+    Act::Given(Call::CreateExternal(8, None, 0), 2),
+    Act::Refused(
+        Call::Wrap(HandleId(2), 5, Some(1), 0, true),
+        Status::ObjectExpected,
+    ),
+    Act::Refused(
+        Call::AddFinalizer(UNKNOWN, 1, 1, 0, false),
+        Status::InvalidArg,
+    ),
+    Act::Given(Call::CreateObject, 3),
+    Act::Registered(
+        Call::Wrap(HandleId(3), 5, Some(1), 0, true),
+        ("reference", 1),
+        2,
+    ),
+    Act::Refused(
+        Call::Wrap(HandleId(3), 6, Some(1), 0, true),
+        Status::InvalidArg,
+    ),
+    Act::Registered(
+        Call::AddFinalizer(HandleId(3), 7, 1, 0, true),
+        ("reference", 2),
+        3,
+    ),
+    // A ticket that is withdrawn is not given again.
+    Act::Withdrawn(Call::RemoveWrap(HandleId(3)), ("number", 5), 2),
+    Act::Registered(Call::Wrap(HandleId(3), 6, Some(1), 0, false), NOTHING, 4),
+    Act::Withdrawn(Call::RemoveWrap(HandleId(3)), ("number", 6), 4),
+    // A wrap without a finalizer has none.
+    Act::Accepted(Call::Wrap(HandleId(3), 7, None, 0, false)),
+    Act::Told(Call::RemoveWrap(HandleId(3)), ("number", 7)),
+    Act::Left(None, Status::Ok, NOTHING),
+    Act::Begun,
+    Act::Registered(EXTERNAL, ("handle", 4), 5),
+];
+
+#[test]
+fn tickets(rt: HostRuntime) -> Result<(), Fail> {
+    compare(&rt, rt.alloc(), &TICKETS)
 }

@@ -92,11 +92,16 @@ fn a_function_runs_in_a_frame_inside_its_callers(rt: HostRuntime) -> Result<(), 
     Ok(())
 }
 
-/// The status of each entry of a journal that has so many places, and what it tells.
-fn journal_within(alloc: Global, places: u32) -> Result<Vec<(Status, Told)>, Fail> {
-    let mut addons = examples(alloc)?;
+/// The status of each entry of the run of a list of one addon, in a journal that has so many places, and what it tells.
+pub(super) fn journal_within(
+    alloc: Global,
+    addons: &mut Vec<Box<dyn Addon>>,
+    places: u32,
+) -> Result<Vec<(Status, Told)>, Fail>
+    requires { length addons.old.items ≡ 1 }
+{
     let mut env = opened(alloc, places.clamp(4, 100))?;
-    run_alone(&mut env, &mut addons);
+    run_alone(&mut env, addons);
     let record = env.into_record();
     let mut list = Vec::new(alloc);
     for local in record.journal.items() {
@@ -106,14 +111,14 @@ fn journal_within(alloc: Global, places: u32) -> Result<Vec<(Status, Told)>, Fai
     Ok(list)
 }
 
-/// What has no number here: the begin of a frame.
-const BEGUN: (Status, Told) = (Status::Ok, ("other", 0));
+/// The begin of a frame that no ticket began.
+pub(super) const BEGUN: (Status, Told) = (Status::Ok, ("begin", 0));
 
-/// A call that tells nothing, the end of the init frame, and `gone`.
-const DONE: (Status, Told) = (Status::Ok, NOTHING);
+/// A call that tells nothing, the end of a frame that no call began, and `gone`.
+pub(super) const DONE: (Status, Told) = (Status::Ok, NOTHING);
 
-/// The end of the init frame and of the call's where they are cut.
-const CUT: (Status, Told) = (Status::Ok, ("cut for room", 0));
+/// The end of a frame that no call began, and of a call's, where they are cut.
+pub(super) const CUT: (Status, Told) = (Status::Ok, ("cut for room", 0));
 
 const CALL_CUT: (Status, Told) = (Status::GenericFailure, ("cut for room", 0));
 
@@ -153,7 +158,8 @@ const JOURNALS: [(u32, usize, &[(Status, Told)]); 8] = [
 #[test]
 fn the_first_call_without_a_place_cuts_its_frame(rt: HostRuntime) -> Result<(), Fail> {
     for (places, whole, rest) in JOURNALS {
-        let found = journal_within(rt.alloc(), places)?;
+        let mut addons = examples(rt.alloc())?;
+        let found = journal_within(rt.alloc(), &mut addons, places)?;
         assert_eq!(rt; found.len(), whole + rest.len(), "with {places} places");
         for (entry, expected) in found.iter().zip(WHOLE[..whole].iter().chain(rest)) {
             assert_eq!(rt; entry, expected, "with {places} places");

@@ -272,6 +272,35 @@ const BETWEEN: (&[u8], &str) = (
 ",
 );
 
+/// A finalizer of the first addon and one of the second begin after `finals`. The object has handle 1, and the second addon's external
+/// has handle 2. In its frame the first finalizer asks a guarded call, which is refused, and one that is not. No end is told.
+const FINALIZED: (&[u8], &str) = (
+    br#"{"version":9,"workers":0,"addons":[{"name":"a","entries":[[["create_object",0],["add_finalizer",0,70,3,71,-1]],[],[],[["throw_error",-1,"m"],["get_null",1]]]},{"name":"b","entries":[[["create_external",80,1,81,0]],[["get_version",1]]]}],"threads":[]}"#,
+    "0 load 4
+1 load 2
+0 ask 0 0
+0 note 0 0 0
+0 ask 0 1
+0 note 0 1 0
+0 ask 0 2
+1 ask 0 0
+1 note 0 0 0
+1 ask 0 1
+0 duty 1 0 0 1
+0 finalize 3 70 71 0 0 0 0 0 0
+0 ask 3 0
+0 note 3 0 10
+0 ask 3 1
+0 note 3 1 0
+0 ask 3 2
+1 duty 2 1 0 1
+1 finalize 1 80 81 0 0 0 0 0 0
+1 ask 1 0
+1 note 1 0 0
+1 ask 1 1
+",
+);
+
 #[test]
 fn addons_are_told_each_begin_and_each_reply(rt: HostRuntime) -> Result<(), Fail> {
     let alloc = rt.alloc();
@@ -280,6 +309,7 @@ fn addons_are_told_each_begin_and_each_reply(rt: HostRuntime) -> Result<(), Fail
         ("failed calls", FAILED),
         ("a callee that is cut", CUT),
         ("calls between addons", BETWEEN),
+        ("finalizers", FINALIZED),
     ] {
         let found = heard(&rt, alloc, script)?;
         let expected = expanded(alloc, text)?;

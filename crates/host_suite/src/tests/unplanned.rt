@@ -2,7 +2,7 @@
 ghost use Rattle.std.specs.Prelude.{None};
 
 use super::*;
-use napi_types::{AddonPlan, Args, Ask, Begun, Call, Due, HandleId, Reply, SeenList};
+use napi_types::{AddonPlan, Args, Ask, Begun, Call, Due, HandleId, Reply, ScopeId, SeenList};
 
 /// What an addon does, whatever its script says.
 #[derive(Clone, Copy)]
@@ -14,6 +14,9 @@ enum Way {
     /// Its first entry makes a function of its second one, calls it, asks for the last status and leaves; the second one asks for
     /// undefined without end.
     CallsOneThatStays,
+    /// Its first entry makes an object with two finalizers, collects it and leaves. The second entry, the first finalizer's, asks for
+    /// undefined without end; the third one, the other's, asks for the version and leaves.
+    RegistersOneThatStays,
 }
 
 /// An addon that tells no plan.
@@ -30,6 +33,19 @@ fn that_does(way: Way) -> Unplanned {
         registers: [7; 32],
         seen: SeenList::new(),
         way,
+    }
+}
+
+/// What the first entry of the addon that registers asks. Its object has the handle 1, in the scope 1.
+fn registering_ask(step: u32) -> Ask {
+    match step {
+        0 => Ask::Do(Call::OpenHandleScope),
+        1 => Ask::Do(Call::CreateObject),
+        2 => Ask::Do(Call::AddFinalizer(HandleId(1), 70, 1, 71, false)),
+        3 => Ask::Do(Call::AddFinalizer(HandleId(1), 80, 2, 81, false)),
+        4 => Ask::Do(Call::CloseHandleScope(ScopeId(1))),
+        5 => Ask::Do(Call::Collect),
+        _ => Ask::Leave(None),
     }
 }
 
@@ -66,6 +82,9 @@ impl Addon for Unplanned {
             (Way::CallsOneThatStays, 0, 1) => Ask::Do(Call::CallFunction(None, HandleId(1), none)),
             (Way::CallsOneThatStays, 0, 2) => Ask::Do(Call::GetLastErrorInfo),
             (Way::CallsOneThatStays, 0, _) => Ask::Leave(None),
+            (Way::RegistersOneThatStays, 0, _) => registering_ask(step),
+            (Way::RegistersOneThatStays, 2, 0) => Ask::Do(Call::GetVersion),
+            (Way::RegistersOneThatStays, 2, _) => Ask::Leave(None),
             _ => Ask::Do(Call::GetUndefined),
         }
     }
@@ -155,6 +174,36 @@ fn a_call_that_never_returns_is_cut(rt: HostRuntime) -> Result<(), Fail> {
         (1, "gone 0 -"),
     ];
     assert!(rt; prints(&rt, rt.alloc(), Way::CallsOneThatStays, &lines)?);
+    Ok(())
+}
+
+#[test]
+fn a_finalizer_that_never_leaves_is_cut_and_the_next_one_begins(
+    rt: HostRuntime,
+) -> Result<(), Fail> {
+    let lines = [
+        (1, "opened 0 9"),
+        (1, "begin 0 init:0.0"),
+        (1, "open_handle_scope 0 scope"),
+        (1, "create_object 0 handle"),
+        (1, "add_finalizer 0 - +#1"),
+        (1, "add_finalizer 0 - +#2"),
+        (1, "close_handle_scope 0 -"),
+        (1, "collect 0 1"),
+        (1, "end 0 -"),
+        (1, "go 0 -"),
+        (1, "begin 0 finalize:0.1:#1"),
+        (65_536, "get_undefined 0 handle"),
+        (1, "end 0 cut:asks"),
+        (1, "begin 0 finalize:0.2:#2"),
+        (1, "get_version 0 9"),
+        (1, "end 0 -"),
+        (1, "loop_end 0 idle"),
+        (1, "drain 0 0"),
+        (1, "finals 0 -"),
+        (1, "gone 0 -"),
+    ];
+    assert!(rt; prints(&rt, rt.alloc(), Way::RegistersOneThatStays, &lines)?);
     Ok(())
 }
 

@@ -1,0 +1,165 @@
+//! An addon that tells no plan and registers finalizers, in journals that have room for fewer and fewer of its calls: each frame that is due has its
+//! places all the same.
+ghost use Rattle.std.specs.Prelude.{◌≡◌, IfOk, length, None};
+
+use super::Told;
+use super::turns::{BEGUN, CUT, DONE, journal_within};
+use addon_trait::Addon;
+use napi_types::{AddonPlan, Ask, Begun, Call, Due, HandleId, Reply, SeenList, Status};
+use std::alloc::Global;
+use std::test::Fail;
+
+/// An addon whose init frame makes an object and adds two finalizers to it. Each of them asks for undefined.
+#[derive(Drop)]
+struct Registers {
+    registers: [u64; 32],
+    seen: SeenList,
+}
+
+impl Addon for Registers {
+    ghost plan = { λ _. None };
+
+    ghost regs = { λ addon. addon.registers };
+
+    ghost seen = { λ addon. addon.seen };
+
+    fn load(&mut self, _given: AddonPlan) {
+        self.registers = [0; 32];
+    }
+
+    fn enter(&mut self, _entry: u32, gifts: &[u64; 8]) {
+        self.registers[24..].copy_from_slice(gifts);
+    }
+
+    fn begin(&mut self, due: Due) -> Begun {
+        let info = *due.info();
+        self.enter(info.entry, &info.gifts);
+        due.begin(&mut self.seen)
+    }
+
+    fn ask(&mut self, entry: u32, step: u32) -> Ask {
+        match (entry, step) {
+            (0, 0) => Ask::Do(Call::CreateObject),
+            (0, 1) => Ask::Do(Call::AddFinalizer(HandleId(1), 7, 1, 8, false)),
+            (0, 2) => Ask::Do(Call::AddFinalizer(HandleId(1), 9, 1, 10, false)),
+            (1, 0) => Ask::Do(Call::GetUndefined),
+            _ => Ask::Leave(None),
+        }
+    }
+
+    fn note(&mut self, _entry: u32, _step: u32, _reply: &Reply) {}
+}
+
+/// A list of one such addon.
+fn registering(alloc: Global) -> Result<Vec<Box<dyn Addon>>, Fail>
+    ensures { IfOk result (λ addons. length addons.items ≡ 1) }
+{
+    let mut addons: Vec<Box<dyn Addon>> = Vec::new(alloc);
+    let addon = Registers {
+        registers: [0; 32],
+        seen: SeenList::new(),
+    };
+    addons.push(Box::new(alloc, addon)?)?;
+    Ok(addons)
+}
+
+/// The version that the opening tells, the handles that the calls give, and the begins of the finalizers.
+const OPENED: (Status, Told) = (Status::Ok, ("number", 9));
+
+const OBJECT: (Status, Told) = (Status::Ok, ("handle", 1));
+
+const FIRST: (Status, Told) = (Status::Ok, ("handle", 2));
+
+const SECOND: (Status, Told) = (Status::Ok, ("handle", 3));
+
+const BEGUN_FIRST: (Status, Told) = (Status::Ok, ("begin", 1));
+
+const BEGUN_SECOND: (Status, Told) = (Status::Ok, ("begin", 2));
+
+/// How many places the journal has, and its entries. A call that registers wants three places, two of them for the frame of its finalizer. So that
+/// frame begins and ends also where it has no place for a call; it is cut then.
+const JOURNALS: [(u32, &[(Status, Told)]); 8] = [
+    (4, &[OPENED, BEGUN, CUT, DONE]),
+    (5, &[OPENED, BEGUN, OBJECT, CUT, DONE]),
+    (7, &[OPENED, BEGUN, OBJECT, CUT, DONE]),
+    (
+        8,
+        &[OPENED, BEGUN, OBJECT, DONE, CUT, BEGUN_FIRST, CUT, DONE],
+    ),
+    (
+        10,
+        &[
+            OPENED,
+            BEGUN,
+            OBJECT,
+            DONE,
+            CUT,
+            BEGUN_FIRST,
+            FIRST,
+            DONE,
+            DONE,
+        ],
+    ),
+    (
+        11,
+        &[
+            OPENED,
+            BEGUN,
+            OBJECT,
+            DONE,
+            DONE,
+            DONE,
+            BEGUN_FIRST,
+            CUT,
+            BEGUN_SECOND,
+            CUT,
+            DONE,
+        ],
+    ),
+    (
+        12,
+        &[
+            OPENED,
+            BEGUN,
+            OBJECT,
+            DONE,
+            DONE,
+            DONE,
+            BEGUN_FIRST,
+            FIRST,
+            DONE,
+            BEGUN_SECOND,
+            CUT,
+            DONE,
+        ],
+    ),
+    (
+        13,
+        &[
+            OPENED,
+            BEGUN,
+            OBJECT,
+            DONE,
+            DONE,
+            DONE,
+            BEGUN_FIRST,
+            FIRST,
+            DONE,
+            BEGUN_SECOND,
+            SECOND,
+            DONE,
+            DONE,
+        ],
+    ),
+];
+
+#[test]
+fn each_finalizer_has_its_places(rt: HostRuntime) -> Result<(), Fail> {
+    let alloc = rt.alloc();
+    for (places, expected) in JOURNALS {
+        let mut addons = registering(alloc)?;
+        let found = journal_within(alloc, &mut addons, places)?;
+        assert_eq!(rt; found.as_slice(), expected, "with {places} places");
+    }
+    Ok(())
+}
