@@ -262,6 +262,7 @@ effect-keeps e (call.CheckObjectTypeTag v lower upper) n h = accepts-all e _
 effect-keeps e (call.AddFinalizer v payload entry hint wanted) n h = finalizing-keeps e (handle_value e.heap v.0) payload entry hint wanted n
 effect-keeps e (call.CreateExternal payload entry hint) n h = external-keeps e payload entry hint
 effect-keeps e call.Collect n h = collected-keeps e (reach e) _
+effect-keeps e call.Exit n h = record { course = refl; frames = refl; heap = same e.heap; references = omega arith; book = stays e.book refl }
 effect-keeps e c n h = keeps-heap e c n h
 
 none-left : (a b : Option Status) → option_or a b ≡ None → a ≡ None

@@ -186,6 +186,7 @@ by-owned n e (call.AddFinalizer v payload entry hint true) k there all = all
 by-owned n e (call.CreateExternal payload None hint) k there all = one-more n _ _ e.heap.values all (no-function n (body.External payload) refl)
 by-owned n e (call.CreateExternal payload (Some entry) hint) k there all = one-more n _ _ e.heap.values all (no-function n (body.External payload) refl)
 by-owned n e call.Collect k there all = kept-owned n (reach e) e.heap.values all
+by-owned n e call.Exit k there all = all
 by-owned n e c k there all = heap-owned n (caller_of e.frames) e.heap c k there all
 
 given-owned : (n : ℕ) (e : Environment) (c : Call) (k : ℕ) (s : Option Status) → caller_of e.frames < n → AreOwned n e.heap.values → AreOwned n (answer_unless e c k s).after.heap.values

@@ -10,6 +10,8 @@ use Rattle.napi_types.specs.declared.entry.Actor.TheVariants as actor
 use Rattle.napi_types.specs.declared.entry.Entry.{Entry}
 use Rattle.napi_types.specs.declared.entry.HostStep.{HostStep}
 use Rattle.napi_types.specs.declared.entry.HostStep.TheVariants as host
+use Rattle.napi_types.specs.declared.entry.LoopEnd.{LoopEnd}
+use Rattle.napi_types.specs.declared.entry.LoopEnd.TheVariants as loop_end
 use Rattle.napi_types.specs.declared.entry.Limits.{Limits}
 use Rattle.napi_types.specs.declared.entry.Out.{Out}
 use Rattle.napi_types.specs.declared.entry.Phase.{Phase}
@@ -267,12 +269,16 @@ later-opening_change l m p e n r = r.opened (ap is_init e ∙ n)
 later-inits : (l : Limits) (m : Machine) (p : Phase) → m.env.phase ≡ p → is_init p ≡ false → Roomy l m → nat_lt m.env.inits m.env.addons ≡ false
 later-inits l m p e n r = r.inits (ap is_init e ∙ n)
 
-loop-room : (l : Limits) (m : Machine) (o : Option ℕ) → lowest_due m.env.book ≡ o → m.env.phase ≡ phase.Live → m.env.frames ≡ [] → Roomy l m
-    → Roomy l (chosen m (option_or (option_map Tickets o) (hub_choice_at Going))).after
-loop-room l m (Some n) lowest e f r = ticket-room l m n (lowest-due m.env.book n lowest) f (λ q. let z : phase.Live ≡ phase.Gone = sym e ∙ q in cc) r
-loop-room l m None lowest e f r =
+loop-ended-room : (l : Limits) (m : Machine) (w : LoopEnd) → m.env.phase ≡ phase.Live → Roomy l m → Roomy l (event_step m (EndsLoop w)).after
+loop-ended-room l m w e r =
     let s : m.hub.stage ≡ Going = r.stage ∙ ap stage_of e in
     moved-room l m host.LoopEnd phase.Hooks _ Looped (rw s refl) (rw s refl) refl (rw e refl) (λ q. cc) (later-opening_change l m phase.Live e refl r) (later-inits l m phase.Live e refl r) r
+
+loop-room : (l : Limits) (m : Machine) (exit : Bool) (o : Option ℕ) → lowest_due m.env.book ≡ o → m.env.phase ≡ phase.Live → m.env.frames ≡ [] → Roomy l m
+    → Roomy l (chosen m (option_or (cond exit (Some (EndsLoop loop_end.Exit)) (option_map Tickets o)) (hub_choice_at Going))).after
+loop-room l m true o lowest e f r = loop-ended-room l m loop_end.Exit e r
+loop-room l m false (Some n) lowest e f r = ticket-room l m n (lowest-due m.env.book n lowest) f (λ q. let z : phase.Live ≡ phase.Gone = sym e ∙ q in cc) r
+loop-room l m false None lowest e f r = loop-ended-room l m loop_end.Idle e r
 
 finals-room : (l : Limits) (m : Machine) (o : Option ℕ) → lowest_due m.env.book ≡ o → m.env.phase ≡ phase.Finals → m.env.frames ≡ [] → Roomy l m
     → Roomy l (chosen m (option_or (option_or (option_map Tickets o) (Some IsGone)) (hub_choice_at Final))).after
@@ -294,7 +300,7 @@ finals-room l m None lowest e f r =
 
 event-room : (l : Limits) (m : Machine) (p : Phase) → m.env.phase ≡ p → m.env.frames ≡ [] → Roomy l m → Roomy l (chosen m (option_or (local_choice_in m.env p) (hub_choice_at (stage_of p)))).after
 event-room l m phase.Init e f r = init-room l m m.env.opened (nat_lt m.env.inits m.env.addons) refl refl e f r
-event-room l m phase.Live e f r = loop-room l m (lowest_due m.env.book) refl e f r
+event-room l m phase.Live e f r = loop-room l m m.env.exit_asked (lowest_due m.env.book) refl e f r
 event-room l m phase.Hooks e f r =
     let s : m.hub.stage ≡ Looped = r.stage ∙ ap stage_of e in
     moved-room l m host.Drain phase.Drain _ Drained (rw s refl) (rw s refl) refl (rw e refl) (λ q. cc) (later-opening_change l m phase.Hooks e refl r) (later-inits l m phase.Hooks e refl r) r

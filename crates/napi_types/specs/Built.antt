@@ -99,6 +99,11 @@ abbrev pub is_collecting : Call → Bool
 is_collecting call.Collect = true
 is_collecting _ = false
 
+-- the call that asks that the loop ends
+abbrev pub is_exiting : Call → Bool
+is_exiting call.Exit = true
+is_exiting _ = false
+
 -- the call of a function
 abbrev pub is_calling : Call → Bool
 is_calling (call.CallFunction _ _ _) = true
@@ -107,7 +112,7 @@ is_calling _ = false
 -- the calls that are built
 abbrev pub is_built : Call → Bool
 is_built c =
-    is_scope_or_version c || is_exception_call c || is_reference_call c || is_wrap_call c || is_external_call c || is_collecting c || is_calling c || is_value_call c
+    is_scope_or_version c || is_exception_call c || is_reference_call c || is_wrap_call c || is_external_call c || is_collecting c || is_exiting c || is_calling c || is_value_call c
 
 -- what a frame is taken to ask: a call that is not built is never made, and the addon that asks it is taken to leave
 abbrev pub built_ask : Ask → Ask

@@ -17,6 +17,7 @@ use Rattle.napi_types.specs.PropertyCalls.{on_properties}
 use Rattle.napi_types.specs.ReferenceCalls.{on_references}
 use Rattle.napi_types.specs.Refusals.{refusal_in, early_refusal, depth_refusal}
 use Rattle.napi_types.specs.Replies.{Answer, accepts, refuses}
+use Rattle.napi_types.specs.RunCalls.{on_run}
 use Rattle.napi_types.specs.ScopeCalls.{on_scopes}
 use Rattle.napi_types.specs.Texts.{depth_text}
 use Rattle.napi_types.specs.ValueCalls.{on_values}
@@ -53,6 +54,7 @@ groups e c n =
     ∷ on_wraps e c n
     ∷ on_externals e c
     ∷ on_collection e c
+    ∷ on_run e c
     ∷ option_map (in_heap e) (on_functions (caller_of e.frames) e.heap c)
     ∷ map (option_map (in_heap e)) (heap_groups e.heap c n)
 

@@ -1,4 +1,4 @@
--- The next event where no frame stands: the environment's own, or else the hub's.
+-- The next event where no frame stands: the one that the environment decides alone, or else the hub's.
 use Rattle.std.specs.Option.{option_or}
 use Rattle.std.specs.Prelude.{Option, Some, None}
 use Rattle.napi_types.specs.declared.entry.LoopEnd.TheVariants as loop_end
@@ -10,8 +10,8 @@ use Rattle.napi_types.specs.Loop.{Event, Goes, EndsLoop, Drains, FinalsCome, ini
 use Rattle.napi_types.specs.Machine.{Machine}
 use Rattle.napi_types.specs.Teardown.{teardown_choice}
 
--- THE ENVIRONMENT'S OWN
--- its next event in each phase, where it has one
+-- THE ENVIRONMENT'S
+-- the event that the environment decides alone in each phase, where it does
 abbrev pub local_choice_in : Environment → Phase → Option Event
 local_choice_in e phase.Init = init_choice e
 local_choice_in e phase.Live = loop_choice e
@@ -34,6 +34,6 @@ abbrev pub hub_choice : Hub → Option Event
 hub_choice h = hub_choice_at h.stage
 
 -- BOTH
--- the hub's event comes only where the environment has none of its own
+-- the hub decides only where the environment does not
 abbrev pub choice : Machine → Option Event
 choice m = option_or (local_choice m.env) (hub_choice m.hub)

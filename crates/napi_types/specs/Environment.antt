@@ -20,6 +20,8 @@ pub record Environment : Type 0 where
   pub opened : Bool
   pub inits : ℕ
   pub phase : Phase
+  -- whether a call asked that the loop ends
+  pub exit_asked : Bool
   -- the values, and the handles to them
   pub heap : Heap
   -- the frames that stand, the innermost first
@@ -41,6 +43,7 @@ new_environment addons texts = record {
   opened = false;
   inits = 0;
   phase = phase.Init;
+  exit_asked = false;
   heap = new_heap;
   frames = [];
   references = no_references;

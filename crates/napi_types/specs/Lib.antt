@@ -53,6 +53,7 @@ pub mod Replies
 pub mod Room
 pub mod Roots
 pub mod Run
+pub mod RunCalls
 pub mod ScopeCalls
 pub mod ScopeChanges
 pub mod ScopeRefusals

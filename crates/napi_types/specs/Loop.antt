@@ -1,6 +1,7 @@
--- The events of the environment where no frame stands, and those of its own up to the end of the loop.
+-- The events of the environment where no frame stands, and what it decides alone up to the end of the loop.
 use Rattle.std.specs.Prelude.{ℕ, cond, nat_lt, Option, Some, None, option_map}
 use Rattle.napi_types.specs.declared.entry.LoopEnd.{LoopEnd}
+use Rattle.napi_types.specs.declared.entry.LoopEnd.TheVariants as loop_end
 use Rattle.napi_types.specs.declared.entry.Phase.{Phase}
 use Rattle.napi_types.specs.declared.entry.Phase.TheVariants as phase
 use Rattle.napi_types.specs.Book.{lowest_due}
@@ -34,6 +35,6 @@ next_ticket e = ticket_in e e.phase
 abbrev pub ticket_choice : Environment → Phase → Option Event
 ticket_choice e p = option_map Tickets (ticket_in e p)
 
--- in the loop this is the only event of the environment's own
+-- in the loop, what the environment decides alone: the loop ends once exit was asked, whatever is due; until then this ticket begins
 abbrev pub loop_choice : Environment → Option Event
-loop_choice e = ticket_choice e phase.Live
+loop_choice e = cond e.exit_asked (Some (EndsLoop loop_end.Exit)) (ticket_choice e phase.Live)

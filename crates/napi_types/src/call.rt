@@ -180,6 +180,7 @@ impl Call {
             | Call::CheckObjectTypeTag(..)
             | Call::AddFinalizer(..)
             | Call::Collect
+            | Call::Exit
             | Call::GetVersion => true,
             _ => self.is_value_call(),
         }
