@@ -4,6 +4,7 @@
 #![tactic(auto)]
 
 mod list;
+mod phased;
 
 ghost use Rattle.std.specs.Prelude.{◌≡◌, ℕ, List, [], ◌∷◌, ◌++◌, Option, None, IfSome, option_map};
 ghost use Rattle.napi_types.specs.declared.duties.DueInfo.{DueInfo};
@@ -11,6 +12,7 @@ ghost use Rattle.napi_types.specs.declared.op.Op.{Op};
 ghost use Rattle.napi_types.specs.Registers.{plan_ask, registers_after_reply, blank_registers, with_gifts};
 
 pub use list::{ask_at, begin_at, enter_at, load_at, note_at};
+pub use phased::Phased;
 use napi_types::{AddonPlan, Ask, Begun, Due, Reply};
 
 /// A native addon, as the environment runs it.
