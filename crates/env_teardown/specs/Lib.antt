@@ -1,0 +1,3 @@
+pub mod Hubs
+pub mod Stages
+pub mod Steps
