@@ -77,6 +77,7 @@ accepted-in_heap e (call.CheckObjectTypeTag object lower upper) n v = cc
 accepted-in_heap e (call.AddFinalizer object payload entry hint wanted) n v = cc
 accepted-in_heap e (call.CreateExternal payload finalizer hint) n v = cc
 accepted-in_heap e call.Collect n v = cc
+accepted-in_heap e call.Exit n v = cc
 accepted-in_heap e _ n v = refl
 
 given-in_heap : (e : Environment) (c : Call) (n : ℕ) (s : Option Status) → is_value_call c ≡ true → answer_unless e c n s ≡ in_heap e (heap_answer_unless (caller_of e.frames) e.heap c n s)

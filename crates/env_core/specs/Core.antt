@@ -29,6 +29,10 @@ abbrev pub after_phase : Phase → ℕ → Core → Core
 after_phase phase.Gone position core = after_change (gone_change core.env) core
 after_phase p position core = record core { env = in_phase p core.env; position = position }
 
+-- a core that notes the length of the history after an event of the hub that starts no phase
+abbrev pub at_position : ℕ → Core → Core
+at_position position core = record core { position = position }
+
 -- the addon whose init frame is next, where one is to come
 abbrev pub next_init : Environment → Option ℕ
 next_init e = cond (nat_lt e.inits e.addons) (Some e.inits) None

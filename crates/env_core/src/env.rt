@@ -14,15 +14,16 @@ ghost use Rattle.napi_types.specs.Numbers.{napi_version};
 ghost use Rattle.napi_types.specs.Refusals.{early_refusal, depth_refusal};
 ghost use Rattle.napi_types.specs.Phases.{next_phase};
 ghost use Rattle.env_core.specs.Standing.{machine_frame};
-ghost use Rattle.env_core.specs.Core.{opened_core, after_change, after_phase, next_init, room_in};
+ghost use Rattle.env_core.specs.Core.{opened_core, after_change, after_phase, at_position, next_init, room_in};
 ghost use Rattle.env_core.specs.Steps.{IfReply, IfEnter, IfStop, Replies, Enters, EntersBy, RefusedAs, StopsBy, IsAtOnce, IsLocal, BeginsTicket};
 
 use crate::frames::StandingFrame;
 use crate::journal::Journal;
 use crate::state::{Called, State};
+use addon_trait::Phased;
 use napi_types::{
     Args, Begun, Call, Due, Duty, Entry, HandleId, Limits, Local, LocalList, NoMemory, Phase,
-    Reply, SharedCall, Status, Target, Why,
+    Reply, SharedCall, Status, Target, TsfnId, Why,
 };
 use std::alloc::Global;
 use std::marker::Model;
@@ -213,8 +214,11 @@ impl EnvCore {
 
     /// Begins the frame of the next ticket, and hands out what it tells. `None` exactly where no ticket is next: in the loop and after
     /// `finals` the lowest that is due is next, and in every other phase none is. It takes no memory.
+    ///
+    /// In the loop no ticket begins once exit was asked.
     pub fn next_local(&mut self) -> Option<Due>
         requires alone { self.old.env.frames ≡ [] }
+        requires unasked { self.old.env.phase ≡ Phase.Live → self.old.env.exit_asked ≡ false }
         ensures none { (result ≡ None) ↔ (next_ticket self.old.env ≡ None) }
         ensures stays { result ≡ None → self.new ≡ self.old }
         ensures begun { IfSome result (λ due. BeginsTicket self.old due self.new) }
@@ -224,7 +228,7 @@ impl EnvCore {
         Some(due)
     }
 
-    /// Whether a ticket is next: whether [`EnvCore::next_local`] would begin one.
+    /// Whether a ticket is next: whether [`EnvCore::next_local`] would begin one; in the loop whether or not exit was asked.
     pub fn has_local(&self) -> bool
         ensures { result ≡ is_some (next_ticket self.now.env) }
     {
@@ -281,6 +285,13 @@ impl EnvCore {
         }
     }
 
+    /// Whether exit was asked. The loop ends then as soon as no frame stands.
+    pub fn exit_asked(&self) -> bool
+        ensures { result ≡ self.now.env.exit_asked }
+    {
+        self.state.exit_asked()
+    }
+
     /// How far the environment has come.
     pub fn phase(&self) -> Phase
         ensures { result ≡ self.now.env.phase }
@@ -330,6 +341,42 @@ impl EnvCore {
         ensures { result + (room_in self.now).occupied ≡ (room_in self.now).limit }
     {
         self.journal.room()
+    }
+}
+
+/// The teardown's steps see this of a core, and nothing else.
+impl Phased for EnvCore {
+    ghost phase = { λ core. core.env.phase };
+
+    ghost has_local = { λ core. is_some (next_ticket core.env) };
+
+    ghost stands = { λ core. is_some (head core.env.frames) };
+
+    ghost advances = { λ core to position new. new ≡ after_phase to position core };
+
+    // No root is that of a thread-safe function so far.
+    ghost finishes = { λ core _ position new. new ≡ at_position position core };
+
+    ghost moves = { λ core position new. new ≡ at_position position core };
+
+    fn phase(&self) -> Phase {
+        EnvCore::phase(self)
+    }
+
+    fn has_local(&self) -> bool {
+        EnvCore::has_local(self)
+    }
+
+    fn advance(&mut self, to: Phase, position: u64) {
+        EnvCore::advance(self, to, position);
+    }
+
+    fn function_finished(&mut self, _: TsfnId, position: u64) {
+        self.journal.note(position);
+    }
+
+    fn moved(&mut self, position: u64) {
+        self.journal.note(position);
     }
 }
 

@@ -52,6 +52,7 @@ pub struct State {
     opened: bool,
     inits: u32,
     phase: Phase,
+    exit_asked: bool,
     store: Store,
     scopes: Scopes,
     frames: Frames,
@@ -79,6 +80,7 @@ impl Model for State {
       opened = state.opened;
       inits = state.inits;
       phase = state.phase;
+      exit_asked = state.exit_asked;
       heap = heap_of state.store state.scopes;
       frames = state.frames;
       references = references_seen state.store (map_of state.references);
@@ -111,6 +113,7 @@ impl State {
             opened: false,
             inits: 0,
             phase: Phase::Init,
+            exit_asked: false,
             store,
             scopes,
             frames,
@@ -297,6 +300,7 @@ impl State {
                 self.create_external(*payload, *finalizer, *hint)
             }
             Call::Collect => self.collect(),
+            Call::Exit => Ok(self.exit()),
             Call::Throw(handle) => Ok(self.throw(*handle)),
             Call::ThrowError(code, message) => self.throw_error(*code, *message),
             Call::IsExceptionPending => Ok(self.is_pending()),
@@ -402,6 +406,21 @@ impl State {
             self.exceptions.note(status);
         }
         self.frames.count_ask();
+    }
+
+    /// Asks that the loop ends, and changes nothing else.
+    fn exit(&mut self) -> Reply
+        ensures { AnswersInTime self.old call_of.Exit result self.new }
+    {
+        self.exit_asked = true;
+        Reply::plain(Status::Ok, Out::Nothing)
+    }
+
+    /// Whether exit was asked.
+    pub fn exit_asked(&self) -> bool
+        ensures { result ≡ self.now.exit_asked }
+    {
+        self.exit_asked
     }
 
     /// The environment is gone.
