@@ -2,6 +2,7 @@ pub mod Calls
 pub mod Cuts
 pub mod Ends
 pub mod Frames
+pub mod HubTurns
 pub mod Recordings
 pub mod Registers
 pub mod Runs

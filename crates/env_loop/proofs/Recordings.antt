@@ -1,5 +1,5 @@
 -- A recorded run goes on.
-use Rattle.std.proofs.Common.{◌≡◌, ℕ, ◌+◌, ◌<◌, true, false, IsTrue, List, [], ◌∷◌, ◌++◌, length, refl, ap, subst, sym, ◌∙◌, arith, nat_lt, length-append, Some, None}
+use Rattle.std.proofs.Common.{◌≡◌, ℕ, ◌+◌, ◌<◌, Bool, true, false, IsTrue, cond, List, [], ◌∷◌, ◌++◌, length, refl, ap, subst, sym, ◌∙◌, arith, nat_lt, length-append, Option, Some, None, is_some, option_map}
 use Rattle.std.proofs.lemmas.List.{length-map, get_or-map}
 use Rattle.napi_types.specs.declared.call.Ask.{Ask}
 use Rattle.napi_types.specs.declared.entry.Actor.TheVariants as actor
@@ -9,13 +9,15 @@ use Rattle.napi_types.specs.declared.entry.HostStep.{HostStep}
 use Rattle.napi_types.specs.declared.entry.HostStep.TheVariants as host
 use Rattle.napi_types.specs.declared.entry.Out.{Out}
 use Rattle.napi_types.specs.declared.entry.Out.TheVariants as out
+use Rattle.napi_types.specs.declared.entry.LoopEnd.{LoopEnd}
 use Rattle.napi_types.specs.declared.entry.LoopEnd.TheVariants as loop_end
 use Rattle.napi_types.specs.declared.entry.Phase.{Phase}
 use Rattle.napi_types.specs.declared.entry.Phase.TheVariants as phase
 use Rattle.napi_types.specs.declared.call.Ask.TheVariants as ask
-use Rattle.std.specs.Option.{option_to_list}
+use Rattle.std.specs.Option.{option_or, option_to_list}
 use Rattle.napi_types.specs.Begins.{told_at, begun_info, begun_along}
 use Rattle.napi_types.specs.Book.{lowest_due}
+use Rattle.napi_types.specs.Loop.{Tickets, EndsLoop}
 use Rattle.napi_types.specs.Machine.{Machine}
 use Rattle.napi_types.specs.Parting.{sides_along}
 use Rattle.napi_types.specs.Step.{Step, step, locally}
@@ -27,6 +29,7 @@ use Rattle.napi_types.specs.Plan.{Plan, after_host_event, after_event, after_ent
 use Rattle.napi_types.specs.Weave.{Side, Journal, History, weave, sides, RisesBetween}
 use Rattle.napi_types.specs.Setting.{Setting, opening_of, RunsBy, final_of, final_registers, planned_asks}
 use Rattle.env_core.specs.Core.{Core, after_change, opened_core}
+use Rattle.env_teardown.specs.Hubs.{quiet_end}
 use Rattle.napi_types.specs.Phases.{stage_of}
 use Rattle.env_loop.specs.Recording.{AddonStates, machine_of, AgreesWhereTold, AgreesWith, HasSeen, IsRecorded, IsEnded}
 use Rattle.napi_types.proofs.Runs.{run-more, final-more, asked-more, registers-more, sides-more, begun-more}
@@ -177,10 +180,19 @@ pub go-grown : (s : Setting) (core : Core) (history : List Entry) (all : AddonSt
     → IsRecorded s (record core { env = in_phase phase.Live core.env; position = length history + 1 }) (history ++ host_entry host.Go out.Nothing ∷ []) all firsts
 go-grown s core history all firsts r alone here opened every = shared-grown s core history all firsts r host.Go out.Nothing phase.Live alone (rw (alone, here, opened, every) refl) (λ rss m reply. refl) (λ m. refl)
 
+-- the loop ends so where exit was asked, or where no ticket is due
+ends-chosen : (exit : Bool) (due : Option ℕ) (end : LoopEnd) → quiet_end exit (is_some due) ≡ Some end
+    → option_or (cond exit (Some (EndsLoop loop_end.Exit)) (option_map Tickets due)) (Some (EndsLoop loop_end.Idle)) ≡ Some (EndsLoop end)
+ends-chosen true due end how = cc
+ends-chosen false None end how = cc
+ends-chosen false (Some n) end how = cc
+
 pub loop_end-grown : (s : Setting) (core : Core) (history : List Entry) (all : AddonStates) (firsts : List (List DueInfo)) → IsRecorded s core history all firsts
-    → core.env.frames ≡ [] → core.env.phase ≡ phase.Live → lowest_due core.env.book ≡ None
-    → IsRecorded s (record core { env = in_phase phase.Hooks core.env; position = length history + 1 }) (history ++ host_entry host.LoopEnd (out.Ended loop_end.Idle) ∷ []) all firsts
-loop_end-grown s core history all firsts r alone here none = shared-grown s core history all firsts r host.LoopEnd (out.Ended loop_end.Idle) phase.Hooks alone (rw (alone, here, none) refl) (λ rss m reply. refl) (λ m. refl)
+    → core.env.frames ≡ [] → core.env.phase ≡ phase.Live → (end : LoopEnd) → quiet_end core.env.exit_asked (is_some (lowest_due core.env.book)) ≡ Some end
+    → IsRecorded s (record core { env = in_phase phase.Hooks core.env; position = length history + 1 }) (history ++ host_entry host.LoopEnd (out.Ended end) ∷ []) all firsts
+loop_end-grown s core history all firsts r alone here end how =
+    shared-grown s core history all firsts r host.LoopEnd (out.Ended end) phase.Hooks alone
+    (rw (alone, here, ends-chosen core.env.exit_asked (lowest_due core.env.book) end how) refl) (λ rss m reply. refl) (λ m. refl)
 
 pub drain-grown : (s : Setting) (core : Core) (history : List Entry) (all : AddonStates) (firsts : List (List DueInfo)) → IsRecorded s core history all firsts
     → core.env.frames ≡ [] → core.env.phase ≡ phase.Hooks

@@ -1,9 +1,10 @@
 -- The duties that begin along a run, and what addons have seen of them.
 use Rattle.std.proofs.Common.{◌≡◌, ◌≢◌, ◌<◌, ◌∙◌, ℕ, nat_lt, ◌==◌, Bool, true, false, cond, List, [], ◌∷◌, ◌++◌, length, set, Option, Some, None, option_map, refl, ap, subst, sym, arith, append_assoc, append-nil, inl, inr}
-use Rattle.std.specs.Option.{option_or, option_to_list}
+use Rattle.std.specs.Option.{option_or}
 use Rattle.std.proofs.lemmas.Bool.{cases_eq}
 use Rattle.std.proofs.lemmas.List.{get_or-set_same, get_or-set_other}
 use Rattle.napi_types.specs.declared.duties.DueInfo.{DueInfo}
+use Rattle.napi_types.specs.declared.entry.LoopEnd.TheVariants as loop_end
 use Rattle.napi_types.specs.declared.entry.Phase.{Phase}
 use Rattle.napi_types.specs.declared.entry.Phase.TheVariants as phase
 use Rattle.napi_types.specs.Book.{lowest_due, ticket_duty}
@@ -11,7 +12,7 @@ use Rattle.napi_types.specs.Begins.{duty_info, of_addon}
 use Rattle.napi_types.specs.Choice.{local_choice_in}
 use Rattle.napi_types.specs.Environment.{Environment}
 use Rattle.napi_types.specs.Frames.{Frame}
-use Rattle.napi_types.specs.Loop.{Opens, Inits, Tickets, IsGone, ticket_in, next_ticket}
+use Rattle.napi_types.specs.Loop.{Opens, Inits, Tickets, EndsLoop, IsGone, ticket_in, next_ticket}
 use Rattle.napi_types.proofs.Runs.{of_addon-append}
 use Rattle.addon_trait.specs.Addons.{seen_of}
 use Rattle.env_loop.specs.Recording.{HasSeen}
@@ -27,7 +28,7 @@ pub begins-none : (e : Environment) → e.frames ≢ [] → begins_next e ≡ No
 begins-none e some = begins-over-none e e.frames some
 
 -- .. nor where no ticket is next, and else that ticket
--- the environment's own event begins the frame of the next ticket, and where none is next it begins none
+-- the environment's own event begins the frame of the next ticket, and where none is next it begins none; in the loop that is so until exit is asked
 none-chosen : (opened more : Bool) (n : ℕ) → ticket_of (cond opened (cond more (Some (Inits n)) None) (Some Opens)) ≡ None
 none-chosen false more n = refl
 none-chosen true true n = refl
@@ -41,16 +42,19 @@ last-ticket : (o : Option ℕ) → ticket_of (option_or (option_map Tickets o) (
 last-ticket None = refl
 last-ticket (Some n) = refl
 
-chosen-ticket : (e : Environment) (p : Phase) → ticket_of (local_choice_in e p) ≡ ticket_in e p
-chosen-ticket e phase.Init = none-chosen e.opened (nat_lt e.inits e.addons) e.inits
-chosen-ticket e phase.Live = own-ticket (lowest_due e.book)
-chosen-ticket e phase.Hooks = refl
-chosen-ticket e phase.Drain = refl
-chosen-ticket e phase.Finals = last-ticket (lowest_due e.book)
-chosen-ticket e phase.Gone = refl
+chosen-ticket : (e : Environment) (p : Phase) → (p ≡ phase.Live → e.exit_asked ≡ false) → ticket_of (local_choice_in e p) ≡ ticket_in e p
+chosen-ticket e phase.Init unasked = none-chosen e.opened (nat_lt e.inits e.addons) e.inits
+chosen-ticket e phase.Live unasked =
+    ap (λ b. ticket_of (cond b (Some (EndsLoop loop_end.Exit)) (option_map Tickets (lowest_due e.book)))) (unasked refl) ∙ own-ticket (lowest_due e.book)
+chosen-ticket e phase.Hooks unasked = refl
+chosen-ticket e phase.Drain unasked = refl
+chosen-ticket e phase.Finals unasked = last-ticket (lowest_due e.book)
+chosen-ticket e phase.Gone unasked = refl
 
-pub begins-ticket : (e : Environment) (next : Option ℕ) → e.frames ≡ [] → next_ticket e ≡ next → begins_next e ≡ duty_info (uncounted e) (option_map ticket_duty next)
-begins-ticket e next alone is = ap (begins_over e) alone ∙ ap (λ o. duty_info (uncounted e) (option_map ticket_duty o)) (chosen-ticket e e.phase ∙ is)
+pub begins-ticket : (e : Environment) (next : Option ℕ) → e.frames ≡ [] → (e.phase ≡ phase.Live → e.exit_asked ≡ false) → next_ticket e ≡ next
+    → begins_next e ≡ duty_info (uncounted e) (option_map ticket_duty next)
+begins-ticket e next alone unasked is =
+    ap (begins_over e) alone ∙ ap (λ o. duty_info (uncounted e) (option_map ticket_duty o)) (chosen-ticket e e.phase unasked ∙ is)
 
 -- WHAT IS SEEN
 pub seen-same : (all now : List (List DueInfo)) → now ≡ all → HasSeen all [] now

@@ -1,10 +1,11 @@
 -- The frame of a ticket begins.
-use Rattle.std.proofs.Common.{◌≡◌, ◌<◌, ◌≤◌, ◌++◌, ◌∙◌, ℕ, true, List, [], ◌∷◌, length, set, Option, Some, None, option_map, refl, ap, subst, sym, arith}
+use Rattle.std.proofs.Common.{◌≡◌, ◌<◌, ◌≤◌, ◌++◌, ◌∙◌, ℕ, true, false, cond, List, [], ◌∷◌, length, set, Option, Some, None, option_map, refl, ap, subst, sym, arith}
 use Rattle.std.specs.Option.{option_or, option_to_list}
 use Rattle.std.proofs.lemmas.List.Elements.{All-head}
 use Rattle.napi_types.specs.declared.call.Ask.TheVariants as ask
 use Rattle.napi_types.specs.declared.duties.DueInfo.{DueInfo}
 use Rattle.napi_types.specs.declared.entry.Entry.{Entry}
+use Rattle.napi_types.specs.declared.entry.LoopEnd.TheVariants as loop_end
 use Rattle.napi_types.specs.declared.entry.Phase.{Phase}
 use Rattle.napi_types.specs.declared.entry.Phase.TheVariants as phase
 use Rattle.napi_types.specs.Begins.{duty_info}
@@ -12,7 +13,7 @@ use Rattle.napi_types.specs.Book.{Registration, registration_at, is_due, lowest_
 use Rattle.napi_types.specs.Choice.{choice, hub_choice, local_choice_in}
 use Rattle.napi_types.specs.Environment.{Environment}
 use Rattle.napi_types.specs.Frames.{Frame, frame_of_duty}
-use Rattle.napi_types.specs.Loop.{Tickets, IsGone, ticket_in, next_ticket}
+use Rattle.napi_types.specs.Loop.{Tickets, EndsLoop, IsGone, ticket_in, next_ticket}
 use Rattle.napi_types.specs.Machine.{Machine}
 use Rattle.napi_types.specs.Owners.{IsOwned}
 use Rattle.napi_types.specs.Plan.{Plan, with_addon_gifts, with_begun_gifts}
@@ -37,17 +38,17 @@ use Rattle.env_loop.proofs.Seen.{begins-ticket, seen-begun}
 use Rattle.env_loop.proofs.Turns.{after_change-turn}
 
 -- THE NEXT EVENT
--- where a ticket is next its frame is the environment's own next event
-ticket-first : (e : Environment) (p : Phase) (n : ℕ) → ticket_in e p ≡ Some n → local_choice_in e p ≡ Some (Tickets n)
-ticket-first e phase.Live n is = ap (option_map Tickets) is
-ticket-first e phase.Finals n is = ap (λ o. option_or (option_map Tickets o) (Some IsGone)) is
-ticket-first e phase.Init n is = cc
-ticket-first e phase.Hooks n is = cc
-ticket-first e phase.Drain n is = cc
-ticket-first e phase.Gone n is = cc
+-- where a ticket is next its frame is the environment's own next event; in the loop that is so until exit is asked
+ticket-first : (e : Environment) (p : Phase) (n : ℕ) → (p ≡ phase.Live → e.exit_asked ≡ false) → ticket_in e p ≡ Some n → local_choice_in e p ≡ Some (Tickets n)
+ticket-first e phase.Live n unasked is = ap (λ b. cond b (Some (EndsLoop loop_end.Exit)) (option_map Tickets (lowest_due e.book))) (unasked refl) ∙ ap (option_map Tickets) is
+ticket-first e phase.Finals n unasked is = ap (λ o. option_or (option_map Tickets o) (Some IsGone)) is
+ticket-first e phase.Init n unasked is = cc
+ticket-first e phase.Hooks n unasked is = cc
+ticket-first e phase.Drain n unasked is = cc
+ticket-first e phase.Gone n unasked is = cc
 
-ticket-chosen : (m : Machine) (n : ℕ) → next_ticket m.env ≡ Some n → choice m ≡ Some (Tickets n)
-ticket-chosen m n is = ap (λ o. option_or o (hub_choice m.hub)) (ticket-first m.env m.env.phase n is)
+ticket-chosen : (m : Machine) (n : ℕ) → (m.env.phase ≡ phase.Live → m.env.exit_asked ≡ false) → next_ticket m.env ≡ Some n → choice m ≡ Some (Tickets n)
+ticket-chosen m n unasked is = ap (λ o. option_or o (hub_choice m.hub)) (ticket-first m.env m.env.phase n unasked is)
 
 -- which stands in the journal
 ticket-side : (m : Machine) (n : ℕ) → (event_step m (Tickets n)).side ≡ Journal
@@ -57,10 +58,10 @@ ticket-side m n = by (registration_at m.env.book n)
     by None = refl
     by (Some r) = refl
 
-pub turn-of-ticket : (e : Environment) (n : ℕ) → e.frames ≡ [] → next_ticket e ≡ Some n → turn_of e ≡ turn.Made
-turn-of-ticket e n alone is =
+pub turn-of-ticket : (e : Environment) (n : ℕ) → e.frames ≡ [] → (e.phase ≡ phase.Live → e.exit_asked ≡ false) → next_ticket e ≡ Some n → turn_of e ≡ turn.Made
+turn-of-ticket e n alone unasked is =
     ap (λ fs. turn_at fs (side_of (uncounted e) (choice (uncounted e)))) alone
-    ∙ ap (λ o. turn_at [] (side_of (uncounted e) o)) (ticket-chosen (uncounted e) n is)
+    ∙ ap (λ o. turn_at [] (side_of (uncounted e) o)) (ticket-chosen (uncounted e) n unasked is)
     ∙ ap (λ (s : Side). turn_at [] (Some s)) (ticket-side (uncounted e) n)
 
 -- it is due
@@ -79,31 +80,32 @@ ticket-due e n r is there =
     ap (λ (q : Registration). is_due q.state) (sym same) ∙ d.due
 
 -- A RECORDED RUN GOES ON
-ticket-next : (m : Machine) (n : ℕ) (r : Registration) → m.env.frames ≡ [] → next_ticket m.env ≡ Some n → registration_at m.env.book n ≡ Some r
-    → step m (ask.Leave None) (ticket_change n r m.env).entry ≡ locally m (ticket_change n r m.env) true
-ticket-next m n r alone is there =
-    ap (env_step m (ask.Leave None) (ticket_change n r m.env).entry.reply.out) alone ∙ ap (chosen m) (ticket-chosen m n is) ∙ ap (ticket_step m n) there
+ticket-next : (m : Machine) (n : ℕ) (r : Registration) → m.env.frames ≡ [] → (m.env.phase ≡ phase.Live → m.env.exit_asked ≡ false) → next_ticket m.env ≡ Some n
+    → registration_at m.env.book n ≡ Some r → step m (ask.Leave None) (ticket_change n r m.env).entry ≡ locally m (ticket_change n r m.env) true
+ticket-next m n r alone unasked is there =
+    ap (env_step m (ask.Leave None) (ticket_change n r m.env).entry.reply.out) alone ∙ ap (chosen m) (ticket-chosen m n unasked is) ∙ ap (ticket_step m n) there
     ∙ ap (locally m (ticket_change n r m.env)) (ticket-due m.env n r is there)
 
 pub ticket-grown : (s : Setting) (core : Core) (history : List Entry) (all : AddonStates) (firsts : List (List DueInfo)) (rec : IsRecorded s core history all firsts)
     (now : AddonStates) (n : ℕ) (r : Registration)
-    → core.env.frames ≡ [] → next_ticket core.env ≡ Some n → registration_at core.env.book n ≡ Some r
+    → core.env.frames ≡ [] → (core.env.phase ≡ phase.Live → core.env.exit_asked ≡ false) → next_ticket core.env ≡ Some n → registration_at core.env.book n ≡ Some r
     → Kept s.plans now.registers (with_addon_gifts rec.own r.addon (due_info n r).gifts) → HasSeen all.seen (due_info n r ∷ []) now.seen
     → IsRecorded s (after_change (ticket_change n r core.env) core) history now firsts
-ticket-grown s core history all firsts rec now n r alone is there kept seen =
+ticket-grown s core history all firsts rec now n r alone unasked is there kept seen =
     let m : Machine = machine_of s.limits core history in
     let told : duty_info m (Some (due_info n r).duty) ≡ Some (due_info n r) = ap (option_map (due_info n)) there in
     let P : Option DueInfo → Type 0 = λ d. HasSeen all.seen (option_to_list d) now.seen in
     local-grown s core history all firsts rec (ask.Leave None) (ticket_change n r core.env) (with_addon_gifts rec.own r.addon (due_info n r).gifts) now
-    (ticket-next m n r alone is there) refl (rw alone refl) (ap (with_begun_gifts rec.own core.env.heap (ask.Leave None)) told)
+    (ticket-next m n r alone unasked is there) refl (rw alone refl) (ap (with_begun_gifts rec.own core.env.heap (ask.Leave None)) told)
     kept.count kept.agrees (subst P (sym told) seen) refl
 
 -- A TURN
-pub ticket-turn : (ps : List Plan) (all now : AddonStates) (core new : Core) (due info : DueInfo) → IsSoundEnvironment core.env → core.env.frames ≡ [] → BeginsTicket core due new
+pub ticket-turn : (ps : List Plan) (all now : AddonStates) (core new : Core) (due info : DueInfo) → IsSoundEnvironment core.env → core.env.frames ≡ []
+    → (core.env.phase ≡ phase.Live → core.env.exit_asked ≡ false) → BeginsTicket core due new
     → core.env.addons ≤ length all.registers → core.env.addons ≤ length all.seen
     → info ≡ due → now.registers ≡ with_addon_gifts all.registers info.addon due.gifts → now.seen ≡ set all.seen info.addon (seen_of all.seen info.addon ++ due ∷ [])
     → IsTurn ps core all new now
-ticket-turn ps all now core new due info sound alone begins enough as_many told given seen =
+ticket-turn ps all now core new due info sound alone unasked begins enough as_many told given seen =
     let n : ℕ = begins.ticket in
     let r : Registration = begins.registration in
     let d : DueInfo = due_info n r in
@@ -116,7 +118,7 @@ ticket-turn ps all now core new due info sound alone begins enough as_many told 
     let saw : HasSeen all.seen (d ∷ []) now.seen =
     seen-begun all.seen now.seen d within (seen ∙ ap (λ (x : DueInfo). set all.seen x.addon (seen_of all.seen x.addon ++ due ∷ [])) told
     ∙ ap (λ (x : DueInfo). set all.seen x.addon (seen_of all.seen x.addon ++ x ∷ [])) begins.told) in
-    let next : begins_next core.env ≡ Some d = begins-ticket core.env (Some n) alone begins.next ∙ ap (option_map (due_info n)) begins.registered in
+    let next : begins_next core.env ≡ Some d = begins-ticket core.env (Some n) alone unasked begins.next ∙ ap (option_map (due_info n)) begins.registered in
     let P : Option DueInfo → Type 0 = λ o. HasSeen all.seen (option_to_list o) now.seen in
     let left : IsSoundEnvironment (ticket_change n r core.env).after = record {
       opened = sound.opened;
@@ -131,7 +133,7 @@ ticket-turn ps all now core new due info sound alone begins enough as_many told 
     (subst P (sym next) saw) left refl refl
     (λ s history firsts of rec.
     let below : r.addon < length s.plans = omega (arith, of.count, there) in
-    ticket-grown s core history all firsts rec now n r alone begins.next begins.registered
+    ticket-grown s core history all firsts rec now n r alone unasked begins.next begins.registered
     (given-kept s.plans all.registers rec.own now.registers r.addon d.gifts rec.count rec.agrees below inside given_it) saw)
   where
     not-gone : (p : Phase) → p ≡ phase.Gone → ticket_in core.env p ≡ Some begins.ticket → ⊥

@@ -1,5 +1,5 @@
 -- A running environment: its core, the hub's entries so far, and the duty whose frame stands.
-use Rattle.std.specs.Prelude.{◌≡◌, ◌≢◌, ◌+◌, true, List, [], ◌∷◌, ◌++◌, length, Option, None, option_map}
+use Rattle.std.specs.Prelude.{◌≡◌, ◌≢◌, ◌+◌, true, List, [], ◌∷◌, ◌++◌, Option, None, option_map}
 use Rattle.std.specs.List.{All}
 use Rattle.std.specs.Option.{option_to_list}
 use Rattle.napi_types.specs.declared.duties.DueInfo.{DueInfo}
@@ -17,6 +17,7 @@ use Rattle.napi_types.specs.Plan.{Plan}
 use Rattle.napi_types.specs.Room.{stage_places}
 use Rattle.napi_types.specs.Setting.{Setting}
 use Rattle.env_core.specs.Core.{Core, opened_core}
+use Rattle.env_teardown.specs.Hubs.{QuietHub}
 use Rattle.env_loop.specs.Recording.{AddonStates, IsOf, IsRecorded}
 
 -- the environment with its journal, the history, and what the duty told whose frame stands, where one does
@@ -47,11 +48,11 @@ pub record IsSoundEnvironment (e : Environment) : Type 0 where
 abbrev pub Holds : List Frame → Option DueInfo → Type 0
 Holds fs begun = duties_of fs ≡ option_to_list (option_map (λ d. d.duty) begun)
 
--- the same of a run, the duty of its frames is the one that it holds, and its history has an entry for each of the hub's events that happened
-pub record IsRunning (core : Core) (history : List Entry) (begun : Option DueInfo) : Type 0 where
+-- the same of a run, the duty of its frames is the one that it holds, and its phase shows how far its hub is
+pub record IsRunning (core : Core) (hub : QuietHub) (begun : Option DueInfo) : Type 0 where
   pub sound : IsSoundEnvironment core.env
   pub held : Holds core.env.frames begun
-  pub events : length history + stage_places (stage_of core.env.phase) ≡ 4
+  pub shown : hub.stage ≡ stage_of core.env.phase
 
 -- the second list has one entry more at its end
 pub record OneMore (old new : List Local) : Type 0 where

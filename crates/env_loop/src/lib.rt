@@ -3,7 +3,6 @@
 //! that a run that was recorded goes on (`specs/Recording.antt`). The crate that reads scripts and writes traces stands above.
 #![tactic(auto)]
 
-mod history;
 mod run;
 mod turn;
 

@@ -1,32 +1,28 @@
 //! A running environment, and a run without other actors.
-ghost use Rattle.std.specs.Prelude.{◌≡◌, ◌≢◌, ℕ, ◌+◌, ◌<◌, ◌≤◌, ◌↔◌, [], ◌∷◌, ◌++◌, length, map, drop, IfOk, Option, Some, None};
+ghost use Rattle.std.specs.Prelude.{◌≡◌, ◌≢◌, ℕ, ◌<◌, ◌≤◌, ◌↔◌, [], ◌++◌, length, map, drop, IfOk, None};
 ghost use Rattle.std.specs.Option.{option_to_list};
-ghost use Rattle.napi_types.specs.declared.duties.DueInfo.{DueInfo};
 ghost use Rattle.napi_types.specs.Begins.{of_addon};
-ghost use Rattle.napi_types.specs.Changes.{host_entry, in_phase};
-ghost use Rattle.napi_types.specs.Phases.{next_phase, stage_of};
-ghost use Rattle.napi_types.specs.Room.{stage_places};
+ghost use Rattle.napi_types.specs.Phases.{stage_of};
+ghost use Rattle.napi_types.specs.Room.{most_entries};
 ghost use Rattle.addon_trait.specs.Addons.{seen_of};
 ghost use Rattle.env_loop.specs.Recording.{AddonStates};
 ghost use Rattle.env_loop.specs.Runs.{IsOpened, opened_run, OneMore, Extends, GoesOn, MovesOn};
 ghost use Rattle.env_loop.specs.Turns.{turn_of, begins_next, OnlyInnermostChanges};
 
-use crate::history::History;
 use crate::turn::{LocalTurn, turn};
 use addon_trait::Addon;
 use env_core::EnvCore;
-use napi_types::{
-    Actor, Begun, Entry, HostStep, LoopEnd, NoMemory, Out, Phase, Record, Reply, Status, What,
-};
+use env_teardown::{Quiet, teardown_step};
+use napi_types::{Begun, Limits, NoMemory, Phase, Record};
 use std::alloc::Global;
 use std::marker::Model;
 
-/// An environment that runs, with the hub's entries. It has to be spent, by `retire` or `into_record`.
+/// An environment that runs, with its hub. It has to be spent, by `retire` or `into_record`.
 ///
 /// No other actor is there, so the hub has its four events alone.
 pub struct EnvRun {
     core: EnvCore,
-    history: History,
+    hub: Quiet,
     // The duty whose frame stands: it has begun, and ends with the frame.
     begun: Option<Begun>,
 }
@@ -36,21 +32,25 @@ impl Model for EnvRun {
 
     ghost Value = { Run };
 
-    ghost view = { λ run. record { core = run.core; history = run.history; begun = run.begun } };
+    ghost view = { λ run. record { core = run.core; history = run.hub.history; begun = run.begun } };
 
-    ghost invariant = { λ run. IsRunning run.core run.history run.begun };
+    ghost invariant = { λ run. IsRunning run.core run.hub run.begun };
 }
 
 impl EnvRun {
     /// Runs an environment of which no event was made but its opening. The memory for the hub's entries is taken here.
-    pub fn new(alloc: Global, core: EnvCore) -> Result<EnvRun, NoMemory>
-        requires { IsOpened core }
+    ///
+    /// `limits.history` is from 4, the places of the events that every run has, to 4,194,304; `limits.journal` is not read.
+    pub fn new(alloc: Global, core: EnvCore, limits: Limits) -> Result<EnvRun, NoMemory>
+        requires opened { IsOpened core }
+        requires room { 4 ≤ limits.history }
+        requires most { limits.history ≤ most_entries }
         ensures { IfOk result (λ run. run ≡ opened_run core) }
     {
-        let history = History::new(alloc)?;
+        let hub = Quiet::new(alloc, limits)?;
         Ok(EnvRun {
             core,
-            history,
+            hub,
             begun: None,
         })
     }
@@ -59,8 +59,8 @@ impl EnvRun {
     /// more in the journal. `NeedsHub` is answered where the next event is one of the hub, and again until the hub has made it;
     /// `Gone` once the environment is gone. After those two all is as it was.
     ///
-    /// In the loop and after `finals` the lowest ticket that is due begins its frame, where no frame stands; its addon has then
-    /// seen what it tells. The ticket ends with its frame.
+    /// In the loop, until exit is asked, and after `finals` the lowest ticket that is due begins its frame, where no frame stands; its
+    /// addon has then seen what it tells. The ticket ends with its frame.
     ///
     /// The first addons are those of the script, at least as many as the environment has. The time is that of the call, or of
     /// closing the scopes of the frame that ends.
@@ -106,12 +106,27 @@ impl EnvRun {
         turn(&mut self.core, &mut self.begun, addons)
     }
 
-    /// Makes the hub's next event, where one is next.
+    /// Makes the hub's next event, where one is next: `go`, then `loop_end`, because exit was asked or because nothing is left to do, and then
+    /// the steps of the teardown.
     fn hub_turn(&mut self)
         requires { turn_of self.old.core.env ≡ LocalTurn.NeedsHub }
         ensures { MovesOn self.old self.new }
     {
-        hub_event(&mut self.core, &mut self.history);
+        match self.core.phase() {
+            Phase::Init => {
+                self.hub.go();
+                self.core.advance(Phase::Live, position(&self.hub));
+            }
+            Phase::Live => {
+                let exit = self.core.exit_asked();
+                let due = self.core.has_local();
+                let _ = self.hub.loop_end(exit, due);
+                self.core.advance(Phase::Hooks, position(&self.hub));
+            }
+            _ => {
+                let _ = teardown_step(&mut self.core, &mut self.hub);
+            }
+        }
     }
 
     /// Ends the run without an event, where no frame stands. It takes no memory.
@@ -120,7 +135,7 @@ impl EnvRun {
     {
         let EnvRun {
             core: _,
-            history: _,
+            hub: _,
             begun,
         } = self;
         none_stands(begun);
@@ -132,17 +147,20 @@ impl EnvRun {
         ensures journal { result.journal ≡ self.core.journal }
         ensures history { result.history ≡ self.history }
     {
-        let EnvRun {
-            core,
-            history,
-            begun,
-        } = self;
+        let EnvRun { core, hub, begun } = self;
         none_stands(begun);
         Record {
             journal: core.into_journal(),
-            history: history.into_entries(),
+            history: hub.into_history(),
         }
     }
+}
+
+/// The position of what comes next: the length of the history.
+fn position(hub: &Quiet) -> u64
+    ensures { result ≡ length hub.now.history }
+{
+    hub.history().len() as u64
 }
 
 /// Spends what a run holds of a duty whose frame stands, where none stands.
@@ -152,57 +170,6 @@ fn none_stands(begun: Option<Begun>)
     if let Some(begun) = begun {
         let _ = begun.end();
         unreachable!();
-    }
-}
-
-/// An event of the hub, at which the next phase of the environment starts.
-fn move_on(core: &mut EnvCore, history: &mut History, event: HostStep, out: Out, phase: Phase)
-    requires alone { core.old.env.frames ≡ [] }
-    requires next { next_phase core.old.env.phase ≡ Some phase }
-    requires before { phase ≢ Phase.Gone }
-    requires room { length history.old < 4 }
-    ensures history { history.new ≡ history.old ++ host_entry event out ∷ [] }
-    ensures core { core.new ≡ record core.old { env = in_phase phase core.old.env; position = length history.old + 1 } }
-{
-    history.push(Entry {
-        actor: Actor::Env,
-        depth: 0,
-        step: 0,
-        what: What::Host(event),
-        reply: Reply {
-            status: Status::Ok,
-            out,
-            dropped: None,
-            made: None,
-        },
-        given: None,
-    });
-    core.advance(phase, history.len());
-}
-
-/// The hub's next event: `go`, then `loop_end`, since nothing is left to do, then `drain`, which finds nothing, and `finals`, at which every
-/// ticket that is registered falls due.
-fn hub_event(core: &mut EnvCore, history: &mut History)
-    requires needs { turn_of core.old.env ≡ LocalTurn.NeedsHub }
-    requires events { length history.old + stage_places (stage_of core.old.env.phase) ≡ 4 }
-    ensures { (begun : Option DueInfo) → MovesOn (record { core = core.old; history = history.old; begun = begun })
-        (record { core = core.new; history = history.new; begun = begun }) }
-{
-    match core.phase() {
-        Phase::Init => move_on(core, history, HostStep::Go, Out::Nothing, Phase::Live),
-        Phase::Live => {
-            let idle = Out::Ended(LoopEnd::Idle);
-            move_on(core, history, HostStep::LoopEnd, idle, Phase::Hooks);
-        }
-        Phase::Hooks => move_on(
-            core,
-            history,
-            HostStep::Drain,
-            Out::Unsigned(0),
-            Phase::Drain,
-        ),
-        Phase::Drain => move_on(core, history, HostStep::Finals, Out::Nothing, Phase::Finals),
-        Phase::Finals | Phase::Gone => unreachable!(),
     }
 }
 

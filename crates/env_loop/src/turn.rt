@@ -176,6 +176,7 @@ fn ticket_turn(
     requires sound { IsSoundEnvironment core.old.env }
     requires held { Holds core.old.env.frames begun.old }
     requires alone { core.old.env.frames ≡ [] }
+    requires unasked { core.old.env.phase ≡ Phase.Live → core.old.env.exit_asked ≡ false }
     requires enough { core.old.env.addons ≤ length addons.old.items }
     ensures count { length addons.new.items ≡ length addons.old.items }
     ensures plans { map (λ b. plan b) addons.new.items ≡ map (λ b. plan b) addons.old.items }
@@ -239,6 +240,8 @@ fn event_turn(
             }
             None => LocalTurn::NeedsHub,
         },
+        // Once exit was asked the loop ends, whatever is due.
+        Phase::Live if core.exit_asked() => LocalTurn::NeedsHub,
         Phase::Live => {
             if ticket_turn(core, begun, addons) {
                 LocalTurn::Made

@@ -58,7 +58,7 @@ pub(crate) fn run(
 {
     let count = given.items().len() as u32;
     let core = EnvCore::new(alloc, NAPI_VERSION, count, texts, LIMITS)?;
-    let mut env = EnvRun::new(alloc, core)?;
+    let mut env = EnvRun::new(alloc, core, LIMITS)?;
     load_all(addons, given);
     run_alone(&mut env, addons);
     Ok(env.into_record())
