@@ -1,8 +1,8 @@
 -- Which ticket begins next, and where one may begin.
-use Rattle.std.proofs.Common.{◌≡◌, ◌<◌, ◌≤◌, ◌∙◌, ℕ, zero, suc, ◌+◌, nat_lt, Bool, true, false, cond, List, [], ◌∷◌, length, refl, ap, sym, subst, Option, Some, None, option_map, inl, inr, ◌⊎◌, arith}
+use Rattle.std.proofs.Common.{◌≡◌, ◌<◌, ◌≤◌, ◌∙◌, ℕ, zero, suc, ◌+◌, nat_lt, Bool, true, false, cond, not, List, [], ◌∷◌, length, refl, ap, sym, subst, Option, Some, None, option_map, inl, inr, ◌⊎◌, arith}
 use Rattle.std.specs.List.{find, range_with_len}
 use Rattle.std.specs.Option.{option_or}
-use Rattle.std.proofs.lemmas.Bool.{cases_lt, cases_eq}
+use Rattle.std.proofs.lemmas.Bool.{cases_lt, cases_eq, not-true}
 use Rattle.napi_types.specs.declared.call.Ask.{Ask}
 use Rattle.napi_types.specs.declared.call.Ask.TheVariants as ask
 use Rattle.napi_types.specs.declared.call.Args.{Args}
@@ -31,22 +31,22 @@ use Rattle.napi_types.specs.Environment.{Environment}
 use Rattle.napi_types.specs.Frames.{Frame}
 use Rattle.napi_types.specs.Hub.{Hub, Stage, Before, Going, Looped, Drained, Final, hub_next}
 use Rattle.napi_types.specs.Lists.{up_to}
-use Rattle.napi_types.specs.Loop.{Event, Opens, Inits, Tickets, IsGone}
+use Rattle.napi_types.specs.Loop.{Event, Opens, Inits, Tickets, EndsLoop, IsGone}
 use Rattle.napi_types.specs.Machine.{Machine}
 use Rattle.napi_types.specs.Refusals.{refusal}
 use Rattle.napi_types.specs.Run.{IsNext}
 use Rattle.napi_types.specs.Step.{Step, locally, hub_moved, ticket_step, chosen, frame_step, step, cut_of}
-use Rattle.machine_laws.specs.Choices.{begins_tickets, LowestDueTicketComesFirst, BeginsLowest, FinalizersBeginInTheLoopOrAtTheEnd, LowestDueIsLowest}
+use Rattle.machine_laws.specs.Choices.{begins_tickets_in, begins_tickets, LowestDueTicketComesFirst, BeginsLowest, FinalizersBeginInTheLoopOrAtTheEnd, LowestDueIsLowest}
 use Rattle.napi_types.proofs.Books.{IsDueAt, lowest-due}
 use Rattle.napi_types.proofs.FrameEnds.{ended-ends}
 use Rattle.machine_laws.proofs.Choosing.{by-env, chosen-next}
 use Rattle.machine_laws.proofs.Cutting.{frame-step}
 
 -- THE LOWEST COMES FIRST
--- in these phases it is chosen
-ticket-chosen : (e : Environment) (p : Phase) (n : ℕ) (o : Option Event) → begins_tickets p ≡ true → lowest_due e.book ≡ Some n
+-- where tickets begin it is chosen
+ticket-chosen : (e : Environment) (p : Phase) (n : ℕ) (o : Option Event) → begins_tickets_in e p ≡ true → lowest_due e.book ≡ Some n
     → option_or (local_choice_in e p) o ≡ Some (Tickets n)
-ticket-chosen e phase.Live n o begins lowest = rw lowest refl
+ticket-chosen e phase.Live n o begins lowest = rw (not-true e.exit_asked begins, lowest) refl
 ticket-chosen e phase.Finals n o begins lowest = rw lowest refl
 ticket-chosen e phase.Init n o begins lowest = cc
 ticket-chosen e phase.Hooks n o begins lowest = cc
@@ -106,33 +106,36 @@ hub-begins m Drained d is told = moved-begins m host.Finals phase.Finals out.Not
 hub-begins m Final d is told = cc
 
 -- a ticket's frame tells its duty
-ticket-begins : (m : Machine) (n : ℕ) (r : Option Registration) → m.env.frames ≡ [] → begins_tickets m.env.phase ≡ true → lowest_due m.env.book ≡ Some n
+ticket-begins : (m : Machine) (n : ℕ) (r : Option Registration) → m.env.frames ≡ [] → begins_tickets m.env ≡ true → lowest_due m.env.book ≡ Some n
     → BeginsSo m (ticket_step m n r)
 ticket-begins m n None alone begins lowest d is told = cc
 ticket-begins m n (Some r) alone begins lowest d is told =
-    let same : d ≡ ticket_duty n = cc in record { ticket = n; duty = same; alone = alone; phase = begins; lowest = lowest }
+    let same : d ≡ ticket_duty n = cc in record { ticket = n; duty = same; alone = alone; moment = begins; lowest = lowest }
 
 init-begins : (m : Machine) (n : ℕ) (b c : Bool) (s : Stage) → BeginsSo m (chosen m (option_or (cond b (cond c (Some (Inits n)) None) (Some Opens)) (hub_choice_at s)))
 init-begins m n true true s d is told = cc
 init-begins m n true false s d is told = hub-begins m s d is told
 init-begins m n false c s d is told = cc
 
-loop-begins : (m : Machine) (o : Option ℕ) (s : Stage) → lowest_due m.env.book ≡ o → m.env.frames ≡ [] → begins_tickets m.env.phase ≡ true
-    → BeginsSo m (chosen m (option_or (option_map Tickets o) (hub_choice_at s)))
-loop-begins m None s lowest alone begins d is told = hub-begins m s d is told
-loop-begins m (Some n) s lowest alone begins d is told = ticket-begins m n (registration_at m.env.book n) alone begins lowest d is told
+loop-begins : (m : Machine) (exit : Bool) (o : Option ℕ) (s : Stage) → lowest_due m.env.book ≡ o → m.env.frames ≡ [] → (exit ≡ false → begins_tickets m.env ≡ true)
+    → BeginsSo m (chosen m (option_or (cond exit (Some (EndsLoop loop_end.Exit)) (option_map Tickets o)) (hub_choice_at s)))
+loop-begins m true o s lowest alone begins d is told = moved-begins m host.LoopEnd phase.Hooks (out.Ended loop_end.Exit) (hub_next m.hub host.LoopEnd) refl d is told
+loop-begins m false None s lowest alone begins d is told = hub-begins m s d is told
+loop-begins m false (Some n) s lowest alone begins d is told = ticket-begins m n (registration_at m.env.book n) alone (begins refl) lowest d is told
 
-finals-begins : (m : Machine) (o : Option ℕ) (s : Stage) → lowest_due m.env.book ≡ o → m.env.frames ≡ [] → begins_tickets m.env.phase ≡ true
+finals-begins : (m : Machine) (o : Option ℕ) (s : Stage) → lowest_due m.env.book ≡ o → m.env.frames ≡ [] → begins_tickets m.env ≡ true
     → BeginsSo m (chosen m (option_or (option_or (option_map Tickets o) (Some IsGone)) (hub_choice_at s)))
 finals-begins m None s lowest alone begins d is told = cc
 finals-begins m (Some n) s lowest alone begins d is told = ticket-begins m n (registration_at m.env.book n) alone begins lowest d is told
 
 event-begins : (m : Machine) (p : Phase) (s : Stage) → m.env.phase ≡ p → m.env.frames ≡ [] → BeginsSo m (chosen m (option_or (local_choice_in m.env p) (hub_choice_at s)))
 event-begins m phase.Init s here alone d is told = init-begins m m.env.inits m.env.opened (nat_lt m.env.inits m.env.addons) s d is told
-event-begins m phase.Live s here alone d is told = loop-begins m (lowest_due m.env.book) s refl alone (ap begins_tickets here) d is told
+event-begins m phase.Live s here alone d is told =
+    let begins : m.env.exit_asked ≡ false → begins_tickets m.env ≡ true = λ unasked. ap (begins_tickets_in m.env) here ∙ ap not unasked in
+    loop-begins m m.env.exit_asked (lowest_due m.env.book) s refl alone begins d is told
 event-begins m phase.Hooks s here alone d is told = hub-begins m s d is told
 event-begins m phase.Drain s here alone d is told = hub-begins m s d is told
-event-begins m phase.Finals s here alone d is told = finals-begins m (lowest_due m.env.book) s refl alone (ap begins_tickets here) d is told
+event-begins m phase.Finals s here alone d is told = finals-begins m (lowest_due m.env.book) s refl alone (ap (begins_tickets_in m.env) here) d is told
 event-begins m phase.Gone s here alone d is told = hub-begins m s d is told
 
 step-begins : (m : Machine) (a : Ask) (x : Entry) (fs : List Frame) → m.env.frames ≡ fs → IsNext m a x → BeginsSo m (step m a x)

@@ -1,5 +1,5 @@
 -- What may come where no frame stands, and where one does.
-use Rattle.std.proofs.Common.{◌≡◌, ◌≤◌, ℕ, nat_lt, Bool, true, false, cond, List, [], ◌∷◌, IsTrue, refl, ap, sym, ◌∙◌, subst, Option, Some, None, option_map, arith}
+use Rattle.std.proofs.Common.{◌≡◌, ◌≤◌, ℕ, nat_lt, Bool, true, false, cond, List, [], ◌∷◌, IsTrue, refl, ap, sym, ◌∙◌, subst, Option, Some, None, is_some, option_map, arith}
 use Rattle.std.specs.Option.{option_or, IfSome}
 use Rattle.napi_types.specs.declared.call.Ask.{Ask}
 use Rattle.napi_types.specs.declared.call.Ask.TheVariants as ask
@@ -11,6 +11,7 @@ use Rattle.napi_types.specs.declared.entry.Actor.TheVariants as actor
 use Rattle.napi_types.specs.declared.entry.Entry.{Entry}
 use Rattle.napi_types.specs.declared.entry.HostStep.{HostStep}
 use Rattle.napi_types.specs.declared.entry.HostStep.TheVariants as host
+use Rattle.napi_types.specs.declared.entry.LoopEnd.{LoopEnd}
 use Rattle.napi_types.specs.declared.entry.LoopEnd.TheVariants as loop_end
 use Rattle.napi_types.specs.declared.entry.Out.{Out}
 use Rattle.napi_types.specs.declared.entry.Out.TheVariants as out
@@ -36,7 +37,7 @@ use Rattle.napi_types.specs.Phases.{stage_of}
 use Rattle.napi_types.specs.Run.{IsNext, after, final}
 use Rattle.napi_types.specs.Step.{Step, locally, hub_moved, ticket_step, event_step, chosen, frame_step, env_step, step_of, step, cut_of}
 use Rattle.napi_types.specs.Setting.{opening_of, final_of}
-use Rattle.machine_laws.specs.Choices.{is_of_frames, NoneIsChosenInFrames, TellsFrame, BeginsTellTheirFrames, OwnEventsComeFirst, IsOfHub, HubEventsComeLast, MayGo, GoComesAfterInitFrames, GoneComesAfterFinals, HubIsInPhase, GoComesOnlyAfterInitFrames}
+use Rattle.machine_laws.specs.Choices.{is_of_frames, NoneIsChosenInFrames, TellsFrame, BeginsTellTheirFrames, may_come_to, OwnEventsComeFirst, IsOfHub, HubEventsComeLast, MayGo, GoComesAfterInitFrames, GoneComesAfterFinals, HubIsInPhase, GoComesOnlyAfterInitFrames}
 use Rattle.napi_types.proofs.Answers.{course-parts}
 use Rattle.napi_types.proofs.FrameChanges.{ended-keeps, asked_change-fits}
 use Rattle.napi_types.proofs.FrameEnds.{ended-ends}
@@ -155,11 +156,13 @@ alone-next m a x other next =
     let s : step m a x ≡ chosen m (choice m) = chosen-next m a x (by-env m a x x.actor next.1) alone in
     record { alone = alone; entry = next.0 ∙ ap (λ (t : Step). t.entry) s; may = subst (λ (t : Step). IsTrue t.may) s next.1 }
 
--- THE ENVIRONMENT'S OWN EVENTS
+-- THE ENVIRONMENT'S EVENTS
+-- those that it decides alone
 abbrev IsOwn : Event → Type 0
 IsOwn Opens = Unit {0}
 IsOwn (Inits n) = Unit {0}
 IsOwn (Tickets n) = Unit {0}
+IsOwn (EndsLoop reason) = Unit {0}
 IsOwn IsGone = Unit {0}
 IsOwn _ = ⊥
 
@@ -171,9 +174,10 @@ init-own n true true v h = of-some (Inits n) v h tt
 init-own n true false v h = cc
 init-own n false c v h = of-some Opens v h tt
 
-loop-own : (o : Option ℕ) (v : Event) → option_map Tickets o ≡ Some v → IsOwn v
-loop-own None v h = cc
-loop-own (Some n) v h = of-some (Tickets n) v h tt
+loop-own : (exit : Bool) (o : Option ℕ) (v : Event) → cond exit (Some (EndsLoop loop_end.Exit)) (option_map Tickets o) ≡ Some v → IsOwn v
+loop-own true o v h = of-some (EndsLoop loop_end.Exit) v h tt
+loop-own false None v h = cc
+loop-own false (Some n) v h = of-some (Tickets n) v h tt
 
 finals-own : (o : Option ℕ) (v : Event) → option_or (option_map Tickets o) (Some IsGone) ≡ Some v → IsOwn v
 finals-own None v h = of-some IsGone v h tt
@@ -181,23 +185,32 @@ finals-own (Some n) v h = of-some (Tickets n) v h tt
 
 local-own : (e : Environment) (p : Phase) (v : Event) → local_choice_in e p ≡ Some v → IsOwn v
 local-own e phase.Init v h = init-own e.inits e.opened (nat_lt e.inits e.addons) v h
-local-own e phase.Live v h = loop-own (lowest_due e.book) v h
+local-own e phase.Live v h = loop-own e.exit_asked (lowest_due e.book) v h
 local-own e phase.Finals v h = finals-own (lowest_due e.book) v h
 local-own e _ v h = cc
 
--- they do not read the hub
+-- they do not read the hub, but that it must still end the loop
 ticket-next : (m : Machine) (h : Hub) (n : ℕ) (r : Option Registration) (x : Entry) → (x ≡ (ticket_step m n r).entry) × IsTrue (ticket_step m n r).may
     → (x ≡ (ticket_step (record m { hub = h }) n r).entry) × IsTrue (ticket_step (record m { hub = h }) n r).may
 ticket-next m h n None x next = next
 ticket-next m h n (Some r) x next = next
 
-own-next : (m : Machine) (h : Hub) (v : Event) (x : Entry) → IsOwn v → (x ≡ (event_step m v).entry) × IsTrue (event_step m v).may
+ended-next : (m : Machine) (h : Hub) (reason : LoopEnd) (here there : Option Hub) (x : Entry) → is_some there ≡ true
+    → (x ≡ (hub_moved m host.LoopEnd phase.Hooks (out.Ended reason) here).entry) × IsTrue (hub_moved m host.LoopEnd phase.Hooks (out.Ended reason) here).may
+    → (x ≡ (hub_moved (record m { hub = h }) host.LoopEnd phase.Hooks (out.Ended reason) there).entry)
+    × IsTrue (hub_moved (record m { hub = h }) host.LoopEnd phase.Hooks (out.Ended reason) there).may
+ended-next m h reason (Some here) (Some there) x comes next = next
+ended-next m h reason None there x comes next = let z : IsTrue false = next.1 in cc
+ended-next m h reason (Some here) None x comes next = cc
+
+own-next : (m : Machine) (h : Hub) (v : Event) (x : Entry) → IsOwn v → may_come_to h v ≡ true → (x ≡ (event_step m v).entry) × IsTrue (event_step m v).may
     → (x ≡ (event_step (record m { hub = h }) v).entry) × IsTrue (event_step (record m { hub = h }) v).may
-own-next m h Opens x own n = n
-own-next m h (Inits k) x own n = n
-own-next m h (Tickets k) x own n = ticket-next m h k (registration_at m.env.book k) x n
-own-next m h IsGone x own n = n
-own-next m h _ x own n = absurd own
+own-next m h Opens x own comes n = n
+own-next m h (Inits k) x own comes n = n
+own-next m h (Tickets k) x own comes n = ticket-next m h k (registration_at m.env.book k) x n
+own-next m h (EndsLoop reason) x own comes n = ended-next m h reason (hub_next m.hub host.LoopEnd) (hub_next h host.LoopEnd) x comes n
+own-next m h IsGone x own comes n = n
+own-next m h _ x own comes n = absurd own
 
 pub own-first : OwnEventsComeFirst
 own-first m v a x alone chosen_own next =
@@ -208,7 +221,7 @@ own-first m v a x alone chosen_own next =
     λ h. chosen-next (record m { hub = h }) a x who alone ∙ ap (λ c. chosen (record m { hub = h }) (option_or c (hub_choice h))) chosen_own in
     record {
       entry = (subst P here next).0;
-      anyhow = λ h. subst P (sym (there h)) (own-next m h v x (local-own m.env m.env.phase v chosen_own) (subst P here next));
+      anyhow = λ h comes. subst P (sym (there h)) (own-next m h v x (local-own m.env m.env.phase v chosen_own) comes (subst P here next));
     }
 
 -- THE HUB'S EVENTS
@@ -223,7 +236,7 @@ hub-last m a x alone none next =
     of-hub m x (hub_choice m.hub) refl (next.0 ∙ ap (λ (t : Step). t.entry) here) (subst (λ (t : Step). IsTrue t.may) here next.1)
 
 -- another entry than that of the event that moves the hub
-moved-other : (m : Machine) (event other : HostStep) (p : Phase) (o : Out) (h : Option Hub) (x : Entry) → (event ≡ other → ⊥) → x.what ≡ what.Host other
+pub moved-other : (m : Machine) (event other : HostStep) (p : Phase) (o : Out) (h : Option Hub) (x : Entry) → (event ≡ other → ⊥) → x.what ≡ what.Host other
     → x ≡ (hub_moved m event p o h).entry → IsTrue (hub_moved m event p o h).may → ⊥
 moved-other m event other p o None x apart is e t = cc
 moved-other m event other p o (Some h) x apart is e t =
@@ -241,7 +254,7 @@ hub-go m Looped x is e t = absurd (moved-other m host.Drain host.Go phase.Drain 
 hub-go m Drained x is e t = absurd (moved-other m host.Finals host.Go phase.Finals out.Nothing (hub_next m.hub host.Finals) x (λ z. cc) is e t)
 hub-go m Final x is e t = cc
 
--- no event of the environment's own before it is `go`
+-- no event that the environment decides alone before it is `go`
 init-go : (m : Machine) (b c : Bool) (x : Entry) → x.what ≡ what.Host host.Go
     → x ≡ (chosen m (option_or (cond b (cond c (Some (Inits m.env.inits)) None) (Some Opens)) (hub_choice m.hub))).entry → (b ≡ true) × (c ≡ false)
 init-go m true false x is e = (refl, refl)
@@ -252,6 +265,11 @@ ticket-go : (m : Machine) (n : ℕ) (r : Option Registration) (x : Entry) → x.
 ticket-go m n None x is e = let z : what.Host host.Go ≡ what.Host host.Gone = sym is ∙ ap (λ (y : Entry). y.what) e in cc
 ticket-go m n (Some r) x is e = let z : what.Host host.Go ≡ what.Host host.Begin = sym is ∙ ap (λ (y : Entry). y.what) e in cc
 
+ended-go : (m : Machine) (reason : LoopEnd) (h : Option Hub) (x : Entry) → x.what ≡ what.Host host.Go
+    → x ≡ (hub_moved m host.LoopEnd phase.Hooks (out.Ended reason) h).entry → ⊥
+ended-go m reason None x is e = let z : what.Host host.Go ≡ what.Host host.Gone = sym is ∙ ap (λ (y : Entry). y.what) e in cc
+ended-go m reason (Some h) x is e = let z : what.Host host.Go ≡ what.Host host.LoopEnd = sym is ∙ ap (λ (y : Entry). y.what) e in cc
+
 -- so it is the hub's in every phase
 own-go : (m : Machine) (v : Option Event) (x : Entry) → ((w : Event) → v ≡ Some w → IsOwn w) → x.what ≡ what.Host host.Go
     → x ≡ (chosen m (option_or v (hub_choice m.hub))).entry → v ≡ None
@@ -261,7 +279,7 @@ own-go m (Some (Inits n)) x own is e = let z : what.Host host.Go ≡ what.Host h
 own-go m (Some (Tickets n)) x own is e = absurd (ticket-go m n (registration_at m.env.book n) x is e)
 own-go m (Some IsGone) x own is e = let z : what.Host host.Go ≡ what.Host host.Gone = sym is ∙ ap (λ (y : Entry). y.what) e in cc
 own-go m (Some Goes) x own is e = absurd (own Goes refl)
-own-go m (Some (EndsLoop w)) x own is e = absurd (own (EndsLoop w) refl)
+own-go m (Some (EndsLoop reason)) x own is e = absurd (ended-go m reason (hub_next m.hub host.LoopEnd) x is e)
 own-go m (Some Drains) x own is e = absurd (own Drains refl)
 own-go m (Some FinalsCome) x own is e = absurd (own FinalsCome refl)
 
@@ -303,18 +321,19 @@ ticket-other : (m : Machine) (n : ℕ) (r : Option Registration) (x : Entry) →
 ticket-other m n None x is e t = cc
 ticket-other m n (Some r) x is e t = let z : what.Host host.Gone ≡ what.Host host.Begin = sym is ∙ ap (λ (y : Entry). y.what) e in cc
 
-loop-other : (m : Machine) (o : Option ℕ) (s : Stage) (x : Entry) → x.what ≡ what.Host host.Gone
-    → x ≡ (chosen m (option_or (option_map Tickets o) (hub_choice_at s))).entry
-    → IsTrue (chosen m (option_or (option_map Tickets o) (hub_choice_at s))).may → ⊥
-loop-other m None s x is e t = hub-other m s x is e t
-loop-other m (Some n) s x is e t = ticket-other m n (registration_at m.env.book n) x is e t
+loop-other : (m : Machine) (exit : Bool) (o : Option ℕ) (s : Stage) (x : Entry) → x.what ≡ what.Host host.Gone
+    → x ≡ (chosen m (option_or (cond exit (Some (EndsLoop loop_end.Exit)) (option_map Tickets o)) (hub_choice_at s))).entry
+    → IsTrue (chosen m (option_or (cond exit (Some (EndsLoop loop_end.Exit)) (option_map Tickets o)) (hub_choice_at s))).may → ⊥
+loop-other m true o s x is e t = moved-other m host.LoopEnd host.Gone phase.Hooks (out.Ended loop_end.Exit) (hub_next m.hub host.LoopEnd) x (λ z. cc) is e t
+loop-other m false None s x is e t = hub-other m s x is e t
+loop-other m false (Some n) s x is e t = ticket-other m n (registration_at m.env.book n) x is e t
 
 gone-in : (m : Machine) (p : Phase) (s : Stage) (x : Entry) → x.what ≡ what.Host host.Gone
     → x ≡ (chosen m (option_or (local_choice_in m.env p) (hub_choice_at s))).entry
     → IsTrue (chosen m (option_or (local_choice_in m.env p) (hub_choice_at s))).may → p ≡ phase.Finals
 gone-in m phase.Init s x is e t = absurd (init-other m m.env.inits m.env.opened (nat_lt m.env.inits m.env.addons) s x is e t)
 gone-in m phase.Finals s x is e t = refl
-gone-in m phase.Live s x is e t = absurd (loop-other m (lowest_due m.env.book) s x is e t)
+gone-in m phase.Live s x is e t = absurd (loop-other m m.env.exit_asked (lowest_due m.env.book) s x is e t)
 gone-in m phase.Hooks s x is e t = absurd (hub-other m s x is e t)
 gone-in m phase.Drain s x is e t = absurd (hub-other m s x is e t)
 gone-in m phase.Gone s x is e t = absurd (hub-other m s x is e t)
@@ -383,13 +402,15 @@ init-not-gone n true true s h = cc
 init-not-gone n true false s h = hub-not-gone s h
 init-not-gone n false c s h = cc
 
-loop-not-gone : (o : Option ℕ) (s : Stage) → option_or (option_map Tickets o) (hub_choice_at s) ≡ Some IsGone → ⊥
-loop-not-gone None s h = hub-not-gone s h
-loop-not-gone (Some n) s h = cc
+loop-not-gone : (exit : Bool) (o : Option ℕ) (s : Stage) → option_or (cond exit (Some (EndsLoop loop_end.Exit)) (option_map Tickets o)) (hub_choice_at s) ≡ Some IsGone
+    → ⊥
+loop-not-gone true o s h = cc
+loop-not-gone false None s h = hub-not-gone s h
+loop-not-gone false (Some n) s h = cc
 
 pub gone-phase : (e : Environment) (p : Phase) (s : Stage) → option_or (local_choice_in e p) (hub_choice_at s) ≡ Some IsGone → p ≡ phase.Finals
 gone-phase e phase.Init s h = absurd (init-not-gone e.inits e.opened (nat_lt e.inits e.addons) s h)
-gone-phase e phase.Live s h = absurd (loop-not-gone (lowest_due e.book) s h)
+gone-phase e phase.Live s h = absurd (loop-not-gone e.exit_asked (lowest_due e.book) s h)
 gone-phase e phase.Hooks s h = absurd (hub-not-gone s h)
 gone-phase e phase.Drain s h = absurd (hub-not-gone s h)
 gone-phase e phase.Finals s h = refl

@@ -227,6 +227,8 @@ by-call e call.Collect k g = record {
   };
   stay = record { rises = omega arith; held = λ h v below. omega arith };
 }
+by-call e call.Exit k g =
+    record { good = record { heap = g.heap; referred = g.referred; references = g.references; pending = g.pending }; stay = stays e.heap }
 by-call e c k g = in-heap e _ g (heap-call (caller_of e.frames) e.heap c k g.heap)
 
 given-good : (e : Environment) (c : Call) (k : ℕ) (s : Option Status) → IsConsistentButFrames e → LeadsTo e (answer_unless e c k s).after

@@ -12,6 +12,7 @@ mod ConsistentSteps
 mod ConsistentValues
 mod Counting
 mod Cutting
+mod Exiting
 mod Fronts
 mod Holding
 mod LiveNumbers

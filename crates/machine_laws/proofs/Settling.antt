@@ -35,7 +35,7 @@ use Rattle.napi_types.specs.Phases.{stage_of}
 use Rattle.napi_types.specs.Run.{IsNext, after, final}
 use Rattle.napi_types.specs.Setting.{opening_of, final_of}
 use Rattle.napi_types.specs.Step.{hub_moved, ticket_step, event_step, chosen, frame_step, env_step, step_of, cut_of}
-use Rattle.machine_laws.specs.Choices.{begins_tickets, IsOfTicket, GoneComesOnlyAfterFinals}
+use Rattle.machine_laws.specs.Choices.{begins_tickets_in, IsOfTicket, GoneComesOnlyAfterFinals}
 use Rattle.machine_laws.specs.FinalizerLaws.{is_final, OnlyTheOutermostFrameHasADuty, NoneIsRegisteredFromFinalsOn}
 use Rattle.napi_types.proofs.Answers.{SameCourse, course-parts}
 use Rattle.napi_types.proofs.Books.{NoneRegistered, all_due-none, none-owed_tickets}
@@ -197,7 +197,7 @@ none-due : (m : Machine) (a : Ask) (x : Entry) (o : Option ℕ) → lowest_due m
     → x.what ≡ what.Host host.Gone → o ≡ None
 none-due m a x None lowest alone last next is = refl
 none-due m a x (Some n) lowest alone last next is =
-    let t : IsOfTicket m n x = lowest-first m n a x alone (ap begins_tickets last) lowest next in
+    let t : IsOfTicket m n x = lowest-first m n a x alone (ap (begins_tickets_in m.env) last) lowest next in
     let z : what.Host host.Gone ≡ what.Host host.Begin = sym is ∙ ap (λ (y : Entry). y.what) t.entry in
     cc
 

@@ -15,7 +15,9 @@ use Rattle.napi_types.specs.declared.status.Status.{Status}
 use Rattle.napi_types.specs.declared.status.Status.TheVariants as status
 use Rattle.napi_types.specs.Calls.{answer, with_depth_error, groups}
 use Rattle.napi_types.specs.Built.{is_built, is_calling}
+use Rattle.napi_types.specs.Changes.{call_change}
 use Rattle.napi_types.specs.Environment.{Environment}
+use Rattle.napi_types.specs.Frames.{ask_counted}
 use Rattle.napi_types.specs.Guards.{is_registering, is_shared}
 use Rattle.napi_types.specs.Heap.{Heap, handle_body}
 use Rattle.napi_types.specs.Lists.{has_number}
@@ -153,3 +155,12 @@ pub record NamesReferencesAlone (e : Environment) (c : Call) : Type 0 where
 
 abbrev pub ReferencesAreNamedAlone : Type 0
 ReferencesAreNamedAlone = (e : Environment) (c : Call) → NamesReferencesAlone e c
+
+-- `exit` is never refused and tells nothing; it leaves all as it was, but that exit was asked, that its frame made an ask more, and that the last status is 0
+pub record AsksToExitAlone (e : Environment) (n : ℕ) : Type 0 where
+  pub refusal : refusal e call.Exit ≡ None
+  pub reply : (answer e call.Exit n).reply ≡ plain status.Ok out.Nothing
+  pub after : (call_change e call.Exit n).after ≡ record e { exit_asked = true; frames = ask_counted e.frames; last = status.Ok }
+
+abbrev pub ExitChangesNothingElse : Type 0
+ExitChangesNothingElse = (e : Environment) (n : ℕ) → AsksToExitAlone e n

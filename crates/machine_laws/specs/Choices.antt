@@ -1,5 +1,5 @@
 -- Which event comes next where no frame stands.
-use Rattle.std.specs.Prelude.{◌≡◌, ◌<◌, ◌≤◌, ℕ, Bool, true, false, List, [], ◌∷◌, Some, None}
+use Rattle.std.specs.Prelude.{◌≡◌, ◌<◌, ◌≤◌, ℕ, Bool, true, false, not, List, [], ◌∷◌, Some, None, is_some}
 use Rattle.napi_types.specs.declared.call.Ask.{Ask}
 use Rattle.napi_types.specs.declared.entry.Cause.{Cause}
 use Rattle.napi_types.specs.declared.entry.Cause.TheVariants as cause
@@ -15,9 +15,10 @@ use Rattle.napi_types.specs.declared.entry.What.TheVariants as what
 use Rattle.napi_types.specs.Book.{Book, Registration, is_due, is_at, due_info, lowest_due, registration_at, owed_tickets, ticket_duty}
 use Rattle.napi_types.specs.Changes.{host_entry}
 use Rattle.napi_types.specs.Choice.{local_choice, hub_choice}
+use Rattle.napi_types.specs.Environment.{Environment}
 use Rattle.napi_types.specs.Frames.{Frame, frame_of_duty, begin_told}
-use Rattle.napi_types.specs.Hub.{Hub, Final}
-use Rattle.napi_types.specs.Loop.{Event}
+use Rattle.napi_types.specs.Hub.{Hub, Final, hub_next}
+use Rattle.napi_types.specs.Loop.{Event, EndsLoop}
 use Rattle.napi_types.specs.Machine.{Machine}
 use Rattle.napi_types.specs.Phases.{stage_of}
 use Rattle.napi_types.specs.Run.{after, IsNext, IsRunBy}
@@ -54,12 +55,17 @@ abbrev pub BeginsTellTheirFrames : Type 0
 BeginsTellTheirFrames = (m : Machine) (a : Ask) (x : Entry) → IsNext m a x → x.what ≡ what.Host host.Begin → TellsFrame x (after m a x)
 
 -- EVENTS
--- the entry is that of the environment's own event, and comes next whatever the hub is
+-- whether the hub may come to an event that the environment decides alone: to the end of the loop where that is its next one, and to every other in any case
+abbrev pub may_come_to : Hub → Event → Bool
+may_come_to h (EndsLoop reason) = is_some (hub_next h host.LoopEnd)
+may_come_to h _ = true
+
+-- the entry is that of the event that the environment decides alone, and comes next whatever the hub is, where that may come to it
 pub record IsOfOwn (m : Machine) (own : Event) (a : Ask) (x : Entry) : Type 0 where
   pub entry : x ≡ (event_step m own).entry
-  pub anyhow : (h : Hub) → IsNext (record m { hub = h }) a x
+  pub anyhow : (h : Hub) → may_come_to h own ≡ true → IsNext (record m { hub = h }) a x
 
--- where the environment has an event of its own, that event comes next
+-- where the environment decides alone, its event comes next
 abbrev pub OwnEventsComeFirst : Type 0
 OwnEventsComeFirst = (m : Machine) (own : Event) (a : Ask) (x : Entry) → m.env.frames ≡ [] → local_choice m.env ≡ Some own → IsNext m a x → IsOfOwn m own a x
 
@@ -69,7 +75,7 @@ pub record IsOfHub (m : Machine) (x : Entry) : Type 0 where
   pub next : hub_choice m.hub ≡ Some event
   pub entry : x ≡ (event_step m event).entry
 
--- where the environment has none of its own, the hub's event comes next; so nothing comes where the hub has none either
+-- where the environment does not decide alone, the hub's event comes next; so nothing comes where the hub has none either
 abbrev pub HubEventsComeLast : Type 0
 HubEventsComeLast = (m : Machine) (a : Ask) (x : Entry) → m.env.frames ≡ [] → local_choice m.env ≡ None → IsNext m a x → IsOfHub m x
 
@@ -87,11 +93,14 @@ abbrev pub GoneComesAfterFinals : Type 0
 GoneComesAfterFinals = (m : Machine) (a : Ask) (x : Entry) → IsNext m a x → x.what ≡ what.Host host.Gone → (m.env.frames ≡ []) × (m.env.phase ≡ phase.Finals)
 
 -- TICKETS
--- the phases in which tickets begin: the loop, and the last one before the end
-abbrev pub begins_tickets : Phase → Bool
-begins_tickets phase.Live = true
-begins_tickets phase.Finals = true
-begins_tickets _ = false
+-- whether tickets begin in a phase: in that of the loop until exit is asked, and in the last one before the end
+abbrev pub begins_tickets_in : Environment → Phase → Bool
+begins_tickets_in e phase.Live = not e.exit_asked
+begins_tickets_in e phase.Finals = true
+begins_tickets_in e _ = false
+
+abbrev pub begins_tickets : Environment → Bool
+begins_tickets e = begins_tickets_in e e.phase
 
 -- the entry is the begin of the frame of this ticket, which is due
 pub record IsOfTicket (m : Machine) (n : ℕ) (x : Entry) : Type 0 where
@@ -100,9 +109,9 @@ pub record IsOfTicket (m : Machine) (n : ℕ) (x : Entry) : Type 0 where
   pub due : is_due registration.state ≡ true
   pub entry : x ≡ host_entry host.Begin (begin_told (frame_of_duty (due_info n registration)))
 
--- in these phases the lowest ticket that is due comes first: before the loop ends, and before the environment is gone
+-- where tickets begin the lowest that is due comes first: before the loop ends, and before the environment is gone
 abbrev pub LowestDueTicketComesFirst : Type 0
-LowestDueTicketComesFirst = (m : Machine) (n : ℕ) (a : Ask) (x : Entry) → m.env.frames ≡ [] → begins_tickets m.env.phase ≡ true → lowest_due m.env.book ≡ Some n
+LowestDueTicketComesFirst = (m : Machine) (n : ℕ) (a : Ask) (x : Entry) → m.env.frames ≡ [] → begins_tickets m.env ≡ true → lowest_due m.env.book ≡ Some n
     → IsNext m a x → IsOfTicket m n x
 
 -- the duty that begins a frame is that of the lowest ticket that is due, and no frame stands
@@ -110,10 +119,10 @@ pub record BeginsLowest (m : Machine) (d : Duty) : Type 0 where
   pub ticket : ℕ
   pub duty : d ≡ ticket_duty ticket
   pub alone : m.env.frames ≡ []
-  pub phase : begins_tickets m.env.phase ≡ true
+  pub moment : begins_tickets m.env ≡ true
   pub lowest : lowest_due m.env.book ≡ Some ticket
 
--- a duty begins a frame in these phases alone: in the phases before the loop, of the hooks and of the drain what is due waits
+-- a duty begins a frame only where tickets begin: before the loop, once exit was asked in it, and in the phases of the hooks and of the drain what is due waits
 abbrev pub FinalizersBeginInTheLoopOrAtTheEnd : Type 0
 FinalizersBeginInTheLoopOrAtTheEnd = (m : Machine) (a : Ask) (x : Entry) (c : Cause) (addon entry : ℕ) (d : Duty) → IsNext m a x
     → x.what ≡ what.Host host.Begin → x.reply.out ≡ out.Begin c addon entry (Some d) → BeginsLowest m d

@@ -8,6 +8,9 @@ pub mod Cuts
 pub mod Cycle
 pub mod Depth
 pub mod EscapeTwice
+pub mod ExitBeforeDue
+pub mod ExitInInitAndInAFinalizer
+pub mod ExitLaws
 pub mod ExternalsTagsFinalizers
 pub mod FinalizerLaws
 pub mod FirstRun

@@ -17,18 +17,19 @@ use Rattle.napi_types.specs.declared.entry.Reply.{Reply}
 use Rattle.napi_types.specs.Book.{ticket_duty}
 use Rattle.napi_types.specs.Replies.{plain}
 use Rattle.napi_types.specs.Changes.{host_told, host_entry}
+use Rattle.napi_types.specs.Plan.{Plan}
 use Rattle.napi_types.specs.Setting.{Setting}
 use Rattle.napi_types.specs.Room.{most_entries}
 use Rattle.napi_types.specs.declared.ids.HandleId.{HandleId}
 use Rattle.napi_types.specs.declared.ids.RefId.{RefId}
 
--- a script of one addon with these entries, with the three texts that every script has, and room for the most entries in each list
+-- a script of addons with these plans, with the three texts that every script has, and room for the most entries in each list
+abbrev pub script_of_plans : List Plan → Setting
+script_of_plans plans = record { plans = plans; texts = 3; limits = record { journal = most_entries; history = most_entries } }
+
+-- one of one addon with these entries
 abbrev pub script_of_entries : List (List Op) → Setting
-script_of_entries entries = record {
-  plans = Some entries ∷ [];
-  texts = 3;
-  limits = record { journal = most_entries; history = most_entries };
-}
+script_of_entries entries = script_of_plans (Some entries ∷ [])
 
 -- one with one entry
 abbrev pub script_of : List Op → Setting
@@ -70,9 +71,13 @@ call_ends s o = host_told host.End s o
 abbrev pub frame_ends : Out → Entry
 frame_ends o = host_entry host.End o
 
+-- the begin of the init frame of an addon
+abbrev pub init_begins : ℕ → Entry
+init_begins addon = host_entry host.Begin (out.Begin cause.Init addon 0 None)
+
 -- the events around the calls of one init frame: what comes before them, ..
 abbrev pub opening_entries : List Entry
-opening_entries = host_entry host.Opened (out.Unsigned 9) ∷ host_entry host.Begin (out.Begin cause.Init 0 0 None) ∷ []
+opening_entries = host_entry host.Opened (out.Unsigned 9) ∷ init_begins 0 ∷ []
 
 -- .. the end of the frame, ..
 abbrev pub frame_end : Entry
@@ -86,12 +91,12 @@ loop_ended reason = host_entry host.LoopEnd (out.Ended reason)
 abbrev pub go_entry : Entry
 go_entry = host_entry host.Go out.Nothing
 
--- .. and those from its end on, ..
-abbrev pub ending_events : List Entry
-ending_events = loop_ended loop_end.Idle ∷ host_entry host.Drain (out.Unsigned 0) ∷ host_entry host.Finals out.Nothing ∷ []
+-- .. and those from its end on, which has this reason, ..
+abbrev pub ending_events : LoopEnd → List Entry
+ending_events reason = loop_ended reason ∷ host_entry host.Drain (out.Unsigned 0) ∷ host_entry host.Finals out.Nothing ∷ []
 
 abbrev pub great_events : List Entry
-great_events = go_entry ∷ ending_events
+great_events = go_entry ∷ ending_events loop_end.Idle
 
 -- .. and the end of the run
 abbrev pub gone_entry : Entry
@@ -101,17 +106,24 @@ gone_entry = host_entry host.Gone out.Nothing
 abbrev pub run_of_calls : List Entry → List Entry
 run_of_calls calls = opening_entries ++ calls ++ frame_end ∷ great_events ++ gone_entry ∷ []
 
--- the begin of the frame of a finalizer of this ticket, which runs entry 1 of the only addon
+-- the begin of the frame of a finalizer of this ticket, which runs entry 1 of this addon, and of one of the only addon
+abbrev pub finalizer_begins_at : ℕ → ℕ → Entry
+finalizer_begins_at addon n = host_entry host.Begin (out.Begin cause.Finalize addon 1 (ticket n))
+
 abbrev pub finalizer_begins : ℕ → Entry
-finalizer_begins n = host_entry host.Begin (out.Begin cause.Finalize 0 1 (ticket n))
+finalizer_begins n = finalizer_begins_at 0 n
 
 -- its frame, with these calls
 abbrev pub finalizer_runs : ℕ → List Entry → List Entry
 finalizer_runs n calls = finalizer_begins n ∷ calls ++ frame_end ∷ []
 
--- a whole run of one init frame and of finalizers: its calls, the frames that begin in the loop, and those that begin after `finals`
+-- a whole run of one init frame and of finalizers: why its loop ends, its calls, the frames that begin in the loop, and those that begin after `finals`
+abbrev pub run_ended_by : LoopEnd → List Entry → List Entry → List Entry → List Entry
+run_ended_by reason calls in_loop at_end = opening_entries ++ calls ++ frame_end ∷ go_entry ∷ in_loop ++ ending_events reason ++ at_end ++ gone_entry ∷ []
+
+-- one whose loop ends as nothing is left to do
 abbrev pub run_of_finalizers : List Entry → List Entry → List Entry → List Entry
-run_of_finalizers calls in_loop at_end = opening_entries ++ calls ++ frame_end ∷ go_entry ∷ in_loop ++ ending_events ++ at_end ++ gone_entry ∷ []
+run_of_finalizers calls in_loop at_end = run_ended_by loop_end.Idle calls in_loop at_end
 
 -- the entries without the one at this place, counted from 0
 abbrev pub left_out : ℕ → List Entry → List Entry

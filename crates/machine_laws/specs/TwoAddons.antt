@@ -1,23 +1,18 @@
 -- Two addons that ask nothing.
-use Rattle.std.specs.Prelude.{◌≡◌, ℕ, List, [], ◌∷◌, ◌++◌, set, Some, None}
+use Rattle.std.specs.Prelude.{◌≡◌, ℕ, List, [], ◌∷◌, ◌++◌, set, Some}
 use Rattle.napi_types.specs.declared.entry.Cause.TheVariants as cause
 use Rattle.napi_types.specs.declared.entry.Duty.{Duty}
 use Rattle.napi_types.specs.declared.entry.Entry.{Entry}
 use Rattle.napi_types.specs.declared.entry.HostStep.TheVariants as host
 use Rattle.napi_types.specs.declared.entry.Out.TheVariants as out
 use Rattle.napi_types.specs.Changes.{host_entry}
-use Rattle.napi_types.specs.Room.{most_entries}
 use Rattle.napi_types.specs.Setting.{Setting}
 use Rattle.machine_laws.specs.Told.{IsRun}
-use Rattle.machine_laws.specs.RunWords.{opening_entries, frame_end, great_events, gone_entry}
+use Rattle.machine_laws.specs.RunWords.{script_of_plans, init_begins, opening_entries, frame_end, great_events, gone_entry}
 
 -- the script: each addon has one entry without operations
 abbrev pub setting : Setting
-setting = record { plans = Some ([] ∷ []) ∷ Some ([] ∷ []) ∷ []; texts = 3; limits = record { journal = most_entries; history = most_entries } }
-
--- the begin of the init frame of an addon
-abbrev pub init_begins : ℕ → Entry
-init_begins addon = host_entry host.Begin (out.Begin cause.Init addon 0 None)
+setting = script_of_plans (Some ([] ∷ []) ∷ Some ([] ∷ []) ∷ [])
 
 -- what comes after the frames
 abbrev pub later : List Entry

@@ -16,12 +16,12 @@ pub fn begins_tell_their_frames()
     ensures { BeginsTellTheirFrames }
 {}
 
-/// An event of the environment's own comes before those of the hub, whatever the hub is.
+/// An event that the environment decides alone comes next, whatever the hub is. It ends the loop only where that is the hub's next event.
 pub fn own_events_come_first()
     ensures { OwnEventsComeFirst }
 {}
 
-/// Where the environment has no event of its own the hub's comes next, and nothing where the hub has none either.
+/// Where the environment does not decide alone the hub's event comes next, and nothing where the hub has none either.
 pub fn hub_events_come_last()
     ensures { HubEventsComeLast }
 {}
@@ -36,12 +36,12 @@ pub fn gone_comes_after_finals()
     ensures { GoneComesAfterFinals }
 {}
 
-/// In the loop and after `finals` the lowest ticket that is due comes first, before the event of the hub and before `gone`.
+/// In the loop until exit is asked, and after `finals`, the lowest ticket that is due comes first, before the event of the hub and before `gone`.
 pub fn lowest_due_ticket_comes_first()
     ensures { LowestDueTicketComesFirst }
 {}
 
-/// A finalizer begins in the loop or after `finals`, where no frame stands, and is the lowest that is due. In every other phase it waits.
+/// A finalizer begins in the loop while exit was not asked, or after `finals`, where no frame stands, and is the lowest that is due. Else it waits.
 pub fn finalizers_begin_in_the_loop_or_at_the_end()
     ensures { FinalizersBeginInTheLoopOrAtTheEnd }
 {}

@@ -6,6 +6,7 @@
 pub mod calls;
 pub mod choices;
 pub mod cuts;
+pub mod exits;
 pub mod finalizer_runs;
 pub mod finalizers;
 pub mod function_runs;

@@ -7,8 +7,8 @@ use Rattle.napi_types.specs.declared.entry.Out.TheVariants as out
 use Rattle.napi_types.specs.declared.entry.What.TheVariants as what
 use Rattle.napi_types.specs.Changes.{host_entry}
 use Rattle.machine_laws.specs.Told.{IsRun}
-use Rattle.machine_laws.specs.RunWords.{opening_entries, frame_end}
-use Rattle.machine_laws.specs.TwoAddons.{setting, trace, later, init_begins}
+use Rattle.machine_laws.specs.RunWords.{init_begins, opening_entries, frame_end}
+use Rattle.machine_laws.specs.TwoAddons.{setting, trace, later}
 use Rattle.machine_laws.proofs.Asks.{told-run}
 use Rattle.machine_laws.proofs.Misses.{entry_at}
 use Rattle.machine_laws.proofs.choices.two_addons_is_strict.Goals as goal
