@@ -12,6 +12,7 @@ use std::test::Fail;
 mod calls;
 mod cuts;
 mod duties;
+mod exits;
 mod finalizers;
 mod many_names;
 mod numbers;
@@ -65,6 +66,8 @@ enum Act {
     Journal(usize),
     /// So many places of the journal are neither taken nor promised.
     Room(u32),
+    /// Exit was asked, or was not.
+    Asked(bool),
 }
 
 /// An environment in the init frame of its first addon, where there are so many addons and texts.
@@ -199,6 +202,7 @@ fn found(core: &mut EnvCore, act: &Act) -> Result<Found, Fail> {
             NO_GIFTS,
         )),
         Act::Room(_) => Ok((Status::Ok, ("room", core.room() as u64), NO_GIFTS)),
+        Act::Asked(_) => Ok((Status::Ok, ("asked", core.exit_asked() as u64), NO_GIFTS)),
     }
 }
 
@@ -223,6 +227,7 @@ fn expected(act: &Act) -> Found {
         Act::Depth(depth) => (Status::Ok, ("depth", *depth as u64), NO_GIFTS),
         Act::Journal(length) => (Status::Ok, ("journal", *length as u64), NO_GIFTS),
         Act::Room(places) => (Status::Ok, ("room", *places as u64), NO_GIFTS),
+        Act::Asked(asked) => (Status::Ok, ("asked", *asked as u64), NO_GIFTS),
     }
 }
 

@@ -12,7 +12,7 @@ use std::process::Abort;
 use std::test::Fail;
 
 /// What a ticket that begins tells: its number, the addon, the entry, the payload and the hint.
-type Ticketed = [u64; 5];
+pub type Ticketed = [u64; 5];
 
 /// What it tells, of a duty.
 fn ticketed(info: &DueInfo) -> Ticketed {
@@ -51,7 +51,7 @@ fn end(core: &mut EnvCore, begun: Begun, cut: Option<Why>) -> bool
 }
 
 /// The next ticket begins, does these rows in its frame, and ends so. What it told, and `None` where none is next.
-fn run_next(
+pub fn run_next(
     rt: &impl Abort,
     core: &mut EnvCore,
     rows: &[Act],
@@ -61,6 +61,9 @@ fn run_next(
 {
     if core.frame().is_some() {
         return Err(Fail::new("a frame stands"));
+    }
+    if core.phase() == Phase::Live && core.exit_asked() {
+        return Err(Fail::new("the loop is to end"));
     }
     let Some(due) = core.next_local() else {
         return Ok(None);
@@ -77,7 +80,7 @@ fn run_next(
 }
 
 /// The next phase comes, where no frame stands.
-fn advance(core: &mut EnvCore) -> Result<(), Fail> {
+pub fn advance(core: &mut EnvCore) -> Result<(), Fail> {
     if core.frame().is_some() {
         return Err(Fail::new("a frame stands"));
     }

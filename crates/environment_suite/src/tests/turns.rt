@@ -36,7 +36,7 @@ fn opened(alloc: Global, journal: u32) -> Result<EnvRun, Fail>
     let Ok(core) = EnvCore::new(alloc, 9, 1, 0, limits) else {
         return Err(Fail::new("the environment found no memory"));
     };
-    let Ok(env) = EnvRun::new(alloc, core) else {
+    let Ok(env) = EnvRun::new(alloc, core, limits) else {
         return Err(Fail::new("the history found no memory"));
     };
     Ok(env)
