@@ -7,6 +7,7 @@ use Rattle.napi_types.specs.declared.call.Call.TheVariants as call
 use Rattle.napi_types.specs.declared.body.Body.TheVariants as body
 use Rattle.napi_types.specs.declared.entry.Duty.{Duty}
 use Rattle.napi_types.specs.declared.entry.Out.{Out}
+use Rattle.napi_types.specs.declared.entry.Out.TheVariants as out
 use Rattle.napi_types.specs.declared.entry.Phase.{Phase}
 use Rattle.napi_types.specs.declared.entry.Reply.{Reply}
 use Rattle.napi_types.specs.declared.ids.TextNo.{TextNo}
@@ -17,6 +18,11 @@ use Rattle.napi_types.specs.AttachmentRefusals.{attachment_refusal}
 use Rattle.napi_types.specs.Book.{Book, is_registered, is_at, owed_tickets}
 use Rattle.napi_types.specs.ExternalCalls.{attached_if}
 use Rattle.napi_types.specs.Guards.{is_registering}
+use Rattle.napi_types.specs.HookCalls.{hooking, unhooked}
+use Rattle.napi_types.specs.HookRefusals.{hook_refusal}
+use Rattle.napi_types.specs.Hooks.{hook_ticket}
+use Rattle.napi_types.specs.InstanceCalls.{setting_instance}
+use Rattle.napi_types.specs.InstanceData.{instance_ticket, with_instance}
 use Rattle.napi_types.specs.Lists.{first_changed, when}
 use Rattle.napi_types.specs.Environment.{Environment, in_heap}
 use Rattle.napi_types.specs.Registering.{finalizer_if, ticket_if, registering_if, registered_only, withdrawing}
@@ -35,11 +41,11 @@ use Rattle.napi_types.specs.NamedNumbers.{unknown_refusal}
 use Rattle.napi_types.specs.ExpectedKinds.{kind_refusal}
 use Rattle.napi_types.specs.OwnRefusals.{row_refusal}
 use Rattle.napi_types.specs.Moments.{is_tearing, guard_refusal, registering_refusal, moment_refusal}
-use Rattle.napi_types.specs.Refusals.{refusal_in, timely_refusal, early_refusal, depth_refusal}
+use Rattle.napi_types.specs.Refusals.{refusal_in, attached_refusal, timely_refusal, early_refusal, depth_refusal}
 use Rattle.napi_types.specs.ReferenceRefusals.{reference_refusal}
 use Rattle.napi_types.specs.Calls.{heap_effect, addon_effect, heap_answer_unless, heap_answer, effect, answer_unless, answer_unless_deep, with_depth_error, answer}
 use Rattle.napi_types.specs.Changes.{call_change}
-use Rattle.napi_types.proofs.BookSteps.{BookStep, stays, adds, drops, collects, step-owed}
+use Rattle.napi_types.proofs.BookSteps.{BookStep, stays, adds, drops, collects, swaps, step-owed}
 use Rattle.napi_types.proofs.Maps.{length-with_record}
 
 length-changed : {A : Type 0} (f : A → A) (xs : List A) → length (first_changed f xs) ≡ length xs
@@ -240,6 +246,27 @@ withdrawing-keeps : (e : Environment) (a : Attachments) (o : Out) (t : Option �
 withdrawing-keeps e a o None h = keeps-attachments e a o
 withdrawing-keeps e a o (Some n) h = record { course = refl; frames = refl; heap = same e.heap; references = omega arith; book = drops n _ h refl }
 
+-- a call that may do both
+setting-keeps : (e : Environment) (addon payload : ℕ) (entry : Option ℕ) (hint : ℕ) → Keeps e (setting_instance e addon payload entry hint)
+setting-keeps e addon payload entry hint =
+    by (registered_only e.book (instance_ticket e.instances addon)) entry (registered-only e.book (instance_ticket e.instances addon))
+  where
+    by : (t entry : Option ℕ) → IfSome t (λ n. is_at is_registered e.book n ≡ true)
+        → Keeps e (registering_if (finalizer_if e payload entry hint) (withdrawing t
+        (accepts out.Nothing (record e { instances = with_instance addon (record { payload = payload; ticket = ticket_if e.book entry }) e.instances }))))
+    by None None h = record { course = refl; frames = refl; heap = same e.heap; references = omega arith; book = stays e.book refl }
+    by None (Some n) h = record { course = refl; frames = refl; heap = same e.heap; references = omega arith; book = adds _ _ refl refl (λ h. cc) refl }
+    by (Some t) None h = record { course = refl; frames = refl; heap = same e.heap; references = omega arith; book = drops t _ h refl }
+    by (Some t) (Some n) h = record { course = refl; frames = refl; heap = same e.heap; references = omega arith; book = swaps t _ _ h refl refl (λ h. cc) refl }
+
+hooking-keeps : (e : Environment) (entry argument : ℕ) → Keeps e (hooking e (caller_of e.frames) entry argument)
+hooking-keeps e entry argument = record { course = refl; frames = refl; heap = same e.heap; references = omega arith; book = adds _ _ refl refl (λ h. cc) refl }
+
+unhooking-keeps : (e : Environment) (hook t : Option ℕ) → IfSome t (λ n. is_at is_registered e.book n ≡ true)
+    → Keeps e (withdrawing t (accepts out.Nothing (record e { hooks = unhooked hook e.hooks })))
+unhooking-keeps e hook None h = record { course = refl; frames = refl; heap = same e.heap; references = omega arith; book = stays e.book refl }
+unhooking-keeps e hook (Some n) h = record { course = refl; frames = refl; heap = same e.heap; references = omega arith; book = drops n _ h refl }
+
 effect-keeps : (e : Environment) (c : Call) (n : ℕ) → refusal_in e.texts e.heap c ≡ None → Keeps e (effect e c n)
 effect-keeps e (call.Throw v) n h = record { course = refl; frames = refl; heap = same e.heap; references = omega arith; book = stays e.book refl }
 effect-keeps e (call.ThrowError code message) n h = record { course = refl; frames = refl; heap = thrown-keeps e.heap code message; references = omega arith; book = stays e.book refl }
@@ -261,6 +288,12 @@ effect-keeps e (call.TypeTagObject v lower upper) n h = keeps-attachments e _ _
 effect-keeps e (call.CheckObjectTypeTag v lower upper) n h = accepts-all e _
 effect-keeps e (call.AddFinalizer v payload entry hint wanted) n h = finalizing-keeps e (handle_value e.heap v.0) payload entry hint wanted n
 effect-keeps e (call.CreateExternal payload entry hint) n h = external-keeps e payload entry hint
+effect-keeps e (call.SetInstanceData payload entry hint) n h = setting-keeps e (caller_of e.frames) payload entry hint
+effect-keeps e call.GetInstanceData n h = accepts-all e _
+effect-keeps e (call.AddEnvCleanupHook entry argument) n h = hooking-keeps e entry argument
+effect-keeps e (call.RemoveEnvCleanupHook entry argument) n h =
+    let t : Option ℕ = hook_ticket (caller_of e.frames) entry argument e.hooks in
+    unhooking-keeps e t (registered_only e.book t) (registered-only e.book t)
 effect-keeps e call.Collect n h = collected-keeps e (reach e) _
 effect-keeps e call.Exit n h = record { course = refl; frames = refl; heap = same e.heap; references = omega arith; book = stays e.book refl }
 effect-keeps e c n h = keeps-heap e c n h
@@ -276,7 +309,8 @@ none-right (Some s) b h = cc
 given-keeps : (e : Environment) (c : Call) (n : ℕ) (s : Option Status) → early_refusal e c ≡ s → Keeps e (answer_unless e c n s)
 given-keeps e c n None h =
     let timely : timely_refusal e c ≡ None = none-right (moment_refusal e c) (timely_refusal e c) h in
-    let later : option_or (refusal_in e.texts e.heap c) (attachment_refusal e.attachments e.heap c) ≡ None = none-right (reference_refusal e.references c) _ timely in
+    let named : option_or (reference_refusal e.references c) (attached_refusal e c) ≡ None = none-right (hook_refusal (caller_of e.frames) e.hooks c) _ timely in
+    let later : attached_refusal e c ≡ None = none-right (reference_refusal e.references c) _ named in
     effect-keeps e c n (none-left (refusal_in e.texts e.heap c) (attachment_refusal e.attachments e.heap c) later)
 given-keeps e c n (Some s) h = refuses-all e s
 
@@ -334,6 +368,12 @@ effect-makes e (call.RemoveWrap v) n = makes-none (call.RemoveWrap v) _ (omega a
 effect-makes e (call.AddFinalizer v payload entry hint wanted) n = record { places = omega arith; registers = λ h. refl }
 effect-makes e (call.CreateExternal payload None hint) n = makes-none (call.CreateExternal payload None hint) _ (omega arith) refl
 effect-makes e (call.CreateExternal payload (Some entry) hint) n = record { places = omega arith; registers = λ h. refl }
+effect-makes e (call.SetInstanceData payload None hint) n =
+    makes-none (call.SetInstanceData payload None hint) _ (omega arith) (dropping-none (registered_only e.book (instance_ticket e.instances (caller_of e.frames))) _ refl)
+effect-makes e (call.SetInstanceData payload (Some entry) hint) n = record { places = omega arith; registers = λ h. refl }
+effect-makes e (call.AddEnvCleanupHook entry argument) n = record { places = omega arith; registers = λ h. refl }
+effect-makes e (call.RemoveEnvCleanupHook entry argument) n =
+    makes-none (call.RemoveEnvCleanupHook entry argument) _ (omega arith) (dropping-none (registered_only e.book (hook_ticket (caller_of e.frames) entry argument e.hooks)) _ refl)
 effect-makes e c n = makes-none c _ (needs-place c) refl
 
 given-makes : (e : Environment) (c : Call) (n : ℕ) (s : Option Status) → MakesFor c (answer_unless e c n s).reply.made

@@ -1,17 +1,20 @@
 -- How many tickets have their frame still to come, as the book changes.
-use Rattle.std.proofs.Common.{◌≡◌, ◌∙◌, ℕ, zero, suc, ◌+◌, ◌<◌, ◌≤◌, ◌==◌, ◌||◌, Bool, true, false, cond, List, [], ◌∷◌, ◌++◌, length, filter, slice_get, Option, Some, None, option_map, refl, ap, sym, arith}
+use Rattle.std.proofs.Common.{◌≡◌, ◌∙◌, ℕ, zero, suc, ◌+◌, ◌<◌, ◌≤◌, ◌==◌, ◌||◌, Bool, true, false, cond, List, [], ◌∷◌, length, filter, slice_get, Option, Some, None, option_map, refl, ap, sym, arith}
 use Rattle.std.specs.List.{All, find}
 use Rattle.std.specs.Option.{unwrap_or}
 use Rattle.std.proofs.lemmas.Bool.{eqb-true}
 use Rattle.std.proofs.lemmas.List.Elements.{All-head, All-tail, All-cons, All-nil}
 use Rattle.std.proofs.lemmas.Option.{slice_get-get_or}
-use Rattle.napi_types.specs.Book.{Book, Registration, TicketState, Registered, Due, Begun, Ended, Withdrawn, is_registered, is_due, is_begun, is_owed, is_at, made_due, made_withdrawn, made_begun, made_ended, moved, moved_from, moved_where, moved_at, due_where, all_due, registration_at, lowest_due, owed_tickets, with_registration}
+use Rattle.napi_types.specs.Book.{Book, Registration, TicketState, Registered, Due, Begun, Ended, Withdrawn, is_registered, is_due, is_owed, is_at, made_due, made_withdrawn, made_begun, made_due_and_begun, made_ended, moved, moved_from, moved_where, moved_at, due_where, all_due, registration_at, lowest_due, owed_tickets, with_registration}
 use Rattle.napi_types.specs.Lists.{has_number, up_to}
 use Rattle.napi_types.specs.Room.{one_if}
+use Rattle.napi_types.specs.Tickets.{begun_in, may_begin_in}
+use Rattle.napi_types.specs.declared.entry.Phase.{Phase}
+use Rattle.napi_types.specs.declared.entry.Phase.TheVariants as phase
 use Rattle.napi_types.proofs.Issued.{has-up_to}
 
 -- ONE MORE
-owed-cons : (r : Registration) (rs : Book) → owed_tickets (r ∷ rs) ≡ one_if (is_owed r.state) + owed_tickets rs
+pub owed-cons : (r : Registration) (rs : Book) → owed_tickets (r ∷ rs) ≡ one_if (is_owed r.state) + owed_tickets rs
 owed-cons r rs = by (is_owed r.state)
   where
     by : (b : Bool) → length (cond b (r ∷ filter (λ (q : Registration). is_owed q.state) rs) (filter (λ (q : Registration). is_owed q.state) rs)) ≡ one_if b + owed_tickets rs
@@ -78,7 +81,7 @@ moved_from-below move k n [] h = refl
 moved_from-below move k n (r ∷ rs) h = rw (apart-above k n h) (ap (λ qs. r ∷ qs) (moved_from-below move (suc k) n rs (omega arith)))
 
 -- a state that passes the test is one before whose frame it stands, and the move takes it from there
-record Leaves (test : TicketState → Bool) (move : TicketState → TicketState) : Type 0 where
+pub record Leaves (test : TicketState → Bool) (move : TicketState → TicketState) : Type 0 where
   pub before : (s : TicketState) → test s ≡ true → is_owed s ≡ true
   pub after : (s : TicketState) → test s ≡ true → is_owed (move s) ≡ false
 
@@ -104,7 +107,7 @@ moved_at-leaves test move leaves n book None there is = let no : ⊥ = cc in abs
 moved_at-leaves test move leaves zero book (Some r) there is = let no : ⊥ = cc in absurd no
 moved_at-leaves test move leaves (suc p) book (Some r) there is = moved_from-leaves test move leaves 1 p (suc p) book r (omega arith) there is
 
-withdrawn-leaves : Leaves is_registered made_withdrawn
+pub withdrawn-leaves : Leaves is_registered made_withdrawn
 withdrawn-leaves = record { before = before; after = after }
   where
     before : (s : TicketState) → is_registered s ≡ true → is_owed s ≡ true
@@ -138,12 +141,31 @@ begun-leaves = record { before = before; after = after }
     after Ended is = cc
     after Withdrawn is = cc
 
--- a registered ticket that is withdrawn, and a ticket that is due and begins, is one less
+hook-leaves : Leaves is_registered made_due_and_begun
+hook-leaves = record { before = withdrawn-leaves.before; after = after }
+  where
+    after : (s : TicketState) → is_registered s ≡ true → is_owed (made_due_and_begun s) ≡ false
+    after Registered is = refl
+    after Due is = cc
+    after Begun is = cc
+    after Ended is = cc
+    after Withdrawn is = cc
+
+pub leaves-in : (p : Phase) → Leaves (may_begin_in p) (begun_in p)
+leaves-in phase.Init = begun-leaves
+leaves-in phase.Live = begun-leaves
+leaves-in phase.Hooks = hook-leaves
+leaves-in phase.Drain = begun-leaves
+leaves-in phase.Finals = begun-leaves
+leaves-in phase.Gone = begun-leaves
+
+-- a registered ticket that is withdrawn, and a ticket that begins as it may in its phase, is one less
 pub owed-withdrawn : (n : ℕ) (book : Book) → is_at is_registered book n ≡ true → owed_tickets (moved_at made_withdrawn n book) + 1 ≡ owed_tickets book
 owed-withdrawn n book is = moved_at-leaves is_registered made_withdrawn withdrawn-leaves n book (registration_at book n) refl is
 
-pub owed-begun : (n : ℕ) (book : Book) (r : Registration) → registration_at book n ≡ Some r → is_due r.state ≡ true → owed_tickets (moved_at made_begun n book) + 1 ≡ owed_tickets book
-owed-begun n book r there is = moved_at-leaves is_due made_begun begun-leaves n book (Some r) there is
+pub owed-begun : (p : Phase) (n : ℕ) (book : Book) (r : Registration) → registration_at book n ≡ Some r → may_begin_in p r.state ≡ true
+    → owed_tickets (moved_at (begun_in p) n book) + 1 ≡ owed_tickets book
+owed-begun p n book r there is = moved_at-leaves (may_begin_in p) (begun_in p) (leaves-in p) n book (Some r) there is
 
 -- THE LOWEST
 find-passes : (test : ℕ → Bool) (xs : List ℕ) (n : ℕ) → find test xs ≡ Some n → test n ≡ true

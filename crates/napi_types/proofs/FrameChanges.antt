@@ -19,6 +19,8 @@ use Rattle.napi_types.specs.Entering.{is_entering, enter_change, function_change
 use Rattle.napi_types.specs.Environment.{Environment}
 use Rattle.napi_types.specs.Frames.{caller_of, cause_of, duty_of, ask_counted}
 use Rattle.napi_types.specs.FunctionCalls.{callee_of}
+use Rattle.napi_types.specs.Hooks.{Hook}
+use Rattle.napi_types.specs.InstanceData.{Instances}
 use Rattle.napi_types.specs.Lists.{tail, first_changed}
 use Rattle.napi_types.specs.Refusals.{refusal}
 use Rattle.napi_types.specs.Room.{one_if, need}
@@ -27,20 +29,29 @@ use Rattle.napi_types.proofs.Books.{owed-ended}
 use Rattle.napi_types.proofs.BookSteps.{step-owed}
 
 -- WHAT IS ATTACHED
--- what hangs on values: all that is attached to them, and the book of the tickets
+-- what is registered, and what it hangs on: all that is attached to values, the book of the tickets, the hooks, and the instance data
 pub record Hangings : Type 0 where
   pub attachments : Attachments
   pub book : Book
+  pub hooks : List Hook
+  pub instances : Instances
 
 abbrev pub hangings_of : Environment → Hangings
-hangings_of e = record { attachments = e.attachments; book = e.book }
+hangings_of e = record { attachments = e.attachments; book = e.book; hooks = e.hooks; instances = e.instances }
 
 pub record SameHangings (old new : Environment) : Type 0 where
   pub attachments : new.attachments ≡ old.attachments
   pub book : new.book ≡ old.book
+  pub hooks : new.hooks ≡ old.hooks
+  pub instances : new.instances ≡ old.instances
 
 pub hangings-parts : (old new : Environment) → hangings_of new ≡ hangings_of old → SameHangings old new
-hangings-parts old new same = record { attachments = ap (λ (h : Hangings). h.attachments) same; book = ap (λ (h : Hangings). h.book) same }
+hangings-parts old new same = record {
+  attachments = ap (λ (h : Hangings). h.attachments) same;
+  book = ap (λ (h : Hangings). h.book) same;
+  hooks = ap (λ (h : Hangings). h.hooks) same;
+  instances = ap (λ (h : Hangings). h.instances) same;
+}
 
 -- THE END OF A FRAME
 -- the book after a frame that began for this reason: that of a call ends no duty
@@ -59,6 +70,8 @@ pub record KeepsButFrame (old new : Environment) : Type 0 where
   pub references : new.references ≡ old.references
   pub attachments : new.attachments ≡ old.attachments
   pub book : new.book ≡ book_left (cause_of old.frames) (duty_of old.frames) old.book
+  pub hooks : new.hooks ≡ old.hooks
+  pub instances : new.instances ≡ old.instances
 
 -- the same, where the frame began for this reason
 record KeepsButFrameBy (c : Cause) (old new : Environment) : Type 0 where
@@ -71,16 +84,18 @@ record KeepsButFrameBy (c : Cause) (old new : Environment) : Type 0 where
   pub references : new.references ≡ old.references
   pub attachments : new.attachments ≡ old.attachments
   pub book : new.book ≡ book_left c (duty_of old.frames) old.book
+  pub hooks : new.hooks ≡ old.hooks
+  pub instances : new.instances ≡ old.instances
 
 left-keeps : (v : Option HandleId) (e : Environment) (pending : Option ℕ) → KeepsButFrameBy cause.Call e (uncut_call_end v e pending).after
-left-keeps v e (Some p) = record { course = refl; frames = refl; values = refl; made = refl; handles = omega arith; scope_numbers = refl; references = refl; attachments = refl; book = refl }
-left-keeps v e None = record { course = refl; frames = refl; values = refl; made = refl; handles = omega arith; scope_numbers = refl; references = refl; attachments = refl; book = refl }
+left-keeps v e (Some p) = record { course = refl; frames = refl; values = refl; made = refl; handles = omega arith; scope_numbers = refl; references = refl; attachments = refl; book = refl; hooks = refl; instances = refl }
+left-keeps v e None = record { course = refl; frames = refl; values = refl; made = refl; handles = omega arith; scope_numbers = refl; references = refl; attachments = refl; book = refl; hooks = refl; instances = refl }
 
 by-cause : (v : Option HandleId) (cut : Option Why) (e : Environment) (c : Cause) → KeepsButFrameBy c e (end_change_by v cut e c).after
 by-cause v (Some w) e cause.Call =
-    record { course = refl; frames = refl; values = refl; made = refl; handles = omega arith; scope_numbers = refl; references = refl; attachments = refl; book = refl }
+    record { course = refl; frames = refl; values = refl; made = refl; handles = omega arith; scope_numbers = refl; references = refl; attachments = refl; book = refl; hooks = refl; instances = refl }
 by-cause v None e cause.Call = left-keeps v e e.pending
-by-cause v cut e _ = record { course = refl; frames = refl; values = refl; made = refl; handles = omega arith; scope_numbers = refl; references = refl; attachments = refl; book = refl }
+by-cause v cut e _ = record { course = refl; frames = refl; values = refl; made = refl; handles = omega arith; scope_numbers = refl; references = refl; attachments = refl; book = refl; hooks = refl; instances = refl }
 
 pub ended-keeps : (v : Option HandleId) (cut : Option Why) (e : Environment) → KeepsButFrame e (end_change v cut e).after
 ended-keeps v cut e =
@@ -95,6 +110,8 @@ ended-keeps v cut e =
       references = k.references;
       attachments = k.attachments;
       book = k.book;
+      hooks = k.hooks;
+      instances = k.instances;
     }
 
 -- no ticket comes or goes with the end of a frame

@@ -1,13 +1,13 @@
 -- Finite maps and sets of numbers, with one record more.
-use Rattle.std.proofs.Common.{◌≡◌, ◌∙◌, ℕ, suc, ◌+◌, ◌<◌, ◌≤◌, ◌==◌, nat_lt, nat_eq, ◌||◌, Bool, true, false, not, cond, List, [], ◌∷◌, ◌++◌, length, map, filter, refl, ap, sym, arith, length-append}
+use Rattle.std.proofs.Common.{◌≡◌, ◌∙◌, ℕ, suc, ◌+◌, ◌<◌, ◌≤◌, ◌==◌, nat_lt, nat_eq, ◌||◌, Bool, true, false, not, cond, List, [], ◌∷◌, ◌++◌, length, map, filter, inl, inr, refl, ap, sym, subst, arith, length-append}
 use Rattle.std.specs.List.{All, AllByRecursion, IsDistinct, list_any}
-use Rattle.std.proofs.lemmas.Bool.{lt-ltb, le-ltb, ltb-true, or_from, or_parts}
+use Rattle.std.proofs.lemmas.Bool.{lt-ltb, le-ltb, ltb-true, eqb-true, eq-eqb, or_from, or_parts, or_cases, or_left, or_right}
 use Rattle.std.proofs.lemmas.Bool.Decides.{nat_tests}
 use Rattle.std.proofs.lemmas.List.{map-append}
-use Rattle.std.proofs.lemmas.List.Elements.{All-head, All-tail, All-cons, All-append, All-filter}
+use Rattle.std.proofs.lemmas.List.Elements.{All-head, All-tail, All-nil, All-cons, All-append, All-filter}
 use Rattle.std.proofs.lemmas.List.Folds.{list_any-append}
 use Rattle.std.proofs.lemmas.Map.Keys.{IsDistinct-head, IsDistinct-tail}
-use Rattle.napi_types.specs.Lists.{has, with_record, as_map}
+use Rattle.napi_types.specs.Lists.{has, has_number, with_record, as_map}
 
 -- A TEST THAT ALL PASS, OR NONE
 pub filter_all : {A : Type 0} (p : A → Bool) (xs : List A) → All (λ x. p x ≡ true) xs → filter p xs ≡ xs
@@ -123,3 +123,18 @@ map-with_record number f same x xs =
     map-append f (filter (λ y. nat_lt (number y) (number x)) xs) (x ∷ filter (λ y. nat_lt (number x) (number y)) xs)
     ∙ ap (λ ys. ys ++ f x ∷ map f (filter (λ y. nat_lt (number x) (number y)) xs)) (map-filter f _ (λ y. nat_lt (number y) (number (f x))) (λ y. rw (same y, same x) refl) xs)
     ∙ ap (λ ys. filter (λ y. nat_lt (number y) (number (f x))) (map f xs) ++ f x ∷ ys) (map-filter f _ (λ y. nat_lt (number (f x)) (number y)) (λ y. rw (same y, same x) refl) xs)
+
+-- WHAT HOLDS OF NUMBERS
+-- what holds of all of these numbers holds of each that is among them
+pub among-holds : (P : ℕ → Type 0) (ns : List ℕ) (n : ℕ) → All P ns → has_number n ns ≡ true → P n
+among-holds P [] n all here = cc
+among-holds P (m ∷ ms) n all here =
+    elim (or_cases (m == n) (has_number n ms) here) [
+      | inl same ↦ subst P (eqb-true m n same) (All-head P m ms all)
+      | inr later ↦ among-holds P ms n (All-tail P m ms all) later
+    ]
+
+pub all-among : (P : ℕ → Type 0) (ns : List ℕ) → ((n : ℕ) → has_number n ns ≡ true → P n) → All P ns
+all-among P [] holds = All-nil P
+all-among P (n ∷ ns) holds =
+    All-cons P n ns (holds n (or_left (n == n) (has_number n ns) (eq-eqb n n refl))) (all-among P ns (λ m here. holds m (or_right (n == m) (has_number m ns) here)))

@@ -20,7 +20,9 @@ use Rattle.napi_types.specs.Attachments.{wrap_ticket}
 use Rattle.napi_types.specs.Book.{Registration, registration_at, due_info}
 use Rattle.napi_types.specs.Changes.{call_change, init_change, in_phase}
 use Rattle.napi_types.specs.declared.entry.Phase.{Phase}
-use Rattle.napi_types.specs.Registering.{registered_only, withdrawing}
+use Rattle.napi_types.specs.Hooks.{hook_ticket}
+use Rattle.napi_types.specs.InstanceData.{instance_ticket}
+use Rattle.napi_types.specs.Registering.{finalizer_if, registering_if, registered_only, withdrawing}
 use Rattle.napi_types.specs.Replies.{Answer}
 use Rattle.napi_types.specs.Tickets.{ticket_change}
 use Rattle.napi_types.specs.WrapCalls.{wrapping}
@@ -165,6 +167,12 @@ dropping-owned : (n : ℕ) (t : Option ℕ) (a : Answer Environment) → AreOwne
 dropping-owned n None a all = all
 dropping-owned n (Some t) a all = all
 
+set-owned : (n : ℕ) (t : Option ℕ) (o : Option Registration) (a : Answer Environment) → AreOwned n a.after.heap.values
+    → AreOwned n (registering_if o (withdrawing t a)).after.heap.values
+set-owned n t None a all = dropping-owned n t a all
+set-owned n None (Some r) a all = all
+set-owned n (Some t) (Some r) a all = all
+
 by-owned : (n : ℕ) (e : Environment) (c : Call) (k : ℕ) → caller_of e.frames < n → AreOwned n e.heap.values → AreOwned n (effect e c k).after.heap.values
 by-owned n e (call.Throw v) k there all = all
 by-owned n e (call.ThrowError code message) k there all = thrown-owned n e.heap code message all
@@ -187,6 +195,10 @@ by-owned n e (call.CreateExternal payload None hint) k there all = one-more n _ 
 by-owned n e (call.CreateExternal payload (Some entry) hint) k there all = one-more n _ _ e.heap.values all (no-function n (body.External payload) refl)
 by-owned n e call.Collect k there all = kept-owned n (reach e) e.heap.values all
 by-owned n e call.Exit k there all = all
+by-owned n e (call.SetInstanceData payload entry hint) k there all = set-owned n (registered_only e.book (instance_ticket e.instances (caller_of e.frames))) (finalizer_if e payload entry hint) _ all
+by-owned n e call.GetInstanceData k there all = all
+by-owned n e (call.AddEnvCleanupHook entry argument) k there all = all
+by-owned n e (call.RemoveEnvCleanupHook entry argument) k there all = dropping-owned n (registered_only e.book (hook_ticket (caller_of e.frames) entry argument e.hooks)) _ all
 by-owned n e c k there all = heap-owned n (caller_of e.frames) e.heap c k there all
 
 given-owned : (n : ℕ) (e : Environment) (c : Call) (k : ℕ) (s : Option Status) → caller_of e.frames < n → AreOwned n e.heap.values → AreOwned n (answer_unless e c k s).after.heap.values
@@ -290,7 +302,7 @@ pub owned-ticket : (n : ℕ) (e : Environment) (t : ℕ) (r : Registration) → 
 owned-ticket n e t r there o = record {
   frames = All-cons (Below n) (frame_of_duty (due_info t r)) e.frames (registered-holds (Entered n) t e.book r there o.tickets) o.frames;
   functions = o.functions;
-  tickets = begun-all (Entered n) (entered-kept n) t e.book o.tickets;
+  tickets = begun-all (Entered n) (entered-kept n) e.phase t e.book o.tickets;
 }
 
 pub owned-phase : (n : ℕ) (e : Environment) (p : Phase) → IsOwned n e → IsOwned n (in_phase p e)

@@ -1,5 +1,5 @@
 -- What holds of every registration, however far its ticket has come, stays as the book changes.
-use Rattle.std.proofs.Common.{◌≡◌, ◌≢◌, ◌==◌, ℕ, zero, suc, true, false, List, [], ◌∷◌, ◌++◌, Option, Some, None, is_some, refl, subst, sym, ap}
+use Rattle.std.proofs.Common.{◌≡◌, ◌≢◌, ◌==◌, ℕ, zero, suc, true, false, [], ◌∷◌, ◌++◌, Option, Some, None, is_some, refl, subst, sym}
 use Rattle.std.specs.List.{All}
 use Rattle.std.proofs.lemmas.List.Elements.{All-push}
 use Rattle.std.proofs.lemmas.Option.{get_or_from_slice_get, slice_get_within}
@@ -25,9 +25,10 @@ use Rattle.napi_types.specs.Environment.{Environment}
 use Rattle.napi_types.specs.Frames.{caller_of, cause_of, duty_of}
 use Rattle.napi_types.specs.Moments.{is_tearing}
 use Rattle.napi_types.specs.Refusals.{refusal}
+use Rattle.napi_types.specs.Tickets.{begun_in}
 use Rattle.napi_types.proofs.Answers.{call_change-keeps, torn-makes-none}
 use Rattle.napi_types.proofs.Books.{All-moved, NoneRegistered}
-use Rattle.napi_types.proofs.BookSteps.{BookStep, stays, adds, drops, collects}
+use Rattle.napi_types.proofs.BookSteps.{BookStep, stays, adds, drops, collects, swaps}
 use Rattle.napi_types.proofs.FrameChanges.{book_left, hangings-parts, ended-keeps, enter_change-keeps}
 
 -- a fact of registrations that every move of a ticket keeps
@@ -53,6 +54,9 @@ module _ (P : Registration → Type 0) (moves : KeptByMoves P) where
   step-all addon b _ _ _ new (adds r c s who why e) all = same-book (b ++ r ∷ []) c e (All-push P b r all (new refl r who why))
   step-all addon b _ _ _ new (drops n c h e) all = same-book (moved_at made_withdrawn n b) c e (All-moved P made_withdrawn moves.withdrawn (λ m. m == n) b all)
   step-all addon b _ _ _ new (collects test c e) all = same-book _ c e (All-moved P made_due moves.due test b all)
+  step-all addon b _ _ _ new (swaps n r c h s who why e) all =
+      let left : Book = moved_at made_withdrawn n b in
+      same-book (left ++ r ∷ []) c e (All-push P left r (All-moved P made_withdrawn moves.withdrawn (λ m. m == n) b all) (new refl r who why))
 
   pub call-all : (e : Environment) (c : Call) (n : ℕ) → (is_some (call_change e c n).entry.reply.made ≡ true → (r : Registration) → r.addon ≡ caller_of e.frames → r.cause ≢ cause.Call → P r)
       → All P e.book → All P (call_change e c n).after.book
@@ -87,8 +91,16 @@ module _ (P : Registration → Type 0) (moves : KeptByMoves P) where
   pub ended-all : (e : Environment) (v : Option HandleId) (cut : Option Why) → All P e.book → All P (end_change v cut e).after.book
   ended-all e v cut all = same-book _ (end_change v cut e).after.book (ended-keeps v cut e).book (left-all (cause_of e.frames) (duty_of e.frames) e.book all)
 
-  pub begun-all : (n : ℕ) (b : Book) → All P b → All P (moved_at made_begun n b)
-  begun-all n b all = All-moved P made_begun moves.begun (λ m. m == n) b all
+  begun-holds : (p : Phase) (r : Registration) → P r → P (moved (begun_in p) r)
+  begun-holds phase.Hooks r h = moves.begun (moved made_due r) (moves.due r h)
+  begun-holds phase.Init r h = moves.begun r h
+  begun-holds phase.Live r h = moves.begun r h
+  begun-holds phase.Drain r h = moves.begun r h
+  begun-holds phase.Finals r h = moves.begun r h
+  begun-holds phase.Gone r h = moves.begun r h
+
+  pub begun-all : (p : Phase) (n : ℕ) (b : Book) → All P b → All P (moved_at (begun_in p) n b)
+  begun-all p n b all = All-moved P (begun_in p) (begun-holds p) (λ m. m == n) b all
 
   pub phase-all : (p : Phase) (b : Book) → All P b → All P (book_in p b)
   phase-all phase.Finals b all = All-moved P made_due moves.due (λ n. true) b all
@@ -111,8 +123,8 @@ uncalled-asked e c n all = asked-all Uncalled uncalled-kept e c n (λ made r who
 pub uncalled-ended : (e : Environment) (v : Option HandleId) (cut : Option Why) → AreUncalled e.book → AreUncalled (end_change v cut e).after.book
 uncalled-ended e v cut all = ended-all Uncalled uncalled-kept e v cut all
 
-pub uncalled-begun : (n : ℕ) (b : Book) → AreUncalled b → AreUncalled (moved_at made_begun n b)
-uncalled-begun n b all = begun-all Uncalled uncalled-kept n b all
+pub uncalled-begun : (p : Phase) (n : ℕ) (b : Book) → AreUncalled b → AreUncalled (moved_at (begun_in p) n b)
+uncalled-begun p n b all = begun-all Uncalled uncalled-kept p n b all
 
 pub uncalled-phase : (p : Phase) (b : Book) → AreUncalled b → AreUncalled (book_in p b)
 uncalled-phase p b all = phase-all Uncalled uncalled-kept p b all
@@ -164,5 +176,5 @@ none-asked e c n tearing all =
 pub none-ended : (e : Environment) (v : Option HandleId) (cut : Option Why) → NoneRegistered e.book → NoneRegistered (end_change v cut e).after.book
 none-ended e v cut all = ended-all Unregistered unregistered-kept e v cut all
 
-pub none-begun : (n : ℕ) (b : Book) → NoneRegistered b → NoneRegistered (moved_at made_begun n b)
-none-begun n b all = begun-all Unregistered unregistered-kept n b all
+pub none-begun : (p : Phase) (n : ℕ) (b : Book) → NoneRegistered b → NoneRegistered (moved_at (begun_in p) n b)
+none-begun p n b all = begun-all Unregistered unregistered-kept p n b all

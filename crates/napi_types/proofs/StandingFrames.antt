@@ -1,10 +1,9 @@
 -- Only the outermost frame is one that no call began: every event keeps it, and the duties of the frames that stand.
-use Rattle.std.proofs.Common.{◌≡◌, ◌≢◌, ◌∙◌, ℕ, ◌+◌, List, [], ◌∷◌, filter_map, Option, Some, None, refl, sym, ap, subst}
+use Rattle.std.proofs.Common.{◌≡◌, ◌≢◌, ◌∙◌, ℕ, List, [], ◌∷◌, Option, Some, None, refl, sym, ap, subst}
 use Rattle.std.specs.List.{cons_option}
 use Rattle.napi_types.specs.declared.call.Args.{Args}
 use Rattle.napi_types.specs.declared.call.Call.{Call}
 use Rattle.napi_types.specs.declared.call.Call.TheVariants as call
-use Rattle.napi_types.specs.declared.entry.Cause.{Cause}
 use Rattle.napi_types.specs.declared.entry.Cause.TheVariants as cause
 use Rattle.napi_types.specs.declared.entry.Duty.{Duty}
 use Rattle.napi_types.specs.declared.entry.Why.{Why}
@@ -14,7 +13,7 @@ use Rattle.napi_types.specs.Book.{Registration, registration_at, due_info}
 use Rattle.napi_types.specs.Changes.{call_change, init_change}
 use Rattle.napi_types.specs.Duties.{duties_of, AreNested}
 use Rattle.napi_types.specs.Ends.{end_change}
-use Rattle.napi_types.specs.Entering.{function_change, asked_change, enter_change}
+use Rattle.napi_types.specs.Entering.{function_change, asked_change}
 use Rattle.napi_types.specs.Environment.{Environment}
 use Rattle.napi_types.specs.Frames.{Frame, frame_of, frame_of_duty, cause_of, duty_of, ask_counted}
 use Rattle.napi_types.specs.FunctionCalls.{callee_of}

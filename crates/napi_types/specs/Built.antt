@@ -94,6 +94,18 @@ abbrev pub is_external_call : Call → Bool
 is_external_call (call.CreateExternal _ _ _) = true
 is_external_call _ = false
 
+-- the calls on instance data
+abbrev pub is_instance_call : Call → Bool
+is_instance_call (call.SetInstanceData _ _ _) = true
+is_instance_call call.GetInstanceData = true
+is_instance_call _ = false
+
+-- the calls on cleanup hooks
+abbrev pub is_hook_call : Call → Bool
+is_hook_call (call.AddEnvCleanupHook _ _) = true
+is_hook_call (call.RemoveEnvCleanupHook _ _) = true
+is_hook_call _ = false
+
 -- the collection
 abbrev pub is_collecting : Call → Bool
 is_collecting call.Collect = true
@@ -112,7 +124,8 @@ is_calling _ = false
 -- the calls that are built
 abbrev pub is_built : Call → Bool
 is_built c =
-    is_scope_or_version c || is_exception_call c || is_reference_call c || is_wrap_call c || is_external_call c || is_collecting c || is_exiting c || is_calling c || is_value_call c
+    is_scope_or_version c || is_exception_call c || is_reference_call c || is_wrap_call c || is_external_call c || is_instance_call c || is_hook_call c || is_collecting c
+    || is_exiting c || is_calling c || is_value_call c
 
 -- what a frame is taken to ask: a call that is not built is never made, and the addon that asks it is taken to leave
 abbrev pub built_ask : Ask → Ask

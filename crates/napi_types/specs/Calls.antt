@@ -11,6 +11,8 @@ use Rattle.napi_types.specs.ExternalCalls.{on_externals}
 use Rattle.napi_types.specs.Frames.{caller_of}
 use Rattle.napi_types.specs.FunctionCalls.{on_functions}
 use Rattle.napi_types.specs.Heap.{Heap}
+use Rattle.napi_types.specs.HookCalls.{on_hooks}
+use Rattle.napi_types.specs.InstanceCalls.{on_instances}
 use Rattle.napi_types.specs.Lists.{first_some}
 use Rattle.napi_types.specs.VersionCall.{on_version}
 use Rattle.napi_types.specs.PropertyCalls.{on_properties}
@@ -53,6 +55,8 @@ groups e c n =
     ∷ on_references e c n
     ∷ on_wraps e c n
     ∷ on_externals e c
+    ∷ on_instances e c
+    ∷ on_hooks e c
     ∷ on_collection e c
     ∷ on_run e c
     ∷ option_map (in_heap e) (on_functions (caller_of e.frames) e.heap c)

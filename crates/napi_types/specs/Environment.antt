@@ -1,5 +1,5 @@
 -- The environment's state.
-use Rattle.std.specs.Prelude.{ℕ, Bool, false, List, [], Option, None}
+use Rattle.std.specs.Prelude.{ℕ, Bool, false, List, [], replicate, Option, None}
 use Rattle.napi_types.specs.declared.status.Status.{Status}
 use Rattle.napi_types.specs.declared.status.Status.TheVariants as status
 use Rattle.napi_types.specs.declared.entry.Phase.{Phase}
@@ -8,6 +8,8 @@ use Rattle.napi_types.specs.Attachments.{Attachments, no_attachments}
 use Rattle.napi_types.specs.Book.{Book}
 use Rattle.napi_types.specs.Frames.{Frame}
 use Rattle.napi_types.specs.Heap.{Heap, new_heap}
+use Rattle.napi_types.specs.Hooks.{Hook}
+use Rattle.napi_types.specs.InstanceData.{Instances}
 use Rattle.napi_types.specs.References.{ReferenceMap, no_references}
 use Rattle.napi_types.specs.Replies.{Answer}
 
@@ -30,6 +32,9 @@ pub record Environment : Type 0 where
   -- what is attached to values, and every finalizer and hook that was registered
   pub attachments : Attachments
   pub book : Book
+  -- the cleanup hooks that have not begun and were not removed, in the order of adding, and the instance data of each addon
+  pub hooks : List Hook
+  pub instances : Instances
   -- the creation number of the value that is the pending exception, where one is pending
   pub pending : Option ℕ
   -- the status of the last call
@@ -49,6 +54,8 @@ new_environment addons texts = record {
   references = no_references;
   attachments = no_attachments;
   book = [];
+  hooks = [];
+  instances = replicate addons None;
   pending = None;
   last = status.Ok;
 }

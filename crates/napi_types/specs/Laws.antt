@@ -1,12 +1,17 @@
 -- Laws over all runs.
-use Rattle.std.specs.Prelude.{◌≡◌, ◌+◌, ◌*◌, ◌≤◌, List, length}
+use Rattle.std.specs.Prelude.{◌≡◌, ◌+◌, ◌*◌, ◌≤◌, Bool, true, false, List, length}
 use Rattle.napi_types.specs.declared.call.Ask.{Ask}
 use Rattle.napi_types.specs.declared.entry.Entry.{Entry}
 use Rattle.napi_types.specs.declared.entry.Phase.TheVariants as phase
+use Rattle.napi_types.specs.declared.entry.Duty.{Duty}
+use Rattle.napi_types.specs.declared.entry.Duty.TheVariants as duty
+use Rattle.napi_types.specs.declared.ids.Ticket.{Ticket}
 use Rattle.napi_types.specs.CollectionLaw.{KeepsReached}
+use Rattle.napi_types.specs.Counts.{IsOnce, Once, made, dropped, begun}
 use Rattle.napi_types.specs.Machine.{Machine}
+use Rattle.napi_types.specs.Order.{TicketsCount, HooksFall, FinalsRise}
 use Rattle.napi_types.specs.Room.{reserved_journal, reserved_history}
-use Rattle.napi_types.specs.Setting.{Setting, RunsBy, final_of}
+use Rattle.napi_types.specs.Setting.{Setting, RunsBy, EndsBy, final_of}
 use Rattle.napi_types.specs.Run.{IsRunBy}
 
 -- the machine counts the entries of the run; entries and reserved places of each list are within its limit, and at the end of the run no place is left reserved
@@ -24,3 +29,28 @@ RoomSuffices = (s : Setting) (bs : List Ask) (xs : List Entry)
 -- every collection of a run keeps exactly what the roots reach, empties the references to all else, and takes away what is attached to it
 abbrev pub CollectionsKeepWhatIsReached : Type 0
 CollectionsKeepWhatIsReached = (m : Machine) (bs : List Ask) (xs : List Entry) → IsRunBy m bs xs → KeepsReached m bs xs
+
+-- in every run of a script the tickets that calls make count from 1
+abbrev pub TicketsAreCounted : Type 0
+TicketsAreCounted = (s : Setting) (bs : List Ask) (xs : List Entry) → RunsBy s bs xs → TicketsCount xs
+
+-- in every run of a script hooks begin in the reverse of the order in which they were added, and what was left to the end in the order of registration
+abbrev pub TicketsBeginInOrder : Type 0
+TicketsBeginInOrder = (s : Setting) (bs : List Ask) (xs : List Entry) → RunsBy s bs xs → HooksFall xs × FinalsRise xs
+
+-- a ticket: the duty of a finalizer or of a hook
+abbrev pub is_ticket : Duty → Bool
+is_ticket (duty.Ticket t) = true
+is_ticket _ = false
+
+-- in every run to its end each finalizer and each hook that is made and not withdrawn begins exactly once, and one that is withdrawn never
+abbrev pub TicketsAreOnce : Type 0
+TicketsAreOnce = (s : Setting) (bs : List Ask) (xs : List Entry) → EndsBy s bs xs → (t : Ticket) → IsOnce (duty.Ticket t) xs
+
+-- so far no other duty is made, withdrawn or begun
+abbrev pub OnlyTicketsAreMade : Type 0
+OnlyTicketsAreMade = (s : Setting) (bs : List Ask) (xs : List Entry) → RunsBy s bs xs → (d : Duty) → is_ticket d ≡ false → (made d xs ≡ 0) × (dropped d xs ≡ 0) × (begun d xs ≡ 0)
+
+-- so it is of all duties, and only an accepted `remove_wrap`, `set_instance_data` or `remove_env_cleanup_hook` withdraws one
+abbrev pub EveryDutyIsOnce : Type 0
+EveryDutyIsOnce = (s : Setting) (bs : List Ask) (xs : List Entry) → EndsBy s bs xs → Once xs

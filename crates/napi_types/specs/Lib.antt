@@ -11,6 +11,7 @@ pub mod Changes
 pub mod Choice
 pub mod Collection
 pub mod CollectionLaw
+pub mod Counts
 pub mod Duties
 pub mod Edge
 pub mod Ends
@@ -25,7 +26,13 @@ pub mod Graph
 pub mod Guards
 pub mod Heap
 pub mod HeapChanges
+pub mod HookCalls
+pub mod HookRefusals
+pub mod Hooked
+pub mod Hooks
 pub mod Hub
+pub mod InstanceCalls
+pub mod InstanceData
 pub mod Laws
 pub mod Lists
 pub mod Loop
@@ -35,6 +42,7 @@ pub mod NamedNumbers
 pub mod Names
 pub mod NewValues
 pub mod Numbers
+pub mod Order
 pub mod OwnRefusals
 pub mod Owners
 pub mod Parting

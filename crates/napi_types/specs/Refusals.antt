@@ -5,8 +5,9 @@ use Rattle.napi_types.specs.declared.call.Call.{Call}
 use Rattle.napi_types.specs.declared.status.Status.{Status}
 use Rattle.napi_types.specs.AttachmentRefusals.{attachment_refusal}
 use Rattle.napi_types.specs.Environment.{Environment}
-use Rattle.napi_types.specs.Frames.{Frame, most_frames}
+use Rattle.napi_types.specs.Frames.{Frame, caller_of, most_frames}
 use Rattle.napi_types.specs.Heap.{Heap}
+use Rattle.napi_types.specs.HookRefusals.{hook_refusal}
 use Rattle.napi_types.specs.Lists.{when}
 use Rattle.napi_types.specs.declared.call.Call.TheVariants as call
 use Rattle.napi_types.specs.declared.status.Status.TheVariants as status
@@ -20,9 +21,14 @@ use Rattle.napi_types.specs.ReferenceRefusals.{reference_refusal}
 abbrev pub refusal_in : ℕ → Heap → Call → Option Status
 refusal_in texts heap c = option_or (unknown_refusal texts heap c) (option_or (kind_refusal heap c) (row_refusal heap c))
 
--- the first refusal that applies to a call that comes at a right moment: what is attached to a value is asked last
+-- the same where what is attached to a value is asked last
+abbrev pub attached_refusal : Environment → Call → Option Status
+attached_refusal e c = option_or (refusal_in e.texts e.heap c) (attachment_refusal e.attachments e.heap c)
+
+-- the first refusal that applies to a call that comes at a right moment. No other refusal of these applies to a call on hooks or on
+-- references, so theirs may stand first
 abbrev pub timely_refusal : Environment → Call → Option Status
-timely_refusal e c = option_or (reference_refusal e.references c) (option_or (refusal_in e.texts e.heap c) (attachment_refusal e.attachments e.heap c))
+timely_refusal e c = option_or (hook_refusal (caller_of e.frames) e.hooks c) (option_or (reference_refusal e.references c) (attached_refusal e c))
 
 -- THE DEPTH LIMIT
 -- no function is called where as many frames stand as may

@@ -1,4 +1,4 @@
--- Calls that register a finalizer, or withdraw one.
+-- Calls that register a finalizer or a cleanup hook, or withdraw one.
 use Rattle.std.specs.Prelude.{ℕ, cond, Option, Some, None, option_map}
 use Rattle.napi_types.specs.declared.entry.Cause.TheVariants as cause
 use Rattle.napi_types.specs.Book.{Book, Registration, Registered, is_registered, is_at, made_withdrawn, moved_at, ticket_duty, new_ticket, with_registration}

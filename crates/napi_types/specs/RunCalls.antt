@@ -6,7 +6,7 @@ use Rattle.napi_types.specs.declared.entry.Out.TheVariants as out
 use Rattle.napi_types.specs.Environment.{Environment}
 use Rattle.napi_types.specs.Replies.{Answer, accepts}
 
--- `exit` asks that the loop ends, and changes nothing else: frames that stand or are still to begin before the loop go on
+-- `exit` asks that the loop ends, and changes nothing else: the frame that asks goes on, and init frames that are still to come begin
 abbrev pub on_run : Environment → Call → Option (Answer Environment)
 on_run e call.Exit = Some (accepts out.Nothing (record e { exit_asked = true }))
 on_run e _ = None

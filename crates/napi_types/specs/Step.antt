@@ -14,7 +14,7 @@ use Rattle.napi_types.specs.declared.entry.Why.{Why}
 use Rattle.napi_types.specs.declared.entry.Why.TheVariants as why
 use Rattle.napi_types.specs.declared.entry.Phase.{Phase}
 use Rattle.napi_types.specs.declared.entry.Phase.TheVariants as phase
-use Rattle.napi_types.specs.Book.{Registration, is_due, registration_at}
+use Rattle.napi_types.specs.Book.{Registration, registration_at}
 use Rattle.napi_types.specs.Built.{built_ask}
 use Rattle.napi_types.specs.Frames.{Frame, asks_made, most_asks}
 use Rattle.napi_types.specs.Hub.{Hub, hub_next}
@@ -25,7 +25,7 @@ use Rattle.napi_types.specs.Choice.{choice}
 use Rattle.napi_types.specs.Ends.{end_change}
 use Rattle.napi_types.specs.Entering.{asked_change}
 use Rattle.napi_types.specs.Loop.{Event, Opens, Inits, Tickets, Goes, EndsLoop, Drains, FinalsCome, IsGone}
-use Rattle.napi_types.specs.Tickets.{ticket_change}
+use Rattle.napi_types.specs.Tickets.{may_begin_in, ticket_change}
 use Rattle.napi_types.specs.Weave.{Side, Journal, History}
 
 -- an entry, the list on which it stands, the machine after it, and whether it may stand
@@ -58,10 +58,10 @@ abbrev pub by_hub : Machine → HostStep → Phase → Out → Step
 by_hub m event p o = hub_moved m event p o (hub_next m.hub event)
 
 -- EVENTS WHERE NO FRAME STANDS
--- the frame of a ticket begins; that of one that was never given, or is not due, may not
+-- the frame of a ticket begins; that of one that was never given, or has not come so far, may not
 abbrev pub ticket_step : Machine → ℕ → Option Registration → Step
 ticket_step m n None = no_step m
-ticket_step m n (Some r) = locally m (ticket_change n r m.env) (is_due r.state)
+ticket_step m n (Some r) = locally m (ticket_change n r m.env) (may_begin_in m.env.phase r.state)
 
 -- the step of each event where no frame stands
 abbrev pub event_step : Machine → Event → Step

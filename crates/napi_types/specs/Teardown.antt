@@ -6,7 +6,8 @@ use Rattle.napi_types.specs.declared.entry.Phase.TheVariants as phase
 use Rattle.napi_types.specs.Environment.{Environment}
 use Rattle.napi_types.specs.Loop.{Event, IsGone, ticket_choice}
 
--- after `finals` the tickets begin, and where none is due the environment is gone; nothing comes after that
+-- in Hooks the hooks begin; after `finals` the tickets that are due, and where none is the environment is gone. Nothing comes after that
 abbrev pub teardown_choice : Environment → Phase → Option Event
+teardown_choice e phase.Hooks = ticket_choice e phase.Hooks
 teardown_choice e phase.Finals = option_or (ticket_choice e phase.Finals) (Some IsGone)
 teardown_choice e _ = None

@@ -179,6 +179,10 @@ impl Call {
             | Call::TypeTagObject(..)
             | Call::CheckObjectTypeTag(..)
             | Call::AddFinalizer(..)
+            | Call::SetInstanceData(..)
+            | Call::GetInstanceData
+            | Call::AddEnvCleanupHook(..)
+            | Call::RemoveEnvCleanupHook(..)
             | Call::Collect
             | Call::Exit
             | Call::GetVersion => true,

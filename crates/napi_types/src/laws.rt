@@ -1,5 +1,5 @@
 //! What the machine's definitions come to over all runs, as laws: each function does nothing, and its contract states a law.
-ghost use Rattle.napi_types.specs.Laws.{RoomSuffices, CollectionsKeepWhatIsReached};
+ghost use Rattle.napi_types.specs.Laws.{RoomSuffices, CollectionsKeepWhatIsReached, TicketsAreOnce, OnlyTicketsAreMade, EveryDutyIsOnce, TicketsBeginInOrder, TicketsAreCounted};
 
 /// Where the limits have room for the events that every run has, entries and reserved places stay within them at the end
 /// of every run, and so at every moment; once the environment is gone no place is left reserved.
@@ -11,4 +11,31 @@ pub fn room_suffices()
 /// and tells how many it freed. The registered tickets of their finalizers fall due.
 pub fn collections_keep_what_is_reached()
     ensures { CollectionsKeepWhatIsReached }
+{}
+
+/// In every run to its end each finalizer and each hook that is made and not withdrawn begins exactly once; one that is withdrawn was made, and never
+/// begins; and no other ticket begins. So it is whatever the addons do.
+pub fn tickets_are_once()
+    ensures { TicketsAreOnce }
+{}
+
+/// So far no duty but those of finalizers and hooks is made, withdrawn or begun.
+pub fn only_tickets_are_made()
+    ensures { OnlyTicketsAreMade }
+{}
+
+/// Both together: of all duties. One is withdrawn by an accepted `remove_wrap`, `set_instance_data` or `remove_env_cleanup_hook` alone.
+pub fn every_duty_is_once()
+    ensures { EveryDutyIsOnce }
+{}
+
+/// In every run of a script the frames of cleanup hooks begin in the reverse of the order in which the hooks were added. What was left to the end
+/// begins in the order of registration: after `finals` each frame of a ticket begins before those of all higher tickets.
+pub fn tickets_begin_in_order()
+    ensures { TicketsBeginInOrder }
+{}
+
+/// The tickets that calls make count from 1, so a ticket tells the order of registration.
+pub fn tickets_are_counted()
+    ensures { TicketsAreCounted }
 {}

@@ -1,0 +1,177 @@
+-- What holds at every moment of a run of the tickets that are still to begin.
+use Rattle.std.proofs.Common.{◌≡◌, ◌≢◌, ◌∙◌, ℕ, suc, Bool, true, false, [], length, get_or, refl, ap, sym, Option, Some, None, is_some, ◌⊎◌, inl, inr}
+use Rattle.std.specs.List.{All}
+use Rattle.std.proofs.lemmas.Option.{slice_get-get_or}
+use Rattle.napi_types.specs.declared.call.Call.{Call}
+use Rattle.napi_types.specs.declared.entry.Cause.TheVariants as cause
+use Rattle.napi_types.specs.declared.entry.Duty.{Duty}
+use Rattle.napi_types.specs.declared.entry.Phase.{Phase}
+use Rattle.napi_types.specs.declared.entry.Phase.TheVariants as phase
+use Rattle.napi_types.specs.Book.{Book, Registration, TicketState, Registered, Due, is_owed, made_withdrawn, made_begun, registration_at}
+use Rattle.napi_types.specs.Calls.{answer}
+use Rattle.napi_types.specs.Changes.{book_in}
+use Rattle.napi_types.specs.Ends.{end_change}
+use Rattle.napi_types.specs.Entering.{asked_change}
+use Rattle.napi_types.specs.Environment.{Environment}
+use Rattle.napi_types.specs.Hooked.{is_late, IsHooked}
+use Rattle.napi_types.specs.Hooks.{Hook}
+use Rattle.napi_types.specs.Lists.{has}
+use Rattle.napi_types.specs.Machine.{Machine}
+use Rattle.napi_types.specs.Moments.{is_tearing}
+use Rattle.napi_types.specs.Phases.{next_phase, stage_of}
+use Rattle.napi_types.specs.Setting.{Setting, opening_of}
+use Rattle.napi_types.specs.Step.{Step}
+use Rattle.napi_types.proofs.Answers.{SameCourse, course-parts, torn-makes-none}
+use Rattle.napi_types.proofs.Books.{due-keeps, ended-keeps as ended-owed, NoneRegistered, all_due-none}
+use Rattle.napi_types.proofs.FrameChanges.{ended-keeps, asked_change-fits}
+use Rattle.napi_types.proofs.HookedSteps.{hooked-opening, hooked-opened, hooked-init, hooked-asked, hooked-ended, hooked-begun, hooked-phase, hooked-gone}
+use Rattle.napi_types.proofs.Registrations.{KeptByMoves, asked-all, ended-all, begun-all, phase-all, none-asked, none-ended, none-begun}
+use Rattle.napi_types.proofs.Moved.{at-state, at-cause}
+use Rattle.napi_types.proofs.StepCases.{StepCase, calls, ends, opens, inits, begins, passes, vanishes, InPhase}
+
+-- WHAT HOLDS
+-- the drain has come
+abbrev pub is_drained : Phase → Bool
+is_drained phase.Drain = true
+is_drained phase.Finals = true
+is_drained phase.Gone = true
+is_drained _ = false
+
+-- a hook that is neither registered nor due
+abbrev pub IsSpent : Registration → Type 0
+IsSpent r = r.cause ≡ cause.Hook → is_owed r.state ≡ false
+
+spent-kept : KeptByMoves IsSpent
+spent-kept = record {
+  due = λ r h why. due-keeps r.state ∙ h why;
+  withdrawn = λ r h why. withdrawn r.state (h why);
+  begun = λ r h why. begun r.state (h why);
+  ended = λ r h why. ended-owed r.state ∙ h why;
+}
+  where
+    withdrawn : (s : TicketState) → is_owed s ≡ false → is_owed (made_withdrawn s) ≡ false
+    withdrawn Registered h = refl
+    withdrawn _ h = h
+
+    begun : (s : TicketState) → is_owed s ≡ false → is_owed (made_begun s) ≡ false
+    begun Due h = refl
+    begun _ h = h
+
+-- the hub is as far as the phase says; from `finals` on none is registered, and once the drain has come no hook is registered or due
+pub record Orderly (m : Machine) : Type 0 where
+  pub stage : InPhase m
+  pub hooked : IsHooked m.env
+  pub settled : is_late m.env.phase ≡ true → NoneRegistered m.env.book
+  pub spent : is_drained m.env.phase ≡ true → All IsSpent m.env.book
+
+pub late-tears : (p : Phase) → is_late p ≡ true → is_tearing p ≡ true
+late-tears phase.Finals h = refl
+late-tears phase.Gone h = refl
+late-tears phase.Init h = cc
+late-tears phase.Live h = cc
+late-tears phase.Hooks h = cc
+late-tears phase.Drain h = cc
+
+drained-tears : (p : Phase) → is_drained p ≡ true → is_tearing p ≡ true
+drained-tears phase.Drain h = refl
+drained-tears phase.Finals h = refl
+drained-tears phase.Gone h = refl
+drained-tears phase.Init h = cc
+drained-tears phase.Live h = cc
+drained-tears phase.Hooks h = cc
+
+-- the drain comes from Hooks, or has come before
+drain-next : (q p : Phase) → next_phase q ≡ Some p → is_drained p ≡ true → (p ≡ phase.Drain) × (is_late q ≡ false) ⊎ is_drained q ≡ true
+drain-next phase.Init p next is = let same : phase.Live ≡ p = cc in let no : false ≡ true = ap is_drained same ∙ is in cc
+drain-next phase.Live p next is = let same : phase.Hooks ≡ p = cc in let no : false ≡ true = ap is_drained same ∙ is in cc
+drain-next phase.Hooks p next is = let same : phase.Drain ≡ p = cc in inl (sym same, refl)
+drain-next phase.Drain p next is = inr refl
+drain-next phase.Finals p next is = inr refl
+drain-next phase.Gone p next is = inr refl
+
+-- up to `finals`, where no hook is left in the list, none is registered or due
+all-spent : (e : Environment) → IsHooked e → is_late e.phase ≡ false → e.hooks ≡ [] → All IsSpent e.book
+all-spent e hooked early none k d inside why = by (is_owed r.state) refl
+  where
+    r : Registration
+    r = get_or e.book k d
+
+    there : registration_at e.book (suc k) ≡ Some r
+    there = slice_get-get_or e.book k d inside
+
+    by : (b : Bool) → is_owed r.state ≡ b → b ≡ false
+    by false owed = refl
+    by true owed =
+        let left : has (λ h. h.ticket) (suc k) e.hooks ≡ true =
+        hooked.others early (suc k) (at-cause e.book (suc k) r there ∙ ap Some why) (at-state is_owed e.book (suc k) r there ∙ owed) in
+        let no : false ≡ true = sym (ap (λ hooks. has (λ (h : Hook). h.ticket) (suc k) hooks) none) ∙ left in
+        cc
+
+-- the hub starts a phase
+settled-passed : (p : Phase) (book : Book) → p ≢ phase.Gone → is_late p ≡ true → NoneRegistered (book_in p book)
+settled-passed phase.Finals book never late = all_due-none book
+settled-passed phase.Gone book never late = absurd (never refl)
+settled-passed phase.Init book never late = cc
+settled-passed phase.Live book never late = cc
+settled-passed phase.Hooks book never late = cc
+settled-passed phase.Drain book never late = cc
+
+spent-passed : (e : Environment) (p : Phase) → next_phase e.phase ≡ Some p → (p ≡ phase.Drain → e.hooks ≡ []) → IsHooked e → (is_drained e.phase ≡ true → All IsSpent e.book)
+    → is_drained p ≡ true → All IsSpent (book_in p e.book)
+spent-passed e p next left hooked spent is = phase-all IsSpent spent-kept p e.book (by (drain-next e.phase p next is))
+  where
+    by : (p ≡ phase.Drain) × (is_late e.phase ≡ false) ⊎ is_drained e.phase ≡ true → All IsSpent e.book
+    by (inl h) = all-spent e hooked h.1 (left h.0)
+    by (inr h) = spent h
+
+none-made : (o : Option Duty) → o ≡ None → is_some o ≡ true → ⊥
+none-made None h is = cc
+none-made (Some d) h is = cc
+
+spent-asked : (e : Environment) (c : Call) (n : ℕ) → is_tearing e.phase ≡ true → All IsSpent e.book → All IsSpent (asked_change e c n).after.book
+spent-asked e c n tearing all =
+    asked-all IsSpent spent-kept e c n (λ made r who why. absurd (none-made (answer e c n).reply.made (torn-makes-none e c n tearing) made)) all
+
+-- each step keeps it
+pub orderly-step : (m : Machine) (s : Step) → Orderly m → StepCase m s → Orderly s.after
+orderly-step m _ h (calls c n may) =
+    let d : Environment = (asked_change m.env c n).after in
+    let course : SameCourse m.env d = course-parts m.env d (asked_change-fits m.env c n).course in
+    record {
+      stage = h.stage ∙ ap stage_of (sym course.phase);
+      hooked = hooked-asked m.env c n h.hooked;
+      settled = λ p. let late : is_late m.env.phase ≡ true = ap is_late (sym course.phase) ∙ p in none-asked m.env c n (late-tears m.env.phase late) (h.settled late);
+      spent = λ p. let drained : is_drained m.env.phase ≡ true = ap is_drained (sym course.phase) ∙ p in spent-asked m.env c n (drained-tears m.env.phase drained) (h.spent drained);
+    }
+orderly-step m _ h (ends v cut may) =
+    let d : Environment = (end_change v cut m.env).after in
+    let course : SameCourse m.env d = course-parts m.env d (ended-keeps v cut m.env).course in
+    record {
+      stage = h.stage ∙ ap stage_of (sym course.phase);
+      hooked = hooked-ended v cut m.env h.hooked;
+      settled = λ p. none-ended m.env v cut (h.settled (ap is_late (sym course.phase) ∙ p));
+      spent = λ p. ended-all IsSpent spent-kept m.env v cut (h.spent (ap is_drained (sym course.phase) ∙ p));
+    }
+orderly-step m _ h opens = record { stage = h.stage; hooked = hooked-opened m.env h.hooked; settled = h.settled; spent = h.spent }
+orderly-step m _ h (inits n) = record { stage = h.stage; hooked = hooked-init n m.env h.hooked; settled = h.settled; spent = h.spent }
+orderly-step m _ h (begins n r there next may) = record {
+  stage = h.stage;
+  hooked = hooked-begun n r m.env there may h.hooked;
+  settled = λ p. none-begun m.env.phase n m.env.book (h.settled p);
+  spent = λ p. begun-all IsSpent spent-kept m.env.phase n m.env.book (h.spent p);
+}
+orderly-step m _ h (passes p o hub next never far left) = record {
+  stage = far;
+  hooked = hooked-phase p m.env next h.hooked;
+  settled = settled-passed p m.env.book never;
+  spent = spent-passed m.env p next left h.hooked h.spent;
+}
+orderly-step m _ h (vanishes last) = record {
+  stage = h.stage ∙ ap stage_of last;
+  hooked = hooked-gone m.env h.hooked;
+  settled = λ p. h.settled (ap is_late last);
+  spent = λ p. h.spent (ap is_drained last);
+}
+
+pub orderly-opens : (s : Setting) → Orderly (opening_of s)
+orderly-opens s = record { stage = refl; hooked = hooked-opening (length s.plans) s.texts; settled = λ p. cc; spent = λ p. cc }

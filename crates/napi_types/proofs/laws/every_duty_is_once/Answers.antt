@@ -1,0 +1,5 @@
+use Rattle.napi_types.proofs.Withdrawals.{once-holds}
+use Rattle.napi_types.proofs.laws.every_duty_is_once.Goals as goal
+
+pub returns : goal.returns
+returns c = once-holds

@@ -1,0 +1,5 @@
+use Rattle.napi_types.proofs.Onces.{tickets-are-once}
+use Rattle.napi_types.proofs.laws.tickets_are_once.Goals as goal
+
+pub returns : goal.returns
+returns c = tickets-are-once
