@@ -3,7 +3,7 @@ use Rattle.std.proofs.Common.{◌≡◌, ◌∙◌, ℕ, zero, suc, ◌+◌, ◌
 use Rattle.std.specs.Option.{unwrap_or}
 use Rattle.std.proofs.lemmas.List.{map-set, length-map}
 use Rattle.std.proofs.lemmas.Option.{slice_get-map, slice_get_read, slice_get_within, slice_get_past}
-use Rattle.napi_types.specs.Book.{Book, Registration, TicketState, made_due, moved, moved_from, moved_where, moved_at, due_where, all_due, registration_at, is_at}
+use Rattle.napi_types.specs.Book.{Book, Registration, TicketState, made_due, moved, moved_from, moved_at, due_where, all_due, registration_at, is_at}
 use Rattle.finalizer_queue.specs.declared.rows.Row.{Row}
 use Rattle.finalizer_queue.specs.Rows.{row_registration, state_of, book_of}
 
@@ -151,26 +151,3 @@ length-moved_from move test k (r ∷ rs) = ap suc (length-moved_from move test (
 
 pub length-due_where : (test : ℕ → Bool) (book : Book) → length (due_where test book) ≡ length book
 length-due_where test book = length-moved_from made_due test 1 book
-
--- WHAT IS UNDER A TICKET AFTER A MOVE
-slice_get-moved_from : (move : TicketState → TicketState) (test : ℕ → Bool) (k : ℕ) (rs : List Registration) (p : ℕ)
-    → slice_get (moved_from k move test rs) p ≡ option_map (λ r. cond (test (k + p)) (moved move r) r) (slice_get rs p)
-slice_get-moved_from move test k [] p = refl
-slice_get-moved_from move test k (r ∷ rs) zero = ap (λ n. Some (cond (test n) (moved move r) r)) (last k)
-  where
-    last : (k : ℕ) → k ≡ k + 0
-    last k = omega arith
-slice_get-moved_from move test k (r ∷ rs) (suc p) =
-    slice_get-moved_from move test (suc k) rs p ∙ ap (λ n. option_map (λ (q : Registration). cond (test n) (moved move q) q) (slice_get rs p)) (next k p)
-  where
-    next : (k p : ℕ) → suc k + p ≡ k + suc p
-    next k p = omega arith
-
-pub registration_at-moved_where : (move : TicketState → TicketState) (test : ℕ → Bool) (book : Book) (n : ℕ)
-    → registration_at (moved_where move test book) n ≡ option_map (λ r. cond (test n) (moved move r) r) (registration_at book n)
-registration_at-moved_where move test book zero = refl
-registration_at-moved_where move test book (suc p) =
-    slice_get-moved_from move test 1 book p ∙ ap (λ n. option_map (λ (q : Registration). cond (test n) (moved move q) q) (slice_get book p)) (next p)
-  where
-    next : (p : ℕ) → 1 + p ≡ suc p
-    next p = omega arith
