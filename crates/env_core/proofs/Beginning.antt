@@ -4,25 +4,35 @@ use Rattle.std.specs.List.{All, cons_option}
 use Rattle.std.specs.Option.{unwrap_or}
 use Rattle.std.proofs.lemmas.List.{append-nil}
 use Rattle.std.proofs.lemmas.List.Elements.{All-head, All-tail, All-cons, All-nil, All-push}
+use Rattle.napi_types.specs.declared.duties.DueInfo.{DueInfo}
 use Rattle.napi_types.specs.declared.entry.Cause.{Cause}
 use Rattle.napi_types.specs.declared.entry.Cause.TheVariants as cause
 use Rattle.napi_types.specs.declared.entry.Duty.{Duty}
 use Rattle.napi_types.specs.declared.entry.Duty.TheVariants as duty
+use Rattle.napi_types.specs.declared.entry.Phase.{Phase}
+use Rattle.napi_types.specs.declared.entry.Phase.TheVariants as phase
 use Rattle.napi_types.specs.declared.entry.Why.{Why}
 use Rattle.napi_types.specs.Attachments.{Wrapped, Attached, Attachments}
-use Rattle.napi_types.specs.Book.{Book, Registration, TicketState, Registered, Due, Begun, Ended, Withdrawn, is_begun, is_at, registration_at, made_due, made_withdrawn, made_begun, made_ended, moved, moved_at, moved_where, due_where, with_registration}
+use Rattle.napi_types.specs.Book.{Book, Registration, TicketState, Registered, Due, Begun, Ended, Withdrawn, is_registered, is_begun, is_at, registration_at, due_info, made_due, made_withdrawn, made_due_and_begun, made_ended, moved, moved_at, moved_where, due_where, with_registration}
 use Rattle.napi_types.specs.Duties.{duties_of}
 use Rattle.napi_types.specs.Ends.{duty_ended, without_innermost_frame, outermost_end_change}
 use Rattle.napi_types.specs.Environment.{Environment}
-use Rattle.napi_types.specs.Frames.{Frame, duty_of, ask_counted}
+use Rattle.napi_types.specs.Frames.{Frame, duty_of, frame_of_duty, ask_counted}
 use Rattle.napi_types.specs.Graph.{StoreState, IsLive}
+use Rattle.napi_types.specs.Heap.{Heap}
+use Rattle.napi_types.specs.HeapChanges.{with_frame}
+use Rattle.napi_types.specs.Hooked.{is_late, IsHooked}
+use Rattle.napi_types.specs.Hooks.{Hook, last_hook, without_hook}
 use Rattle.napi_types.specs.Lists.{tail}
 use Rattle.napi_types.specs.References.{ReferenceMap}
 use Rattle.napi_types.specs.Scopes.{Held, held_by_frames}
+use Rattle.napi_types.specs.Tickets.{begun_in, hooks_left, ticket_change}
 use Rattle.finalizer_queue.specs.Kept.{ticket_number}
-use Rattle.finalizer_queue.proofs.Moves.{registration_at-moved_where}
+use Rattle.napi_types.proofs.Moved.{registration_at-moved_where}
 use Rattle.handle_scope.specs.HandleScopes.{HandleScopes, with_frame_scopes}
 use Rattle.napi_types.proofs.Books.{length-moved, All-moved}
+use Rattle.napi_types.proofs.Found.{same-self}
+use Rattle.napi_types.proofs.HookedSteps.{hook-registered}
 use Rattle.napi_types.proofs.Registrations.{registered-holds}
 use Rattle.env_core.specs.Attaching.{IsAttached}
 use Rattle.env_core.specs.Beginning.{AreBegun, IsBookOf}
@@ -150,17 +160,68 @@ book-ended frames left old new d none is book =
     }))
 
 -- the frame of a ticket that begins stands alone
-pub book-begun : (frames left : List Frame) (old new : Book) (f : Frame) (d : Duty) (n : ℕ) → frames ≡ [] → new ≡ moved_at made_begun n old → left ≡ f ∷ frames → f.duty ≡ Some d
+pub book-begun : (frames left : List Frame) (old new : Book) (f : Frame) (d : Duty) (move : TicketState → TicketState) (n : ℕ) → frames ≡ [] → new ≡ moved_at move n old → left ≡ f ∷ frames → f.duty ≡ Some d
     → is_at is_begun new (ticket_number d) ≡ true → IsBookOf frames old → IsBookOf left new
-book-begun frames left old new f d n none moves is of begun book =
+book-begun frames left old new f d move n none moves is of begun book =
     let P : List Frame → Type 0 = λ fs. IsBookOf fs new in
     let Q : List Duty → Type 0 = λ ds. All (λ (q : Duty). is_at is_begun new (ticket_number q) ≡ true) ds in
     let R : Book → Type 0 = λ b. All (λ (r : Registration). r.cause ≢ cause.Call) b in
     let duties : duties_of (f ∷ frames) ≡ d ∷ [] = ap (λ o. cons_option o (duties_of frames)) of ∙ ap (λ fs. d ∷ duties_of fs) none in
     subst P (sym is) (record {
       begun = subst Q (sym duties) (All-cons (λ (q : Duty). is_at is_begun new (ticket_number q) ≡ true) d [] begun (All-nil (λ (q : Duty). is_at is_begun new (ticket_number q) ≡ true)));
-      uncalled = subst R (sym moves) (moved-uncalled made_begun (λ m. m == n) old book.uncalled);
+      uncalled = subst R (sym moves) (moved-uncalled move (λ m. m == n) old book.uncalled);
     })
+
+-- what is under a ticket that passes a test
+pub record IsUnder (test : TicketState → Bool) (book : Book) (n : ℕ) : Type 0 where
+  pub registration : Registration
+  pub there : registration_at book n ≡ Some registration
+  pub passes : test registration.state ≡ true
+
+pub under-ticket : (test : TicketState → Bool) (book : Book) (n : ℕ) → is_at test book n ≡ true → IsUnder test book n
+under-ticket test book n is = by (registration_at book n) refl is
+  where
+    by : (o : Option Registration) → registration_at book n ≡ o → unwrap_or (option_map (λ (r : Registration). test r.state) o) false ≡ true → IsUnder test book n
+    by None there is = let no : ⊥ = cc in absurd no
+    by (Some r) there is = record { registration = r; there = there; passes = is }
+
+-- before `finals` the ticket of the hook that was added last is registered
+pub last-registered : (e : Environment) (n : ℕ) → IsHooked e → is_late e.phase ≡ false → Some n ≡ option_map (λ h. h.ticket) (last_hook e.hooks) → IsUnder is_registered e.book n
+last-registered e n hooked early is = by (last_hook e.hooks) refl is
+  where
+    by : (o : Option Hook) → last_hook e.hooks ≡ o → Some n ≡ option_map (λ h. h.ticket) o → IsUnder is_registered e.book n
+    by None last is = let no : ⊥ = cc in absurd no
+    by (Some h) last is = under-ticket is_registered e.book n (ap (is_at is_registered e.book) (cc) ∙ hook-registered e h hooked early last)
+
+-- a hook that is registered falls due and begins
+hook-begins : (s : TicketState) → is_registered s ≡ true → is_begun (made_due_and_begun s) ≡ true
+hook-begins Registered is = refl
+hook-begins Due is = let no : ⊥ = cc in absurd no
+hook-begins Begun is = let no : ⊥ = cc in absurd no
+hook-begins Ended is = let no : ⊥ = cc in absurd no
+hook-begins Withdrawn is = let no : ⊥ = cc in absurd no
+
+pub hook-begun : (old new : Book) (n : ℕ) (r : Registration) → registration_at old n ≡ Some r → is_registered r.state ≡ true → new ≡ moved_at made_due_and_begun n old → is_at is_begun new n ≡ true
+hook-begun old new n r there registered is =
+    ap (λ (b : Book). is_at is_begun b n) is ∙ ap has_begun (registration_at-moved_where made_due_and_begun (λ m. m == n) old n)
+    ∙ ap (λ o. has_begun (option_map (λ q. cond (n == n) (moved made_due_and_begun q) q) o)) there
+    ∙ ap (λ b. has_begun (Some (cond b (moved made_due_and_begun r) r))) (same-self n)
+    ∙ hook-begins r.state registered
+
+-- the environment after the begin, by the phase
+abbrev begun_as : Phase → ℕ → Registration → Environment → Environment
+begun_as p n r e =
+    record e { book = moved_at (begun_in p) n e.book; hooks = hooks_left p n e.hooks; heap = with_frame e.heap; frames = frame_of_duty (due_info n r) ∷ e.frames }
+
+pub begun-hook : (e : Environment) (n : ℕ) (r : Registration) (book : Book) (hooks : List Hook) (heap : Heap) (frames : List Frame) (d : DueInfo) → e.phase ≡ phase.Hooks → d ≡ due_info n r
+    → book ≡ moved_at made_due_and_begun n e.book → hooks ≡ without_hook n e.hooks → heap ≡ with_frame e.heap → frames ≡ frame_of_duty d ∷ e.frames
+    → record e { book = book; hooks = hooks; heap = heap; frames = frames } ≡ (ticket_change n r e).after
+begun-hook e n r book hooks heap frames d at told moves less scoped more =
+    ap (λ (b : Book). record e { book = b; hooks = hooks; heap = heap; frames = frames }) moves
+    ∙ ap (λ hs. record e { book = moved_at made_due_and_begun n e.book; hooks = hs; heap = heap; frames = frames }) less
+    ∙ ap (λ (h : Heap). record e { book = moved_at made_due_and_begun n e.book; hooks = without_hook n e.hooks; heap = h; frames = frames }) scoped
+    ∙ ap (λ fs. record e { book = moved_at made_due_and_begun n e.book; hooks = without_hook n e.hooks; heap = with_frame e.heap; frames = fs }) (more ∙ ap (λ i. frame_of_duty i ∷ e.frames) told)
+    ∙ sym (ap (λ p. begun_as p n r e) at)
 
 -- and no call began it
 pub ticket-uncalled : (frames : List Frame) (book : Book) (n : ℕ) (r : Registration) → registration_at book n ≡ Some r → IsBookOf frames book → r.cause ≢ cause.Call

@@ -1,5 +1,5 @@
 -- A core stays one where an entry is written.
-use Rattle.std.proofs.Common.{◌≡◌, ◌≤◌, ◌≢◌, ℕ, ◌+◌, ◌-◌, ◌*◌, ◌==◌, nat_lt, Bool, true, false, ◌&&◌, IsTrue, List, [], ◌∷◌, ◌++◌, length, Option, Some, None, is_none, is_some, subst, sym, ap, ◌∙◌, arith, length-append, refl}
+use Rattle.std.proofs.Common.{◌≡◌, ◌≤◌, ◌≢◌, ℕ, ◌+◌, ◌-◌, ◌*◌, ◌==◌, nat_lt, Bool, true, false, ◌&&◌, IsTrue, List, [], ◌∷◌, ◌++◌, length, Option, Some, None, is_none, is_some, option_map, subst, sym, ap, ◌∙◌, arith, length-append, refl}
 use Rattle.napi_types.specs.declared.call.Args.{Args}
 use Rattle.napi_types.specs.declared.call.Call.{Call}
 use Rattle.napi_types.specs.declared.call.Call.TheVariants as call
@@ -15,7 +15,7 @@ use Rattle.napi_types.specs.declared.entry.Reply.{Reply}
 use Rattle.napi_types.specs.declared.entry.Why.{Why}
 use Rattle.napi_types.specs.declared.ids.HandleId.{HandleId}
 use Rattle.napi_types.specs.declared.status.Status.{Status}
-use Rattle.napi_types.specs.Book.{Book, Registration, registration_at, lowest_due, owed_tickets, made_due, made_begun, made_ended, moved_at}
+use Rattle.napi_types.specs.Book.{Book, Registration, is_registered, is_due, registration_at, lowest_due, owed_tickets, made_due, made_ended, moved_at}
 use Rattle.napi_types.specs.Built.{is_calling}
 use Rattle.napi_types.specs.Calls.{answer_unless_deep}
 use Rattle.napi_types.specs.Changes.{call_change, number_of, book_in, in_phase}
@@ -23,12 +23,14 @@ use Rattle.napi_types.specs.Ends.{duty_ended, end_change_by, outermost_end_chang
 use Rattle.napi_types.specs.Entering.{is_entering}
 use Rattle.napi_types.specs.Environment.{Environment}
 use Rattle.napi_types.specs.Frames.{Frame, caller_of, cause_of, duty_of}
+use Rattle.napi_types.specs.Hooked.{is_late, IsHooked}
+use Rattle.napi_types.specs.Hooks.{last_hook}
 use Rattle.napi_types.specs.Lists.{tail}
 use Rattle.napi_types.specs.Loop.{ticket_in, next_ticket}
 use Rattle.napi_types.specs.Phases.{next_phase}
 use Rattle.napi_types.specs.Refusals.{refusal, early_refusal, depth_refusal}
 use Rattle.napi_types.specs.Room.{one_if, gone_place, reserved_journal, need, is_full}
-use Rattle.napi_types.specs.Tickets.{ticket_change}
+use Rattle.napi_types.specs.Tickets.{begun_in, may_begin_in, ticket_change}
 use Rattle.env_core.specs.Journal.{Pages}
 use Rattle.env_core.specs.Core.{Core, IsCore, after_change, room_in}
 use Rattle.env_core.specs.State.{Calls}
@@ -37,6 +39,8 @@ use Rattle.napi_types.proofs.Answers.{course-parts, KeepsButAsk, call_change-kee
 use Rattle.napi_types.proofs.Books.{owed-due_where, owed-begun, IsDueAt, lowest-due, length-moved}
 use Rattle.napi_types.proofs.BookSteps.{step-length}
 use Rattle.napi_types.proofs.FrameChanges.{book_left, owed-left, KeepsButFrame, ended-keeps}
+use Rattle.napi_types.proofs.HookedSteps.{hooked-called, hooked-ended, hooked-begun, hooked-phase}
+use Rattle.env_core.proofs.Beginning.{IsUnder, last-registered}
 
 -- the core of an environment and a journal
 abbrev pub core_of : Environment → Pages → Core
@@ -50,8 +54,8 @@ written x promised pages = record pages { entries = pages.entries ++ record { at
 core-pushed : (old new : Environment) (pages after : Pages) (x : Entry) (k : ℕ) → IsCore old pages → after ≡ written x k pages
     → k ≡ reserved_journal new → length pages.entries + 1 + k ≤ pages.limit
     → new.heap.handles ≤ old.heap.handles + 1 → length new.heap.scope_numbers ≤ length old.heap.scope_numbers + 1 → length new.references.issued ≤ length old.references.issued + 1 → new.heap.made ≤ old.heap.made + 65537
-    → length new.book ≤ length old.book + 1 → IsCore new after
-core-pushed old new pages after x k c e promised room handles scopes references made tickets =
+    → length new.book ≤ length old.book + 1 → IsHooked new → IsCore new after
+core-pushed old new pages after x k c e promised room handles scopes references made tickets hooked =
     let P : Pages → Type 0 = λ p. IsCore new p in
     let l : Local = record { at = pages.position; entry = x } in
     let grown : length (pages.entries ++ l ∷ []) ≡ length pages.entries + 1 = length-append pages.entries (l ∷ []) in
@@ -64,6 +68,7 @@ core-pushed old new pages after x k c e promised room handles scopes references 
       references = omega (arith, c.references, references, grown);
       tickets = omega (arith, c.tickets, tickets, grown);
       values = omega (arith, c.values, made, grown);
+      hooked = hooked;
     })
 
 -- what a call keeps, by its entry
@@ -73,6 +78,10 @@ calls-keep old new c x calls =
     let P : Entry → Type 0 = λ y. KeepsButAsk c old y.reply (call_change old c n).after in
     let Q : Environment → Type 0 = λ e. KeepsButAsk c old x.reply e in
     subst Q (sym calls.after) (subst P (sym calls.entry) (call_change-keeps old c n))
+
+-- and that the hooks fit the book
+pub calls-hooked : (old new : Environment) (c : Call) (x : Entry) → Calls old c x new → IsHooked old → IsHooked new
+calls-hooked old new c x calls h = subst (λ (e : Environment). IsHooked e) (sym calls.after) (hooked-called old c (number_of x.reply.out) h)
 
 -- a call of a function withdraws nothing
 called-drops : (e : Environment) (receiver : Option HandleId) (f : HandleId) (args : Args) (n : ℕ) (early deep : Option Status)
@@ -102,14 +111,14 @@ places-kept old new pages c r core k =
     let law : reserved_journal new + 2 * one_if (is_some r.dropped) ≡ reserved_journal old + 2 * one_if (is_some r.made) = call-reserved old c r new k in
     record { made = k.makes.places; dropped = omega (arith, law, core.reserved) }
 
-pub core-call_change : (old new : Environment) (pages after : Pages) (c : Call) (x : Entry) (n : ℕ) → IsCore old pages → KeepsButAsk c old x.reply new
+pub core-call_change : (old new : Environment) (pages after : Pages) (c : Call) (x : Entry) (n : ℕ) → IsCore old pages → KeepsButAsk c old x.reply new → IsHooked new
     → length pages.entries + pages.promised + need c ≤ pages.limit
     → n + 2 * one_if (is_some x.reply.dropped) ≡ pages.promised + 2 * one_if (is_some x.reply.made) → after ≡ written x n pages → IsCore new after
-core-call_change old new pages after c x n core k room left e =
+core-call_change old new pages after c x n core k hooked room left e =
     let law : reserved_journal new + 2 * one_if (is_some x.reply.dropped) ≡ reserved_journal old + 2 * one_if (is_some x.reply.made) = call-reserved old c x.reply new k in
     let places : 1 + 2 * one_if (is_some x.reply.made) ≤ need c = k.makes.places in
     core-pushed old new pages after x n core e (omega (arith, law, left, core.reserved)) (omega (arith, left, places, room)) k.heap.handles k.heap.scopes k.references k.heap.made
-    (step-length (caller_of old.frames) old.book x.reply.made x.reply.dropped new.book k.book)
+    (step-length (caller_of old.frames) old.book x.reply.made x.reply.dropped new.book k.book) hooked
 
 length-left : (fs : List Frame) → fs ≢ [] → length (tail fs) + 1 ≡ length fs
 length-left [] h = absurd (h refl)
@@ -148,33 +157,50 @@ core-ended old new pages after x v cut c stands h e =
     core-pushed old new pages after x (pages.promised - 1) c e (omega (arith, fewer, c.reserved)) (omega (arith, fewer, c.reserved, c.within))
     k.handles (omega (arith, ap length k.scope_numbers)) (omega (arith, ap (λ m. length m.issued) k.references)) (omega (arith, k.made))
     (omega (arith, ap length k.book, length-book_left (cause_of old.frames) (duty_of old.frames) old.book))
+    (subst (λ (s : Environment). IsHooked s) (sym h) (hooked-ended v cut old c.hooked))
 
 -- THE FRAME OF A TICKET
 -- a ticket that begins had two places, and its begin fills one
-pub reserved-begun : (old new : Environment) (n : ℕ) (r : Registration) → lowest_due old.book ≡ Some n → registration_at old.book n ≡ Some r → new ≡ (ticket_change n r old).after
+pub reserved-begun : (old new : Environment) (n : ℕ) (r : Registration) → registration_at old.book n ≡ Some r → may_begin_in old.phase r.state ≡ true → new ≡ (ticket_change n r old).after
     → reserved_journal new + 1 ≡ reserved_journal old
-reserved-begun old new n r lowest there is =
-    let d : IsDueAt old.book n = lowest-due old.book n lowest in
-    let owed : owed_tickets (moved_at made_begun n old.book) + 1 ≡ owed_tickets old.book = owed-begun n old.book d.registration d.there d.due in
+reserved-begun old new n r there may is =
+    let owed : owed_tickets (moved_at (begun_in old.phase) n old.book) + 1 ≡ owed_tickets old.book = owed-begun old.phase n old.book r there may in
     rw is (omega (arith, owed))
 
-pub core-begun : (old new : Environment) (pages after : Pages) (x : Entry) (n : ℕ) (r : Registration) → IsCore old pages → lowest_due old.book ≡ Some n → registration_at old.book n ≡ Some r
+-- the ticket that is next has come so far that it may begin
+pub next-may : (e : Environment) (n : ℕ) (r : Registration) → IsHooked e → next_ticket e ≡ Some n → registration_at e.book n ≡ Some r → may_begin_in e.phase r.state ≡ true
+next-may e n r hooked next there = by e.phase refl next
+  where
+    due : lowest_due e.book ≡ Some n → is_due r.state ≡ true
+    due lowest =
+        let d : IsDueAt e.book n = lowest-due e.book n lowest in
+        let same : r ≡ d.registration = cc in
+        ap (λ (q : Registration). is_due q.state) same ∙ d.due
+
+    hook : e.phase ≡ phase.Hooks → option_map (λ h. h.ticket) (last_hook e.hooks) ≡ Some n → is_registered r.state ≡ true
+    hook at is =
+        let u : IsUnder is_registered e.book n = last-registered e n hooked (ap is_late at) (sym is) in
+        let same : r ≡ u.registration = cc in
+        ap (λ (q : Registration). is_registered q.state) same ∙ u.passes
+
+    by : (p : Phase) → e.phase ≡ p → ticket_in e p ≡ Some n → may_begin_in p r.state ≡ true
+    by phase.Live at is = due is
+    by phase.Hooks at is = hook at is
+    by phase.Finals at is = due is
+    by phase.Init at is = let no : ⊥ = cc in absurd no
+    by phase.Drain at is = let no : ⊥ = cc in absurd no
+    by phase.Gone at is = let no : ⊥ = cc in absurd no
+
+pub core-begun : (old new : Environment) (pages after : Pages) (x : Entry) (n : ℕ) (r : Registration) → IsCore old pages → next_ticket old ≡ Some n → registration_at old.book n ≡ Some r
     → new ≡ (ticket_change n r old).after → after ≡ written x (pages.promised - 1) pages → IsCore new after
-core-begun old new pages after x n r c lowest there is e =
-    let fewer : reserved_journal new + 1 ≡ reserved_journal old = reserved-begun old new n r lowest there is in
+core-begun old new pages after x n r c next there is e =
+    let may : may_begin_in old.phase r.state ≡ true = next-may old n r c.hooked next there in
+    let fewer : reserved_journal new + 1 ≡ reserved_journal old = reserved-begun old new n r there may is in
     core-pushed old new pages after x (pages.promised - 1) c e (omega (arith, fewer, c.reserved)) (omega (arith, fewer, c.reserved, c.within))
     (omega (arith, ap (λ (s : Environment). s.heap.handles) is)) (omega (arith, ap (λ (s : Environment). length s.heap.scope_numbers) is))
     (omega (arith, ap (λ (s : Environment). length s.references.issued) is)) (omega (arith, ap (λ (s : Environment). s.heap.made) is))
-    (omega (arith, ap (λ (s : Environment). length s.book) is, length-moved made_begun (λ m. m == n) old.book))
-
--- a ticket is next only in a phase in which tickets begin, and is the lowest that is due
-pub next-lowest : (e : Environment) (n : ℕ) → next_ticket e ≡ Some n → lowest_due e.book ≡ Some n
-next-lowest e n is = by e.phase is
-  where
-    by : (p : Phase) → ticket_in e p ≡ Some n → lowest_due e.book ≡ Some n
-    by phase.Live is = is
-    by phase.Finals is = is
-    by _ is = let no : ⊥ = cc in absurd no
+    (omega (arith, ap (λ (s : Environment). length s.book) is, length-moved (begun_in old.phase) (λ m. m == n) old.book))
+    (subst (λ (s : Environment). IsHooked s) (sym is) (hooked-begun n r old there may c.hooked))
 
 -- A PHASE STARTS
 owed-in : (p : Phase) (book : Book) → owed_tickets (book_in p book) ≡ owed_tickets book
@@ -208,6 +234,7 @@ core-phase old new pages after p n c next stays is e =
       references = c.references;
       tickets = omega (arith, c.tickets, length-in p old.book);
       values = c.values;
+      hooked = hooked-phase p old next c.hooked;
     })
 
 -- WHAT A STEP TELLS

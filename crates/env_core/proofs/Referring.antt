@@ -12,7 +12,6 @@ use Rattle.napi_types.specs.declared.ids.HandleId.{HandleId}
 use Rattle.napi_types.specs.declared.ids.RefId.{RefId}
 use Rattle.napi_types.specs.declared.status.Status.{Status}
 use Rattle.napi_types.specs.declared.status.Status.TheVariants as status
-use Rattle.napi_types.specs.AttachmentRefusals.{attachment_refusal}
 use Rattle.napi_types.specs.Calls.{effect, answer_unless}
 use Rattle.napi_types.specs.Changes.{number_of, is_fresh_result}
 use Rattle.napi_types.specs.Environment.{Environment, in_heap}
@@ -133,10 +132,12 @@ pub or-none : (o : Option Status) → option_or o None ≡ o
 or-none None = refl
 or-none (Some s) = refl
 
--- a call that nothing in the heap refuses is refused for its reference alone
-pub by-reference : (e : Environment) (c : Call) (o : Option Status) → reference_refusal e.references c ≡ o
-    → option_or (refusal_in e.texts e.heap c) (attachment_refusal e.attachments e.heap c) ≡ None → timely_refusal e c ≡ o
-by-reference e c o h k = ap (λ x. option_or x (option_or (refusal_in e.texts e.heap c) (attachment_refusal e.attachments e.heap c))) h ∙ ap (λ x. option_or o x) k ∙ or-none o
+-- a call that nothing else refuses is refused for its reference alone
+abbrev pub NamesReference : Environment → Call → Type 0
+NamesReference e c = timely_refusal e c ≡ option_or (reference_refusal e.references c) None
+
+pub by-reference : (e : Environment) (c : Call) (o : Option Status) → reference_refusal e.references c ≡ o → NamesReference e c → timely_refusal e c ≡ o
+by-reference e c o h only = only ∙ ap (λ x. option_or x None) h ∙ or-none o
 
 -- A CALL ON A REFERENCE
 -- the environment with these references
@@ -145,14 +146,14 @@ referring e s m = record e { references = references_seen s m }
 
 -- it is refused, and changes nothing
 pub refused-answers : (e : Environment) (s : StoreState) (m n : ReferenceMap) (c : Call) (st : Status) → Some st ≡ reference_refusal m c
-    → option_or (refusal_in e.texts e.heap c) (attachment_refusal e.attachments e.heap c) ≡ None → n ≡ m
+    → NamesReference (referring e s m) c → n ≡ m
     → AnswersInTime (referring e s m) c (plain st out.Nothing) (referring e s n)
 refused-answers e s m n c st h k same =
     let P : ReferenceMap → Type 0 = λ x. AnswersInTime (referring e s m) c (plain st out.Nothing) (referring e s x) in
     subst P (sym same) (refused-timely (referring e s m) c st (by-reference (referring e s m) c (Some st) (seen-refusal s m c ∙ sym h) k))
 
 accepted-answers : (e : Environment) (s : StoreState) (m n : ReferenceMap) (c : Call) (o : Out) → None ≡ reference_refusal m c
-    → option_or (refusal_in e.texts e.heap c) (attachment_refusal e.attachments e.heap c) ≡ None → is_fresh_result (referring e s m) o ≡ true
+    → NamesReference (referring e s m) c → is_fresh_result (referring e s m) o ≡ true
     → effect (referring e s m) c (number_of o) ≡ accepts o (referring e s n) → AnswersInTime (referring e s m) c (plain status.Ok o) (referring e s n)
 accepted-answers e s m n c o h k fresh is =
     accepted-timely (referring e s m) (referring e s n) c o (by-reference (referring e s m) c None (seen-refusal s m c ∙ sym h) k) fresh is

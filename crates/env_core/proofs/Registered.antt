@@ -55,9 +55,12 @@ pub longer : (f : Option Registration) (book : Book) → length book ≤ length 
 longer None book = omega arith
 longer (Some r) book = omega (arith, length-append book (r ∷ []))
 
+pub length-withdrawn : (t : Option ℕ) (book : Book) → length (withdrawn_if t book) ≡ length book
+length-withdrawn None book = refl
+length-withdrawn (Some n) book = length-moved made_withdrawn (λ m. m == n) book
+
 pub longer-withdrawn : (t : Option ℕ) (book : Book) → length book ≤ length (withdrawn_if t book)
-longer-withdrawn None book = omega arith
-longer-withdrawn (Some n) book = omega (arith, length-moved made_withdrawn (λ m. m == n) book)
+longer-withdrawn t book = omega (arith, length-withdrawn t book)
 
 -- the next ticket is given with its registration
 pub given-new : (f : Option Registration) (book : Book) → IfSome (ticket_for book f) (IsGiven (with_registration_if f book))

@@ -19,8 +19,7 @@ use Rattle.napi_types.specs.Heap.{Heap, handle_value}
 use Rattle.napi_types.specs.HeapChanges.{in_scopes}
 use Rattle.napi_types.specs.Lists.{first_changed, unless}
 use Rattle.napi_types.specs.References.{ReferenceMap}
-use Rattle.napi_types.specs.Refusals.{refusal_in, timely_refusal}
-use Rattle.napi_types.specs.ReferenceRefusals.{reference_refusal}
+use Rattle.napi_types.specs.Refusals.{refusal_in, attached_refusal, timely_refusal}
 use Rattle.napi_types.specs.Replies.{Answer, accepts, plain}
 use Rattle.napi_types.specs.ScopeCalls.{with_escaped}
 use Rattle.napi_types.specs.Scopes.{Held, FrameScopes, gives, opened_scopes}
@@ -68,11 +67,11 @@ accepted-open e store old new scope_kind.Escapable scope fresh opened = record {
 
 -- what a call on scopes answers whose first refusal is known
 pub by-refusal : (e : Environment) (store : StoreState) (old new : HandleScopes) (c : Call) (s : Status)
-    → reference_refusal e.references c ≡ None → refusal_in e.texts (heap_of store old) c ≡ Some s → new ≡ old → AnswersInTime (with_parts e store old) c (plain s out.Nothing) (with_parts e store new)
-by-refusal e store old new c s none why same =
+    → timely_refusal (with_parts e store old) c ≡ attached_refusal (with_parts e store old) c → refusal_in e.texts (heap_of store old) c ≡ Some s → new ≡ old → AnswersInTime (with_parts e store old) c (plain s out.Nothing) (with_parts e store new)
+by-refusal e store old new c s only why same =
     let later : Option Status = attachment_refusal e.attachments (heap_of store old) c in
     let first : Some s ≡ timely_refusal (with_parts e store old) c =
-    sym (ap (λ o. option_or o later) why) ∙ ap (λ o. option_or o (option_or (refusal_in e.texts (heap_of store old) c) later)) (sym none) in
+    sym (ap (λ o. option_or o later) why) ∙ sym only in
     record {
       fresh = refl;
       reply = ap (λ (o : Option Status). (answer_unless (with_parts e store old) c 0 o).reply) first;
@@ -90,13 +89,12 @@ refused-close e store old new scope_kind.Escapable scope s h same =
 
 -- what a close answers that nothing refuses
 by-close : (e : Environment) (store : StoreState) (old new : HandleScopes) (c : Call)
-    → reference_refusal e.references c ≡ None → refusal_in e.texts (heap_of store old) c ≡ None → attachment_refusal e.attachments (heap_of store old) c ≡ None → effect (with_parts e store old) c 0 ≡ in_heap (with_parts e store old) (accepts out.Nothing (in_scopes close_in (heap_of store old))) → new ≡ without_innermost_scope old
+    → timely_refusal (with_parts e store old) c ≡ attached_refusal (with_parts e store old) c → refusal_in e.texts (heap_of store old) c ≡ None → attachment_refusal e.attachments (heap_of store old) c ≡ None → effect (with_parts e store old) c 0 ≡ in_heap (with_parts e store old) (accepts out.Nothing (in_scopes close_in (heap_of store old))) → new ≡ without_innermost_scope old
     → AnswersInTime (with_parts e store old) c (plain status.Ok out.Nothing) (with_parts e store new)
-by-close e store old new c none why later is closed =
+by-close e store old new c only why later is closed =
     let env : Environment = with_parts e store old in
     let hung : Option Status = attachment_refusal e.attachments (heap_of store old) c in
-    let first : timely_refusal env c ≡ None =
-    ap (λ o. option_or o (option_or (refusal_in e.texts (heap_of store old) c) hung)) none ∙ ap (λ o. option_or o hung) why ∙ later in
+    let first : timely_refusal env c ≡ None = only ∙ ap (λ o. option_or o hung) why ∙ later in
     let answer : answer_unless env c 0 (timely_refusal env c) ≡ in_heap env (accepts out.Nothing (in_scopes close_in (heap_of store old))) =
     ap (answer_unless env c 0) first ∙ is in
     record {

@@ -6,7 +6,6 @@ use Rattle.napi_types.specs.declared.call.Call.TheVariants as call
 use Rattle.napi_types.specs.declared.ids.ScopeKind.{ScopeKind}
 use Rattle.napi_types.specs.declared.ids.ScopeKind.TheVariants as scope_kind
 use Rattle.napi_types.specs.declared.ids.TextNo.{TextNo}
-use Rattle.napi_types.specs.AttachmentRefusals.{attachment_refusal}
 use Rattle.napi_types.specs.Built.{is_value_call}
 use Rattle.napi_types.specs.Environment.{Environment}
 use Rattle.napi_types.specs.Graph.{StoreState}
@@ -17,7 +16,7 @@ use Rattle.napi_types.specs.References.{ReferenceMap}
 use Rattle.napi_types.specs.Refusals.{refusal_in, timely_refusal, early_refusal}
 use Rattle.env_core.specs.State.{opening_call}
 use Rattle.env_core.proofs.Exceptions.{thrown-refusal}
-use Rattle.env_core.proofs.Referring.{referring, by-reference, seen-refusal}
+use Rattle.env_core.proofs.Referring.{referring, NamesReference, by-reference, seen-refusal}
 use Rattle.env_core.proofs.ValueAnswers.{timely-value}
 
 -- what holds in any case
@@ -38,8 +37,8 @@ thrown-unrefused e code message known = ap (λ o. option_or o None) (thrown-refu
 
 -- neither references nor the heap tell a refusal
 pub reference-unrefused : (e : Environment) (s : StoreState) (m : ReferenceMap) (c : Call) → None ≡ reference_refusal m c
-    → option_or (refusal_in e.texts e.heap c) (attachment_refusal e.attachments e.heap c) ≡ None → timely_refusal (referring e s m) c ≡ None
-reference-unrefused e s m c h k = by-reference (referring e s m) c None (seen-refusal s m c ∙ sym h) k
+    → NamesReference (referring e s m) c → timely_refusal (referring e s m) c ≡ None
+reference-unrefused e s m c h only = by-reference (referring e s m) c None (seen-refusal s m c ∙ sym h) only
 
 -- a call on values finds no memory
 pub value-unrefused : {A E : Type 0} (e : Environment) (c : Call) (r : Result A E) → is_value_call c ≡ true → OnErr r (refusal_in e.texts e.heap c ≡ None) → OnErr r (timely_refusal e c ≡ None)

@@ -17,7 +17,9 @@ use Rattle.napi_types.specs.Replies.{Answer}
 use Rattle.napi_types.specs.Environment.{Environment, with_heap, in_heap}
 use Rattle.napi_types.specs.Calls.{addon_effect, heap_answer_unless, heap_answer, effect, answer_unless}
 use Rattle.napi_types.specs.References.{Reference, ReferenceMap}
-use Rattle.napi_types.specs.Refusals.{refusal_in, timely_refusal}
+use Rattle.napi_types.specs.HookRefusals.{hook_refusal}
+use Rattle.napi_types.specs.Hooks.{Hook}
+use Rattle.napi_types.specs.Refusals.{refusal_in, attached_refusal, timely_refusal}
 use Rattle.napi_types.specs.ReferenceRefusals.{reference_refusal}
 use Rattle.napi_types.specs.Changes.{is_fresh_result, number_of}
 use Rattle.std.specs.Option.{option_or}
@@ -76,6 +78,10 @@ accepted-in_heap e (call.TypeTagObject object lower upper) n v = cc
 accepted-in_heap e (call.CheckObjectTypeTag object lower upper) n v = cc
 accepted-in_heap e (call.AddFinalizer object payload entry hint wanted) n v = cc
 accepted-in_heap e (call.CreateExternal payload finalizer hint) n v = cc
+accepted-in_heap e (call.SetInstanceData payload entry hint) n v = cc
+accepted-in_heap e call.GetInstanceData n v = cc
+accepted-in_heap e (call.AddEnvCleanupHook entry argument) n v = cc
+accepted-in_heap e (call.RemoveEnvCleanupHook entry argument) n v = cc
 accepted-in_heap e call.Collect n v = cc
 accepted-in_heap e call.Exit n v = cc
 accepted-in_heap e _ n v = refl
@@ -84,7 +90,13 @@ given-in_heap : (e : Environment) (c : Call) (n : ℕ) (s : Option Status) → i
 given-in_heap e c n None v = accepted-in_heap e c n v
 given-in_heap e c n (Some s) v = refl
 
--- it names no reference, so none of these refusals applies
+-- it names no hook, so none of these refusals applies
+no-hook : (addon : ℕ) (hooks : List Hook) (c : Call) → is_value_call c ≡ true → hook_refusal addon hooks c ≡ None
+no-hook addon hooks (call.AddEnvCleanupHook entry argument) h = cc
+no-hook addon hooks (call.RemoveEnvCleanupHook entry argument) h = cc
+no-hook addon hooks _ h = refl
+
+-- nor a reference
 no-reference : (m : ReferenceMap) (c : Call) → is_value_call c ≡ true → reference_refusal m c ≡ None
 no-reference m (call.DeleteReference r) h = cc
 no-reference m (call.ReferenceRef r) h = cc
@@ -102,7 +114,8 @@ no-attachment a heap _ h = refl
 
 pub timely-value : (e : Environment) (c : Call) → is_value_call c ≡ true → timely_refusal e c ≡ refusal_in e.texts e.heap c
 timely-value e c h =
-    ap (λ o. option_or o (option_or (refusal_in e.texts e.heap c) (attachment_refusal e.attachments e.heap c))) (no-reference e.references c h)
+    ap (λ o. option_or o (option_or (reference_refusal e.references c) (attached_refusal e c))) (no-hook (caller_of e.frames) e.hooks c h)
+    ∙ ap (λ o. option_or o (attached_refusal e c)) (no-reference e.references c h)
     ∙ ap (option_or (refusal_in e.texts e.heap c)) (no-attachment e.attachments e.heap c h) ∙ or-none (refusal_in e.texts e.heap c)
 
 -- the reply of such a call, and the heap that it leaves, are the machine's answer in the environment

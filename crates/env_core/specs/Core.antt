@@ -4,6 +4,7 @@ use Rattle.napi_types.specs.declared.entry.Local.{Local}
 use Rattle.napi_types.specs.declared.entry.Phase.{Phase}
 use Rattle.napi_types.specs.declared.entry.Phase.TheVariants as phase
 use Rattle.napi_types.specs.Environment.{Environment, new_environment}
+use Rattle.napi_types.specs.Hooked.{IsHooked}
 use Rattle.napi_types.specs.Room.{Room, journal_room, reserved_journal, most_entries}
 use Rattle.napi_types.specs.Changes.{Change, opening_change, gone_change, in_phase}
 use Rattle.env_core.specs.Journal.{Pages}
@@ -41,7 +42,8 @@ next_init e = cond (nat_lt e.inits e.addons) (Some e.inits) None
 abbrev pub room_in : Core → Room
 room_in core = journal_room core.env (length core.journal) core.limit
 
--- the promised places are the reserved ones, each number and each ticket that was given out has an entry, and no entry made more than 65,537 values
+-- the promised places are the reserved ones, each number and each ticket that was given out has an entry, no entry made more than 65,537 values, and the hooks
+-- fit the book
 pub record IsCore (e : Environment) (pages : Pages) : Type 0 where
   pub reserved : pages.promised ≡ reserved_journal e
   pub within : length pages.entries + pages.promised ≤ pages.limit
@@ -51,3 +53,4 @@ pub record IsCore (e : Environment) (pages : Pages) : Type 0 where
   pub references : length e.references.issued ≤ length pages.entries
   pub tickets : length e.book ≤ length pages.entries
   pub values : e.heap.made ≤ 65537 * length pages.entries + 5
+  pub hooked : IsHooked e

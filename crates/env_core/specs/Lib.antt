@@ -1,6 +1,7 @@
 pub mod Attaching
 pub mod Beginning
 pub mod Core
+pub mod Instancing
 pub mod Journal
 pub mod Referring
 pub mod Registering

@@ -212,8 +212,9 @@ impl EnvCore {
         self.journal.push(entry);
     }
 
-    /// Begins the frame of the next ticket, and hands out what it tells. `None` exactly where no ticket is next: in the loop and after
-    /// `finals` the lowest that is due is next, and in every other phase none is. It takes no memory.
+    /// Begins the frame of the next ticket, and hands out what it tells. `None` exactly where no ticket is next. In the loop and after
+    /// `finals` the lowest that is due is next, in `Hooks` that of the hook that was added last, and in every other phase none is. It
+    /// takes no memory.
     ///
     /// In the loop no ticket begins once exit was asked.
     pub fn next_local(&mut self) -> Option<Due>
@@ -228,7 +229,8 @@ impl EnvCore {
         Some(due)
     }
 
-    /// Whether a ticket is next: whether [`EnvCore::next_local`] would begin one; in the loop whether or not exit was asked.
+    /// Whether a ticket is next: whether [`EnvCore::next_local`] would begin one; in `Hooks` whether a hook waits, and in the loop
+    /// whether or not exit was asked.
     pub fn has_local(&self) -> bool
         ensures { result ≡ is_some (next_ticket self.now.env) }
     {

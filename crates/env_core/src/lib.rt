@@ -7,6 +7,7 @@
 mod env;
 mod frames;
 mod handles;
+mod instances;
 mod journal;
 mod registering;
 mod roots;

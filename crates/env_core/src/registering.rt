@@ -1,5 +1,5 @@
 //! What a call that registers a finalizer, or withdraws one, makes of the book, of wraps and of references.
-ghost use Rattle.std.specs.Prelude.{◌≡◌, ◌+◌, ◌<◌, ◌^◌, false, length, option_map, IfOk, IfSome, IsSome, OnOk, OnErr};
+ghost use Rattle.std.specs.Prelude.{◌≡◌, ◌+◌, ◌<◌, ◌≤◌, ◌^◌, false, length, option_map, IfOk, IfSome, IsSome, OnOk, OnErr};
 ghost use Rattle.finalizer_queue.specs.Rows.{registration_of};
 ghost use Rattle.napi_reference.specs.Places.{map_of};
 ghost use Rattle.napi_types.specs.ExternalCalls.{attached_if};
@@ -20,6 +20,7 @@ pub fn reserve_ticket(
     ensures ticket { IfOk result (λ ticket. option_map (λ t. t.0) ticket ≡ ticket_for book.old.book (option_map registration_of finalizer)) }
     ensures spare { OnOk result (IsSome finalizer → 0 < book.new.spare) }
     ensures same { book.new.book ≡ book.old.book }
+    ensures growing { OnErr result (IsSome finalizer) }
 {
     if finalizer.is_none() {
         return Ok(None);
@@ -62,6 +63,7 @@ pub fn register_if(book: &mut Book, finalizer: Option<NewDuty>) -> Option<Duty>
 pub fn withdraw_if(book: &mut Book, ticket: Option<Ticket>) -> Option<Duty>
     ensures dropped { result ≡ duty_if (registered_only book.old.book (option_map (λ t. t.0) ticket)) }
     ensures withdrawn { book.new.book ≡ withdrawn_if (registered_only book.old.book (option_map (λ t. t.0) ticket)) book.old.book }
+    ensures spare { book.old.spare ≤ book.new.spare }
 {
     let ticket = ticket?;
     if !book.is_registered(ticket) {

@@ -5,6 +5,7 @@ ghost use Rattle.napi_types.specs.Built.{is_built, is_calling, is_value_call};
 ghost use Rattle.napi_types.specs.Changes.{opening_change, init_change, gone_change, in_phase, with_noted_status, call_entry, host_entry as entry_of, host_told as told_of};
 ghost use Rattle.napi_types.specs.Environment.{new_environment};
 ghost use Rattle.napi_types.specs.Frames.{caller_of, asks_made, most_asks};
+ghost use Rattle.napi_types.specs.Hooked.{IsHooked};
 ghost use Rattle.napi_types.specs.Lists.{head};
 ghost use Rattle.napi_types.specs.Numbers.{napi_version};
 ghost use Rattle.env_core.specs.Standing.{machine_frame};
@@ -24,11 +25,15 @@ mod collection;
 mod ends;
 mod exceptions;
 mod externals;
+mod hooks;
+mod instances;
 mod references;
 mod tickets;
 
 use crate::frames::{Frames, StandingFrame};
+use crate::instances::Instances;
 pub use calling::Called;
+use cleanup_hooks::Hooks;
 use env_values::value_step;
 use exception_state::Exceptions;
 use finalizer_queue::{Book, NewDuty};
@@ -59,6 +64,8 @@ pub struct State {
     references: Refs,
     wraps: Wraps,
     book: Book,
+    hooks: Hooks,
+    instances: Instances,
     exceptions: Exceptions,
 }
 
@@ -86,6 +93,8 @@ impl Model for State {
       references = references_seen state.store (map_of state.references);
       attachments = attachments_seen state.store state.wraps.attachments;
       book = state.book.book;
+      hooks = state.hooks;
+      instances = state.instances;
       pending = pending_seen state.store state.exceptions.pending;
       last = state.exceptions.last;
     } };
@@ -106,6 +115,7 @@ impl State {
         let references = Refs::new(alloc)?;
         let wraps = Wraps::new(alloc)?;
         let book = Book::new(alloc)?;
+        let instances = Instances::new(alloc, addons)?;
         Ok(State {
             alloc,
             addons,
@@ -120,6 +130,8 @@ impl State {
             references,
             wraps,
             book,
+            hooks: Hooks::new(alloc),
+            instances,
             exceptions: Exceptions::new(),
         })
     }
@@ -163,6 +175,7 @@ impl State {
         requires ask { step ≡ asks_made self.old.frames }
         requires within { step < most_asks }
         requires numbers { HasNumbersFor self.old }
+        requires hooked { IsHooked self.old }
         ensures ok { IfOk result (λ entry. Calls self.old call.now entry self.new) }
         ensures err { OnErr result (self.new ≡ self.old) }
         ensures growing { OnErr result (IsTrue (is_growing call.now)) }
@@ -222,6 +235,7 @@ impl State {
         requires built { is_built call.now ≡ true }
         requires at_once { is_calling call.now ≡ false }
         requires numbers { HasNumbersFor self.old }
+        requires hooked { IsHooked self.old }
         ensures ok { IfOk result (λ reply. Answers self.old call.now reply self.new) }
         ensures err { OnErr result (self.new ≡ self.old) }
         ensures growing { OnErr result (IsTrue (is_growing call.now)) }
@@ -261,6 +275,7 @@ impl State {
         requires built { is_built call.now ≡ true }
         requires at_once { is_calling call.now ≡ false }
         requires numbers { HasNumbersFor self.old }
+        requires hooked { IsHooked self.old }
         ensures ok { IfOk result (λ reply. AnswersInTime self.old call.now reply self.new) }
         ensures err { OnErr result (self.new ≡ self.old) }
         ensures growing { OnErr result (IsTrue (is_growing call.now)) }
@@ -298,6 +313,16 @@ impl State {
             }
             Call::CreateExternal(payload, finalizer, hint) => {
                 self.create_external(*payload, *finalizer, *hint)
+            }
+            Call::SetInstanceData(payload, finalizer, hint) => {
+                self.set_instance_data(*payload, *finalizer, *hint)
+            }
+            Call::GetInstanceData => Ok(self.get_instance_data()),
+            Call::AddEnvCleanupHook(entry, argument) => {
+                self.add_env_cleanup_hook(*entry, *argument)
+            }
+            Call::RemoveEnvCleanupHook(entry, argument) => {
+                Ok(self.remove_env_cleanup_hook(*entry, *argument))
             }
             Call::Collect => self.collect(),
             Call::Exit => Ok(self.exit()),

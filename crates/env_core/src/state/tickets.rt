@@ -1,18 +1,23 @@
 //! The frames of tickets, as they begin and as they end.
-ghost use Rattle.std.specs.Prelude.{◌≡◌, [], true, Some, None, IfSome, ◌↔◌};
+ghost use Rattle.std.specs.Prelude.{◌≡◌, ◌≢◌, ◌<◌, [], ◌∷◌, length, true, Some, None, IfSome, ◌↔◌};
 ghost use Rattle.std.specs.Option.{is_some};
+ghost use Rattle.napi_types.specs.declared.entry.HostStep.TheVariants as host;
 ghost use Rattle.napi_types.specs.Book.{is_begun, is_at, lowest_due};
+ghost use Rattle.napi_types.specs.Changes.{host_entry as entry_of};
 ghost use Rattle.napi_types.specs.Ends.{duty_ended, outermost_end_change};
-ghost use Rattle.napi_types.specs.Frames.{duty_of};
+ghost use Rattle.napi_types.specs.Frames.{most_frames, duty_of, frame_of_duty, begin_told};
+ghost use Rattle.napi_types.specs.Hooked.{IsHooked};
 ghost use Rattle.napi_types.specs.Lists.{tail};
 ghost use Rattle.napi_types.specs.Loop.{next_ticket};
 ghost use Rattle.finalizer_queue.specs.Kept.{ticket_number};
+ghost use Rattle.handle_scope.specs.HandleScopes.{with_frame_scopes};
 ghost use Rattle.env_core.specs.Beginning.{BeginsFrame};
 
 use super::{State, host_entry};
-use crate::frames::StandingFrame;
+use crate::frames::{Frames, StandingFrame};
 use finalizer_queue::Book;
-use napi_types::{Begun, Due, Entry, HostStep, Out, Phase, Why};
+use handle_scope::Scopes;
+use napi_types::{Begun, Due, DueInfo, Entry, HostStep, Out, Phase, Why};
 
 impl State {
     /// Whether a ticket is next.
@@ -21,6 +26,7 @@ impl State {
     {
         match self.phase {
             Phase::Live | Phase::Finals => self.book.has_due(),
+            Phase::Hooks => self.hooks.last_added().is_some(),
             _ => false,
         }
     }
@@ -28,38 +34,44 @@ impl State {
     /// The frame of the next ticket begins, with a scope of its own: its entry, and what the ticket tells. It takes no memory.
     pub fn begin_ticket(&mut self) -> Option<(Entry, Due)>
         requires alone { self.old.frames ≡ [] }
+        requires hooked { IsHooked self.old }
         ensures none { (result ≡ None) ↔ (next_ticket self.old ≡ None) }
         ensures stays { result ≡ None → self.new ≡ self.old }
         ensures begun { IfSome result (λ begin. BeginsFrame self.old begin.0 begin.1 self.new) }
     {
         match self.phase {
             Phase::Live | Phase::Finals => self.begin_due(),
+            Phase::Hooks => self.begin_hook(),
             _ => None,
         }
     }
 
-    /// The frame of the lowest ticket that is due begins, in a phase in which tickets do.
+    /// The frame of the lowest ticket that is due begins, in a phase in which such do.
     fn begin_due(&mut self) -> Option<(Entry, Due)>
         requires alone { self.old.frames ≡ [] }
+        requires phase { self.old.phase ≢ Phase.Hooks }
         requires next { next_ticket self.old ≡ lowest_due self.old.book }
         ensures none { (result ≡ None) ↔ (lowest_due self.old.book ≡ None) }
         ensures stays { result ≡ None → self.new ≡ self.old }
         ensures begun { IfSome result (λ begin. BeginsFrame self.old begin.0 begin.1 self.new) }
     {
         let due = self.book.take_due()?;
-        let told = *due.info();
-        self.scopes.enter_frame();
-        self.frames.push(StandingFrame {
-            cause: told.cause,
-            addon: told.addon,
-            entry: told.entry,
-            duty: Some(told.duty),
-            asks: 0,
-        });
-        let begin = host_entry(
-            HostStep::Begin,
-            Out::Begin(told.cause, told.addon, told.entry, Some(told.duty)),
-        );
+        let begin = begin_frame(&mut self.scopes, &mut self.frames, *due.info());
+        Some((begin, due))
+    }
+
+    /// The frame of the hook that was added last begins: the hook is taken off the list, and its ticket falls due and begins.
+    fn begin_hook(&mut self) -> Option<(Entry, Due)>
+        requires alone { self.old.frames ≡ [] }
+        requires phase { self.old.phase ≡ Phase.Hooks }
+        requires hooked { IsHooked self.old }
+        ensures none { (result ≡ None) ↔ (next_ticket self.old ≡ None) }
+        ensures stays { result ≡ None → self.new ≡ self.old }
+        ensures begun { IfSome result (λ begin. BeginsFrame self.old begin.0 begin.1 self.new) }
+    {
+        let ticket = self.hooks.take_last()?;
+        let due = self.book.take_ticket(ticket);
+        let begin = begin_frame(&mut self.scopes, &mut self.frames, *due.info());
         Some((begin, due))
     }
 
@@ -77,6 +89,29 @@ impl State {
         end_ticket(&mut self.book, begun);
         host_entry(HostStep::End, out)
     }
+}
+
+/// The frame of a duty begins, which makes asks, with a scope of its own: its entry.
+fn begin_frame(scopes: &mut Scopes, frames: &mut Frames, told: DueInfo) -> Entry
+    requires asks { told.runs ≡ true }
+    requires scopes { length scopes.old.frames < most_frames }
+    requires frames { length frames.old < most_frames }
+    ensures entry { result ≡ entry_of host.Begin (begin_told (frame_of_duty told)) }
+    ensures scopes { scopes.new ≡ with_frame_scopes scopes.old }
+    ensures frames { frames.new ≡ frame_of_duty told ∷ frames.old }
+{
+    scopes.enter_frame();
+    frames.push(StandingFrame {
+        cause: told.cause,
+        addon: told.addon,
+        entry: told.entry,
+        duty: Some(told.duty),
+        asks: 0,
+    });
+    host_entry(
+        HostStep::Begin,
+        Out::Begin(told.cause, told.addon, told.entry, Some(told.duty)),
+    )
 }
 
 /// A duty that has begun, which is that of a ticket, ends.

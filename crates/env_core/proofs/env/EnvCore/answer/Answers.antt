@@ -1,6 +1,6 @@
 use Rattle.std.proofs.Common.{◌∙◌, ◌+◌, ◌-◌, ℕ, ap, arith, sym}
 use Rattle.env_core.specs.Journal.{Pages}
-use Rattle.env_core.proofs.Cores.{KeepsPlaces, written, calls-keep, places-kept, core-call_change, replied, other-at-once, fits-in, never-full}
+use Rattle.env_core.proofs.Cores.{KeepsPlaces, written, calls-keep, calls-hooked, places-kept, core-call_change, replied, other-at-once, fits-in, never-full}
 use Rattle.env_core.proofs.env.EnvCore.answer.Goals as goal
 use Rattle.env_core.proofs.env.EnvCore.answer.Goals.{After-give_back-arg-1}
 
@@ -37,7 +37,7 @@ invariant_of-self-in-Ok c =
     let left : ℕ = c.places_of-places.result - 1 - c.frame_places-kept.result + c.frame_places-freed.result in
     let k : KeepsPlaces s.journal.promised c.args.call.now x.reply = places-kept s.state c.call.new.self s.journal c.args.call.now x.reply c.self.invariant (calls-keep s.state c.call.new.self c.args.call.now x c.in-Ok.ensures.ok) in
     core-call_change s.state c.call.new.self s.journal c.give_back.new.self c.args.call.now x (s.journal.promised + c.places_of-places.result - 1 - left) c.self.invariant
-    (calls-keep s.state c.call.new.self c.args.call.now x c.in-Ok.ensures.ok)
+    (calls-keep s.state c.call.new.self c.args.call.now x c.in-Ok.ensures.ok) (calls-hooked s.state c.call.new.self c.args.call.now x c.in-Ok.ensures.ok c.self.invariant.hooked)
     (omega (arith, c.places_of-places.ensures, c.in_default.ensures.room))
     (omega (arith, c.places_of-places.ensures, c.frame_places-kept.ensures, c.frame_places-freed.ensures, k.made, k.dropped))
     (c.give_back.ensures ∙ ap (λ (p : Pages). record p { promised = p.promised - left }) c.push.ensures ∙ ap (λ (p : Pages). written x (p.promised - 1 - left) p) c.in_default.ensures.ok)

@@ -12,12 +12,12 @@ invariant_of-self-2 c =
     let s = c.self.inside in
     let taken = c.in_ok-due.ensures.taken in
     let none : s.frames ≡ [] = ap (λ (e : Environment). e.frames) c.self.view_is ∙ c.requires.alone in
-    let info : c.info-told.result.now ≡ due_info taken.ticket taken.registration = c.info-told.ensures ∙ taken.told in
+    let info : c.info.result.now ≡ due_info taken.ticket taken.registration = c.info.ensures ∙ taken.told in
     let uncalled = ticket-uncalled s.frames s.book.book taken.ticket taken.registration taken.registered c.self.invariant.2 in (
-      state-begun s.store s.scopes c.enter_frame.new.self s.frames c.push.new.self s.exceptions.pending _ c.self.invariant.0 c.enter_frame.ensures c.push.ensures
-          (λ h. uncalled (sym (ap (λ (d : DueInfo). d.cause) info) ∙ h)),
+      state-begun s.store s.scopes c.begin_frame-begin.new.scopes s.frames c.begin_frame-begin.new.frames s.exceptions.pending _ c.self.invariant.0 c.begin_frame-begin.ensures.scopes
+          c.begin_frame-begin.ensures.frames (λ h. uncalled (sym (ap (λ (d : DueInfo). d.cause) info) ∙ h)),
       attached-at s.store s.wraps.attachments s.book.book c.take_due.new.self.book made_begun taken.ticket taken.begun c.self.invariant.1,
-      book-begun s.frames c.push.new.self s.book.book c.take_due.new.self.book _ c.info-told.result.now.duty taken.ticket none taken.begun c.push.ensures refl
-          (ap (λ (d : DueInfo). is_at is_begun c.take_due.new.self.book (ticket_number d.duty)) c.info-told.ensures ∙ takes-begun s.book.book c.take_due.new.self.book c.in_ok-due.due taken)
+      book-begun s.frames c.begin_frame-begin.new.frames s.book.book c.take_due.new.self.book _ c.info.result.now.duty made_begun taken.ticket none taken.begun c.begin_frame-begin.ensures.frames refl
+          (ap (λ (d : DueInfo). is_at is_begun c.take_due.new.self.book (ticket_number d.duty)) c.info.ensures ∙ takes-begun s.book.book c.take_due.new.self.book c.in_ok-due.due taken)
           c.self.invariant.2,
     )

@@ -1,0 +1,65 @@
+//! Calls on cleanup hooks.
+ghost use Rattle.std.specs.Prelude.{◌≡◌, ◌<◌, ◌^◌, length, None, IfOk, OnErr};
+ghost use Rattle.napi_types.specs.declared.call.Call.TheVariants as call_of;
+ghost use Rattle.napi_types.specs.Hooked.{IsHooked};
+ghost use Rattle.napi_types.specs.Refusals.{timely_refusal};
+ghost use Rattle.env_core.specs.State.{AnswersInTime};
+
+use super::State;
+use crate::registering::withdraw_if;
+use finalizer_queue::NewDuty;
+use napi_types::{Cause, Duty, NoMemory, Out, Reply, Status};
+
+impl State {
+    /// Adds a hook of the addon that calls, and registers it. It is refused where the addon has added it, and it has neither begun
+    /// nor been removed since.
+    pub(super) fn add_env_cleanup_hook(
+        &mut self,
+        entry: u32,
+        argument: u64,
+    ) -> Result<Reply, NoMemory>
+        requires hooked { IsHooked self.old }
+        requires tickets { length self.old.book < 2 ^ 62 }
+        ensures ok { IfOk result (λ reply. AnswersInTime self.old (call_of.AddEnvCleanupHook entry argument) reply self.new) }
+        ensures err { OnErr result (self.new ≡ self.old) }
+        ensures unrefused { OnErr result (timely_refusal self.old (call_of.AddEnvCleanupHook entry argument) ≡ None) }
+    {
+        let addon = self.caller();
+        if self.hooks.find(addon, entry, argument).is_some() {
+            return Ok(Reply::plain(Status::InvalidArg, Out::Nothing));
+        }
+        self.book.reserve()?;
+        self.hooks.add(addon, entry, argument, self.book.next())?;
+        let ticket = self.book.register(NewDuty {
+            cause: Cause::Hook,
+            addon,
+            entry,
+            payload: argument,
+            hint: 0,
+        });
+        Ok(Reply {
+            status: Status::Ok,
+            out: Out::Nothing,
+            dropped: None,
+            made: Some(Duty::Ticket(ticket)),
+        })
+    }
+
+    /// Takes a hook of the addon that calls off the list, and withdraws its ticket, where it is still registered. It is refused
+    /// where the addon has not added it, and where it has begun or was removed since.
+    pub(super) fn remove_env_cleanup_hook(&mut self, entry: u32, argument: u64) -> Reply
+        ensures { AnswersInTime self.old (call_of.RemoveEnvCleanupHook entry argument) result self.new }
+    {
+        let addon = self.caller();
+        let Some(ticket) = self.hooks.find(addon, entry, argument) else {
+            return Reply::plain(Status::InvalidArg, Out::Nothing);
+        };
+        self.hooks.remove(ticket);
+        Reply {
+            status: Status::Ok,
+            out: Out::Nothing,
+            dropped: withdraw_if(&mut self.book, Some(ticket)),
+            made: None,
+        }
+    }
+}

@@ -1,0 +1,48 @@
+//! Calls on instance data.
+ghost use Rattle.std.specs.Prelude.{◌≡◌, ◌<◌, ◌^◌, length, None, IfOk, OnErr, IsSome};
+ghost use Rattle.napi_types.specs.declared.call.Call.TheVariants as call_of;
+ghost use Rattle.napi_types.specs.Refusals.{timely_refusal};
+ghost use Rattle.env_core.specs.State.{AnswersInTime};
+
+use super::State;
+use crate::registering::{register_if, reserve_ticket, withdraw_if};
+use napi_types::{NoMemory, Out, Reply, Status};
+
+impl State {
+    /// Gives the addon that calls other instance data. The finalizer of what was set before is withdrawn, where it is still
+    /// registered, and one is registered where the call names an entry; else the hint is kept for nobody, and no memory is taken.
+    pub(super) fn set_instance_data(
+        &mut self,
+        payload: u64,
+        finalizer: Option<u32>,
+        hint: u64,
+    ) -> Result<Reply, NoMemory>
+        requires tickets { length self.old.book < 2 ^ 62 }
+        ensures ok { IfOk result (λ reply. AnswersInTime self.old (call_of.SetInstanceData payload finalizer hint) reply self.new) }
+        ensures err { OnErr result (self.new ≡ self.old) }
+        ensures growing { OnErr result (IsSome finalizer) }
+        ensures unrefused { OnErr result (timely_refusal self.old (call_of.SetInstanceData payload finalizer hint) ≡ None) }
+    {
+        let addon = self.caller();
+        let duty = self.finalizer_if(payload, finalizer, hint);
+        let ticket = reserve_ticket(&mut self.book, duty)?;
+        let replaced = self.instances.ticket(addon);
+        let dropped = withdraw_if(&mut self.book, replaced);
+        self.instances.set(addon, payload, ticket);
+        let made = register_if(&mut self.book, duty);
+        Ok(Reply {
+            status: Status::Ok,
+            out: Out::Nothing,
+            dropped,
+            made,
+        })
+    }
+
+    /// The instance data of the addon that calls, 0 where none was set.
+    pub(super) fn get_instance_data(&self) -> Reply
+        ensures { AnswersInTime self.now call_of.GetInstanceData result self.now }
+    {
+        let payload = self.instances.payload(self.caller());
+        Reply::plain(Status::Ok, Out::Unsigned(payload))
+    }
+}
