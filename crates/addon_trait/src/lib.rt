@@ -12,8 +12,8 @@ ghost use Rattle.napi_types.specs.declared.op.Op.{Op};
 ghost use Rattle.napi_types.specs.Registers.{plan_ask, registers_after_reply, blank_registers, with_gifts};
 
 pub use list::{ask_at, begin_at, enter_at, load_at, note_at};
-pub use phased::Phased;
 use napi_types::{AddonPlan, Ask, Begun, Due, Reply};
+pub use phased::Phased;
 
 /// A native addon, as the environment runs it.
 ///

@@ -42,7 +42,7 @@ pub trait Phased {
     fn advance(&mut self, to: Phase, position: u64)
         requires alone { stands self.old ≡ false }
         requires next { next_phase (phase self.old) ≡ Some to }
-        ensures moved { advances self.old to position self.new }
+        ensures advanced { advances self.old to position self.new }
         ensures phase { phase self.new ≡ to }
         ensures alone { stands self.new ≡ false };
 

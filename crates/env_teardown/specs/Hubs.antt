@@ -20,7 +20,7 @@ pub record QuietHub : Type 0 where
 abbrev pub new_quiet_hub : QuietHub
 new_quiet_hub = record { stage = Before; history = [] }
 
--- one of its events happened, with this result: its entry is one more at the end of the history
+-- one of its events happened, with this result: its entry is one more at the end of the history; where it may not happen the stage stays
 abbrev pub happened : HostStep → Out → QuietHub → QuietHub
 happened event result hub = record { stage = unwrap_or (stage_after hub.stage event) hub.stage; history = hub.history ++ host_entry event result ∷ [] }
 

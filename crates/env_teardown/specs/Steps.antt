@@ -9,11 +9,11 @@ use Rattle.env_teardown.specs.declared.step.TearStep.TheVariants as tear
 use Rattle.env_teardown.specs.Hubs.{QuietHub, happened}
 
 -- the phases from the end of the loop up to `gone`
-abbrev pub is_torn_down : Phase → Bool
-is_torn_down phase.Hooks = true
-is_torn_down phase.Drain = true
-is_torn_down phase.Finals = true
-is_torn_down _ = false
+abbrev pub is_in_teardown : Phase → Bool
+is_in_teardown phase.Hooks = true
+is_in_teardown phase.Drain = true
+is_in_teardown phase.Finals = true
+is_in_teardown _ = false
 
 -- whose turn is next, by the phase and by whether a ticket is next: in Hooks the environment's while one is, and in Finals always; else the hub's
 abbrev pub tear_step : Phase → Bool → TearStep

@@ -40,7 +40,7 @@ impl Model for Quiet {
 impl Quiet {
     /// A hub of which no event happened. The memory for all its events is taken here.
     ///
-    /// `limits.history` is from 4, the places of the events that every run has, to 4,194,304; `limits.journal` is not read.
+    /// `limits.history` is from 4, the places of the events that every run has, to 4,194,304: a condition alone, since no more than four entries come.
     pub fn new(alloc: Global, limits: Limits) -> Result<Quiet, NoMemory>
         requires room { 4 ≤ limits.history }
         requires most { limits.history ≤ most_entries }
@@ -59,8 +59,8 @@ impl Quiet {
     }
 
     /// The loop ends, where it does, and this is how: `exit` says whether exit was asked, and `due` whether a ticket is due. Exit
-    /// comes before anything that is due. `None` where the loop goes on; then nothing changes. It is never `Quiet`, since no
-    /// other actor is there that could have ended.
+    /// comes before anything that is due. `None` where the loop goes on; then nothing changes. It is never `LoopEnd::Quiet`, since
+    /// no other actor is there that could have ended.
     pub fn loop_end(&mut self, exit: bool, due: bool) -> Option<LoopEnd>
         requires { self.old.stage ≡ Going }
         ensures ended { result ≡ quiet_end exit due }

@@ -2,7 +2,7 @@
 ghost use Rattle.std.specs.Prelude.{◌≡◌, length, true, false, Some};
 ghost use Rattle.napi_types.specs.declared.entry.Phase.{Phase};
 ghost use Rattle.napi_types.specs.Phases.{next_phase, stage_of};
-ghost use Rattle.env_teardown.specs.Steps.{is_torn_down, tear_step, after_step};
+ghost use Rattle.env_teardown.specs.Steps.{is_in_teardown, tear_step, after_step};
 
 use crate::quiet::Quiet;
 use addon_trait::Phased;
@@ -22,7 +22,7 @@ pub enum TearStep {
 ///
 /// The phase is Hooks, Drain or Finals and is the one that the hub has come to, and no frame stands.
 pub fn teardown_step<P: Phased>(core: &mut P, hub: &mut Quiet) -> TearStep
-    requires torn { is_torn_down (P.phase core.old) ≡ true }
+    requires teardown { is_in_teardown (P.phase core.old) ≡ true }
     requires shown { hub.old.stage ≡ stage_of (P.phase core.old) }
     requires alone { P.stands core.old ≡ false }
 
@@ -32,6 +32,8 @@ pub fn teardown_step<P: Phased>(core: &mut P, hub: &mut Quiet) -> TearStep
     // Where the hub made its event, the history has its entry, and the core made the one move to the next phase, at the history's length.
     ensures event { result ≡ TearStep.Moved → hub.new ≡ after_step (P.phase core.old) hub.old }
     ensures moved { result ≡ TearStep.Moved → (to : Phase) → next_phase (P.phase core.old) ≡ Some to → P.advances core.old to (length hub.new.history) core.new }
+
+    ensures phase { result ≡ TearStep.Moved → next_phase (P.phase core.old) ≡ Some (P.phase core.new) }
 
     // Else both are as before.
     ensures core { result ≡ TearStep.LocalTurn → core.new ≡ core.old }
