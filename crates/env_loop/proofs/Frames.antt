@@ -12,6 +12,7 @@ use Rattle.napi_types.specs.Ends.{end_change}
 use Rattle.napi_types.specs.Entering.{asked_change}
 use Rattle.napi_types.specs.Environment.{Environment}
 use Rattle.napi_types.specs.Frames.{Frame, at_last_ask, is_asking, asks_made, most_asks}
+use Rattle.napi_types.specs.Hooked.{IsHooked}
 use Rattle.napi_types.specs.Lists.{head, tail}
 use Rattle.napi_types.specs.Owners.{IsOwned}
 use Rattle.napi_types.specs.Plan.{Plan, Registers}
@@ -19,6 +20,7 @@ use Rattle.napi_types.specs.Room.{need}
 use Rattle.env_loop.specs.Runs.{IsSoundEnvironment}
 use Rattle.env_loop.specs.Turns.{IsAsked}
 use Rattle.napi_types.proofs.Answers.{course-parts}
+use Rattle.napi_types.proofs.HookedSteps.{hooked-asked, hooked-ended}
 use Rattle.napi_types.proofs.FrameChanges.{KeepsButFrame, ended-keeps, KeepsButFrames, asked_change-fits}
 use Rattle.napi_types.proofs.Owners.{owned-asked, owned-ended, within-asked, within-ended}
 use Rattle.napi_types.proofs.Registrations.{AreUncalled, uncalled-asked, uncalled-ended}
@@ -93,8 +95,8 @@ in-calls {ps} {e} {all} {f} {a} i below = two_may (may_ask e) (is_asking e.frame
 -- THE ENVIRONMENT STAYS SOUND
 -- where its frames do
 sound-after : (old new : Environment) → old.frames ≢ [] → IsSoundEnvironment old → new.opened ≡ old.opened → new.addons ≡ old.addons → new.phase ≡ old.phase
-    → IsOwned old.addons new → All (λ x. x.asks ≤ most_asks) new.frames → AreNested new.frames → AreUncalled new.book → IsSoundEnvironment new
-sound-after old new some s opened addons same owned asks nested uncalled =
+    → IsOwned old.addons new → All (λ x. x.asks ≤ most_asks) new.frames → AreNested new.frames → AreUncalled new.book → IsHooked new → IsSoundEnvironment new
+sound-after old new some s opened addons same owned asks nested uncalled hooked =
     let P : ℕ → Type 0 = λ n. IsOwned n new in
     record {
       opened = opened ∙ s.opened;
@@ -102,6 +104,7 @@ sound-after old new some s opened addons same owned asks nested uncalled =
       asks = asks;
       nested = nested;
       uncalled = uncalled;
+      hooked = hooked;
       gone = λ g. absurd (some (s.gone (sym same ∙ g)));
     }
 
@@ -112,7 +115,7 @@ sound-asked {ps} {e} {all} {f} {a} i below c n =
     let k : KeepsButFrames e (asked_change e c n).after (need c) = asked_change-fits e c n in
     let course = course-parts e (asked_change e c n).after k.course in
     sound-after e (asked_change e c n).after (in-some i) i.sound course.opened course.addons course.phase (owned-asked e.addons e c n (in-some i) i.sound.owned) (within-asked e c n (in-spare i below) i.sound.asks)
-    (nested-asked e c n (in-some i) i.sound.nested) (uncalled-asked e c n i.sound.uncalled)
+    (nested-asked e c n (in-some i) i.sound.nested) (uncalled-asked e c n i.sound.uncalled) (hooked-asked e c n i.sound.hooked)
 
 -- .. and after the end of a frame
 pub sound-ended : {ps : List Plan} {e : Environment} {all : Registers} {f : Frame} {a : Ask} → InFrame ps e all f a → (v : Option HandleId) (cut : Option Why)
@@ -121,4 +124,4 @@ sound-ended {ps} {e} {all} {f} {a} i v cut =
     let k : KeepsButFrame e (end_change v cut e).after = ended-keeps v cut e in
     let course = course-parts e (end_change v cut e).after k.course in
     sound-after e (end_change v cut e).after (in-some i) i.sound course.opened course.addons course.phase (owned-ended e.addons e v cut i.sound.owned) (within-ended e v cut i.sound.asks)
-    (nested-ended e v cut i.sound.nested) (uncalled-ended e v cut i.sound.uncalled)
+    (nested-ended e v cut i.sound.nested) (uncalled-ended e v cut i.sound.uncalled) (hooked-ended v cut e i.sound.hooked)

@@ -34,6 +34,7 @@ use Rattle.env_loop.specs.Recording.{AddonStates, IsRecorded}
 use Rattle.env_loop.specs.Runs.{IsSoundEnvironment, IsRunning, MovesOn}
 use Rattle.env_loop.specs.Turns.{turn_at, side_of, uncounted, turn_of}
 use Rattle.napi_types.proofs.Owners.{owned-phase}
+use Rattle.napi_types.proofs.HookedSteps.{hooked-phase}
 use Rattle.napi_types.proofs.Registrations.{uncalled-phase}
 use Rattle.env_loop.proofs.Tickets.{turn-of-ticket}
 use Rattle.env_loop.proofs.Recordings.{go-grown, loop_end-grown, drain-grown, finals-grown}
@@ -102,13 +103,14 @@ ready-to-go e here h = ready-in e (uncounted e) e.opened (nat_lt e.inits e.addon
 
 -- WHAT ITS EVENTS MAKE OF A RUN
 -- the environment stays sound in the phase that starts
-moved-sound : (e : Environment) (p : Phase) → (p ≡ phase.Gone → ⊥) → IsSoundEnvironment e → IsSoundEnvironment (in_phase p e)
-moved-sound e p other s = record {
+moved-sound : (e : Environment) (p : Phase) → next_phase e.phase ≡ Some p → (p ≡ phase.Gone → ⊥) → IsSoundEnvironment e → IsSoundEnvironment (in_phase p e)
+moved-sound e p next other s = record {
   opened = s.opened;
   owned = owned-phase e.addons e p s.owned;
   asks = s.asks;
   nested = s.nested;
   uncalled = uncalled-phase p e.book s.uncalled;
+  hooked = hooked-phase p e next s.hooked;
   gone = λ g. absurd (other g);
 }
 
@@ -121,11 +123,11 @@ abbrev moved_core : Core → Phase → ℕ → Core
 moved_core core p position = record core { env = in_phase p core.env; position = position }
 
 moved-on : (core new : Core) (history later : List Entry) (event : HostStep) (o : Out) (p : Phase) → later ≡ history ++ host_entry event o ∷ []
-    → new ≡ moved_core core p (length history + 1) → (p ≡ phase.Gone → ⊥) → stage_places (stage_of core.env.phase) ≡ stage_places (stage_of p) + 1
+    → new ≡ moved_core core p (length history + 1) → next_phase core.env.phase ≡ Some p → (p ≡ phase.Gone → ⊥) → stage_places (stage_of core.env.phase) ≡ stage_places (stage_of p) + 1
     → ((s : Setting) (all : AddonStates) (firsts : List (List DueInfo)) → IsRecorded s core history all firsts
     → IsRecorded s (moved_core core p (length history + 1)) (history ++ host_entry event o ∷ []) all firsts)
     → (begun : Option DueInfo) → MovesOn (record { core = core; history = history; begun = begun }) (record { core = new; history = later; begun = begun })
-moved-on core new history later event o p written made other places grown begun =
+moved-on core new history later event o p written made next other places grown begun =
     let P : Core → Type 0 = λ c. MovesOn (record { core = core; history = history; begun = begun }) (record { core = c; history = later; begun = begun }) in
     let Q : List Entry → Type 0 = λ h. MovesOn (record { core = core; history = history; begun = begun })
     (record { core = moved_core core p (length history + 1); history = h; begun = begun }) in
@@ -138,22 +140,22 @@ moved-on core new history later event o p written made other places grown begun 
       journal = refl;
       frames = refl;
       begun = refl;
-      sound = moved-sound core.env p other;
+      sound = moved-sound core.env p next other;
       recorded = λ plans all s firsts of r. grown s all firsts r;
     }))
 
 -- an event that starts the next phase does so
 moves : (core new : Core) (hub later : QuietHub) (event : HostStep) (o : Out) (p : Phase) → hub.stage ≡ stage_of core.env.phase → later ≡ happened event o hub
-    → new ≡ moved_core core p (length later.history) → (p ≡ phase.Gone → ⊥)
+    → new ≡ moved_core core p (length later.history) → next_phase core.env.phase ≡ Some p → (p ≡ phase.Gone → ⊥)
     → stage_after (stage_of core.env.phase) event ≡ Some (stage_of p) → stage_places (stage_of core.env.phase) ≡ stage_places (stage_of p) + 1
     → ((s : Setting) (all : AddonStates) (firsts : List (List DueInfo)) → IsRecorded s core hub.history all firsts
     → IsRecorded s (moved_core core p (length hub.history + 1)) (hub.history ++ host_entry event o ∷ []) all firsts)
     → HubMoves core hub new later
-moves core new hub later event o p shown is made other next places grown =
+moves core new hub later event o p shown is made follows other next places grown =
     let written : later.history ≡ hub.history ++ host_entry event o ∷ [] = ap (λ (h : QuietHub). h.history) is in
     let longer : length later.history ≡ length hub.history + 1 = ap length written ∙ length-append hub.history (host_entry event o ∷ []) in
     record {
-      moves = moved-on core new hub.history later.history event o p written (made ∙ ap (moved_core core p) longer) other places grown;
+      moves = moved-on core new hub.history later.history event o p written (made ∙ ap (moved_core core p) longer) follows other places grown;
       shown =
           ap (λ (h : QuietHub). h.stage) is ∙ ap (λ (t : Stage). unwrap_or (stage_after t event) t) shown
           ∙ ap (λ (t : Option Stage). unwrap_or t (stage_of core.env.phase)) next ∙ sym (ap (λ (c : Core). stage_of c.env.phase) made);
@@ -164,7 +166,7 @@ pub go-moves : (core new : Core) (hub later : QuietHub) (position : ℕ) → cor
     → later ≡ happened host.Go out.Nothing hub → position ≡ length later.history → new ≡ after_phase phase.Live position core → HubMoves core hub new later
 go-moves core new hub later position here needs shown is at made =
     let ready : ReadyToGo core.env = ready-to-go core.env here needs in
-    moves core new hub later host.Go out.Nothing phase.Live shown is (made ∙ ap (moved_core core phase.Live) at) (λ g. cc)
+    moves core new hub later host.Go out.Nothing phase.Live shown is (made ∙ ap (moved_core core phase.Live) at) (ap next_phase here) (λ g. cc)
     (ap (λ p. stage_after (stage_of p) host.Go) here) (ap (λ p. stage_places (stage_of p)) here)
     (λ s all firsts r. go-grown s core hub.history all firsts r (needs-alone core.env needs) here ready.opened ready.begun)
 
@@ -173,7 +175,7 @@ pub loop_end-moves : (core new : Core) (hub later : QuietHub) (end : Option Loop
     → position ≡ length later.history → new ≡ after_phase phase.Hooks position core → HubMoves core hub new later
 loop_end-moves core new hub later end position here needs shown ends is at made =
     let how = needs-an-end core.env here needs in
-    moves core new hub later host.LoopEnd (out.Ended how.0) phase.Hooks shown (is ∙ ap (λ o. after_loop o hub) (ends ∙ how.1)) (made ∙ ap (moved_core core phase.Hooks) at) (λ g. cc)
+    moves core new hub later host.LoopEnd (out.Ended how.0) phase.Hooks shown (is ∙ ap (λ o. after_loop o hub) (ends ∙ how.1)) (made ∙ ap (moved_core core phase.Hooks) at) (ap next_phase here) (λ g. cc)
     (ap (λ p. stage_after (stage_of p) host.LoopEnd) here) (ap (λ p. stage_places (stage_of p)) here)
     (λ s all firsts r. loop_end-grown s core hub.history all firsts r (needs-alone core.env needs) here how.0
     (ap (λ p. quiet_end core.env.exit_asked (is_some (ticket_in core.env p))) (sym here) ∙ how.1))
@@ -186,13 +188,14 @@ torn-moves core new hub later t needs not_init not_live shown step event moved =
   where
     by : (core.env.phase ≡ phase.Hooks) ⊎ (core.env.phase ≡ phase.Drain) → HubMoves core hub new later
     by (inl here) =
-        let is : t ≡ tear.Moved = step ∙ ap (λ p. tear_step p (is_some (ticket_in core.env p))) here in
-        moves core new hub later host.Drain (out.Unsigned 0) phase.Drain shown (event is ∙ ap (λ p. after_step p hub) here) (moved is phase.Drain (ap next_phase here)) (λ g. cc)
+        let none : next_ticket core.env ≡ None = needs-no-ticket core.env needs (λ live. absurd (not_live live)) in
+        let is : t ≡ tear.Moved = step ∙ ap (λ p. tear_step p (is_some (next_ticket core.env))) here ∙ ap (λ (o : Option ℕ). tear_step phase.Hooks (is_some o)) none in
+        moves core new hub later host.Drain (out.Unsigned 0) phase.Drain shown (event is ∙ ap (λ p. after_step p hub) here) (moved is phase.Drain (ap next_phase here)) (ap next_phase here) (λ g. cc)
         (ap (λ p. stage_after (stage_of p) host.Drain) here) (ap (λ p. stage_places (stage_of p)) here)
-        (λ s all firsts r. drain-grown s core hub.history all firsts r (needs-alone core.env needs) here)
+        (λ s all firsts r. drain-grown s core hub.history all firsts r (needs-alone core.env needs) here (ap (ticket_in core.env) (sym here) ∙ none))
     by (inr here) =
         let is : t ≡ tear.Moved = step ∙ ap (λ p. tear_step p (is_some (ticket_in core.env p))) here in
-        moves core new hub later host.Finals out.Nothing phase.Finals shown (event is ∙ ap (λ p. after_step p hub) here) (moved is phase.Finals (ap next_phase here)) (λ g. cc)
+        moves core new hub later host.Finals out.Nothing phase.Finals shown (event is ∙ ap (λ p. after_step p hub) here) (moved is phase.Finals (ap next_phase here)) (ap next_phase here) (λ g. cc)
         (ap (λ p. stage_after (stage_of p) host.Finals) here) (ap (λ p. stage_places (stage_of p)) here)
         (λ s all firsts r. finals-grown s core hub.history all firsts r (needs-alone core.env needs) here)
 

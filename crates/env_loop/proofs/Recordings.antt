@@ -17,6 +17,7 @@ use Rattle.napi_types.specs.declared.call.Ask.TheVariants as ask
 use Rattle.std.specs.Option.{option_or, option_to_list}
 use Rattle.napi_types.specs.Begins.{told_at, begun_info, begun_along}
 use Rattle.napi_types.specs.Book.{lowest_due}
+use Rattle.napi_types.specs.Hooks.{last_hook}
 use Rattle.napi_types.specs.Loop.{Tickets, EndsLoop}
 use Rattle.napi_types.specs.Machine.{Machine}
 use Rattle.napi_types.specs.Parting.{sides_along}
@@ -195,9 +196,10 @@ loop_end-grown s core history all firsts r alone here end how =
     (rw (alone, here, ends-chosen core.env.exit_asked (lowest_due core.env.book) end how) refl) (λ rss m reply. refl) (λ m. refl)
 
 pub drain-grown : (s : Setting) (core : Core) (history : List Entry) (all : AddonStates) (firsts : List (List DueInfo)) → IsRecorded s core history all firsts
-    → core.env.frames ≡ [] → core.env.phase ≡ phase.Hooks
+    → core.env.frames ≡ [] → core.env.phase ≡ phase.Hooks → option_map (λ h. h.ticket) (last_hook core.env.hooks) ≡ None
     → IsRecorded s (record core { env = in_phase phase.Drain core.env; position = length history + 1 }) (history ++ host_entry host.Drain (out.Unsigned 0) ∷ []) all firsts
-drain-grown s core history all firsts r alone here = shared-grown s core history all firsts r host.Drain (out.Unsigned 0) phase.Drain alone (rw (alone, here) refl) (λ rss m reply. refl) (λ m. refl)
+drain-grown s core history all firsts r alone here none =
+    shared-grown s core history all firsts r host.Drain (out.Unsigned 0) phase.Drain alone (rw (alone, here, none) refl) (λ rss m reply. refl) (λ m. refl)
 
 pub finals-grown : (s : Setting) (core : Core) (history : List Entry) (all : AddonStates) (firsts : List (List DueInfo)) → IsRecorded s core history all firsts
     → core.env.frames ≡ [] → core.env.phase ≡ phase.Drain

@@ -5,9 +5,11 @@ use Rattle.napi_types.specs.Phases.{stage_of}
 use Rattle.napi_types.specs.Plan.{Plan, Registers}
 use Rattle.napi_types.specs.Room.{stage_places}
 use Rattle.napi_types.specs.Setting.{Setting}
+use Rattle.napi_types.specs.Weave.{weave}
+use Rattle.napi_types.proofs.Orders.{order-holds}
 use Rattle.env_core.specs.Core.{Core}
-use Rattle.env_loop.specs.Recording.{AddonStates, IsOf}
-use Rattle.env_loop.specs.Runs.{Run, OneMore, Extends, GoesOn, MovesOn}
+use Rattle.env_loop.specs.Recording.{AddonStates, IsOf, IsRecorded}
+use Rattle.env_loop.specs.Runs.{Run, OneMore, Extends, GoesOn, EndsInOrder, MovesOn}
 use Rattle.env_loop.specs.Turns.{turns_left}
 
 of-later : (s : Setting) (ps qs : List Plan) (a b : Core) → b.env.addons ≡ a.env.addons → qs ≡ ps → IsOf s ps a → IsOf s qs b
@@ -68,3 +70,10 @@ extends-event old mid new e m = record {
 
 pub extends-same : (old mid new : Run) → Extends old mid → new ≡ mid → Extends old new
 extends-same old mid new e same = let P : Run → Type 0 = λ r. Extends old r in subst P (sym same) e
+
+-- THE ORDER OF TICKETS
+-- a recorded run has it, as every run has
+pub goes-ordered : (plans : List Plan) (old : Run) (all : AddonStates) (new : Run) (now : AddonStates) → GoesOn plans old all new now → EndsInOrder plans old all new
+goes-ordered plans old all new now goes s firsts of recorded =
+    let r : IsRecorded s new.core new.history now firsts = goes s firsts of recorded in
+    order-holds s r.asks (weave new.core.journal new.history) r.run.steps

@@ -12,6 +12,7 @@ use Rattle.napi_types.specs.Begins.{duty_info, of_addon}
 use Rattle.napi_types.specs.Choice.{local_choice_in}
 use Rattle.napi_types.specs.Environment.{Environment}
 use Rattle.napi_types.specs.Frames.{Frame}
+use Rattle.napi_types.specs.Hooks.{last_hook}
 use Rattle.napi_types.specs.Loop.{Opens, Inits, Tickets, EndsLoop, IsGone, ticket_in, next_ticket}
 use Rattle.napi_types.proofs.Runs.{of_addon-append}
 use Rattle.addon_trait.specs.Addons.{seen_of}
@@ -28,7 +29,7 @@ pub begins-none : (e : Environment) → e.frames ≢ [] → begins_next e ≡ No
 begins-none e some = begins-over-none e e.frames some
 
 -- .. nor where no ticket is next, and else that ticket
--- the environment's own event begins the frame of the next ticket, and where none is next it begins none; in the loop that is so until exit is asked
+-- the event that the environment decides begins the frame of the next ticket, and where none is next it begins none; in the loop that is so until exit is asked
 none-chosen : (opened more : Bool) (n : ℕ) → ticket_of (cond opened (cond more (Some (Inits n)) None) (Some Opens)) ≡ None
 none-chosen false more n = refl
 none-chosen true true n = refl
@@ -46,7 +47,7 @@ chosen-ticket : (e : Environment) (p : Phase) → (p ≡ phase.Live → e.exit_a
 chosen-ticket e phase.Init unasked = none-chosen e.opened (nat_lt e.inits e.addons) e.inits
 chosen-ticket e phase.Live unasked =
     ap (λ b. ticket_of (cond b (Some (EndsLoop loop_end.Exit)) (option_map Tickets (lowest_due e.book)))) (unasked refl) ∙ own-ticket (lowest_due e.book)
-chosen-ticket e phase.Hooks unasked = refl
+chosen-ticket e phase.Hooks unasked = own-ticket (option_map (λ h. h.ticket) (last_hook e.hooks))
 chosen-ticket e phase.Drain unasked = refl
 chosen-ticket e phase.Finals unasked = last-ticket (lowest_due e.book)
 chosen-ticket e phase.Gone unasked = refl

@@ -22,9 +22,13 @@ use Rattle.napi_types.specs.Changes.{number_of, is_fresh_result, may_ask, may_ca
 use Rattle.napi_types.specs.Ends.{end_out, uncut_call_end, end_change_by, end_change}
 use Rattle.napi_types.specs.Entering.{asked_change}
 use Rattle.napi_types.specs.Environment.{Environment}
-use Rattle.napi_types.specs.Frames.{Frame, cause_of}
+use Rattle.napi_types.specs.Frames.{Frame, caller_of, cause_of}
 use Rattle.napi_types.specs.Heap.{Heap, handle_value}
 use Rattle.napi_types.specs.Machine.{Machine}
+use Rattle.napi_types.specs.HookCalls.{unhooked, unhooking}
+use Rattle.napi_types.specs.Hooks.{hook_ticket}
+use Rattle.napi_types.specs.InstanceCalls.{setting_instance}
+use Rattle.napi_types.specs.InstanceData.{instance_ticket, with_instance}
 use Rattle.napi_types.specs.Registering.{finalizer_if, ticket_if, registering_if, registered_only, withdrawing}
 use Rattle.napi_types.specs.Replies.{Answer, accepts}
 use Rattle.napi_types.specs.Room.{journal_room, room_of, is_full}
@@ -82,6 +86,16 @@ unwrapping-tells e v =
     withdrawing-tells (registered_only e.book (wrap_ticket e.attachments v))
     (accepts (out.Unsigned (wrap_payload e.attachments v)) (with_attachments (without_wrap v e.attachments) e)) (record { uncut = refl; untold = λ m. refl })
 
+setting-tells : (e : Environment) (addon payload : ℕ) (entry : Option ℕ) (hint : ℕ) → TellsNoFrame (setting_instance e addon payload entry hint).reply.out
+setting-tells e addon payload entry hint =
+    let set : Environment = record e { instances = with_instance addon (record { payload = payload; ticket = ticket_if e.book entry }) e.instances } in
+    registering-tells (finalizer_if e payload entry hint) (withdrawing (registered_only e.book (instance_ticket e.instances addon)) (accepts out.Nothing set))
+    (withdrawing-tells (registered_only e.book (instance_ticket e.instances addon)) (accepts out.Nothing set) (record { uncut = refl; untold = λ m. refl }))
+
+unhooking-tells : (e : Environment) (ticket : Option ℕ) → TellsNoFrame (unhooking e ticket).reply.out
+unhooking-tells e ticket =
+    withdrawing-tells (registered_only e.book ticket) (accepts out.Nothing (record e { hooks = unhooked ticket e.hooks })) (record { uncut = refl; untold = λ m. refl })
+
 by-tells : (e : Environment) (c : Call) (n : ℕ) → TellsNoFrame (effect e c n).reply.out
 by-tells e (call.ReferenceRef r) n = raised-tells r.0 e (referred_value e.references r.0)
 by-tells e (call.GetReferenceValue r) n = told-tells e (referred_value e.references r.0)
@@ -90,6 +104,8 @@ by-tells e (call.AddFinalizer object payload entry hint wanted) n = finalizing-t
 by-tells e (call.RemoveWrap object) n = unwrapping-tells e (handle_value e.heap object.0)
 by-tells e (call.CreateExternal payload None hint) n = record { uncut = refl; untold = λ m. refl }
 by-tells e (call.CreateExternal payload (Some entry) hint) n = record { uncut = refl; untold = λ m. refl }
+by-tells e (call.SetInstanceData payload entry hint) n = setting-tells e (caller_of e.frames) payload entry hint
+by-tells e (call.RemoveEnvCleanupHook entry argument) n = unhooking-tells e (hook_ticket (caller_of e.frames) entry argument e.hooks)
 by-tells e c n = record { uncut = refl; untold = λ m. refl }
 
 given-tells : (e : Environment) (c : Call) (n : ℕ) (x : Option Status) → TellsNoFrame (answer_unless e c n x).reply.out

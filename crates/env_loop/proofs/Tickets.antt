@@ -1,6 +1,6 @@
 -- The frame of a ticket begins.
 use Rattle.std.proofs.Common.{◌≡◌, ◌<◌, ◌≤◌, ◌++◌, ◌∙◌, ℕ, true, false, cond, List, [], ◌∷◌, length, set, Option, Some, None, option_map, refl, ap, subst, sym, arith}
-use Rattle.std.specs.Option.{option_or, option_to_list}
+use Rattle.std.specs.Option.{option_or, option_to_list, unwrap_or}
 use Rattle.std.proofs.lemmas.List.Elements.{All-head}
 use Rattle.napi_types.specs.declared.call.Ask.TheVariants as ask
 use Rattle.napi_types.specs.declared.duties.DueInfo.{DueInfo}
@@ -9,17 +9,19 @@ use Rattle.napi_types.specs.declared.entry.LoopEnd.TheVariants as loop_end
 use Rattle.napi_types.specs.declared.entry.Phase.{Phase}
 use Rattle.napi_types.specs.declared.entry.Phase.TheVariants as phase
 use Rattle.napi_types.specs.Begins.{duty_info}
-use Rattle.napi_types.specs.Book.{Registration, registration_at, is_due, lowest_due, due_info}
+use Rattle.napi_types.specs.Book.{Book, Registration, registration_at, is_registered, is_due, is_at, lowest_due, due_info}
 use Rattle.napi_types.specs.Choice.{choice, hub_choice, local_choice_in}
 use Rattle.napi_types.specs.Environment.{Environment}
 use Rattle.napi_types.specs.Frames.{Frame, frame_of_duty}
+use Rattle.napi_types.specs.Hooked.{IsHooked, is_late}
+use Rattle.napi_types.specs.Hooks.{Hook, last_hook}
 use Rattle.napi_types.specs.Loop.{Tickets, EndsLoop, IsGone, ticket_in, next_ticket}
 use Rattle.napi_types.specs.Machine.{Machine}
 use Rattle.napi_types.specs.Owners.{IsOwned}
 use Rattle.napi_types.specs.Plan.{Plan, with_addon_gifts, with_begun_gifts}
 use Rattle.napi_types.specs.Setting.{Setting}
 use Rattle.napi_types.specs.Step.{step, event_step, chosen, env_step, locally, ticket_step}
-use Rattle.napi_types.specs.Tickets.{ticket_change}
+use Rattle.napi_types.specs.Tickets.{may_begin_in, ticket_change}
 use Rattle.napi_types.specs.Weave.{Side, Journal}
 use Rattle.addon_trait.specs.Addons.{seen_of}
 use Rattle.env_core.specs.Core.{Core, after_change}
@@ -29,6 +31,7 @@ use Rattle.env_loop.specs.Recording.{AddonStates, HasSeen, machine_of, IsRecorde
 use Rattle.env_loop.specs.Runs.{IsSoundEnvironment}
 use Rattle.env_loop.specs.Turns.{turn_at, turn_of, side_of, uncounted, begins_next, IsTurn}
 use Rattle.napi_types.proofs.Books.{IsDueAt, lowest-due}
+use Rattle.napi_types.proofs.HookedSteps.{hook-registered, hooked-begun}
 use Rattle.napi_types.proofs.Owners.{owned-ticket, within-ticket}
 use Rattle.napi_types.proofs.Registrations.{uncalled-begun}
 use Rattle.napi_types.proofs.StandingFrames.{nested-ticket}
@@ -38,12 +41,12 @@ use Rattle.env_loop.proofs.Seen.{begins-ticket, seen-begun}
 use Rattle.env_loop.proofs.Turns.{after_change-turn}
 
 -- THE NEXT EVENT
--- where a ticket is next its frame is the environment's own next event; in the loop that is so until exit is asked
+-- where a ticket is next its frame is the event that the environment decides; in the loop that is so until exit is asked
 ticket-first : (e : Environment) (p : Phase) (n : ℕ) → (p ≡ phase.Live → e.exit_asked ≡ false) → ticket_in e p ≡ Some n → local_choice_in e p ≡ Some (Tickets n)
 ticket-first e phase.Live n unasked is = ap (λ b. cond b (Some (EndsLoop loop_end.Exit)) (option_map Tickets (lowest_due e.book))) (unasked refl) ∙ ap (option_map Tickets) is
 ticket-first e phase.Finals n unasked is = ap (λ o. option_or (option_map Tickets o) (Some IsGone)) is
 ticket-first e phase.Init n unasked is = cc
-ticket-first e phase.Hooks n unasked is = cc
+ticket-first e phase.Hooks n unasked is = ap (option_map Tickets) is
 ticket-first e phase.Drain n unasked is = cc
 ticket-first e phase.Gone n unasked is = cc
 
@@ -64,39 +67,51 @@ turn-of-ticket e n alone unasked is =
     ∙ ap (λ o. turn_at [] (side_of (uncounted e) o)) (ticket-chosen (uncounted e) n unasked is)
     ∙ ap (λ (s : Side). turn_at [] (Some s)) (ticket-side (uncounted e) n)
 
--- it is due
-ticket-lowest : (e : Environment) (p : Phase) (n : ℕ) → ticket_in e p ≡ Some n → lowest_due e.book ≡ Some n
-ticket-lowest e phase.Live n is = is
-ticket-lowest e phase.Finals n is = is
-ticket-lowest e phase.Init n is = cc
-ticket-lowest e phase.Hooks n is = cc
-ticket-lowest e phase.Drain n is = cc
-ticket-lowest e phase.Gone n is = cc
-
-ticket-due : (e : Environment) (n : ℕ) (r : Registration) → next_ticket e ≡ Some n → registration_at e.book n ≡ Some r → is_due r.state ≡ true
-ticket-due e n r is there =
-    let d : IsDueAt e.book n = lowest-due e.book n (ticket-lowest e e.phase n is) in
+-- it may begin: a hook is registered, and every other one is due
+lowest-ready : (book : Book) (n : ℕ) (r : Registration) → lowest_due book ≡ Some n → registration_at book n ≡ Some r → is_due r.state ≡ true
+lowest-ready book n r is there =
+    let d : IsDueAt book n = lowest-due book n is in
     let same : d.registration ≡ r = let e : Some d.registration ≡ Some r = sym d.there ∙ there in cc in
     ap (λ (q : Registration). is_due q.state) (sym same) ∙ d.due
 
+hook-ready : (e : Environment) (o : Option Hook) (n : ℕ) (r : Registration) → IsHooked e → is_late e.phase ≡ false → last_hook e.hooks ≡ o → option_map (λ h. h.ticket) o ≡ Some n
+    → registration_at e.book n ≡ Some r → is_registered r.state ≡ true
+hook-ready e None n r hooked early last is there = cc
+hook-ready e (Some h) n r hooked early last is there =
+    let same : h.ticket ≡ n = let told : Some h.ticket ≡ Some n = is in cc in
+    let here : is_at is_registered e.book h.ticket ≡ true = hook-registered e h hooked early last in
+    let at : is_at is_registered e.book n ≡ true = ap (is_at is_registered e.book) (sym same) ∙ here in
+    ap (λ (o : Option Registration). unwrap_or (option_map (λ (q : Registration). is_registered q.state) o) false) (sym there) ∙ at
+
+ready-in : (e : Environment) (p : Phase) (n : ℕ) (r : Registration) → e.phase ≡ p → IsHooked e → ticket_in e p ≡ Some n → registration_at e.book n ≡ Some r → may_begin_in p r.state ≡ true
+ready-in e phase.Live n r here hooked is there = lowest-ready e.book n r is there
+ready-in e phase.Finals n r here hooked is there = lowest-ready e.book n r is there
+ready-in e phase.Hooks n r here hooked is there = hook-ready e (last_hook e.hooks) n r hooked (ap is_late here) refl is there
+ready-in e phase.Init n r here hooked is there = cc
+ready-in e phase.Drain n r here hooked is there = cc
+ready-in e phase.Gone n r here hooked is there = cc
+
+ticket-ready : (e : Environment) (n : ℕ) (r : Registration) → IsHooked e → next_ticket e ≡ Some n → registration_at e.book n ≡ Some r → may_begin_in e.phase r.state ≡ true
+ticket-ready e n r hooked is there = ready-in e e.phase n r refl hooked is there
+
 -- A RECORDED RUN GOES ON
-ticket-next : (m : Machine) (n : ℕ) (r : Registration) → m.env.frames ≡ [] → (m.env.phase ≡ phase.Live → m.env.exit_asked ≡ false) → next_ticket m.env ≡ Some n
+ticket-next : (m : Machine) (n : ℕ) (r : Registration) → IsHooked m.env → m.env.frames ≡ [] → (m.env.phase ≡ phase.Live → m.env.exit_asked ≡ false) → next_ticket m.env ≡ Some n
     → registration_at m.env.book n ≡ Some r → step m (ask.Leave None) (ticket_change n r m.env).entry ≡ locally m (ticket_change n r m.env) true
-ticket-next m n r alone unasked is there =
+ticket-next m n r hooked alone unasked is there =
     ap (env_step m (ask.Leave None) (ticket_change n r m.env).entry.reply.out) alone ∙ ap (chosen m) (ticket-chosen m n unasked is) ∙ ap (ticket_step m n) there
-    ∙ ap (locally m (ticket_change n r m.env)) (ticket-due m.env n r is there)
+    ∙ ap (locally m (ticket_change n r m.env)) (ticket-ready m.env n r hooked is there)
 
 pub ticket-grown : (s : Setting) (core : Core) (history : List Entry) (all : AddonStates) (firsts : List (List DueInfo)) (rec : IsRecorded s core history all firsts)
     (now : AddonStates) (n : ℕ) (r : Registration)
-    → core.env.frames ≡ [] → (core.env.phase ≡ phase.Live → core.env.exit_asked ≡ false) → next_ticket core.env ≡ Some n → registration_at core.env.book n ≡ Some r
+    → IsHooked core.env → core.env.frames ≡ [] → (core.env.phase ≡ phase.Live → core.env.exit_asked ≡ false) → next_ticket core.env ≡ Some n → registration_at core.env.book n ≡ Some r
     → Kept s.plans now.registers (with_addon_gifts rec.own r.addon (due_info n r).gifts) → HasSeen all.seen (due_info n r ∷ []) now.seen
     → IsRecorded s (after_change (ticket_change n r core.env) core) history now firsts
-ticket-grown s core history all firsts rec now n r alone unasked is there kept seen =
+ticket-grown s core history all firsts rec now n r hooked alone unasked is there kept seen =
     let m : Machine = machine_of s.limits core history in
     let told : duty_info m (Some (due_info n r).duty) ≡ Some (due_info n r) = ap (option_map (due_info n)) there in
     let P : Option DueInfo → Type 0 = λ d. HasSeen all.seen (option_to_list d) now.seen in
     local-grown s core history all firsts rec (ask.Leave None) (ticket_change n r core.env) (with_addon_gifts rec.own r.addon (due_info n r).gifts) now
-    (ticket-next m n r alone unasked is there) refl (rw alone refl) (ap (with_begun_gifts rec.own core.env.heap (ask.Leave None)) told)
+    (ticket-next m n r hooked alone unasked is there) refl (rw alone refl) (ap (with_begun_gifts rec.own core.env.heap (ask.Leave None)) told)
     kept.count kept.agrees (subst P (sym told) seen) refl
 
 -- A TURN
@@ -125,7 +140,8 @@ ticket-turn ps all now core new due info sound alone unasked begins enough as_ma
       owned = owned;
       asks = within-ticket core.env n r sound.asks;
       nested = nested-ticket n r core.env begins.registered sound.uncalled alone;
-      uncalled = uncalled-begun n core.env.book sound.uncalled;
+      uncalled = uncalled-begun core.env.phase n core.env.book sound.uncalled;
+      hooked = hooked-begun n r core.env begins.registered (ticket-ready core.env n r sound.hooked begins.next begins.registered) sound.hooked;
       gone = λ g. absurd (not-gone core.env.phase g begins.next);
     } in
     after_change-turn ps core new all now (ticket_change n r core.env) begins.after (given-others core.env.addons all.registers now.registers r.addon d.gifts there given_it)
@@ -133,7 +149,7 @@ ticket-turn ps all now core new due info sound alone unasked begins enough as_ma
     (subst P (sym next) saw) left refl refl
     (λ s history firsts of rec.
     let below : r.addon < length s.plans = omega (arith, of.count, there) in
-    ticket-grown s core history all firsts rec now n r alone unasked begins.next begins.registered
+    ticket-grown s core history all firsts rec now n r sound.hooked alone unasked begins.next begins.registered
     (given-kept s.plans all.registers rec.own now.registers r.addon d.gifts rec.count rec.agrees below inside given_it) saw)
   where
     not-gone : (p : Phase) → p ≡ phase.Gone → ticket_in core.env p ≡ Some begins.ticket → ⊥

@@ -13,6 +13,7 @@ use Rattle.env_core.specs.Core.{Core, after_change, next_init}
 use Rattle.env_loop.specs.Recording.{AddonStates, HasSeen, Continues}
 use Rattle.env_loop.specs.Runs.{IsSoundEnvironment}
 use Rattle.env_loop.specs.Turns.{begins_next, OnlyInnermostChanges, IsTurn}
+use Rattle.napi_types.proofs.HookedSteps.{hooked-init, hooked-gone}
 use Rattle.napi_types.proofs.Owners.{owned-init, within-init}
 use Rattle.napi_types.proofs.StandingFrames.{nested-init}
 use Rattle.env_loop.proofs.Registers.{none-touched}
@@ -73,6 +74,7 @@ init-turn ps all core new i sound alone here next made =
       asks = within-init core.env i sound.asks;
       nested = nested-init i core.env alone;
       uncalled = sound.uncalled;
+      hooked = hooked-init i core.env sound.hooked;
       gone = λ g. let z : phase.Init ≡ phase.Gone = sym here ∙ g in cc;
     } in
     after_change-turn ps core new all all (init_change i core.env) made refl (none-touched core.env.frames (init_change i core.env).after.frames all.registers alone refl)
@@ -89,6 +91,7 @@ gone_from ps all core new sound alone here none made =
       asks = sound.asks;
       nested = sound.nested;
       uncalled = sound.uncalled;
+      hooked = hooked-gone core.env sound.hooked;
       gone = λ g. alone;
     } in
     after_change-turn ps core new all all (gone_change core.env) made refl

@@ -11,11 +11,14 @@ use Rattle.napi_types.specs.Asks.{AsksWithin}
 use Rattle.napi_types.specs.Duties.{duties_of, AreNested}
 use Rattle.napi_types.specs.Environment.{Environment}
 use Rattle.napi_types.specs.Frames.{Frame}
+use Rattle.napi_types.specs.Hooked.{IsHooked}
+use Rattle.napi_types.specs.Order.{HooksFall, FinalsRise}
 use Rattle.napi_types.specs.Owners.{IsOwned}
 use Rattle.napi_types.specs.Phases.{stage_of}
 use Rattle.napi_types.specs.Plan.{Plan}
 use Rattle.napi_types.specs.Room.{stage_places}
 use Rattle.napi_types.specs.Setting.{Setting}
+use Rattle.napi_types.specs.Weave.{weave}
 use Rattle.env_core.specs.Core.{Core, opened_core}
 use Rattle.env_teardown.specs.Hubs.{QuietHub}
 use Rattle.env_loop.specs.Recording.{AddonStates, IsOf, IsRecorded}
@@ -35,13 +38,15 @@ abbrev pub IsOpened : Core → Type 0
 IsOpened core = core ≡ opened_core core.env.addons core.env.texts core.limit
 
 -- what the frames of a run keep: each runs an addon of the script and makes no more asks than it may, a frame that a duty began is the outermost one, and no
--- call begins the frame of a ticket; each function and each ticket belongs to an addon of the script, and no frame stands once the environment is gone
+-- call begins the frame of a ticket; each function and each ticket belongs to an addon of the script, each hook is registered up to `finals`, and no frame stands
+-- once the environment is gone
 pub record IsSoundEnvironment (e : Environment) : Type 0 where
   pub opened : e.opened ≡ true
   pub owned : IsOwned e.addons e
   pub asks : AsksWithin e
   pub nested : AreNested e.frames
   pub uncalled : All (λ r. r.cause ≢ cause.Call) e.book
+  pub hooked : IsHooked e
   pub gone : e.phase ≡ phase.Gone → e.frames ≡ []
 
 -- the duty that began one of these frames is the one that has begun and has not ended, if there is one
@@ -70,6 +75,15 @@ pub record Extends (old new : Run) : Type 0 where
 abbrev pub GoesOn : List Plan → Run → AddonStates → Run → AddonStates → Type 0
 GoesOn plans old all new now =
     (s : Setting) (firsts : List (List DueInfo)) → IsOf s plans old.core → IsRecorded s old.core old.history all firsts → IsRecorded s new.core new.history now firsts
+
+-- in a run, hooks began in the reverse of the order in which they were added, and what began after `finals` in the order of registration
+abbrev pub BeganInOrder : Run → Type 0
+BeganInOrder run = HooksFall (weave run.core.journal run.history) × FinalsRise (weave run.core.journal run.history)
+
+-- where one run is recorded as a run of a script of these addons, tickets began in order in the other, to which it went on
+abbrev pub EndsInOrder : List Plan → Run → AddonStates → Run → Type 0
+EndsInOrder plans old all new =
+    (s : Setting) (firsts : List (List DueInfo)) → IsOf s plans old.core → IsRecorded s old.core old.history all firsts → BeganInOrder new
 
 -- the hub made its next event, which is one entry more in the history; the journal, the limit, the frames, the addons and what is seen of them are as before
 pub record MovesOn (old new : Run) : Type 0 where

@@ -6,7 +6,7 @@ ghost use Rattle.napi_types.specs.Phases.{stage_of};
 ghost use Rattle.napi_types.specs.Room.{most_entries};
 ghost use Rattle.addon_trait.specs.Addons.{seen_of};
 ghost use Rattle.env_loop.specs.Recording.{AddonStates};
-ghost use Rattle.env_loop.specs.Runs.{IsOpened, opened_run, OneMore, Extends, GoesOn, MovesOn};
+ghost use Rattle.env_loop.specs.Runs.{IsOpened, opened_run, OneMore, Extends, GoesOn, EndsInOrder, MovesOn};
 ghost use Rattle.env_loop.specs.Turns.{turn_of, begins_next, OnlyInnermostChanges};
 
 use crate::turn::{LocalTurn, turn};
@@ -188,6 +188,10 @@ pub fn run_alone(env: &mut EnvRun, addons: &mut Vec<Box<dyn Addon>>)
     ensures recorded { let before : AddonStates = record { registers = map (λ b. regs b) addons.old.items; seen = map (λ b. seen b) addons.old.items } in
         let after : AddonStates = record { registers = map (λ b. regs b) addons.new.items; seen = map (λ b. seen b) addons.new.items } in
         GoesOn (map (λ b. plan b) addons.old.items) env.old before env.new after }
+
+    // Hooks began in the reverse of the order in which they were added, and what was left to the end in the order of registration.
+    ensures order { let before : AddonStates = record { registers = map (λ b. regs b) addons.old.items; seen = map (λ b. seen b) addons.old.items } in
+        EndsInOrder (map (λ b. plan b) addons.old.items) env.old before env.new }
     ensures others { let n = env.old.core.env.addons in
         drop n (map (λ b. regs b) addons.new.items) ≡ drop n (map (λ b. regs b) addons.old.items) }
 {

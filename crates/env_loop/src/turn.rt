@@ -242,14 +242,14 @@ fn event_turn(
         },
         // Once exit was asked the loop ends, whatever is due.
         Phase::Live if core.exit_asked() => LocalTurn::NeedsHub,
-        Phase::Live => {
+        Phase::Live | Phase::Hooks => {
             if ticket_turn(core, begun, addons) {
                 LocalTurn::Made
             } else {
                 LocalTurn::NeedsHub
             }
         }
-        Phase::Hooks | Phase::Drain => LocalTurn::NeedsHub,
+        Phase::Drain => LocalTurn::NeedsHub,
         Phase::Finals => {
             if !ticket_turn(core, begun, addons) {
                 // `Gone` is no event of the hub, so no position is noted.

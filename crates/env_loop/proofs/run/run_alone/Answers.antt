@@ -1,5 +1,5 @@
 use Rattle.std.proofs.Common.{arith, refl, ◌∙◌}
-use Rattle.env_loop.proofs.Runs.{goes-then, fewer-after, fewer-turn, others-then, extends-none, extends-turn, extends-event, extends-same}
+use Rattle.env_loop.proofs.Runs.{goes-then, goes-ordered, fewer-after, fewer-turn, others-then, extends-none, extends-turn, extends-event, extends-same}
 use Rattle.env_loop.proofs.run.run_alone.Goals as goal
 
 pub loop-env-init : goal.loop-env-init
@@ -58,6 +58,11 @@ pub returns-in-Gone-clause-recorded : goal.returns-in-Gone-clause-recorded
 returns-in-Gone-clause-recorded g c =
     let i = c.loop-env.invariant in
     goes-then _ _ c.args.env.now c.loop-env.env c.local_turn.new.self _ _ _ i.goes i.addons i.plans c.in-Gone.ensures.recorded
+
+pub returns-in-Gone-clause-order : goal.returns-in-Gone-clause-order
+returns-in-Gone-clause-order g c =
+    let i = c.loop-env.invariant in
+    goes-ordered _ c.args.env.now _ c.local_turn.new.self _ (goes-then _ _ c.args.env.now c.loop-env.env c.local_turn.new.self _ _ _ i.goes i.addons i.plans c.in-Gone.ensures.recorded)
 
 pub returns-in-Gone-clause-others : goal.returns-in-Gone-clause-others
 returns-in-Gone-clause-others g c =

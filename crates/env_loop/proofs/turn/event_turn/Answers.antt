@@ -8,7 +8,7 @@ returns-in-Some-clause-made g c = λ _. init-turn _ _ c.args.core.now c.begin_in
 
 pub returns-then-not-ticket_turn-clause-made : goal.returns-then-not-ticket_turn-clause-made
 returns-then-not-ticket_turn-clause-made g c = λ _.
-    let none : c.ticket_turn-in-Finals.result ≡ false = c.if-not-ticket_turn.true in
-    let t = c.ticket_turn-in-Finals.ensures in
-    gone_change-turn _ _ _ c.args.core.now c.ticket_turn-in-Finals.new.core c.advance.new.self c.requires.sound c.requires.alone (sym c.in-Finals.ensures)
+    let none : c.ticket_turn.result ≡ false = c.if-not-ticket_turn.true in
+    let t = c.ticket_turn.ensures in
+    gone_change-turn _ _ _ c.args.core.now c.ticket_turn.new.core c.advance.new.self c.requires.sound c.requires.alone (sym c.in-Finals.ensures)
     (none-there (next_ticket c.args.core.now.env) (sym t.began ∙ none)) (t.stays none) (t.same none) (t.unseen none) c.advance.ensures
