@@ -16,8 +16,12 @@ use Rattle.napi_types.specs.ScriptReading.{IsNoJson}
 use Rattle.napi_types.specs.Script.{IsWrong}
 use Rattle.napi_types.specs.Weave.{weave}
 use Rattle.napi_types.specs.Setting.{opening_of, final_of}
+use Rattle.napi_types.specs.Order.{HooksFall, FinalsRise}
 use Rattle.napi_types.proofs.Keeping.{kept-run}
+use Rattle.napi_types.proofs.Onces.{tickets-counted}
+use Rattle.napi_types.proofs.Orders.{order-holds}
 use Rattle.napi_types.proofs.Rooms.{room-suffices}
+use Rattle.napi_types.proofs.Withdrawals.{once-holds}
 use Rattle.env_loop.specs.Recording.{AddonStates, IsEnded}
 use Rattle.script_host.specs.Loading.{told_plans, setting_with}
 use Rattle.script_host.specs.declared.words.Line.{Line}
@@ -59,6 +63,8 @@ ran-of script texts handed after left counted enough ended loaded others =
     let states : AddonStates = record { registers = after.registers; seen = after.seen } in
     let E : ℕ → Type 0 = λ n. IsEnded (setting_with (told_plans script.addons handed.plans) n) left.journal left.history states handed.seen in
     let e : IsEnded (setting_of script handed.plans) left.journal left.history states handed.seen = subst E counted ended in
+    let order : HooksFall (weave left.journal left.history) × FinalsRise (weave left.journal left.history) =
+    order-holds (setting_of script handed.plans) e.asks (weave left.journal left.history) e.ended.run.steps in
     record {
       enough = enough;
       run = record {
@@ -69,6 +75,10 @@ ran-of script texts handed after left counted enough ended loaded others =
         parted = e.parted;
         agrees = λ addon below. e.agrees addon (omega (arith, length-told script.addons handed.plans enough));
         seen = e.seen;
+        counted = tickets-counted (setting_of script handed.plans) e.asks (weave left.journal left.history) e.ended.run;
+        hooks = order.0;
+        finals = order.1;
+        once = once-holds (setting_of script handed.plans) e.asks (weave left.journal left.history) e.ended;
       };
       loaded = loaded;
       others = others;

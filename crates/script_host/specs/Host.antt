@@ -9,8 +9,10 @@ use Rattle.napi_types.specs.declared.script.Script.{Script}
 use Rattle.napi_types.specs.declared.script.Wrong.{Wrong}
 use Rattle.napi_types.specs.declared.script.Wrong.TheVariants as wrong
 use Rattle.napi_types.specs.Begins.{begun_along, of_addon}
+use Rattle.napi_types.specs.Counts.{Once}
 use Rattle.napi_types.specs.Edge.{HasRisen, TookFront}
 use Rattle.napi_types.specs.CollectionLaw.{KeepsReached}
+use Rattle.napi_types.specs.Order.{TicketsCount, HooksFall, FinalsRise}
 use Rattle.napi_types.specs.Parting.{IsParted}
 use Rattle.napi_types.specs.Plan.{Plan, plan_of, registers_of}
 use Rattle.napi_types.specs.ScriptReading.{IsNoJson}
@@ -49,6 +51,14 @@ pub record IsRunOf (script : Script) (handed : List Plan) (left : Record) (regis
   -- its gifts
   pub seen : (addon : ℕ) → seen_of seens_after addon
       ≡ seen_of seens addon ++ of_addon addon (begun_along (opening_of (setting_of script handed)) asks (weave left.journal left.history))
+  -- tickets count from 1 in the order of registration; hooks began in the reverse of the order in which they were added, and what began after `finals` in the order
+  -- of registration
+  pub counted : TicketsCount (weave left.journal left.history)
+  pub hooks : HooksFall (weave left.journal left.history)
+  pub finals : FinalsRise (weave left.journal left.history)
+  -- each finalizer and each hook that was made and not withdrawn began exactly once, one that was withdrawn never, and no other duty began; none was made
+  -- twice, and only an accepted `remove_wrap`, `set_instance_data` or `remove_env_cleanup_hook` withdrew one
+  pub once : Once (weave left.journal left.history)
 
 -- what contracts see of the addons that were handed in: their plans, their registers, and what each has seen
 pub record Handed : Type 0 where

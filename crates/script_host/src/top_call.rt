@@ -198,9 +198,10 @@ pub fn host<R: Threads + Wait + Sync, S: Source, K: Sink, G: Gate>(
     // The status is one of these.
     ensures known { IsStatus result }
 
-    // At 0 and 5 the source gave a script, the two lists of `left` are a run of it to its end, each collection of which kept
-    // exactly what its roots reached, and the sink took the run's text. Each addon has seen, after what it had seen before, what
-    // began of its in the run.
+    // At 0 and 5 the source gave a script, and the two lists of `left` are a run of it to its end. Each collection kept exactly what its roots
+    // reached. Each finalizer and hook that no call of its own withdrew began exactly once, hooks in the reverse of the order of adding, and
+    // what was left to the end in the order of registration. Each addon has seen, after what it had seen before, what began of its. The sink
+    // took the run's text.
     ensures ran { let before : Handed = record {
       plans = map (λ b. plan b) addons.old.items;
       registers = map (λ b. regs b) addons.old.items;
