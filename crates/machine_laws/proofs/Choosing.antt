@@ -1,6 +1,6 @@
 -- What may come where no frame stands, and where one does.
 use Rattle.std.proofs.Common.{◌≡◌, ◌≤◌, ℕ, nat_lt, Bool, true, false, cond, List, [], ◌∷◌, IsTrue, refl, ap, sym, ◌∙◌, subst, Option, Some, None, is_some, option_map, arith}
-use Rattle.std.specs.Option.{option_or, IfSome}
+use Rattle.std.specs.Option.{option_or}
 use Rattle.napi_types.specs.declared.call.Ask.{Ask}
 use Rattle.napi_types.specs.declared.call.Ask.TheVariants as ask
 use Rattle.napi_types.specs.declared.call.Args.{Args}
@@ -29,19 +29,19 @@ use Rattle.napi_types.specs.Ends.{end_change}
 use Rattle.napi_types.specs.Entering.{function_change, asked_change}
 use Rattle.napi_types.specs.Environment.{Environment}
 use Rattle.napi_types.specs.Frames.{Frame}
-use Rattle.napi_types.specs.Hub.{Hub, Stage, Before, Going, Looped, Drained, Final, stage_after, staged, hub_next}
-use Rattle.napi_types.specs.Loop.{Event, Opens, Inits, Tickets, Goes, EndsLoop, Drains, FinalsCome, IsGone}
+use Rattle.napi_types.specs.Hooks.{Hook, last_hook}
+use Rattle.napi_types.specs.Hub.{Hub, Stage, Before, Going, Looped, Drained, Final, hub_next}
+use Rattle.napi_types.specs.Loop.{Event, Opens, Inits, Tickets, Goes, EndsLoop, Drains, FinalsCome, IsGone, ticket_in}
 use Rattle.napi_types.specs.Machine.{Machine}
 use Rattle.napi_types.specs.Refusals.{refusal}
 use Rattle.napi_types.specs.Phases.{stage_of}
-use Rattle.napi_types.specs.Run.{IsNext, after, final}
+use Rattle.napi_types.specs.Run.{IsNext, after}
 use Rattle.napi_types.specs.Step.{Step, locally, hub_moved, ticket_step, event_step, chosen, frame_step, env_step, step_of, step, cut_of}
-use Rattle.napi_types.specs.Setting.{opening_of, final_of}
-use Rattle.machine_laws.specs.Choices.{is_of_frames, NoneIsChosenInFrames, TellsFrame, BeginsTellTheirFrames, may_come_to, OwnEventsComeFirst, IsOfHub, HubEventsComeLast, MayGo, GoComesAfterInitFrames, GoneComesAfterFinals, HubIsInPhase, GoComesOnlyAfterInitFrames}
-use Rattle.napi_types.proofs.Answers.{course-parts}
-use Rattle.napi_types.proofs.FrameChanges.{ended-keeps, asked_change-fits}
+use Rattle.napi_types.specs.Setting.{final_of}
+use Rattle.machine_laws.specs.Choices.{is_of_frames, NoneIsChosenInFrames, TellsFrame, BeginsTellTheirFrames, may_come_to, OwnEventsComeFirst, IsOfHub, HubEventsComeLast, MayGo, GoComesAfterInitFrames, GoneComesAfterFinals, HubIsInPhase, GoComesOnlyAfterInitFrames, DrainComesOnlyAfterHooks}
 use Rattle.napi_types.proofs.FrameEnds.{ended-ends}
 use Rattle.machine_laws.proofs.Cutting.{frame-step}
+use Rattle.machine_laws.proofs.OrderlyRuns.{orderly-run}
 
 -- IN A FRAME
 -- an entry of a frame
@@ -174,10 +174,13 @@ init-own n true true v h = of-some (Inits n) v h tt
 init-own n true false v h = cc
 init-own n false c v h = of-some Opens v h tt
 
+ticket-own : (o : Option ℕ) (v : Event) → option_map Tickets o ≡ Some v → IsOwn v
+ticket-own None v h = cc
+ticket-own (Some n) v h = of-some (Tickets n) v h tt
+
 loop-own : (exit : Bool) (o : Option ℕ) (v : Event) → cond exit (Some (EndsLoop loop_end.Exit)) (option_map Tickets o) ≡ Some v → IsOwn v
 loop-own true o v h = of-some (EndsLoop loop_end.Exit) v h tt
-loop-own false None v h = cc
-loop-own false (Some n) v h = of-some (Tickets n) v h tt
+loop-own false o v h = ticket-own o v h
 
 finals-own : (o : Option ℕ) (v : Event) → option_or (option_map Tickets o) (Some IsGone) ≡ Some v → IsOwn v
 finals-own None v h = of-some IsGone v h tt
@@ -186,6 +189,7 @@ finals-own (Some n) v h = of-some (Tickets n) v h tt
 local-own : (e : Environment) (p : Phase) (v : Event) → local_choice_in e p ≡ Some v → IsOwn v
 local-own e phase.Init v h = init-own e.inits e.opened (nat_lt e.inits e.addons) v h
 local-own e phase.Live v h = loop-own e.exit_asked (lowest_due e.book) v h
+local-own e phase.Hooks v h = ticket-own (ticket_in e phase.Hooks) v h
 local-own e phase.Finals v h = finals-own (lowest_due e.book) v h
 local-own e _ v h = cc
 
@@ -244,6 +248,50 @@ moved-other m event other p o (Some h) x apart is e t =
     let same : event ≡ other = cc in
     apart same
 
+-- a step that the hub alone decides
+record IsHubs (s : HostStep) : Type 0 where
+  pub opens : s ≡ host.Opened → ⊥
+  pub begins : s ≡ host.Begin → ⊥
+  pub ends : s ≡ host.LoopEnd → ⊥
+  pub goes : s ≡ host.Gone → ⊥
+
+same-steps : (s t : HostStep) (x y : Entry) → x.what ≡ what.Host s → y.what ≡ what.Host t → x ≡ y → s ≡ t
+same-steps s t x y is other e = let z : what.Host s ≡ what.Host t = sym is ∙ ap (λ (w : Entry). w.what) e ∙ other in cc
+
+ticket-hubs : (m : Machine) (s : HostStep) (n : ℕ) (r : Option Registration) (x : Entry) → IsHubs s → x.what ≡ what.Host s → x ≡ (ticket_step m n r).entry → ⊥
+ticket-hubs m s n None x apart is e = apart.goes (same-steps s host.Gone x _ is refl e)
+ticket-hubs m s n (Some r) x apart is e = apart.begins (same-steps s host.Begin x _ is refl e)
+
+ended-hubs : (m : Machine) (s : HostStep) (reason : LoopEnd) (h : Option Hub) (x : Entry) → IsHubs s → x.what ≡ what.Host s
+    → x ≡ (hub_moved m host.LoopEnd phase.Hooks (out.Ended reason) h).entry → ⊥
+ended-hubs m s reason None x apart is e = apart.goes (same-steps s host.Gone x _ is refl e)
+ended-hubs m s reason (Some h) x apart is e = apart.ends (same-steps s host.LoopEnd x _ is refl e)
+
+-- so the environment decides nothing where it comes, in whatever phase
+own-hubs : (m : Machine) (s : HostStep) (v : Option Event) (x : Entry) → IsHubs s → ((w : Event) → v ≡ Some w → IsOwn w) → x.what ≡ what.Host s
+    → x ≡ (chosen m (option_or v (hub_choice m.hub))).entry → v ≡ None
+own-hubs m s None x apart own is e = refl
+own-hubs m s (Some Opens) x apart own is e = absurd (apart.opens (same-steps s host.Opened x _ is refl e))
+own-hubs m s (Some (Inits n)) x apart own is e = absurd (apart.begins (same-steps s host.Begin x _ is refl e))
+own-hubs m s (Some (Tickets n)) x apart own is e = absurd (ticket-hubs m s n (registration_at m.env.book n) x apart is e)
+own-hubs m s (Some IsGone) x apart own is e = absurd (apart.goes (same-steps s host.Gone x _ is refl e))
+own-hubs m s (Some Goes) x apart own is e = absurd (own Goes refl)
+own-hubs m s (Some (EndsLoop reason)) x apart own is e = absurd (ended-hubs m s reason (hub_next m.hub host.LoopEnd) x apart is e)
+own-hubs m s (Some Drains) x apart own is e = absurd (own Drains refl)
+own-hubs m s (Some FinalsCome) x apart own is e = absurd (own FinalsCome refl)
+
+-- it is the hub's event
+record IsOfHubAlone (m : Machine) (x : Entry) : Type 0 where
+  pub none : local_choice m.env ≡ None
+  pub entry : x ≡ (chosen m (hub_choice m.hub)).entry
+  pub may : IsTrue (chosen m (hub_choice m.hub)).may
+
+by-hub : (m : Machine) (s : HostStep) (x : Entry) → IsHubs s → x.what ≡ what.Host s → IsAlone m x → IsOfHubAlone m x
+by-hub m s x apart is here =
+    let none : local_choice m.env ≡ None = own-hubs m s (local_choice m.env) x apart (local-own m.env m.env.phase) is here.entry in
+    let same : chosen m (choice m) ≡ chosen m (hub_choice m.hub) = ap (λ c. chosen m (option_or c (hub_choice m.hub))) none in
+    record { none = none; entry = here.entry ∙ ap (λ (t : Step). t.entry) same; may = subst (λ (t : Step). IsTrue t.may) same here.may }
+
 -- GO
 -- it is the hub's first event
 hub-go : (m : Machine) (s : Stage) (x : Entry) → x.what ≡ what.Host host.Go → x ≡ (chosen m (hub_choice_at s)).entry → IsTrue (chosen m (hub_choice_at s)).may
@@ -261,33 +309,11 @@ init-go m true false x is e = (refl, refl)
 init-go m true true x is e = let z : what.Host host.Go ≡ what.Host host.Begin = sym is ∙ ap (λ (y : Entry). y.what) e in cc
 init-go m false c x is e = let z : what.Host host.Go ≡ what.Host host.Opened = sym is ∙ ap (λ (y : Entry). y.what) e in cc
 
-ticket-go : (m : Machine) (n : ℕ) (r : Option Registration) (x : Entry) → x.what ≡ what.Host host.Go → x ≡ (ticket_step m n r).entry → ⊥
-ticket-go m n None x is e = let z : what.Host host.Go ≡ what.Host host.Gone = sym is ∙ ap (λ (y : Entry). y.what) e in cc
-ticket-go m n (Some r) x is e = let z : what.Host host.Go ≡ what.Host host.Begin = sym is ∙ ap (λ (y : Entry). y.what) e in cc
-
-ended-go : (m : Machine) (reason : LoopEnd) (h : Option Hub) (x : Entry) → x.what ≡ what.Host host.Go
-    → x ≡ (hub_moved m host.LoopEnd phase.Hooks (out.Ended reason) h).entry → ⊥
-ended-go m reason None x is e = let z : what.Host host.Go ≡ what.Host host.Gone = sym is ∙ ap (λ (y : Entry). y.what) e in cc
-ended-go m reason (Some h) x is e = let z : what.Host host.Go ≡ what.Host host.LoopEnd = sym is ∙ ap (λ (y : Entry). y.what) e in cc
-
--- so it is the hub's in every phase
-own-go : (m : Machine) (v : Option Event) (x : Entry) → ((w : Event) → v ≡ Some w → IsOwn w) → x.what ≡ what.Host host.Go
-    → x ≡ (chosen m (option_or v (hub_choice m.hub))).entry → v ≡ None
-own-go m None x own is e = refl
-own-go m (Some Opens) x own is e = let z : what.Host host.Go ≡ what.Host host.Opened = sym is ∙ ap (λ (y : Entry). y.what) e in cc
-own-go m (Some (Inits n)) x own is e = let z : what.Host host.Go ≡ what.Host host.Begin = sym is ∙ ap (λ (y : Entry). y.what) e in cc
-own-go m (Some (Tickets n)) x own is e = absurd (ticket-go m n (registration_at m.env.book n) x is e)
-own-go m (Some IsGone) x own is e = let z : what.Host host.Go ≡ what.Host host.Gone = sym is ∙ ap (λ (y : Entry). y.what) e in cc
-own-go m (Some Goes) x own is e = absurd (own Goes refl)
-own-go m (Some (EndsLoop reason)) x own is e = absurd (ended-go m reason (hub_next m.hub host.LoopEnd) x is e)
-own-go m (Some Drains) x own is e = absurd (own Drains refl)
-own-go m (Some FinalsCome) x own is e = absurd (own FinalsCome refl)
-
 go-stage : (m : Machine) (x : Entry) → x.what ≡ what.Host host.Go → IsAlone m x → m.hub.stage ≡ Before
 go-stage m x is here =
-    let none : local_choice m.env ≡ None = own-go m (local_choice m.env) x (local-own m.env m.env.phase) is here.entry in
-    let s : chosen m (choice m) ≡ chosen m (hub_choice m.hub) = ap (λ c. chosen m (option_or c (hub_choice m.hub))) none in
-    hub-go m m.hub.stage x is (here.entry ∙ ap (λ (t : Step). t.entry) s) (subst (λ (t : Step). IsTrue t.may) s here.may)
+    let go : IsHubs host.Go = record { opens = λ z. cc; begins = λ z. cc; ends = λ z. cc; goes = λ z. cc } in
+    let hub : IsOfHubAlone m x = by-hub m host.Go x go is here in
+    hub-go m m.hub.stage x is hub.entry hub.may
 
 not-less : (a b : ℕ) → nat_lt a b ≡ false → b ≤ a
 not-less a b h = grind arith
@@ -321,12 +347,16 @@ ticket-other : (m : Machine) (n : ℕ) (r : Option Registration) (x : Entry) →
 ticket-other m n None x is e t = cc
 ticket-other m n (Some r) x is e t = let z : what.Host host.Gone ≡ what.Host host.Begin = sym is ∙ ap (λ (y : Entry). y.what) e in cc
 
+tickets-other : (m : Machine) (o : Option ℕ) (s : Stage) (x : Entry) → x.what ≡ what.Host host.Gone
+    → x ≡ (chosen m (option_or (option_map Tickets o) (hub_choice_at s))).entry → IsTrue (chosen m (option_or (option_map Tickets o) (hub_choice_at s))).may → ⊥
+tickets-other m None s x is e t = hub-other m s x is e t
+tickets-other m (Some n) s x is e t = ticket-other m n (registration_at m.env.book n) x is e t
+
 loop-other : (m : Machine) (exit : Bool) (o : Option ℕ) (s : Stage) (x : Entry) → x.what ≡ what.Host host.Gone
     → x ≡ (chosen m (option_or (cond exit (Some (EndsLoop loop_end.Exit)) (option_map Tickets o)) (hub_choice_at s))).entry
     → IsTrue (chosen m (option_or (cond exit (Some (EndsLoop loop_end.Exit)) (option_map Tickets o)) (hub_choice_at s))).may → ⊥
 loop-other m true o s x is e t = moved-other m host.LoopEnd host.Gone phase.Hooks (out.Ended loop_end.Exit) (hub_next m.hub host.LoopEnd) x (λ z. cc) is e t
-loop-other m false None s x is e t = hub-other m s x is e t
-loop-other m false (Some n) s x is e t = ticket-other m n (registration_at m.env.book n) x is e t
+loop-other m false o s x is e t = tickets-other m o s x is e t
 
 gone-in : (m : Machine) (p : Phase) (s : Stage) (x : Entry) → x.what ≡ what.Host host.Gone
     → x ≡ (chosen m (option_or (local_choice_in m.env p) (hub_choice_at s))).entry
@@ -334,7 +364,7 @@ gone-in : (m : Machine) (p : Phase) (s : Stage) (x : Entry) → x.what ≡ what.
 gone-in m phase.Init s x is e t = absurd (init-other m m.env.inits m.env.opened (nat_lt m.env.inits m.env.addons) s x is e t)
 gone-in m phase.Finals s x is e t = refl
 gone-in m phase.Live s x is e t = absurd (loop-other m m.env.exit_asked (lowest_due m.env.book) s x is e t)
-gone-in m phase.Hooks s x is e t = absurd (hub-other m s x is e t)
+gone-in m phase.Hooks s x is e t = absurd (tickets-other m (ticket_in m.env phase.Hooks) s x is e t)
 gone-in m phase.Drain s x is e t = absurd (hub-other m s x is e t)
 gone-in m phase.Gone s x is e t = absurd (hub-other m s x is e t)
 
@@ -343,108 +373,10 @@ gone-last m a x next is =
     let here : IsAlone m x = alone-next m a x (ap (λ w. is_of_frames w x.reply.out) is) next in
     (here.alone, gone-in m m.env.phase m.hub.stage x is here.entry here.may)
 
--- THE HUB AND THE PHASE
--- the hub is as far as the phase says
-abbrev InPhase : Machine → Type 0
-InPhase m = m.hub.stage ≡ stage_of m.env.phase
-
-moved-in : (m : Machine) (event : HostStep) (p : Phase) (o : Out) (n : Option Stage) → IfSome n (λ s. s ≡ stage_of p) → InPhase m
-    → InPhase (hub_moved m event p o (staged m.hub n)).after
-moved-in m event p o None moved here = here
-moved-in m event p o (Some s) moved here = moved
-
-go-moves : (s : Stage) → IfSome (stage_after s host.Go) (λ t. t ≡ Going)
-go-moves Before = refl
-go-moves _ = tt
-
-loop_end-moves : (s : Stage) → IfSome (stage_after s host.LoopEnd) (λ t. t ≡ Looped)
-loop_end-moves Going = refl
-loop_end-moves _ = tt
-
-drain-moves : (s : Stage) → IfSome (stage_after s host.Drain) (λ t. t ≡ Drained)
-drain-moves Looped = refl
-drain-moves _ = tt
-
-finals-moves : (s : Stage) → IfSome (stage_after s host.Finals) (λ t. t ≡ Final)
-finals-moves Drained = refl
-finals-moves _ = tt
-
-ticket-in : (m : Machine) (n : ℕ) (r : Option Registration) → InPhase m → InPhase (ticket_step m n r).after
-ticket-in m n None here = here
-ticket-in m n (Some r) here = here
-
--- each event keeps it, but that `gone` comes once the hub has made its last event
-event-in : (m : Machine) (v : Event) → (v ≡ IsGone → m.hub.stage ≡ Final) → InPhase m → InPhase (event_step m v).after
-event-in m Opens end here = here
-event-in m (Inits n) end here = here
-event-in m (Tickets n) end here = ticket-in m n (registration_at m.env.book n) here
-event-in m Goes end here = moved-in m host.Go phase.Live out.Nothing (stage_after m.hub.stage host.Go) (go-moves m.hub.stage) here
-event-in m (EndsLoop w) end here =
-    moved-in m host.LoopEnd phase.Hooks (out.Ended w) (stage_after m.hub.stage host.LoopEnd) (loop_end-moves m.hub.stage) here
-event-in m Drains end here = moved-in m host.Drain phase.Drain (out.Unsigned 0) (stage_after m.hub.stage host.Drain) (drain-moves m.hub.stage) here
-event-in m FinalsCome end here = moved-in m host.Finals phase.Finals out.Nothing (stage_after m.hub.stage host.Finals) (finals-moves m.hub.stage) here
-event-in m IsGone end here = end refl
-
-chosen-in : (m : Machine) (v : Option Event) → (v ≡ Some IsGone → m.hub.stage ≡ Final) → InPhase m → InPhase (chosen m v).after
-chosen-in m None end here = here
-chosen-in m (Some v) end here = event-in m v (λ is. end (ap (λ w. Some w) is)) here
-
--- `gone` is chosen in the phase before it alone
-hub-not-gone : (s : Stage) → hub_choice_at s ≡ Some IsGone → ⊥
-hub-not-gone Before h = cc
-hub-not-gone Going h = cc
-hub-not-gone Looped h = cc
-hub-not-gone Drained h = cc
-hub-not-gone Final h = cc
-
-init-not-gone : (n : ℕ) (b c : Bool) (s : Stage) → option_or (cond b (cond c (Some (Inits n)) None) (Some Opens)) (hub_choice_at s) ≡ Some IsGone → ⊥
-init-not-gone n true true s h = cc
-init-not-gone n true false s h = hub-not-gone s h
-init-not-gone n false c s h = cc
-
-loop-not-gone : (exit : Bool) (o : Option ℕ) (s : Stage) → option_or (cond exit (Some (EndsLoop loop_end.Exit)) (option_map Tickets o)) (hub_choice_at s) ≡ Some IsGone
-    → ⊥
-loop-not-gone true o s h = cc
-loop-not-gone false None s h = hub-not-gone s h
-loop-not-gone false (Some n) s h = cc
-
-pub gone-phase : (e : Environment) (p : Phase) (s : Stage) → option_or (local_choice_in e p) (hub_choice_at s) ≡ Some IsGone → p ≡ phase.Finals
-gone-phase e phase.Init s h = absurd (init-not-gone e.inits e.opened (nat_lt e.inits e.addons) s h)
-gone-phase e phase.Live s h = absurd (loop-not-gone e.exit_asked (lowest_due e.book) s h)
-gone-phase e phase.Hooks s h = absurd (hub-not-gone s h)
-gone-phase e phase.Drain s h = absurd (hub-not-gone s h)
-gone-phase e phase.Finals s h = refl
-gone-phase e phase.Gone s h = absurd (hub-not-gone s h)
-
-frame-in : (m : Machine) (a : Ask) (o : Out) (cut : Option Why) → InPhase m → InPhase (frame_step m a o cut).after
-frame-in m a o (Some w) here =
-    let d : Environment = (end_change None (Some w) m.env).after in
-    here ∙ ap stage_of (sym (course-parts m.env d (ended-keeps None (Some w) m.env).course).phase)
-frame-in m (ask.Leave v) o None here =
-    let d : Environment = (end_change v None m.env).after in
-    here ∙ ap stage_of (sym (course-parts m.env d (ended-keeps v None m.env).course).phase)
-frame-in m (ask.Do c) o None here =
-    let d : Environment = (asked_change m.env c (number_of o)).after in
-    here ∙ ap stage_of (sym (course-parts m.env d (asked_change-fits m.env c (number_of o)).course).phase)
-
-env-in : (m : Machine) (a : Ask) (o : Out) (fs : List Frame) → InPhase m → InPhase (env_step m a o fs).after
-env-in m a o [] here = chosen-in m (choice m) (λ is. here ∙ ap stage_of (gone-phase m.env m.env.phase m.hub.stage is)) here
-env-in m a o (f ∷ fs) here = frame-in m (built_ask a) o (cut_of o) here
-
-step-in : (m : Machine) (a : Ask) (x : Entry) (who : Actor) → InPhase m → InPhase (step_of m a x who).after
-step-in m a x actor.Env here = env-in m a x.reply.out m.env.frames here
-step-in m a x (actor.Thread n) here = here
-step-in m a x (actor.Worker n) here = here
-
-run-in : (m : Machine) (bs : List Ask) (xs : List Entry) → InPhase m → InPhase (final m bs xs)
-run-in m (a ∷ bs) (x ∷ xs) here = run-in (after m a x) bs xs (step-in m a x x.actor here)
-run-in m [] xs here = here
-run-in m (a ∷ bs) [] here = here
-
-pub hub-in-phase : HubIsInPhase
-hub-in-phase s bs xs run = run-in (opening_of s) bs xs refl
-
 -- EVENTS OF RUNS
+pub hub-in-phase : HubIsInPhase
+hub-in-phase s bs xs run = (orderly-run s bs xs run).stage
+
 before-init : (p : Phase) → Before ≡ stage_of p → p ≡ phase.Init
 before-init phase.Init h = refl
 before-init phase.Live h = cc
@@ -460,3 +392,35 @@ go-of-runs s bs xs a x run next is =
     let init : m.env.phase ≡ phase.Init = before-init m.env.phase (sym (go-stage m x is here) ∙ hub-in-phase s bs xs run) in
     let may : MayGo m = go-last m a x next is in
     record { phase = init; alone = may.alone; opened = may.opened init; begun = may.begun init }
+
+-- `drain` is the hub's event in the phase of the hooks
+hub-drain : (m : Machine) (s : Stage) (x : Entry) → x.what ≡ what.Host host.Drain → x ≡ (chosen m (hub_choice_at s)).entry → IsTrue (chosen m (hub_choice_at s)).may
+    → s ≡ Looped
+hub-drain m Before x is e t = absurd (moved-other m host.Go host.Drain phase.Live out.Nothing (hub_next m.hub host.Go) x (λ z. cc) is e t)
+hub-drain m Going x is e t = absurd (moved-other m host.LoopEnd host.Drain phase.Hooks (out.Ended loop_end.Idle) (hub_next m.hub host.LoopEnd) x (λ z. cc) is e t)
+hub-drain m Looped x is e t = refl
+hub-drain m Drained x is e t = absurd (moved-other m host.Finals host.Drain phase.Finals out.Nothing (hub_next m.hub host.Finals) x (λ z. cc) is e t)
+hub-drain m Final x is e t = cc
+
+looped-hooks : (p : Phase) → Looped ≡ stage_of p → p ≡ phase.Hooks
+looped-hooks phase.Hooks h = refl
+looped-hooks phase.Init h = cc
+looped-hooks phase.Live h = cc
+looped-hooks phase.Drain h = cc
+looped-hooks phase.Finals h = cc
+looped-hooks phase.Gone h = cc
+
+-- where none is the last there is none
+none-last : (hooks : List Hook) → option_map Tickets (option_map (λ (h : Hook). h.ticket) (last_hook hooks)) ≡ None → hooks ≡ []
+none-last [] none = refl
+none-last (h ∷ []) none = cc
+none-last (h ∷ k ∷ hooks) none = let z : k ∷ hooks ≡ [] = none-last (k ∷ hooks) none in cc
+
+pub drain-of-runs : DrainComesOnlyAfterHooks
+drain-of-runs s bs xs a x run next is =
+    let m : Machine = final_of s bs xs in
+    let here : IsAlone m x = alone-next m a x (ap (λ w. is_of_frames w x.reply.out) is) next in
+    let drain : IsHubs host.Drain = record { opens = λ z. cc; begins = λ z. cc; ends = λ z. cc; goes = λ z. cc } in
+    let hub : IsOfHubAlone m x = by-hub m host.Drain x drain is here in
+    let hooks : m.env.phase ≡ phase.Hooks = looped-hooks m.env.phase (sym (hub-drain m m.hub.stage x is hub.entry hub.may) ∙ hub-in-phase s bs xs run) in
+    record { phase = hooks; alone = here.alone; spent = none-last m.env.hooks (sym (ap (local_choice_in m.env) hooks) ∙ hub.none) }

@@ -18,6 +18,8 @@ use Rattle.napi_types.specs.ExceptionCalls.{with_pending, with_thrown_error}
 use Rattle.napi_types.specs.Frames.{caller_of, most_frames}
 use Rattle.napi_types.specs.Heap.{Heap, handle_value}
 use Rattle.napi_types.specs.HeapChanges.{with_handle, with_thrown, thrown_number}
+use Rattle.napi_types.specs.Hooks.{Hook, hook_ticket}
+use Rattle.napi_types.specs.InstanceData.{Instances, instance_ticket}
 use Rattle.napi_types.specs.Lists.{found}
 use Rattle.napi_types.specs.ReferenceCalls.{with_references, counted_up, value_told}
 use Rattle.napi_types.specs.References.{Reference, ReferenceMap, referred_value, with_reference, without_reference, with_count}
@@ -148,9 +150,16 @@ told-good : (e : Environment) (o : Option ℕ) → IfSome o (IsLiveAmong e.heap.
 told-good e None live g = unmoved e g
 told-good e (Some v) live g = in-heap e (with_handle v e.heap) g (with-handle e.heap v g.heap live)
 
--- ATTACHMENTS AND TICKETS
+-- ATTACHMENTS, HOOKS, INSTANCE DATA AND TICKETS
 attaching : (e : Environment) (a : Attachments) → IsConsistentButFrames e → LeadsTo e (with_attachments a e)
 attaching e a g = record { good = record { heap = g.heap; referred = g.referred; references = g.references; pending = g.pending }; stay = stays e.heap }
+
+-- other hooks, and other instance data
+hooked : (e : Environment) (hooks : List Hook) → IsConsistentButFrames e → LeadsTo e (record e { hooks = hooks })
+hooked e hooks g = record { good = record { heap = g.heap; referred = g.referred; references = g.references; pending = g.pending }; stay = stays e.heap }
+
+instanced : (e : Environment) (instances : Instances) → IsConsistentButFrames e → LeadsTo e (record e { instances = instances })
+instanced e instances g = record { good = record { heap = g.heap; referred = g.referred; references = g.references; pending = g.pending }; stay = stays e.heap }
 
 -- the book may change besides
 booked : (e new : Environment) (book : Book) → LeadsTo e new → LeadsTo e (record new { book = book })
@@ -218,6 +227,13 @@ by-call e (call.TypeTagObject v lower upper) k g = attaching e _ g
 by-call e (call.CheckObjectTypeTag v lower upper) k g = unmoved e g
 by-call e (call.CreateExternal payload entry hint) k g =
     registered-good e (finalizer_if e payload entry hint) _ (made-good e _ _ g (with-new e.heap (body.External payload) g.heap))
+by-call e (call.SetInstanceData payload entry hint) k g =
+    registered-good e (finalizer_if e payload entry hint) _
+    (withdrawn-good e (registered_only e.book (instance_ticket e.instances (caller_of e.frames))) _ (instanced e _ g))
+by-call e call.GetInstanceData k g = unmoved e g
+by-call e (call.AddEnvCleanupHook entry argument) k g = booked e _ _ (hooked e _ g)
+by-call e (call.RemoveEnvCleanupHook entry argument) k g =
+    withdrawn-good e (registered_only e.book (hook_ticket (caller_of e.frames) entry argument e.hooks)) _ (hooked e _ g)
 by-call e call.Collect k g = record {
   good = record {
     heap = heap-kept e g.heap;

@@ -22,7 +22,7 @@ use Rattle.napi_types.specs.declared.entry.Why.{Why}
 use Rattle.napi_types.specs.declared.ids.HandleId.{HandleId}
 use Rattle.napi_types.specs.declared.status.Status.{Status}
 use Rattle.napi_types.specs.declared.status.Status.TheVariants as status
-use Rattle.napi_types.specs.Book.{Book, Registration, due_info, made_begun, moved_at, registration_at}
+use Rattle.napi_types.specs.Book.{Book, Registration, due_info, moved_at, registration_at}
 use Rattle.napi_types.specs.Built.{built_ask}
 use Rattle.napi_types.specs.Changes.{opening_change, gone_change, in_phase, number_of}
 use Rattle.napi_types.specs.Ends.{end_change_by, uncut_call_end, end_change}
@@ -32,6 +32,7 @@ use Rattle.napi_types.specs.Frames.{Frame, frame_of, frame_of_duty, cause_of, mo
 use Rattle.napi_types.specs.FunctionCalls.{left_value, with_receiver}
 use Rattle.napi_types.specs.Heap.{Heap}
 use Rattle.napi_types.specs.HeapChanges.{with_handle, with_frame, without_frame}
+use Rattle.napi_types.specs.Hooks.{Hook}
 use Rattle.napi_types.specs.Hub.{Hub, hub_next}
 use Rattle.napi_types.specs.Lists.{first_changed, tail, when}
 use Rattle.napi_types.specs.Loop.{Event, Opens, Inits, Tickets, Goes, EndsLoop, Drains, FinalsCome, IsGone}
@@ -39,6 +40,7 @@ use Rattle.napi_types.specs.Machine.{Machine}
 use Rattle.napi_types.specs.Refusals.{refusal, early_refusal, depth_refusal}
 use Rattle.napi_types.specs.Run.{after, final}
 use Rattle.napi_types.specs.Step.{Step, hub_moved, ticket_step, event_step, chosen, asked_step, frame_step, env_step, step_of, cut_of}
+use Rattle.napi_types.specs.Tickets.{begun_in, hooks_left}
 use Rattle.napi_types.specs.Values.{undefined_value}
 use Rattle.machine_laws.specs.Consistency.{IsConsistent, IsLiveAmong}
 use Rattle.machine_laws.proofs.ConsistentAnswers.{IsConsistentButFrames, Follows, parts-of, whole-of, in-heap, call_change-follows}
@@ -168,14 +170,14 @@ other-follows : (e new : Environment) → IsConsistentButFrames new → length n
     → HandlesStay e.heap new.heap → IsConsistent e → Follows e new
 other-follows e new g scopes frames stay c = record { good = whole-of new g (scopes ∙ c.frames ∙ sym frames) (omega (arith, frames, c.depth)); stay = stay }
 
--- an outermost frame begins, and addons that had theirs and the book may change
-begun-follows : (e : Environment) (inits : ℕ) (book : Book) (f : Frame) → e.frames ≡ [] → IsConsistent e
-    → Follows e (record e { inits = inits; book = book; heap = with_frame e.heap; frames = f ∷ e.frames })
-begun-follows e inits book f none c =
+-- an outermost frame begins, and addons that had theirs, the book and the hooks may change
+begun-follows : (e : Environment) (inits : ℕ) (book : Book) (hooks : List Hook) (f : Frame) → e.frames ≡ [] → IsConsistent e
+    → Follows e (record e { inits = inits; book = book; hooks = hooks; heap = with_frame e.heap; frames = f ∷ e.frames })
+begun-follows e inits book hooks f none c =
     let g : IsConsistentButFrames e = parts-of e c in
     let frame : ComesTo e.heap (with_frame e.heap) = with-frame e.heap g.heap in
     let led : IsConsistentButFrames (record e { heap = with_frame e.heap }) = (in-heap e (with_frame e.heap) g frame).good in
-    let new : Environment = record e { inits = inits; book = book; heap = with_frame e.heap; frames = f ∷ e.frames } in
+    let new : Environment = record e { inits = inits; book = book; hooks = hooks; heap = with_frame e.heap; frames = f ∷ e.frames } in
     let good : IsConsistentButFrames new = record { heap = led.heap; referred = led.referred; references = led.references; pending = led.pending } in
     record { good = whole-of new good (ap suc c.frames) (omega (arith, ap length none)); stay = frame.stay }
 
@@ -192,14 +194,16 @@ hub-follows m event p o (Some h) c =
 
 ticket-follows : (m : Machine) (n : ℕ) (r : Option Registration) → m.env.frames ≡ [] → IsConsistent m.env → StepFollows m (ticket_step m n r)
 ticket-follows m n None none c = same-follows m.env c
-ticket-follows m n (Some r) none c = begun-follows m.env m.env.inits (moved_at made_begun n m.env.book) (frame_of_duty (due_info n r)) none c
+ticket-follows m n (Some r) none c =
+    let book : Book = moved_at (begun_in m.env.phase) n m.env.book in
+    begun-follows m.env m.env.inits book (hooks_left m.env.phase n m.env.hooks) (frame_of_duty (due_info n r)) none c
 
 event-follows : (m : Machine) (event : Event) → m.env.frames ≡ [] → IsConsistent m.env → StepFollows m (event_step m event)
 event-follows m Opens none c =
     let g : IsConsistentButFrames m.env = parts-of m.env c in
     let good : IsConsistentButFrames (opening_change m.env).after = record { heap = g.heap; referred = g.referred; references = g.references; pending = g.pending } in
     other-follows m.env (opening_change m.env).after good refl refl (stays m.env.heap) c
-event-follows m (Inits n) none c = begun-follows m.env (m.env.inits + 1) m.env.book (frame_of cause.Init n 0) none c
+event-follows m (Inits n) none c = begun-follows m.env (m.env.inits + 1) m.env.book m.env.hooks (frame_of cause.Init n 0) none c
 event-follows m (Tickets n) none c = ticket-follows m n (registration_at m.env.book n) none c
 event-follows m Goes none c = hub-follows m host.Go phase.Live out.Nothing (hub_next m.hub host.Go) c
 event-follows m (EndsLoop w) none c = hub-follows m host.LoopEnd phase.Hooks (out.Ended w) (hub_next m.hub host.LoopEnd) c

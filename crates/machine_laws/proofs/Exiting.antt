@@ -1,22 +1,17 @@
 -- What asks to exit, and what comes of it in a run.
-use Rattle.std.proofs.Common.{◌≡◌, ◌∙◌, ℕ, nat_lt, Bool, true, false, cond, not, ◌||◌, List, [], ◌∷◌, IsTrue, refl, ap, sym, subst, Option, Some, None, option_map}
+use Rattle.std.proofs.Common.{◌≡◌, ◌∙◌, ℕ, nat_lt, Bool, true, false, cond, not, ◌||◌, List, [], ◌∷◌, IsTrue, refl, ap, sym, subst, Option, Some, None, option_map, inl, inr}
 use Rattle.std.proofs.Math.Bool.{or-false}
 use Rattle.std.specs.Option.{option_or}
 use Rattle.napi_types.specs.declared.call.Args.{Args}
 use Rattle.napi_types.specs.declared.call.Ask.{Ask}
-use Rattle.napi_types.specs.declared.call.Ask.TheVariants as ask
 use Rattle.napi_types.specs.declared.call.Call.{Call}
 use Rattle.napi_types.specs.declared.call.Call.TheVariants as call
-use Rattle.napi_types.specs.declared.entry.Actor.{Actor}
-use Rattle.napi_types.specs.declared.entry.Actor.TheVariants as actor
 use Rattle.napi_types.specs.declared.entry.Cause.{Cause}
 use Rattle.napi_types.specs.declared.entry.Cause.TheVariants as cause
 use Rattle.napi_types.specs.declared.entry.Entry.{Entry}
-use Rattle.napi_types.specs.declared.entry.HostStep.{HostStep}
 use Rattle.napi_types.specs.declared.entry.HostStep.TheVariants as host
 use Rattle.napi_types.specs.declared.entry.LoopEnd.{LoopEnd}
 use Rattle.napi_types.specs.declared.entry.LoopEnd.TheVariants as loop_end
-use Rattle.napi_types.specs.declared.entry.Out.{Out}
 use Rattle.napi_types.specs.declared.entry.Out.TheVariants as out
 use Rattle.napi_types.specs.declared.entry.Phase.{Phase}
 use Rattle.napi_types.specs.declared.entry.Phase.TheVariants as phase
@@ -26,17 +21,18 @@ use Rattle.napi_types.specs.declared.ids.HandleId.{HandleId}
 use Rattle.napi_types.specs.declared.status.Status.{Status}
 use Rattle.napi_types.specs.Attachments.{wrap_ticket}
 use Rattle.napi_types.specs.Book.{Registration, registration_at, lowest_due}
-use Rattle.napi_types.specs.Built.{is_exiting, built_ask}
+use Rattle.napi_types.specs.Built.{is_exiting}
 use Rattle.napi_types.specs.Calls.{effect, answer_unless, answer_unless_deep, answer}
-use Rattle.napi_types.specs.Changes.{number_of}
 use Rattle.napi_types.specs.Choice.{local_choice, local_choice_in, hub_choice_at, choice}
 use Rattle.napi_types.specs.Ends.{end_change_by, uncut_call_end, end_change}
 use Rattle.napi_types.specs.Entering.{function_change, asked_change}
 use Rattle.napi_types.specs.Environment.{Environment}
-use Rattle.napi_types.specs.Frames.{Frame, cause_of}
+use Rattle.napi_types.specs.Frames.{caller_of, cause_of}
 use Rattle.napi_types.specs.Heap.{handle_value}
-use Rattle.napi_types.specs.Hub.{Hub, Before, Going, Final, hub_next}
-use Rattle.napi_types.specs.Loop.{Event, Opens, Inits, Tickets, Goes, EndsLoop, Drains, FinalsCome, IsGone}
+use Rattle.napi_types.specs.Hooks.{hook_ticket}
+use Rattle.napi_types.specs.Hub.{Hub, Before, Going, Looped, Final, hub_next}
+use Rattle.napi_types.specs.InstanceData.{instance_ticket}
+use Rattle.napi_types.specs.Loop.{Opens, Inits, Tickets, EndsLoop, IsGone, ticket_in}
 use Rattle.napi_types.specs.Machine.{Machine}
 use Rattle.napi_types.specs.Phases.{stage_of}
 use Rattle.napi_types.specs.ReferenceCalls.{counted_up, value_told}
@@ -46,11 +42,13 @@ use Rattle.napi_types.specs.Registering.{finalizer_if, registering_if, registere
 use Rattle.napi_types.specs.Replies.{Answer}
 use Rattle.napi_types.specs.Run.{IsRunBy, after, final}
 use Rattle.napi_types.specs.Setting.{opening_of, final_of}
-use Rattle.napi_types.specs.Step.{Step, locally, hub_moved, ticket_step, event_step, chosen, frame_step, env_step, step_of, cut_of}
+use Rattle.napi_types.specs.Step.{Step, locally, hub_moved, ticket_step, chosen, step}
 use Rattle.napi_types.specs.WrapCalls.{referring_if}
-use Rattle.machine_laws.specs.Choices.{begins_tickets_in, is_of_frames, BeginsLowest}
-use Rattle.machine_laws.specs.ExitLaws.{asks_exit, has_exit, reason_of, ExitIsAskedByItsCall, TheLoopEndsByExitOrIdle, TicketsWaitForFinalsOnceExitWasAsked}
-use Rattle.machine_laws.proofs.Beginning.{finalizers-begin}
+use Rattle.machine_laws.specs.Choices.{begins_due_tickets_in, is_of_frames}
+use Rattle.machine_laws.specs.ExitLaws.{asks_exit, has_exit, reason_of, ExitIsAskedByItsCall, TheLoopEndsByExitOrIdle, WhatIsDueWaitsForFinalsOnceExitWasAsked}
+use Rattle.napi_types.proofs.Orderly.{Orderly, orderly-step, orderly-opens}
+use Rattle.napi_types.proofs.StepCases.{StepCase, calls, ends, opens, inits, begins, passes, vanishes, step-case}
+use Rattle.machine_laws.proofs.Beginning.{tickets-begin}
 use Rattle.machine_laws.proofs.Choosing.{IsAlone, alone-next, moved-other, hub-in-phase}
 
 -- WHAT ASKS IT
@@ -84,6 +82,10 @@ effect-asked e (call.Wrap v payload entry hint wanted) n other =
 effect-asked e (call.RemoveWrap v) n other = withdrawing-asked (registered_only e.book (wrap_ticket e.attachments (handle_value e.heap v.0))) _
 effect-asked e (call.AddFinalizer v payload entry hint wanted) n other = referring-asked wanted n (handle_value e.heap v.0) _
 effect-asked e (call.CreateExternal payload entry hint) n other = registering-asked (finalizer_if e payload entry hint) _
+effect-asked e (call.SetInstanceData payload entry hint) n other =
+    registering-asked (finalizer_if e payload entry hint) _ ∙ withdrawing-asked (registered_only e.book (instance_ticket e.instances (caller_of e.frames))) _
+effect-asked e (call.RemoveEnvCleanupHook entry argument) n other =
+    withdrawing-asked (registered_only e.book (hook_ticket (caller_of e.frames) entry argument e.hooks)) _
 effect-asked e call.Exit n other = cc
 effect-asked e c n other = refl
 
@@ -106,28 +108,6 @@ answer-asked e c n = at-asked e c n (early_refusal e c) (depth_refusal e.frames 
 abbrev Notes : Machine → Step → Type 0
 Notes m t = t.after.env.exit_asked ≡ (asks_exit t.entry.what || m.env.exit_asked)
 
-moved-notes : (m : Machine) (event : HostStep) (p : Phase) (o : Out) (h : Option Hub) → Notes m (hub_moved m event p o h)
-moved-notes m event p o None = refl
-moved-notes m event p o (Some h) = refl
-
-ticket-notes : (m : Machine) (n : ℕ) (r : Option Registration) → Notes m (ticket_step m n r)
-ticket-notes m n None = refl
-ticket-notes m n (Some r) = refl
-
-event-notes : (m : Machine) (v : Event) → Notes m (event_step m v)
-event-notes m Opens = refl
-event-notes m (Inits n) = refl
-event-notes m (Tickets n) = ticket-notes m n (registration_at m.env.book n)
-event-notes m Goes = moved-notes m host.Go phase.Live out.Nothing (hub_next m.hub host.Go)
-event-notes m (EndsLoop reason) = moved-notes m host.LoopEnd phase.Hooks (out.Ended reason) (hub_next m.hub host.LoopEnd)
-event-notes m Drains = moved-notes m host.Drain phase.Drain (out.Unsigned 0) (hub_next m.hub host.Drain)
-event-notes m FinalsCome = moved-notes m host.Finals phase.Finals out.Nothing (hub_next m.hub host.Finals)
-event-notes m IsGone = refl
-
-chosen-notes : (m : Machine) (v : Option Event) → Notes m (chosen m v)
-chosen-notes m None = refl
-chosen-notes m (Some v) = event-notes m v
-
 left-notes : (m : Machine) (v : Option HandleId) (pending : Option ℕ) → Notes m (locally m (uncut_call_end v m.env pending) true)
 left-notes m v None = refl
 left-notes m v (Some p) = refl
@@ -149,19 +129,14 @@ asked-notes : (m : Machine) (c : Call) (n : ℕ) → Notes m (locally m (asked_c
 asked-notes m (call.CallFunction receiver f args) n = function_change-notes m receiver f args n (refusal m.env (call.CallFunction receiver f args))
 asked-notes m c n = answer-asked m.env c n
 
-frame-notes : (m : Machine) (a : Ask) (o : Out) (cut : Option Why) → Notes m (frame_step m a o cut)
-frame-notes m a o (Some w) = ended-notes m None (Some w)
-frame-notes m (ask.Do c) o None = asked-notes m c (number_of o)
-frame-notes m (ask.Leave v) o None = ended-notes m v None
-
-env-notes : (m : Machine) (a : Ask) (o : Out) (fs : List Frame) → Notes m (env_step m a o fs)
-env-notes m a o [] = chosen-notes m (choice m)
-env-notes m a o (f ∷ fs) = frame-notes m (built_ask a) o (cut_of o)
-
-step-notes : (m : Machine) (a : Ask) (x : Entry) (who : Actor) → Notes m (step_of m a x who)
-step-notes m a x actor.Env = env-notes m a x.reply.out m.env.frames
-step-notes m a x (actor.Thread n) = refl
-step-notes m a x (actor.Worker n) = refl
+step-notes : (m : Machine) (s : Step) → StepCase m s → Notes m s
+step-notes m _ (calls c n may) = asked-notes m c n
+step-notes m _ (ends v cut may) = ended-notes m v cut
+step-notes m _ opens = refl
+step-notes m _ (inits n) = refl
+step-notes m _ (begins n r there next may) = refl
+step-notes m _ (passes p o h next never far left) = refl
+step-notes m _ (vanishes last) = refl
 
 -- RUNS
 turned : (a b c : Bool) → (a || (b || c)) ≡ ((b || a) || c)
@@ -170,17 +145,19 @@ turned true false c = refl
 turned false true c = refl
 turned false false c = refl
 
-run-notes : (m : Machine) (bs : List Ask) (xs : List Entry) → IsRunBy m bs xs → (final m bs xs).env.exit_asked ≡ (has_exit xs || m.env.exit_asked)
-run-notes m (a ∷ bs) (x ∷ xs) run =
+run-notes : (m : Machine) (bs : List Ask) (xs : List Entry) → Orderly m → IsRunBy m bs xs → (final m bs xs).env.exit_asked ≡ (has_exit xs || m.env.exit_asked)
+run-notes m (a ∷ bs) (x ∷ xs) orderly run =
+    let s : StepCase m (step m a x) = step-case m a x orderly.stage run.0.1 in
     let here : (after m a x).env.exit_asked ≡ (asks_exit x.what || m.env.exit_asked) =
-    step-notes m a x x.actor ∙ sym (ap (λ (y : Entry). asks_exit y.what || m.env.exit_asked) run.0.0) in
-    run-notes (after m a x) bs xs run.1 ∙ ap (λ b. has_exit xs || b) here ∙ turned (has_exit xs) (asks_exit x.what) m.env.exit_asked
-run-notes m [] [] run = refl
-run-notes m [] (x ∷ xs) run = absurd run
-run-notes m (a ∷ bs) [] run = absurd run
+    step-notes m (step m a x) s ∙ sym (ap (λ (y : Entry). asks_exit y.what || m.env.exit_asked) run.0.0) in
+    run-notes (after m a x) bs xs (orderly-step m (step m a x) orderly s) run.1
+    ∙ ap (λ b. has_exit xs || b) here ∙ turned (has_exit xs) (asks_exit x.what) m.env.exit_asked
+run-notes m [] [] orderly run = refl
+run-notes m [] (x ∷ xs) orderly run = absurd run
+run-notes m (a ∷ bs) [] orderly run = absurd run
 
 pub exit-by-call : ExitIsAskedByItsCall
-exit-by-call s bs xs run = run-notes (opening_of s) bs xs run ∙ or-false (has_exit xs)
+exit-by-call s bs xs run = run-notes (opening_of s) bs xs (orderly-opens s) run ∙ or-false (has_exit xs)
 
 -- THE END OF THE LOOP
 -- it tells its reason
@@ -208,6 +185,11 @@ loop-tells m true o x is e = ended-tells m loop_end.Exit (hub_next m.hub host.Lo
 loop-tells m false None x is e = ended-tells m loop_end.Idle (hub_next m.hub host.LoopEnd) x is e
 loop-tells m false (Some n) x is e = absurd (ticket-apart m n (registration_at m.env.book n) x is e)
 
+hooks-apart : (m : Machine) (o : Option ℕ) (x : Entry) → x.what ≡ what.Host host.LoopEnd → x ≡ (chosen m (option_or (option_map Tickets o) (hub_choice_at Looped))).entry
+    → IsTrue (chosen m (option_or (option_map Tickets o) (hub_choice_at Looped))).may → ⊥
+hooks-apart m None x is e t = moved-other m host.Drain host.LoopEnd phase.Drain (out.Unsigned 0) (hub_next m.hub host.Drain) x (λ z. cc) is e t
+hooks-apart m (Some n) x is e t = ticket-apart m n (registration_at m.env.book n) x is e
+
 finals-apart : (m : Machine) (o : Option ℕ) (x : Entry) → x.what ≡ what.Host host.LoopEnd
     → x ≡ (chosen m (option_or (option_or (option_map Tickets o) (Some IsGone)) (hub_choice_at Final))).entry → ⊥
 finals-apart m None x is e = let z : what.Host host.LoopEnd ≡ what.Host host.Gone = sym is ∙ ap (λ (y : Entry). y.what) e in cc
@@ -219,8 +201,7 @@ phase-tells : (m : Machine) (p : Phase) (x : Entry) → x.what ≡ what.Host hos
     → IsTrue (chosen m (option_or (local_choice_in m.env p) (hub_choice_at (stage_of p)))).may → x.reply.out ≡ out.Ended (reason_of m.env.exit_asked)
 phase-tells m phase.Init x is e t = absurd (init-apart m m.env.inits m.env.opened (nat_lt m.env.inits m.env.addons) x is e t)
 phase-tells m phase.Live x is e t = loop-tells m m.env.exit_asked (lowest_due m.env.book) x is e
-phase-tells m phase.Hooks x is e t =
-    absurd (moved-other m host.Drain host.LoopEnd phase.Drain (out.Unsigned 0) (hub_next m.hub host.Drain) x (λ z. cc) is e t)
+phase-tells m phase.Hooks x is e t = absurd (hooks-apart m (ticket_in m.env phase.Hooks) x is e t)
 phase-tells m phase.Drain x is e t =
     absurd (moved-other m host.Finals host.LoopEnd phase.Finals out.Nothing (hub_next m.hub host.Finals) x (λ z. cc) is e t)
 phase-tells m phase.Finals x is e t = absurd (finals-apart m (lowest_due m.env.book) x is e)
@@ -236,16 +217,18 @@ ends-by-exit-or-idle s bs xs a x run next is =
     ∙ ap (λ exit. out.Ended (reason_of exit)) (exit-by-call s bs xs run)
 
 -- TICKETS
-late : (e : Environment) (p : Phase) → e.exit_asked ≡ true → begins_tickets_in e p ≡ true → p ≡ phase.Finals
-late e phase.Live asked begins = let z : false ≡ true = ap not (sym asked) ∙ begins in cc
-late e phase.Finals asked begins = refl
-late e phase.Init asked begins = cc
-late e phase.Hooks asked begins = cc
-late e phase.Drain asked begins = cc
-late e phase.Gone asked begins = cc
+late : (e : Environment) (p : Phase) → e.exit_asked ≡ true → begins_due_tickets_in e p ≡ true → p ≡ phase.Finals
+late e phase.Live asked moment = let z : false ≡ true = ap not (sym asked) ∙ moment in cc
+late e phase.Finals asked moment = refl
+late e phase.Init asked moment = cc
+late e phase.Hooks asked moment = cc
+late e phase.Drain asked moment = cc
+late e phase.Gone asked moment = cc
 
-pub tickets-wait : TicketsWaitForFinalsOnceExitWasAsked
-tickets-wait s bs xs a x c addon entry d run asked next is told =
+pub due-waits : WhatIsDueWaitsForFinalsOnceExitWasAsked
+due-waits s bs xs a x c addon entry d run asked next is told =
     let m : Machine = final_of s bs xs in
-    let here : BeginsLowest m d = finalizers-begin m a x c addon entry d next is told in
-    late m.env m.env.phase (exit-by-call s bs xs run ∙ asked) here.moment
+    elim (tickets-begin m a x c addon entry d next is told) [
+      | inl due ↦ inl (late m.env m.env.phase (exit-by-call s bs xs run ∙ asked) due.moment)
+      | inr hook ↦ inr hook
+    ]

@@ -1,5 +1,6 @@
 mod Asks
 mod Beginning
+mod Causes
 mod Children
 mod Choosing
 mod Collected
@@ -18,6 +19,7 @@ mod Holding
 mod LiveNumbers
 mod Misses
 mod Naming
+mod OrderlyRuns
 mod Rising
 mod Rows
 mod Settling

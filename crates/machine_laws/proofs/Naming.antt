@@ -6,10 +6,12 @@ use Rattle.std.specs.List.{list_all}
 use Rattle.std.specs.Option.{option_or}
 use Rattle.napi_types.specs.declared.call.Call.TheVariants as call
 use Rattle.napi_types.specs.declared.status.Status.{Status}
+use Rattle.napi_types.specs.Frames.{caller_of}
+use Rattle.napi_types.specs.HookRefusals.{hook_refusal}
 use Rattle.napi_types.specs.Lists.{has_number}
 use Rattle.napi_types.specs.ReferenceRefusals.{reference_refusal}
-use Rattle.napi_types.specs.Refusals.{refusal_in}
-use Rattle.machine_laws.specs.CallLaws.{ReferencesAreNamedAlone}
+use Rattle.napi_types.specs.Refusals.{refusal_in, attached_refusal}
+use Rattle.machine_laws.specs.CallLaws.{ReferencesAreNamedAlone, HooksAreNamedAlone}
 
 option_or-none : (s : Option Status) → option_or s None ≡ s
 option_or-none None = refl
@@ -24,6 +26,13 @@ named-alone e (call.GetReferenceValue r) = record {
   order = option_or-none (reference_refusal e.references (call.GetReferenceValue r));
 }
 named-alone e c = record { alone = inl refl; order = sym (option_or-none (refusal_in e.texts e.heap c)) }
+
+pub hooks-alone : HooksAreNamedAlone
+hooks-alone e (call.AddEnvCleanupHook entry argument) =
+    record { alone = inr (refl, refl, refl); order = option_or-none (hook_refusal (caller_of e.frames) e.hooks (call.AddEnvCleanupHook entry argument)) }
+hooks-alone e (call.RemoveEnvCleanupHook entry argument) =
+    record { alone = inr (refl, refl, refl); order = option_or-none (hook_refusal (caller_of e.frames) e.hooks (call.RemoveEnvCleanupHook entry argument)) }
+hooks-alone e c = record { alone = inl refl; order = sym (option_or-none (option_or (reference_refusal e.references c) (attached_refusal e c))) }
 
 -- one of the list fails the test, so not all pass it
 pub fails-all : (p : ℕ → Bool) (ns : List ℕ) (n : ℕ) → has_number n ns ≡ true → p n ≡ false → list_all p ns ≡ false

@@ -1,10 +1,9 @@
 -- What holds of finalizers at every moment of a run.
-use Rattle.std.proofs.Common.{◌≡◌, ◌≢◌, ◌∙◌, ℕ, true, false, List, [], ◌∷◌, refl, ap, sym, Option, Some, None, option_map}
+use Rattle.std.proofs.Common.{◌≡◌, ◌≢◌, ◌∙◌, ℕ, false, List, [], ◌∷◌, refl, ap, sym, Option, Some, None, option_map}
 use Rattle.std.specs.Option.{unwrap_or}
 use Rattle.std.proofs.lemmas.List.Elements.{All-nil}
 use Rattle.napi_types.specs.declared.call.Ask.{Ask}
 use Rattle.napi_types.specs.declared.call.Ask.TheVariants as ask
-use Rattle.napi_types.specs.declared.call.Call.{Call}
 use Rattle.napi_types.specs.declared.entry.Actor.{Actor}
 use Rattle.napi_types.specs.declared.entry.Actor.TheVariants as actor
 use Rattle.napi_types.specs.declared.entry.Cause.TheVariants as cause
@@ -20,30 +19,28 @@ use Rattle.napi_types.specs.declared.entry.Why.{Why}
 use Rattle.napi_types.specs.declared.ids.HandleId.{HandleId}
 use Rattle.napi_types.specs.Book.{Book, Registration, is_registered, is_at, registration_at, lowest_due}
 use Rattle.napi_types.specs.Built.{built_ask}
-use Rattle.napi_types.specs.Changes.{in_phase, number_of}
+use Rattle.napi_types.specs.Changes.{number_of}
 use Rattle.napi_types.specs.Choice.{choice}
 use Rattle.napi_types.specs.Duties.{AreNested}
 use Rattle.napi_types.specs.Ends.{end_change}
-use Rattle.napi_types.specs.Entering.{asked_change}
 use Rattle.napi_types.specs.Environment.{Environment}
 use Rattle.napi_types.specs.Frames.{Frame}
+use Rattle.napi_types.specs.Hooked.{is_late}
 use Rattle.napi_types.specs.Hub.{Hub, hub_next}
 use Rattle.napi_types.specs.Loop.{Event, Opens, Inits, Tickets, Goes, EndsLoop, Drains, FinalsCome, IsGone}
 use Rattle.napi_types.specs.Machine.{Machine}
-use Rattle.napi_types.specs.Moments.{is_tearing}
 use Rattle.napi_types.specs.Phases.{stage_of}
 use Rattle.napi_types.specs.Run.{IsNext, after, final}
 use Rattle.napi_types.specs.Setting.{opening_of, final_of}
 use Rattle.napi_types.specs.Step.{hub_moved, ticket_step, event_step, chosen, frame_step, env_step, step_of, cut_of}
-use Rattle.machine_laws.specs.Choices.{begins_tickets_in, IsOfTicket, GoneComesOnlyAfterFinals}
-use Rattle.machine_laws.specs.FinalizerLaws.{is_final, OnlyTheOutermostFrameHasADuty, NoneIsRegisteredFromFinalsOn}
-use Rattle.napi_types.proofs.Answers.{SameCourse, course-parts}
-use Rattle.napi_types.proofs.Books.{NoneRegistered, all_due-none, none-owed_tickets}
-use Rattle.napi_types.proofs.FrameChanges.{ended-keeps, asked_change-fits}
-use Rattle.napi_types.proofs.Registrations.{registered-holds, AreUncalled, uncalled-asked, uncalled-ended, uncalled-begun, uncalled-phase, none-asked, none-ended, none-begun}
+use Rattle.machine_laws.specs.Choices.{begins_due_tickets_in, IsOfTicket, GoneComesOnlyAfterFinals}
+use Rattle.machine_laws.specs.FinalizerLaws.{OnlyTheOutermostFrameHasADuty, NoneIsRegisteredFromFinalsOn}
+use Rattle.napi_types.proofs.Books.{NoneRegistered, none-owed_tickets}
+use Rattle.napi_types.proofs.Registrations.{registered-holds, AreUncalled, uncalled-asked, uncalled-ended, uncalled-begun, uncalled-phase}
 use Rattle.napi_types.proofs.StandingFrames.{nested-asked, nested-ended, nested-ticket, nested-init}
 use Rattle.machine_laws.proofs.Beginning.{lowest-first}
-use Rattle.machine_laws.proofs.Choosing.{gone-phase, gone-last, hub-in-phase}
+use Rattle.machine_laws.proofs.Choosing.{gone-last, hub-in-phase}
+use Rattle.machine_laws.proofs.OrderlyRuns.{orderly-run}
 
 -- ONLY THE OUTERMOST FRAME
 -- only the outermost frame is one that no call began, and no call will begin that of a ticket
@@ -58,7 +55,7 @@ hub-nested m event p o (Some h) here = record { frames = here.frames; uncalled =
 ticket-nested : (m : Machine) (n : ℕ) (r : Option Registration) → registration_at m.env.book n ≡ r → m.env.frames ≡ [] → IsNested m.env → IsNested (ticket_step m n r).after.env
 ticket-nested m n None there none here = here
 ticket-nested m n (Some r) there none here =
-    record { frames = nested-ticket n r m.env there here.uncalled none; uncalled = uncalled-begun n m.env.book here.uncalled }
+    record { frames = nested-ticket n r m.env there here.uncalled none; uncalled = uncalled-begun m.env.phase n m.env.book here.uncalled }
 
 event-nested : (m : Machine) (v : Event) → m.env.frames ≡ [] → IsNested m.env → IsNested (event_step m v).after.env
 event-nested m Opens none here = record { frames = here.frames; uncalled = here.uncalled }
@@ -106,78 +103,7 @@ only-outermost s bs xs run =
     (run-nested (opening_of s) bs xs opens).frames
 
 -- NONE IS REGISTERED
-abbrev IsSettled : Environment → Type 0
-IsSettled e = is_final e.phase ≡ true → NoneRegistered e.book
-
-final-tears : (p : Phase) → is_final p ≡ true → is_tearing p ≡ true
-final-tears phase.Finals h = refl
-final-tears phase.Gone h = refl
-final-tears phase.Init h = cc
-final-tears phase.Live h = cc
-final-tears phase.Hooks h = cc
-final-tears phase.Drain h = cc
-
-phase-settled : (p : Phase) (e : Environment) → p ≢ phase.Gone → IsSettled (in_phase p e)
-phase-settled phase.Finals e other h = all_due-none e.book
-phase-settled phase.Gone e other h = absurd (other refl)
-phase-settled phase.Init e other h = cc
-phase-settled phase.Live e other h = cc
-phase-settled phase.Hooks e other h = cc
-phase-settled phase.Drain e other h = cc
-
-hub-settled : (m : Machine) (event : HostStep) (p : Phase) (o : Out) (h : Option Hub) → p ≢ phase.Gone → IsSettled m.env → IsSettled (hub_moved m event p o h).after.env
-hub-settled m event p o None other here = here
-hub-settled m event p o (Some h) other here = phase-settled p m.env other
-
-ticket-settled : (m : Machine) (n : ℕ) (r : Option Registration) → IsSettled m.env → IsSettled (ticket_step m n r).after.env
-ticket-settled m n None here = here
-ticket-settled m n (Some r) here = λ h. none-begun n m.env.book (here h)
-
-event-settled : (m : Machine) (v : Event) → (v ≡ IsGone → m.env.phase ≡ phase.Finals) → IsSettled m.env → IsSettled (event_step m v).after.env
-event-settled m Opens end here = here
-event-settled m (Inits n) end here = here
-event-settled m (Tickets n) end here = ticket-settled m n (registration_at m.env.book n) here
-event-settled m Goes end here = hub-settled m host.Go phase.Live out.Nothing (hub_next m.hub host.Go) (λ z. cc) here
-event-settled m (EndsLoop w) end here = hub-settled m host.LoopEnd phase.Hooks (out.Ended w) (hub_next m.hub host.LoopEnd) (λ z. cc) here
-event-settled m Drains end here = hub-settled m host.Drain phase.Drain (out.Unsigned 0) (hub_next m.hub host.Drain) (λ z. cc) here
-event-settled m FinalsCome end here = hub-settled m host.Finals phase.Finals out.Nothing (hub_next m.hub host.Finals) (λ z. cc) here
-event-settled m IsGone end here = λ h. here (ap is_final (end refl))
-
-chosen-settled : (m : Machine) (v : Option Event) → (v ≡ Some IsGone → m.env.phase ≡ phase.Finals) → IsSettled m.env → IsSettled (chosen m v).after.env
-chosen-settled m None end here = here
-chosen-settled m (Some v) end here = event-settled m v (λ is. end (ap (λ w. Some w) is)) here
-
-ended-settled : (e : Environment) (v : Option HandleId) (cut : Option Why) → IsSettled e → IsSettled (end_change v cut e).after
-ended-settled e v cut here h =
-    let course : SameCourse e (end_change v cut e).after = course-parts e (end_change v cut e).after (ended-keeps v cut e).course in
-    none-ended e v cut (here (ap is_final (sym course.phase) ∙ h))
-
-asked-settled : (e : Environment) (c : Call) (n : ℕ) → IsSettled e → IsSettled (asked_change e c n).after
-asked-settled e c n here h =
-    let course : SameCourse e (asked_change e c n).after = course-parts e (asked_change e c n).after (asked_change-fits e c n).course in
-    let before : is_final e.phase ≡ true = ap is_final (sym course.phase) ∙ h in
-    none-asked e c n (final-tears e.phase before) (here before)
-
-frame-settled : (m : Machine) (a : Ask) (o : Out) (cut : Option Why) → IsSettled m.env → IsSettled (frame_step m a o cut).after.env
-frame-settled m a o (Some w) here = ended-settled m.env None (Some w) here
-frame-settled m (ask.Leave v) o None here = ended-settled m.env v None here
-frame-settled m (ask.Do c) o None here = asked-settled m.env c (number_of o) here
-
-env-settled : (m : Machine) (a : Ask) (o : Out) (fs : List Frame) → IsSettled m.env → IsSettled (env_step m a o fs).after.env
-env-settled m a o [] here = chosen-settled m (choice m) (λ is. gone-phase m.env m.env.phase m.hub.stage is) here
-env-settled m a o (f ∷ fs) here = frame-settled m (built_ask a) o (cut_of o) here
-
-step-settled : (m : Machine) (a : Ask) (x : Entry) (who : Actor) → IsSettled m.env → IsSettled (step_of m a x who).after.env
-step-settled m a x actor.Env here = env-settled m a x.reply.out m.env.frames here
-step-settled m a x (actor.Thread n) here = here
-step-settled m a x (actor.Worker n) here = here
-
-run-settled : (m : Machine) (bs : List Ask) (xs : List Entry) → IsSettled m.env → IsSettled (final m bs xs).env
-run-settled m (a ∷ bs) (x ∷ xs) here = run-settled (after m a x) bs xs (step-settled m a x x.actor here)
-run-settled m [] xs here = here
-run-settled m (a ∷ bs) [] here = here
-
--- so no ticket of the book is
+-- where none of the book is, no ticket is
 not-registered : (book : Book) (n : ℕ) → NoneRegistered book → is_at is_registered book n ≡ false
 not-registered book n none = by (registration_at book n) refl
   where
@@ -185,11 +111,8 @@ not-registered book n none = by (registration_at book n) refl
     by None there = refl
     by (Some r) there = registered-holds (λ (q : Registration). is_registered q.state ≡ false) n book r there none
 
-of-opening : (s : _) → IsSettled (opening_of s).env
-of-opening s h = cc
-
 pub none-registered : NoneIsRegisteredFromFinalsOn
-none-registered s bs xs n run last = not-registered (final_of s bs xs).env.book n (run-settled (opening_of s) bs xs (of-opening s) last)
+none-registered s bs xs n run last = not-registered (final_of s bs xs).env.book n ((orderly-run s bs xs run).settled last)
 
 -- GONE
 -- where a ticket is due `gone` does not come
@@ -197,7 +120,7 @@ none-due : (m : Machine) (a : Ask) (x : Entry) (o : Option ℕ) → lowest_due m
     → x.what ≡ what.Host host.Gone → o ≡ None
 none-due m a x None lowest alone last next is = refl
 none-due m a x (Some n) lowest alone last next is =
-    let t : IsOfTicket m n x = lowest-first m n a x alone (ap (begins_tickets_in m.env) last) lowest next in
+    let t : IsOfTicket m n x = lowest-first m n a x alone (ap (begins_due_tickets_in m.env) last) lowest next in
     let z : what.Host host.Gone ≡ what.Host host.Begin = sym is ∙ ap (λ (y : Entry). y.what) t.entry in
     cc
 
@@ -205,7 +128,7 @@ pub gone-of-runs : GoneComesOnlyAfterFinals
 gone-of-runs s bs xs a x run next is =
     let m : Machine = final_of s bs xs in
     let last : (m.env.frames ≡ []) × (m.env.phase ≡ phase.Finals) = gone-last m a x next is in
-    let none : NoneRegistered m.env.book = run-settled (opening_of s) bs xs (of-opening s) (ap is_final last.1) in
+    let none : NoneRegistered m.env.book = (orderly-run s bs xs run).settled (ap is_late last.1) in
     record {
       phase = last.1;
       alone = last.0;

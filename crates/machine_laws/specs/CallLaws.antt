@@ -17,9 +17,10 @@ use Rattle.napi_types.specs.Calls.{answer, with_depth_error, groups}
 use Rattle.napi_types.specs.Built.{is_built, is_calling}
 use Rattle.napi_types.specs.Changes.{call_change}
 use Rattle.napi_types.specs.Environment.{Environment}
-use Rattle.napi_types.specs.Frames.{ask_counted}
+use Rattle.napi_types.specs.Frames.{caller_of, ask_counted}
 use Rattle.napi_types.specs.Guards.{is_registering, is_shared}
 use Rattle.napi_types.specs.Heap.{Heap, handle_body}
+use Rattle.napi_types.specs.HookRefusals.{hook_refusal}
 use Rattle.napi_types.specs.Lists.{has_number}
 use Rattle.napi_types.specs.Replies.{plain}
 use Rattle.napi_types.specs.ReferenceRefusals.{references_of, reference_refusal}
@@ -27,8 +28,7 @@ use Rattle.napi_types.specs.NamedNumbers.{handles_of, texts_of, unknown_refusal}
 use Rattle.napi_types.specs.Moments.{moment_refusal}
 use Rattle.napi_types.specs.ExpectedKinds.{kind_refusal}
 use Rattle.napi_types.specs.OwnRefusals.{row_refusal}
-use Rattle.napi_types.specs.Refusals.{refusal_in}
-use Rattle.napi_types.specs.Refusals.{early_refusal, depth_refusal, refusal}
+use Rattle.napi_types.specs.Refusals.{refusal_in, attached_refusal, timely_refusal, early_refusal, depth_refusal, refusal}
 use Rattle.napi_types.specs.Room.{one_if, need, is_growing}
 use Rattle.napi_types.specs.Scopes.{gives}
 use Rattle.napi_types.specs.Texts.{fixed_texts, message_text, code_text}
@@ -155,6 +155,14 @@ pub record NamesReferencesAlone (e : Environment) (c : Call) : Type 0 where
 
 abbrev pub ReferencesAreNamedAlone : Type 0
 ReferencesAreNamedAlone = (e : Environment) (c : Call) → NamesReferencesAlone e c
+
+-- a call on hooks names no reference, no handle and no text, so it shows nowhere either whether the hooks are asked before all that
+pub record NamesHooksAlone (e : Environment) (c : Call) : Type 0 where
+  pub alone : (hook_refusal (caller_of e.frames) e.hooks c ≡ None) ⊎ ((references_of c ≡ []) × (handles_of c ≡ []) × (texts_of c ≡ []))
+  pub order : timely_refusal e c ≡ option_or (option_or (reference_refusal e.references c) (attached_refusal e c)) (hook_refusal (caller_of e.frames) e.hooks c)
+
+abbrev pub HooksAreNamedAlone : Type 0
+HooksAreNamedAlone = (e : Environment) (c : Call) → NamesHooksAlone e c
 
 -- `exit` is never refused and tells nothing; it leaves all as it was, but that exit was asked, that its frame made an ask more, and that the last status is 0
 pub record AsksToExitAlone (e : Environment) (n : ℕ) : Type 0 where

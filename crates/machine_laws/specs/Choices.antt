@@ -1,5 +1,5 @@
 -- Which event comes next where no frame stands.
-use Rattle.std.specs.Prelude.{◌≡◌, ◌<◌, ◌≤◌, ℕ, Bool, true, false, not, List, [], ◌∷◌, Some, None, is_some}
+use Rattle.std.specs.Prelude.{◌≡◌, ◌<◌, ◌≤◌, ℕ, Bool, true, false, not, List, [], ◌∷◌, Some, None, is_some, ◌⊎◌}
 use Rattle.napi_types.specs.declared.call.Ask.{Ask}
 use Rattle.napi_types.specs.declared.entry.Cause.{Cause}
 use Rattle.napi_types.specs.declared.entry.Cause.TheVariants as cause
@@ -12,11 +12,12 @@ use Rattle.napi_types.specs.declared.entry.Phase.{Phase}
 use Rattle.napi_types.specs.declared.entry.Phase.TheVariants as phase
 use Rattle.napi_types.specs.declared.entry.What.{What}
 use Rattle.napi_types.specs.declared.entry.What.TheVariants as what
-use Rattle.napi_types.specs.Book.{Book, Registration, is_due, is_at, due_info, lowest_due, registration_at, owed_tickets, ticket_duty}
+use Rattle.napi_types.specs.Book.{Book, Registration, is_registered, is_due, is_at, due_info, lowest_due, registration_at, owed_tickets, ticket_duty}
 use Rattle.napi_types.specs.Changes.{host_entry}
 use Rattle.napi_types.specs.Choice.{local_choice, hub_choice}
 use Rattle.napi_types.specs.Environment.{Environment}
 use Rattle.napi_types.specs.Frames.{Frame, frame_of_duty, begin_told}
+use Rattle.napi_types.specs.Hooks.{Hook, last_hook}
 use Rattle.napi_types.specs.Hub.{Hub, Final, hub_next}
 use Rattle.napi_types.specs.Loop.{Event, EndsLoop}
 use Rattle.napi_types.specs.Machine.{Machine}
@@ -92,15 +93,15 @@ GoComesAfterInitFrames = (m : Machine) (a : Ask) (x : Entry) → IsNext m a x �
 abbrev pub GoneComesAfterFinals : Type 0
 GoneComesAfterFinals = (m : Machine) (a : Ask) (x : Entry) → IsNext m a x → x.what ≡ what.Host host.Gone → (m.env.frames ≡ []) × (m.env.phase ≡ phase.Finals)
 
--- TICKETS
--- whether tickets begin in a phase: in that of the loop until exit is asked, and in the last one before the end
-abbrev pub begins_tickets_in : Environment → Phase → Bool
-begins_tickets_in e phase.Live = not e.exit_asked
-begins_tickets_in e phase.Finals = true
-begins_tickets_in e _ = false
+-- WHAT IS DUE
+-- whether the tickets that are due begin in a phase: in that of the loop until exit is asked, and in the last one before the end
+abbrev pub begins_due_tickets_in : Environment → Phase → Bool
+begins_due_tickets_in e phase.Live = not e.exit_asked
+begins_due_tickets_in e phase.Finals = true
+begins_due_tickets_in e _ = false
 
-abbrev pub begins_tickets : Environment → Bool
-begins_tickets e = begins_tickets_in e e.phase
+abbrev pub begins_due_tickets : Environment → Bool
+begins_due_tickets e = begins_due_tickets_in e e.phase
 
 -- the entry is the begin of the frame of this ticket, which is due
 pub record IsOfTicket (m : Machine) (n : ℕ) (x : Entry) : Type 0 where
@@ -109,23 +110,10 @@ pub record IsOfTicket (m : Machine) (n : ℕ) (x : Entry) : Type 0 where
   pub due : is_due registration.state ≡ true
   pub entry : x ≡ host_entry host.Begin (begin_told (frame_of_duty (due_info n registration)))
 
--- where tickets begin the lowest that is due comes first: before the loop ends, and before the environment is gone
+-- where due tickets begin the lowest comes first: before the loop ends, and before the environment is gone
 abbrev pub LowestDueTicketComesFirst : Type 0
-LowestDueTicketComesFirst = (m : Machine) (n : ℕ) (a : Ask) (x : Entry) → m.env.frames ≡ [] → begins_tickets m.env ≡ true → lowest_due m.env.book ≡ Some n
+LowestDueTicketComesFirst = (m : Machine) (n : ℕ) (a : Ask) (x : Entry) → m.env.frames ≡ [] → begins_due_tickets m.env ≡ true → lowest_due m.env.book ≡ Some n
     → IsNext m a x → IsOfTicket m n x
-
--- the duty that begins a frame is that of the lowest ticket that is due, and no frame stands
-pub record BeginsLowest (m : Machine) (d : Duty) : Type 0 where
-  pub ticket : ℕ
-  pub duty : d ≡ ticket_duty ticket
-  pub alone : m.env.frames ≡ []
-  pub moment : begins_tickets m.env ≡ true
-  pub lowest : lowest_due m.env.book ≡ Some ticket
-
--- a duty begins a frame only where tickets begin: before the loop, once exit was asked in it, and in the phases of the hooks and of the drain what is due waits
-abbrev pub FinalizersBeginInTheLoopOrAtTheEnd : Type 0
-FinalizersBeginInTheLoopOrAtTheEnd = (m : Machine) (a : Ask) (x : Entry) (c : Cause) (addon entry : ℕ) (d : Duty) → IsNext m a x
-    → x.what ≡ what.Host host.Begin → x.reply.out ≡ out.Begin c addon entry (Some d) → BeginsLowest m d
 
 -- it is the lowest: it is due, and none below it is
 pub record IsLowestDue (book : Book) (n : ℕ) : Type 0 where
@@ -134,6 +122,41 @@ pub record IsLowestDue (book : Book) (n : ℕ) : Type 0 where
 
 abbrev pub LowestDueIsLowest : Type 0
 LowestDueIsLowest = (book : Book) (n : ℕ) → lowest_due book ≡ Some n → IsLowestDue book n
+
+-- HOOKS
+-- the entry is the begin of the frame of this hook, whose ticket is registered
+pub record IsOfHook (m : Machine) (h : Hook) (x : Entry) : Type 0 where
+  pub registration : Registration
+  pub there : registration_at m.env.book h.ticket ≡ Some registration
+  pub registered : is_registered registration.state ≡ true
+  pub entry : x ≡ host_entry host.Begin (begin_told (frame_of_duty (due_info h.ticket registration)))
+
+-- after the loop the hook that was added last comes first: before `drain`, and before what is due
+abbrev pub LastHookComesFirst : Type 0
+LastHookComesFirst = (m : Machine) (h : Hook) (a : Ask) (x : Entry) → m.env.frames ≡ [] → m.env.phase ≡ phase.Hooks → last_hook m.env.hooks ≡ Some h
+    → IsNext m a x → IsOfHook m h x
+
+-- BOTH
+-- the duty that begins a frame is that of the lowest ticket that is due, and no frame stands
+pub record BeginsLowest (m : Machine) (d : Duty) : Type 0 where
+  pub ticket : ℕ
+  pub duty : d ≡ ticket_duty ticket
+  pub alone : m.env.frames ≡ []
+  pub moment : begins_due_tickets m.env ≡ true
+  pub lowest : lowest_due m.env.book ≡ Some ticket
+
+-- it is that of the hook that was added last, in the phase of the hooks
+pub record BeginsLastHook (m : Machine) (d : Duty) : Type 0 where
+  pub hook : Hook
+  pub duty : d ≡ ticket_duty hook.ticket
+  pub alone : m.env.frames ≡ []
+  pub moment : m.env.phase ≡ phase.Hooks
+  pub last : last_hook m.env.hooks ≡ Some hook
+
+-- a duty begins a frame only so: before the loop, once exit was asked in it, and in the phases of the hooks and of the drain what is due waits
+abbrev pub TicketsBeginAtTheirMoments : Type 0
+TicketsBeginAtTheirMoments = (m : Machine) (a : Ask) (x : Entry) (c : Cause) (addon entry : ℕ) (d : Duty) → IsNext m a x → x.what ≡ what.Host host.Begin
+    → x.reply.out ≡ out.Begin c addon entry (Some d) → BeginsLowest m d ⊎ BeginsLastHook m d
 
 -- EVENTS OF RUNS
 -- at every moment of a run the hub is as far as the phase says
@@ -152,7 +175,17 @@ abbrev pub GoComesOnlyAfterInitFrames : Type 0
 GoComesOnlyAfterInitFrames = (s : Setting) (bs : List Ask) (xs : List Entry) (a : Ask) (x : Entry) → IsRunBy (opening_of s) bs xs
     → IsNext (final_of s bs xs) a x → x.what ≡ what.Host host.Go → IsReadyToGo (final_of s bs xs)
 
--- .. and `gone` comes once the hub has made its last event, and each finalizer has begun or was withdrawn
+-- .. `drain` comes in the phase of the hooks and in no other, once each hook has begun or was removed, ..
+pub record IsReadyToDrain (m : Machine) : Type 0 where
+  pub phase : m.env.phase ≡ phase.Hooks
+  pub alone : m.env.frames ≡ []
+  pub spent : m.env.hooks ≡ []
+
+abbrev pub DrainComesOnlyAfterHooks : Type 0
+DrainComesOnlyAfterHooks = (s : Setting) (bs : List Ask) (xs : List Entry) (a : Ask) (x : Entry) → IsRunBy (opening_of s) bs xs
+    → IsNext (final_of s bs xs) a x → x.what ≡ what.Host host.Drain → IsReadyToDrain (final_of s bs xs)
+
+-- .. and `gone` comes once the hub has made its last event, and each finalizer and each hook has begun or was withdrawn
 pub record IsReadyToEnd (m : Machine) : Type 0 where
   pub phase : m.env.phase ≡ phase.Finals
   pub alone : m.env.frames ≡ []

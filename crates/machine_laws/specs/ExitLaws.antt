@@ -1,5 +1,5 @@
 -- Laws of `exit` over all runs.
-use Rattle.std.specs.Prelude.{◌≡◌, ℕ, Bool, true, false, cond, List, Some}
+use Rattle.std.specs.Prelude.{◌≡◌, ℕ, Bool, true, false, cond, List, Some, ◌⊎◌}
 use Rattle.std.specs.List.{list_any}
 use Rattle.napi_types.specs.declared.call.Ask.{Ask}
 use Rattle.napi_types.specs.declared.entry.Cause.{Cause}
@@ -15,6 +15,7 @@ use Rattle.napi_types.specs.declared.entry.What.TheVariants as what
 use Rattle.napi_types.specs.Built.{is_exiting}
 use Rattle.napi_types.specs.Run.{IsNext, IsRunBy}
 use Rattle.napi_types.specs.Setting.{Setting, opening_of, final_of}
+use Rattle.machine_laws.specs.Choices.{BeginsLastHook}
 
 -- a call that asks to exit
 abbrev pub asks_exit : What → Bool
@@ -38,8 +39,8 @@ abbrev pub TheLoopEndsByExitOrIdle : Type 0
 TheLoopEndsByExitOrIdle = (s : Setting) (bs : List Ask) (xs : List Entry) (a : Ask) (x : Entry) → IsRunBy (opening_of s) bs xs
     → IsNext (final_of s bs xs) a x → x.what ≡ what.Host host.LoopEnd → x.reply.out ≡ out.Ended (reason_of (has_exit xs))
 
--- in a run in which such a call stands a duty begins a frame after `finals` alone
-abbrev pub TicketsWaitForFinalsOnceExitWasAsked : Type 0
-TicketsWaitForFinalsOnceExitWasAsked = (s : Setting) (bs : List Ask) (xs : List Entry) (a : Ask) (x : Entry) (c : Cause) (addon entry : ℕ) (d : Duty)
+-- in a run in which such a call stands a duty begins a frame after `finals` alone, but that of a hook, which begins as in every other run
+abbrev pub WhatIsDueWaitsForFinalsOnceExitWasAsked : Type 0
+WhatIsDueWaitsForFinalsOnceExitWasAsked = (s : Setting) (bs : List Ask) (xs : List Entry) (a : Ask) (x : Entry) (c : Cause) (addon entry : ℕ) (d : Duty)
     → IsRunBy (opening_of s) bs xs → has_exit xs ≡ true → IsNext (final_of s bs xs) a x → x.what ≡ what.Host host.Begin
-    → x.reply.out ≡ out.Begin c addon entry (Some d) → (final_of s bs xs).env.phase ≡ phase.Finals
+    → x.reply.out ≡ out.Begin c addon entry (Some d) → ((final_of s bs xs).env.phase ≡ phase.Finals) ⊎ BeginsLastHook (final_of s bs xs) d

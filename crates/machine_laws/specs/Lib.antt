@@ -7,6 +7,7 @@ pub mod ConsistencyMisses
 pub mod Cuts
 pub mod Cycle
 pub mod Depth
+pub mod DoubledHooks
 pub mod EscapeTwice
 pub mod ExitBeforeDue
 pub mod ExitInInitAndInAFinalizer
@@ -16,8 +17,10 @@ pub mod FinalizerLaws
 pub mod FirstRun
 pub mod HandleAfterScope
 pub mod HandleLaws
+pub mod InstanceData
 pub mod MapLaws
 pub mod NextHandle
+pub mod OnceMisses
 pub mod OrderOfScopes
 pub mod PendingException
 pub mod PropertiesAndElements

@@ -51,9 +51,13 @@ call_at n c s o = call_in 1 n c s o
 abbrev pub call_making : ℕ → Call → Status → Out → Option Duty → Entry
 call_making n c s o d = call_replied 1 n c (record (plain s o) { made = d })
 
--- .. and of one that withdraws a duty, where it withdraws one
+-- .. of one that withdraws a duty, where it withdraws one, ..
 abbrev pub call_dropping : ℕ → Call → Status → Out → Option Duty → Entry
 call_dropping n c s o d = call_replied 1 n c (record (plain s o) { dropped = d })
+
+-- .. and of one that withdraws a duty and makes another, where it does
+abbrev pub call_swapping : ℕ → Call → Status → Out → Option Duty → Option Duty → Entry
+call_swapping n c s o withdrawn made = call_replied 1 n c (record (plain s o) { made = made; dropped = withdrawn })
 
 -- the duty of a ticket that a call makes or withdraws
 abbrev pub ticket : ℕ → Option Duty
@@ -91,9 +95,17 @@ loop_ended reason = host_entry host.LoopEnd (out.Ended reason)
 abbrev pub go_entry : Entry
 go_entry = host_entry host.Go out.Nothing
 
--- .. and those from its end on, which has this reason, ..
+-- .. that which comes once no hook is left, ..
+abbrev pub drain_entry : Entry
+drain_entry = host_entry host.Drain (out.Unsigned 0)
+
+-- .. and those from the end of the loop on, which has this reason, with these frames of hooks, ..
+abbrev pub ending_with_hooks : LoopEnd → List Entry → List Entry
+ending_with_hooks reason in_hooks = loop_ended reason ∷ in_hooks ++ drain_entry ∷ host_entry host.Finals out.Nothing ∷ []
+
+-- .. and without any, ..
 abbrev pub ending_events : LoopEnd → List Entry
-ending_events reason = loop_ended reason ∷ host_entry host.Drain (out.Unsigned 0) ∷ host_entry host.Finals out.Nothing ∷ []
+ending_events reason = ending_with_hooks reason []
 
 abbrev pub great_events : List Entry
 great_events = go_entry ∷ ending_events loop_end.Idle
@@ -124,6 +136,17 @@ run_ended_by reason calls in_loop at_end = opening_entries ++ calls ++ frame_end
 -- one whose loop ends as nothing is left to do
 abbrev pub run_of_finalizers : List Entry → List Entry → List Entry → List Entry
 run_of_finalizers calls in_loop at_end = run_ended_by loop_end.Idle calls in_loop at_end
+
+-- the begin of the frame of a hook of this ticket, which runs entry 1 of the only addon, and its frame, with these calls
+abbrev pub hook_begins : ℕ → Entry
+hook_begins n = host_entry host.Begin (out.Begin cause.Hook 0 1 (ticket n))
+
+abbrev pub hook_runs : ℕ → List Entry → List Entry
+hook_runs n calls = hook_begins n ∷ calls ++ frame_end ∷ []
+
+-- a whole run of one init frame and of hooks: why its loop ends, its calls, and the frames of hooks
+abbrev pub run_of_hooks : LoopEnd → List Entry → List Entry → List Entry
+run_of_hooks reason calls in_hooks = opening_entries ++ calls ++ frame_end ∷ go_entry ∷ ending_with_hooks reason in_hooks ++ gone_entry ∷ []
 
 -- the entries without the one at this place, counted from 0
 abbrev pub left_out : ℕ → List Entry → List Entry

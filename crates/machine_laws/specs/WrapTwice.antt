@@ -105,3 +105,6 @@ pub record IsStrict : Type 0 where
   pub alone : (n : ℕ) → IsRun setting (trace_with (runs n)) → n ≡ 2
   pub before : IsRun setting (trace_with (runs 1 ++ runs 2)) → ⊥
   pub after : IsRun setting (trace_with (runs 2 ++ runs 1)) → ⊥
+  -- it begins neither twice nor never
+  pub twice : IsRun setting (trace_with (runs 2 ++ runs 2)) → ⊥
+  pub never : IsRun setting (trace_with []) → ⊥

@@ -1,7 +1,8 @@
 //! Laws over all calls in all environments.
 ghost use Rattle.machine_laws.specs.CallLaws.{RefusesUnknownHandles, RefusesUnknownInEachRow, TakesKnownHandles, ExternalsAreTaggedOnly, OnlyExternalsAreRead};
 ghost use Rattle.machine_laws.specs.CallLaws.{OnlyFunctionsAreServed, EachDutyHasPlaces, RegisteringCallsGrow, NeedsAndGrowth};
-ghost use Rattle.machine_laws.specs.CallLaws.{EveryCallHasARow, RefusedCallsChangeNothing, ErrorNamesAreFixed, ReferencesAreNamedAlone, ExitChangesNothingElse};
+ghost use Rattle.machine_laws.specs.CallLaws.{EveryCallHasARow, RefusedCallsChangeNothing, ErrorNamesAreFixed, ReferencesAreNamedAlone, HooksAreNamedAlone};
+ghost use Rattle.machine_laws.specs.CallLaws.{ExitChangesNothingElse};
 
 /// A refused call answers the first refusal that applies and changes nothing, but that the depth limit leaves its error pending.
 pub fn refused_calls_change_nothing()
@@ -50,6 +51,11 @@ pub fn error_names_are_fixed()
 /// A call that names a reference names no handle and no text, so that the order of their refusals shows nowhere.
 pub fn references_are_named_alone()
     ensures { ReferencesAreNamedAlone }
+{}
+
+/// A call on hooks names no reference, no handle and no text, so that the order of its refusals shows nowhere.
+pub fn hooks_are_named_alone()
+    ensures { HooksAreNamedAlone }
 {}
 
 /// `exit` is never refused and ends no frame. It changes nothing but that exit was asked, the last status and the count of asks.

@@ -2,8 +2,8 @@
 ghost use Rattle.machine_laws.specs.Told.{EndsAsTold};
 ghost use Rattle.machine_laws.specs.Choices.{NoneIsChosenInFrames, BeginsTellTheirFrames, OwnEventsComeFirst, HubEventsComeLast};
 ghost use Rattle.machine_laws.specs.Choices.{GoComesAfterInitFrames, GoneComesAfterFinals, HubIsInPhase};
-ghost use Rattle.machine_laws.specs.Choices.{GoComesOnlyAfterInitFrames, GoneComesOnlyAfterFinals};
-ghost use Rattle.machine_laws.specs.Choices.{LowestDueTicketComesFirst, FinalizersBeginInTheLoopOrAtTheEnd, LowestDueIsLowest};
+ghost use Rattle.machine_laws.specs.Choices.{GoComesOnlyAfterInitFrames, DrainComesOnlyAfterHooks, GoneComesOnlyAfterFinals};
+ghost use Rattle.machine_laws.specs.Choices.{LowestDueTicketComesFirst, LastHookComesFirst, TicketsBeginAtTheirMoments, LowestDueIsLowest};
 ghost use Rattle.machine_laws.specs.TwoAddons as two_addons;
 
 /// Where a frame stands no event is chosen: what comes is a call, the begin of a call's frame, or the end of a frame.
@@ -41,9 +41,15 @@ pub fn lowest_due_ticket_comes_first()
     ensures { LowestDueTicketComesFirst }
 {}
 
-/// A finalizer begins in the loop while exit was not asked, or after `finals`, where no frame stands, and is the lowest that is due. Else it waits.
-pub fn finalizers_begin_in_the_loop_or_at_the_end()
-    ensures { FinalizersBeginInTheLoopOrAtTheEnd }
+/// Between the end of the loop and `drain` the hook that was added last comes first, before `drain` and before every ticket that is due.
+pub fn last_hook_comes_first()
+    ensures { LastHookComesFirst }
+{}
+
+/// A duty begins a frame where no frame stands. In the loop while exit was not asked, and after `finals`, it is the lowest ticket that is due.
+/// Between the end of the loop and `drain` it is the hook that was added last. Everywhere else it waits.
+pub fn tickets_begin_at_their_moments()
+    ensures { TicketsBeginAtTheirMoments }
 {}
 
 /// The lowest ticket that is due is due, and none below it is.
@@ -61,7 +67,12 @@ pub fn go_comes_only_after_init_frames()
     ensures { GoComesOnlyAfterInitFrames }
 {}
 
-/// In a run `gone` comes after `finals` alone, once the hub has made its last event and each finalizer has begun or was withdrawn.
+/// In a run `drain` comes after the end of the loop alone, once each hook has begun or was removed.
+pub fn drain_comes_only_after_hooks()
+    ensures { DrainComesOnlyAfterHooks }
+{}
+
+/// In a run `gone` comes after `finals` alone, once the hub has made its last event and each finalizer and each hook has begun or was withdrawn.
 pub fn gone_comes_only_after_finals()
     ensures { GoneComesOnlyAfterFinals }
 {}

@@ -1,6 +1,6 @@
 //! Laws of `exit` over all runs, and worked runs in which it is asked.
 ghost use Rattle.machine_laws.specs.Told.{EndsAsTold};
-ghost use Rattle.machine_laws.specs.ExitLaws.{ExitIsAskedByItsCall, TheLoopEndsByExitOrIdle, TicketsWaitForFinalsOnceExitWasAsked};
+ghost use Rattle.machine_laws.specs.ExitLaws.{ExitIsAskedByItsCall, TheLoopEndsByExitOrIdle, WhatIsDueWaitsForFinalsOnceExitWasAsked};
 ghost use Rattle.machine_laws.specs.ExitBeforeDue as exit_before_due;
 ghost use Rattle.machine_laws.specs.ExitInInitAndInAFinalizer as exit_in_init_and_in_a_finalizer;
 
@@ -14,9 +14,9 @@ pub fn the_loop_ends_by_exit_or_idle()
     ensures { TheLoopEndsByExitOrIdle }
 {}
 
-/// In a run in which a call of `exit` stands no ticket begins in the loop: what is due then waits for `finals`.
-pub fn tickets_wait_for_finals_once_exit_was_asked()
-    ensures { TicketsWaitForFinalsOnceExitWasAsked }
+/// In a run in which a call of `exit` stands no ticket begins in the loop: what is due then waits for `finals`, and hooks alone begin before.
+pub fn what_is_due_waits_for_finals_once_exit_was_asked()
+    ensures { WhatIsDueWaitsForFinalsOnceExitWasAsked }
 {}
 
 /// Exit is asked while one ticket is due and another is registered: the entries are a run of their script and come to its end.

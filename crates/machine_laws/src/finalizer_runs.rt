@@ -3,6 +3,7 @@ ghost use Rattle.machine_laws.specs.Told.{EndsAsTold};
 ghost use Rattle.machine_laws.specs.Cycle as cycle;
 ghost use Rattle.machine_laws.specs.WrapTwice as wrap_twice;
 ghost use Rattle.machine_laws.specs.ExternalsTagsFinalizers as externals_tags_finalizers;
+ghost use Rattle.machine_laws.specs.OnceMisses.{OnceIsStrict};
 
 /// Two wrapped objects that name each other and are collected together: the entries are a run of their script and come to its end.
 pub fn cycle_ends()
@@ -29,9 +30,15 @@ pub fn wrap_twice_prints()
     ensures { wrap_twice.Prints }
 {}
 
-/// The refused wrap registers nothing, the removed one's finalizer is withdrawn and never begins, and the new one's begins.
+/// The refused wrap registers nothing, the removed one's finalizer is withdrawn and never begins, and the new one's begins once.
 pub fn wrap_twice_is_strict()
     ensures { wrap_twice.IsStrict }
+{}
+
+/// In that run each duty is made and begins once, or is withdrawn. It is not so where one begins twice, never, though withdrawn or though not made,
+/// nor where one is made twice, or withdrawn by a call that may not, or is refused.
+pub fn once_is_strict()
+    ensures { OnceIsStrict }
 {}
 
 /// Finalizers that are left to the end, and a guarded call in each: the entries are a run of their script and come to its end.

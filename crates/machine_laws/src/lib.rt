@@ -11,6 +11,7 @@ pub mod finalizer_runs;
 pub mod finalizers;
 pub mod function_runs;
 pub mod handles;
+pub mod hook_runs;
 pub mod maps;
 pub mod runs;
 pub mod scope_runs;

@@ -9,17 +9,19 @@ use Rattle.napi_types.specs.declared.status.Status.TheVariants as status
 use Rattle.napi_types.specs.AttachmentRefusals.{attachment_refusal}
 use Rattle.napi_types.specs.Calls.{answer_unless_deep}
 use Rattle.napi_types.specs.Environment.{Environment}
+use Rattle.napi_types.specs.Frames.{caller_of}
+use Rattle.napi_types.specs.HookRefusals.{hook_refusal}
 use Rattle.napi_types.specs.Lists.{has_number, one, unless}
 use Rattle.napi_types.specs.NamedNumbers.{handles_of, texts_of, unknown_refusal}
 use Rattle.napi_types.specs.Moments.{moment_refusal}
-use Rattle.napi_types.specs.Refusals.{refusal_in, timely_refusal, depth_refusal}
+use Rattle.napi_types.specs.Refusals.{refusal_in, attached_refusal, timely_refusal, depth_refusal}
 use Rattle.napi_types.specs.ReferenceRefusals.{reference_refusal}
 use Rattle.napi_types.specs.ExpectedKinds.{kind_refusal}
 use Rattle.napi_types.specs.OwnRefusals.{row_refusal}
 use Rattle.napi_types.specs.Replies.{plain}
 use Rattle.napi_types.specs.Scopes.{gives}
 use Rattle.machine_laws.specs.CallLaws.{RefusesUnknownHandles, RefusesUnknownInEachRow, TakesKnownHandles}
-use Rattle.machine_laws.proofs.Naming.{named-alone, fails-all, passes-all}
+use Rattle.machine_laws.proofs.Naming.{named-alone, hooks-alone, fails-all, passes-all}
 use Rattle.machine_laws.proofs.calls.refuses_unknown_handles.Goals as goal
 
 first-of : (moment deep : Option Status) (s : Status) → option_or (option_or moment (Some s)) deep ≡ Some (unwrap_or moment s)
@@ -57,7 +59,9 @@ unknown-first e c h here none =
     let first : option_or (reference_refusal e.references c) (refusal_in e.texts e.heap c) ≡ Some status.InvalidArg =
     (named-alone e c).order
     ∙ ap (λ s. option_or (option_or s (option_or (kind_refusal e.heap c) (row_refusal e.heap c))) (reference_refusal e.references c)) unknown in
-    before-attached (reference_refusal e.references c) (refusal_in e.texts e.heap c) (attachment_refusal e.attachments e.heap c) status.InvalidArg first
+    let named : option_or (reference_refusal e.references c) (attached_refusal e c) ≡ Some status.InvalidArg =
+    before-attached (reference_refusal e.references c) (refusal_in e.texts e.heap c) (attachment_refusal e.attachments e.heap c) status.InvalidArg first in
+    (hooks-alone e c).order ∙ ap (λ s. option_or s (hook_refusal (caller_of e.frames) e.hooks c)) named
 
 unknown : RefusesUnknownHandles
 unknown e c h here none =

@@ -1,4 +1,4 @@
-use Rattle.std.proofs.Common.{◌≡◌, ℕ, ◌++◌, ap, set, refl, Option, None, arith}
+use Rattle.std.proofs.Common.{◌≡◌, ℕ, [], ◌++◌, ap, set, refl, Option, None, arith}
 use Rattle.napi_types.specs.declared.entry.Duty.{Duty}
 use Rattle.napi_types.specs.declared.entry.HostStep.TheVariants as host
 use Rattle.napi_types.specs.declared.entry.What.TheVariants as what
@@ -37,6 +37,13 @@ not-after : IsRun setting (trace_with (runs 2 ++ runs 1)) → ⊥
 not-after r =
     let w : what.Host host.Begin ≡ what.Host host.LoopEnd = ap (λ xs. (entry_at 15 xs).what) (told-run setting (trace_with (runs 2 ++ runs 1)) refl r) in cc
 
+not-twice : IsRun setting (trace_with (runs 2 ++ runs 2)) → ⊥
+not-twice r =
+    let w : what.Host host.Begin ≡ what.Host host.LoopEnd = ap (λ xs. (entry_at 15 xs).what) (told-run setting (trace_with (runs 2 ++ runs 2)) refl r) in cc
+
+not-never : IsRun setting (trace_with []) → ⊥
+not-never r = let w : what.Host host.LoopEnd ≡ what.Host host.Begin = ap (λ xs. (entry_at 13 xs).what) (told-run setting (trace_with []) refl r) in cc
+
 pub returns : goal.returns
 returns c = record {
   once = no-second;
@@ -46,4 +53,6 @@ returns c = record {
   alone = no-other;
   before = not-before;
   after = not-after;
+  twice = not-twice;
+  never = not-never;
 }

@@ -5,11 +5,13 @@ use Rattle.std.proofs.lemmas.Bool.{eqb-true, and_parts}
 use Rattle.napi_types.specs.declared.status.Status.{Status}
 use Rattle.napi_types.specs.declared.status.Status.TheVariants as status
 use Rattle.napi_types.specs.AttachmentRefusals.{attachment_refusal}
+use Rattle.napi_types.specs.Frames.{caller_of}
+use Rattle.napi_types.specs.HookRefusals.{hook_refusal}
 use Rattle.napi_types.specs.Lists.{has_number, unless}
 use Rattle.napi_types.specs.NamedNumbers.{handles_of, is_known, unknown_refusal}
 use Rattle.napi_types.specs.ExpectedKinds.{kind_refusal}
 use Rattle.napi_types.specs.OwnRefusals.{row_refusal}
-use Rattle.napi_types.specs.Refusals.{refusal_in, timely_refusal, early_refusal, depth_refusal}
+use Rattle.napi_types.specs.Refusals.{refusal_in, attached_refusal, timely_refusal, early_refusal, depth_refusal}
 use Rattle.napi_types.specs.ReferenceRefusals.{reference_refusal}
 use Rattle.napi_types.specs.Moments.{moment_refusal}
 use Rattle.napi_types.specs.Scopes.{gives}
@@ -41,9 +43,9 @@ law : AcceptedHandlesAreOpen
 law e c h accepted there =
     let early : early_refusal e c ≡ None = none-first (early_refusal e c) (depth_refusal e.frames c) accepted in
     let timely : timely_refusal e c ≡ None = none-last (moment_refusal e c) (timely_refusal e c) early in
-    let attached : Option Status = attachment_refusal e.attachments e.heap c in
-    let beside : option_or (refusal_in e.texts e.heap c) attached ≡ None = none-last (reference_refusal e.references c) (option_or (refusal_in e.texts e.heap c) attached) timely in
-    let within : refusal_in e.texts e.heap c ≡ None = none-first (refusal_in e.texts e.heap c) attached beside in
+    let named : option_or (reference_refusal e.references c) (attached_refusal e c) ≡ None = none-last (hook_refusal (caller_of e.frames) e.hooks c) _ timely in
+    let beside : attached_refusal e c ≡ None = none-last (reference_refusal e.references c) (attached_refusal e c) named in
+    let within : refusal_in e.texts e.heap c ≡ None = none-first (refusal_in e.texts e.heap c) (attachment_refusal e.attachments e.heap c) beside in
     let own : Option Status = option_or (kind_refusal e.heap c) (row_refusal e.heap c) in
     let unknown : unknown_refusal e.texts e.heap c ≡ None = none-first (unknown_refusal e.texts e.heap c) own within in
     let known : is_known e.texts e.heap c ≡ true = not-unless (is_known e.texts e.heap c) status.InvalidArg unknown in

@@ -1,0 +1,83 @@
+-- Why the frame of a ticket begins tells when it does, in a run.
+use Rattle.std.proofs.Common.{◌≡◌, ◌∙◌, ℕ, true, false, refl, ap, sym, Some, inl, inr}
+use Rattle.std.proofs.lemmas.Bool.{or_right}
+use Rattle.napi_types.specs.declared.entry.Cause.{Cause}
+use Rattle.napi_types.specs.declared.entry.Cause.TheVariants as cause
+use Rattle.napi_types.specs.declared.entry.Duty.{Duty}
+use Rattle.napi_types.specs.declared.entry.Entry.{Entry}
+use Rattle.napi_types.specs.declared.entry.Out.{Out}
+use Rattle.napi_types.specs.declared.entry.Out.TheVariants as out
+use Rattle.napi_types.specs.declared.entry.HostStep.TheVariants as host
+use Rattle.napi_types.specs.declared.entry.Phase.{Phase}
+use Rattle.napi_types.specs.declared.entry.Phase.TheVariants as phase
+use Rattle.napi_types.specs.Book.{Registration, is_registered, is_due, is_owed, registration_at, due_info}
+use Rattle.napi_types.specs.Changes.{host_entry}
+use Rattle.napi_types.specs.Environment.{Environment}
+use Rattle.napi_types.specs.Frames.{frame_of_duty, begin_told}
+use Rattle.napi_types.specs.Hooked.{cause_at, is_late, StandsIn, IsHooked}
+use Rattle.napi_types.specs.Hooks.{Hook, last_hook}
+use Rattle.napi_types.specs.Machine.{Machine}
+use Rattle.napi_types.specs.Setting.{final_of}
+use Rattle.machine_laws.specs.Choices.{begins_due_tickets_in, IsOfTicket, IsOfHook}
+use Rattle.machine_laws.specs.FinalizerLaws.{FinalizersBeginInTheLoopOrAtTheEnd, HooksBeginAfterTheLoop}
+use Rattle.napi_types.proofs.HookedSteps.{last-holds}
+use Rattle.napi_types.proofs.Moved.{at-cause}
+use Rattle.napi_types.proofs.Orderly.{is_drained, IsSpent, Orderly}
+use Rattle.napi_types.proofs.Orders.{none-due}
+use Rattle.napi_types.proofs.Registrations.{registered-holds}
+use Rattle.machine_laws.proofs.Beginning.{lowest-first, hook-first, tickets-begin}
+use Rattle.machine_laws.proofs.OrderlyRuns.{orderly-run}
+
+-- the cause that a begin tells
+abbrev told_cause : Cause → Out → Cause
+told_cause c (out.Begin told addon entry d) = told
+told_cause c _ = c
+
+-- the frame of a ticket begins for what the ticket was registered for
+of-ticket : (x : Entry) (n : ℕ) (r : Registration) (c : Cause) (addon entry : ℕ) (d : Duty) → x.reply.out ≡ out.Begin c addon entry (Some d)
+    → x ≡ host_entry host.Begin (begin_told (frame_of_duty (due_info n r))) → r.cause ≡ c
+of-ticket x n r c addon entry d told is = sym (ap (λ (y : Entry). told_cause c y.reply.out) is) ∙ ap (told_cause c) told
+
+-- that of a hook is its own
+hook-cause : (e : Environment) (h : Hook) (r : Registration) → IsHooked e → last_hook e.hooks ≡ Some h → registration_at e.book h.ticket ≡ Some r → r.cause ≡ cause.Hook
+hook-cause e h r hooked last there =
+    let stands : cause_at e.book h.ticket ≡ Some cause.Hook = (last-holds (StandsIn e.phase e.book) e.hooks h hooked.hooks last).cause in
+    let same : Some r.cause ≡ Some cause.Hook = sym (at-cause e.book h.ticket r there) ∙ stands in
+    cc
+
+-- and where due tickets begin no hook is due
+no-hook-due : (m : Machine) (p : Phase) (n : ℕ) (r : Registration) → m.env.phase ≡ p → Orderly m → begins_due_tickets_in m.env p ≡ true → registration_at m.env.book n ≡ Some r
+    → is_due r.state ≡ true → r.cause ≡ cause.Hook → ⊥
+no-hook-due m phase.Live n r here orderly begins there due why = none-due m.env n r orderly.hooked (ap is_late here) there why due
+no-hook-due m phase.Finals n r here orderly begins there due why =
+    let spent : is_owed r.state ≡ false = registered-holds IsSpent n m.env.book r there (orderly.spent (ap is_drained here)) why in
+    let no : true ≡ false = sym (or_right (is_registered r.state) (is_due r.state) due) ∙ spent in
+    cc
+no-hook-due m phase.Init n r here orderly begins there due why = cc
+no-hook-due m phase.Hooks n r here orderly begins there due why = cc
+no-hook-due m phase.Drain n r here orderly begins there due why = cc
+no-hook-due m phase.Gone n r here orderly begins there due why = cc
+
+pub finalizers-begin : FinalizersBeginInTheLoopOrAtTheEnd
+finalizers-begin s bs xs a x addon entry d run next is told =
+    elim (tickets-begin (final_of s bs xs) a x cause.Finalize addon entry d next is told) [
+      | inl lowest ↦ lowest
+      | inr hook ↦
+          let m : Machine = final_of s bs xs in
+          let t : IsOfHook m hook.hook x = hook-first m hook.hook a x hook.alone hook.moment hook.last next in
+          let other : cause.Finalize ≡ cause.Hook =
+          sym (of-ticket x hook.hook.ticket t.registration cause.Finalize addon entry d told t.entry)
+          ∙ hook-cause m.env hook.hook t.registration (orderly-run s bs xs run).hooked hook.last t.there in
+          absurd cc
+    ]
+
+pub hooks-begin : HooksBeginAfterTheLoop
+hooks-begin s bs xs a x addon entry d run next is told =
+    elim (tickets-begin (final_of s bs xs) a x cause.Hook addon entry d next is told) [
+      | inl lowest ↦
+          let m : Machine = final_of s bs xs in
+          let t : IsOfTicket m lowest.ticket x = lowest-first m lowest.ticket a x lowest.alone lowest.moment lowest.lowest next in
+          let why : t.registration.cause ≡ cause.Hook = of-ticket x lowest.ticket t.registration cause.Hook addon entry d told t.entry in
+          absurd (no-hook-due m m.env.phase lowest.ticket t.registration refl (orderly-run s bs xs run) lowest.moment t.there t.due why)
+      | inr hook ↦ hook
+    ]
