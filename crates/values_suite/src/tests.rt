@@ -10,6 +10,7 @@ use value_store::Store;
 mod attachments;
 mod collections;
 mod exceptions;
+mod hooks;
 mod references;
 mod scopes;
 mod tickets;
