@@ -17,7 +17,7 @@ use Rattle.napi_types.specs.Book.{Book, Registration, TicketState, Registered, D
 use Rattle.napi_types.specs.Duties.{duties_of}
 use Rattle.napi_types.specs.Ends.{duty_ended, without_innermost_frame, outermost_end_change}
 use Rattle.napi_types.specs.Environment.{Environment}
-use Rattle.napi_types.specs.Frames.{Frame, duty_of, frame_of_duty, ask_counted}
+use Rattle.napi_types.specs.Frames.{Frame, duty_of, frame_of_duty, ask_counted, is_hub_duty}
 use Rattle.napi_types.specs.Graph.{StoreState, IsLive}
 use Rattle.napi_types.specs.Heap.{Heap}
 use Rattle.napi_types.specs.HeapChanges.{with_frame}
@@ -256,6 +256,13 @@ duty_ticket (duty.Ticket t) book begun = refl
 duty_ticket (duty.Work n) book begun = let no : ⊥ = cc in absurd no
 duty_ticket (duty.Item f n) book begun = let no : ⊥ = cc in absurd no
 duty_ticket (duty.Function f) book begun = let no : ⊥ = cc in absurd no
+
+-- so it is none of the hub
+pub begun-local : (d : Duty) (book : Book) → is_at is_begun book (ticket_number d) ≡ true → is_hub_duty (Some d) ≡ false
+begun-local (duty.Ticket t) book begun = refl
+begun-local (duty.Work n) book begun = let no : ⊥ = cc in absurd no
+begun-local (duty.Item f n) book begun = let no : ⊥ = cc in absurd no
+begun-local (duty.Function f) book begun = let no : ⊥ = cc in absurd no
 
 length-duty : (d : Duty) (book : Book) → length (duty_ended (Some d) book) ≡ length book
 length-duty (duty.Ticket t) book = length-moved made_ended (λ m. m == t.0) book

@@ -178,7 +178,7 @@ collected-answers e s t scopes frames m n p ids freed alive count i r are c grap
     ap (references_seen t) empty ∙ seen-emptied s t ids freed alive c m i.referred ∙ ap (λ a. emptied (λ v. not (has_number v a)) (references_seen s m)) reached in
     let pending : pending_seen t p ≡ pending_seen s p = thrown-kept s t ids freed alive c p k.pending in
     let alive_here : Environment → List ℕ → Environment = λ x l. record x { attachments = left_on (is_freed l) e.attachments; book = due_where (hangs_on (is_freed l) e.attachments) e.book } in
-    let step : Heap → ReferenceMap → Option ℕ → Environment = λ h l q. record e { heap = h; references = l; attachments = hung; book = book; pending = q } in
+    let step : Heap → ReferenceMap → Option ℕ → Environment = λ h l q. record e { heap = h; references = l; attachments = hung; book = book; function_roots = []; pending = q } in
     record {
       fresh = refl;
       reply = ap (λ l. plain status.Ok (out.Unsigned l)) (counted ∙ ap (λ a. length (all_but a (graph_of s))) reached);

@@ -1,5 +1,5 @@
 -- A core stays one where an entry is written.
-use Rattle.std.proofs.Common.{◌≡◌, ◌≤◌, ◌≢◌, ℕ, ◌+◌, ◌-◌, ◌*◌, ◌==◌, nat_lt, Bool, true, false, ◌&&◌, IsTrue, List, [], ◌∷◌, ◌++◌, length, Option, Some, None, is_none, is_some, option_map, subst, sym, ap, ◌∙◌, arith, length-append, refl}
+use Rattle.std.proofs.Common.{◌≡◌, ◌≤◌, ◌≢◌, ℕ, ◌+◌, ◌-◌, ◌*◌, ◌==◌, nat_lt, Bool, true, false, not, cond, ◌&&◌, IsTrue, List, [], ◌∷◌, ◌++◌, length, Option, Some, None, is_none, is_some, option_map, subst, sym, ap, ◌∙◌, arith, length-append, refl}
 use Rattle.napi_types.specs.declared.call.Args.{Args}
 use Rattle.napi_types.specs.declared.call.Call.{Call}
 use Rattle.napi_types.specs.declared.call.Call.TheVariants as call
@@ -22,7 +22,7 @@ use Rattle.napi_types.specs.Changes.{call_change, number_of, book_in, in_phase}
 use Rattle.napi_types.specs.Ends.{duty_ended, end_change_by, outermost_end_change, end_change}
 use Rattle.napi_types.specs.Entering.{is_entering}
 use Rattle.napi_types.specs.Environment.{Environment}
-use Rattle.napi_types.specs.Frames.{Frame, caller_of, cause_of, duty_of}
+use Rattle.napi_types.specs.Frames.{Frame, caller_of, cause_of, duty_of, is_hub_duty, local_frames}
 use Rattle.napi_types.specs.Hooked.{is_late, IsHooked}
 use Rattle.napi_types.specs.Hooks.{last_hook}
 use Rattle.napi_types.specs.Lists.{tail}
@@ -120,9 +120,14 @@ core-call_change old new pages after c x n core k hooked room left e =
     core-pushed old new pages after x n core e (omega (arith, law, left, core.reserved)) (omega (arith, left, places, room)) k.heap.handles k.heap.scopes k.references k.heap.made
     (step-length (caller_of old.frames) old.book x.reply.made x.reply.dropped new.book k.book) hooked
 
-length-left : (fs : List Frame) → fs ≢ [] → length (tail fs) + 1 ≡ length fs
-length-left [] h = absurd (h refl)
-length-left (f ∷ fs) h = omega arith
+-- the innermost frame, which no duty of the hub began, is one of those whose end stands in the journal
+length-left : (fs : List Frame) → fs ≢ [] → is_hub_duty (duty_of fs) ≡ false → length (local_frames (tail fs)) + 1 ≡ length (local_frames fs)
+length-left [] h local = absurd (h refl)
+length-left (f ∷ fs) h local = by (is_hub_duty f.duty) local
+  where
+    by : (b : Bool) → b ≡ false → length (local_frames fs) + 1 ≡ length (cond (not b) (f ∷ local_frames fs) (local_frames fs))
+    by true local = let no : ⊥ = cc in absurd no
+    by false local = omega arith
 
 length-duty : (d : Option Duty) (book : Book) → length (duty_ended d book) ≡ length book
 length-duty (Some (duty.Ticket t)) book = length-moved made_ended (λ m. m == t.0) book
@@ -140,20 +145,20 @@ pub end-outermost : (v : Option HandleId) (cut : Option Why) (e : Environment) (
 end-outermost v cut e cause.Call uncalled = absurd (uncalled refl)
 end-outermost v cut e _ uncalled = refl
 
--- the end of a frame fills its place
-reserved-ended : (old new : Environment) → old.frames ≢ [] → KeepsButFrame old new → reserved_journal new + 1 ≡ reserved_journal old
-reserved-ended old new stands k =
-    let left : length (tail old.frames) + 1 ≡ length old.frames = length-left old.frames stands in
+-- the end of a frame that no duty of the hub began fills its place
+reserved-ended : (old new : Environment) → old.frames ≢ [] → is_hub_duty (duty_of old.frames) ≡ false → KeepsButFrame old new → reserved_journal new + 1 ≡ reserved_journal old
+reserved-ended old new stands local k =
+    let left : length (local_frames (tail old.frames)) + 1 ≡ length (local_frames old.frames) = length-left old.frames stands local in
     let owed : owed_tickets (book_left (cause_of old.frames) (duty_of old.frames) old.book) ≡ owed_tickets old.book = owed-left (cause_of old.frames) (duty_of old.frames) old.book in
     let course = course-parts old new k.course in
     rw (course.opened, course.phase, course.addons, course.inits, k.frames, k.book) (omega (arith, left, owed))
 
 pub core-ended : (old new : Environment) (pages after : Pages) (x : Entry) (v : Option HandleId) (cut : Option Why) → IsCore old pages → old.frames ≢ []
-    → new ≡ (end_change v cut old).after → after ≡ written x (pages.promised - 1) pages → IsCore new after
-core-ended old new pages after x v cut c stands h e =
+    → is_hub_duty (duty_of old.frames) ≡ false → new ≡ (end_change v cut old).after → after ≡ written x (pages.promised - 1) pages → IsCore new after
+core-ended old new pages after x v cut c stands local h e =
     let K : Environment → Type 0 = λ s. KeepsButFrame old s in
     let k : KeepsButFrame old new = subst K (sym h) (ended-keeps v cut old) in
-    let fewer : reserved_journal new + 1 ≡ reserved_journal old = reserved-ended old new stands k in
+    let fewer : reserved_journal new + 1 ≡ reserved_journal old = reserved-ended old new stands local k in
     core-pushed old new pages after x (pages.promised - 1) c e (omega (arith, fewer, c.reserved)) (omega (arith, fewer, c.reserved, c.within))
     k.handles (omega (arith, ap length k.scope_numbers)) (omega (arith, ap (λ m. length m.issued) k.references)) (omega (arith, k.made))
     (omega (arith, ap length k.book, length-book_left (cause_of old.frames) (duty_of old.frames) old.book))

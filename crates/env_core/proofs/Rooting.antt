@@ -76,9 +76,9 @@ pub same-holds : (P : ℕ → Type 0) (ms ns : List ℕ) → HaveSameNumbers ms 
 same-holds P ms ns same all = all-among P ns (λ n here. among-holds P ms n all (same n ∙ here))
 
 -- THE MACHINE'S ROOTS
--- the environment with these values, scopes, references and pending exception
+-- the environment with these values, scopes, references and pending exception; no thread-safe function keeps a value alive
 abbrev pub whole : Environment → StoreState → HandleScopes → ReferenceMap → Option ℕ → Environment
-whole e s scopes m p = record e { heap = heap_of s scopes; references = references_seen s m; pending = pending_seen s p }
+whole e s scopes m p = record e { heap = heap_of s scopes; references = references_seen s m; function_roots = []; pending = pending_seen s p }
 
 abbrev values_of : List Held → List ℕ
 values_of hs = map (λ h. h.value) hs
@@ -141,6 +141,7 @@ module _ (s : StoreState) where
       ∙ ap (λ l. numbers starting_values ++ l ++ n (strong_values m) ++ n (option_to_list p)) (sym (frames-seen scopes.frames))
       ∙ ap (λ l. numbers starting_values ++ seen ++ l ++ n (option_to_list p)) (sym (rows-strong m.rows))
       ∙ ap (λ l. numbers starting_values ++ seen ++ strong_values (references_seen s m) ++ l) (sym (pending-at p))
+      ∙ ap (λ l. l ++ option_to_list (pending_seen s p)) (sym (append-nil (numbers starting_values ++ seen ++ strong_values (references_seen s m))))
 
   -- and in any order
   pub roots-seen : (e : Environment) (scopes : HandleScopes) (m : ReferenceMap) (p : Option ℕ) (ids : List ℕ) → AreRoots s scopes m p ids

@@ -6,7 +6,7 @@ ghost use Rattle.napi_types.specs.declared.entry.Cause.TheVariants as cause;
 ghost use Rattle.napi_types.specs.Built.{is_built, is_calling};
 ghost use Rattle.napi_types.specs.Calls.{with_depth_error};
 ghost use Rattle.napi_types.specs.Changes.{call_change, init_change};
-ghost use Rattle.napi_types.specs.Frames.{asks_made, cause_of, duty_of, most_asks};
+ghost use Rattle.napi_types.specs.Frames.{asks_made, cause_of, duty_of, is_hub_duty, most_asks};
 ghost use Rattle.napi_types.specs.Ends.{end_change};
 ghost use Rattle.napi_types.specs.Lists.{head, tail};
 ghost use Rattle.napi_types.specs.Loop.{next_ticket};
@@ -237,13 +237,15 @@ impl EnvCore {
         self.state.has_local()
     }
 
-    /// Ends the frame of a ticket, which stands alone, cut or not. Nobody is told the reply of its `end`. It takes no memory.
+    /// Ends the frame of a ticket, which stands alone, cut or not. Nobody is told the reply of its `end`. It takes no memory. So far
+    /// every duty whose frame stands is that of a ticket, and none is the hub's.
     pub fn end_duty(&mut self, begun: Begun, cut: Option<Why>)
         requires duty { duty_of self.old.env.frames ≡ Some begun.duty }
         requires alone { tail self.old.env.frames ≡ [] }
         requires outermost { cause_of self.old.env.frames ≢ cause.Call }
         requires asks { cut ≡ Some Why.Asks → asks_made self.old.env.frames ≡ most_asks }
-        ensures { self.new ≡ after_change (end_change None cut self.old.env) self.old }
+        ensures ended { self.new ≡ after_change (end_change None cut self.old.env) self.old }
+        ensures local { is_hub_duty (Some begun.duty) ≡ false }
     {
         let entry = self.state.end_duty(begun, cut);
         self.journal.push(entry);

@@ -70,6 +70,7 @@ pub struct State {
 }
 
 impl Model for State {
+    ghost use Rattle.std.specs.Prelude.{[]};
     ghost use Rattle.napi_types.specs.Environment.{Environment};
 
     ghost Value = { Environment };
@@ -81,6 +82,7 @@ impl Model for State {
     ghost use Rattle.env_core.specs.Referring.{references_seen};
     ghost use Rattle.env_core.specs.State.{pending_seen, IsState};
 
+    // No thread-safe function keeps a value alive so far.
     ghost view = { λ state. record {
       addons = state.addons;
       texts = state.texts;
@@ -95,6 +97,7 @@ impl Model for State {
       book = state.book.book;
       hooks = state.hooks;
       instances = state.instances;
+      function_roots = [];
       pending = pending_seen state.store state.exceptions.pending;
       last = state.exceptions.last;
     } };

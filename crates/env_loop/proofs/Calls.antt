@@ -11,7 +11,7 @@ use Rattle.napi_types.specs.declared.entry.Reply.{Reply}
 use Rattle.napi_types.specs.declared.entry.Target.{Target}
 use Rattle.napi_types.specs.declared.entry.Out.{Out}
 use Rattle.napi_types.specs.declared.ids.HandleId.{HandleId}
-use Rattle.napi_types.specs.Built.{built_ask}
+use Rattle.napi_types.specs.Built.{is_built, built_ask}
 use Rattle.napi_types.specs.Changes.{Change, number_of, is_fresh_result, call_change}
 use Rattle.napi_types.specs.Duties.{duties_of}
 use Rattle.napi_types.specs.Entering.{enter_change, asked_change}
@@ -31,12 +31,13 @@ use Rattle.env_core.specs.Steps.{Replies, EntersBy, Enters}
 use Rattle.env_loop.specs.Recording.{AddonStates, machine_of, HasSeen, Continues}
 use Rattle.env_loop.specs.Runs.{IsSoundEnvironment, Holds}
 use Rattle.env_loop.specs.Turns.{IsTold, OnlyInnermostChanges, IsTurn}
-use Rattle.napi_types.proofs.Answers.{course-parts, answer-keeps, call_change-keeps}
+use Rattle.napi_types.proofs.Answers.{course-parts, answer-keeps}
 use Rattle.napi_types.proofs.FrameChanges.{enter_change-keeps, asked_change-call_change, asked_change-enter_change, KeepsButFrames, asked_change-fits}
 use Rattle.napi_types.proofs.Owners.{callee-owned}
+use Rattle.napi_types.proofs.Rooms.{built-local}
 use Rattle.napi_types.proofs.StandingFrames.{duties-asked}
 use Rattle.env_loop.proofs.Recordings.{local-grown}
-use Rattle.env_loop.proofs.Steps.{TellsNoFrame, reply-tells, built_ask-built, built_ask-asked, call-next, same-room}
+use Rattle.env_loop.proofs.Steps.{TellsNoFrame, reply-tells, taken-built, call-next, same-room}
 use Rattle.env_loop.proofs.Frames.{InFrame, in-stands, in-some, in-calls, sound-asked}
 use Rattle.env_loop.proofs.Registers.{others-given, given-others, given-kept, Kept, told-others, asking-touched, callee-touched, asked-in, registers_after_reply-in}
 use Rattle.env_loop.proofs.Turns.{after_change-turn, seen-stays}
@@ -45,28 +46,27 @@ use Rattle.env_loop.proofs.Seen.{begins-none, seen-same}
 -- A REPLY
 call_change-goes : {ps : List Plan} {core : Core} {all : AddonStates} {f : Frame} {a : Ask} → InFrame ps core.env all.registers f a
     → (c : Call) (r : Reply) (new : Core) (now : AddonStates) → f.asks < most_asks
-    → ask.Do c ≡ built_ask a → Replies core c r new → IsTold ps all.registers core.env.frames r now.registers → now.seen ≡ all.seen
+    → ask.Do c ≡ built_ask is_built a → Replies core c r new → IsTold ps all.registers core.env.frames r now.registers → now.seen ≡ all.seen
     → Continues ps core all (after_change (call_change core.env c (number_of r.out)) core) now
-call_change-goes {ps} {core} {all} {f} {a} i c r new now below made reply told same = λ s history firsts of rec.
+call_change-goes {ps} {core} {all} {f} {a} i c r new now below made reply told same = λ s hub history firsts of rec.
     let k : ℕ = number_of r.out in
     let change : Change = call_change core.env c k in
-    let m : Machine = machine_of s.limits core history in
+    let m : Machine = machine_of s.limits core hub history in
     let o : Out = change.entry.reply.out in
     let same_out : r.out ≡ o = ap (λ (x : Reply). x.out) reply.answer in
     let number : number_of o ≡ k = ap number_of (sym same_out) in
     let fresh_o : is_fresh_result core.env o ≡ true = ap (is_fresh_result core.env) (sym same_out) ∙ reply.fresh in
-    let room : is_full (room_of m c) c ≡ false = ap (λ x. is_full x c) (sym (same-room s core history c (built_ask-built a c made) rec.limit)) ∙ reply.fits in
+    let room : is_full (room_of m c) c ≡ false = ap (λ x. is_full x c) (sym (same-room s core hub history c (taken-built a c made) rec.limit)) ∙ reply.fits in
     let told_here : IsTold ps all.registers core.env.frames change.entry.reply now.registers = subst (λ (x : Reply). IsTold ps all.registers core.env.frames x now.registers) reply.answer told in
     let tells : TellsNoFrame o = reply-tells core.env c k (early_refusal core.env c) (depth_refusal core.env.frames c) in
     let next : Kept s.plans now.registers (caller_after_reply s.plans rec.own core.env.frames change.entry.reply) =
-    registers_after_reply-in s ps core history all firsts now.registers core.env.frames change.entry.reply of rec i.sound.owned.frames told_here in
-    local-grown s core history all firsts rec a change (caller_after_reply s.plans rec.own core.env.frames change.entry.reply) now
-    (call-next m a c o k f (tail core.env.frames) (in-stands i) made tells.uncut number
+    registers_after_reply-in s ps core hub history all firsts now.registers core.env.frames change.entry.reply of rec i.sound.owned.frames told_here in
+    local-grown s core hub history all firsts rec (built_ask is_built a) change (caller_after_reply s.plans rec.own core.env.frames change.entry.reply) now
+    (call-next m (built_ask is_built a) c o k f (tail core.env.frames) (in-stands i) made (built-local c (taken-built a c made)) tells.uncut number
     (in-calls i below) fresh_o room
     ∙ ap (λ x. locally m x true) (asked_change-call_change core.env c k reply.at_once))
-    refl (asked-in i s history firsts of rec) refl next.count next.agrees
+    refl (asked-in i s hub history firsts of rec) refl next.count next.agrees
     (let P : Option DueInfo → Type 0 = λ d. HasSeen all.seen (option_to_list d) now.seen in subst P (sym (tells.untold m)) (seen-same all.seen now.seen same))
-    (ap stage_of (course-parts core.env (call_change core.env c k).after (call_change-keeps core.env c k).course).phase)
 
 -- a turn of a call, which comes to this change
 asked-turn : {ps : List Plan} {core : Core} {all : AddonStates} {f : Frame} {a : Ask} → InFrame ps core.env all.registers f a
@@ -83,7 +83,7 @@ asked-turn {ps} {core} {all} {f} {a} i c n change new now below same made others
     (sound-asked i below c n) course.addons (ap stage_of course.phase) (subst Q (sym same) goes)
 
 pub replied-turn : (ps : List Plan) (core new : Core) (all now : AddonStates) (f : Frame) (a : Ask) (c : Call) (r : Reply) → InFrame ps core.env all.registers f a
-    → f.asks < most_asks → ask.Do c ≡ built_ask a
+    → f.asks < most_asks → ask.Do c ≡ built_ask is_built a
     → Replies core c r new → OthersStay all.registers now.registers f.addon
     → IfSome (plan_of ps f.addon) (λ p. registers_of now.registers f.addon ≡ registers_after_reply p (registers_of all.registers f.addon) f.entry f.asks r)
     → now.seen ≡ all.seen → IsTurn ps core all new now
@@ -106,32 +106,31 @@ replied-held core new c r begun reply held =
 -- A FRAME IS ENTERED
 enter_change-goes : {ps : List Plan} {core : Core} {all : AddonStates} {f : Frame} {a : Ask} → InFrame ps core.env all.registers f a
     → (receiver : Option HandleId) (g : HandleId) (args : Args) (target : Target)
-    (gifts : List ℕ) (new : Core) (now : AddonStates) → f.asks < most_asks → ask.Do (call.CallFunction receiver g args) ≡ built_ask a → EntersBy core receiver g args target gifts new
+    (gifts : List ℕ) (new : Core) (now : AddonStates) → f.asks < most_asks → ask.Do (call.CallFunction receiver g args) ≡ built_ask is_built a → EntersBy core receiver g args target gifts new
     → core.env.addons ≤ length all.registers → now.registers ≡ with_addon_gifts all.registers (callee_of core.env.heap g).addon (call_gifts core.env.heap receiver g args)
     → now.seen ≡ all.seen
     → Continues ps core all (after_change (enter_change receiver g args core.env) core) now
-enter_change-goes {ps} {core} {all} {f} {a} e receiver g args target given_gifts new now below made enters enough given same = λ s history firsts of rec.
+enter_change-goes {ps} {core} {all} {f} {a} e receiver g args target given_gifts new now below made enters enough given same = λ s hub history firsts of rec.
     let c : Call = call.CallFunction receiver g args in
     let change : Change = enter_change receiver g args core.env in
-    let m : Machine = machine_of s.limits core history in
-    let room : is_full (room_of m c) c ≡ false = ap (λ x. is_full x c) (sym (same-room s core history c refl rec.limit)) ∙ enters.fits in
+    let m : Machine = machine_of s.limits core hub history in
+    let room : is_full (room_of m c) c ≡ false = ap (λ x. is_full x c) (sym (same-room s core hub history c refl rec.limit)) ∙ enters.fits in
     let i : ℕ = (callee_of core.env.heap g).addon in
     let gifts : List ℕ = call_gifts core.env.heap receiver g args in
     let callee : i < core.env.addons = callee-owned core.env.addons core.env receiver g args enters.called.accepted e.sound.owned in
     let inside : i < length s.plans = omega (arith, of.count, callee) in
     let there : i < length all.registers = omega (arith, callee, enough) in
     let kept : Kept s.plans now.registers (with_addon_gifts rec.own i gifts) = given-kept s.plans all.registers rec.own now.registers i gifts rec.count rec.agrees inside there given in
-    local-grown s core history all firsts rec a change (with_addon_gifts rec.own i gifts) now
-    (call-next m a c change.entry.reply.out 0 f (tail core.env.frames) (in-stands e) made refl refl (in-calls e below) refl room
+    local-grown s core hub history all firsts rec (built_ask is_built a) change (with_addon_gifts rec.own i gifts) now
+    (call-next m (built_ask is_built a) c change.entry.reply.out 0 f (tail core.env.frames) (in-stands e) made refl refl refl (in-calls e below) refl room
     ∙ ap (λ x. locally m x true) (asked_change-enter_change core.env receiver g args 0 enters.called.accepted))
-    refl (asked-in e s history firsts of rec)
-    (ap (λ b. with_callee_gifts rec.own core.env.heap b) (built_ask-asked a c made))
+    refl (asked-in e s hub history firsts of rec)
+    (ap (λ b. with_callee_gifts rec.own core.env.heap b) (sym made))
     kept.count kept.agrees (seen-same all.seen now.seen same)
-    (ap stage_of (course-parts core.env (enter_change receiver g args core.env).after (enter_change-keeps receiver g args core.env).course).phase)
 
 entering-turn : {ps : List Plan} {core : Core} {all : AddonStates} {f : Frame} {a : Ask} → InFrame ps core.env all.registers f a
     → (receiver : Option HandleId) (g : HandleId) (args : Args) (target : Target)
-    (gifts : List ℕ) (new : Core) (now : AddonStates) → f.asks < most_asks → ask.Do (call.CallFunction receiver g args) ≡ built_ask a → EntersBy core receiver g args target gifts new
+    (gifts : List ℕ) (new : Core) (now : AddonStates) → f.asks < most_asks → ask.Do (call.CallFunction receiver g args) ≡ built_ask is_built a → EntersBy core receiver g args target gifts new
     → core.env.addons ≤ length all.registers → now.registers ≡ with_addon_gifts all.registers target.addon gifts → now.seen ≡ all.seen → IsTurn ps core all new now
 entering-turn {ps} {core} {all} {f} {a} e receiver g args target gifts new now below made enters enough given same =
     let i : ℕ = (callee_of core.env.heap g).addon in
@@ -149,7 +148,7 @@ entering-turn {ps} {core} {all} {f} {a} e receiver g args target gifts new now b
 
 pub enter_change-turn : (ps : List Plan) (core new : Core) (all now : AddonStates) (f : Frame) (a : Ask) (c : Call) (target : Target) (gifts : List ℕ)
     → InFrame ps core.env all.registers f a
-    → core.env.addons ≤ length all.registers → f.asks < most_asks → ask.Do c ≡ built_ask a → Enters core c target gifts new
+    → core.env.addons ≤ length all.registers → f.asks < most_asks → ask.Do c ≡ built_ask is_built a → Enters core c target gifts new
     → now.registers ≡ with_addon_gifts all.registers target.addon gifts → now.seen ≡ all.seen
     → IsTurn ps core all new now
 enter_change-turn ps core new all now f a (call.CallFunction receiver g args) target gifts i enough below made enters given same =

@@ -10,12 +10,13 @@ use Rattle.napi_types.specs.declared.entry.Entry.{Entry}
 use Rattle.napi_types.specs.declared.entry.Reply.{Reply}
 use Rattle.napi_types.specs.declared.entry.Why.{Why}
 use Rattle.napi_types.specs.declared.ids.HandleId.{HandleId}
-use Rattle.napi_types.specs.Built.{built_ask}
+use Rattle.napi_types.specs.Built.{is_built, built_ask}
 use Rattle.napi_types.specs.Changes.{Change}
 use Rattle.napi_types.specs.Duties.{duties_of}
 use Rattle.napi_types.specs.Ends.{end_change}
 use Rattle.napi_types.specs.Environment.{Environment}
-use Rattle.napi_types.specs.Frames.{Frame, duty_of, at_last_ask, most_asks}
+use Rattle.napi_types.specs.Frames.{Frame, duty_of, is_hub_duty, at_last_ask, most_asks}
+use Rattle.napi_types.specs.Hub.{Hub}
 use Rattle.napi_types.specs.Lists.{head, tail}
 use Rattle.napi_types.specs.Machine.{Machine}
 use Rattle.napi_types.specs.Phases.{stage_of}
@@ -48,33 +49,34 @@ callers_of e = at_last_ask (tail e.frames)
 abbrev pub IsToldEnd : List Plan → Registers → Environment → Option HandleId → Option Why → Registers → Type 0
 IsToldEnd ps all e v cut now = IsTold ps all (callers_of e) (end_change v cut e).entry.reply now
 
--- the frame's end is the step that comes, in every script of these addons
+-- the frame's end is the step that comes where this is asked, in every script of these addons
 abbrev pub EndIsNext : Core → Ask → Option HandleId → Option Why → Type 0
-EndIsNext core a v cut = (s : Setting) (history : List Entry) → core.limit ≡ s.limits.journal
-    → env_step (machine_of s.limits core history) a (end_change v cut core.env).entry.reply.out core.env.frames ≡ locally (machine_of s.limits core history) (end_change v cut core.env) true
+EndIsNext core a v cut = (s : Setting) (hub : Hub) (history : List Entry) → core.limit ≡ s.limits.journal
+    → env_step (machine_of s.limits core hub history) a (end_change v cut core.env).entry.reply.out core.env.frames
+    ≡ locally (machine_of s.limits core hub history) (end_change v cut core.env) true
 
 ended-goes : {ps : List Plan} {core : Core} {all : AddonStates} {f : Frame} {a : Ask} → InFrame ps core.env all.registers f a
     → (v : Option HandleId) (cut : Option Why) (now : AddonStates)
-    → EndIsNext core a v cut → IsToldEnd ps all.registers core.env v cut now.registers → now.seen ≡ all.seen → Continues ps core all (after_change (end_change v cut core.env) core) now
-ended-goes {ps} {core} {all} {f} {a} i v cut now next told same = λ s history firsts of rec.
+    → EndIsNext core (built_ask is_built a) v cut → IsToldEnd ps all.registers core.env v cut now.registers → now.seen ≡ all.seen → Continues ps core all (after_change (end_change v cut core.env) core) now
+ended-goes {ps} {core} {all} {f} {a} i v cut now next told same = λ s hub history firsts of rec.
     let change : Change = end_change v cut core.env in
-    let m : Machine = machine_of s.limits core history in
+    let b : Ask = built_ask is_built a in
+    let m : Machine = machine_of s.limits core hub history in
     let x : Entry = change.entry in
     let e : Ends cut x = ended-ends v cut core.env in
     let callers : List Frame = callers_of core.env in
     let keeps : Kept s.plans now.registers (caller_after_reply s.plans rec.own callers x.reply) =
-    registers_after_reply-in s ps core history all firsts now.registers callers x.reply of rec (tail-below core.env.addons core.env.frames i.sound.owned.frames) told in
-    local-grown s core history all firsts rec a change (caller_after_reply s.plans rec.own callers x.reply) now
-    (by-env m a x (locally m change true) e.who (next s history rec.limit))
-    e.who (asked-in i s history firsts of rec)
-    (ap (λ w. after_event s.plans rec.own m a x.reply w) e.is)
+    registers_after_reply-in s ps core hub history all firsts now.registers callers x.reply of rec (tail-below core.env.addons core.env.frames i.sound.owned.frames) told in
+    local-grown s core hub history all firsts rec b change (caller_after_reply s.plans rec.own callers x.reply) now
+    (by-env m b x (locally m change true) e.who (next s hub history rec.limit))
+    e.who (asked-in i s hub history firsts of rec)
+    (ap (λ w. after_event s.plans rec.own m b x.reply w) e.is)
     keeps.count keeps.agrees
     (let P : Option DueInfo → Type 0 = λ d. HasSeen all.seen (option_to_list d) now.seen in subst P (sym (ended-untold m v cut core.env)) (seen-same all.seen now.seen same))
-    (ap stage_of (course-parts core.env (end_change v cut core.env).after (ended-keeps v cut core.env).course).phase)
 
 pub ended-turn : {ps : List Plan} {core : Core} {all : AddonStates} {f : Frame} {a : Ask} → InFrame ps core.env all.registers f a
     → (v : Option HandleId) (cut : Option Why) (new : Core) (now : AddonStates)
-    → EndIsNext core a v cut → new ≡ after_change (end_change v cut core.env) core → IsToldEnd ps all.registers core.env v cut now.registers → now.seen ≡ all.seen → IsTurn ps core all new now
+    → EndIsNext core (built_ask is_built a) v cut → new ≡ after_change (end_change v cut core.env) core → IsToldEnd ps all.registers core.env v cut now.registers → now.seen ≡ all.seen → IsTurn ps core all new now
 ended-turn {ps} {core} {all} {f} {a} i v cut new now next made told same =
     let k : KeepsButFrame core.env (end_change v cut core.env).after = ended-keeps v cut core.env in
     let course = course-parts core.env (end_change v cut core.env).after k.course in
@@ -88,11 +90,11 @@ ended-turn {ps} {core} {all} {f} {a} i v cut new now next made told same =
 
 -- the frame leaves
 pub left-turn : (ps : List Plan) (core new : Core) (all now : AddonStates) (f : Frame) (a : Ask) (v : Option HandleId) → InFrame ps core.env all.registers f a
-    → f.asks < most_asks → ask.Leave v ≡ built_ask a
+    → f.asks < most_asks → ask.Leave v ≡ built_ask is_built a → is_hub_duty (duty_of core.env.frames) ≡ false
     → new ≡ after_change (end_change v None core.env) core → IsToldEnd ps all.registers core.env v None now.registers → now.seen ≡ all.seen → IsTurn ps core all new now
-left-turn ps core new all now f a v i below left made told same =
+left-turn ps core new all now f a v i below left local made told same =
     ended-turn i v None new now
-    (λ s history limit. leave-next (machine_of s.limits core history) a v (end_change v None core.env).entry.reply.out f (tail core.env.frames) (in-stands i) left
+    (λ s hub history limit. leave-next (machine_of s.limits core hub history) (built_ask is_built a) v (end_change v None core.env).entry.reply.out f (tail core.env.frames) (in-stands i) local left
     (ended-ends v None core.env).told (in-asks i below)) made told same
 
 -- THE CALLER IS TOLD

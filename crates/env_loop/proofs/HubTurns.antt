@@ -13,11 +13,11 @@ use Rattle.napi_types.specs.declared.entry.Phase.{Phase}
 use Rattle.napi_types.specs.declared.entry.Phase.TheVariants as phase
 use Rattle.napi_types.specs.Changes.{host_entry, in_phase}
 use Rattle.napi_types.specs.Book.{lowest_due}
-use Rattle.napi_types.specs.Choice.{local_choice_in, hub_choice_at, choice}
+use Rattle.napi_types.specs.Choice.{local_choice_in, hub_choice, choice}
 use Rattle.napi_types.specs.Duties.{duties_of}
 use Rattle.napi_types.specs.Environment.{Environment}
 use Rattle.napi_types.specs.Frames.{Frame}
-use Rattle.napi_types.specs.Hub.{Stage, stage_after}
+use Rattle.napi_types.specs.Hub.{Stage, stage_after, quiet_hub}
 use Rattle.napi_types.specs.Loop.{Opens, Inits, Tickets, Goes, IsGone, ticket_in, next_ticket}
 use Rattle.napi_types.specs.Machine.{Machine}
 use Rattle.napi_types.specs.Phases.{next_phase, stage_of}
@@ -31,7 +31,7 @@ use Rattle.env_teardown.specs.Hubs.{QuietHub, happened, quiet_end, after_loop}
 use Rattle.env_teardown.specs.Steps.{tear_step, after_step}
 use Rattle.env_loop.specs.declared.turn.LocalTurn.TheVariants as turn
 use Rattle.env_loop.specs.Recording.{AddonStates, IsRecorded}
-use Rattle.env_loop.specs.Runs.{IsSoundEnvironment, IsRunning, MovesOn}
+use Rattle.env_loop.specs.Runs.{Run, IsSoundEnvironment, IsRunning, MovesOn}
 use Rattle.env_loop.specs.Turns.{turn_at, side_of, uncounted, turn_of}
 use Rattle.napi_types.proofs.Owners.{owned-phase}
 use Rattle.napi_types.proofs.HookedSteps.{hooked-phase}
@@ -66,9 +66,9 @@ needs-an-end e here h = by e.exit_asked refl
 
 -- what a turn comes to, by the phase
 needs-in : (e : Environment) (p : Phase) → e.phase ≡ p → turn_of e ≡ turn.NeedsHub
-    → turn_at [] (side_of (uncounted e) (option_or (local_choice_in e p) (hub_choice_at (stage_of p)))) ≡ turn.NeedsHub
+    → turn_at [] (side_of (uncounted e) (option_or (local_choice_in e p) (hub_choice (quiet_hub (stage_of p))))) ≡ turn.NeedsHub
 needs-in e p here h =
-    ap (λ q. turn_at [] (side_of (uncounted e) (option_or (local_choice_in e q) (hub_choice_at (stage_of q))))) (sym here)
+    ap (λ q. turn_at [] (side_of (uncounted e) (option_or (local_choice_in e q) (hub_choice (quiet_hub (stage_of q)))))) (sym here)
     ∙ ap (λ fs. turn_at fs (side_of (uncounted e) (choice (uncounted e)))) (sym (needs-alone e h)) ∙ h
 
 -- after the loop the hub is needed in two phases
@@ -114,23 +114,32 @@ moved-sound e p next other s = record {
   gone = λ g. absurd (other g);
 }
 
+-- a run of a core and a hub
+abbrev pub run_of : Core → QuietHub → Option DueInfo → Run
+run_of core hub begun = record { core = core; hub = quiet_hub hub.stage; history = hub.history; begun = begun }
+
 -- an event of the hub moves a run on, and its phase shows how far the hub is
 pub record HubMoves (core : Core) (hub : QuietHub) (new : Core) (later : QuietHub) : Type 0 where
-  pub moves : (begun : Option DueInfo) → MovesOn (record { core = core; history = hub.history; begun = begun }) (record { core = new; history = later.history; begun = begun })
+  pub moves : (begun : Option DueInfo) → MovesOn (run_of core hub begun) (run_of new later begun)
   pub shown : later.stage ≡ stage_of new.env.phase
 
 abbrev moved_core : Core → Phase → ℕ → Core
 moved_core core p position = record core { env = in_phase p core.env; position = position }
 
-moved-on : (core new : Core) (history later : List Entry) (event : HostStep) (o : Out) (p : Phase) → later ≡ history ++ host_entry event o ∷ []
-    → new ≡ moved_core core p (length history + 1) → next_phase core.env.phase ≡ Some p → (p ≡ phase.Gone → ⊥) → stage_places (stage_of core.env.phase) ≡ stage_places (stage_of p) + 1
-    → ((s : Setting) (all : AddonStates) (firsts : List (List DueInfo)) → IsRecorded s core history all firsts
-    → IsRecorded s (moved_core core p (length history + 1)) (history ++ host_entry event o ∷ []) all firsts)
-    → (begun : Option DueInfo) → MovesOn (record { core = core; history = history; begun = begun }) (record { core = new; history = later; begun = begun })
-moved-on core new history later event o p written made next other places grown begun =
-    let P : Core → Type 0 = λ c. MovesOn (record { core = core; history = history; begun = begun }) (record { core = c; history = later; begun = begun }) in
-    let Q : List Entry → Type 0 = λ h. MovesOn (record { core = core; history = history; begun = begun })
-    (record { core = moved_core core p (length history + 1); history = h; begun = begun }) in
+-- what the hub's next event makes of a recorded run: the phase starts, and the hub is at the next stage
+abbrev Grows : Core → List Entry → HostStep → Out → Phase → Type 0
+Grows core history event o p = (s : Setting) (all : AddonStates) (firsts : List (List DueInfo)) → IsRecorded s core (quiet_hub (stage_of core.env.phase)) history all firsts
+    → IsRecorded s (moved_core core p (length history + 1)) (quiet_hub (stage_of p)) (history ++ host_entry event o ∷ []) all firsts
+
+moved-on : (core new : Core) (hub later : QuietHub) (event : HostStep) (o : Out) (p : Phase) → hub.stage ≡ stage_of core.env.phase → later.stage ≡ stage_of p
+    → later.history ≡ hub.history ++ host_entry event o ∷ [] → new ≡ moved_core core p (length hub.history + 1) → next_phase core.env.phase ≡ Some p → (p ≡ phase.Gone → ⊥)
+    → stage_places (stage_of core.env.phase) ≡ stage_places (stage_of p) + 1 → Grows core hub.history event o p → (begun : Option DueInfo) → MovesOn (run_of core hub begun) (run_of new later begun)
+moved-on core new hub later event o p shown reached written made next other places grown begun =
+    let P : Core → Type 0 = λ c. MovesOn (run_of core hub begun) (record (run_of new later begun) { core = c }) in
+    let Q : List Entry → Type 0 = λ h. MovesOn (run_of core hub begun) (record (run_of new later begun) { core = moved_core core p (length hub.history + 1); history = h }) in
+    let before : Stage → Setting → AddonStates → List (List DueInfo) → Type 0 = λ t s all firsts. IsRecorded s core (quiet_hub t) hub.history all firsts in
+    let after : Stage → Setting → AddonStates → List (List DueInfo) → Type 0 = λ t s all firsts.
+    IsRecorded s (moved_core core p (length hub.history + 1)) (quiet_hub t) (hub.history ++ host_entry event o ∷ []) all firsts in
     subst P (sym made) (subst Q (sym written) (record {
       left = places;
       event = host_entry event o;
@@ -141,25 +150,29 @@ moved-on core new history later event o p written made next other places grown b
       frames = refl;
       begun = refl;
       sound = moved-sound core.env p next other;
-      recorded = λ plans all s firsts of r. grown s all firsts r;
+      recorded = λ plans all s firsts of r.
+          subst (λ t. after t s all firsts) (sym reached) (grown s all firsts (subst (λ t. before t s all firsts) shown r));
     }))
 
 -- an event that starts the next phase does so
 moves : (core new : Core) (hub later : QuietHub) (event : HostStep) (o : Out) (p : Phase) → hub.stage ≡ stage_of core.env.phase → later ≡ happened event o hub
     → new ≡ moved_core core p (length later.history) → next_phase core.env.phase ≡ Some p → (p ≡ phase.Gone → ⊥)
     → stage_after (stage_of core.env.phase) event ≡ Some (stage_of p) → stage_places (stage_of core.env.phase) ≡ stage_places (stage_of p) + 1
-    → ((s : Setting) (all : AddonStates) (firsts : List (List DueInfo)) → IsRecorded s core hub.history all firsts
-    → IsRecorded s (moved_core core p (length hub.history + 1)) (hub.history ++ host_entry event o ∷ []) all firsts)
-    → HubMoves core hub new later
+    → Grows core hub.history event o p → HubMoves core hub new later
 moves core new hub later event o p shown is made follows other next places grown =
     let written : later.history ≡ hub.history ++ host_entry event o ∷ [] = ap (λ (h : QuietHub). h.history) is in
     let longer : length later.history ≡ length hub.history + 1 = ap length written ∙ length-append hub.history (host_entry event o ∷ []) in
+    let reached : later.stage ≡ stage_of p =
+    ap (λ (h : QuietHub). h.stage) is ∙ ap (λ (t : Stage). unwrap_or (stage_after t event) t) shown ∙ ap (λ (t : Option Stage). unwrap_or t (stage_of core.env.phase)) next in
     record {
-      moves = moved-on core new hub.history later.history event o p written (made ∙ ap (moved_core core p) longer) follows other places grown;
-      shown =
-          ap (λ (h : QuietHub). h.stage) is ∙ ap (λ (t : Stage). unwrap_or (stage_after t event) t) shown
-          ∙ ap (λ (t : Option Stage). unwrap_or t (stage_of core.env.phase)) next ∙ sym (ap (λ (c : Core). stage_of c.env.phase) made);
+      moves = moved-on core new hub later event o p shown reached written (made ∙ ap (moved_core core p) longer) follows other places grown;
+      shown = reached ∙ sym (ap (λ (c : Core). stage_of c.env.phase) made);
     }
+
+-- a run that is recorded with the hub of its phase
+in-phase : (s : Setting) (core : Core) (history : List Entry) (all : AddonStates) (firsts : List (List DueInfo)) (p : Phase) → core.env.phase ≡ p
+    → IsRecorded s core (quiet_hub (stage_of core.env.phase)) history all firsts → IsRecorded s core (quiet_hub (stage_of p)) history all firsts
+in-phase s core history all firsts p here r = subst (λ q. IsRecorded s core (quiet_hub (stage_of q)) history all firsts) here r
 
 -- and so do `go`, `loop_end`, and the steps of the teardown
 pub go-moves : (core new : Core) (hub later : QuietHub) (position : ℕ) → core.env.phase ≡ phase.Init → turn_of core.env ≡ turn.NeedsHub → hub.stage ≡ stage_of core.env.phase
@@ -168,7 +181,7 @@ go-moves core new hub later position here needs shown is at made =
     let ready : ReadyToGo core.env = ready-to-go core.env here needs in
     moves core new hub later host.Go out.Nothing phase.Live shown is (made ∙ ap (moved_core core phase.Live) at) (ap next_phase here) (λ g. cc)
     (ap (λ p. stage_after (stage_of p) host.Go) here) (ap (λ p. stage_places (stage_of p)) here)
-    (λ s all firsts r. go-grown s core hub.history all firsts r (needs-alone core.env needs) here ready.opened ready.begun)
+    (λ s all firsts r. go-grown s core hub.history all firsts (in-phase s core hub.history all firsts phase.Init here r) (needs-alone core.env needs) here ready.opened ready.begun)
 
 pub loop_end-moves : (core new : Core) (hub later : QuietHub) (end : Option LoopEnd) (position : ℕ) → core.env.phase ≡ phase.Live → turn_of core.env ≡ turn.NeedsHub
     → hub.stage ≡ stage_of core.env.phase → end ≡ quiet_end core.env.exit_asked (is_some (next_ticket core.env)) → later ≡ after_loop end hub
@@ -177,7 +190,7 @@ loop_end-moves core new hub later end position here needs shown ends is at made 
     let how = needs-an-end core.env here needs in
     moves core new hub later host.LoopEnd (out.Ended how.0) phase.Hooks shown (is ∙ ap (λ o. after_loop o hub) (ends ∙ how.1)) (made ∙ ap (moved_core core phase.Hooks) at) (ap next_phase here) (λ g. cc)
     (ap (λ p. stage_after (stage_of p) host.LoopEnd) here) (ap (λ p. stage_places (stage_of p)) here)
-    (λ s all firsts r. loop_end-grown s core hub.history all firsts r (needs-alone core.env needs) here how.0
+    (λ s all firsts r. loop_end-grown s core hub.history all firsts (in-phase s core hub.history all firsts phase.Live here r) (needs-alone core.env needs) here how.0
     (ap (λ p. quiet_end core.env.exit_asked (is_some (ticket_in core.env p))) (sym here) ∙ how.1))
 
 pub torn-moves : (core new : Core) (hub later : QuietHub) (t : TearStep) → turn_of core.env ≡ turn.NeedsHub → (core.env.phase ≡ phase.Init → ⊥) → (core.env.phase ≡ phase.Live → ⊥)
@@ -192,12 +205,12 @@ torn-moves core new hub later t needs not_init not_live shown step event moved =
         let is : t ≡ tear.Moved = step ∙ ap (λ p. tear_step p (is_some (next_ticket core.env))) here ∙ ap (λ (o : Option ℕ). tear_step phase.Hooks (is_some o)) none in
         moves core new hub later host.Drain (out.Unsigned 0) phase.Drain shown (event is ∙ ap (λ p. after_step p hub) here) (moved is phase.Drain (ap next_phase here)) (ap next_phase here) (λ g. cc)
         (ap (λ p. stage_after (stage_of p) host.Drain) here) (ap (λ p. stage_places (stage_of p)) here)
-        (λ s all firsts r. drain-grown s core hub.history all firsts r (needs-alone core.env needs) here (ap (ticket_in core.env) (sym here) ∙ none))
+        (λ s all firsts r. drain-grown s core hub.history all firsts (in-phase s core hub.history all firsts phase.Hooks here r) (needs-alone core.env needs) here (ap (ticket_in core.env) (sym here) ∙ none))
     by (inr here) =
         let is : t ≡ tear.Moved = step ∙ ap (λ p. tear_step p (is_some (ticket_in core.env p))) here in
         moves core new hub later host.Finals out.Nothing phase.Finals shown (event is ∙ ap (λ p. after_step p hub) here) (moved is phase.Finals (ap next_phase here)) (ap next_phase here) (λ g. cc)
         (ap (λ p. stage_after (stage_of p) host.Finals) here) (ap (λ p. stage_places (stage_of p)) here)
-        (λ s all firsts r. finals-grown s core hub.history all firsts r (needs-alone core.env needs) here)
+        (λ s all firsts r. finals-grown s core hub.history all firsts (in-phase s core hub.history all firsts phase.Drain here r) (needs-alone core.env needs) here)
 
 -- the run is running after it
 pub moved-running : (core new : Core) (hub later : QuietHub) (begun : Option DueInfo) → IsRunning core hub begun → HubMoves core hub new later → IsRunning new later begun

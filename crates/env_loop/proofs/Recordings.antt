@@ -18,6 +18,7 @@ use Rattle.std.specs.Option.{option_or, option_to_list}
 use Rattle.napi_types.specs.Begins.{told_at, begun_info, begun_along}
 use Rattle.napi_types.specs.Book.{lowest_due}
 use Rattle.napi_types.specs.Hooks.{last_hook}
+use Rattle.napi_types.specs.Hub.{Hub, Before, Going, Looped, Drained, Final, new_hub, quiet_hub}
 use Rattle.napi_types.specs.Loop.{Tickets, EndsLoop}
 use Rattle.napi_types.specs.Machine.{Machine}
 use Rattle.napi_types.specs.Parting.{sides_along}
@@ -31,7 +32,6 @@ use Rattle.napi_types.specs.Weave.{Side, Journal, History, weave, sides, RisesBe
 use Rattle.napi_types.specs.Setting.{Setting, opening_of, RunsBy, final_of, final_registers, planned_asks}
 use Rattle.env_core.specs.Core.{Core, after_change, opened_core}
 use Rattle.env_teardown.specs.Hubs.{quiet_end}
-use Rattle.napi_types.specs.Phases.{stage_of}
 use Rattle.env_loop.specs.Recording.{AddonStates, machine_of, AgreesWhereTold, AgreesWith, HasSeen, IsRecorded, IsEnded}
 use Rattle.napi_types.proofs.Runs.{run-more, final-more, asked-more, registers-more, sides-more, begun-more}
 use Rattle.env_loop.proofs.Seen.{seen-same, seen-more}
@@ -47,7 +47,7 @@ pub record Grown (s : Setting) (asks : List Ask) (xs : List Entry) (after : Mach
 
 pub grow : (s : Setting) (bs : List Ask) (xs : List Entry) (m : Machine) (rss : Registers) (a : Ask) (x : Entry) (st : Step)
     → RunsBy s bs xs → final_of s bs xs ≡ m → final_registers s bs xs ≡ rss
-    → step m a x ≡ st → x ≡ st.entry → IsTrue st.may → a ≡ asked s.plans rss m a x.actor
+    → step m a x ≡ st → x ≡ st.entry → IsTrue st.may → a ≡ asked s.built s.plans rss m a x.actor
     → Grown s (bs ++ a ∷ []) (xs ++ x ∷ []) st.after (registers_after s.plans rss m a x) (sides_along (opening_of s) bs xs ++ st.side ∷ [])
     (begun_along (opening_of s) bs xs ++ option_to_list (begun_info m x))
 grow s bs xs m rss a x st r f g next entry may here =
@@ -60,9 +60,9 @@ grow s bs xs m rss a x st r f g next entry may here =
         asked =
             ap (λ l. l ++ a ∷ []) r.asked
             ∙ ap (λ b. planned_asks s bs xs ++ b ∷ []) here
-            ∙ ap (λ qs. planned_asks s bs xs ++ asked s.plans qs m a x.actor ∷ []) (sym g)
-            ∙ ap (λ n. planned_asks s bs xs ++ asked s.plans (final_registers s bs xs) n a x.actor ∷ []) (sym f)
-            ∙ sym (asked-more s.plans _ (opening_of s) bs xs a x r.steps);
+            ∙ ap (λ qs. planned_asks s bs xs ++ asked s.built s.plans qs m a x.actor ∷ []) (sym g)
+            ∙ ap (λ n. planned_asks s bs xs ++ asked s.built s.plans (final_registers s bs xs) n a x.actor ∷ []) (sym f)
+            ∙ sym (asked-more s.built s.plans _ (opening_of s) bs xs a x r.steps);
       };
       final = final-more (opening_of s) bs xs a x r.steps ∙ ap (λ n. after n a x) f ∙ ap (λ t. t.after) next;
       registers_are =
@@ -79,23 +79,22 @@ grow s bs xs m rss a x st r f g next entry may here =
     }
 
 -- a local event goes into the journal
-pub local-grown : (s : Setting) (core : Core) (history : List Entry) (all : AddonStates) (firsts : List (List DueInfo)) (r : IsRecorded s core history all firsts)
+pub local-grown : (s : Setting) (core : Core) (hub : Hub) (history : List Entry) (all : AddonStates) (firsts : List (List DueInfo)) (r : IsRecorded s core hub history all firsts)
     (a : Ask) (c : Change) (own : Registers) (after_all : AddonStates)
-    → step (machine_of s.limits core history) a c.entry ≡ locally (machine_of s.limits core history) c true
+    → step (machine_of s.limits core hub history) a c.entry ≡ locally (machine_of s.limits core hub history) c true
     → c.entry.actor ≡ actor.Env
-    → a ≡ frames_ask s.plans r.own core.env.frames a
-    → after_event s.plans r.own (machine_of s.limits core history) a c.entry.reply c.entry.what ≡ own
+    → a ≡ frames_ask s.built s.plans r.own core.env.frames a
+    → after_event s.plans r.own (machine_of s.limits core hub history) a c.entry.reply c.entry.what ≡ own
     → length own ≡ length s.plans
     → AgreesWith s.plans after_all.registers own
-    → HasSeen all.seen (option_to_list (begun_info (machine_of s.limits core history) c.entry)) after_all.seen
-    → stage_of c.after.phase ≡ stage_of core.env.phase
-    → IsRecorded s (after_change c core) history after_all firsts
-local-grown s core history all firsts r a c own after_all next who here kept count agrees seen staged =
-    let m : Machine = machine_of s.limits core history in
+    → HasSeen all.seen (option_to_list (begun_info (machine_of s.limits core hub history) c.entry)) after_all.seen
+    → IsRecorded s (after_change c core) hub history after_all firsts
+local-grown s core hub history all firsts r a c own after_all next who here kept count agrees seen =
+    let m : Machine = machine_of s.limits core hub history in
     let xs : List Entry = weave core.journal history in
     let g : Grown s (r.asks ++ a ∷ []) (xs ++ c.entry ∷ []) (locally m c true).after (registers_after s.plans r.own m a c.entry) (sides_along (opening_of s) r.asks xs ++ Journal ∷ [])
     (begun_along (opening_of s) r.asks xs ++ option_to_list (begun_info m c.entry)) =
-    grow s r.asks xs m r.own a c.entry (locally m c true) r.run r.final r.registers next refl refl (here ∙ ap (asked s.plans r.own m a) (sym who)) in
+    grow s r.asks xs m r.own a c.entry (locally m c true) r.run r.final r.registers next refl refl (here ∙ ap (asked s.built s.plans r.own m a) (sym who)) in
     let woven : weave (core.journal ++ record { at = core.position; entry = c.entry } ∷ []) history ≡ xs ++ c.entry ∷ [] =
     ap (λ n. weave (core.journal ++ record { at = n; entry = c.entry } ∷ []) history) r.position ∙ weave-local core.journal history c.entry in
     let longer : length core.journal + 1 ≡ length (core.journal ++ record { at = core.position; entry = c.entry } ∷ []) =
@@ -108,8 +107,7 @@ local-grown s core history all firsts r a c own after_all next who here kept cou
       run = subst R (sym woven) g.run;
       final =
           ap (λ ys. final_of s (r.asks ++ a ∷ []) ys) woven ∙ g.final
-          ∙ ap (λ n. record m { env = c.after; journal_length = n }) longer
-          ∙ ap (λ t. record m { env = c.after; hub = record { stage = t }; journal_length = length (core.journal ++ record { at = core.position; entry = c.entry } ∷ []) }) (sym staged);
+          ∙ ap (λ n. record m { env = c.after; journal_length = n }) longer;
       registers = ap (λ ys. final_registers s (r.asks ++ a ∷ []) ys) woven ∙ g.registers_are ∙ ap (after_entry s.plans r.own m a c.entry) who ∙ kept;
       count = count;
       agrees = agrees;
@@ -124,26 +122,26 @@ local-grown s core history all firsts r a c own after_all next who here kept cou
           ∙ sym (ap (λ n. sides (core.journal ++ record { at = n; entry = c.entry } ∷ []) history) r.position ∙ sides-local core.journal history c.entry);
     }
 
--- what an event of the hub leaves
-abbrev pub hub_left : Machine → Phase → Machine
-hub_left m p = record m { env = in_phase p m.env; hub = record { stage = stage_of p }; history_length = m.history_length + 1 }
+-- what an event of the hub leaves, after which the hub is this one
+abbrev pub hub_left : Machine → Phase → Hub → Machine
+hub_left m p later = record m { env = in_phase p m.env; hub = later; history_length = m.history_length + 1 }
 
 -- an event of the hub goes into the history, and its phase starts; it leaves the registers, and no duty begins
-pub shared-grown : (s : Setting) (core : Core) (history : List Entry) (all : AddonStates) (firsts : List (List DueInfo)) (r : IsRecorded s core history all firsts)
+pub shared-grown : (s : Setting) (core : Core) (hub later : Hub) (history : List Entry) (all : AddonStates) (firsts : List (List DueInfo)) (r : IsRecorded s core hub history all firsts)
     (event : HostStep) (o : Out) (p : Phase)
     → core.env.frames ≡ []
-    → step (machine_of s.limits core history) (ask.Leave None) (host_entry event o)
-    ≡ record { entry = host_entry event o; side = History; after = hub_left (machine_of s.limits core history) p; may = true }
+    → step (machine_of s.limits core hub history) (ask.Leave None) (host_entry event o)
+    ≡ record { entry = host_entry event o; side = History; after = hub_left (machine_of s.limits core hub history) p later; may = true }
     → ((rss : Registers) (m : Machine) (reply : Reply) → after_host_event s.plans rss m (ask.Leave None) reply event ≡ rss)
     → ((m : Machine) → told_at m o ≡ None)
-    → IsRecorded s (record core { env = in_phase p core.env; position = length history + 1 }) (history ++ host_entry event o ∷ []) all firsts
-shared-grown s core history all firsts r event o p alone next leaves none =
-    let m : Machine = machine_of s.limits core history in
+    → IsRecorded s (record core { env = in_phase p core.env; position = length history + 1 }) later (history ++ host_entry event o ∷ []) all firsts
+shared-grown s core hub later history all firsts r event o p alone next leaves none =
+    let m : Machine = machine_of s.limits core hub history in
     let xs : List Entry = weave core.journal history in
     let x : Entry = host_entry event o in
-    let nothing : ask.Leave None ≡ asked s.plans r.own m (ask.Leave None) actor.Env = rw alone refl in
-    let st : Step = record { entry = x; side = History; after = hub_left m p; may = true } in
-    let g : Grown s (r.asks ++ ask.Leave None ∷ []) (xs ++ x ∷ []) (hub_left m p) (registers_after s.plans r.own m (ask.Leave None) x) (sides_along (opening_of s) r.asks xs ++ History ∷ [])
+    let nothing : ask.Leave None ≡ asked s.built s.plans r.own m (ask.Leave None) actor.Env = rw alone refl in
+    let st : Step = record { entry = x; side = History; after = hub_left m p later; may = true } in
+    let g : Grown s (r.asks ++ ask.Leave None ∷ []) (xs ++ x ∷ []) (hub_left m p later) (registers_after s.plans r.own m (ask.Leave None) x) (sides_along (opening_of s) r.asks xs ++ History ∷ [])
     (begun_along (opening_of s) r.asks xs ++ option_to_list (begun_info m x)) =
     grow s r.asks xs m r.own (ask.Leave None) x st r.run r.final r.registers next refl refl nothing in
     let woven : weave core.journal (history ++ x ∷ []) ≡ xs ++ x ∷ [] = weave-shared core.journal history x r.rises in
@@ -157,7 +155,7 @@ shared-grown s core history all firsts r event o p alone next leaves none =
       run = subst R (sym woven) g.run;
       final =
           ap (λ ys. final_of s (r.asks ++ ask.Leave None ∷ []) ys) woven ∙ g.final
-          ∙ ap (λ n. record m { env = in_phase p core.env; hub = record { stage = stage_of p }; history_length = n }) (sym longer);
+          ∙ ap (λ n. record m { env = in_phase p core.env; hub = later; history_length = n }) (sym longer);
       registers = ap (λ ys. final_registers s (r.asks ++ ask.Leave None ∷ []) ys) woven ∙ g.registers_are ∙ leaves r.own m x.reply;
       count = r.count;
       agrees = r.agrees;
@@ -176,10 +174,10 @@ shared-grown s core history all firsts r event o p alone next leaves none =
 
 -- THE EVENTS WITH NO FRAME, one after another
 -- every init frame has begun, so the run goes live
-pub go-grown : (s : Setting) (core : Core) (history : List Entry) (all : AddonStates) (firsts : List (List DueInfo)) → IsRecorded s core history all firsts
+pub go-grown : (s : Setting) (core : Core) (history : List Entry) (all : AddonStates) (firsts : List (List DueInfo)) → IsRecorded s core (quiet_hub Before) history all firsts
     → core.env.frames ≡ [] → core.env.phase ≡ phase.Init → core.env.opened ≡ true → nat_lt core.env.inits core.env.addons ≡ false
-    → IsRecorded s (record core { env = in_phase phase.Live core.env; position = length history + 1 }) (history ++ host_entry host.Go out.Nothing ∷ []) all firsts
-go-grown s core history all firsts r alone here opened every = shared-grown s core history all firsts r host.Go out.Nothing phase.Live alone (rw (alone, here, opened, every) refl) (λ rss m reply. refl) (λ m. refl)
+    → IsRecorded s (record core { env = in_phase phase.Live core.env; position = length history + 1 }) (quiet_hub Going) (history ++ host_entry host.Go out.Nothing ∷ []) all firsts
+go-grown s core history all firsts r alone here opened every = shared-grown s core (quiet_hub Before) (quiet_hub Going) history all firsts r host.Go out.Nothing phase.Live alone (rw (alone, here, opened, every) refl) (λ rss m reply. refl) (λ m. refl)
 
 -- the loop ends so where exit was asked, or where no ticket is due
 ends-chosen : (exit : Bool) (due : Option ℕ) (end : LoopEnd) → quiet_end exit (is_some due) ≡ Some end
@@ -188,30 +186,30 @@ ends-chosen true due end how = cc
 ends-chosen false None end how = cc
 ends-chosen false (Some n) end how = cc
 
-pub loop_end-grown : (s : Setting) (core : Core) (history : List Entry) (all : AddonStates) (firsts : List (List DueInfo)) → IsRecorded s core history all firsts
+pub loop_end-grown : (s : Setting) (core : Core) (history : List Entry) (all : AddonStates) (firsts : List (List DueInfo)) → IsRecorded s core (quiet_hub Going) history all firsts
     → core.env.frames ≡ [] → core.env.phase ≡ phase.Live → (end : LoopEnd) → quiet_end core.env.exit_asked (is_some (lowest_due core.env.book)) ≡ Some end
-    → IsRecorded s (record core { env = in_phase phase.Hooks core.env; position = length history + 1 }) (history ++ host_entry host.LoopEnd (out.Ended end) ∷ []) all firsts
+    → IsRecorded s (record core { env = in_phase phase.Hooks core.env; position = length history + 1 }) (quiet_hub Looped) (history ++ host_entry host.LoopEnd (out.Ended end) ∷ []) all firsts
 loop_end-grown s core history all firsts r alone here end how =
-    shared-grown s core history all firsts r host.LoopEnd (out.Ended end) phase.Hooks alone
+    shared-grown s core (quiet_hub Going) (quiet_hub Looped) history all firsts r host.LoopEnd (out.Ended end) phase.Hooks alone
     (rw (alone, here, ends-chosen core.env.exit_asked (lowest_due core.env.book) end how) refl) (λ rss m reply. refl) (λ m. refl)
 
-pub drain-grown : (s : Setting) (core : Core) (history : List Entry) (all : AddonStates) (firsts : List (List DueInfo)) → IsRecorded s core history all firsts
+pub drain-grown : (s : Setting) (core : Core) (history : List Entry) (all : AddonStates) (firsts : List (List DueInfo)) → IsRecorded s core (quiet_hub Looped) history all firsts
     → core.env.frames ≡ [] → core.env.phase ≡ phase.Hooks → option_map (λ h. h.ticket) (last_hook core.env.hooks) ≡ None
-    → IsRecorded s (record core { env = in_phase phase.Drain core.env; position = length history + 1 }) (history ++ host_entry host.Drain (out.Unsigned 0) ∷ []) all firsts
+    → IsRecorded s (record core { env = in_phase phase.Drain core.env; position = length history + 1 }) (quiet_hub Drained) (history ++ host_entry host.Drain (out.Unsigned 0) ∷ []) all firsts
 drain-grown s core history all firsts r alone here none =
-    shared-grown s core history all firsts r host.Drain (out.Unsigned 0) phase.Drain alone (rw (alone, here, none) refl) (λ rss m reply. refl) (λ m. refl)
+    shared-grown s core (quiet_hub Looped) (quiet_hub Drained) history all firsts r host.Drain (out.Unsigned 0) phase.Drain alone (rw (alone, here, none) refl) (λ rss m reply. refl) (λ m. refl)
 
-pub finals-grown : (s : Setting) (core : Core) (history : List Entry) (all : AddonStates) (firsts : List (List DueInfo)) → IsRecorded s core history all firsts
+pub finals-grown : (s : Setting) (core : Core) (history : List Entry) (all : AddonStates) (firsts : List (List DueInfo)) → IsRecorded s core (quiet_hub Drained) history all firsts
     → core.env.frames ≡ [] → core.env.phase ≡ phase.Drain
-    → IsRecorded s (record core { env = in_phase phase.Finals core.env; position = length history + 1 }) (history ++ host_entry host.Finals out.Nothing ∷ []) all firsts
-finals-grown s core history all firsts r alone here = shared-grown s core history all firsts r host.Finals out.Nothing phase.Finals alone (rw (alone, here) refl) (λ rss m reply. refl) (λ m. refl)
+    → IsRecorded s (record core { env = in_phase phase.Finals core.env; position = length history + 1 }) (quiet_hub Final) (history ++ host_entry host.Finals out.Nothing ∷ []) all firsts
+finals-grown s core history all firsts r alone here = shared-grown s core (quiet_hub Drained) (quiet_hub Final) history all firsts r host.Finals out.Nothing phase.Finals alone (rw (alone, here) refl) (λ rss m reply. refl) (λ m. refl)
 
-pub gone_change-grown : (s : Setting) (core : Core) (history : List Entry) (all : AddonStates) (firsts : List (List DueInfo)) → IsRecorded s core history all firsts
+pub gone_change-grown : (s : Setting) (core : Core) (hub : Hub) (history : List Entry) (all : AddonStates) (firsts : List (List DueInfo)) → IsRecorded s core hub history all firsts
     → core.env.frames ≡ [] → core.env.phase ≡ phase.Finals → lowest_due core.env.book ≡ None
-    → IsRecorded s (after_change (gone_change core.env) core) history all firsts
-gone_change-grown s core history all firsts r alone here none =
-    local-grown s core history all firsts r (ask.Leave None) (gone_change core.env) r.own all (rw (alone, here, none) refl) refl (rw alone refl) refl r.count r.agrees
-    (seen-same all.seen all.seen refl) (rw here refl)
+    → IsRecorded s (after_change (gone_change core.env) core) hub history all firsts
+gone_change-grown s core hub history all firsts r alone here none =
+    local-grown s core hub history all firsts r (ask.Leave None) (gone_change core.env) r.own all (rw (alone, here, none) refl) refl (rw alone refl) refl r.count r.agrees
+    (seen-same all.seen all.seen refl)
 
 -- THE INIT FRAMES
 -- blank registers are those that the run starts from
@@ -219,14 +217,18 @@ agrees-blank : (p : Plan) (mine own : List ℕ) → mine ≡ blank_registers →
 agrees-blank None mine own e f = tt
 agrees-blank (Some p) mine own e f = e ∙ sym f
 
--- a core that opened is a recorded run, where the addons' registers are cleared
-pub opened-recorded : (s : Setting) (all : AddonStates) → ((addon : ℕ) → addon < length s.plans → registers_of all.registers addon ≡ blank_registers)
-    → IsRecorded s (opened_core (length s.plans) s.texts s.limits.journal) [] all all.seen
-opened-recorded s all blank = record {
+-- the machine that has opened, with so many threads and workers
+abbrev opened_with : Setting → ℕ → ℕ → Machine
+opened_with s threads workers = machine_of s.limits (opened_core (length s.plans) s.texts s.limits.journal) (new_hub threads workers) []
+
+-- a core that opened is a recorded run, where there are no threads and no workers and the addons' registers are cleared
+pub opened-recorded : (s : Setting) (all : AddonStates) → s.threads ≡ 0 → s.workers ≡ 0 → ((addon : ℕ) → addon < length s.plans → registers_of all.registers addon ≡ blank_registers)
+    → IsRecorded s (opened_core (length s.plans) s.texts s.limits.journal) (quiet_hub Before) [] all all.seen
+opened-recorded s all threads workers blank = record {
   asks = ask.Leave None ∷ [];
   own = loaded_registers s.plans;
   run = record { steps = ((refl, refl), tt); asked = refl };
-  final = refl;
+  final = ap (λ n. opened_with s n s.workers) threads ∙ ap (λ n. opened_with s 0 n) workers;
   registers = refl;
   count = length-map s.plans (λ (p : Plan). blank_registers);
   agrees = λ addon below. agrees-blank (plan_of s.plans addon) (registers_of all.registers addon) (registers_of (loaded_registers s.plans) addon) (blank addon below)
@@ -239,18 +241,18 @@ opened-recorded s all blank = record {
 }
 
 -- the next addon's init frame begins
-pub init-grown : (s : Setting) (core : Core) (history : List Entry) (all : AddonStates) (firsts : List (List DueInfo)) → IsRecorded s core history all firsts
+pub init-grown : (s : Setting) (core : Core) (hub : Hub) (history : List Entry) (all : AddonStates) (firsts : List (List DueInfo)) → IsRecorded s core hub history all firsts
     → core.env.frames ≡ [] → core.env.phase ≡ phase.Init → core.env.opened ≡ true → nat_lt core.env.inits core.env.addons ≡ true
-    → IsRecorded s (after_change (init_change core.env.inits core.env) core) history all firsts
-init-grown s core history all firsts r alone here opened more =
-    local-grown s core history all firsts r (ask.Leave None) (init_change core.env.inits core.env) r.own all (rw (alone, here, opened, more) refl) refl (rw alone refl) refl r.count r.agrees
-    (seen-same all.seen all.seen refl) refl
+    → IsRecorded s (after_change (init_change core.env.inits core.env) core) hub history all firsts
+init-grown s core hub history all firsts r alone here opened more =
+    local-grown s core hub history all firsts r (ask.Leave None) (init_change core.env.inits core.env) r.own all (rw (alone, here, opened, more) refl) refl (rw alone refl) refl r.count r.agrees
+    (seen-same all.seen all.seen refl)
 
 -- THE END
 -- a recorded run whose environment is gone came to its end
-pub gone_change-ended : (s : Setting) (core : Core) (history : List Entry) (all : AddonStates) (firsts : List (List DueInfo)) → IsRecorded s core history all firsts
+pub gone_change-ended : (s : Setting) (core : Core) (hub : Hub) (history : List Entry) (all : AddonStates) (firsts : List (List DueInfo)) → IsRecorded s core hub history all firsts
     → core.env.phase ≡ phase.Gone → IsEnded s core.journal history all firsts
-gone_change-ended s core history all firsts r here = record {
+gone_change-ended s core hub history all firsts r here = record {
   asks = r.asks;
   ended = record { run = r.run; gone = ap (λ (m : Machine). m.env.phase) r.final ∙ here };
   journal_length = ap (λ (m : Machine). m.journal_length) r.final;

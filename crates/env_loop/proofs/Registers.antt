@@ -10,8 +10,10 @@ use Rattle.napi_types.specs.declared.duties.DueInfo.{DueInfo}
 use Rattle.napi_types.specs.declared.entry.Duty.{Duty}
 use Rattle.napi_types.specs.declared.entry.Entry.{Entry}
 use Rattle.napi_types.specs.declared.entry.Reply.{Reply}
+use Rattle.napi_types.specs.Built.{is_built, built_ask}
 use Rattle.napi_types.specs.Frames.{Frame, duty_of, ask_counted, at_last_ask}
-use Rattle.napi_types.specs.Plan.{Plan, plan_of, frame_ask, frames_ask, addon_after_reply, caller_after_reply, with_addon_gifts, Registers, registers_of}
+use Rattle.napi_types.specs.Hub.{Hub}
+use Rattle.napi_types.specs.Plan.{Plan, plan_of, frame_ask, taken_ask, frames_ask, addon_after_reply, caller_after_reply, with_addon_gifts, Registers, registers_of}
 use Rattle.napi_types.specs.Registers.{plan_ask, registers_after_reply, with_gifts}
 use Rattle.napi_types.specs.Setting.{Setting}
 use Rattle.addon_trait.specs.Addons.{OthersStay}
@@ -19,14 +21,15 @@ use Rattle.env_core.specs.Core.{Core}
 use Rattle.env_loop.specs.Recording.{AddonStates, IsOf, AgreesWhereTold, AgreesWith, IsRecorded}
 use Rattle.env_loop.specs.Turns.{IsTold, OnlyGiven, OnlyInnermostChanges}
 use Rattle.env_loop.proofs.Frames.{InFrame, in-stands, in-there}
+use Rattle.env_loop.proofs.Steps.{taken-twice}
 
 -- WHAT IS ASKED, AND WHAT IS KEPT
--- a frame asks what its plan gives from the run's registers, where its addon answered so from its own
+-- a frame is taken to ask what its plan gives from the run's registers, where its addon answered so from its own
 frame-asked : (p q : Plan) (f : Frame) (mine own : List ℕ) (a : Ask) → q ≡ p → AgreesWhereTold q mine own
-    → IfSome p (λ t. a ≡ plan_ask t mine f.entry f.asks) → a ≡ frame_ask q own f a
-frame-asked None q f mine own a e agrees told = rw e refl
+    → IfSome p (λ t. a ≡ plan_ask t mine f.entry f.asks) → built_ask is_built a ≡ built_ask is_built (frame_ask q own f (built_ask is_built a))
+frame-asked None q f mine own a e agrees told = rw e (sym (taken-twice is_built a))
 frame-asked (Some p) None f mine own a e agrees told = cc
-frame-asked (Some p) (Some q) f mine own a e agrees told = told ∙ cc
+frame-asked (Some p) (Some q) f mine own a e agrees told = ap (built_ask is_built) (told ∙ cc)
 
 agrees-registers_after_reply : (p q : Plan) (f : Frame) (mine own now : List ℕ) (r : Reply) → q ≡ p → AgreesWhereTold q mine own
     → IfSome p (λ t. now ≡ registers_after_reply t mine f.entry f.asks r) → AgreesWhereTold q now (addon_after_reply q own f r)
@@ -157,22 +160,25 @@ given-kept ps all own now i gifts count agrees inside there given =
     }
 
 -- IN A RECORDED RUN
--- what the innermost frame asks is what the run's plans and registers give
-pub asked-in : {ps : List Plan} {core : Core} {all : AddonStates} {f : Frame} {a : Ask} → InFrame ps core.env all.registers f a → (s : Setting) (history : List Entry)
-    (firsts : List (List DueInfo)) → IsOf s ps core
-    → (r : IsRecorded s core history all firsts) → a ≡ frames_ask s.plans r.own core.env.frames a
-asked-in {ps} {core} {all} {f} {a} i s history firsts of r =
+-- what the innermost frame is taken to ask is what the run's plans and registers give
+pub asked-in : {ps : List Plan} {core : Core} {all : AddonStates} {f : Frame} {a : Ask} → InFrame ps core.env all.registers f a → (s : Setting) (hub : Hub)
+    (history : List Entry) (firsts : List (List DueInfo)) → IsOf s ps core
+    → (r : IsRecorded s core hub history all firsts) → built_ask is_built a ≡ frames_ask s.built s.plans r.own core.env.frames (built_ask is_built a)
+asked-in {ps} {core} {all} {f} {a} i s hub history firsts of r =
     let there : f.addon < core.env.addons = in-there i in
     let below : f.addon < length s.plans = omega (arith, of.count, there) in
-    frame-asked (plan_of ps f.addon) (plan_of s.plans f.addon) f (registers_of all.registers f.addon) (registers_of r.own f.addon) a (of.first f.addon below) (r.agrees f.addon below) i.asked
-    ∙ ap (λ b. cond b (frame_ask (plan_of s.plans f.addon) (registers_of r.own f.addon) f a) (ask.Leave None)) (sym i.makes)
-    ∙ ap (λ gs. frames_ask s.plans r.own gs a) (sym (in-stands i))
+    let p : Plan = plan_of s.plans f.addon in
+    let own : List ℕ = registers_of r.own f.addon in
+    let b : Ask = built_ask is_built a in
+    frame-asked (plan_of ps f.addon) p f (registers_of all.registers f.addon) own a (of.first f.addon below) (r.agrees f.addon below) i.asked
+    ∙ ap (λ t. cond t (built_ask is_built (frame_ask p own f b)) (ask.Leave None)) (sym i.makes)
+    ∙ ap (λ built. taken_ask built p own f b) (sym of.built)
+    ∙ ap (λ gs. frames_ask s.built s.plans r.own gs b) (sym (in-stands i))
 
 -- what is told to the innermost of these frames is what the run's registers keep
-pub registers_after_reply-in : (s : Setting) (ps : List Plan) (core : Core) (history : List Entry) (all : AddonStates) (firsts : List (List DueInfo)) (now : Registers)
-    (fs : List Frame) (r : Reply) → IsOf s ps core
-    → (rec : IsRecorded s core history all firsts) → All (λ f. f.addon < core.env.addons) fs → IsTold ps all.registers fs r now
-    → Kept s.plans now (caller_after_reply s.plans rec.own fs r)
-registers_after_reply-in s ps core history all firsts now fs r of rec there told =
+pub registers_after_reply-in : (s : Setting) (ps : List Plan) (core : Core) (hub : Hub) (history : List Entry) (all : AddonStates) (firsts : List (List DueInfo)) (now : Registers)
+    (fs : List Frame) (r : Reply) → IsOf s ps core → (rec : IsRecorded s core hub history all firsts)
+    → All (λ f. f.addon < core.env.addons) fs → IsTold ps all.registers fs r now → Kept s.plans now (caller_after_reply s.plans rec.own fs r)
+registers_after_reply-in s ps core hub history all firsts now fs r of rec there told =
     let below : All (λ f. f.addon < length s.plans) fs = subst (λ (n : ℕ). All (λ f. f.addon < n) fs) (sym of.count) there in
     told-registers_after_reply s.plans ps all.registers rec.own now fs r below of.first rec.count rec.agrees told

@@ -15,7 +15,7 @@ use Rattle.env_loop.specs.Turns.{turns_left}
 of-later : (s : Setting) (ps qs : List Plan) (a b : Core) → b.env.addons ≡ a.env.addons → qs ≡ ps → IsOf s ps a → IsOf s qs b
 of-later s ps qs a b addons same of =
     let Q : List Plan → Type 0 = λ x. IsOf s x b in
-    subst Q (sym same) (record { count = of.count ∙ sym addons; first = of.first })
+    subst Q (sym same) (record { count = of.count ∙ sym addons; first = of.first; threads = of.threads; workers = of.workers; built = of.built })
 
 pub goes-then : (ps qs : List Plan) (a b c : Run) (x y z : AddonStates) → GoesOn ps a x b y → b.core.env.addons ≡ a.core.env.addons → qs ≡ ps → GoesOn qs b y c z → GoesOn ps a x c z
 goes-then ps qs a b c x y z ab addons same bc = λ s firsts of r. bc s firsts (of-later s ps qs a.core b.core addons same of) (ab s firsts of r)
@@ -75,5 +75,5 @@ extends-same old mid new e same = let P : Run → Type 0 = λ r. Extends old r i
 -- a recorded run has it, as every run has
 pub goes-ordered : (plans : List Plan) (old : Run) (all : AddonStates) (new : Run) (now : AddonStates) → GoesOn plans old all new now → EndsInOrder plans old all new
 goes-ordered plans old all new now goes s firsts of recorded =
-    let r : IsRecorded s new.core new.history now firsts = goes s firsts of recorded in
+    let r : IsRecorded s new.core new.hub new.history now firsts = goes s firsts of recorded in
     order-holds s r.asks (weave new.core.journal new.history) r.run.steps

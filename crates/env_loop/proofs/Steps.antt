@@ -22,8 +22,10 @@ use Rattle.napi_types.specs.Changes.{number_of, is_fresh_result, may_ask, may_ca
 use Rattle.napi_types.specs.Ends.{end_out, uncut_call_end, end_change_by, end_change}
 use Rattle.napi_types.specs.Entering.{asked_change}
 use Rattle.napi_types.specs.Environment.{Environment}
-use Rattle.napi_types.specs.Frames.{Frame, caller_of, cause_of}
+use Rattle.napi_types.specs.Frames.{Frame, caller_of, cause_of, duty_of, is_hub_duty}
+use Rattle.napi_types.specs.Guards.{is_shared}
 use Rattle.napi_types.specs.Heap.{Heap, handle_value}
+use Rattle.napi_types.specs.Hub.{Hub}
 use Rattle.napi_types.specs.Machine.{Machine}
 use Rattle.napi_types.specs.HookCalls.{unhooked, unhooking}
 use Rattle.napi_types.specs.Hooks.{hook_ticket}
@@ -32,7 +34,7 @@ use Rattle.napi_types.specs.InstanceData.{instance_ticket, with_instance}
 use Rattle.napi_types.specs.Registering.{finalizer_if, ticket_if, registering_if, registered_only, withdrawing}
 use Rattle.napi_types.specs.Replies.{Answer, accepts}
 use Rattle.napi_types.specs.Room.{journal_room, room_of, is_full}
-use Rattle.napi_types.specs.Step.{Step, step, step_of, locally, env_step, frame_step, cut_of, may_cut}
+use Rattle.napi_types.specs.Step.{Step, step, step_of, locally, env_step, frame_step, call_step_on, end_step_on, cut_of, may_cut}
 use Rattle.napi_types.specs.Setting.{Setting}
 use Rattle.napi_types.proofs.Rooms.{built-room}
 use Rattle.env_core.specs.Core.{Core, room_in}
@@ -142,54 +144,60 @@ two_may a b p q = rw (p, q) refl
 pub both_may : (a b c : Bool) → a ≡ true → b ≡ true → c ≡ false → (a && b && not c) ≡ true
 both_may a b c p q r = rw (p, q, r) refl
 
--- a call that a frame is taken to make is built, and is the one that it asks
-pub built_ask-built : (a : Ask) (c : Call) → ask.Do c ≡ built_ask a → is_built c ≡ true
-built_ask-built (ask.Leave v) c h = cc
-built_ask-built (ask.Do d) c h = by (is_built d) refl h
+-- a call that an addon is taken to ask is built
+pub taken-built : (a : Ask) (c : Call) → ask.Do c ≡ built_ask is_built a → is_built c ≡ true
+taken-built (ask.Leave v) c h = cc
+taken-built (ask.Do d) c h = by (is_built d) refl h
   where
     by : (b : Bool) → is_built d ≡ b → ask.Do c ≡ cond b (ask.Do d) (ask.Leave None) → is_built c ≡ true
     by true built same = let e : c ≡ d = cc in ap is_built e ∙ built
     by false built same = cc
 
-pub built_ask-asked : (a : Ask) (c : Call) → ask.Do c ≡ built_ask a → a ≡ ask.Do c
-built_ask-asked (ask.Leave v) c h = cc
-built_ask-asked (ask.Do d) c h = by (is_built d) h
+-- what is taken so is taken as it is
+pub taken-twice : (built : Call → Bool) (a : Ask) → built_ask built (built_ask built a) ≡ built_ask built a
+taken-twice built (ask.Leave v) = refl
+taken-twice built (ask.Do c) = by (built c) refl
   where
-    by : (b : Bool) → ask.Do c ≡ cond b (ask.Do d) (ask.Leave None) → ask.Do d ≡ ask.Do c
-    by true same = sym same
-    by false same = cc
+    by : (b : Bool) → built c ≡ b → built_ask built (cond b (ask.Do c) (ask.Leave None)) ≡ cond b (ask.Do c) (ask.Leave None)
+    by true is = ap (λ b. cond b (ask.Do c) (ask.Leave None)) is
+    by false is = refl
 
-pub call-next : (m : Machine) (a : Ask) (c : Call) (o : Out) (n : ℕ) (f : Frame) (fs : List Frame) → m.env.frames ≡ f ∷ fs → ask.Do c ≡ built_ask a
+pub call-next : (m : Machine) (a : Ask) (c : Call) (o : Out) (n : ℕ) (f : Frame) (fs : List Frame) → m.env.frames ≡ f ∷ fs → ask.Do c ≡ a → is_shared c ≡ false
     → cut_of o ≡ None → number_of o ≡ n
     → may_call m.env ≡ true → is_fresh_result m.env o ≡ true → is_full (room_of m c) c ≡ false
     → env_step m a o m.env.frames ≡ locally m (asked_change m.env c n) true
-call-next m a c o n f fs stands made uncut number may fresh fits =
+call-next m a c o n f fs stands made local uncut number may fresh fits =
     ap (env_step m a o) stands
     ∙ ap (λ b. frame_step m b o (cut_of o)) (sym made)
     ∙ ap (frame_step m (ask.Do c) o) uncut
+    ∙ ap (λ b. call_step_on b m c o) local
     ∙ ap (λ k. locally m (asked_change m.env c k) (may_call m.env && is_fresh_result m.env o && not (is_full (room_of m c) c))) number
     ∙ ap (locally m (asked_change m.env c n)) (both_may (may_call m.env) (is_fresh_result m.env o) (is_full (room_of m c) c) may fresh fits)
 
-pub leave-next : (m : Machine) (a : Ask) (v : Option HandleId) (o : Out) (f : Frame) (fs : List Frame) → m.env.frames ≡ f ∷ fs → ask.Leave v ≡ built_ask a
-    → cut_of o ≡ None → may_ask m.env ≡ true
+pub leave-next : (m : Machine) (a : Ask) (v : Option HandleId) (o : Out) (f : Frame) (fs : List Frame) → m.env.frames ≡ f ∷ fs → is_hub_duty (duty_of m.env.frames) ≡ false
+    → ask.Leave v ≡ a → cut_of o ≡ None → may_ask m.env ≡ true
     → env_step m a o m.env.frames ≡ locally m (end_change v None m.env) true
-leave-next m a v o f fs stands left uncut may =
+leave-next m a v o f fs stands local left uncut may =
     ap (env_step m a o) stands
     ∙ ap (λ b. frame_step m b o (cut_of o)) (sym left)
     ∙ ap (frame_step m (ask.Leave v) o) uncut
+    ∙ ap (λ b. end_step_on b m (end_change v None m.env) (may_ask m.env)) local
     ∙ ap (locally m (end_change v None m.env)) may
 
-pub cut-next : (m : Machine) (a : Ask) (w : Why) (o : Out) (f : Frame) (fs : List Frame) → m.env.frames ≡ f ∷ fs → cut_of o ≡ Some w
-    → may_cut m (built_ask a) w ≡ true
+pub cut-next : (m : Machine) (a : Ask) (w : Why) (o : Out) (f : Frame) (fs : List Frame) → m.env.frames ≡ f ∷ fs → is_hub_duty (duty_of m.env.frames) ≡ false
+    → cut_of o ≡ Some w → may_cut m a w ≡ true
     → env_step m a o m.env.frames ≡ locally m (end_change None (Some w) m.env) true
-cut-next m a w o f fs stands told may =
-    ap (env_step m a o) stands ∙ ap (frame_step m (built_ask a) o) told ∙ ap (locally m (end_change None (Some w) m.env)) may
+cut-next m a w o f fs stands local told may =
+    ap (env_step m a o) stands
+    ∙ ap (frame_step m a o) told
+    ∙ ap (λ b. end_step_on b m (end_change None (Some w) m.env) (may_cut m a w)) local
+    ∙ ap (locally m (end_change None (Some w) m.env)) may
 
 -- an entry of the environment is read as one
 pub by-env : (m : Machine) (a : Ask) (x : Entry) (st : Step) → x.actor ≡ actor.Env → env_step m a x.reply.out m.env.frames ≡ st → step m a x ≡ st
 by-env m a x st who next = ap (step_of m a x) who ∙ next
 
 -- the room that a core has is the machine's, for a call that is built
-pub same-room : (s : Setting) (core : Core) (history : List Entry) (c : Call) → is_built c ≡ true → core.limit ≡ s.limits.journal
-    → room_in core ≡ room_of (machine_of s.limits core history) c
-same-room s core history c built e = ap (λ n. journal_room core.env (length core.journal) n) e ∙ sym (built-room (machine_of s.limits core history) c built)
+pub same-room : (s : Setting) (core : Core) (hub : Hub) (history : List Entry) (c : Call) → is_built c ≡ true → core.limit ≡ s.limits.journal
+    → room_in core ≡ room_of (machine_of s.limits core hub history) c
+same-room s core hub history c built e = ap (λ n. journal_room core.env (length core.journal) n) e ∙ sym (built-room (machine_of s.limits core hub history) c built)

@@ -15,6 +15,7 @@ use Rattle.napi_types.specs.Environment.{Environment}
 use Rattle.napi_types.specs.Frames.{Frame, frame_of_duty}
 use Rattle.napi_types.specs.Hooked.{IsHooked, is_late}
 use Rattle.napi_types.specs.Hooks.{Hook, last_hook}
+use Rattle.napi_types.specs.Hub.{Hub}
 use Rattle.napi_types.specs.Loop.{Tickets, EndsLoop, IsGone, ticket_in, next_ticket}
 use Rattle.napi_types.specs.Machine.{Machine}
 use Rattle.napi_types.specs.Owners.{IsOwned}
@@ -101,18 +102,18 @@ ticket-next m n r hooked alone unasked is there =
     ap (env_step m (ask.Leave None) (ticket_change n r m.env).entry.reply.out) alone ∙ ap (chosen m) (ticket-chosen m n unasked is) ∙ ap (ticket_step m n) there
     ∙ ap (locally m (ticket_change n r m.env)) (ticket-ready m.env n r hooked is there)
 
-pub ticket-grown : (s : Setting) (core : Core) (history : List Entry) (all : AddonStates) (firsts : List (List DueInfo)) (rec : IsRecorded s core history all firsts)
+pub ticket-grown : (s : Setting) (core : Core) (hub : Hub) (history : List Entry) (all : AddonStates) (firsts : List (List DueInfo)) (rec : IsRecorded s core hub history all firsts)
     (now : AddonStates) (n : ℕ) (r : Registration)
     → IsHooked core.env → core.env.frames ≡ [] → (core.env.phase ≡ phase.Live → core.env.exit_asked ≡ false) → next_ticket core.env ≡ Some n → registration_at core.env.book n ≡ Some r
     → Kept s.plans now.registers (with_addon_gifts rec.own r.addon (due_info n r).gifts) → HasSeen all.seen (due_info n r ∷ []) now.seen
-    → IsRecorded s (after_change (ticket_change n r core.env) core) history now firsts
-ticket-grown s core history all firsts rec now n r hooked alone unasked is there kept seen =
-    let m : Machine = machine_of s.limits core history in
+    → IsRecorded s (after_change (ticket_change n r core.env) core) hub history now firsts
+ticket-grown s core hub history all firsts rec now n r hooked alone unasked is there kept seen =
+    let m : Machine = machine_of s.limits core hub history in
     let told : duty_info m (Some (due_info n r).duty) ≡ Some (due_info n r) = ap (option_map (due_info n)) there in
     let P : Option DueInfo → Type 0 = λ d. HasSeen all.seen (option_to_list d) now.seen in
-    local-grown s core history all firsts rec (ask.Leave None) (ticket_change n r core.env) (with_addon_gifts rec.own r.addon (due_info n r).gifts) now
+    local-grown s core hub history all firsts rec (ask.Leave None) (ticket_change n r core.env) (with_addon_gifts rec.own r.addon (due_info n r).gifts) now
     (ticket-next m n r hooked alone unasked is there) refl (rw alone refl) (ap (with_begun_gifts rec.own core.env.heap (ask.Leave None)) told)
-    kept.count kept.agrees (subst P (sym told) seen) refl
+    kept.count kept.agrees (subst P (sym told) seen)
 
 -- A TURN
 pub ticket-turn : (ps : List Plan) (all now : AddonStates) (core new : Core) (due info : DueInfo) → IsSoundEnvironment core.env → core.env.frames ≡ []
@@ -147,9 +148,9 @@ ticket-turn ps all now core new due info sound alone unasked begins enough as_ma
     after_change-turn ps core new all now (ticket_change n r core.env) begins.after (given-others core.env.addons all.registers now.registers r.addon d.gifts there given_it)
     (begun-touched core.env.frames core.env.frames (frame_of_duty d) d.duty all.registers now.registers alone refl (others-given all.registers now.registers r.addon d.gifts inside given_it))
     (subst P (sym next) saw) left refl refl
-    (λ s history firsts of rec.
+    (λ s hub history firsts of rec.
     let below : r.addon < length s.plans = omega (arith, of.count, there) in
-    ticket-grown s core history all firsts rec now n r sound.hooked alone unasked begins.next begins.registered
+    ticket-grown s core hub history all firsts rec now n r sound.hooked alone unasked begins.next begins.registered
     (given-kept s.plans all.registers rec.own now.registers r.addon d.gifts rec.count rec.agrees below inside given_it) saw)
   where
     not-gone : (p : Phase) → p ≡ phase.Gone → ticket_in core.env p ≡ Some begins.ticket → ⊥

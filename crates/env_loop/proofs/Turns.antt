@@ -79,7 +79,7 @@ init-turn ps all core new i sound alone here next made =
     } in
     after_change-turn ps core new all all (init_change i core.env) made refl (none-touched core.env.frames (init_change i core.env).after.frames all.registers alone refl)
     (seen-stays core.env all all (begins-ticket core.env None alone (λ live. let z : phase.Init ≡ phase.Live = sym here ∙ live in cc) (ap (ticket_in core.env) here)) refl) begun refl refl
-    (subst R (sym more.1) (λ s history firsts of r. init-grown s core history all firsts r alone here sound.opened more.0))
+    (subst R (sym more.1) (λ s hub history firsts of r. init-grown s core hub history all firsts r alone here sound.opened more.0))
 
 -- the environment is gone
 gone_from : (ps : List Plan) (all : AddonStates) (core new : Core) → IsSoundEnvironment core.env → core.env.frames ≡ [] → core.env.phase ≡ phase.Finals → next_ticket core.env ≡ None
@@ -97,7 +97,7 @@ gone_from ps all core new sound alone here none made =
     after_change-turn ps core new all all (gone_change core.env) made refl
     (none-touched core.env.frames core.env.frames all.registers alone (ap duty_of alone))
     (seen-stays core.env all all (begins-ticket core.env None alone (λ live. let z : phase.Finals ≡ phase.Live = sym here ∙ live in cc) none) refl) left refl (ap stage_of (sym here))
-    (λ s history firsts of r. gone_change-grown s core history all firsts r alone here (ap (ticket_in core.env) (sym here) ∙ none))
+    (λ s hub history firsts of r. gone_change-grown s core hub history all firsts r alone here (ap (ticket_in core.env) (sym here) ∙ none))
 
 -- nothing changed before
 pub gone_change-turn : (ps : List Plan) (all now : AddonStates) (core mid new : Core) → IsSoundEnvironment core.env → core.env.frames ≡ [] → core.env.phase ≡ phase.Finals

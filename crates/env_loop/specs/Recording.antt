@@ -10,10 +10,9 @@ use Rattle.napi_types.specs.declared.entry.Why.TheVariants as why
 use Rattle.napi_types.specs.declared.status.Status.{Status}
 use Rattle.napi_types.specs.declared.status.Status.TheVariants as status
 use Rattle.napi_types.specs.Begins.{begun_along, of_addon}
-use Rattle.napi_types.specs.Environment.{Environment}
+use Rattle.napi_types.specs.Built.{is_built}
 use Rattle.napi_types.specs.Hub.{Hub}
 use Rattle.napi_types.specs.Parting.{IsParted}
-use Rattle.napi_types.specs.Phases.{stage_of}
 use Rattle.napi_types.specs.Machine.{Machine}
 use Rattle.napi_types.specs.Plan.{Plan, plan_of, Registers, registers_of}
 use Rattle.napi_types.specs.Weave.{weave, RisesBetween}
@@ -26,15 +25,11 @@ pub record AddonStates : Type 0 where
   pub registers : Registers
   pub seen : List (List DueInfo)
 
--- the hub of a run without other actors: its events so far are told by the phase
-abbrev pub hub_of : Environment → Hub
-hub_of e = record { stage = stage_of e.phase }
-
--- the machine that a core and a history are
-abbrev pub machine_of : Limits → Core → List Entry → Machine
-machine_of limits core history = record {
+-- the machine that a core, a hub and a history are
+abbrev pub machine_of : Limits → Core → Hub → List Entry → Machine
+machine_of limits core hub history = record {
   env = core.env;
-  hub = hub_of core.env;
+  hub = hub;
   journal_length = length core.journal;
   history_length = length history;
   limits = limits;
@@ -55,11 +50,11 @@ HasSeen firsts begun seen = (addon : ℕ) → seen_of seen addon ≡ seen_of fir
 
 -- the weave of the journal and the history is a run of the script, it came to this machine, the registers of its addons are the run's, and each addon has
 -- seen, after what it saw first, what began in the run. `all` is what is seen of every addon that was handed in, and the script's addons are the first ones
-pub record IsRecorded (s : Setting) (core : Core) (history : List Entry) (all : AddonStates) (firsts : List (List DueInfo)) : Type 0 where
+pub record IsRecorded (s : Setting) (core : Core) (hub : Hub) (history : List Entry) (all : AddonStates) (firsts : List (List DueInfo)) : Type 0 where
   pub asks : List Ask
   pub own : Registers
   pub run : RunsBy s asks (weave core.journal history)
-  pub final : final_of s asks (weave core.journal history) ≡ machine_of s.limits core history
+  pub final : final_of s asks (weave core.journal history) ≡ machine_of s.limits core hub history
   pub registers : final_registers s asks (weave core.journal history) ≡ own
   pub count : length own ≡ length s.plans
   pub agrees : AgreesWith s.plans all.registers own
@@ -86,12 +81,18 @@ abbrev pub why_stopped : Status → Why
 why_stopped status.TraceFull = why.Full
 why_stopped _ = why.Memory
 
--- the script's addons are the first of those that tell these plans, as many as the core has
+-- the script's addons are the first of those that tell these plans, as many as the core has; it has no threads and no workers, and its calls are those that are
+-- built
 pub record IsOf (s : Setting) (plans : List Plan) (core : Core) : Type 0 where
   pub count : length s.plans ≡ core.env.addons
   pub first : (addon : ℕ) → addon < length s.plans → plan_of s.plans addon ≡ plan_of plans addon
+  pub threads : s.threads ≡ 0
+  pub workers : s.workers ≡ 0
+  pub built : s.built ≡ is_built
 
--- whatever script of these addons it is a run of, and whatever they saw first, the recorded run goes on from one core and these addons to another
+-- whatever script of these addons it is a run of, however far its hub is, and whatever they saw first, the recorded run goes on from one core and these addons to
+-- another
 abbrev pub Continues : List Plan → Core → AddonStates → Core → AddonStates → Type 0
 Continues plans old all new now =
-    (s : Setting) (history : List Entry) (firsts : List (List DueInfo)) → IsOf s plans old → IsRecorded s old history all firsts → IsRecorded s new history now firsts
+    (s : Setting) (hub : Hub) (history : List Entry) (firsts : List (List DueInfo)) → IsOf s plans old → IsRecorded s old hub history all firsts
+    → IsRecorded s new hub history now firsts

@@ -12,6 +12,7 @@ use Rattle.napi_types.specs.Duties.{duties_of, AreNested}
 use Rattle.napi_types.specs.Environment.{Environment}
 use Rattle.napi_types.specs.Frames.{Frame}
 use Rattle.napi_types.specs.Hooked.{IsHooked}
+use Rattle.napi_types.specs.Hub.{Hub, Before, quiet_hub}
 use Rattle.napi_types.specs.Order.{HooksFall, FinalsRise}
 use Rattle.napi_types.specs.Owners.{IsOwned}
 use Rattle.napi_types.specs.Phases.{stage_of}
@@ -23,15 +24,16 @@ use Rattle.env_core.specs.Core.{Core, opened_core}
 use Rattle.env_teardown.specs.Hubs.{QuietHub}
 use Rattle.env_loop.specs.Recording.{AddonStates, IsOf, IsRecorded}
 
--- the environment with its journal, the history, and what the duty told whose frame stands, where one does
+-- the environment with its journal, the hub with its history, and what the duty told whose frame stands, where one does
 pub record Run : Type 0 where
   pub core : Core
+  pub hub : Hub
   pub history : List Entry
   pub begun : Option DueInfo
 
 -- a run of which no turn was made: the environment has opened
 abbrev pub opened_run : Core → Run
-opened_run core = record { core = core; history = []; begun = None }
+opened_run core = record { core = core; hub = quiet_hub Before; history = []; begun = None }
 
 -- a core as it opens
 abbrev pub IsOpened : Core → Type 0
@@ -74,7 +76,8 @@ pub record Extends (old new : Run) : Type 0 where
 -- whatever script of these addons it is a run of, and whatever they saw first, the recorded run goes on from one run and these addons to another
 abbrev pub GoesOn : List Plan → Run → AddonStates → Run → AddonStates → Type 0
 GoesOn plans old all new now =
-    (s : Setting) (firsts : List (List DueInfo)) → IsOf s plans old.core → IsRecorded s old.core old.history all firsts → IsRecorded s new.core new.history now firsts
+    (s : Setting) (firsts : List (List DueInfo)) → IsOf s plans old.core → IsRecorded s old.core old.hub old.history all firsts
+    → IsRecorded s new.core new.hub new.history now firsts
 
 -- in a run, hooks began in the reverse of the order in which they were added, and what began after `finals` in the order of registration
 abbrev pub BeganInOrder : Run → Type 0
@@ -83,7 +86,7 @@ BeganInOrder run = HooksFall (weave run.core.journal run.history) × FinalsRise 
 -- where one run is recorded as a run of a script of these addons, tickets began in order in the other, to which it went on
 abbrev pub EndsInOrder : List Plan → Run → AddonStates → Run → Type 0
 EndsInOrder plans old all new =
-    (s : Setting) (firsts : List (List DueInfo)) → IsOf s plans old.core → IsRecorded s old.core old.history all firsts → BeganInOrder new
+    (s : Setting) (firsts : List (List DueInfo)) → IsOf s plans old.core → IsRecorded s old.core old.hub old.history all firsts → BeganInOrder new
 
 -- the hub made its next event, which is one entry more in the history; the journal, the limit, the frames, the addons and what is seen of them are as before
 pub record MovesOn (old new : Run) : Type 0 where

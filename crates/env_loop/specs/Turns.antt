@@ -5,6 +5,7 @@ use Rattle.napi_types.specs.declared.call.Ask.{Ask}
 use Rattle.napi_types.specs.declared.duties.DueInfo.{DueInfo}
 use Rattle.napi_types.specs.declared.entry.Duty.{Duty}
 use Rattle.napi_types.specs.declared.entry.Reply.{Reply}
+use Rattle.napi_types.specs.Hub.{quiet_hub}
 use Rattle.napi_types.specs.Begins.{duty_info}
 use Rattle.napi_types.specs.Book.{ticket_duty}
 use Rattle.napi_types.specs.Choice.{local_choice, choice}
@@ -22,7 +23,7 @@ use Rattle.addon_trait.specs.Addons.{OthersStay}
 use Rattle.env_core.specs.Core.{Core}
 use Rattle.env_loop.specs.declared.turn.LocalTurn.{LocalTurn}
 use Rattle.env_loop.specs.declared.turn.LocalTurn.TheVariants as turn
-use Rattle.env_loop.specs.Recording.{AddonStates, HasSeen, hub_of, Continues}
+use Rattle.env_loop.specs.Recording.{AddonStates, HasSeen, Continues}
 use Rattle.env_loop.specs.Runs.{Run, IsSoundEnvironment, OneMore}
 
 -- a turn makes an entry where a frame stands, and else where the entry of the next event stands in the journal; where it stands in the history, the hub has to
@@ -37,9 +38,9 @@ turn_at [] None = turn.Gone
 abbrev pub side_of : Machine → Option Event → Option Side
 side_of m event = option_map (λ v. (event_step m v).side) event
 
--- the machine of an environment and its hub; what it counts decides no event
+-- the machine of an environment and of a hub of which nothing was asked, at the stage that the phase shows; what it counts decides no event
 abbrev pub uncounted : Environment → Machine
-uncounted e = record { env = e; hub = hub_of e; journal_length = 0; history_length = 0; limits = record { journal = 0; history = 0 } }
+uncounted e = record { env = e; hub = quiet_hub (stage_of e.phase); journal_length = 0; history_length = 0; limits = record { journal = 0; history = 0 } }
 
 -- the turn of an environment
 abbrev pub turn_of : Environment → LocalTurn

@@ -28,11 +28,12 @@ pub struct EnvRun {
 }
 
 impl Model for EnvRun {
+    ghost use Rattle.napi_types.specs.Hub.{quiet_hub};
     ghost use Rattle.env_loop.specs.Runs.{Run, IsRunning};
 
     ghost Value = { Run };
 
-    ghost view = { λ run. record { core = run.core; history = run.hub.history; begun = run.begun } };
+    ghost view = { λ run. record { core = run.core; hub = quiet_hub run.hub.stage; history = run.hub.history; begun = run.begun } };
 
     ghost invariant = { λ run. IsRunning run.core run.hub run.begun };
 }
@@ -73,10 +74,11 @@ impl EnvRun {
         ensures turn { result ≡ turn_of self.old.core.env }
         ensures gone { (result ≡ LocalTurn.Gone) ↔ (self.old.core.env.phase ≡ Phase.Gone) }
 
-        // A turn that was made left exactly one entry in the journal, which had room for it, and none in the history.
+        // A turn that was made left exactly one entry in the journal, which had room for it, and none in the history. The hub stays.
         ensures made { result ≡ LocalTurn.Made → OneMore self.old.core.journal self.new.core.journal }
         ensures room { result ≡ LocalTurn.Made → length self.old.core.journal < self.old.core.limit }
         ensures history { self.new.history ≡ self.old.history }
+        ensures hub { self.new.hub ≡ self.old.hub }
 
         // Another turn changed nothing.
         ensures stays { result ≢ LocalTurn.Made → self.new ≡ self.old }

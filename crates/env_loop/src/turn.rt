@@ -1,12 +1,12 @@
 //! One turn of the environment: an ask of the innermost frame, or the next event where no frame stands.
 ghost use Rattle.std.specs.Prelude.{◌≡◌, ◌≢◌, ◌<◌, ◌≤◌, [], length, map, Some, None, true, false, is_some};
-ghost use Rattle.napi_types.specs.Built.{built_ask};
+ghost use Rattle.napi_types.specs.Built.{is_built, built_ask};
 ghost use Rattle.napi_types.specs.Lists.{head, tail};
 ghost use Rattle.env_core.specs.Standing.{machine_frame};
 ghost use Rattle.env_loop.specs.Recording.{AddonStates, why_stopped};
 ghost use Rattle.env_loop.specs.Runs.{IsSoundEnvironment, Holds};
 ghost use Rattle.napi_types.specs.Ends.{end_change};
-ghost use Rattle.napi_types.specs.Frames.{at_last_ask, asks_made, duty_of, most_asks};
+ghost use Rattle.napi_types.specs.Frames.{at_last_ask, asks_made, duty_of, is_hub_duty, most_asks};
 ghost use Rattle.napi_types.specs.Loop.{next_ticket};
 ghost use Rattle.env_core.specs.Core.{after_change};
 ghost use Rattle.env_loop.specs.Turns.{turn_of, IsTold, IsTurn};
@@ -42,7 +42,7 @@ fn why(status: Status) -> Why
 
 /// What a frame is taken to ask: a call that is not built is never made, and the addon that asks it is taken to leave.
 fn taken(ask: Ask) -> Ask
-    ensures { result ≡ built_ask ask }
+    ensures { result ≡ built_ask is_built ask }
 {
     match ask {
         Ask::Do(call) if !call.is_built() => Ask::Leave(None),
@@ -57,6 +57,7 @@ fn end_duty(core: &mut EnvCore, begun: &mut Option<Begun>, cut: Option<Why>)
     requires duty { duty_of core.old.env.frames ≢ None }
     requires asks { cut ≡ Some Why.Asks → asks_made core.old.env.frames ≡ most_asks }
     ensures ended { core.new ≡ after_change (end_change None cut core.old.env) core.old }
+    ensures local { is_hub_duty (duty_of core.old.env.frames) ≡ false }
     ensures spent { begun.new ≡ None }
 {
     let Some(standing) = begun.take() else {
@@ -66,7 +67,7 @@ fn end_duty(core: &mut EnvCore, begun: &mut Option<Begun>, cut: Option<Why>)
 }
 
 /// Ends the innermost frame, which this duty began, if one did; the duty ends with it, and nobody is told a reply. Where a call began the
-/// frame, the addon of its caller is told the reply. No addon has seen anything more.
+/// frame, the addon of its caller is told the reply. No addon has seen anything more. The duty is never one of the hub.
 fn end_frame(
     core: &mut EnvCore,
     begun: &mut Option<Begun>,
@@ -85,6 +86,7 @@ fn end_frame(
     ensures plans { map (λ b. plan b) addons.new.items ≡ map (λ b. plan b) addons.old.items }
     ensures seen { map (λ b. seen b) addons.new.items ≡ map (λ b. seen b) addons.old.items }
     ensures ended { core.new ≡ after_change (end_change value cut core.old.env) core.old }
+    ensures local { is_hub_duty (duty_of core.old.env.frames) ≡ false }
     ensures held { Holds core.new.env.frames begun.new }
     ensures told { let before = map (λ b. regs b) addons.old.items in
         let after = map (λ b. regs b) addons.new.items in

@@ -1,49 +1,46 @@
--- Which ticket begins next, and where one may begin.
-use Rattle.std.proofs.Common.{◌≡◌, ◌<◌, ◌≤◌, ◌∙◌, ℕ, zero, suc, ◌+◌, nat_lt, Bool, true, false, cond, not, List, [], ◌∷◌, length, IsTrue, refl, ap, sym, subst, Option, Some, None, option_map, inl, inr, ◌⊎◌, arith}
+-- Which ticket begins next, and where a duty may begin.
+use Rattle.std.proofs.Common.{◌≡◌, ◌<◌, ◌≤◌, ◌∙◌, ℕ, zero, suc, ◌+◌, Bool, true, false, cond, not, List, [], ◌∷◌, length, IsTrue, refl, ap, sym, subst, Option, Some, None, inl, inr, ◌⊎◌, arith}
 use Rattle.std.specs.List.{find, range_with_len}
 use Rattle.std.specs.Option.{option_or}
 use Rattle.std.proofs.lemmas.Bool.{cases_lt, cases_eq, not-true}
-use Rattle.napi_types.specs.declared.call.Ask.{Ask}
-use Rattle.napi_types.specs.declared.call.Ask.TheVariants as ask
 use Rattle.napi_types.specs.declared.call.Args.{Args}
 use Rattle.napi_types.specs.declared.call.Call.{Call}
 use Rattle.napi_types.specs.declared.call.Call.TheVariants as call
 use Rattle.napi_types.specs.declared.entry.Duty.{Duty}
 use Rattle.napi_types.specs.declared.entry.Entry.{Entry}
-use Rattle.napi_types.specs.declared.entry.HostStep.{HostStep}
 use Rattle.napi_types.specs.declared.entry.HostStep.TheVariants as host
 use Rattle.napi_types.specs.declared.entry.LoopEnd.TheVariants as loop_end
-use Rattle.napi_types.specs.declared.entry.Out.{Out}
-use Rattle.napi_types.specs.declared.entry.Out.TheVariants as out
 use Rattle.napi_types.specs.declared.entry.Phase.{Phase}
 use Rattle.napi_types.specs.declared.entry.Phase.TheVariants as phase
+use Rattle.napi_types.specs.declared.entry.What.{What}
 use Rattle.napi_types.specs.declared.entry.What.TheVariants as what
-use Rattle.napi_types.specs.declared.entry.Why.{Why}
 use Rattle.napi_types.specs.declared.ids.HandleId.{HandleId}
 use Rattle.napi_types.specs.declared.status.Status.{Status}
 use Rattle.napi_types.specs.Book.{Registration, is_due, is_at, registration_at, lowest_due, ticket_duty}
-use Rattle.napi_types.specs.Built.{built_ask}
 use Rattle.napi_types.specs.Changes.{number_of}
-use Rattle.napi_types.specs.Choice.{local_choice_in, hub_choice_at}
+use Rattle.napi_types.specs.Choice.{local_choice, local_choice_in, hub_choice}
 use Rattle.napi_types.specs.Counts.{told_duty}
-use Rattle.napi_types.specs.Ends.{end_change}
 use Rattle.napi_types.specs.Entering.{function_change, asked_change}
 use Rattle.napi_types.specs.Environment.{Environment}
-use Rattle.napi_types.specs.Frames.{Frame}
+use Rattle.napi_types.specs.Frames.{is_hub_duty}
 use Rattle.napi_types.specs.Hooks.{Hook, last_hook}
-use Rattle.napi_types.specs.Hub.{Hub, Stage, Before, Going, Looped, Drained, Final, hub_next}
+use Rattle.napi_types.specs.Hub.{Stage, Going, Drained}
+use Rattle.napi_types.specs.HubMoves.{HubMove, Delivers, Closes, Finishes, hub_move}
+use Rattle.napi_types.specs.HubSteps.{begin_step, delivery_entry}
 use Rattle.napi_types.specs.Lists.{up_to}
-use Rattle.napi_types.specs.Loop.{Event, Opens, Inits, Tickets, EndsLoop, IsGone}
+use Rattle.napi_types.specs.Loop.{Event, Tickets, Moves, Goes, EndsLoop, Drains, FinalsCome}
 use Rattle.napi_types.specs.Machine.{Machine}
+use Rattle.napi_types.specs.Order.{is_begin}
 use Rattle.napi_types.specs.Refusals.{refusal}
-use Rattle.napi_types.specs.Run.{IsNext}
-use Rattle.napi_types.specs.Step.{Step, locally, hub_moved, ticket_step, chosen, frame_step, step, cut_of}
+use Rattle.napi_types.specs.Step.{Step, ticket_step, move_step, event_step, chosen, step}
 use Rattle.napi_types.specs.Tickets.{may_begin_in}
-use Rattle.machine_laws.specs.Choices.{begins_due_tickets_in, begins_due_tickets, LowestDueTicketComesFirst, IsOfHook, LastHookComesFirst, BeginsLowest, BeginsLastHook, TicketsBeginAtTheirMoments, LowestDueIsLowest}
+use Rattle.machine_laws.specs.Choices.{begins_due_tickets_in, LowestDueTicketComesFirst, IsOfHook, LastHookComesFirst, BeginsLowest, BeginsLastHook, BeginsOfHub, TicketsBeginAtTheirMoments, LowestDueIsLowest}
 use Rattle.napi_types.proofs.Books.{IsDueAt, lowest-due}
-use Rattle.napi_types.proofs.FrameEnds.{ended-ends}
-use Rattle.machine_laws.proofs.Choosing.{by-env, chosen-next}
-use Rattle.machine_laws.proofs.Cutting.{frame-step}
+use Rattle.napi_types.proofs.SharedSteps.{delivery-of_hub, others-none}
+use Rattle.machine_laws.proofs.Choosing.{Happens}
+use Rattle.machine_laws.proofs.Chosen.{OwnChoice, opens, inits, exits, due_in_loop, hooks, due_at_end, ends, own-choice, HubChoice, goes, idles, quiets, drains, finals, moves_in_loop, moves_at_end, hub-choice, chosen-by}
+use Rattle.machine_laws.proofs.Forms as form
+use Rattle.machine_laws.proofs.Forms.{Form, form-of, shared-what, ended-what, event-what, other-what, chosen-next}
 
 -- WHAT COMES FIRST
 -- where due tickets begin the lowest is chosen, ..
@@ -57,11 +54,10 @@ lowest-chosen e phase.Drain n o begins lowest = cc
 lowest-chosen e phase.Gone n o begins lowest = cc
 
 pub lowest-first : LowestDueTicketComesFirst
-lowest-first m n a x alone begins lowest next =
+lowest-first m n a x alone begins lowest who next =
     let due : IsDueAt m.env.book n = lowest-due m.env.book n lowest in
     let s : step m a x ≡ ticket_step m n (Some due.registration) =
-    chosen-next m a x (by-env m a x x.actor next.1) alone ∙ ap (chosen m) (lowest-chosen m.env m.env.phase n (hub_choice_at m.hub.stage) begins lowest)
-    ∙ ap (ticket_step m n) due.there in
+    chosen-next m a x who alone ∙ ap (chosen m) (lowest-chosen m.env m.env.phase n (hub_choice m.hub) begins lowest) ∙ ap (ticket_step m n) due.there in
     record { registration = due.registration; there = due.there; due = due.due; entry = next.0 ∙ ap (λ (t : Step). t.entry) s }
 
 -- .. and in the phase of the hooks the last of them
@@ -76,107 +72,133 @@ of-hook m h x (Some r) here there is may =
     record { registration = r; there = there; registered = subst (λ p. may_begin_in p r.state ≡ true) here may; entry = is }
 
 pub hook-first : LastHookComesFirst
-hook-first m h a x alone here last next =
+hook-first m h a x alone here last who next =
     let s : step m a x ≡ ticket_step m h.ticket (registration_at m.env.book h.ticket) =
-    chosen-next m a x (by-env m a x x.actor next.1) alone ∙ ap (chosen m) (hook-chosen m.env h (hub_choice_at m.hub.stage) here last) in
+    chosen-next m a x who alone ∙ ap (chosen m) (hook-chosen m.env h (hub_choice m.hub) here last) in
     of-hook m h x (registration_at m.env.book h.ticket) here refl (next.0 ∙ ap (λ (t : Step). t.entry) s) (subst (λ (t : Step). IsTrue t.may) s next.1)
 
 -- WHERE ONE BEGINS
--- where the entry of the step is the begin of a duty's frame, the duty is that of the lowest ticket that is due, or of the last hook
-abbrev BeginsSo : Machine → Step → Type 0
-BeginsSo m t = (d : Duty) → t.entry.what ≡ what.Host host.Begin → told_duty t.entry.reply.out ≡ Some d → BeginsLowest m d ⊎ BeginsLastHook m d
+-- the duty is that of the lowest ticket that is due, or of the last hook, or the hub's
+abbrev BeginsSo : Machine → Duty → Entry → Type 0
+BeginsSo m d x = BeginsLowest m d ⊎ BeginsLastHook m d ⊎ BeginsOfHub m d x
 
--- a frame's steps begin no duty
-abbrev BeginsNone : Step → Type 0
-BeginsNone t = (d : Duty) → t.entry.what ≡ what.Host host.Begin → told_duty t.entry.reply.out ≡ Some d → ⊥
+-- the entry is the begin of the frame of this duty
+abbrev Begins : Entry → Duty → Type 0
+Begins x d = (x.what ≡ what.Host host.Begin) × (told_duty x.reply.out ≡ Some d)
 
-ended-begins : (m : Machine) (v : Option HandleId) (cut : Option Why) → BeginsNone (locally m (end_change v cut m.env) true)
-ended-begins m v cut d is told = let z : what.Host host.End ≡ what.Host host.Begin = sym (ended-ends v cut m.env).is ∙ is in cc
+-- what is no begin
+none-begins : (x : Entry) (w : What) (d : Duty) → x.what ≡ w → is_begin w ≡ false → Begins x d → ⊥
+none-begins x w d same other begins = let z : true ≡ false = ap is_begin (sym begins.0 ∙ same) ∙ other in cc
 
-function_change-begins : (m : Machine) (receiver : Option HandleId) (f : HandleId) (args : Args) (n : ℕ) (s : Option Status)
-    → BeginsNone (locally m (function_change receiver f args n m.env s) true)
-function_change-begins m receiver f args n None d is told = cc
-function_change-begins m receiver f args n (Some s) d is told = cc
+-- a call of a frame begins no duty
+function_change-begins : (receiver : Option HandleId) (f : HandleId) (args : Args) (n : ℕ) (e : Environment) (s : Option Status) (d : Duty)
+    → Begins (function_change receiver f args n e s).entry d → ⊥
+function_change-begins receiver f args n e None d begins = let z : None ≡ Some d = begins.1 in cc
+function_change-begins receiver f args n e (Some s) d begins =
+    none-begins (function_change receiver f args n e (Some s)).entry (what.Call (call.CallFunction receiver f args)) d refl refl begins
 
-asked-begins : (m : Machine) (c : Call) (n : ℕ) → BeginsNone (locally m (asked_change m.env c n) true)
-asked-begins m (call.CallFunction receiver f args) n d is told =
-    function_change-begins m receiver f args n (refusal m.env (call.CallFunction receiver f args)) d is told
-asked-begins m c n d is told = cc
-
-frame-begins : (m : Machine) (a : Ask) (o : Out) (cut : Option Why) → BeginsNone (frame_step m a o cut)
-frame-begins m a o (Some w) d is told = ended-begins m None (Some w) d is told
-frame-begins m (ask.Do c) o None d is told = asked-begins m c (number_of o) d is told
-frame-begins m (ask.Leave v) o None d is told = ended-begins m v None d is told
-
--- the hub's events begin none
-moved-begins : (m : Machine) (event : HostStep) (p : Phase) (o : Out) (h : Option Hub) → told_duty o ≡ None → BeginsSo m (hub_moved m event p o h)
-moved-begins m event p o None plain d is told = cc
-moved-begins m event p o (Some h) plain d is told = let z : None ≡ Some d = sym plain ∙ told in cc
-
-hub-begins : (m : Machine) (s : Stage) → BeginsSo m (chosen m (hub_choice_at s))
-hub-begins m Before d is told = moved-begins m host.Go phase.Live out.Nothing (hub_next m.hub host.Go) refl d is told
-hub-begins m Going d is told = moved-begins m host.LoopEnd phase.Hooks (out.Ended loop_end.Idle) (hub_next m.hub host.LoopEnd) refl d is told
-hub-begins m Looped d is told = moved-begins m host.Drain phase.Drain (out.Unsigned 0) (hub_next m.hub host.Drain) refl d is told
-hub-begins m Drained d is told = moved-begins m host.Finals phase.Finals out.Nothing (hub_next m.hub host.Finals) refl d is told
-hub-begins m Final d is told = cc
+asked-begins : (e : Environment) (c : Call) (n : ℕ) (d : Duty) → Begins (asked_change e c n).entry d → ⊥
+asked-begins e (call.CallFunction receiver f args) n d begins = function_change-begins receiver f args n e (refusal e (call.CallFunction receiver f args)) d begins
+asked-begins e c n d begins = none-begins (asked_change e c n).entry (what.Call c) d refl refl begins
 
 -- a ticket's frame tells its duty
-ticket-begins : (m : Machine) (n : ℕ) (r : Option Registration) → ((d : Duty) → d ≡ ticket_duty n → BeginsLowest m d ⊎ BeginsLastHook m d)
-    → BeginsSo m (ticket_step m n r)
-ticket-begins m n None so d is told = cc
-ticket-begins m n (Some r) so d is told = let same : d ≡ ticket_duty n = cc in so d same
+ticket-duty : (m : Machine) (n : ℕ) (r : Option Registration) (d : Duty) → Begins (ticket_step m n r).entry d → d ≡ ticket_duty n
+ticket-duty m n None d begins = absurd (none-begins (ticket_step m n None).entry (what.Host host.Gone) d refl refl begins)
+ticket-duty m n (Some r) d begins = let same : Some (ticket_duty n) ≡ Some d = begins.1 in cc
 
-lowest-begins : (m : Machine) (n : ℕ) → m.env.frames ≡ [] → begins_due_tickets m.env ≡ true → lowest_due m.env.book ≡ Some n
-    → BeginsSo m (ticket_step m n (registration_at m.env.book n))
-lowest-begins m n alone begins lowest =
-    ticket-begins m n (registration_at m.env.book n) (λ d same. inl (record { ticket = n; duty = same; alone = alone; moment = begins; lowest = lowest }))
+-- what the environment decides alone
+own-begins : (m : Machine) (p : Phase) (v : Event) (d : Duty) (x : Entry) → m.env.phase ≡ p → m.env.frames ≡ [] → OwnChoice m.env p v → x ≡ (event_step m v).entry
+    → IsTrue (event_step m v).may → Begins x d → BeginsSo m d x
+own-begins m _ _ d x here alone (opens unopened) is may begins = absurd (none-begins x (what.Host host.Opened) d (ap (λ (y : Entry). y.what) is) refl begins)
+own-begins m _ _ d x here alone (inits opened left) is may begins =
+    let z : None ≡ Some d = sym (ap (λ (y : Entry). told_duty y.reply.out) is) ∙ begins.1 in cc
+own-begins m _ _ d x here alone (exits asked) is may begins =
+    absurd (none-begins x (what.Host host.LoopEnd) d (ap (λ (y : Entry). y.what) is ∙ event-what m (EndsLoop loop_end.Exit) may) refl begins)
+own-begins m _ _ d x here alone (due_in_loop n unasked lowest) is may begins =
+    inl (record {
+      ticket = n;
+      duty = ticket-duty m n (registration_at m.env.book n) d (subst (λ y. Begins y d) is begins);
+      alone = alone;
+      moment = ap (begins_due_tickets_in m.env) here ∙ ap not unasked;
+      lowest = lowest;
+    })
+own-begins m _ _ d x here alone (hooks h last) is may begins =
+    inr (inl (record {
+      hook = h;
+      duty = ticket-duty m h.ticket (registration_at m.env.book h.ticket) d (subst (λ y. Begins y d) is begins);
+      alone = alone;
+      moment = here;
+      last = last;
+    }))
+own-begins m _ _ d x here alone (due_at_end n lowest) is may begins =
+    inl (record {
+      ticket = n;
+      duty = ticket-duty m n (registration_at m.env.book n) d (subst (λ y. Begins y d) is begins);
+      alone = alone;
+      moment = ap (begins_due_tickets_in m.env) here;
+      lowest = lowest;
+    })
+own-begins m _ _ d x here alone (ends none) is may begins = absurd (none-begins x (what.Host host.Gone) d (ap (λ (y : Entry). y.what) is) refl begins)
 
-init-begins : (m : Machine) (n : ℕ) (b c : Bool) (s : Stage) → BeginsSo m (chosen m (option_or (cond b (cond c (Some (Inits n)) None) (Some Opens)) (hub_choice_at s)))
-init-begins m n true true s d is told = cc
-init-begins m n true false s d is told = hub-begins m s d is told
-init-begins m n false c s d is told = cc
+-- what the hub decides
+delivered : (m : Machine) (d e : Duty) (told : Option Duty) → told ≡ Some e → told ≡ Some d → d ≡ e
+delivered m d e told here there = let same : Some d ≡ Some e = sym there ∙ here in cc
 
-loop-begins : (m : Machine) (exit : Bool) (o : Option ℕ) (s : Stage) → lowest_due m.env.book ≡ o → m.env.frames ≡ []
-    → (exit ≡ false → begins_due_tickets m.env ≡ true)
-    → BeginsSo m (chosen m (option_or (cond exit (Some (EndsLoop loop_end.Exit)) (option_map Tickets o)) (hub_choice_at s)))
-loop-begins m true o s lowest alone begins d is told = moved-begins m host.LoopEnd phase.Hooks (out.Ended loop_end.Exit) (hub_next m.hub host.LoopEnd) refl d is told
-loop-begins m false None s lowest alone begins d is told = hub-begins m s d is told
-loop-begins m false (Some n) s lowest alone begins d is told = lowest-begins m n alone (begins refl) lowest d is told
+move-begins : (m : Machine) (move : HubMove) (d : Duty) (x : Entry) → m.env.frames ≡ [] → local_choice m.env ≡ None → (m.hub.stage ≡ Going) ⊎ (m.hub.stage ≡ Drained)
+    → hub_move m.hub ≡ Some move → x ≡ (move_step m move).entry → IsTrue (event_step m (Moves move)).may → Begins x d → BeginsSo m d x
+move-begins m (Delivers info) d x alone none moment next is may begins =
+    let entry : x ≡ delivery_entry info = is ∙ ap (λ o. (begin_step m.hub (delivery_entry info) o).entry) next in
+    let same : d ≡ info.duty = delivered m d info.duty (told_duty x.reply.out) (ap (λ (y : Entry). told_duty y.reply.out) entry) begins.1 in
+    inr (inr (record {
+      info = info;
+      duty = same;
+      ours = ap (λ e. is_hub_duty (Some e)) same ∙ (delivery-of_hub m.hub info next).ours;
+      alone = alone;
+      waits = none;
+      moment = moment;
+      next = next;
+      entry = entry;
+    }))
+move-begins m (Closes n) d x alone none moment next is may begins =
+    absurd (none-begins x (what.Host host.CloseTsfn) d (ap (λ (y : Entry). y.what) is ∙ event-what m (Moves (Closes n)) may) refl begins)
+move-begins m (Finishes n) d x alone none moment next is may begins =
+    absurd (none-begins x (what.Host host.FinishTsfn) d (ap (λ (y : Entry). y.what) is ∙ event-what m (Moves (Finishes n)) may) refl begins)
 
-hooks-begins : (m : Machine) (o : Option Hook) (s : Stage) → last_hook m.env.hooks ≡ o → m.env.frames ≡ [] → m.env.phase ≡ phase.Hooks
-    → BeginsSo m (chosen m (option_or (option_map Tickets (option_map (λ (h : Hook). h.ticket) o)) (hub_choice_at s)))
-hooks-begins m None s last alone here d is told = hub-begins m s d is told
-hooks-begins m (Some h) s last alone here d is told =
-    ticket-begins m h.ticket (registration_at m.env.book h.ticket)
-    (λ e same. inr (record { hook = h; duty = same; alone = alone; moment = here; last = last })) d is told
+hub-begins : (m : Machine) (s : Stage) (v : Event) (d : Duty) (x : Entry) → m.hub.stage ≡ s → m.env.frames ≡ [] → local_choice m.env ≡ None → HubChoice m.hub s v
+    → x ≡ (event_step m v).entry → IsTrue (event_step m v).may → Begins x d → BeginsSo m d x
+hub-begins m _ _ d x here alone none goes is may begins =
+    absurd (none-begins x (what.Host host.Go) d (ap (λ (y : Entry). y.what) is ∙ event-what m Goes may) refl begins)
+hub-begins m _ _ d x here alone none (idles unmoved idle) is may begins =
+    absurd (none-begins x (what.Host host.LoopEnd) d (ap (λ (y : Entry). y.what) is ∙ event-what m (EndsLoop loop_end.Idle) may) refl begins)
+hub-begins m _ _ d x here alone none (quiets unmoved busy quiet) is may begins =
+    absurd (none-begins x (what.Host host.LoopEnd) d (ap (λ (y : Entry). y.what) is ∙ event-what m (EndsLoop loop_end.Quiet) may) refl begins)
+hub-begins m _ _ d x here alone none drains is may begins =
+    absurd (none-begins x (what.Host host.Drain) d (ap (λ (y : Entry). y.what) is ∙ event-what m Drains may) refl begins)
+hub-begins m _ _ d x here alone none (finals unmoved spent) is may begins =
+    absurd (none-begins x (what.Host host.Finals) d (ap (λ (y : Entry). y.what) is ∙ event-what m FinalsCome may) refl begins)
+hub-begins m _ _ d x here alone none (moves_in_loop move next) is may begins = move-begins m move d x alone none (inl here) next is may begins
+hub-begins m _ _ d x here alone none (moves_at_end move next) is may begins = move-begins m move d x alone none (inr here) next is may begins
 
-finals-begins : (m : Machine) (o : Option ℕ) (s : Stage) → lowest_due m.env.book ≡ o → m.env.frames ≡ [] → begins_due_tickets m.env ≡ true
-    → BeginsSo m (chosen m (option_or (option_or (option_map Tickets o) (Some IsGone)) (hub_choice_at s)))
-finals-begins m None s lowest alone begins d is told = cc
-finals-begins m (Some n) s lowest alone begins d is told = lowest-begins m n alone begins lowest d is told
+event-begins : (m : Machine) (d : Duty) (x : Entry) → Happens m x → Begins x d → BeginsSo m d x
+event-begins m d x h begins = by (chosen-by m h.event h.next)
+  where
+    by : (local_choice m.env ≡ Some h.event) ⊎ ((local_choice m.env ≡ None) × (hub_choice m.hub ≡ Some h.event)) → BeginsSo m d x
+    by (inl mine) = own-begins m m.env.phase h.event d x refl h.alone (own-choice m.env m.env.phase h.event mine) h.entry h.may begins
+    by (inr its) = hub-begins m m.hub.stage h.event d x refl h.alone its.0 (hub-choice m.hub m.hub.stage h.event its.1) h.entry h.may begins
 
-event-begins : (m : Machine) (p : Phase) (s : Stage) → m.env.phase ≡ p → m.env.frames ≡ [] → BeginsSo m (chosen m (option_or (local_choice_in m.env p) (hub_choice_at s)))
-event-begins m phase.Init s here alone d is told = init-begins m m.env.inits m.env.opened (nat_lt m.env.inits m.env.addons) s d is told
-event-begins m phase.Live s here alone d is told =
-    let begins : m.env.exit_asked ≡ false → begins_due_tickets m.env ≡ true = λ unasked. ap (begins_due_tickets_in m.env) here ∙ ap not unasked in
-    loop-begins m m.env.exit_asked (lowest_due m.env.book) s refl alone begins d is told
-event-begins m phase.Hooks s here alone d is told = hooks-begins m (last_hook m.env.hooks) s refl alone here d is told
-event-begins m phase.Drain s here alone d is told = hub-begins m s d is told
-event-begins m phase.Finals s here alone d is told = finals-begins m (lowest_due m.env.book) s refl alone (ap (begins_due_tickets_in m.env) here) d is told
-event-begins m phase.Gone s here alone d is told = hub-begins m s d is told
-
-step-begins : (m : Machine) (a : Ask) (x : Entry) (fs : List Frame) → m.env.frames ≡ fs → IsNext m a x → BeginsSo m (step m a x)
-step-begins m a x [] stands next d is told =
-    let P : Step → Type 0 = λ t. BeginsSo m t in
-    subst P (sym (chosen-next m a x (by-env m a x x.actor next.1) stands)) (event-begins m m.env.phase m.hub.stage refl stands) d is told
-step-begins m a x (f ∷ fs) stands next d is told =
-    let P : Step → Type 0 = λ t. BeginsNone t in
-    absurd (subst P (sym (frame-step m a x x.actor f fs stands next.1)) (frame-begins m (built_ask a) x.reply.out (cut_of x.reply.out)) d is told)
+form-begins : (m : Machine) (t : Step) (d : Duty) (x : Entry) → Form m t → x ≡ t.entry → IsTrue t.may → Begins x d → BeginsSo m d x
+form-begins m t d x (form.calls f fs stands c o alone) is may begins = absurd (asked-begins m.env c (number_of o) d (subst (λ y. Begins y d) is begins))
+form-begins m t d x (form.shares f fs stands c o shared) is may begins =
+    absurd (none-begins x (what.Call c) d (ap (λ (y : Entry). y.what) is ∙ shared-what m c o) refl begins)
+form-begins m t d x (form.ends f fs stands v cut b ours is_ours) is may begins =
+    absurd (none-begins x (what.Host host.End) d (ap (λ (y : Entry). y.what) is ∙ ended-what m v cut b ours) refl begins)
+form-begins m t d x (form.happens alone event next) is may begins =
+    event-begins m d x (record { alone = alone; event = event; next = next; entry = is; may = may }) begins
+form-begins m t d x (form.others y other) is may begins =
+    absurd (none-begins x t.entry.what d (ap (λ (y : Entry). y.what) is) (others-none t.entry.what (other-what m y other may)).begins begins)
 
 pub tickets-begin : TicketsBeginAtTheirMoments
-tickets-begin m a x c addon entry d next is told =
-    step-begins m a x m.env.frames refl next d (sym (ap (λ (y : Entry). y.what) next.0) ∙ is)
-    (sym (ap (λ (y : Entry). told_duty y.reply.out) next.0) ∙ ap told_duty told)
+tickets-begin m a x c addon entry d next is told = form-begins m (step m a x) d x (form-of m a x next) next.0 next.1 (is, ap told_duty told)
 
 -- THE LOWEST IS THE LOWEST
 above : (a k : ℕ) → a ≤ k → (a ≡ k → ⊥) → a + 1 ≤ k

@@ -1,6 +1,8 @@
 -- Why the frame of a ticket begins tells when it does, in a run.
-use Rattle.std.proofs.Common.{◌≡◌, ◌∙◌, ℕ, true, false, refl, ap, sym, Some, inl, inr}
+use Rattle.std.proofs.Common.{◌≡◌, ◌∙◌, ℕ, true, false, refl, ap, sym, Some, ◌⊎◌, inl, inr}
 use Rattle.std.proofs.lemmas.Bool.{or_right}
+use Rattle.napi_types.specs.declared.call.Ask.{Ask}
+use Rattle.napi_types.specs.declared.entry.Actor.TheVariants as actor
 use Rattle.napi_types.specs.declared.entry.Cause.{Cause}
 use Rattle.napi_types.specs.declared.entry.Cause.TheVariants as cause
 use Rattle.napi_types.specs.declared.entry.Duty.{Duty}
@@ -10,6 +12,7 @@ use Rattle.napi_types.specs.declared.entry.Out.TheVariants as out
 use Rattle.napi_types.specs.declared.entry.HostStep.TheVariants as host
 use Rattle.napi_types.specs.declared.entry.Phase.{Phase}
 use Rattle.napi_types.specs.declared.entry.Phase.TheVariants as phase
+use Rattle.napi_types.specs.declared.entry.What.TheVariants as what
 use Rattle.napi_types.specs.Book.{Registration, is_registered, is_due, is_owed, registration_at, due_info}
 use Rattle.napi_types.specs.Changes.{host_entry}
 use Rattle.napi_types.specs.Environment.{Environment}
@@ -17,15 +20,18 @@ use Rattle.napi_types.specs.Frames.{frame_of_duty, begin_told}
 use Rattle.napi_types.specs.Hooked.{cause_at, is_late, StandsIn, IsHooked}
 use Rattle.napi_types.specs.Hooks.{Hook, last_hook}
 use Rattle.napi_types.specs.Machine.{Machine}
+use Rattle.napi_types.specs.Run.{IsNext}
 use Rattle.napi_types.specs.Setting.{final_of}
-use Rattle.machine_laws.specs.Choices.{begins_due_tickets_in, IsOfTicket, IsOfHook}
+use Rattle.machine_laws.specs.Choices.{begins_due_tickets_in, IsOfTicket, IsOfHook, BeginsLowest, BeginsLastHook, BeginsOfHub}
 use Rattle.machine_laws.specs.FinalizerLaws.{FinalizersBeginInTheLoopOrAtTheEnd, HooksBeginAfterTheLoop}
 use Rattle.napi_types.proofs.HookedSteps.{last-holds}
 use Rattle.napi_types.proofs.Moved.{at-cause}
 use Rattle.napi_types.proofs.Orderly.{is_drained, IsSpent, Orderly}
 use Rattle.napi_types.proofs.Orders.{none-due}
 use Rattle.napi_types.proofs.Registrations.{registered-holds}
+use Rattle.napi_types.proofs.SharedSteps.{is_of_others, delivery-of_hub}
 use Rattle.machine_laws.proofs.Beginning.{lowest-first, hook-first, tickets-begin}
+use Rattle.machine_laws.proofs.Forms.{by-env}
 use Rattle.machine_laws.proofs.OrderlyRuns.{orderly-run}
 
 -- the cause that a begin tells
@@ -58,26 +64,42 @@ no-hook-due m phase.Hooks n r here orderly begins there due why = cc
 no-hook-due m phase.Drain n r here orderly begins there due why = cc
 no-hook-due m phase.Gone n r here orderly begins there due why = cc
 
+-- that of a duty of the hub is none of a hook
+no-hook-of_hub : (m : Machine) (x : Entry) (addon entry : ℕ) (d : Duty) → BeginsOfHub m d x → x.reply.out ≡ out.Begin cause.Hook addon entry (Some d) → ⊥
+no-hook-of_hub m x addon entry d b told =
+    let why : b.info.cause ≡ cause.Hook = sym (ap (λ (y : Entry). told_cause cause.Hook y.reply.out) b.entry) ∙ ap (told_cause cause.Hook) told in
+    (delivery-of_hub m.hub b.info b.next).no_hook why
+
+-- a begin is the environment's
+begin-env : (m : Machine) (a : Ask) (x : Entry) → IsNext m a x → x.what ≡ what.Host host.Begin → x.actor ≡ actor.Env
+begin-env m a x next is = by-env m a x next (ap is_of_others is)
+
 pub finalizers-begin : FinalizersBeginInTheLoopOrAtTheEnd
-finalizers-begin s bs xs a x addon entry d run next is told =
-    elim (tickets-begin (final_of s bs xs) a x cause.Finalize addon entry d next is told) [
-      | inl lowest ↦ lowest
-      | inr hook ↦
-          let m : Machine = final_of s bs xs in
-          let t : IsOfHook m hook.hook x = hook-first m hook.hook a x hook.alone hook.moment hook.last next in
-          let other : cause.Finalize ≡ cause.Hook =
-          sym (of-ticket x hook.hook.ticket t.registration cause.Finalize addon entry d told t.entry)
-          ∙ hook-cause m.env hook.hook t.registration (orderly-run s bs xs run).hooked hook.last t.there in
-          absurd cc
-    ]
+finalizers-begin s bs xs a x addon entry d run next is told = by (tickets-begin m a x cause.Finalize addon entry d next is told)
+  where
+    m : Machine
+    m = final_of s bs xs
+
+    by : BeginsLowest m d ⊎ BeginsLastHook m d ⊎ BeginsOfHub m d x → BeginsLowest m d ⊎ BeginsOfHub m d x
+    by (inl lowest) = inl lowest
+    by (inr (inr hub)) = inr hub
+    by (inr (inl hook)) =
+        let t : IsOfHook m hook.hook x = hook-first m hook.hook a x hook.alone hook.moment hook.last (begin-env m a x next is) next in
+        let other : cause.Finalize ≡ cause.Hook =
+        sym (of-ticket x hook.hook.ticket t.registration cause.Finalize addon entry d told t.entry)
+        ∙ hook-cause m.env hook.hook t.registration (orderly-run s bs xs run).hooked hook.last t.there in
+        absurd cc
 
 pub hooks-begin : HooksBeginAfterTheLoop
-hooks-begin s bs xs a x addon entry d run next is told =
-    elim (tickets-begin (final_of s bs xs) a x cause.Hook addon entry d next is told) [
-      | inl lowest ↦
-          let m : Machine = final_of s bs xs in
-          let t : IsOfTicket m lowest.ticket x = lowest-first m lowest.ticket a x lowest.alone lowest.moment lowest.lowest next in
-          let why : t.registration.cause ≡ cause.Hook = of-ticket x lowest.ticket t.registration cause.Hook addon entry d told t.entry in
-          absurd (no-hook-due m m.env.phase lowest.ticket t.registration refl (orderly-run s bs xs run) lowest.moment t.there t.due why)
-      | inr hook ↦ hook
-    ]
+hooks-begin s bs xs a x addon entry d run next is told = by (tickets-begin m a x cause.Hook addon entry d next is told)
+  where
+    m : Machine
+    m = final_of s bs xs
+
+    by : BeginsLowest m d ⊎ BeginsLastHook m d ⊎ BeginsOfHub m d x → BeginsLastHook m d
+    by (inl lowest) =
+        let t : IsOfTicket m lowest.ticket x = lowest-first m lowest.ticket a x lowest.alone lowest.moment lowest.lowest (begin-env m a x next is) next in
+        let why : t.registration.cause ≡ cause.Hook = of-ticket x lowest.ticket t.registration cause.Hook addon entry d told t.entry in
+        absurd (no-hook-due m m.env.phase lowest.ticket t.registration refl (orderly-run s bs xs run) lowest.moment t.there t.due why)
+    by (inr (inl hook)) = hook
+    by (inr (inr hub)) = absurd (no-hook-of_hub m x addon entry d hub told)

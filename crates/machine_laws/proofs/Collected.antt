@@ -3,11 +3,11 @@ use Rattle.std.proofs.Common.{◌≡◌, ◌≤◌, arith, ℕ, ◌+◌, ◌==�
 use Rattle.std.specs.List.{All, AllByRecursion, IsDistinct, count_by}
 use Rattle.std.specs.Option.{IfSome}
 use Rattle.std.proofs.lemmas.Bool.{eq-eqb, or_left, or_right}
-use Rattle.std.proofs.lemmas.List.Elements.{All-nil, All-cons, All-filter, All-map, filter_passes}
+use Rattle.std.proofs.lemmas.List.Elements.{All-nil, All-cons, All-filter, All-map, All-weaker, filter_passes}
 use Rattle.std.proofs.lemmas.List.Folds.{list_any-append}
 use Rattle.std.proofs.lemmas.Map.Keys.{IsDistinct-head, IsDistinct-tail}
 use Rattle.napi_types.specs.Collection.{those_of, collected}
-use Rattle.napi_types.specs.Environment.{Environment}
+use Rattle.napi_types.specs.Environment.{Environment, FunctionRoot}
 use Rattle.napi_types.specs.Lists.{has_number}
 use Rattle.napi_types.specs.Reach.{numbers, children_at}
 use Rattle.napi_types.specs.References.{Reference, strong_values, value_left}
@@ -53,23 +53,36 @@ each-found (v ∷ vs) apart =
     (λ k d below. later-found v (slice_index_or vs k d) vs (others k d below) (later k d below))
 
 -- ROOTS
--- a starting value, the value of a handle that is held, and the pending exception are roots
+-- those in their order
+abbrev held_roots : Environment → List ℕ
+held_roots e = values_of_handles e.heap.scopes
+
+abbrev function_values : Environment → List ℕ
+function_values e = map (λ r. r.value) e.function_roots
+
+abbrev early_roots : Environment → List ℕ
+early_roots e = numbers starting_values ++ held_roots e ++ strong_values e.references
+
+-- each of the first three kinds is a root
+root-early : (e : Environment) (n : ℕ) → has_number n (early_roots e) ≡ true → has_number n (roots e) ≡ true
+root-early e n h = in-left n (early_roots e ++ function_values e) (option_to_list e.pending) (in-left n (early_roots e) (function_values e) h)
+
+-- a starting value, the value of a handle that is held, what a thread-safe function keeps alive, and the pending exception are roots
 root-starting : (e : Environment) (n : ℕ) → has_number n (numbers starting_values) ≡ true → has_number n (roots e) ≡ true
 root-starting e n h =
-    let held : List ℕ = values_of_handles e.heap.scopes in
-    let strong : List ℕ = strong_values e.references in
-    in-left n (numbers starting_values ++ held ++ strong) (option_to_list e.pending)
-    (in-left n (numbers starting_values ++ held) strong (in-left n (numbers starting_values) held h))
+    root-early e n
+    (in-left n (numbers starting_values ++ held_roots e) (strong_values e.references) (in-left n (numbers starting_values) (held_roots e) h))
 
-root-held : (e : Environment) (n : ℕ) → has_number n (values_of_handles e.heap.scopes) ≡ true → has_number n (roots e) ≡ true
+root-held : (e : Environment) (n : ℕ) → has_number n (held_roots e) ≡ true → has_number n (roots e) ≡ true
 root-held e n h =
-    let held : List ℕ = values_of_handles e.heap.scopes in
-    let strong : List ℕ = strong_values e.references in
-    in-left n (numbers starting_values ++ held ++ strong) (option_to_list e.pending)
-    (in-left n (numbers starting_values ++ held) strong (in-right n (numbers starting_values) held h))
+    root-early e n
+    (in-left n (numbers starting_values ++ held_roots e) (strong_values e.references) (in-right n (numbers starting_values) (held_roots e) h))
+
+root-function : (e : Environment) (n : ℕ) → has_number n (function_values e) ≡ true → has_number n (roots e) ≡ true
+root-function e n h = in-left n (early_roots e ++ function_values e) (option_to_list e.pending) (in-right n (early_roots e) (function_values e) h)
 
 root-pending : (e : Environment) (n : ℕ) → has_number n (option_to_list e.pending) ≡ true → has_number n (roots e) ≡ true
-root-pending e n h = in-right n (numbers starting_values ++ values_of_handles e.heap.scopes ++ strong_values e.references) (option_to_list e.pending) h
+root-pending e n h = in-right n (early_roots e ++ function_values e) (option_to_list e.pending) h
 
 -- WHAT IS KEPT
 -- the values after a collection
@@ -94,6 +107,21 @@ pending-kept e None is live = tt
 pending-kept e (Some n) is live =
     let here : has_number n (option_to_list e.pending) ≡ true = rw is (or_left (n == n) false (eq-eqb n n refl)) in
     live-root e n live (root-pending e n here)
+
+-- what a thread-safe function keeps alive is kept
+there-roots : (rs : List FunctionRoot) → All (λ r. has_number r.value (map (λ (x : FunctionRoot). x.value) rs) ≡ true) rs
+there-roots [] = All-nil (λ (r : FunctionRoot). has_number r.value [] ≡ true)
+there-roots (x ∷ rs) =
+    let P : FunctionRoot → Type 0 = λ r. has_number r.value (map (λ (x : FunctionRoot). x.value) (x ∷ rs)) ≡ true in
+    All-cons P x rs (or_left (x.value == x.value) (has_number x.value (map (λ (r : FunctionRoot). r.value) rs)) (eq-eqb x.value x.value refl))
+    (All-weaker (λ r. has_number r.value (map (λ (x : FunctionRoot). x.value) rs) ≡ true) P
+    (λ r h. or_right (x.value == r.value) (has_number r.value (map (λ (x : FunctionRoot). x.value) rs)) h) rs (there-roots rs))
+
+pub rooted-kept : (e : Environment) → All (λ (r : FunctionRoot). IsLiveAmong e.heap.values r.value) e.function_roots
+    → All (λ (r : FunctionRoot). IsLiveAmong (kept e) r.value) e.function_roots
+rooted-kept e live k d below =
+    let n : ℕ = (slice_index_or e.function_roots k d).value in
+    live-root e n (live k d below) (root-function e n (there-roots e.function_roots k d below))
 
 left-live : (e : Environment) (o : Option ℕ) → IfSome (value_left (λ v. not (has_number v (reach e))) o) (IsLiveAmong (kept e))
 left-live e None = tt

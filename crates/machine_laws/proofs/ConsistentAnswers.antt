@@ -13,7 +13,7 @@ use Rattle.napi_types.specs.Attachments.{Attachments, wrap_ticket, with_attached
 use Rattle.napi_types.specs.Book.{Book, Registration, made_withdrawn, moved_at, new_ticket, with_registration}
 use Rattle.napi_types.specs.Calls.{effect, answer_unless, answer_unless_deep}
 use Rattle.napi_types.specs.Changes.{call_change}
-use Rattle.napi_types.specs.Environment.{Environment, with_heap}
+use Rattle.napi_types.specs.Environment.{FunctionRoot, Environment, with_heap}
 use Rattle.napi_types.specs.ExceptionCalls.{with_pending, with_thrown_error}
 use Rattle.napi_types.specs.Frames.{caller_of, most_frames}
 use Rattle.napi_types.specs.Heap.{Heap, handle_value}
@@ -30,7 +30,7 @@ use Rattle.napi_types.specs.Values.{undefined_value}
 use Rattle.napi_types.specs.WrapCalls.{with_attachments, referring_if}
 use Rattle.napi_types.proofs.Answers.{KeepsButAsk, call_change-keeps}
 use Rattle.machine_laws.specs.Consistency.{IsConsistent, IsLiveAmong, IsMap}
-use Rattle.machine_laws.proofs.Collected.{heap-kept, referred-kept, pending-kept}
+use Rattle.machine_laws.proofs.Collected.{heap-kept, referred-kept, pending-kept, rooted-kept}
 use Rattle.machine_laws.proofs.ConsistentCalls.{heap-call, handle-live, or-undefined}
 use Rattle.machine_laws.proofs.ConsistentHeaps.{IsConsistentHeap, HandlesStay, ComesTo, stays, with-handle}
 use Rattle.machine_laws.proofs.ConsistentValues.{with-new, with-thrown, thrown-live}
@@ -42,6 +42,7 @@ pub record IsConsistentButFrames (e : Environment) : Type 0 where
   pub referred : All (λ r. IfSome r.value (IsLiveAmong e.heap.values)) e.references.rows
   pub references : IsMap e.references
   pub pending : IfSome e.pending (IsLiveAmong e.heap.values)
+  pub rooted : All (λ r. IsLiveAmong e.heap.values r.value) e.function_roots
 
 -- one environment leads to another, which is good
 pub record LeadsTo (old new : Environment) : Type 0 where
@@ -55,6 +56,7 @@ parts-of e c = record {
   referred = c.referred;
   references = c.references;
   pending = c.pending;
+  rooted = c.rooted;
 }
 
 pub whole-of : (e : Environment) → IsConsistentButFrames e → length e.heap.scopes ≡ length e.frames → length e.frames ≤ most_frames → IsConsistent e
@@ -65,6 +67,7 @@ whole-of e g same few = record {
   referred = g.referred;
   references = g.references;
   pending = g.pending;
+  rooted = g.rooted;
   children = g.heap.children;
   starting = g.heap.starting;
   frames = same;
@@ -85,13 +88,14 @@ in-heap e heap g c =
         referred = All-weaker P Q (λ r h. IfSome_then r.value h c.live) e.references.rows g.referred;
         references = g.references;
         pending = IfSome_then e.pending g.pending c.live;
+        rooted = All-weaker (λ (r : FunctionRoot). IsLiveAmong e.heap.values r.value) (λ r. IsLiveAmong heap.values r.value) (λ r h. c.live r.value h) e.function_roots g.rooted;
       };
       stay = c.stay;
     }
 
 -- another pending exception
 pub with-pending : (e : Environment) (o : Option ℕ) → IsConsistentButFrames e → IfSome o (IsLiveAmong e.heap.values) → IsConsistentButFrames (with_pending o e)
-with-pending e o g live = record { heap = g.heap; referred = g.referred; references = g.references; pending = live }
+with-pending e o g live = record { heap = g.heap; referred = g.referred; references = g.references; pending = live; rooted = g.rooted }
 
 thrown-good : (e : Environment) (code : Option TextNo) (message : TextNo) → IsConsistentButFrames e → LeadsTo e (with_thrown_error code message e)
 thrown-good e code message g =
@@ -135,7 +139,7 @@ row-of P n (r ∷ rs) none all = by (r.number == n) refl (row-of P n rs none (Al
 -- other references, of live values
 referring : (e : Environment) (m : ReferenceMap) → IsConsistentButFrames e → OfRows (λ o. IfSome o (IsLiveAmong e.heap.values)) m → IsMap m
     → LeadsTo e (with_references m e)
-referring e m g all map = record { good = record { heap = g.heap; referred = all; references = map; pending = g.pending }; stay = stays e.heap }
+referring e m g all map = record { good = record { heap = g.heap; referred = all; references = map; pending = g.pending; rooted = g.rooted }; stay = stays e.heap }
 
 counted-good : (e : Environment) (r count : ℕ) → IsConsistentButFrames e → LeadsTo e (with_references (with_count r count e.references) e)
 counted-good e r count g =
@@ -152,19 +156,19 @@ told-good e (Some v) live g = in-heap e (with_handle v e.heap) g (with-handle e.
 
 -- ATTACHMENTS, HOOKS, INSTANCE DATA AND TICKETS
 attaching : (e : Environment) (a : Attachments) → IsConsistentButFrames e → LeadsTo e (with_attachments a e)
-attaching e a g = record { good = record { heap = g.heap; referred = g.referred; references = g.references; pending = g.pending }; stay = stays e.heap }
+attaching e a g = record { good = record { heap = g.heap; referred = g.referred; references = g.references; pending = g.pending; rooted = g.rooted }; stay = stays e.heap }
 
 -- other hooks, and other instance data
 hooked : (e : Environment) (hooks : List Hook) → IsConsistentButFrames e → LeadsTo e (record e { hooks = hooks })
-hooked e hooks g = record { good = record { heap = g.heap; referred = g.referred; references = g.references; pending = g.pending }; stay = stays e.heap }
+hooked e hooks g = record { good = record { heap = g.heap; referred = g.referred; references = g.references; pending = g.pending; rooted = g.rooted }; stay = stays e.heap }
 
 instanced : (e : Environment) (instances : Instances) → IsConsistentButFrames e → LeadsTo e (record e { instances = instances })
-instanced e instances g = record { good = record { heap = g.heap; referred = g.referred; references = g.references; pending = g.pending }; stay = stays e.heap }
+instanced e instances g = record { good = record { heap = g.heap; referred = g.referred; references = g.references; pending = g.pending; rooted = g.rooted }; stay = stays e.heap }
 
 -- the book may change besides
 booked : (e new : Environment) (book : Book) → LeadsTo e new → LeadsTo e (record new { book = book })
 booked e new book led =
-    record { good = record { heap = led.good.heap; referred = led.good.referred; references = led.good.references; pending = led.good.pending }; stay = led.stay }
+    record { good = record { heap = led.good.heap; referred = led.good.referred; references = led.good.references; pending = led.good.pending; rooted = led.good.rooted }; stay = led.stay }
 
 registered-good : (e : Environment) (r : Option Registration) (a : Answer Environment) → LeadsTo e a.after → LeadsTo e (registering_if r a).after
 registered-good e None a led = led
@@ -240,11 +244,12 @@ by-call e call.Collect k g = record {
     referred = referred-kept e;
     references = emptied-map _ e.references g.references;
     pending = pending-kept e e.pending refl g.pending;
+    rooted = rooted-kept e g.rooted;
   };
   stay = record { rises = omega arith; held = λ h v below. omega arith };
 }
 by-call e call.Exit k g =
-    record { good = record { heap = g.heap; referred = g.referred; references = g.references; pending = g.pending }; stay = stays e.heap }
+    record { good = record { heap = g.heap; referred = g.referred; references = g.references; pending = g.pending; rooted = g.rooted }; stay = stays e.heap }
 by-call e c k g = in-heap e _ g (heap-call (caller_of e.frames) e.heap c k g.heap)
 
 given-good : (e : Environment) (c : Call) (k : ℕ) (s : Option Status) → IsConsistentButFrames e → LeadsTo e (answer_unless e c k s).after
@@ -271,5 +276,6 @@ call_change-follows e c k old =
       referred = led.good.referred;
       references = led.good.references;
       pending = led.good.pending;
+      rooted = led.good.rooted;
     } in
     record { good = whole-of new good (keeps.heap.depth ∙ old.frames ∙ sym keeps.depth) (omega (arith, keeps.depth, old.depth)); stay = led.stay }

@@ -53,7 +53,7 @@ new-heap-good = record {
 pub opening-consistent : (addons texts : ℕ) → IsConsistent (new_environment addons texts)
 opening-consistent addons texts =
     let e : Environment = new_environment addons texts in
-    whole-of e (record { heap = new-heap-good; referred = λ k d below. absurd (omega (arith, below)); references = none-map; pending = tt }) refl (omega arith)
+    whole-of e (record { heap = new-heap-good; referred = λ k d below. absurd (omega (arith, below)); references = none-map; pending = tt; rooted = λ k d below. absurd (omega (arith, below)) }) refl (omega arith)
 
 -- RUNS
 pub environments-are-consistent : EnvironmentsAreConsistent

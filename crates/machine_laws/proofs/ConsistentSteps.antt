@@ -1,7 +1,10 @@
 -- Every step keeps environments consistent, whether or not it may stand, and so does every run.
-use Rattle.std.proofs.Common.{◌≡◌, ◌≤◌, arith, ℕ, zero, suc, ◌+◌, nat_le, true, false, Bool, List, [], ◌∷◌, length, take, refl, sym, ◌∙◌, ap, Option, Some, None}
+use Rattle.std.proofs.Common.{◌≡◌, ◌≤◌, arith, ℕ, zero, suc, ◌+◌, ◌==◌, nat_le, not, true, false, Bool, List, [], ◌∷◌, length, take, refl, sym, ◌∙◌, ap, subst, Option, Some, None}
 use Rattle.std.specs.Option.{option_or}
+use Rattle.std.specs.List.{All}
 use Rattle.std.proofs.lemmas.Bool.{leb-false}
+use Rattle.std.proofs.lemmas.List.Elements.{All-push, All-filter}
+use Rattle.napi_types.proofs.SharedSteps.{after_shared-alone}
 use Rattle.napi_types.specs.declared.call.Args.{Args}
 use Rattle.napi_types.specs.declared.call.Ask.{Ask}
 use Rattle.napi_types.specs.declared.call.Ask.TheVariants as ask
@@ -12,34 +15,34 @@ use Rattle.napi_types.specs.declared.entry.Actor.TheVariants as actor
 use Rattle.napi_types.specs.declared.entry.Cause.{Cause}
 use Rattle.napi_types.specs.declared.entry.Cause.TheVariants as cause
 use Rattle.napi_types.specs.declared.entry.Entry.{Entry}
-use Rattle.napi_types.specs.declared.entry.HostStep.{HostStep}
-use Rattle.napi_types.specs.declared.entry.HostStep.TheVariants as host
 use Rattle.napi_types.specs.declared.entry.Out.{Out}
 use Rattle.napi_types.specs.declared.entry.Out.TheVariants as out
 use Rattle.napi_types.specs.declared.entry.Phase.{Phase}
 use Rattle.napi_types.specs.declared.entry.Phase.TheVariants as phase
+use Rattle.napi_types.specs.declared.entry.Reply.{Reply}
 use Rattle.napi_types.specs.declared.entry.Why.{Why}
 use Rattle.napi_types.specs.declared.ids.HandleId.{HandleId}
 use Rattle.napi_types.specs.declared.status.Status.{Status}
 use Rattle.napi_types.specs.declared.status.Status.TheVariants as status
 use Rattle.napi_types.specs.Book.{Book, Registration, due_info, moved_at, registration_at}
-use Rattle.napi_types.specs.Built.{built_ask}
-use Rattle.napi_types.specs.Changes.{opening_change, gone_change, in_phase, number_of}
+use Rattle.napi_types.specs.Changes.{opening_change, gone_change, in_phase, number_of, may_ask, with_noted_status}
 use Rattle.napi_types.specs.Ends.{end_change_by, uncut_call_end, end_change}
 use Rattle.napi_types.specs.Entering.{enter_change, function_change, asked_change}
-use Rattle.napi_types.specs.Environment.{Environment}
-use Rattle.napi_types.specs.Frames.{Frame, frame_of, frame_of_duty, cause_of, most_frames, ask_counted}
+use Rattle.napi_types.specs.Environment.{Environment, FunctionRoot}
+use Rattle.napi_types.specs.Frames.{Frame, frame_of, frame_of_duty, cause_of, duty_of, is_hub_duty, most_frames, ask_counted}
 use Rattle.napi_types.specs.FunctionCalls.{left_value, with_receiver}
-use Rattle.napi_types.specs.Heap.{Heap}
+use Rattle.napi_types.specs.Heap.{Heap, handle_value}
 use Rattle.napi_types.specs.HeapChanges.{with_handle, with_frame, without_frame}
 use Rattle.napi_types.specs.Hooks.{Hook}
-use Rattle.napi_types.specs.Hub.{Hub, hub_next}
+use Rattle.napi_types.specs.Guards.{is_shared}
+use Rattle.napi_types.specs.HubMoves.{HubMove, Delivers, Closes, Finishes}
 use Rattle.napi_types.specs.Lists.{first_changed, tail, when}
-use Rattle.napi_types.specs.Loop.{Event, Opens, Inits, Tickets, Goes, EndsLoop, Drains, FinalsCome, IsGone}
+use Rattle.napi_types.specs.Loop.{Event, Opens, Inits, Tickets, Moves, Goes, EndsLoop, Drains, FinalsCome, IsGone}
 use Rattle.napi_types.specs.Machine.{Machine}
 use Rattle.napi_types.specs.Refusals.{refusal, early_refusal, depth_refusal}
 use Rattle.napi_types.specs.Run.{after, final}
-use Rattle.napi_types.specs.Step.{Step, hub_moved, ticket_step, event_step, chosen, asked_step, frame_step, env_step, step_of, cut_of}
+use Rattle.napi_types.specs.SharedCalls.{with_root, without_root, after_shared}
+use Rattle.napi_types.specs.Step.{Step, ticket_step, move_step, event_step, chosen, may_cut, call_step_on, end_step_on, asked_step, frame_step, env_step, step_of, cut_of}
 use Rattle.napi_types.specs.Tickets.{begun_in, hooks_left}
 use Rattle.napi_types.specs.Values.{undefined_value}
 use Rattle.machine_laws.specs.Consistency.{IsConsistent, IsLiveAmong}
@@ -75,7 +78,7 @@ ended-follows : (e : Environment) (heap : Heap) (pending : Option ℕ) (s : Stat
     → Follows e (record e { heap = heap; frames = tail e.frames; pending = pending; last = s; book = book })
 ended-follows e heap pending s book c comes same g =
     let new : Environment = record e { heap = heap; frames = tail e.frames; pending = pending; last = s; book = book } in
-    let good : IsConsistentButFrames new = record { heap = g.heap; referred = g.referred; references = g.references; pending = g.pending } in
+    let good : IsConsistentButFrames new = record { heap = g.heap; referred = g.referred; references = g.references; pending = g.pending; rooted = g.rooted } in
     record {
       good = whole-of new good (same ∙ length-tail e.heap.scopes e.frames c.frames) (omega (arith, tail-shorter e.frames, c.depth));
       stay = comes.stay;
@@ -86,7 +89,7 @@ kept-ended : (e : Environment) (heap : Heap) (s : Status) → IsConsistent e →
     → Follows e (record e { heap = heap; frames = tail e.frames; last = s })
 kept-ended e heap s c comes same =
     let g : IsConsistentButFrames (record e { heap = heap }) = (in-heap e heap (parts-of e c) comes).good in
-    ended-follows e heap e.pending s e.book c comes same (record { heap = g.heap; referred = g.referred; references = g.references; pending = g.pending })
+    ended-follows e heap e.pending s e.book c comes same (record { heap = g.heap; referred = g.referred; references = g.references; pending = g.pending; rooted = g.rooted })
 
 left-live : (e : Environment) (v : Option HandleId) → IsConsistentHeap e.heap → IsLiveAmong e.heap.values (left_value e.heap v)
 left-live e None g = g.starting 0 0 (omega arith)
@@ -107,7 +110,7 @@ by-cause v None e cause.Call c = left-follows v e e.pending c
 by-cause v cut e _ c =
     let left : ComesTo e.heap (without_frame e.heap) = without-frame e.heap (parts-of e c).heap in
     let g : IsConsistentButFrames (record e { heap = without_frame e.heap }) = (in-heap e (without_frame e.heap) (parts-of e c) left).good in
-    ended-follows e (without_frame e.heap) None e.last _ c left refl (record { heap = g.heap; referred = g.referred; references = g.references; pending = tt })
+    ended-follows e (without_frame e.heap) None e.last _ c left refl (record { heap = g.heap; referred = g.referred; references = g.references; pending = tt; rooted = g.rooted })
 
 frame-follows : (v : Option HandleId) (cut : Option Why) (e : Environment) → IsConsistent e → Follows e (end_change v cut e).after
 frame-follows v cut e c = by-cause v cut e (cause_of e.frames) c
@@ -147,7 +150,7 @@ enter_change-follows e receiver f args h c =
     let comes : ComesTo e.heap heap = and-then e.heap (with_frame e.heap) heap frame (with-receiver (with_frame e.heap) receiver frame.good) in
     let led : IsConsistentButFrames (record e { heap = heap }) = (in-heap e heap g comes).good in
     let new : Environment = (enter_change receiver f args e).after in
-    let good : IsConsistentButFrames new = record { heap = led.heap; referred = led.referred; references = led.references; pending = led.pending } in
+    let good : IsConsistentButFrames new = record { heap = led.heap; referred = led.referred; references = led.references; pending = led.pending; rooted = led.rooted } in
     let asks : length (ask_counted e.frames) ≡ length e.frames = length-changed _ e.frames in
     let scopes : length heap.scopes ≡ length (with_frame e.heap).scopes = length-receiver (with_frame e.heap) receiver in
     record {
@@ -178,19 +181,49 @@ begun-follows e inits book hooks f none c =
     let frame : ComesTo e.heap (with_frame e.heap) = with-frame e.heap g.heap in
     let led : IsConsistentButFrames (record e { heap = with_frame e.heap }) = (in-heap e (with_frame e.heap) g frame).good in
     let new : Environment = record e { inits = inits; book = book; hooks = hooks; heap = with_frame e.heap; frames = f ∷ e.frames } in
-    let good : IsConsistentButFrames new = record { heap = led.heap; referred = led.referred; references = led.references; pending = led.pending } in
+    let good : IsConsistentButFrames new = record { heap = led.heap; referred = led.referred; references = led.references; pending = led.pending; rooted = led.rooted } in
     record { good = whole-of new good (ap suc c.frames) (omega (arith, ap length none)); stay = frame.stay }
+
+-- A SHARED CALL
+-- a new thread-safe function keeps a live value
+abbrev Keeps : Heap → FunctionRoot → Type 0
+Keeps heap r = IsLiveAmong heap.values r.value
+
+roots-live : (c : Call) (o : Out) (e : Environment) → IsConsistentHeap e.heap → All (Keeps e.heap) e.function_roots → All (Keeps e.heap) (with_root c o e).function_roots
+roots-live (call.CreateThreadsafeFunction (Some f) entry maximum count finalizer context) (out.Function n) e g all =
+    All-push (Keeps e.heap) e.function_roots (record { function = n.0; value = handle_value e.heap f.0 }) all (handle-live e.heap f.0 g)
+roots-live _ _ e g all = all
+
+-- the functions that keep values alive may change
+rooted-follows : (e new : Environment) (roots : List FunctionRoot) → All (Keeps e.heap) roots → Follows e new → new.heap ≡ e.heap
+    → Follows e (record new { function_roots = roots })
+rooted-follows e new roots all follows same =
+    let g : IsConsistentButFrames new = parts-of new follows.good in
+    let live : All (Keeps new.heap) roots = subst (λ heap. All (Keeps heap) roots) (sym same) all in
+    let good : IsConsistentButFrames (record new { function_roots = roots }) = record { heap = g.heap; referred = g.referred; references = g.references; pending = g.pending; rooted = live } in
+    record { good = whole-of (record new { function_roots = roots }) good follows.good.frames follows.good.depth; stay = follows.stay }
+
+noted-follows : (e : Environment) (c : Call) (s : Status) → IsConsistent e → Follows e (with_noted_status c s e)
+noted-follows e c s old =
+    let g : IsConsistentButFrames e = parts-of e old in
+    let good : IsConsistentButFrames (with_noted_status c s e) = record { heap = g.heap; referred = g.referred; references = g.references; pending = g.pending; rooted = g.rooted } in
+    other-follows e (with_noted_status c s e) good refl (length-changed _ e.frames) (stays e.heap) old
+
+shared-follows : (e : Environment) (c : Call) (r : Reply) → IsConsistent e → Follows e (after_shared c r e)
+shared-follows e c r old =
+    let roots : List FunctionRoot = (with_root c r.out e).function_roots in
+    subst (Follows e) (sym (after_shared-alone c r e))
+    (rooted-follows e (with_noted_status c r.status e) roots (roots-live c r.out e (parts-of e old).heap (parts-of e old).rooted) (noted-follows e c r.status old) refl)
 
 -- STEPS
 abbrev StepFollows : Machine → Step → Type 0
 StepFollows m s = Follows m.env s.after.env
 
-hub-follows : (m : Machine) (event : HostStep) (p : Phase) (o : Out) (h : Option Hub) → IsConsistent m.env → StepFollows m (hub_moved m event p o h)
-hub-follows m event p o None c = same-follows m.env c
-hub-follows m event p o (Some h) c =
-    let g : IsConsistentButFrames m.env = parts-of m.env c in
-    let good : IsConsistentButFrames (in_phase p m.env) = record { heap = g.heap; referred = g.referred; references = g.references; pending = g.pending } in
-    other-follows m.env (in_phase p m.env) good refl refl (stays m.env.heap) c
+phase-follows : (e : Environment) (p : Phase) → IsConsistent e → Follows e (in_phase p e)
+phase-follows e p c =
+    let g : IsConsistentButFrames e = parts-of e c in
+    let good : IsConsistentButFrames (in_phase p e) = record { heap = g.heap; referred = g.referred; references = g.references; pending = g.pending; rooted = g.rooted } in
+    other-follows e (in_phase p e) good refl refl (stays e.heap) c
 
 ticket-follows : (m : Machine) (n : ℕ) (r : Option Registration) → m.env.frames ≡ [] → IsConsistent m.env → StepFollows m (ticket_step m n r)
 ticket-follows m n None none c = same-follows m.env c
@@ -198,37 +231,54 @@ ticket-follows m n (Some r) none c =
     let book : Book = moved_at (begun_in m.env.phase) n m.env.book in
     begun-follows m.env m.env.inits book (hooks_left m.env.phase n m.env.hooks) (frame_of_duty (due_info n r)) none c
 
+-- a duty of the hub begins a frame, and a function that finishes keeps its value no longer
+move-follows : (m : Machine) (move : HubMove) → m.env.frames ≡ [] → IsConsistent m.env → StepFollows m (move_step m move)
+move-follows m (Delivers d) none c = begun-follows m.env m.env.inits m.env.book m.env.hooks (frame_of_duty d) none c
+move-follows m (Closes n) none c = same-follows m.env c
+move-follows m (Finishes n) none c =
+    let left : List FunctionRoot = (without_root n m.env).function_roots in
+    rooted-follows m.env m.env left (All-filter (λ (r : FunctionRoot). not (r.function == n)) (Keeps m.env.heap) m.env.function_roots c.rooted) (same-follows m.env c) refl
+
 event-follows : (m : Machine) (event : Event) → m.env.frames ≡ [] → IsConsistent m.env → StepFollows m (event_step m event)
 event-follows m Opens none c =
     let g : IsConsistentButFrames m.env = parts-of m.env c in
-    let good : IsConsistentButFrames (opening_change m.env).after = record { heap = g.heap; referred = g.referred; references = g.references; pending = g.pending } in
+    let good : IsConsistentButFrames (opening_change m.env).after = record { heap = g.heap; referred = g.referred; references = g.references; pending = g.pending; rooted = g.rooted } in
     other-follows m.env (opening_change m.env).after good refl refl (stays m.env.heap) c
 event-follows m (Inits n) none c = begun-follows m.env (m.env.inits + 1) m.env.book m.env.hooks (frame_of cause.Init n 0) none c
 event-follows m (Tickets n) none c = ticket-follows m n (registration_at m.env.book n) none c
-event-follows m Goes none c = hub-follows m host.Go phase.Live out.Nothing (hub_next m.hub host.Go) c
-event-follows m (EndsLoop w) none c = hub-follows m host.LoopEnd phase.Hooks (out.Ended w) (hub_next m.hub host.LoopEnd) c
-event-follows m Drains none c = hub-follows m host.Drain phase.Drain (out.Unsigned 0) (hub_next m.hub host.Drain) c
-event-follows m FinalsCome none c = hub-follows m host.Finals phase.Finals out.Nothing (hub_next m.hub host.Finals) c
+event-follows m (Moves move) none c = move-follows m move none c
+event-follows m Goes none c = phase-follows m.env phase.Live c
+event-follows m (EndsLoop w) none c = phase-follows m.env phase.Hooks c
+event-follows m Drains none c = phase-follows m.env phase.Drain c
+event-follows m FinalsCome none c = phase-follows m.env phase.Finals c
 event-follows m IsGone none c =
     let g : IsConsistentButFrames m.env = parts-of m.env c in
-    let good : IsConsistentButFrames (gone_change m.env).after = record { heap = g.heap; referred = g.referred; references = g.references; pending = g.pending } in
+    let good : IsConsistentButFrames (gone_change m.env).after = record { heap = g.heap; referred = g.referred; references = g.references; pending = g.pending; rooted = g.rooted } in
     other-follows m.env (gone_change m.env).after good refl refl (stays m.env.heap) c
 
 chosen-follows : (m : Machine) (event : Option Event) → m.env.frames ≡ [] → IsConsistent m.env → StepFollows m (chosen m event)
 chosen-follows m None none c = same-follows m.env c
 chosen-follows m (Some event) none c = event-follows m event none c
 
+call-step-follows : (m : Machine) (c : Call) (o : Out) (b : Bool) → IsConsistent m.env → StepFollows m (call_step_on b m c o)
+call-step-follows m c o false old = asked-follows m.env c (number_of o) old
+call-step-follows m c o true old = shared-follows m.env c (call_step_on true m c o).entry.reply old
+
+end-step-follows : (m : Machine) (v : Option HandleId) (cut : Option Why) (may b : Bool) → IsConsistent m.env → StepFollows m (end_step_on b m (end_change v cut m.env) may)
+end-step-follows m v cut may false c = frame-follows v cut m.env c
+end-step-follows m v cut may true c = frame-follows v cut m.env c
+
 asked-step-follows : (m : Machine) (a : Ask) (o : Out) → IsConsistent m.env → StepFollows m (asked_step m a o)
-asked-step-follows m (ask.Do call) o c = asked-follows m.env call (number_of o) c
-asked-step-follows m (ask.Leave v) o c = frame-follows v None m.env c
+asked-step-follows m (ask.Do call) o c = call-step-follows m call o (is_shared call) c
+asked-step-follows m (ask.Leave v) o c = end-step-follows m v None (may_ask m.env) (is_hub_duty (duty_of m.env.frames)) c
 
 frame-step-follows : (m : Machine) (a : Ask) (o : Out) (cut : Option Why) → IsConsistent m.env → StepFollows m (frame_step m a o cut)
 frame-step-follows m a o None c = asked-step-follows m a o c
-frame-step-follows m a o (Some w) c = frame-follows None (Some w) m.env c
+frame-step-follows m a o (Some w) c = end-step-follows m None (Some w) (may_cut m a w) (is_hub_duty (duty_of m.env.frames)) c
 
 env-step-follows : (m : Machine) (a : Ask) (o : Out) (fs : List Frame) → m.env.frames ≡ fs → IsConsistent m.env → StepFollows m (env_step m a o fs)
 env-step-follows m a o [] none c = chosen-follows m _ none c
-env-step-follows m a o (f ∷ fs) is c = frame-step-follows m (built_ask a) o (cut_of o) c
+env-step-follows m a o (f ∷ fs) is c = frame-step-follows m a o (cut_of o) c
 
 step-follows : (m : Machine) (a : Ask) (x : Entry) (who : Actor) → IsConsistent m.env → StepFollows m (step_of m a x who)
 step-follows m a x actor.Env c = env-step-follows m a x.reply.out m.env.frames refl c

@@ -1,7 +1,6 @@
 -- What asks to exit, and what comes of it in a run.
-use Rattle.std.proofs.Common.{◌≡◌, ◌∙◌, ℕ, nat_lt, Bool, true, false, cond, not, ◌||◌, List, [], ◌∷◌, IsTrue, refl, ap, sym, subst, Option, Some, None, option_map, inl, inr}
+use Rattle.std.proofs.Common.{◌≡◌, ◌∙◌, ℕ, Bool, true, false, not, ◌||◌, List, [], ◌∷◌, IsTrue, refl, ap, sym, subst, Option, Some, None, ◌⊎◌, inl, inr}
 use Rattle.std.proofs.Math.Bool.{or-false}
-use Rattle.std.specs.Option.{option_or}
 use Rattle.napi_types.specs.declared.call.Args.{Args}
 use Rattle.napi_types.specs.declared.call.Ask.{Ask}
 use Rattle.napi_types.specs.declared.call.Call.{Call}
@@ -12,27 +11,33 @@ use Rattle.napi_types.specs.declared.entry.Entry.{Entry}
 use Rattle.napi_types.specs.declared.entry.HostStep.TheVariants as host
 use Rattle.napi_types.specs.declared.entry.LoopEnd.{LoopEnd}
 use Rattle.napi_types.specs.declared.entry.LoopEnd.TheVariants as loop_end
+use Rattle.napi_types.specs.declared.entry.Out.{Out}
 use Rattle.napi_types.specs.declared.entry.Out.TheVariants as out
 use Rattle.napi_types.specs.declared.entry.Phase.{Phase}
 use Rattle.napi_types.specs.declared.entry.Phase.TheVariants as phase
+use Rattle.napi_types.specs.declared.entry.What.{What}
 use Rattle.napi_types.specs.declared.entry.What.TheVariants as what
 use Rattle.napi_types.specs.declared.entry.Why.{Why}
 use Rattle.napi_types.specs.declared.ids.HandleId.{HandleId}
 use Rattle.napi_types.specs.declared.status.Status.{Status}
 use Rattle.napi_types.specs.Attachments.{wrap_ticket}
-use Rattle.napi_types.specs.Book.{Registration, registration_at, lowest_due}
+use Rattle.napi_types.specs.Book.{Registration, lowest_due}
 use Rattle.napi_types.specs.Built.{is_exiting}
 use Rattle.napi_types.specs.Calls.{effect, answer_unless, answer_unless_deep, answer}
-use Rattle.napi_types.specs.Choice.{local_choice, local_choice_in, hub_choice_at, choice}
+use Rattle.napi_types.specs.Changes.{host_entry}
+use Rattle.napi_types.specs.Choice.{local_choice, hub_choice, choice, is_idle, is_quiet}
 use Rattle.napi_types.specs.Ends.{end_change_by, uncut_call_end, end_change}
 use Rattle.napi_types.specs.Entering.{function_change, asked_change}
 use Rattle.napi_types.specs.Environment.{Environment}
 use Rattle.napi_types.specs.Frames.{caller_of, cause_of}
+use Rattle.napi_types.specs.Guards.{is_shared}
 use Rattle.napi_types.specs.Heap.{handle_value}
 use Rattle.napi_types.specs.Hooks.{hook_ticket}
-use Rattle.napi_types.specs.Hub.{Hub, Before, Going, Looped, Final, hub_next}
+use Rattle.napi_types.specs.Hub.{Stage, Before, Going, Looped, Drained, Final}
+use Rattle.napi_types.specs.HubMoves.{HubMove, Delivers, Closes, Finishes, hub_move}
+use Rattle.napi_types.specs.HubSteps.{hub_step, delivery_entry}
 use Rattle.napi_types.specs.InstanceData.{instance_ticket}
-use Rattle.napi_types.specs.Loop.{Opens, Inits, Tickets, EndsLoop, IsGone, ticket_in}
+use Rattle.napi_types.specs.Loop.{Event, Opens, Inits, Tickets, Moves, Goes, EndsLoop, Drains, FinalsCome, IsGone}
 use Rattle.napi_types.specs.Machine.{Machine}
 use Rattle.napi_types.specs.Phases.{stage_of}
 use Rattle.napi_types.specs.ReferenceCalls.{counted_up, value_told}
@@ -42,14 +47,22 @@ use Rattle.napi_types.specs.Registering.{finalizer_if, registering_if, registere
 use Rattle.napi_types.specs.Replies.{Answer}
 use Rattle.napi_types.specs.Run.{IsRunBy, after, final}
 use Rattle.napi_types.specs.Setting.{opening_of, final_of}
-use Rattle.napi_types.specs.Step.{Step, locally, hub_moved, ticket_step, chosen, step}
+use Rattle.napi_types.specs.SharedCalls.{shared_entry}
+use Rattle.napi_types.specs.Step.{Step, locally, shared, move_step, event_step, answered_by, has_room, step}
 use Rattle.napi_types.specs.WrapCalls.{referring_if}
-use Rattle.machine_laws.specs.Choices.{begins_due_tickets_in, is_of_frames}
-use Rattle.machine_laws.specs.ExitLaws.{asks_exit, has_exit, reason_of, ExitIsAskedByItsCall, TheLoopEndsByExitOrIdle, WhatIsDueWaitsForFinalsOnceExitWasAsked}
+use Rattle.machine_laws.specs.Choices.{begins_due_tickets_in, is_of_frames, BeginsLowest, BeginsLastHook, BeginsOfHub}
+use Rattle.machine_laws.specs.ExitLaws.{asks_exit, has_exit, reason_of, ExitIsAskedByItsCall, EndsByReason, TheLoopEndsByItsReason, TheLoopEndsByExitOrIdle, WhatIsDueWaitsForFinalsOnceExitWasAsked}
+use Rattle.napi_types.proofs.FrameEnds.{ended-ends}
+use Rattle.napi_types.proofs.HubKeeps.{hub_step-what}
 use Rattle.napi_types.proofs.Orderly.{Orderly, orderly-step, orderly-opens}
-use Rattle.napi_types.proofs.StepCases.{StepCase, calls, ends, opens, inits, begins, passes, vanishes, step-case}
+use Rattle.napi_types.proofs.Runs.{and-right}
+use Rattle.napi_types.proofs.SharedSteps.{is_of_others, others-told, after_shared-alone}
+use Rattle.napi_types.proofs.StepCases.{StepCase, calls, ends, opens, inits, begins, vanishes, shares, leaves, passes, moves, others, event_before, InPhase, step-case}
+use Rattle.machine_laws.proofs.Bare.{IsBare, bare-run, bare-idle}
 use Rattle.machine_laws.proofs.Beginning.{tickets-begin}
-use Rattle.machine_laws.proofs.Choosing.{IsAlone, alone-next, moved-other, hub-in-phase}
+use Rattle.machine_laws.proofs.Choosing.{Happens, happens-next, happens-what, hub-in-phase}
+use Rattle.machine_laws.proofs.Chosen.{OwnChoice, exits, own-choice, NoChoice, waits, no-choice, HubChoice, idles, quiets, hub-choice, chosen-by}
+use Rattle.machine_laws.proofs.Forms.{event_what}
 
 -- WHAT ASKS IT
 -- no part of an answer changes whether exit was asked, ..
@@ -129,14 +142,55 @@ asked-notes : (m : Machine) (c : Call) (n : ℕ) → Notes m (locally m (asked_c
 asked-notes m (call.CallFunction receiver f args) n = function_change-notes m receiver f args n (refusal m.env (call.CallFunction receiver f args))
 asked-notes m c n = answer-asked m.env c n
 
-step-notes : (m : Machine) (s : Step) → StepCase m s → Notes m s
-step-notes m _ (calls c n may) = asked-notes m c n
-step-notes m _ (ends v cut may) = ended-notes m v cut
-step-notes m _ opens = refl
-step-notes m _ (inits n) = refl
-step-notes m _ (begins n r there next may) = refl
-step-notes m _ (passes p o h next never far left) = refl
-step-notes m _ (vanishes last) = refl
+-- a shared call is none that asks it, and changes nothing of it
+shared-exits : (c : Call) → is_shared c ≡ true → is_exiting c ≡ false
+shared-exits call.Exit shared = cc
+shared-exits c shared = refl
+
+shares-notes : (m : Machine) (c : Call) (o : Out) → is_shared c ≡ true → Notes m (answered_by m c (hub_step m.hub (shared_entry m.env c o)))
+shares-notes m c o shared =
+    let x : Entry = shared_entry m.env c o in
+    ap (λ (e : Environment). e.exit_asked) (after_shared-alone c (hub_step m.hub x).entry.reply m.env)
+    ∙ sym (ap (λ w. asks_exit w || m.env.exit_asked) (hub_step-what m.hub x) ∙ ap (λ b. b || m.env.exit_asked) (shared-exits c shared))
+
+-- nor does what others do, the end of a frame of the hub, or another event of it
+none-notes : (m : Machine) (t : Step) (w : What) → t.after.env.exit_asked ≡ m.env.exit_asked → t.entry.what ≡ w → asks_exit w ≡ false → Notes m t
+none-notes m t w same is none = same ∙ sym (ap (λ v. asks_exit v || m.env.exit_asked) is ∙ ap (λ b. b || m.env.exit_asked) none)
+
+leaves-notes : (m : Machine) (v : Option HandleId) (cut : Option Why) (may : Bool) → Notes m (shared m (hub_step m.hub (end_change v cut m.env).entry) (end_change v cut m.env).after may)
+leaves-notes m v cut may =
+    let x : Entry = (end_change v cut m.env).entry in
+    let is : x.what ≡ what.Host host.End = (ended-ends v cut m.env).is in
+    let same : (end_change v cut m.env).after.exit_asked ≡ m.env.exit_asked =
+    ended-notes m v cut ∙ ap (λ w. asks_exit w || m.env.exit_asked) is in
+    none-notes m (shared m (hub_step m.hub x) (end_change v cut m.env).after may) (what.Host host.End) same (hub_step-what m.hub x ∙ is) refl
+
+move-notes : (m : Machine) (move : HubMove) → Notes m (move_step m move)
+move-notes m (Delivers d) = none-notes m (move_step m (Delivers d)) (what.Host host.Begin) refl (hub_step-what m.hub (delivery_entry d)) refl
+move-notes m (Closes n) =
+    none-notes m (move_step m (Closes n)) (what.Host host.CloseTsfn) refl (hub_step-what m.hub (host_entry host.CloseTsfn (out.Function (record { 0 = n })))) refl
+move-notes m (Finishes n) =
+    none-notes m (move_step m (Finishes n)) (what.Host host.FinishTsfn) refl (hub_step-what m.hub (host_entry host.FinishTsfn (out.Function (record { 0 = n })))) refl
+
+others-exit : (w : What) → is_of_others w ≡ true → asks_exit w ≡ false
+others-exit (what.Call call.Exit) theirs = cc
+others-exit (what.Call c) theirs = refl
+others-exit (what.Host s) theirs = refl
+
+step-notes : (m : Machine) (s : Step) → StepCase m s → IsTrue s.may → Notes m s
+step-notes m _ (calls c n may alone) comes = asked-notes m c n
+step-notes m _ (ends v cut may alone) comes = ended-notes m v cut
+step-notes m _ opens comes = refl
+step-notes m _ (inits n) comes = refl
+step-notes m _ (begins n r there next may) comes = refl
+step-notes m _ (vanishes last) comes = refl
+step-notes m _ (shares c o shared) comes = shares-notes m c o shared
+step-notes m _ (leaves v cut may ours) comes = leaves-notes m v cut may
+step-notes m s (passes p o q) comes = none-notes m s (what.Host (event_before p)) refl (ap (λ (y : Entry). y.what) q.entry) refl
+step-notes m _ (moves move next moving alone) comes = move-notes m move
+step-notes m s (others x other) comes =
+    none-notes m s x.what refl (hub_step-what m.hub x)
+    (others-exit x.what (others-told m.hub x other (and-right (has_room m x.what) (hub_step m.hub x).may comes)))
 
 -- RUNS
 turned : (a b c : Bool) → (a || (b || c)) ≡ ((b || a) || c)
@@ -149,7 +203,7 @@ run-notes : (m : Machine) (bs : List Ask) (xs : List Entry) → Orderly m → Is
 run-notes m (a ∷ bs) (x ∷ xs) orderly run =
     let s : StepCase m (step m a x) = step-case m a x orderly.stage run.0.1 in
     let here : (after m a x).env.exit_asked ≡ (asks_exit x.what || m.env.exit_asked) =
-    step-notes m (step m a x) s ∙ sym (ap (λ (y : Entry). asks_exit y.what || m.env.exit_asked) run.0.0) in
+    step-notes m (step m a x) s run.0.1 ∙ sym (ap (λ (y : Entry). asks_exit y.what || m.env.exit_asked) run.0.0) in
     run-notes (after m a x) bs xs (orderly-step m (step m a x) orderly s) run.1
     ∙ ap (λ b. has_exit xs || b) here ∙ turned (has_exit xs) (asks_exit x.what) m.env.exit_asked
 run-notes m [] [] orderly run = refl
@@ -161,60 +215,87 @@ exit-by-call s bs xs run = run-notes (opening_of s) bs xs (orderly-opens s) run 
 
 -- THE END OF THE LOOP
 -- it tells its reason
-ended-tells : (m : Machine) (reason : LoopEnd) (h : Option Hub) (x : Entry) → x.what ≡ what.Host host.LoopEnd
-    → x ≡ (hub_moved m host.LoopEnd phase.Hooks (out.Ended reason) h).entry → x.reply.out ≡ out.Ended reason
-ended-tells m reason None x is e = let z : what.Host host.LoopEnd ≡ what.Host host.Gone = sym is ∙ ap (λ (y : Entry). y.what) e in cc
-ended-tells m reason (Some h) x is e = ap (λ (y : Entry). y.reply.out) e
+is-loop_end : (v : Event) → event_what v ≡ host.LoopEnd → (reason : LoopEnd) × (v ≡ EndsLoop reason)
+is-loop_end (EndsLoop reason) is = (reason, refl)
+is-loop_end Opens is = cc
+is-loop_end (Inits n) is = cc
+is-loop_end (Tickets n) is = cc
+is-loop_end (Moves (Delivers d)) is = cc
+is-loop_end (Moves (Closes n)) is = cc
+is-loop_end (Moves (Finishes n)) is = cc
+is-loop_end Goes is = cc
+is-loop_end Drains is = cc
+is-loop_end FinalsCome is = cc
+is-loop_end IsGone is = cc
 
--- the begin of a ticket's frame is none
-ticket-apart : (m : Machine) (n : ℕ) (r : Option Registration) (x : Entry) → x.what ≡ what.Host host.LoopEnd → x ≡ (ticket_step m n r).entry → ⊥
-ticket-apart m n None x is e = let z : what.Host host.LoopEnd ≡ what.Host host.Gone = sym is ∙ ap (λ (y : Entry). y.what) e in cc
-ticket-apart m n (Some r) x is e = let z : what.Host host.LoopEnd ≡ what.Host host.Begin = sym is ∙ ap (λ (y : Entry). y.what) e in cc
+-- why it was chosen: exit was asked, or it was not, no ticket is due and the hub is idle or quiet
+record IsReason (m : Machine) (exit : Bool) (reason : LoopEnd) : Type 0 where
+  pub is : reason ≡ reason_of exit (is_idle m.hub)
+  pub none_due : exit ≡ false → lowest_due m.env.book ≡ None
+  pub unmoved : exit ≡ false → hub_move m.hub ≡ None
+  pub quiet : exit ≡ false → is_idle m.hub ≡ false → is_quiet m.hub ≡ true
 
-init-apart : (m : Machine) (n : ℕ) (b c : Bool) (x : Entry) → x.what ≡ what.Host host.LoopEnd
-    → x ≡ (chosen m (option_or (cond b (cond c (Some (Inits n)) None) (Some Opens)) (hub_choice_at Before))).entry
-    → IsTrue (chosen m (option_or (cond b (cond c (Some (Inits n)) None) (Some Opens)) (hub_choice_at Before))).may → ⊥
-init-apart m n true true x is e t = let z : what.Host host.LoopEnd ≡ what.Host host.Begin = sym is ∙ ap (λ (y : Entry). y.what) e in cc
-init-apart m n true false x is e t = moved-other m host.Go host.LoopEnd phase.Live out.Nothing (hub_next m.hub host.Go) x (λ z. cc) is e t
-init-apart m n false c x is e t = let z : what.Host host.LoopEnd ≡ what.Host host.Opened = sym is ∙ ap (λ (y : Entry). y.what) e in cc
+by-exit : (m : Machine) (exit : Bool) → exit ≡ true → IsReason m exit loop_end.Exit
+by-exit m true asked = record { is = refl; none_due = λ z. cc; unmoved = λ z. cc; quiet = λ z. cc }
+by-exit m false asked = cc
 
-loop-tells : (m : Machine) (exit : Bool) (o : Option ℕ) (x : Entry) → x.what ≡ what.Host host.LoopEnd
-    → x ≡ (chosen m (option_or (cond exit (Some (EndsLoop loop_end.Exit)) (option_map Tickets o)) (hub_choice_at Going))).entry
-    → x.reply.out ≡ out.Ended (reason_of exit)
-loop-tells m true o x is e = ended-tells m loop_end.Exit (hub_next m.hub host.LoopEnd) x is e
-loop-tells m false None x is e = ended-tells m loop_end.Idle (hub_next m.hub host.LoopEnd) x is e
-loop-tells m false (Some n) x is e = absurd (ticket-apart m n (registration_at m.env.book n) x is e)
+own-reason : (m : Machine) (p : Phase) (reason : LoopEnd) → OwnChoice m.env p (EndsLoop reason) → IsReason m m.env.exit_asked reason
+own-reason m _ _ (exits asked) = by-exit m m.env.exit_asked asked
 
-hooks-apart : (m : Machine) (o : Option ℕ) (x : Entry) → x.what ≡ what.Host host.LoopEnd → x ≡ (chosen m (option_or (option_map Tickets o) (hub_choice_at Looped))).entry
-    → IsTrue (chosen m (option_or (option_map Tickets o) (hub_choice_at Looped))).may → ⊥
-hooks-apart m None x is e t = moved-other m host.Drain host.LoopEnd phase.Drain (out.Unsigned 0) (hub_next m.hub host.Drain) x (λ z. cc) is e t
-hooks-apart m (Some n) x is e t = ticket-apart m n (registration_at m.env.book n) x is e
+-- where the hub ends the loop the environment is in it, and decided nothing
+in-loop : (m : Machine) (p : Phase) → Going ≡ stage_of p → NoChoice m.env p → (m.env.exit_asked ≡ false) × (lowest_due m.env.book ≡ None)
+in-loop m _ here (waits unasked lowest) = (unasked, lowest)
+in-loop m phase.Init here _ = cc
+in-loop m phase.Hooks here _ = cc
+in-loop m phase.Drain here _ = cc
+in-loop m phase.Gone here _ = cc
 
-finals-apart : (m : Machine) (o : Option ℕ) (x : Entry) → x.what ≡ what.Host host.LoopEnd
-    → x ≡ (chosen m (option_or (option_or (option_map Tickets o) (Some IsGone)) (hub_choice_at Final))).entry → ⊥
-finals-apart m None x is e = let z : what.Host host.LoopEnd ≡ what.Host host.Gone = sym is ∙ ap (λ (y : Entry). y.what) e in cc
-finals-apart m (Some n) x is e = ticket-apart m n (registration_at m.env.book n) x is e
+hub-reason : (m : Machine) (s : Stage) (reason : LoopEnd) → m.hub.stage ≡ s → InPhase m → NoChoice m.env m.env.phase → HubChoice m.hub s (EndsLoop reason)
+    → IsReason m m.env.exit_asked reason
+hub-reason m _ _ here far none (idles unmoved idle) =
+    let both = in-loop m m.env.phase (sym here ∙ far) none in
+    record {
+      is = sym (ap (λ b. reason_of b (is_idle m.hub)) both.0 ∙ ap (reason_of false) idle);
+      none_due = λ z. both.1;
+      unmoved = λ z. unmoved;
+      quiet = λ z busy. let no : true ≡ false = sym idle ∙ busy in cc;
+    }
+hub-reason m _ _ here far none (quiets unmoved busy quiet) =
+    let both = in-loop m m.env.phase (sym here ∙ far) none in
+    record {
+      is = sym (ap (λ b. reason_of b (is_idle m.hub)) both.0 ∙ ap (reason_of false) busy);
+      none_due = λ z. both.1;
+      unmoved = λ z. unmoved;
+      quiet = λ z idle. quiet;
+    }
 
--- it comes in the loop alone
-phase-tells : (m : Machine) (p : Phase) (x : Entry) → x.what ≡ what.Host host.LoopEnd
-    → x ≡ (chosen m (option_or (local_choice_in m.env p) (hub_choice_at (stage_of p)))).entry
-    → IsTrue (chosen m (option_or (local_choice_in m.env p) (hub_choice_at (stage_of p)))).may → x.reply.out ≡ out.Ended (reason_of m.env.exit_asked)
-phase-tells m phase.Init x is e t = absurd (init-apart m m.env.inits m.env.opened (nat_lt m.env.inits m.env.addons) x is e t)
-phase-tells m phase.Live x is e t = loop-tells m m.env.exit_asked (lowest_due m.env.book) x is e
-phase-tells m phase.Hooks x is e t = absurd (hooks-apart m (ticket_in m.env phase.Hooks) x is e t)
-phase-tells m phase.Drain x is e t =
-    absurd (moved-other m host.Finals host.LoopEnd phase.Finals out.Nothing (hub_next m.hub host.Finals) x (λ z. cc) is e t)
-phase-tells m phase.Finals x is e t = absurd (finals-apart m (lowest_due m.env.book) x is e)
-phase-tells m phase.Gone x is e t = cc
+chosen-reason : (m : Machine) (reason : LoopEnd) → InPhase m → choice m ≡ Some (EndsLoop reason) → IsReason m m.env.exit_asked reason
+chosen-reason m reason far is = by (chosen-by m (EndsLoop reason) is)
+  where
+    by : (local_choice m.env ≡ Some (EndsLoop reason)) ⊎ ((local_choice m.env ≡ None) × (hub_choice m.hub ≡ Some (EndsLoop reason))) → IsReason m m.env.exit_asked reason
+    by (inl mine) = own-reason m m.env.phase reason (own-choice m.env m.env.phase (EndsLoop reason) mine)
+    by (inr its) =
+        hub-reason m m.hub.stage reason refl far (no-choice m.env m.env.phase its.0) (hub-choice m.hub m.hub.stage (EndsLoop reason) its.1)
+
+-- the entry tells the reason
+told-reason : (m : Machine) (x : Entry) → x.what ≡ what.Host host.LoopEnd → InPhase m → Happens m x → EndsByReason m m.env.exit_asked x
+told-reason m x is far h =
+    let end : (reason : LoopEnd) × (h.event ≡ EndsLoop reason) = is-loop_end h.event (happens-what m x host.LoopEnd is h) in
+    let why : IsReason m m.env.exit_asked end.0 = chosen-reason m end.0 far (h.next ∙ ap Some end.1) in
+    let told : x.reply.out ≡ out.Ended end.0 = ap (λ (y : Entry). y.reply.out) h.entry ∙ ap (λ v. (event_step m v).entry.reply.out) end.1 in
+    record { reason = told ∙ ap out.Ended why.is; none_due = why.none_due; unmoved = why.unmoved; quiet = why.quiet }
+
+pub ends-by-reason : TheLoopEndsByItsReason
+ends-by-reason s bs xs a x run next is =
+    let m : Machine = final_of s bs xs in
+    let h : Happens m x = happens-next m a x (ap is_of_others is) (ap (λ w. is_of_frames w x.reply.out) is) next in
+    subst (λ exit. EndsByReason m exit x) (exit-by-call s bs xs run) (told-reason m x is (hub-in-phase s bs xs run) h)
 
 pub ends-by-exit-or-idle : TheLoopEndsByExitOrIdle
-ends-by-exit-or-idle s bs xs a x run next is =
+ends-by-exit-or-idle s bs xs a x run none next is =
     let m : Machine = final_of s bs xs in
-    let here : IsAlone m x = alone-next m a x (ap (λ w. is_of_frames w x.reply.out) is) next in
-    let same : chosen m (choice m) ≡ chosen m (option_or (local_choice m.env) (hub_choice_at (stage_of m.env.phase))) =
-    ap (λ stage. chosen m (option_or (local_choice m.env) (hub_choice_at stage))) (hub-in-phase s bs xs run) in
-    phase-tells m m.env.phase x is (here.entry ∙ ap (λ (t : Step). t.entry) same) (subst (λ (t : Step). IsTrue t.may) same here.may)
-    ∙ ap (λ exit. out.Ended (reason_of exit)) (exit-by-call s bs xs run)
+    let bare : IsBare m.hub = bare-run s bs xs run none in
+    (ends-by-reason s bs xs a x run next is).reason ∙ ap (λ idle. out.Ended (reason_of (has_exit xs) idle)) (bare-idle m.hub bare)
 
 -- TICKETS
 late : (e : Environment) (p : Phase) → e.exit_asked ≡ true → begins_due_tickets_in e p ≡ true → p ≡ phase.Finals
@@ -225,10 +306,47 @@ late e phase.Hooks asked moment = cc
 late e phase.Drain asked moment = cc
 late e phase.Gone asked moment = cc
 
+-- the hub delivers nothing in the loop once exit was asked
+drain-delivers : (m : Machine) (p : Phase) → InPhase m → m.env.phase ≡ p → m.env.exit_asked ≡ true → NoChoice m.env p → (m.hub.stage ≡ Going) ⊎ (m.hub.stage ≡ Drained)
+    → p ≡ phase.Drain
+drain-delivers m phase.Drain far here asked _ moment = refl
+drain-delivers m _ far here asked (waits unasked lowest) moment = let z : true ≡ false = sym asked ∙ unasked in cc
+drain-delivers m phase.Init far here asked _ moment = absurd (apart moment)
+  where
+    at : m.hub.stage ≡ Before
+    at = far ∙ ap stage_of here
+
+    apart : (m.hub.stage ≡ Going) ⊎ (m.hub.stage ≡ Drained) → ⊥
+    apart (inl is) = let z : Before ≡ Going = sym at ∙ is in cc
+    apart (inr is) = let z : Before ≡ Drained = sym at ∙ is in cc
+drain-delivers m phase.Hooks far here asked _ moment = absurd (apart moment)
+  where
+    at : m.hub.stage ≡ Looped
+    at = far ∙ ap stage_of here
+
+    apart : (m.hub.stage ≡ Going) ⊎ (m.hub.stage ≡ Drained) → ⊥
+    apart (inl is) = let z : Looped ≡ Going = sym at ∙ is in cc
+    apart (inr is) = let z : Looped ≡ Drained = sym at ∙ is in cc
+drain-delivers m phase.Gone far here asked _ moment = absurd (apart moment)
+  where
+    at : m.hub.stage ≡ Final
+    at = far ∙ ap stage_of here
+
+    apart : (m.hub.stage ≡ Going) ⊎ (m.hub.stage ≡ Drained) → ⊥
+    apart (inl is) = let z : Final ≡ Going = sym at ∙ is in cc
+    apart (inr is) = let z : Final ≡ Drained = sym at ∙ is in cc
+
 pub due-waits : WhatIsDueWaitsForFinalsOnceExitWasAsked
-due-waits s bs xs a x c addon entry d run asked next is told =
-    let m : Machine = final_of s bs xs in
-    elim (tickets-begin m a x c addon entry d next is told) [
-      | inl due ↦ inl (late m.env m.env.phase (exit-by-call s bs xs run ∙ asked) due.moment)
-      | inr hook ↦ inr hook
-    ]
+due-waits s bs xs a x c addon entry d run asked next is told = by (tickets-begin m a x c addon entry d next is told)
+  where
+    m : Machine
+    m = final_of s bs xs
+
+    known : m.env.exit_asked ≡ true
+    known = exit-by-call s bs xs run ∙ asked
+
+    by : BeginsLowest m d ⊎ BeginsLastHook m d ⊎ BeginsOfHub m d x → (m.env.phase ≡ phase.Finals) ⊎ BeginsLastHook m d ⊎ (m.env.phase ≡ phase.Drain) × BeginsOfHub m d x
+    by (inl due) = inl (late m.env m.env.phase known due.moment)
+    by (inr (inl hook)) = inr (inl hook)
+    by (inr (inr hub)) =
+        inr (inr (drain-delivers m m.env.phase (hub-in-phase s bs xs run) refl known (no-choice m.env m.env.phase hub.waits) hub.moment, hub))

@@ -1,26 +1,40 @@
 -- What it takes to show that entries are no run.
-use Rattle.std.proofs.Common.{◌≡◌, ℕ, Bool, false, List, [], IsTrue, Option, Some, subst, slice_index_or}
+use Rattle.std.proofs.Common.{◌≡◌, ℕ, Bool, false, not, ◌&&◌, List, [], ◌∷◌, IsTrue, refl, ap, Option, Some, None, is_none, subst, slice_index_or}
 use Rattle.napi_types.specs.declared.call.Ask.{Ask}
 use Rattle.napi_types.specs.declared.entry.Actor.{Actor}
 use Rattle.napi_types.specs.declared.entry.Actor.TheVariants as actor
+use Rattle.napi_types.specs.declared.entry.Cause.{Cause}
 use Rattle.napi_types.specs.declared.entry.Duty.{Duty}
 use Rattle.napi_types.specs.declared.entry.Duty.TheVariants as duty
 use Rattle.napi_types.specs.declared.entry.Entry.{Entry}
+use Rattle.napi_types.specs.declared.entry.Given.{Given}
 use Rattle.napi_types.specs.declared.entry.HostStep.TheVariants as host
 use Rattle.napi_types.specs.declared.entry.LoopEnd.{LoopEnd}
 use Rattle.napi_types.specs.declared.entry.Out.{Out}
 use Rattle.napi_types.specs.declared.entry.Out.TheVariants as out
 use Rattle.napi_types.specs.declared.entry.Phase.TheVariants as phase
+use Rattle.napi_types.specs.declared.entry.Target.{Target}
+use Rattle.napi_types.specs.declared.entry.What.{What}
+use Rattle.napi_types.specs.declared.entry.What.TheVariants as what
 use Rattle.napi_types.specs.declared.status.Kind.{Kind}
+use Rattle.napi_types.specs.declared.status.Status.{Status}
 use Rattle.napi_types.specs.Changes.{host_entry}
-use Rattle.napi_types.specs.Hub.{Final}
+use Rattle.napi_types.specs.Hub.{Hub, Final, threads_left, workers_left}
+use Rattle.napi_types.specs.HubCalls.{hub_answer, is_thread_call}
+use Rattle.napi_types.specs.HubSteps.{hub_step, hub_step_of, answered_step, is_gone_on, is_thread_there, is_thread_end, nothing_given, thread_step, is_worker_there, start_step, work_end_step, worker_step}
+use Rattle.napi_types.specs.Lists.{has_number}
 use Rattle.napi_types.specs.Machine.{Machine}
 use Rattle.napi_types.specs.Run.{IsNext, IsRunBy}
-use Rattle.napi_types.specs.Step.{step_of}
+use Rattle.napi_types.specs.Pool.{executed_by}
+use Rattle.napi_types.specs.Replies.{Answer}
+use Rattle.napi_types.specs.Step.{step_of, has_room}
 use Rattle.napi_types.specs.Plan.{loaded_registers}
 use Rattle.napi_types.specs.Setting.{Setting, opening_of}
+use Rattle.machine_laws.specs.Computing.{ComputesBy, steps, entries_of, all_may, is_paired}
 use Rattle.machine_laws.specs.Told.{IsRun, all_told, told_asks}
-use Rattle.machine_laws.proofs.Asks.{asks-unique}
+use Rattle.napi_types.proofs.Runs.{and-left, and-right}
+use Rattle.machine_laws.proofs.Asks.{asks-unique, told-run}
+use Rattle.machine_laws.proofs.Computing.{computes-of}
 
 -- the entry at a place
 abbrev pub entry_at : ℕ → List Entry → Entry
@@ -60,18 +74,125 @@ abbrev pub told_ticket : ℕ → Out → ℕ
 told_ticket d (out.Begin cause addon entry due) = ticket_of d due
 told_ticket d _ = d
 
+-- the item whose frame begins, ..
+abbrev item_of : ℕ → Option Duty → ℕ
+item_of d (Some (duty.Item function n)) = n
+item_of d _ = d
+
+abbrev pub told_item : ℕ → Out → ℕ
+told_item d (out.Begin cause addon entry due) = item_of d due
+told_item d _ = d
+
+-- .. the function whose item it is, ..
+abbrev function_of : ℕ → Option Duty → ℕ
+function_of d (Some (duty.Item function n)) = function.0
+function_of d _ = d
+
+abbrev pub told_function : ℕ → Out → ℕ
+told_function d (out.Begin cause addon entry due) = function_of d due
+told_function d _ = d
+
+-- .. and why the frame begins
+abbrev pub told_cause : Cause → Out → Cause
+told_cause d (out.Begin cause addon entry due) = cause
+told_cause d _ = d
+
+-- the work that starts
+abbrev work_of : ℕ → Duty → ℕ
+work_of d (duty.Work n) = n
+work_of d _ = d
+
+abbrev pub told_work : ℕ → Out → ℕ
+told_work d (out.Duty due) = work_of d due
+told_work d _ = d
+
+-- the target that the environment handed to the hub
+abbrev target_or : Target → Option Target → Target
+target_or d (Some t) = t
+target_or d None = d
+
+abbrev pub given_target : Target → Option Given → Target
+given_target d (Some g) = target_or d g.target
+given_target d None = d
+
+-- the environment's own refusal that it handed over
+abbrev pub given_refused : Option Given → Option Status
+given_refused (Some g) = g.refused
+given_refused None = None
+
 -- a run of a script whose plans are all told is one at its told asks
 pub told-steps : (s : Setting) (xs : List Entry) → IsTrue (all_told s) → IsRun s xs → IsRunBy (opening_of s) (told_asks s xs) xs
 told-steps s xs h r =
-    let same : r.0 ≡ told_asks s xs = asks-unique s.plans (loaded_registers s.plans) (opening_of s) r.0 xs h r.1.steps r.1.asked in
+    let same : r.0 ≡ told_asks s xs = asks-unique s.built s.plans (loaded_registers s.plans) (opening_of s) r.0 xs h r.1.steps r.1.asked in
     let P : List Ask → Type 0 = λ bs. IsRunBy (opening_of s) bs xs in
     subst P same r.1.steps
 
--- where the environment is gone, the hub has made its events, and no frame stands, nothing may come
-gone-step : (m : Machine) (a : Ask) (x : Entry) (who : Actor) → m.env.phase ≡ phase.Gone → m.hub.stage ≡ Final → m.env.frames ≡ [] → IsTrue (step_of m a x who).may → ⊥
-gone-step m a x actor.Env p s f h = let k : IsTrue false = rw (f, p, s) at h in cc
-gone-step m a x (actor.Thread n) p s f h = cc
-gone-step m a x (actor.Worker n) p s f h = cc
+-- each of its entries is the one that its step gives, ..
+pub told-entry : (s : Setting) (xs : List Entry) (n : ℕ) → IsTrue (all_told s) → IsRun s xs
+    → entry_at n xs ≡ entry_at n (entries_of (steps (opening_of s) (told_asks s xs) xs))
+told-entry s xs n h r = ap (entry_at n) (told-run s xs h r)
 
-pub gone-is-last : (m : Machine) (a : Ask) (x : Entry) → m.env.phase ≡ phase.Gone → m.hub.stage ≡ Final → m.env.frames ≡ [] → IsNext m a x → ⊥
-gone-is-last m a x p s f n = gone-step m a x x.actor p s f n.1
+-- .. and may stand
+pub told-may : (s : Setting) (xs : List Entry) → IsTrue (all_told s) → IsRun s xs → IsTrue (all_may (steps (opening_of s) (told_asks s xs) xs))
+told-may s xs h r =
+    let c : ComputesBy (opening_of s) (told_asks s xs) xs = computes-of (opening_of s) (told_asks s xs) xs (told-steps s xs h r) in
+    and-right (is_paired (told_asks s xs) xs) (all_may (steps (opening_of s) (told_asks s xs) xs)) c.1
+
+-- THE END
+-- where every thread and every worker has ended, nothing of theirs may come
+answered-may : (h : Hub) (x : Entry) (may : Bool) (o : Option (Answer Hub)) → IsTrue (answered_step h x may o).may → IsTrue may
+answered-may h x may None t = cc
+answered-may h x may (Some a) t = t
+
+none-left : (n : ℕ) (ns : List ℕ) → ns ≡ [] → IsTrue (has_number n ns) → ⊥
+none-left n [] none t = cc
+none-left n (m ∷ ms) none t = cc
+
+thread-left : (h : Hub) (n : ℕ) (x : Entry) (w : What) → IsTrue (thread_step h n x w).may → IsTrue (has_number n (threads_left h))
+thread-left h n x (what.Call c) t =
+    let may : IsTrue (is_thread_there h n && is_thread_call c) =
+    answered-may h (record x { depth = 0; given = None }) (is_thread_there h n && is_thread_call c) (hub_answer h (actor.Thread n) nothing_given c 0) t in
+    and-right (is_gone_on h.stage) (has_number n (threads_left h)) (and-left (is_thread_there h n) (is_thread_call c) may)
+thread-left h n x (what.Host host.ActorEnd) t =
+    and-right (is_gone_on h.stage) (has_number n (threads_left h)) (and-left (is_thread_there h n) (is_thread_end x.reply.out) t)
+thread-left h n x (what.Host _) t = cc
+
+start-left : (h : Hub) (n : ℕ) (x : Entry) (queued : List ℕ) → IsTrue (start_step h n x queued).may → IsTrue (has_number n (workers_left h))
+start-left h n x [] t = cc
+start-left h n x (q ∷ qs) t =
+    and-left (is_worker_there h n) (not h.pool.closing) (and-left (is_worker_there h n && not h.pool.closing) (is_none (executed_by h.pool n)) t)
+
+finish-left : (h : Hub) (n : ℕ) (x : Entry) (o : Option ℕ) → IsTrue (work_end_step h n x o).may → IsTrue (has_number n (workers_left h))
+finish-left h n x None t = cc
+finish-left h n x (Some q) t = t
+
+worker-left : (h : Hub) (n : ℕ) (x : Entry) (w : What) → IsTrue (worker_step h n x w).may → IsTrue (has_number n (workers_left h))
+worker-left h n x (what.Call c) t = cc
+worker-left h n x (what.Host host.Start) t = start-left h n x h.pool.queued t
+worker-left h n x (what.Host host.Finish) t = finish-left h n x (executed_by h.pool n) t
+worker-left h n x (what.Host host.ActorEnd) t =
+    and-left (is_worker_there h n) h.pool.closing (and-left (is_worker_there h n && h.pool.closing) (is_none (executed_by h.pool n)) t)
+worker-left h n x (what.Host _) t = cc
+
+-- the environment is gone, the hub has made its events, no frame stands, and every thread and every worker has ended
+pub record IsOver (m : Machine) : Type 0 where
+  pub phase : m.env.phase ≡ phase.Gone
+  pub stage : m.hub.stage ≡ Final
+  pub frames : m.env.frames ≡ []
+  pub threads : threads_left m.hub ≡ []
+  pub workers : workers_left m.hub ≡ []
+
+-- then nothing may come
+over-step : (m : Machine) (a : Ask) (x : Entry) (who : Actor) → IsOver m → x.actor ≡ who → IsTrue (step_of m a x who).may → ⊥
+over-step m a x actor.Env over is h = let k : IsTrue false = rw (over.frames, over.phase, over.stage) at h in cc
+over-step m a x (actor.Thread n) over is h =
+    let may : IsTrue (hub_step m.hub x).may = and-right (has_room m x.what) (hub_step m.hub x).may h in
+    let t : IsTrue (hub_step_of m.hub x (actor.Thread n)).may = subst (λ (who : Actor). IsTrue (hub_step_of m.hub x who).may) is may in
+    none-left n (threads_left m.hub) over.threads (thread-left m.hub n x x.what t)
+over-step m a x (actor.Worker n) over is h =
+    let may : IsTrue (hub_step m.hub x).may = and-right (has_room m x.what) (hub_step m.hub x).may h in
+    let t : IsTrue (hub_step_of m.hub x (actor.Worker n)).may = subst (λ (who : Actor). IsTrue (hub_step_of m.hub x who).may) is may in
+    none-left n (workers_left m.hub) over.workers (worker-left m.hub n x x.what t)
+
+pub gone-is-last : (m : Machine) (a : Ask) (x : Entry) → IsOver m → IsNext m a x → ⊥
+gone-is-last m a x over next = over-step m a x x.actor over refl next.1

@@ -1,106 +1,117 @@
 -- What holds of finalizers at every moment of a run.
-use Rattle.std.proofs.Common.{◌≡◌, ◌≢◌, ◌∙◌, ℕ, false, List, [], ◌∷◌, refl, ap, sym, Option, Some, None, option_map}
+use Rattle.std.proofs.Common.{◌≡◌, ◌≢◌, ◌∙◌, ℕ, Bool, true, false, List, [], ◌∷◌, refl, ap, sym, subst, Option, Some, None, option_map}
 use Rattle.std.specs.Option.{unwrap_or}
 use Rattle.std.proofs.lemmas.List.Elements.{All-nil}
 use Rattle.napi_types.specs.declared.call.Ask.{Ask}
-use Rattle.napi_types.specs.declared.call.Ask.TheVariants as ask
-use Rattle.napi_types.specs.declared.entry.Actor.{Actor}
-use Rattle.napi_types.specs.declared.entry.Actor.TheVariants as actor
+use Rattle.napi_types.specs.declared.call.Call.{Call}
 use Rattle.napi_types.specs.declared.entry.Cause.TheVariants as cause
 use Rattle.napi_types.specs.declared.entry.Entry.{Entry}
-use Rattle.napi_types.specs.declared.entry.HostStep.{HostStep}
 use Rattle.napi_types.specs.declared.entry.HostStep.TheVariants as host
 use Rattle.napi_types.specs.declared.entry.Out.{Out}
-use Rattle.napi_types.specs.declared.entry.Out.TheVariants as out
 use Rattle.napi_types.specs.declared.entry.Phase.{Phase}
 use Rattle.napi_types.specs.declared.entry.Phase.TheVariants as phase
+use Rattle.napi_types.specs.declared.entry.Reply.{Reply}
 use Rattle.napi_types.specs.declared.entry.What.TheVariants as what
 use Rattle.napi_types.specs.declared.entry.Why.{Why}
 use Rattle.napi_types.specs.declared.ids.HandleId.{HandleId}
 use Rattle.napi_types.specs.Book.{Book, Registration, is_registered, is_at, registration_at, lowest_due}
-use Rattle.napi_types.specs.Built.{built_ask}
-use Rattle.napi_types.specs.Changes.{number_of}
+use Rattle.napi_types.specs.Changes.{number_of, in_phase}
 use Rattle.napi_types.specs.Choice.{choice}
 use Rattle.napi_types.specs.Duties.{AreNested}
 use Rattle.napi_types.specs.Ends.{end_change}
+use Rattle.napi_types.specs.Entering.{asked_change}
 use Rattle.napi_types.specs.Environment.{Environment}
-use Rattle.napi_types.specs.Frames.{Frame}
+use Rattle.napi_types.specs.Frames.{Frame, frame_of_duty}
 use Rattle.napi_types.specs.Hooked.{is_late}
-use Rattle.napi_types.specs.Hub.{Hub, hub_next}
-use Rattle.napi_types.specs.Loop.{Event, Opens, Inits, Tickets, Goes, EndsLoop, Drains, FinalsCome, IsGone}
+use Rattle.napi_types.specs.HubMoves.{HubMove, Delivers, Closes, Finishes, hub_move}
+use Rattle.napi_types.specs.Loop.{Event, Opens, Inits, Tickets, Moves, Goes, EndsLoop, Drains, FinalsCome, IsGone}
 use Rattle.napi_types.specs.Machine.{Machine}
 use Rattle.napi_types.specs.Phases.{stage_of}
-use Rattle.napi_types.specs.Run.{IsNext, after, final}
-use Rattle.napi_types.specs.Setting.{opening_of, final_of}
-use Rattle.napi_types.specs.Step.{hub_moved, ticket_step, event_step, chosen, frame_step, env_step, step_of, cut_of}
+use Rattle.napi_types.specs.Run.{IsNext, IsRunBy, after, final}
+use Rattle.napi_types.specs.Setting.{Setting, opening_of, final_of}
+use Rattle.napi_types.specs.Step.{Step, ticket_step, event_step, shared_call_step, end_step_on, step}
 use Rattle.machine_laws.specs.Choices.{begins_due_tickets_in, IsOfTicket, GoneComesOnlyAfterFinals}
 use Rattle.machine_laws.specs.FinalizerLaws.{OnlyTheOutermostFrameHasADuty, NoneIsRegisteredFromFinalsOn}
 use Rattle.napi_types.proofs.Books.{NoneRegistered, none-owed_tickets}
 use Rattle.napi_types.proofs.Registrations.{registered-holds, AreUncalled, uncalled-asked, uncalled-ended, uncalled-begun, uncalled-phase}
-use Rattle.napi_types.proofs.StandingFrames.{nested-asked, nested-ended, nested-ticket, nested-init}
+use Rattle.napi_types.proofs.SharedSteps.{is_of_others, after_shared-alone, delivery-of_hub}
+use Rattle.napi_types.proofs.StandingFrames.{counted-nested, nested-asked, nested-ended, nested-first, nested-ticket, nested-init}
 use Rattle.machine_laws.proofs.Beginning.{lowest-first}
 use Rattle.machine_laws.proofs.Choosing.{gone-last, hub-in-phase}
+use Rattle.machine_laws.proofs.Chosen.{chosen-move}
+use Rattle.machine_laws.proofs.Forms as form
+use Rattle.machine_laws.proofs.Forms.{Form, form-of, by-env}
 use Rattle.machine_laws.proofs.OrderlyRuns.{orderly-run}
 
 -- ONLY THE OUTERMOST FRAME
 -- only the outermost frame is one that no call began, and no call will begin that of a ticket
-record IsNested (e : Environment) : Type 0 where
+pub record IsNested (e : Environment) : Type 0 where
   pub frames : AreNested e.frames
   pub uncalled : AreUncalled e.book
 
-hub-nested : (m : Machine) (event : HostStep) (p : Phase) (o : Out) (h : Option Hub) → IsNested m.env → IsNested (hub_moved m event p o h).after.env
-hub-nested m event p o None here = here
-hub-nested m event p o (Some h) here = record { frames = here.frames; uncalled = uncalled-phase p m.env.book here.uncalled }
+-- what a frame's call or end leaves
+pub asked-nested : (e : Environment) (c : Call) (n : ℕ) → e.frames ≢ [] → IsNested e → IsNested (asked_change e c n).after
+asked-nested e c n stands here = record { frames = nested-asked e c n stands here.frames; uncalled = uncalled-asked e c n here.uncalled }
+
+ended-nested : (e : Environment) (v : Option HandleId) (cut : Option Why) → IsNested e → IsNested (end_change v cut e).after
+ended-nested e v cut here = record { frames = nested-ended e v cut here.frames; uncalled = uncalled-ended e v cut here.uncalled }
+
+end_step-nested : (m : Machine) (v : Option HandleId) (cut : Option Why) (may ours : Bool) → IsNested m.env → IsNested (end_step_on ours m (end_change v cut m.env) may).after.env
+end_step-nested m v cut may false here = ended-nested m.env v cut here
+end_step-nested m v cut may true here = ended-nested m.env v cut here
+
+-- a shared call leaves the frames, but for the count of asks, and the book
+shared-nested : (m : Machine) (c : Call) (o : Out) → IsNested m.env → IsNested (shared_call_step m c o).after.env
+shared-nested m c o here =
+    let r : Reply = (shared_call_step m c o).entry.reply in
+    subst IsNested (sym (after_shared-alone c r m.env)) (record { frames = counted-nested m.env.frames here.frames; uncalled = here.uncalled })
 
 ticket-nested : (m : Machine) (n : ℕ) (r : Option Registration) → registration_at m.env.book n ≡ r → m.env.frames ≡ [] → IsNested m.env → IsNested (ticket_step m n r).after.env
 ticket-nested m n None there none here = here
 ticket-nested m n (Some r) there none here =
     record { frames = nested-ticket n r m.env there here.uncalled none; uncalled = uncalled-begun m.env.phase n m.env.book here.uncalled }
 
-event-nested : (m : Machine) (v : Event) → m.env.frames ≡ [] → IsNested m.env → IsNested (event_step m v).after.env
-event-nested m Opens none here = record { frames = here.frames; uncalled = here.uncalled }
-event-nested m (Inits n) none here = record { frames = nested-init n m.env none; uncalled = here.uncalled }
-event-nested m (Tickets n) none here = ticket-nested m n (registration_at m.env.book n) refl none here
-event-nested m Goes none here = hub-nested m host.Go phase.Live out.Nothing (hub_next m.hub host.Go) here
-event-nested m (EndsLoop w) none here = hub-nested m host.LoopEnd phase.Hooks (out.Ended w) (hub_next m.hub host.LoopEnd) here
-event-nested m Drains none here = hub-nested m host.Drain phase.Drain (out.Unsigned 0) (hub_next m.hub host.Drain) here
-event-nested m FinalsCome none here = hub-nested m host.Finals phase.Finals out.Nothing (hub_next m.hub host.Finals) here
-event-nested m IsGone none here = record { frames = here.frames; uncalled = here.uncalled }
+phase-nested : (p : Phase) (e : Environment) → IsNested e → IsNested (in_phase p e)
+phase-nested p e here = record { frames = here.frames; uncalled = uncalled-phase p e.book here.uncalled }
 
-chosen-nested : (m : Machine) (v : Option Event) → m.env.frames ≡ [] → IsNested m.env → IsNested (chosen m v).after.env
-chosen-nested m None none here = here
-chosen-nested m (Some v) none here = event-nested m v none here
+-- no call begins what the hub delivers
+move-nested : (m : Machine) (move : HubMove) → hub_move m.hub ≡ Some move → m.env.frames ≡ [] → IsNested m.env → IsNested (event_step m (Moves move)).after.env
+move-nested m (Delivers d) next none here =
+    record { frames = nested-first (frame_of_duty d) m.env.frames none (delivery-of_hub m.hub d next).uncalled; uncalled = here.uncalled }
+move-nested m (Closes n) next none here = here
+move-nested m (Finishes n) next none here = record { frames = here.frames; uncalled = here.uncalled }
 
-ended-nested : (e : Environment) (v : Option HandleId) (cut : Option Why) → IsNested e → IsNested (end_change v cut e).after
-ended-nested e v cut here = record { frames = nested-ended e v cut here.frames; uncalled = uncalled-ended e v cut here.uncalled }
-
-frame-nested : (m : Machine) (a : Ask) (o : Out) (cut : Option Why) → m.env.frames ≢ [] → IsNested m.env → IsNested (frame_step m a o cut).after.env
-frame-nested m a o (Some w) stands here = ended-nested m.env None (Some w) here
-frame-nested m (ask.Leave v) o None stands here = ended-nested m.env v None here
-frame-nested m (ask.Do c) o None stands here =
-    record { frames = nested-asked m.env c (number_of o) stands here.frames; uncalled = uncalled-asked m.env c (number_of o) here.uncalled }
+event-nested : (m : Machine) (v : Event) → choice m ≡ Some v → m.env.frames ≡ [] → IsNested m.env → IsNested (event_step m v).after.env
+event-nested m Opens next none here = record { frames = here.frames; uncalled = here.uncalled }
+event-nested m (Inits n) next none here = record { frames = nested-init n m.env none; uncalled = here.uncalled }
+event-nested m (Tickets n) next none here = ticket-nested m n (registration_at m.env.book n) refl none here
+event-nested m (Moves move) next none here = move-nested m move (chosen-move m move next) none here
+event-nested m Goes next none here = phase-nested phase.Live m.env here
+event-nested m (EndsLoop w) next none here = phase-nested phase.Hooks m.env here
+event-nested m Drains next none here = phase-nested phase.Drain m.env here
+event-nested m FinalsCome next none here = phase-nested phase.Finals m.env here
+event-nested m IsGone next none here = record { frames = here.frames; uncalled = here.uncalled }
 
 some-stand : (f : Frame) (fs gs : List Frame) → gs ≡ f ∷ fs → gs ≢ []
 some-stand f fs gs is none = let z : f ∷ fs ≡ [] = sym is ∙ none in cc
 
-env-nested : (m : Machine) (a : Ask) (o : Out) (fs : List Frame) → m.env.frames ≡ fs → IsNested m.env → IsNested (env_step m a o fs).after.env
-env-nested m a o [] none here = chosen-nested m (choice m) none here
-env-nested m a o (f ∷ fs) is here = frame-nested m (built_ask a) o (cut_of o) (some-stand f fs m.env.frames is) here
+pub form-nested : (m : Machine) (t : Step) → Form m t → IsNested m.env → IsNested t.after.env
+form-nested m _ (form.calls f fs stands c o alone) here = asked-nested m.env c (number_of o) (some-stand f fs m.env.frames stands) here
+form-nested m _ (form.shares f fs stands c o shared) here = shared-nested m c o here
+form-nested m _ (form.ends f fs stands v cut may ours is) here = end_step-nested m v cut may ours here
+form-nested m _ (form.happens alone event next) here = event-nested m event next alone here
+form-nested m _ (form.others x other) here = here
 
-step-nested : (m : Machine) (a : Ask) (x : Entry) (who : Actor) → IsNested m.env → IsNested (step_of m a x who).after.env
-step-nested m a x actor.Env here = env-nested m a x.reply.out m.env.frames refl here
-step-nested m a x (actor.Thread n) here = here
-step-nested m a x (actor.Worker n) here = here
+run-nested : (m : Machine) (bs : List Ask) (xs : List Entry) → IsNested m.env → IsRunBy m bs xs → IsNested (final m bs xs).env
+run-nested m (a ∷ bs) (x ∷ xs) here run = run-nested (after m a x) bs xs (form-nested m (step m a x) (form-of m a x run.0) here) run.1
+run-nested m [] xs here run = here
+run-nested m (a ∷ bs) [] here run = here
 
-run-nested : (m : Machine) (bs : List Ask) (xs : List Entry) → IsNested m.env → IsNested (final m bs xs).env
-run-nested m (a ∷ bs) (x ∷ xs) here = run-nested (after m a x) bs xs (step-nested m a x x.actor here)
-run-nested m [] xs here = here
-run-nested m (a ∷ bs) [] here = here
+pub opens-nested : (s : Setting) → IsNested (opening_of s).env
+opens-nested s = record { frames = tt; uncalled = All-nil (λ (r : Registration). r.cause ≢ cause.Call) }
 
 pub only-outermost : OnlyTheOutermostFrameHasADuty
-only-outermost s bs xs run =
-    let opens : IsNested (opening_of s).env = record { frames = tt; uncalled = All-nil (λ (r : Registration). r.cause ≢ cause.Call) } in
-    (run-nested (opening_of s) bs xs opens).frames
+only-outermost s bs xs run = (run-nested (opening_of s) bs xs (opens-nested s) run).frames
 
 -- NONE IS REGISTERED
 -- where none of the book is, no ticket is
@@ -120,7 +131,7 @@ none-due : (m : Machine) (a : Ask) (x : Entry) (o : Option ℕ) → lowest_due m
     → x.what ≡ what.Host host.Gone → o ≡ None
 none-due m a x None lowest alone last next is = refl
 none-due m a x (Some n) lowest alone last next is =
-    let t : IsOfTicket m n x = lowest-first m n a x alone (ap (begins_due_tickets_in m.env) last) lowest next in
+    let t : IsOfTicket m n x = lowest-first m n a x alone (ap (begins_due_tickets_in m.env) last) lowest (by-env m a x next (ap is_of_others is)) next in
     let z : what.Host host.Gone ≡ what.Host host.Begin = sym is ∙ ap (λ (y : Entry). y.what) t.entry in
     cc
 

@@ -1,6 +1,6 @@
 -- Laws over all calls in all environments.
 use Rattle.std.specs.Option.{option_or, unwrap_or}
-use Rattle.std.specs.Prelude.{◌≡◌, ℕ, ℤ, ◌+◌, ◌*◌, nat_lt, Bool, true, false, ◌&&◌, not, [], length, Option, Some, None, filter, is_some, slice_get, codes, ◌⊎◌}
+use Rattle.std.specs.Prelude.{◌≡◌, ◌<◌, ℕ, ℤ, ◌+◌, ◌*◌, nat_lt, Bool, true, false, ◌&&◌, not, [], length, Option, Some, None, filter, is_some, slice_get, codes, ◌⊎◌}
 use Rattle.napi_types.specs.declared.body.Body.TheVariants as body
 use Rattle.napi_types.specs.declared.call.Call.{Call}
 use Rattle.napi_types.specs.declared.call.Call.TheVariants as call
@@ -86,17 +86,20 @@ pub record ReadsExternalsOnly (heap : Heap) (h : HandleId) : Type 0 where
 abbrev pub OnlyExternalsAreRead : Type 0
 OnlyExternalsAreRead = (heap : Heap) (h : HandleId) → ReadsExternalsOnly heap h
 
--- the heap refuses no thread-safe function of a function, nor of none, but that of a number
-pub record ServesFunctionsOnly (heap : Heap) (h : HandleId) (entry : Option ℕ) (most initial : ℕ) (finalizer : Option ℕ) (context : ℕ) : Type 0 where
-  pub function : (addon runs payload : ℕ) → handle_body heap h.0 ≡ body.Function addon runs payload
-      → row_refusal heap (call.CreateThreadsafeFunction (Some h) entry most initial finalizer context) ≡ None
-  pub none : row_refusal heap (call.CreateThreadsafeFunction None entry most initial finalizer context) ≡ None
-  pub number : (n : ℤ) → handle_body heap h.0 ≡ body.Number n
-      → row_refusal heap (call.CreateThreadsafeFunction (Some h) entry most initial finalizer context) ≡ Some status.InvalidArg
+-- the heap refuses no thread-safe function of a function, nor one of none with a call-js entry, where a thread holds it. It refuses that of a number, one with
+-- neither, and one that nobody holds
+pub record ServesFunctionsOnly (heap : Heap) (most count : ℕ) (finalizer : Option ℕ) (context : ℕ) : Type 0 where
+  pub function : (h : HandleId) (entry : Option ℕ) (addon runs payload : ℕ) → handle_body heap h.0 ≡ body.Function addon runs payload → 0 < count
+      → row_refusal heap (call.CreateThreadsafeFunction (Some h) entry most count finalizer context) ≡ None
+  pub entered : (entry : ℕ) → 0 < count → row_refusal heap (call.CreateThreadsafeFunction None (Some entry) most count finalizer context) ≡ None
+  pub number : (h : HandleId) (entry : Option ℕ) (n : ℤ) → handle_body heap h.0 ≡ body.Number n
+      → row_refusal heap (call.CreateThreadsafeFunction (Some h) entry most count finalizer context) ≡ Some status.InvalidArg
+  pub neither : row_refusal heap (call.CreateThreadsafeFunction None None most count finalizer context) ≡ Some status.InvalidArg
+  pub unheld : (f : Option HandleId) (entry : Option ℕ)
+      → row_refusal heap (call.CreateThreadsafeFunction f entry most 0 finalizer context) ≡ Some status.InvalidArg
 
 abbrev pub OnlyFunctionsAreServed : Type 0
-OnlyFunctionsAreServed = (heap : Heap) (h : HandleId) (entry : Option ℕ) (most initial : ℕ) (finalizer : Option ℕ) (context : ℕ)
-    → ServesFunctionsOnly heap h entry most initial finalizer context
+OnlyFunctionsAreServed = (heap : Heap) (most count : ℕ) (finalizer : Option ℕ) (context : ℕ) → ServesFunctionsOnly heap most count finalizer context
 
 -- a call whose entry stands in the journal needs a place for its entry, one for the end of the frame that it enters, and two for the frame of what it registers
 abbrev pub EachDutyHasPlaces : Type 0

@@ -1,6 +1,9 @@
 -- Which event comes next where no frame stands.
-use Rattle.std.specs.Prelude.{◌≡◌, ◌<◌, ◌≤◌, ℕ, Bool, true, false, not, List, [], ◌∷◌, Some, None, is_some, ◌⊎◌}
+use Rattle.std.specs.Prelude.{◌≡◌, ◌<◌, ◌≤◌, ℕ, Bool, true, false, not, ◌&&◌, List, [], ◌∷◌, Some, None, is_some, is_none, ◌⊎◌}
 use Rattle.napi_types.specs.declared.call.Ask.{Ask}
+use Rattle.napi_types.specs.declared.duties.DueInfo.{DueInfo}
+use Rattle.napi_types.specs.declared.entry.Actor.{Actor}
+use Rattle.napi_types.specs.declared.entry.Actor.TheVariants as actor
 use Rattle.napi_types.specs.declared.entry.Cause.{Cause}
 use Rattle.napi_types.specs.declared.entry.Cause.TheVariants as cause
 use Rattle.napi_types.specs.declared.entry.Duty.{Duty}
@@ -14,11 +17,14 @@ use Rattle.napi_types.specs.declared.entry.What.{What}
 use Rattle.napi_types.specs.declared.entry.What.TheVariants as what
 use Rattle.napi_types.specs.Book.{Book, Registration, is_registered, is_due, is_at, due_info, lowest_due, registration_at, owed_tickets, ticket_duty}
 use Rattle.napi_types.specs.Changes.{host_entry}
-use Rattle.napi_types.specs.Choice.{local_choice, hub_choice}
+use Rattle.napi_types.specs.Choice.{local_choice, hub_choice, is_spent}
 use Rattle.napi_types.specs.Environment.{Environment}
-use Rattle.napi_types.specs.Frames.{Frame, frame_of_duty, begin_told}
+use Rattle.napi_types.specs.Frames.{Frame, frame_of_duty, begin_told, is_hub_duty}
 use Rattle.napi_types.specs.Hooks.{Hook, last_hook}
-use Rattle.napi_types.specs.Hub.{Hub, Final, hub_next}
+use Rattle.napi_types.specs.Hub.{Hub, Going, Drained, Final, stage_after}
+use Rattle.napi_types.specs.HubCalls.{is_thread_call}
+use Rattle.napi_types.specs.HubMoves.{Delivers, hub_move}
+use Rattle.napi_types.specs.HubSteps.{delivery_entry, is_thread_there, is_worker_there}
 use Rattle.napi_types.specs.Loop.{Event, EndsLoop}
 use Rattle.napi_types.specs.Machine.{Machine}
 use Rattle.napi_types.specs.Phases.{stage_of}
@@ -39,10 +45,33 @@ is_of_frames (what.Host host.Begin) o = begins_call o
 is_of_frames (what.Host host.End) o = true
 is_of_frames _ o = false
 
--- where a frame stands no event is chosen, so nothing else may come
+-- where a frame stands no event is chosen, so nothing else may come of the environment
 abbrev pub NoneIsChosenInFrames : Type 0
-NoneIsChosenInFrames = (m : Machine) (f : Frame) (fs : List Frame) (a : Ask) (x : Entry) → m.env.frames ≡ f ∷ fs → IsNext m a x
+NoneIsChosenInFrames = (m : Machine) (f : Frame) (fs : List Frame) (a : Ask) (x : Entry) → m.env.frames ≡ f ∷ fs → x.actor ≡ actor.Env → IsNext m a x
     → is_of_frames x.what x.reply.out ≡ true
+
+-- what a thread does: it calls, acquires and releases thread-safe functions, and ends
+abbrev pub is_of_threads : What → Bool
+is_of_threads (what.Call c) = is_thread_call c
+is_of_threads (what.Host host.ActorEnd) = true
+is_of_threads _ = false
+
+-- what a worker does: it starts and finishes works, and ends
+abbrev pub is_of_workers : What → Bool
+is_of_workers (what.Host host.Start) = true
+is_of_workers (what.Host host.Finish) = true
+is_of_workers (what.Host host.ActorEnd) = true
+is_of_workers _ = false
+
+-- what may come of another actor, whether or not a frame stands: of a thread, after `go`, or a worker that has not ended, what such a one does
+abbrev pub IsOfOther : Hub → Actor → What → Type 0
+IsOfOther h actor.Env w = Unit {0}
+IsOfOther h (actor.Thread t) w = (is_thread_there h t ≡ true) × (is_of_threads w ≡ true)
+IsOfOther h (actor.Worker n) w = (is_worker_there h n ≡ true) × (is_of_workers w ≡ true)
+
+-- so nothing comes of others where there are none
+abbrev pub OthersComeWhereTheyAre : Type 0
+OthersComeWhereTheyAre = (m : Machine) (a : Ask) (x : Entry) → IsNext m a x → IsOfOther m.hub x.actor x.what
 
 -- the innermost frame is the one that the entry tells
 pub record TellsFrame (x : Entry) (m : Machine) : Type 0 where
@@ -56,9 +85,10 @@ abbrev pub BeginsTellTheirFrames : Type 0
 BeginsTellTheirFrames = (m : Machine) (a : Ask) (x : Entry) → IsNext m a x → x.what ≡ what.Host host.Begin → TellsFrame x (after m a x)
 
 -- EVENTS
--- whether the hub may come to an event that the environment decides alone: to the end of the loop where that is its next one, and to every other in any case
+-- whether the hub may come to an event that the environment decides alone: to the end of the loop where that is its next great event and no frame of its duties
+-- stands, and to every other in any case
 abbrev pub may_come_to : Hub → Event → Bool
-may_come_to h (EndsLoop reason) = is_some (hub_next h host.LoopEnd)
+may_come_to h (EndsLoop reason) = is_some (stage_after h.stage host.LoopEnd) && is_none h.standing
 may_come_to h _ = true
 
 -- the entry is that of the event that the environment decides alone, and comes next whatever the hub is, where that may come to it
@@ -66,9 +96,10 @@ pub record IsOfOwn (m : Machine) (own : Event) (a : Ask) (x : Entry) : Type 0 wh
   pub entry : x ≡ (event_step m own).entry
   pub anyhow : (h : Hub) → may_come_to h own ≡ true → IsNext (record m { hub = h }) a x
 
--- where the environment decides alone, its event comes next
+-- where the environment decides alone, its event comes next of it
 abbrev pub OwnEventsComeFirst : Type 0
-OwnEventsComeFirst = (m : Machine) (own : Event) (a : Ask) (x : Entry) → m.env.frames ≡ [] → local_choice m.env ≡ Some own → IsNext m a x → IsOfOwn m own a x
+OwnEventsComeFirst = (m : Machine) (own : Event) (a : Ask) (x : Entry) → m.env.frames ≡ [] → local_choice m.env ≡ Some own → x.actor ≡ actor.Env → IsNext m a x
+    → IsOfOwn m own a x
 
 -- the hub has a next event, and the entry is that event's
 pub record IsOfHub (m : Machine) (x : Entry) : Type 0 where
@@ -76,9 +107,9 @@ pub record IsOfHub (m : Machine) (x : Entry) : Type 0 where
   pub next : hub_choice m.hub ≡ Some event
   pub entry : x ≡ (event_step m event).entry
 
--- where the environment does not decide alone, the hub's event comes next; so nothing comes where the hub has none either
+-- where the environment does not decide alone, the hub's event comes next of it; so nothing comes where the hub has none either
 abbrev pub HubEventsComeLast : Type 0
-HubEventsComeLast = (m : Machine) (a : Ask) (x : Entry) → m.env.frames ≡ [] → local_choice m.env ≡ None → IsNext m a x → IsOfHub m x
+HubEventsComeLast = (m : Machine) (a : Ask) (x : Entry) → m.env.frames ≡ [] → local_choice m.env ≡ None → x.actor ≡ actor.Env → IsNext m a x → IsOfHub m x
 
 -- `go` comes where no frame stands, and in the phase of the init frames only once the environment has opened and each addon had its frame
 pub record MayGo (m : Machine) : Type 0 where
@@ -110,10 +141,10 @@ pub record IsOfTicket (m : Machine) (n : ℕ) (x : Entry) : Type 0 where
   pub due : is_due registration.state ≡ true
   pub entry : x ≡ host_entry host.Begin (begin_told (frame_of_duty (due_info n registration)))
 
--- where due tickets begin the lowest comes first: before the loop ends, and before the environment is gone
+-- where due tickets begin the lowest comes first of the environment's: before what the hub delivers, before the loop ends, and before the environment is gone
 abbrev pub LowestDueTicketComesFirst : Type 0
 LowestDueTicketComesFirst = (m : Machine) (n : ℕ) (a : Ask) (x : Entry) → m.env.frames ≡ [] → begins_due_tickets m.env ≡ true → lowest_due m.env.book ≡ Some n
-    → IsNext m a x → IsOfTicket m n x
+    → x.actor ≡ actor.Env → IsNext m a x → IsOfTicket m n x
 
 -- it is the lowest: it is due, and none below it is
 pub record IsLowestDue (book : Book) (n : ℕ) : Type 0 where
@@ -131,12 +162,12 @@ pub record IsOfHook (m : Machine) (h : Hook) (x : Entry) : Type 0 where
   pub registered : is_registered registration.state ≡ true
   pub entry : x ≡ host_entry host.Begin (begin_told (frame_of_duty (due_info h.ticket registration)))
 
--- after the loop the hook that was added last comes first: before `drain`, and before what is due
+-- after the loop the hook that was added last comes first of the environment's: before `drain`, and before what is due
 abbrev pub LastHookComesFirst : Type 0
 LastHookComesFirst = (m : Machine) (h : Hook) (a : Ask) (x : Entry) → m.env.frames ≡ [] → m.env.phase ≡ phase.Hooks → last_hook m.env.hooks ≡ Some h
-    → IsNext m a x → IsOfHook m h x
+    → x.actor ≡ actor.Env → IsNext m a x → IsOfHook m h x
 
--- BOTH
+-- ALL DUTIES
 -- the duty that begins a frame is that of the lowest ticket that is due, and no frame stands
 pub record BeginsLowest (m : Machine) (d : Duty) : Type 0 where
   pub ticket : ℕ
@@ -153,10 +184,22 @@ pub record BeginsLastHook (m : Machine) (d : Duty) : Type 0 where
   pub moment : m.env.phase ≡ phase.Hooks
   pub last : last_hook m.env.hooks ≡ Some hook
 
--- a duty begins a frame only so: before the loop, once exit was asked in it, and in the phases of the hooks and of the drain what is due waits
+-- it is the hub's, and no ticket: what the hub delivers next where the environment decides nothing alone, between `go` and the end of the loop, or between
+-- `drain` and `finals`
+pub record BeginsOfHub (m : Machine) (d : Duty) (x : Entry) : Type 0 where
+  pub info : DueInfo
+  pub duty : d ≡ info.duty
+  pub ours : is_hub_duty (Some d) ≡ true
+  pub alone : m.env.frames ≡ []
+  pub waits : local_choice m.env ≡ None
+  pub moment : (m.hub.stage ≡ Going) ⊎ (m.hub.stage ≡ Drained)
+  pub next : hub_move m.hub ≡ Some (Delivers info)
+  pub entry : x ≡ delivery_entry info
+
+-- a duty begins a frame only so: before the loop, once exit was asked in it, and in the phases of the hooks and of the drain a ticket that is due waits
 abbrev pub TicketsBeginAtTheirMoments : Type 0
 TicketsBeginAtTheirMoments = (m : Machine) (a : Ask) (x : Entry) (c : Cause) (addon entry : ℕ) (d : Duty) → IsNext m a x → x.what ≡ what.Host host.Begin
-    → x.reply.out ≡ out.Begin c addon entry (Some d) → BeginsLowest m d ⊎ BeginsLastHook m d
+    → x.reply.out ≡ out.Begin c addon entry (Some d) → BeginsLowest m d ⊎ BeginsLastHook m d ⊎ BeginsOfHub m d x
 
 -- EVENTS OF RUNS
 -- at every moment of a run the hub is as far as the phase says
@@ -184,6 +227,17 @@ pub record IsReadyToDrain (m : Machine) : Type 0 where
 abbrev pub DrainComesOnlyAfterHooks : Type 0
 DrainComesOnlyAfterHooks = (s : Setting) (bs : List Ask) (xs : List Entry) (a : Ask) (x : Entry) → IsRunBy (opening_of s) bs xs
     → IsNext (final_of s bs xs) a x → x.what ≡ what.Host host.Drain → IsReadyToDrain (final_of s bs xs)
+
+-- .. `finals` comes in the phase of the drain and in no other, once every thread and every worker has ended, no work runs, and the hub has no move left, ..
+pub record IsReadyForFinals (m : Machine) : Type 0 where
+  pub phase : m.env.phase ≡ phase.Drain
+  pub alone : m.env.frames ≡ []
+  pub unmoved : hub_move m.hub ≡ None
+  pub spent : is_spent m.hub ≡ true
+
+abbrev pub FinalsComeOnlyOnceAllEnded : Type 0
+FinalsComeOnlyOnceAllEnded = (s : Setting) (bs : List Ask) (xs : List Entry) (a : Ask) (x : Entry) → IsRunBy (opening_of s) bs xs
+    → IsNext (final_of s bs xs) a x → x.what ≡ what.Host host.Finals → IsReadyForFinals (final_of s bs xs)
 
 -- .. and `gone` comes once the hub has made its last event, and each finalizer and each hook has begun or was withdrawn
 pub record IsReadyToEnd (m : Machine) : Type 0 where

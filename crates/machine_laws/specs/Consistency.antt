@@ -46,6 +46,8 @@ pub record IsConsistent (e : Environment) : Type 0 where
   pub held : All (IsLiveAmong e.heap.values) (values_of_handles e.heap.scopes)
   pub referred : All (λ r. IfSome r.value (IsLiveAmong e.heap.values)) e.references.rows
   pub pending : IfSome e.pending (IsLiveAmong e.heap.values)
+  -- so is what a thread-safe function keeps alive
+  pub rooted : All (λ r. IsLiveAmong e.heap.values r.value) e.function_roots
   -- the references are a finite map
   pub references : IsMap e.references
   -- what the properties and elements of a value name is live, and so are the starting values

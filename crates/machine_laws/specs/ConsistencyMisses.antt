@@ -42,15 +42,20 @@ reference n = record { number = n; value = Some undefined_value; count = 0 }
 abbrev pub referring : List Reference → List ℕ → Environment
 referring rs ns = record (in_init_frame (holding two_held)) { references = record { rows = rs; issued = ns } }
 
+-- one with a thread-safe function that keeps this value alive
+abbrev pub rooting : ℕ → Environment
+rooting value = record (in_init_frame (holding two_held)) { function_roots = record { function = 1; value = value } ∷ [] }
+
 -- an environment with so many frames, each with its scopes
 abbrev pub deep : ℕ → Environment
 deep n = record (new_environment 1 3) { heap = record new_heap { scopes = replicate n no_handles }; frames = replicate n init_frame }
 
 -- near misses are not consistent
 pub record IsStrict : Type 0 where
-  -- two handles of two values are consistent, and so are as many frames as may stand
+  -- two handles of two values are consistent, as many frames as may stand, and a thread-safe function that keeps a value alive
   pub fits : IsConsistent (in_init_frame (holding two_held))
   pub fits_deep : IsConsistent (deep most_frames)
+  pub fits_rooted : IsConsistent (rooting undefined_value)
   -- no handle stands twice, not of one value either, and none was not issued
   pub twice : (v w : ℕ) → IsConsistent (in_init_frame (holding (handle_to v 1 ∷ handle_to w 1 ∷ []))) → ⊥
   pub unissued : IsConsistent (in_init_frame (holding (handle_to undefined_value 1 ∷ handle_to null_value 3 ∷ []))) → ⊥
@@ -59,10 +64,11 @@ pub record IsStrict : Type 0 where
   -- no value stands twice, and none was not made
   pub doubled : IsConsistent (in_init_frame (record (holding two_held) { values = starting_values ++ fresh_value null_value body.Null ∷ [] })) → ⊥
   pub unmade : IsConsistent (in_init_frame (record (holding two_held) { values = starting_values ++ fresh_value no_value body.Null ∷ [] })) → ⊥
-  -- what a handle holds, a reference refers to, is pending or is a child is no number that no value has
+  -- what a handle holds, a reference refers to, is pending, a thread-safe function keeps alive or is a child is no number that no value has
   pub held : IsConsistent (in_init_frame (holding (handle_to no_value 1 ∷ []))) → ⊥
   pub referred : IsConsistent (record (in_init_frame (holding two_held)) { references = with_reference 1 no_value 0 no_references }) → ⊥
   pub pending : IsConsistent (record (in_init_frame (holding two_held)) { pending = Some no_value }) → ⊥
+  pub rooted : IsConsistent (rooting no_value) → ⊥
   pub child : IsConsistent (in_init_frame (record (holding two_held) {
     values = starting_values ++ array_of no_value ((no_value + 1) ∷ []) ∷ [];
     made = no_value;

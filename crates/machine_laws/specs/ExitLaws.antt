@@ -1,5 +1,5 @@
 -- Laws of `exit` over all runs.
-use Rattle.std.specs.Prelude.{◌≡◌, ℕ, Bool, true, false, cond, List, Some, ◌⊎◌}
+use Rattle.std.specs.Prelude.{◌≡◌, ℕ, Bool, true, false, cond, List, Some, None, ◌⊎◌}
 use Rattle.std.specs.List.{list_any}
 use Rattle.napi_types.specs.declared.call.Ask.{Ask}
 use Rattle.napi_types.specs.declared.entry.Cause.{Cause}
@@ -12,10 +12,15 @@ use Rattle.napi_types.specs.declared.entry.Out.TheVariants as out
 use Rattle.napi_types.specs.declared.entry.Phase.TheVariants as phase
 use Rattle.napi_types.specs.declared.entry.What.{What}
 use Rattle.napi_types.specs.declared.entry.What.TheVariants as what
+use Rattle.napi_types.specs.Book.{lowest_due}
 use Rattle.napi_types.specs.Built.{is_exiting}
+use Rattle.napi_types.specs.Choice.{is_idle, is_quiet}
+use Rattle.napi_types.specs.Guards.{is_shared}
+use Rattle.napi_types.specs.HubMoves.{hub_move}
+use Rattle.napi_types.specs.Machine.{Machine}
 use Rattle.napi_types.specs.Run.{IsNext, IsRunBy}
 use Rattle.napi_types.specs.Setting.{Setting, opening_of, final_of}
-use Rattle.machine_laws.specs.Choices.{BeginsLastHook}
+use Rattle.machine_laws.specs.Choices.{BeginsLastHook, BeginsOfHub}
 
 -- a call that asks to exit
 abbrev pub asks_exit : What → Bool
@@ -30,17 +35,41 @@ has_exit xs = list_any (λ (x : Entry). asks_exit x.what) xs
 abbrev pub ExitIsAskedByItsCall : Type 0
 ExitIsAskedByItsCall = (s : Setting) (bs : List Ask) (xs : List Entry) → IsRunBy (opening_of s) bs xs → (final_of s bs xs).env.exit_asked ≡ has_exit xs
 
--- why the loop ends: that exit was asked, or else that nothing is left to do
-abbrev pub reason_of : Bool → LoopEnd
-reason_of exit = cond exit loop_end.Exit loop_end.Idle
+-- why the loop ends: that exit was asked, or else that nothing is left to do, or else that nobody is left who could give it something to do
+abbrev pub reason_of : Bool → Bool → LoopEnd
+reason_of exit idle = cond exit loop_end.Exit (cond idle loop_end.Idle loop_end.Quiet)
 
--- in a run `loop_end` tells `exit` exactly where such a call stands before it, and else `idle`
+-- the loop ends for the first reason that holds; but for `exit` it does so only where no ticket is due and the hub has no move, and it is idle or quiet
+pub record EndsByReason (m : Machine) (exit : Bool) (x : Entry) : Type 0 where
+  pub reason : x.reply.out ≡ out.Ended (reason_of exit (is_idle m.hub))
+  pub none_due : exit ≡ false → lowest_due m.env.book ≡ None
+  pub unmoved : exit ≡ false → hub_move m.hub ≡ None
+  pub quiet : exit ≡ false → is_idle m.hub ≡ false → is_quiet m.hub ≡ true
+
+-- in a run `loop_end` tells `exit` exactly where a call of `exit` stands before it
+abbrev pub TheLoopEndsByItsReason : Type 0
+TheLoopEndsByItsReason = (s : Setting) (bs : List Ask) (xs : List Entry) (a : Ask) (x : Entry) → IsRunBy (opening_of s) bs xs
+    → IsNext (final_of s bs xs) a x → x.what ≡ what.Host host.LoopEnd → EndsByReason (final_of s bs xs) (has_exit xs) x
+
+-- a call on a work or on a thread-safe function, whoever makes it
+abbrev pub is_shared_call : What → Bool
+is_shared_call (what.Call c) = is_shared c
+is_shared_call _ = false
+
+-- such a call stands among the entries
+abbrev pub has_shared : List Entry → Bool
+has_shared xs = list_any (λ (x : Entry). is_shared_call x.what) xs
+
+-- without one the hub never has anything to do: `loop_end` then tells `exit` or else `idle`
 abbrev pub TheLoopEndsByExitOrIdle : Type 0
-TheLoopEndsByExitOrIdle = (s : Setting) (bs : List Ask) (xs : List Entry) (a : Ask) (x : Entry) → IsRunBy (opening_of s) bs xs
-    → IsNext (final_of s bs xs) a x → x.what ≡ what.Host host.LoopEnd → x.reply.out ≡ out.Ended (reason_of (has_exit xs))
+TheLoopEndsByExitOrIdle = (s : Setting) (bs : List Ask) (xs : List Entry) (a : Ask) (x : Entry) → IsRunBy (opening_of s) bs xs → has_shared xs ≡ false
+    → IsNext (final_of s bs xs) a x → x.what ≡ what.Host host.LoopEnd → x.reply.out ≡ out.Ended (cond (has_exit xs) loop_end.Exit loop_end.Idle)
 
--- in a run in which such a call stands a duty begins a frame after `finals` alone, but that of a hook, which begins as in every other run
+-- in a run in which a call of `exit` stands a ticket begins a frame after `finals` alone, but that of a hook, which begins as in every other run. A duty of the
+-- hub begins one between `drain` and `finals` alone
 abbrev pub WhatIsDueWaitsForFinalsOnceExitWasAsked : Type 0
 WhatIsDueWaitsForFinalsOnceExitWasAsked = (s : Setting) (bs : List Ask) (xs : List Entry) (a : Ask) (x : Entry) (c : Cause) (addon entry : ℕ) (d : Duty)
     → IsRunBy (opening_of s) bs xs → has_exit xs ≡ true → IsNext (final_of s bs xs) a x → x.what ≡ what.Host host.Begin
-    → x.reply.out ≡ out.Begin c addon entry (Some d) → ((final_of s bs xs).env.phase ≡ phase.Finals) ⊎ BeginsLastHook (final_of s bs xs) d
+    → x.reply.out ≡ out.Begin c addon entry (Some d)
+    → ((final_of s bs xs).env.phase ≡ phase.Finals) ⊎ BeginsLastHook (final_of s bs xs) d
+    ⊎ ((final_of s bs xs).env.phase ≡ phase.Drain) × BeginsOfHub (final_of s bs xs) d x

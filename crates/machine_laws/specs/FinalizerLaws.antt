@@ -1,5 +1,5 @@
 -- What holds of finalizers and hooks at every moment of a run.
-use Rattle.std.specs.Prelude.{◌≡◌, ℕ, true, false, List, Some}
+use Rattle.std.specs.Prelude.{◌≡◌, ℕ, true, false, List, Some, ◌⊎◌}
 use Rattle.napi_types.specs.declared.call.Ask.{Ask}
 use Rattle.napi_types.specs.declared.entry.Cause.TheVariants as cause
 use Rattle.napi_types.specs.declared.entry.Duty.{Duty}
@@ -12,9 +12,9 @@ use Rattle.napi_types.specs.Duties.{AreNested}
 use Rattle.napi_types.specs.Hooked.{is_late}
 use Rattle.napi_types.specs.Run.{IsNext, IsRunBy}
 use Rattle.napi_types.specs.Setting.{Setting, opening_of, final_of}
-use Rattle.machine_laws.specs.Choices.{BeginsLowest, BeginsLastHook}
+use Rattle.machine_laws.specs.Choices.{BeginsLowest, BeginsLastHook, BeginsOfHub}
 
--- only the outermost frame is one that no call began, so only it is one that a finalizer runs: none runs inside another frame
+-- only the outermost frame is one that no call began, so only it is one that a duty began: no duty runs inside another frame
 abbrev pub OnlyTheOutermostFrameHasADuty : Type 0
 OnlyTheOutermostFrameHasADuty = (s : Setting) (bs : List Ask) (xs : List Entry) → IsRunBy (opening_of s) bs xs → AreNested (final_of s bs xs).env.frames
 
@@ -23,10 +23,12 @@ abbrev pub NoneIsRegisteredFromFinalsOn : Type 0
 NoneIsRegisteredFromFinalsOn = (s : Setting) (bs : List Ask) (xs : List Entry) (n : ℕ) → IsRunBy (opening_of s) bs xs → is_late (final_of s bs xs).env.phase ≡ true
     → is_at is_registered (final_of s bs xs).env.book n ≡ false
 
--- a finalizer begins in the loop until exit is asked, or after `finals`, and is the lowest that is due: it waits while hooks begin
+-- a finalizer begins in the loop until exit is asked, or after `finals`, and is the lowest that is due: it waits while hooks begin. That of a thread-safe
+-- function, which is no ticket, begins as the hub's other duties do
 abbrev pub FinalizersBeginInTheLoopOrAtTheEnd : Type 0
 FinalizersBeginInTheLoopOrAtTheEnd = (s : Setting) (bs : List Ask) (xs : List Entry) (a : Ask) (x : Entry) (addon entry : ℕ) (d : Duty) → IsRunBy (opening_of s) bs xs
-    → IsNext (final_of s bs xs) a x → x.what ≡ what.Host host.Begin → x.reply.out ≡ out.Begin cause.Finalize addon entry (Some d) → BeginsLowest (final_of s bs xs) d
+    → IsNext (final_of s bs xs) a x → x.what ≡ what.Host host.Begin → x.reply.out ≡ out.Begin cause.Finalize addon entry (Some d)
+    → BeginsLowest (final_of s bs xs) d ⊎ BeginsOfHub (final_of s bs xs) d x
 
 -- a hook begins between the end of the loop and `drain`, and is the one that was added last
 abbrev pub HooksBeginAfterTheLoop : Type 0

@@ -1,5 +1,5 @@
 -- Words that small runs are written by.
-use Rattle.std.specs.Prelude.{ℕ, ◌+◌, List, [], ◌∷◌, ◌++◌, take, drop, Option, Some, None, codes}
+use Rattle.std.specs.Prelude.{ℕ, ◌+◌, true, List, [], ◌∷◌, ◌++◌, take, drop, Option, Some, None, codes}
 use Rattle.napi_types.specs.declared.call.Call.{Call}
 use Rattle.napi_types.specs.declared.op.Op.{Op}
 use Rattle.napi_types.specs.declared.status.Status.{Status}
@@ -23,9 +23,17 @@ use Rattle.napi_types.specs.Room.{most_entries}
 use Rattle.napi_types.specs.declared.ids.HandleId.{HandleId}
 use Rattle.napi_types.specs.declared.ids.RefId.{RefId}
 
--- a script of addons with these plans, with the three texts that every script has, and room for the most entries in each list
+-- a script of addons with these plans, without threads and workers, with the three texts that every script has, room for the most entries in each list, and all
+-- calls built
 abbrev pub script_of_plans : List Plan → Setting
-script_of_plans plans = record { plans = plans; texts = 3; limits = record { journal = most_entries; history = most_entries } }
+script_of_plans plans = record {
+  plans = plans;
+  texts = 3;
+  threads = 0;
+  workers = 0;
+  limits = record { journal = most_entries; history = most_entries };
+  built = λ c. true;
+}
 
 -- one of one addon with these entries
 abbrev pub script_of_entries : List (List Op) → Setting

@@ -22,7 +22,8 @@ pub fn tells_externals_from_objects()
     ensures read { OnlyExternalsAreRead }
 {}
 
-/// A thread-safe function is made of a function or of none, and not of a number.
+/// A thread-safe function is made of a function, or of none with a call-js entry, where a thread holds it. It is not made of a number, with neither,
+/// or held by none.
 pub fn serves_functions_only()
     ensures { OnlyFunctionsAreServed }
 {}

@@ -1,6 +1,6 @@
 //! Laws of `exit` over all runs, and worked runs in which it is asked.
 ghost use Rattle.machine_laws.specs.Told.{EndsAsTold};
-ghost use Rattle.machine_laws.specs.ExitLaws.{ExitIsAskedByItsCall, TheLoopEndsByExitOrIdle, WhatIsDueWaitsForFinalsOnceExitWasAsked};
+ghost use Rattle.machine_laws.specs.ExitLaws.{ExitIsAskedByItsCall, TheLoopEndsByItsReason, TheLoopEndsByExitOrIdle, WhatIsDueWaitsForFinalsOnceExitWasAsked};
 ghost use Rattle.machine_laws.specs.ExitBeforeDue as exit_before_due;
 ghost use Rattle.machine_laws.specs.ExitInInitAndInAFinalizer as exit_in_init_and_in_a_finalizer;
 
@@ -9,12 +9,20 @@ pub fn exit_is_asked_by_its_call()
     ensures { ExitIsAskedByItsCall }
 {}
 
-/// In a run `loop_end` tells `exit` exactly where a call of `exit` stands before it, and else `idle`.
+/// In a run `loop_end` tells `exit` exactly where a call of `exit` stands before it, else `idle` where the hub is, and else `quiet`. But for `exit`
+/// the loop ends only where no ticket is due and the hub has no move, and it is idle or quiet.
+pub fn the_loop_ends_by_its_reason()
+    ensures { TheLoopEndsByItsReason }
+{}
+
+/// In a run in which no call on a work or on a thread-safe function stands `loop_end` tells `exit` exactly where a call of `exit` stands before it,
+/// and else `idle`.
 pub fn the_loop_ends_by_exit_or_idle()
     ensures { TheLoopEndsByExitOrIdle }
 {}
 
-/// In a run in which a call of `exit` stands no ticket begins in the loop: what is due then waits for `finals`, and hooks alone begin before.
+/// In a run in which a call of `exit` stands no ticket begins in the loop: what is due then waits for `finals`, and hooks alone begin before. What the
+/// hub delivers waits for `drain`.
 pub fn what_is_due_waits_for_finals_once_exit_was_asked()
     ensures { WhatIsDueWaitsForFinalsOnceExitWasAsked }
 {}

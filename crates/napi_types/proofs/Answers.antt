@@ -1,5 +1,5 @@
 -- What every call of the environment keeps, and by how much it may grow.
-use Rattle.std.proofs.Common.{◌≡◌, ◌≤◌, ℕ, ◌+◌, ◌*◌, nat_lt, Bool, true, false, cond, List, [], ◌∷◌, length, refl, sym, ap, ◌∙◌, Option, Some, None, is_some, IfSome, arith}
+use Rattle.std.proofs.Common.{◌≡◌, ◌≤◌, ℕ, ◌+◌, ◌*◌, nat_lt, Bool, true, false, not, cond, List, [], ◌∷◌, length, refl, sym, ap, ◌∙◌, Option, Some, None, is_some, IfSome, arith}
 use Rattle.std.proofs.lemmas.List.{length-map}
 use Rattle.std.specs.Option.{option_or}
 use Rattle.napi_types.specs.declared.call.Call.{Call}
@@ -29,7 +29,7 @@ use Rattle.napi_types.specs.Registering.{finalizer_if, ticket_if, registering_if
 use Rattle.napi_types.specs.Replies.{Answer, accepts, refuses}
 use Rattle.napi_types.specs.Room.{one_if, need, reserved_journal}
 use Rattle.napi_types.specs.WrapCalls.{referring_if, wrapping, finalizing}
-use Rattle.napi_types.specs.Frames.{caller_of}
+use Rattle.napi_types.specs.Frames.{Frame, caller_of, ask_counted, is_hub_duty, local_frames}
 use Rattle.napi_types.specs.Heap.{Heap, handle_value, handle_properties}
 use Rattle.napi_types.specs.HeapChanges.{new_value, with_handle, with_thrown}
 use Rattle.napi_types.specs.PropertyCalls.{names_of}
@@ -419,15 +419,26 @@ torn-makes-none e c n tearing = torn-at e c n (early_refusal e c) (depth_refusal
 pub record KeepsButAsk (c : Call) (old : Environment) (r : Reply) (new : Environment) : Type 0 where
   pub course : course_of new ≡ course_of old
   pub depth : length new.frames ≡ length old.frames
+  pub local : length (local_frames new.frames) ≡ length (local_frames old.frames)
   pub heap : HeapKeeps old.heap new.heap
   pub references : length new.references.issued ≤ length old.references.issued + 1
   pub book : BookStep (caller_of old.frames) old.book r.made r.dropped new.book
   pub makes : MakesFor c r.made
 
+-- an ask that is counted is none of a frame more
+pub local-counted : (fs : List Frame) → length (local_frames (ask_counted fs)) ≡ length (local_frames fs)
+local-counted [] = refl
+local-counted (f ∷ fs) = by (is_hub_duty f.duty)
+  where
+    by : (b : Bool) → length (cond (not b) (record f { asks = f.asks + 1 } ∷ local_frames fs) (local_frames fs)) ≡ length (cond (not b) (f ∷ local_frames fs) (local_frames fs))
+    by true = refl
+    by false = refl
+
 pub call_change-keeps : (e : Environment) (c : Call) (n : ℕ) → KeepsButAsk c e (call_change e c n).entry.reply (call_change e c n).after
 call_change-keeps e c n = record {
   course = (answer-keeps e c n).course;
   depth = length-changed _ (answer e c n).after.frames ∙ ap length (answer-keeps e c n).frames;
+  local = local-counted (answer e c n).after.frames ∙ ap (λ fs. length (local_frames fs)) (answer-keeps e c n).frames;
   heap = (answer-keeps e c n).heap;
   references = (answer-keeps e c n).references;
   book = (answer-keeps e c n).book;
@@ -440,4 +451,4 @@ pub call-reserved : (e : Environment) (c : Call) (r : Reply) (new : Environment)
 call-reserved e c r new k =
     let course = course-parts e new k.course in
     let waits : owed_tickets new.book + one_if (is_some r.dropped) ≡ owed_tickets e.book + one_if (is_some r.made) = step-owed (caller_of e.frames) e.book r.made r.dropped new.book k.book in
-    rw (course.opened, course.phase, course.addons, course.inits, k.depth) (omega (arith, waits))
+    rw (course.opened, course.phase, course.addons, course.inits, k.local) (omega (arith, waits))

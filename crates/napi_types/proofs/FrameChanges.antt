@@ -1,5 +1,5 @@
 -- What the begin and the end of frames keep.
-use Rattle.std.proofs.Common.{◌≡◌, ◌≤◌, ℕ, suc, ◌+◌, ◌*◌, false, List, [], ◌∷◌, length, refl, ap, Option, Some, None, arith, is_none, is_some}
+use Rattle.std.proofs.Common.{◌≡◌, ◌≤◌, ℕ, suc, ◌+◌, ◌*◌, false, List, ◌∷◌, length, refl, ap, Option, Some, None, arith, is_none, is_some}
 use Rattle.napi_types.specs.declared.call.Args.{Args}
 use Rattle.napi_types.specs.declared.call.Call.{Call}
 use Rattle.napi_types.specs.declared.call.Call.TheVariants as call
@@ -17,14 +17,14 @@ use Rattle.napi_types.specs.Changes.{call_change}
 use Rattle.napi_types.specs.Ends.{duty_ended, end_change_by, uncut_call_end, end_change}
 use Rattle.napi_types.specs.Entering.{is_entering, enter_change, function_change, asked_change}
 use Rattle.napi_types.specs.Environment.{Environment}
-use Rattle.napi_types.specs.Frames.{caller_of, cause_of, duty_of, ask_counted}
+use Rattle.napi_types.specs.Frames.{caller_of, cause_of, duty_of, ask_counted, local_frames}
 use Rattle.napi_types.specs.FunctionCalls.{callee_of}
 use Rattle.napi_types.specs.Hooks.{Hook}
 use Rattle.napi_types.specs.InstanceData.{Instances}
-use Rattle.napi_types.specs.Lists.{tail, first_changed}
+use Rattle.napi_types.specs.Lists.{tail}
 use Rattle.napi_types.specs.Refusals.{refusal}
 use Rattle.napi_types.specs.Room.{one_if, need}
-use Rattle.napi_types.proofs.Answers.{course_of, KeepsButAsk, call_change-keeps}
+use Rattle.napi_types.proofs.Answers.{course_of, KeepsButAsk, call_change-keeps, local-counted}
 use Rattle.napi_types.proofs.Books.{owed-ended}
 use Rattle.napi_types.proofs.BookSteps.{step-owed}
 
@@ -161,11 +161,7 @@ asked_change-enter_change e receiver f args n h = ap (λ s. function_change rece
 -- what a call keeps, and how many ends and frames it owes: no more than it has places for
 pub record KeepsButFrames (old new : Environment) (places : ℕ) : Type 0 where
   pub course : course_of new ≡ course_of old
-  pub owed : length new.frames + 2 * owed_tickets new.book + 1 ≤ length old.frames + 2 * owed_tickets old.book + places
-
-length-changed : {A : Type 0} (f : A → A) (xs : List A) → length (first_changed f xs) ≡ length xs
-length-changed f [] = refl
-length-changed f (x ∷ xs) = refl
+  pub owed : length (local_frames new.frames) + 2 * owed_tickets new.book + 1 ≤ length (local_frames old.frames) + 2 * owed_tickets old.book + places
 
 call_change-fits : (e : Environment) (c : Call) (n : ℕ) → KeepsButFrames e (call_change e c n).after (need c)
 call_change-fits e c n =
@@ -173,7 +169,7 @@ call_change-fits e c n =
     let new : Environment = (call_change e c n).after in
     let k : KeepsButAsk c e r new = call_change-keeps e c n in
     let waits : owed_tickets new.book + one_if (is_some r.dropped) ≡ owed_tickets e.book + one_if (is_some r.made) = step-owed (caller_of e.frames) e.book r.made r.dropped new.book k.book in
-    record { course = k.course; owed = owed (length new.frames) (length e.frames) (owed_tickets new.book) (owed_tickets e.book) (one_if (is_some r.made)) (one_if (is_some r.dropped)) (need c) k.depth waits k.makes.places }
+    record { course = k.course; owed = owed (length (local_frames new.frames)) (length (local_frames e.frames)) (owed_tickets new.book) (owed_tickets e.book) (one_if (is_some r.made)) (one_if (is_some r.dropped)) (need c) k.local waits k.makes.places }
   where
     owed : (a b w v m d n : ℕ) → a ≡ b → w + d ≡ v + m → 1 + 2 * m ≤ n → a + 2 * w + 1 ≤ b + 2 * v + n
     owed a b w v m d n same waits places = omega (arith, same, waits, places)
@@ -186,7 +182,8 @@ function_change-fits receiver f args n e None =
     let k : KeepsAndEnters e new f = enter_change-keeps receiver f args e in
     record {
       course = k.course;
-      owed = two (length new.frames) (length e.frames) (length (ask_counted e.frames)) (owed_tickets new.book) (owed_tickets e.book) (ap length k.frames) (length-changed _ e.frames) (ap owed_tickets (hangings-parts e new k.hangings).book);
+      owed = two (length (local_frames new.frames)) (length (local_frames e.frames)) (length (local_frames (ask_counted e.frames))) (owed_tickets new.book) (owed_tickets e.book)
+          (ap (λ fs. length (local_frames fs)) k.frames) (local-counted e.frames) (ap owed_tickets (hangings-parts e new k.hangings).book);
     }
   where
     two : (a b c w v : ℕ) → a ≡ suc c → c ≡ b → w ≡ v → a + 2 * w + 1 ≤ b + 2 * v + 2

@@ -103,7 +103,7 @@ hooked-same old new phase same h =
     let goes : BookGoes new.phase every old.book new.book = subst (λ b. BookGoes new.phase every old.book b) (sym same.book) (goes-nowhere new.phase old.book) in
     hooked-goes old new every (λ early. ap is_late (sym phase) ∙ early) goes (same.hooks ∙ all-stay old.hooks) same.attachments same.instances h
 
-unchanged : (old new : Environment) → new.phase ≡ old.phase → hangings_of new ≡ hangings_of old → IsHooked old → IsHooked new
+pub unchanged : (old new : Environment) → new.phase ≡ old.phase → hangings_of new ≡ hangings_of old → IsHooked old → IsHooked new
 unchanged old new phase same h = hooked-same old new phase (hangings-parts old new same) h
 
 -- one thing changes alone

@@ -1,12 +1,15 @@
 -- What holds at every moment of a run of the tickets that are still to begin.
-use Rattle.std.proofs.Common.{◌≡◌, ◌≢◌, ◌∙◌, ℕ, suc, Bool, true, false, [], length, get_or, refl, ap, sym, Option, Some, None, is_some, ◌⊎◌, inl, inr}
+use Rattle.std.proofs.Common.{◌≡◌, ◌≢◌, ◌∙◌, ℕ, suc, Bool, true, false, [], length, get_or, refl, ap, sym, Option, Some, None, is_some, subst, ◌⊎◌, inl, inr}
 use Rattle.std.specs.List.{All}
 use Rattle.std.proofs.lemmas.Option.{slice_get-get_or}
 use Rattle.napi_types.specs.declared.call.Call.{Call}
 use Rattle.napi_types.specs.declared.entry.Cause.TheVariants as cause
 use Rattle.napi_types.specs.declared.entry.Duty.{Duty}
+use Rattle.napi_types.specs.declared.entry.Entry.{Entry}
 use Rattle.napi_types.specs.declared.entry.Phase.{Phase}
 use Rattle.napi_types.specs.declared.entry.Phase.TheVariants as phase
+use Rattle.napi_types.specs.declared.entry.Why.{Why}
+use Rattle.napi_types.specs.declared.ids.HandleId.{HandleId}
 use Rattle.napi_types.specs.Book.{Book, Registration, TicketState, Registered, Due, is_owed, made_withdrawn, made_begun, registration_at}
 use Rattle.napi_types.specs.Calls.{answer}
 use Rattle.napi_types.specs.Changes.{book_in}
@@ -23,11 +26,13 @@ use Rattle.napi_types.specs.Setting.{Setting, opening_of}
 use Rattle.napi_types.specs.Step.{Step}
 use Rattle.napi_types.proofs.Answers.{SameCourse, course-parts, torn-makes-none}
 use Rattle.napi_types.proofs.Books.{due-keeps, ended-keeps as ended-owed, NoneRegistered, all_due-none}
-use Rattle.napi_types.proofs.FrameChanges.{ended-keeps, asked_change-fits}
-use Rattle.napi_types.proofs.HookedSteps.{hooked-opening, hooked-opened, hooked-init, hooked-asked, hooked-ended, hooked-begun, hooked-phase, hooked-gone}
+use Rattle.napi_types.proofs.FrameChanges.{SameHangings, hangings-parts, ended-keeps, asked_change-fits}
+use Rattle.napi_types.proofs.FrameEnds.{ended-ends}
+use Rattle.napi_types.proofs.HookedSteps.{unchanged, hooked-opening, hooked-opened, hooked-init, hooked-asked, hooked-ended, hooked-begun, hooked-phase, hooked-gone}
 use Rattle.napi_types.proofs.Registrations.{KeptByMoves, asked-all, ended-all, begun-all, phase-all, none-asked, none-ended, none-begun}
 use Rattle.napi_types.proofs.Moved.{at-state, at-cause}
-use Rattle.napi_types.proofs.StepCases.{StepCase, calls, ends, opens, inits, begins, passes, vanishes, InPhase}
+use Rattle.napi_types.proofs.SharedSteps.{StandsStill, shares-still, moves-still, others-still, end-stage}
+use Rattle.napi_types.proofs.StepCases.{StepCase, calls, ends, opens, inits, begins, vanishes, shares, leaves, passes, moves, others, InPhase}
 
 -- WHAT HOLDS
 -- the drain has come
@@ -132,9 +137,33 @@ spent-asked : (e : Environment) (c : Call) (n : ℕ) → is_tearing e.phase ≡ 
 spent-asked e c n tearing all =
     asked-all IsSpent spent-kept e c n (λ made r who why. absurd (none-made (answer e c n).reply.made (torn-makes-none e c n tearing) made)) all
 
+-- nothing of it changes
+orderly-still : (m n : Machine) → StandsStill m n → Orderly m → Orderly n
+orderly-still m n still h =
+    let same : SameHangings m.env n.env = hangings-parts m.env n.env still.hangings in
+    record {
+      stage = still.stage ∙ h.stage ∙ ap stage_of (sym still.phase);
+      hooked = unchanged m.env n.env still.phase still.hangings h.hooked;
+      settled = λ p. subst NoneRegistered (sym same.book) (h.settled (ap is_late (sym still.phase) ∙ p));
+      spent = λ p. subst (λ book. All IsSpent book) (sym same.book) (h.spent (ap is_drained (sym still.phase) ∙ p));
+    }
+
+-- a frame ends, and the hub's stage stays
+orderly-ended : (m n : Machine) (v : Option HandleId) (cut : Option Why) → n.hub.stage ≡ m.hub.stage → n.env ≡ (end_change v cut m.env).after → Orderly m → Orderly n
+orderly-ended m n v cut far same h =
+    let d : Environment = (end_change v cut m.env).after in
+    let course : SameCourse m.env d = course-parts m.env d (ended-keeps v cut m.env).course in
+    let phase : n.env.phase ≡ m.env.phase = ap (λ (e : Environment). e.phase) same ∙ course.phase in
+    record {
+      stage = far ∙ h.stage ∙ ap stage_of (sym phase);
+      hooked = subst IsHooked (sym same) (hooked-ended v cut m.env h.hooked);
+      settled = λ p. subst (λ (e : Environment). NoneRegistered e.book) (sym same) (none-ended m.env v cut (h.settled (ap is_late (sym phase) ∙ p)));
+      spent = λ p. subst (λ (e : Environment). All IsSpent e.book) (sym same) (ended-all IsSpent spent-kept m.env v cut (h.spent (ap is_drained (sym phase) ∙ p)));
+    }
+
 -- each step keeps it
 pub orderly-step : (m : Machine) (s : Step) → Orderly m → StepCase m s → Orderly s.after
-orderly-step m _ h (calls c n may) =
+orderly-step m _ h (calls c n may alone) =
     let d : Environment = (asked_change m.env c n).after in
     let course : SameCourse m.env d = course-parts m.env d (asked_change-fits m.env c n).course in
     record {
@@ -143,15 +172,7 @@ orderly-step m _ h (calls c n may) =
       settled = λ p. let late : is_late m.env.phase ≡ true = ap is_late (sym course.phase) ∙ p in none-asked m.env c n (late-tears m.env.phase late) (h.settled late);
       spent = λ p. let drained : is_drained m.env.phase ≡ true = ap is_drained (sym course.phase) ∙ p in spent-asked m.env c n (drained-tears m.env.phase drained) (h.spent drained);
     }
-orderly-step m _ h (ends v cut may) =
-    let d : Environment = (end_change v cut m.env).after in
-    let course : SameCourse m.env d = course-parts m.env d (ended-keeps v cut m.env).course in
-    record {
-      stage = h.stage ∙ ap stage_of (sym course.phase);
-      hooked = hooked-ended v cut m.env h.hooked;
-      settled = λ p. none-ended m.env v cut (h.settled (ap is_late (sym course.phase) ∙ p));
-      spent = λ p. ended-all IsSpent spent-kept m.env v cut (h.spent (ap is_drained (sym course.phase) ∙ p));
-    }
+orderly-step m s h (ends v cut may alone) = orderly-ended m s.after v cut refl refl h
 orderly-step m _ h opens = record { stage = h.stage; hooked = hooked-opened m.env h.hooked; settled = h.settled; spent = h.spent }
 orderly-step m _ h (inits n) = record { stage = h.stage; hooked = hooked-init n m.env h.hooked; settled = h.settled; spent = h.spent }
 orderly-step m _ h (begins n r there next may) = record {
@@ -160,18 +181,24 @@ orderly-step m _ h (begins n r there next may) = record {
   settled = λ p. none-begun m.env.phase n m.env.book (h.settled p);
   spent = λ p. begun-all IsSpent spent-kept m.env.phase n m.env.book (h.spent p);
 }
-orderly-step m _ h (passes p o hub next never far left) = record {
-  stage = far;
-  hooked = hooked-phase p m.env next h.hooked;
-  settled = settled-passed p m.env.book never;
-  spent = spent-passed m.env p next left h.hooked h.spent;
-}
 orderly-step m _ h (vanishes last) = record {
   stage = h.stage ∙ ap stage_of last;
   hooked = hooked-gone m.env h.hooked;
   settled = λ p. h.settled (ap is_late last);
   spent = λ p. h.spent (ap is_drained last);
 }
+orderly-step m s h (shares c o shared) = orderly-still m s.after (shares-still m c o) h
+orderly-step m s h (leaves v cut may ours) =
+    let x : Entry = (end_change v cut m.env).entry in
+    orderly-ended m s.after v cut (end-stage m.hub x (ended-ends v cut m.env).who (ended-ends v cut m.env).is) refl h
+orderly-step m _ h (passes p o q) = record {
+  stage = q.far;
+  hooked = hooked-phase p m.env q.next h.hooked;
+  settled = settled-passed p m.env.book q.never;
+  spent = spent-passed m.env p q.next q.left h.hooked h.spent;
+}
+orderly-step m s h (moves move next moving alone) = orderly-still m s.after (moves-still m move) h
+orderly-step m s h (others x other) = orderly-still m s.after (others-still m x other) h
 
 pub orderly-opens : (s : Setting) → Orderly (opening_of s)
 orderly-opens s = record { stage = refl; hooked = hooked-opening (length s.plans) s.texts; settled = λ p. cc; spent = λ p. cc }

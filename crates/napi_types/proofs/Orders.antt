@@ -1,5 +1,5 @@
 -- Hooks begin in the reverse of the order in which they were added, and what was left to the end in the order of registration.
-use Rattle.std.proofs.Common.{◌≡◌, ◌≢◌, ◌∙◌, ◌<◌, ◌≤◌, ℕ, ◌==◌, Bool, true, false, cond, not, List, [], ◌∷◌, ◌++◌, map, refl, ap, sym, subst, Option, Some, None, is_some, option_map, inl, inr, arith}
+use Rattle.std.proofs.Common.{◌≡◌, ◌≢◌, ◌∙◌, ◌<◌, ◌≤◌, ℕ, ◌==◌, Bool, true, false, cond, not, List, [], ◌∷◌, ◌++◌, map, IsTrue, refl, ap, sym, subst, Option, Some, None, is_some, option_map, inl, inr, arith}
 use Rattle.std.specs.List.{All}
 use Rattle.std.specs.Option.{unwrap_or}
 use Rattle.std.proofs.lemmas.Bool.{eqb-true, eq-eqb, or_cases, or_left, or_right}
@@ -11,21 +11,32 @@ use Rattle.napi_types.specs.declared.call.Call.{Call}
 use Rattle.napi_types.specs.declared.call.Call.TheVariants as call
 use Rattle.napi_types.specs.declared.entry.Cause.{Cause}
 use Rattle.napi_types.specs.declared.entry.Cause.TheVariants as cause
+use Rattle.napi_types.specs.declared.duties.DueInfo.{DueInfo}
+use Rattle.napi_types.specs.declared.entry.Duty.{Duty}
+use Rattle.napi_types.specs.declared.entry.Duty.TheVariants as duty
 use Rattle.napi_types.specs.declared.entry.Entry.{Entry}
 use Rattle.napi_types.specs.declared.entry.HostStep.TheVariants as host
+use Rattle.napi_types.specs.declared.entry.Out.{Out}
+use Rattle.napi_types.specs.declared.entry.Out.TheVariants as out
 use Rattle.napi_types.specs.declared.entry.Phase.{Phase}
 use Rattle.napi_types.specs.declared.entry.Phase.TheVariants as phase
+use Rattle.napi_types.specs.declared.entry.What.{What}
 use Rattle.napi_types.specs.declared.entry.What.TheVariants as what
 use Rattle.napi_types.specs.declared.entry.Why.{Why}
 use Rattle.napi_types.specs.declared.ids.HandleId.{HandleId}
 use Rattle.napi_types.specs.declared.status.Status.{Status}
 use Rattle.napi_types.specs.Book.{Book, Registration, TicketState, Registered, Due, Begun, Ended, Withdrawn, is_registered, is_due, is_owed, is_at, made_begun, moved_at, registration_at}
+use Rattle.napi_types.specs.Changes.{host_entry}
 use Rattle.napi_types.specs.Ends.{end_change}
 use Rattle.napi_types.specs.Entering.{function_change, asked_change}
 use Rattle.napi_types.specs.Environment.{Environment}
-use Rattle.napi_types.specs.Frames.{cause_of, duty_of}
+use Rattle.napi_types.specs.Frames.{cause_of, duty_of, is_hub_duty}
+use Rattle.napi_types.specs.Functions.{is_environment}
 use Rattle.napi_types.specs.Hooked.{cause_at, is_late, StandsIn, IsHooked}
 use Rattle.napi_types.specs.Hooks.{Hook, last_hook, without_hook}
+use Rattle.napi_types.specs.Hub.{Hub}
+use Rattle.napi_types.specs.HubMoves.{HubMove, Delivers, Closes, Finishes, hub_move}
+use Rattle.napi_types.specs.HubSteps.{hub_step, begin_step, delivery_entry}
 use Rattle.napi_types.specs.Lists.{found, has}
 use Rattle.napi_types.specs.Loop.{ticket_in}
 use Rattle.napi_types.specs.Machine.{Machine}
@@ -35,18 +46,22 @@ use Rattle.napi_types.specs.Phases.{next_phase}
 use Rattle.napi_types.specs.Refusals.{refusal}
 use Rattle.napi_types.specs.Run.{IsNext, IsRunBy, after}
 use Rattle.napi_types.specs.Setting.{Setting, opening_of}
-use Rattle.napi_types.specs.Step.{Step, step}
+use Rattle.napi_types.specs.SharedCalls.{shared_entry}
+use Rattle.napi_types.specs.Step.{Step, move_step, has_room, other_step, step}
 use Rattle.napi_types.specs.Tickets.{begun_in, may_begin_in, hooks_left}
 use Rattle.napi_types.proofs.Answers.{course-parts}
 use Rattle.napi_types.proofs.Books.{NoneRegistered, withdrawn-leaves, leaves-in}
 use Rattle.napi_types.proofs.Found.{has-found, found-filter}
-use Rattle.napi_types.proofs.FrameChanges.{KeepsButFrame, ended-keeps, book_left, asked_change-fits}
+use Rattle.napi_types.proofs.FrameChanges.{SameHangings, hangings-parts, KeepsButFrame, ended-keeps, asked_change-fits}
 use Rattle.napi_types.proofs.FrameEnds.{ended-ends}
+use Rattle.napi_types.proofs.HubKeeps.{hub_step-what}
 use Rattle.napi_types.proofs.Registrations.{registered-holds}
 use Rattle.napi_types.proofs.Orderly.{IsSpent, Orderly, late-tears, is_drained, orderly-step, orderly-opens}
 use Rattle.napi_types.proofs.TornBooks.{NoneMore, asked-more, left-more, begun-more, left-above}
 use Rattle.napi_types.proofs.Moved.{at-state, at-cause}
-use Rattle.napi_types.proofs.StepCases.{StepCase, calls, ends, opens, inits, begins, passes, vanishes, event_before, step-case}
+use Rattle.napi_types.proofs.Runs.{and-right}
+use Rattle.napi_types.proofs.SharedSteps.{StandsStill, shares-still, moves-still, others-still, IsOfHub, delivery-of_hub, IsNoEvent, others-told, others-none}
+use Rattle.napi_types.proofs.StepCases.{StepCase, calls, ends, opens, inits, begins, vanishes, shares, leaves, passes, moves, others, event_before, step-case}
 
 -- LISTS OF TICKETS
 -- a list of one ticket of which this holds, or of none
@@ -141,15 +156,55 @@ asked-plain : (e : Environment) (c : Call) (n : ℕ) → IsPlain (asked_change e
 asked-plain e (call.CallFunction receiver f args) n = function-plain receiver f args n e (refusal e (call.CallFunction receiver f args))
 asked-plain e c n = record { tickets = refl; hooks = refl; finals = refl }
 
+-- an entry that is no begin, and not `finals`
+plain-by : (x : Entry) (w : What) → x.what ≡ w → IsNoEvent w → IsPlain x
+plain-by x w is none = record {
+  tickets = ap (λ v. cond (is_begin v) (told_ticket x.reply.out) []) is ∙ ap (λ b. cond b (told_ticket x.reply.out) []) none.begins;
+  hooks = ap (λ v. cond (is_begin v) (told_hook x.reply.out) []) is ∙ ap (λ b. cond b (told_hook x.reply.out) []) none.begins;
+  finals = ap is_finals is ∙ none.finals;
+}
+
 ended-plain : (v : Option HandleId) (cut : Option Why) (e : Environment) → IsPlain (end_change v cut e).entry
-ended-plain v cut e =
-    let x : Entry = (end_change v cut e).entry in
-    let is : x.what ≡ what.Host host.End = (ended-ends v cut e).is in
-    record {
-      tickets = ap (λ w. cond (is_begin w) (told_ticket x.reply.out) []) is;
-      hooks = ap (λ w. cond (is_begin w) (told_hook x.reply.out) []) is;
-      finals = ap is_finals is;
-    }
+ended-plain v cut e = plain-by (end_change v cut e).entry (what.Host host.End) (ended-ends v cut e).is (record { begins = refl; finals = refl })
+
+-- one of the hub, of what the environment hands to it
+hub-plain : (h : Hub) (x : Entry) (w : What) → x.what ≡ w → IsNoEvent w → IsPlain (hub_step h x).entry
+hub-plain h x w is none = plain-by (hub_step h x).entry w (hub_step-what h x ∙ is) none
+
+shares-plain : (m : Machine) (c : Call) (o : Out) → IsPlain (hub_step m.hub (shared_entry m.env c o)).entry
+shares-plain m c o = hub-plain m.hub (shared_entry m.env c o) (what.Call c) refl (record { begins = refl; finals = refl })
+
+leaves-plain : (m : Machine) (v : Option HandleId) (cut : Option Why) → IsPlain (hub_step m.hub (end_change v cut m.env).entry).entry
+leaves-plain m v cut = hub-plain m.hub (end_change v cut m.env).entry (what.Host host.End) (ended-ends v cut m.env).is (record { begins = refl; finals = refl })
+
+-- a duty of the hub has no ticket
+delivered-ticket : (why : Cause) (addon entry : ℕ) (d : Duty) → is_hub_duty (Some d) ≡ true → told_ticket (out.Begin why addon entry (Some d)) ≡ []
+delivered-ticket why addon entry (duty.Ticket t) ours = cc
+delivered-ticket why addon entry (duty.Work n) ours = refl
+delivered-ticket why addon entry (duty.Item f n) ours = refl
+delivered-ticket why addon entry (duty.Function f) ours = refl
+
+delivered-hook : (why : Cause) (addon entry : ℕ) (d : Duty) → is_hub_duty (Some d) ≡ true → told_hook (out.Begin why addon entry (Some d)) ≡ []
+delivered-hook why addon entry (duty.Ticket t) ours = cc
+delivered-hook why addon entry (duty.Work n) ours = refl
+delivered-hook why addon entry (duty.Item f n) ours = refl
+delivered-hook why addon entry (duty.Function f) ours = refl
+
+delivered-plain : (d : DueInfo) → IsOfHub d → IsPlain (delivery_entry d)
+delivered-plain d of =
+    record { tickets = delivered-ticket d.cause d.addon d.entry d.duty of.ours; hooks = delivered-hook d.cause d.addon d.entry d.duty of.ours; finals = refl }
+
+moves-plain : (m : Machine) (move : HubMove) → hub_move m.hub ≡ Some move → IsPlain (move_step m move).entry
+moves-plain m (Delivers d) next =
+    let same : (move_step m (Delivers d)).entry ≡ delivery_entry d = ap (λ o. (begin_step m.hub (delivery_entry d) o).entry) next in
+    subst IsPlain (sym same) (delivered-plain d (delivery-of_hub m.hub d next))
+moves-plain m (Closes n) next =
+    hub-plain m.hub (host_entry host.CloseTsfn (out.Function (record { 0 = n }))) (what.Host host.CloseTsfn) refl (record { begins = refl; finals = refl })
+moves-plain m (Finishes n) next =
+    hub-plain m.hub (host_entry host.FinishTsfn (out.Function (record { 0 = n }))) (what.Host host.FinishTsfn) refl (record { begins = refl; finals = refl })
+
+others-plain : (m : Machine) (x : Entry) → is_environment x.actor ≡ false → IsTrue (other_step m x).may → IsPlain (other_step m x).entry
+others-plain m x other may = hub-plain m.hub x x.what refl (others-none x.what (others-told m.hub x other (and-right (has_room m x.what) (hub_step m.hub x).may may)))
 
 passed-begins : (p : Phase) → is_begin (what.Host (event_before p)) ≡ false
 passed-begins phase.Init = refl
@@ -221,24 +276,38 @@ hooks-called e d n before now more early still is =
     let stands : IsHookAt d.book n = hook-stands d n now still is in
     before.others early n (sym (more.causes n) ∙ stands.0) (registered-owed e.book n (more.registered n stands.1))
 
+-- none may begin after the end of a frame that might not before
+ended-fewer : (e : Environment) (v : Option HandleId) (cut : Option Why) (n : ℕ) → MayBeginAt (end_change v cut e).after n → MayBeginAt e n
+ended-fewer e v cut n may =
+    let d : Environment = (end_change v cut e).after in
+    let keeps : KeepsButFrame e d = ended-keeps v cut e in
+    phase-stays e.phase d.phase e.hooks d.hooks n (course-parts e d keeps.course).phase (λ p is. ap (λ hooks. has (λ (h : Hook). h.ticket) n hooks) (sym keeps.hooks) ∙ is) may
+
+-- nor where all of it stays
+still-fewer : (m n : Machine) → StandsStill m n → (t : ℕ) → MayBeginAt n.env t → MayBeginAt m.env t
+still-fewer m n still t may =
+    let same : SameHangings m.env n.env = hangings-parts m.env n.env still.hangings in
+    phase-stays m.env.phase n.env.phase m.env.hooks n.env.hooks t still.phase (λ p is. ap (λ hooks. has (λ (h : Hook). h.ticket) t hooks) (sym same.hooks) ∙ is) may
+
 -- after a step no hook may begin that might not before
 hooks-fewer : (m : Machine) (s : Step) → Orderly m → Orderly s.after → StepCase m s → (n : ℕ) → MayBeginAt s.after.env n → MayBeginAt m.env n
-hooks-fewer m _ h k (calls c n may) t may_then =
+hooks-fewer m _ h k (calls c n may alone) t may_then =
     let d : Environment = (asked_change m.env c n).after in
     let same : d.phase ≡ m.env.phase = (course-parts m.env d (asked_change-fits m.env c n).course).phase in
     phase-stays m.env.phase d.phase m.env.hooks d.hooks t same
     (λ p. hooks-called m.env d t h.hooked k.hooked (asked-more m.env c n (ap is_tearing p)) (ap is_late p) (ap is_late (same ∙ p))) may_then
-hooks-fewer m _ h k (ends v cut may) t may_then =
-    let d : Environment = (end_change v cut m.env).after in
-    let keeps : KeepsButFrame m.env d = ended-keeps v cut m.env in
-    phase-stays m.env.phase d.phase m.env.hooks d.hooks t (course-parts m.env d keeps.course).phase (λ p is. ap (λ hooks. has (λ (h : Hook). h.ticket) t hooks) (sym keeps.hooks) ∙ is) may_then
+hooks-fewer m s h k (ends v cut may alone) t may_then = ended-fewer m.env v cut t may_then
 hooks-fewer m _ h k opens t may_then = may_then
 hooks-fewer m _ h k (inits n) t may_then = may_then
 hooks-fewer m _ h k (begins n r there next may) t may_then =
     phase-stays m.env.phase m.env.phase m.env.hooks (hooks_left m.env.phase n m.env.hooks) t refl
     (λ p is. (left-among n t m.env.hooks (ap (λ q. has (λ (h : Hook). h.ticket) t (hooks_left q n m.env.hooks)) (sym p) ∙ is)).0) may_then
-hooks-fewer m _ h k (passes p o hub next never far left) t may_then = phase-passed m.env.phase p m.env.hooks t next may_then
 hooks-fewer m _ h k (vanishes last) t may_then = absurd may_then
+hooks-fewer m s h k (shares c o shared) t may_then = still-fewer m s.after (shares-still m c o) t may_then
+hooks-fewer m s h k (leaves v cut may ours) t may_then = ended-fewer m.env v cut t may_then
+hooks-fewer m _ h k (passes p o q) t may_then = phase-passed m.env.phase p m.env.hooks t q.next may_then
+hooks-fewer m s h k (moves move next moving alone) t may_then = still-fewer m s.after (moves-still m move) t may_then
+hooks-fewer m s h k (others x other) t may_then = still-fewer m s.after (others-still m x other) t may_then
 
 -- a hook that may begin, and above all that may begin after it
 abbrev IsNextHook : Environment → Environment → ℕ → Type 0
@@ -279,18 +348,22 @@ next-hook m n r phase.Finals here h there next may why =
     cc
 next-hook m n r phase.Gone here h there next may why = cc
 
-hooks-next : (m : Machine) (s : Step) → Orderly m → StepCase m s → AtMostOne (IsNextHook m.env s.after.env) (hooks_told s.entry)
-hooks-next m _ h (calls c n may) = none-told _ _ (asked-plain m.env c n).hooks
-hooks-next m _ h (ends v cut may) = none-told _ _ (ended-plain v cut m.env).hooks
-hooks-next m _ h opens = no_ticket
-hooks-next m _ h (inits n) = no_ticket
-hooks-next m _ h (begins n r there next may) = by (is_hook_cause r.cause) (is-hook r.cause)
+hooks-next : (m : Machine) (s : Step) → Orderly m → StepCase m s → IsTrue s.may → AtMostOne (IsNextHook m.env s.after.env) (hooks_told s.entry)
+hooks-next m _ h (calls c n may alone) comes = none-told _ _ (asked-plain m.env c n).hooks
+hooks-next m _ h (ends v cut may alone) comes = none-told _ _ (ended-plain v cut m.env).hooks
+hooks-next m _ h opens comes = no_ticket
+hooks-next m _ h (inits n) comes = no_ticket
+hooks-next m _ h (begins n r there next may) comes = by (is_hook_cause r.cause) (is-hook r.cause)
   where
     by : (b : Bool) → (b ≡ true → r.cause ≡ cause.Hook) → AtMostOne (λ t. MayBeginAt m.env t × ((k : ℕ) → MayBegin m.env.phase (hooks_left m.env.phase n m.env.hooks) k → k < t)) (cond b (n ∷ []) [])
     by true why = one_ticket n (next-hook m n r m.env.phase refl h there next may (why refl))
     by false why = no_ticket
-hooks-next m _ h (passes p o hub next never far left) = none-told _ _ (ap (λ b. cond b (told_hook o) []) (passed-begins p))
-hooks-next m _ h (vanishes last) = no_ticket
+hooks-next m _ h (vanishes last) comes = no_ticket
+hooks-next m _ h (shares c o shared) comes = none-told _ _ (shares-plain m c o).hooks
+hooks-next m _ h (leaves v cut may ours) comes = none-told _ _ (leaves-plain m v cut).hooks
+hooks-next m _ h (passes p o q) comes = none-told _ _ (ap hooks_told q.entry ∙ ap (λ b. cond b (told_hook o) []) (passed-begins p))
+hooks-next m _ h (moves move next moving alone) comes = none-told _ _ (moves-plain m move next).hooks
+hooks-next m _ h (others x other) comes = none-told _ _ (others-plain m x other comes).hooks
 
 -- WHAT IS LEFT TO THE END
 -- the hub starts no phase after that of `finals`
@@ -304,13 +377,17 @@ late-next phase.Drain p next never late = cc
 
 -- what is late stays late, and what is due then was due before
 late-stays : (m : Machine) (s : Step) → StepCase m s → is_late m.env.phase ≡ true → is_late s.after.env.phase ≡ true
-late-stays m _ (calls c n may) late = ap is_late (course-parts m.env (asked_change m.env c n).after (asked_change-fits m.env c n).course).phase ∙ late
-late-stays m _ (ends v cut may) late = ap is_late (course-parts m.env (end_change v cut m.env).after (ended-keeps v cut m.env).course).phase ∙ late
+late-stays m _ (calls c n may alone) late = ap is_late (course-parts m.env (asked_change m.env c n).after (asked_change-fits m.env c n).course).phase ∙ late
+late-stays m _ (ends v cut may alone) late = ap is_late (course-parts m.env (end_change v cut m.env).after (ended-keeps v cut m.env).course).phase ∙ late
 late-stays m _ opens late = late
 late-stays m _ (inits n) late = late
 late-stays m _ (begins n r there next may) late = late
-late-stays m _ (passes p o hub next never far left) late = absurd (late-next m.env.phase p next never late)
 late-stays m _ (vanishes last) late = refl
+late-stays m _ (shares c o shared) late = ap is_late (shares-still m c o).phase ∙ late
+late-stays m _ (leaves v cut may ours) late = ap is_late (course-parts m.env (end_change v cut m.env).after (ended-keeps v cut m.env).course).phase ∙ late
+late-stays m _ (passes p o q) late = absurd (late-next m.env.phase p q.next q.never late)
+late-stays m _ (moves move next moving alone) late = ap is_late (moves-still m move).phase ∙ late
+late-stays m _ (others x other) late = late
 
 begun-late : (p : Phase) → is_late p ≡ true → begun_in p ≡ made_begun
 begun-late phase.Finals late = refl
@@ -320,18 +397,28 @@ begun-late phase.Live late = cc
 begun-late phase.Hooks late = cc
 begun-late phase.Drain late = cc
 
+ended-due : (e : Environment) (v : Option HandleId) (cut : Option Why) → NoneRegistered e.book → (n : ℕ) → is_at is_due (end_change v cut e).after.book n ≡ true → is_at is_due e.book n ≡ true
+ended-due e v cut none n due =
+    let c : Cause = cause_of e.frames in
+    let d : Option Duty = duty_of e.frames in
+    (left-more c d e.book).due none n (ap (λ b. is_at is_due b n) (sym (ended-keeps v cut e).book) ∙ due)
+
+still-due : (m n : Machine) → StandsStill m n → (t : ℕ) → is_at is_due n.env.book t ≡ true → is_at is_due m.env.book t ≡ true
+still-due m n still t due = ap (λ book. is_at is_due book t) (sym (hangings-parts m.env n.env still.hangings).book) ∙ due
+
 due-fewer : (m : Machine) (s : Step) → Orderly m → StepCase m s → is_late m.env.phase ≡ true → (n : ℕ) → is_at is_due s.after.env.book n ≡ true → is_at is_due m.env.book n ≡ true
-due-fewer m _ h (calls c n may) late = (asked-more m.env c n (late-tears m.env.phase late)).due (h.settled late)
-due-fewer m _ h (ends v cut may) late =
-    let d : Environment = (end_change v cut m.env).after in
-    let left : Book = book_left (cause_of m.env.frames) (duty_of m.env.frames) m.env.book in
-    λ t due. (left-more (cause_of m.env.frames) (duty_of m.env.frames) m.env.book).due (h.settled late) t (ap (λ b. is_at is_due b t) (sym (ended-keeps v cut m.env).book) ∙ due)
+due-fewer m _ h (calls c n may alone) late = (asked-more m.env c n (late-tears m.env.phase late)).due (h.settled late)
+due-fewer m _ h (ends v cut may alone) late = ended-due m.env v cut (h.settled late)
 due-fewer m _ h opens late = λ t due. due
 due-fewer m _ h (inits n) late = λ t due. due
 due-fewer m _ h (begins n r there next may) late =
     λ t due. (begun-more n m.env.book).due (h.settled late) t (ap (λ move. is_at is_due (moved_at move n m.env.book) t) (sym (begun-late m.env.phase late)) ∙ due)
-due-fewer m _ h (passes p o hub next never far left) late = absurd (late-next m.env.phase p next never late)
 due-fewer m _ h (vanishes last) late = λ t due. due
+due-fewer m s h (shares c o shared) late = still-due m s.after (shares-still m c o)
+due-fewer m _ h (leaves v cut may ours) late = ended-due m.env v cut (h.settled late)
+due-fewer m _ h (passes p o q) late = absurd (late-next m.env.phase p q.next q.never late)
+due-fewer m s h (moves move next moving alone) late = still-due m s.after (moves-still m move)
+due-fewer m _ h (others x other) late = λ t due. due
 
 -- a ticket that is due, and below all that are due after it began
 abbrev IsNextDue : Environment → Environment → ℕ → Type 0
@@ -349,24 +436,32 @@ next-due m n r phase.Live late none there next may = cc
 next-due m n r phase.Hooks late none there next may = cc
 next-due m n r phase.Drain late none there next may = cc
 
-due-next : (m : Machine) (s : Step) → Orderly m → StepCase m s → is_late m.env.phase ≡ true → AtMostOne (IsNextDue m.env s.after.env) (tickets_told s.entry)
-due-next m _ h (calls c n may) late = none-told _ _ (asked-plain m.env c n).tickets
-due-next m _ h (ends v cut may) late = none-told _ _ (ended-plain v cut m.env).tickets
-due-next m _ h opens late = no_ticket
-due-next m _ h (inits n) late = no_ticket
-due-next m _ h (begins n r there next may) late = one_ticket n (next-due m n r m.env.phase late (h.settled late) there next may)
-due-next m _ h (passes p o hub next never far left) late = none-told _ _ (ap (λ b. cond b (told_ticket o) []) (passed-begins p))
-due-next m _ h (vanishes last) late = no_ticket
+due-next : (m : Machine) (s : Step) → Orderly m → StepCase m s → IsTrue s.may → is_late m.env.phase ≡ true → AtMostOne (IsNextDue m.env s.after.env) (tickets_told s.entry)
+due-next m _ h (calls c n may alone) comes late = none-told _ _ (asked-plain m.env c n).tickets
+due-next m _ h (ends v cut may alone) comes late = none-told _ _ (ended-plain v cut m.env).tickets
+due-next m _ h opens comes late = no_ticket
+due-next m _ h (inits n) comes late = no_ticket
+due-next m _ h (begins n r there next may) comes late = one_ticket n (next-due m n r m.env.phase late (h.settled late) there next may)
+due-next m _ h (vanishes last) comes late = no_ticket
+due-next m _ h (shares c o shared) comes late = none-told _ _ (shares-plain m c o).tickets
+due-next m _ h (leaves v cut may ours) comes late = none-told _ _ (leaves-plain m v cut).tickets
+due-next m _ h (passes p o q) comes late = none-told _ _ (ap tickets_told q.entry ∙ ap (λ b. cond b (told_ticket o) []) (passed-begins p))
+due-next m _ h (moves move next moving alone) comes late = none-told _ _ (moves-plain m move next).tickets
+due-next m _ h (others x other) comes late = none-told _ _ (others-plain m x other comes).tickets
 
 -- it is late once `finals` has come
-finals-start : (m : Machine) (s : Step) → StepCase m s → is_finals s.entry.what ≡ true → is_late s.after.env.phase ≡ true
-finals-start m _ (calls c n may) is = let no : true ≡ false = sym is ∙ (asked-plain m.env c n).finals in cc
-finals-start m _ (ends v cut may) is = let no : true ≡ false = sym is ∙ (ended-plain v cut m.env).finals in cc
-finals-start m _ opens is = cc
-finals-start m _ (inits n) is = cc
-finals-start m _ (begins n r there next may) is = cc
-finals-start m _ (passes p o hub next never far left) is = passed-finals p is
-finals-start m _ (vanishes last) is = cc
+finals-start : (m : Machine) (s : Step) → StepCase m s → IsTrue s.may → is_finals s.entry.what ≡ true → is_late s.after.env.phase ≡ true
+finals-start m _ (calls c n may alone) comes is = let no : true ≡ false = sym is ∙ (asked-plain m.env c n).finals in cc
+finals-start m _ (ends v cut may alone) comes is = let no : true ≡ false = sym is ∙ (ended-plain v cut m.env).finals in cc
+finals-start m _ opens comes is = cc
+finals-start m _ (inits n) comes is = cc
+finals-start m _ (begins n r there next may) comes is = cc
+finals-start m _ (vanishes last) comes is = cc
+finals-start m _ (shares c o shared) comes is = let no : true ≡ false = sym is ∙ (shares-plain m c o).finals in cc
+finals-start m _ (leaves v cut may ours) comes is = let no : true ≡ false = sym is ∙ (leaves-plain m v cut).finals in cc
+finals-start m _ (passes p o q) comes is = passed-finals p (sym (ap (λ (x : Entry). is_finals x.what) q.entry) ∙ is)
+finals-start m _ (moves move next moving alone) comes is = let no : true ≡ false = sym is ∙ (moves-plain m move next).finals in cc
+finals-start m _ (others x other) comes is = let no : true ≡ false = sym is ∙ (others-plain m x other comes).finals in cc
 
 -- RUNS
 next-step : (m : Machine) (a : Ask) (x : Entry) → Orderly m → IsNext m a x → StepCase m (step m a x)
@@ -377,7 +472,7 @@ run-hooks m (a ∷ bs) (x ∷ xs) h run =
     let s : StepCase m (step m a x) = next-step m a x h run.0 in
     let k : Orderly (after m a x) = orderly-step m (step m a x) h s in
     let told : AtMostOne (IsNextHook m.env (after m a x).env) (hooks_told x) =
-    subst (λ (y : Entry). AtMostOne (IsNextHook m.env (after m a x).env) (hooks_told y)) (sym run.0.0) (hooks-next m (step m a x) h s) in
+    subst (λ (y : Entry). AtMostOne (IsNextHook m.env (after m a x).env) (hooks_told y)) (sym run.0.0) (hooks-next m (step m a x) h s run.0.1) in
     fall-more (MayBeginAt m.env) (MayBeginAt (after m a x).env) (hooks_told x) (hooks_begun xs) (hooks-fewer m (step m a x) h k s) told (run-hooks (after m a x) bs xs k run.1)
 run-hooks m [] [] h run = (tt, All-nil (MayBeginAt m.env))
 run-hooks m [] (x ∷ xs) h run = absurd run
@@ -388,7 +483,7 @@ run-late : (m : Machine) (bs : List Ask) (xs : List Entry) → Orderly m → is_
 run-late m (a ∷ bs) (x ∷ xs) h late run =
     let s : StepCase m (step m a x) = next-step m a x h run.0 in
     let told : AtMostOne (IsNextDue m.env (after m a x).env) (tickets_told x) =
-    subst (λ (y : Entry). AtMostOne (IsNextDue m.env (after m a x).env) (tickets_told y)) (sym run.0.0) (due-next m (step m a x) h s late) in
+    subst (λ (y : Entry). AtMostOne (IsNextDue m.env (after m a x).env) (tickets_told y)) (sym run.0.0) (due-next m (step m a x) h s run.0.1 late) in
     rise-more (λ n. is_at is_due m.env.book n ≡ true) (λ n. is_at is_due (after m a x).env.book n ≡ true) (tickets_told x) (tickets_begun xs) (due-fewer m (step m a x) h s late) told
     (run-late (after m a x) bs xs (orderly-step m (step m a x) h s) (late-stays m (step m a x) s late) run.1)
 run-late m [] [] h late run = (tt, All-nil (λ n. is_at is_due m.env.book n ≡ true))
@@ -399,7 +494,7 @@ run-finals : (m : Machine) (bs : List Ask) (xs : List Entry) → Orderly m → I
 run-finals m (a ∷ bs) (x ∷ xs) h run =
     let s : StepCase m (step m a x) = next-step m a x h run.0 in
     let k : Orderly (after m a x) = orderly-step m (step m a x) h s in
-    by (is_finals x.what) (λ is. finals-start m (step m a x) s (sym (ap (λ (y : Entry). is_finals y.what) run.0.0) ∙ is)) k (run-finals (after m a x) bs xs k run.1)
+    by (is_finals x.what) (λ is. finals-start m (step m a x) s run.0.1 (sym (ap (λ (y : Entry). is_finals y.what) run.0.0) ∙ is)) k (run-finals (after m a x) bs xs k run.1)
   where
     by : (b : Bool) → (b ≡ true → is_late (after m a x).env.phase ≡ true) → Orderly (after m a x) → FinalsRise xs → TicketsRise (cond b (tickets_begun xs) (finals_begun xs))
     by true late k rest = (run-late (after m a x) bs xs k (late refl) run.1).0

@@ -15,6 +15,7 @@ use Rattle.napi_types.specs.declared.status.Status.{Status}
 use Rattle.napi_types.specs.declared.status.Status.TheVariants as status
 use Rattle.napi_types.specs.Asks.{AsksWithin}
 use Rattle.napi_types.specs.AttachmentRefusals.{attachment_refusal}
+use Rattle.napi_types.specs.HookRefusals.{hook_refusal}
 use Rattle.napi_types.specs.Calls.{addon_effect, effect, answer_unless, answer_unless_deep}
 use Rattle.napi_types.specs.Attachments.{wrap_ticket}
 use Rattle.napi_types.specs.Book.{Registration, registration_at, due_info}
@@ -43,7 +44,7 @@ use Rattle.napi_types.specs.ReferenceCalls.{value_told, counted_up}
 use Rattle.napi_types.specs.Roots.{reach}
 use Rattle.napi_types.specs.Moments.{moment_refusal}
 use Rattle.napi_types.specs.ReferenceRefusals.{reference_refusal}
-use Rattle.napi_types.specs.Refusals.{timely_refusal, refusal_in, early_refusal, depth_refusal, refusal}
+use Rattle.napi_types.specs.Refusals.{attached_refusal, timely_refusal, refusal_in, early_refusal, depth_refusal, refusal}
 use Rattle.napi_types.specs.NamedNumbers.{unknown_refusal}
 use Rattle.napi_types.specs.ExpectedKinds.{kind_refusal}
 use Rattle.napi_types.specs.OwnRefusals.{row_refusal}
@@ -60,7 +61,7 @@ use Rattle.napi_types.proofs.Registrations.{KeptByMoves, registered-holds, call-
 abbrev Ours : ℕ → Value → Type 0
 Ours n v = BelongsTo n v.body
 
-abbrev Below : ℕ → Frame → Type 0
+abbrev pub Below : ℕ → Frame → Type 0
 Below n f = f.addon < n
 
 -- a ticket whose frame runs one of them
@@ -212,7 +213,7 @@ at-owned n e c k (Some r) (Some s) there all = all
 at-owned n e c k None (Some s) there all = thrown-owned n e.heap None _ all
 
 -- FRAMES
-counted-owned : (n : ℕ) (fs : List Frame) → All (Below n) fs → All (Below n) (ask_counted fs)
+pub counted-owned : (n : ℕ) (fs : List Frame) → All (Below n) fs → All (Below n) (ask_counted fs)
 counted-owned n [] all = All-nil (Below n)
 counted-owned n (f ∷ fs) all = All-cons (Below n) (record f { asks = f.asks + 1 }) fs (All-head (Below n) f fs all) (All-tail (Below n) f fs all)
 
@@ -233,7 +234,7 @@ call_change-owned n e c k stands o =
       tickets = call-all (Entered n) (entered-kept n) e c k (λ made r who why. subst (λ a. a < n) (sym who) (caller-owned n e.frames stands o.frames)) o.tickets;
     }
 
-none-first : (a b : Option Status) → option_or a b ≡ None → a ≡ None
+pub none-first : (a b : Option Status) → option_or a b ≡ None → a ≡ None
 none-first None b h = refl
 none-first (Some s) b h = h
 
@@ -241,21 +242,25 @@ none-last : (a b : Option Status) → option_or a b ≡ None → b ≡ None
 none-last None b h = h
 none-last (Some s) b h = cc
 
-not-unless : (b : Bool) (s : Status) → unless b s ≡ None → b ≡ true
+pub not-unless : (b : Bool) (s : Status) → unless b s ≡ None → b ≡ true
 not-unless true s h = refl
 not-unless false s h = cc
+
+-- a call that nothing refuses is not refused by its row
+pub row-unrefused : (e : Environment) (c : Call) → refusal e c ≡ None → row_refusal e.heap c ≡ None
+row-unrefused e c h =
+    let early : early_refusal e c ≡ None = none-first (early_refusal e c) (depth_refusal e.frames c) h in
+    let timely : timely_refusal e c ≡ None = none-last (moment_refusal e c) (timely_refusal e c) early in
+    let unhooked : option_or (reference_refusal e.references c) (attached_refusal e c) ≡ None = none-last (hook_refusal (caller_of e.frames) e.hooks c) _ timely in
+    let beside : option_or (refusal_in e.texts e.heap c) (attachment_refusal e.attachments e.heap c) ≡ None = none-last (reference_refusal e.references c) _ unhooked in
+    let within : refusal_in e.texts e.heap c ≡ None = none-first (refusal_in e.texts e.heap c) (attachment_refusal e.attachments e.heap c) beside in
+    let later : option_or (kind_refusal e.heap c) (row_refusal e.heap c) ≡ None = none-last (unknown_refusal e.texts e.heap c) _ within in
+    none-last (kind_refusal e.heap c) (row_refusal e.heap c) later
 
 -- only a function is called
 pub function-call_change : (e : Environment) (receiver : Option HandleId) (f : HandleId) (args : Args) → refusal e (call.CallFunction receiver f args) ≡ None
     → is_function (handle_body e.heap f.0) ≡ true
-function-call_change e receiver f args h =
-    let c : Call = call.CallFunction receiver f args in
-    let early : early_refusal e c ≡ None = none-first (early_refusal e c) (depth_refusal e.frames c) h in
-    let timely : timely_refusal e c ≡ None = none-last (moment_refusal e c) (timely_refusal e c) early in
-    let beside : option_or (refusal_in e.texts e.heap c) (attachment_refusal e.attachments e.heap c) ≡ None = none-last (reference_refusal e.references c) _ timely in
-    let within : refusal_in e.texts e.heap c ≡ None = none-first (refusal_in e.texts e.heap c) (attachment_refusal e.attachments e.heap c) beside in
-    let later : option_or (kind_refusal e.heap c) (row_refusal e.heap c) ≡ None = none-last (unknown_refusal e.texts e.heap c) _ within in
-    not-unless (is_function (handle_body e.heap f.0)) status.InvalidArg (none-last (kind_refusal e.heap c) (row_refusal e.heap c) later)
+function-call_change e receiver f args h = not-unless (is_function (handle_body e.heap f.0)) status.InvalidArg (row-unrefused e (call.CallFunction receiver f args) h)
 
 -- an accepted call of a function enters a frame of an addon that is there
 pub callee-owned : (n : ℕ) (e : Environment) (receiver : Option HandleId) (f : HandleId) (args : Args) → refusal e (call.CallFunction receiver f args) ≡ None → IsOwned n e

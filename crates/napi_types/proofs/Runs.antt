@@ -6,6 +6,7 @@ use Rattle.std.specs.Option.{option_to_list}
 use Rattle.napi_types.specs.declared.duties.DueInfo.{DueInfo}
 use Rattle.napi_types.specs.declared.entry.Entry.{Entry}
 use Rattle.napi_types.specs.declared.call.Ask.{Ask}
+use Rattle.napi_types.specs.declared.call.Call.{Call}
 use Rattle.napi_types.specs.Begins.{begun_info, begun_along, of_addon}
 use Rattle.napi_types.specs.Machine.{Machine}
 use Rattle.napi_types.specs.Run.{after, IsNext, IsRunBy, final}
@@ -41,13 +42,13 @@ final-more m [] (y ∷ ys) a x r = absurd r
 final-more m (b ∷ bs) [] a x r = absurd r
 
 -- and so have its asks and its registers
-pub asked-more : (ps : List Plan) (rss : Registers) (m : Machine) (bs : List Ask) (xs : List Entry) (a : Ask) (x : Entry)
+pub asked-more : (built : Call → Bool) (ps : List Plan) (rss : Registers) (m : Machine) (bs : List Ask) (xs : List Entry) (a : Ask) (x : Entry)
     → IsRunBy m bs xs
-    → asked_along ps rss m (bs ++ a ∷ []) (xs ++ x ∷ []) ≡ asked_along ps rss m bs xs ++ asked ps (registers_along ps rss m bs xs) (final m bs xs) a x.actor ∷ []
-asked-more ps rss m [] [] a x r = refl
-asked-more ps rss m (b ∷ bs) (y ∷ ys) a x r = ap (λ l. asked ps rss m b y.actor ∷ l) (asked-more ps (registers_after ps rss m b y) (after m b y) bs ys a x r.1)
-asked-more ps rss m [] (y ∷ ys) a x r = absurd r
-asked-more ps rss m (b ∷ bs) [] a x r = absurd r
+    → asked_along built ps rss m (bs ++ a ∷ []) (xs ++ x ∷ []) ≡ asked_along built ps rss m bs xs ++ asked built ps (registers_along ps rss m bs xs) (final m bs xs) a x.actor ∷ []
+asked-more built ps rss m [] [] a x r = refl
+asked-more built ps rss m (b ∷ bs) (y ∷ ys) a x r = ap (λ l. asked built ps rss m b y.actor ∷ l) (asked-more built ps (registers_after ps rss m b y) (after m b y) bs ys a x r.1)
+asked-more built ps rss m [] (y ∷ ys) a x r = absurd r
+asked-more built ps rss m (b ∷ bs) [] a x r = absurd r
 
 pub registers-more : (ps : List Plan) (rss : Registers) (m : Machine) (bs : List Ask) (xs : List Entry) (a : Ask) (x : Entry)
     → IsRunBy m bs xs

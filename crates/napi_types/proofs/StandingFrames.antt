@@ -25,12 +25,12 @@ use Rattle.napi_types.proofs.FrameChanges.{ended-keeps, enter_change-keeps}
 use Rattle.napi_types.proofs.Registrations.{registered-holds, AreUncalled}
 
 -- ONE MORE ASK
-counted-nested : (fs : List Frame) → AreNested fs → AreNested (ask_counted fs)
+pub counted-nested : (fs : List Frame) → AreNested fs → AreNested (ask_counted fs)
 counted-nested [] alone = tt
 counted-nested (f ∷ []) alone = alone
 counted-nested (f ∷ g ∷ fs) alone = (alone.0, alone.1, alone.2)
 
-counted-duties : (fs : List Frame) → duties_of (ask_counted fs) ≡ duties_of fs
+pub counted-duties : (fs : List Frame) → duties_of (ask_counted fs) ≡ duties_of fs
 counted-duties [] = refl
 counted-duties (f ∷ fs) = refl
 

@@ -9,14 +9,21 @@ use Rattle.napi_types.specs.declared.entry.Entry.{Entry}
 use Rattle.napi_types.specs.declared.entry.Out.{Out}
 use Rattle.napi_types.specs.declared.entry.Out.TheVariants as out
 use Rattle.napi_types.specs.Book.{registration_at, due_info}
+use Rattle.napi_types.specs.HubMoves.{HubMove, Delivers, hub_move}
 use Rattle.napi_types.specs.Machine.{Machine}
 use Rattle.napi_types.specs.Run.{after}
 
 -- ONE ENTRY
--- what a duty tells: that of a ticket what the book has of it. No other duty begins so far
+-- what a move of the hub tells, where it is the begin of a frame
+abbrev pub delivered_info : Option HubMove → Option DueInfo
+delivered_info (Some (Delivers d)) = Some d
+delivered_info _ = None
+
+-- what a duty tells as its frame begins: that of a ticket what the book has of it. Every other is the one that the hub delivers next, in a run
 abbrev pub duty_info : Machine → Option Duty → Option DueInfo
 duty_info m (Some (duty.Ticket ticket)) = option_map (due_info ticket.0) (registration_at m.env.book ticket.0)
-duty_info m _ = None
+duty_info m (Some d) = delivered_info (hub_move m.hub)
+duty_info m None = None
 
 -- what the duty tells whose frame begins, where this result tells of one
 abbrev pub told_at : Machine → Out → Option DueInfo

@@ -1,4 +1,4 @@
--- Which calls are built so far.
+-- Which calls are built so far, and what an addon is taken to ask that asks another.
 use Rattle.std.specs.Prelude.{Bool, true, false, ◌||◌, cond, None}
 use Rattle.napi_types.specs.declared.call.Ask.{Ask}
 use Rattle.napi_types.specs.declared.call.Ask.TheVariants as ask
@@ -127,7 +127,7 @@ is_built c =
     is_scope_or_version c || is_exception_call c || is_reference_call c || is_wrap_call c || is_external_call c || is_instance_call c || is_hook_call c || is_collecting c
     || is_exiting c || is_calling c || is_value_call c
 
--- what a frame is taken to ask: a call that is not built is never made, and the addon that asks it is taken to leave
-abbrev pub built_ask : Ask → Ask
-built_ask (ask.Do c) = cond (is_built c) (ask.Do c) (ask.Leave None)
-built_ask (ask.Leave v) = ask.Leave v
+-- what an addon is taken to ask where these calls are built: another call is never made, and the addon that asks it is taken to leave
+abbrev pub built_ask : (Call → Bool) → Ask → Ask
+built_ask built (ask.Do c) = cond (built c) (ask.Do c) (ask.Leave None)
+built_ask built (ask.Leave v) = ask.Leave v

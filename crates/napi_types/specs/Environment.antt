@@ -13,6 +13,11 @@ use Rattle.napi_types.specs.InstanceData.{Instances}
 use Rattle.napi_types.specs.References.{ReferenceMap, no_references}
 use Rattle.napi_types.specs.Replies.{Answer}
 
+-- the value that a thread-safe function keeps alive
+pub record FunctionRoot : Type 0 where
+  pub function : ℕ
+  pub value : ℕ
+
 -- the state of the environment (`napi_env`)
 pub record Environment : Type 0 where
   -- how many addons and how many texts the script has
@@ -35,6 +40,8 @@ pub record Environment : Type 0 where
   -- the cleanup hooks that have not begun and were not removed, in the order of adding, and the instance data of each addon
   pub hooks : List Hook
   pub instances : Instances
+  -- the values that thread-safe functions keep alive until they finish
+  pub function_roots : List FunctionRoot
   -- the creation number of the value that is the pending exception, where one is pending
   pub pending : Option ℕ
   -- the status of the last call
@@ -56,6 +63,7 @@ new_environment addons texts = record {
   book = [];
   hooks = [];
   instances = replicate addons None;
+  function_roots = [];
   pending = None;
   last = status.Ok;
 }

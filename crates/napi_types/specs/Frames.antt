@@ -1,9 +1,10 @@
 -- The frames that stand: each runs one entry of one addon.
-use Rattle.std.specs.Prelude.{ℕ, ◌+◌, ◌-◌, Bool, true, false, List, [], ◌∷◌, Option, Some, None}
+use Rattle.std.specs.Prelude.{ℕ, ◌+◌, ◌-◌, Bool, true, false, not, List, [], ◌∷◌, filter, Option, Some, None}
 use Rattle.napi_types.specs.declared.duties.DueInfo.{DueInfo}
 use Rattle.napi_types.specs.declared.entry.Cause.{Cause}
 use Rattle.napi_types.specs.declared.entry.Cause.TheVariants as cause
 use Rattle.napi_types.specs.declared.entry.Duty.{Duty}
+use Rattle.napi_types.specs.declared.entry.Duty.TheVariants as duty
 use Rattle.napi_types.specs.declared.entry.Out.{Out}
 use Rattle.napi_types.specs.declared.entry.Out.TheVariants as out
 use Rattle.napi_types.specs.Lists.{first_changed}
@@ -52,6 +53,16 @@ cause_of (f ∷ fs) = f.cause
 abbrev pub duty_of : List Frame → Option Duty
 duty_of [] = None
 duty_of (f ∷ fs) = f.duty
+
+-- whether a duty is there that is the hub's: that of a work, an item or a thread-safe function
+abbrev pub is_hub_duty : Option Duty → Bool
+is_hub_duty None = false
+is_hub_duty (Some (duty.Ticket t)) = false
+is_hub_duty (Some _) = true
+
+-- the frames whose end stands in the journal: all that no duty of the hub began
+abbrev pub local_frames : List Frame → List Frame
+local_frames fs = filter (λ f. not (is_hub_duty f.duty)) fs
 
 -- whether the innermost frame makes asks
 abbrev pub is_asking : List Frame → Bool

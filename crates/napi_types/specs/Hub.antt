@@ -1,7 +1,12 @@
--- The hub: how far the run has come, told by the four great events. It has no works and no thread-safe functions.
-use Rattle.std.specs.Prelude.{Option, Some, None}
+-- The hub: the works, the thread-safe functions, which threads and workers have ended, and how far the run has come.
+use Rattle.std.specs.Prelude.{ℕ, Bool, true, false, not, List, [], filter, Option, Some, None}
+use Rattle.std.specs.List.{range_with_len}
+use Rattle.napi_types.specs.declared.duties.DueInfo.{DueInfo}
 use Rattle.napi_types.specs.declared.entry.HostStep.{HostStep}
 use Rattle.napi_types.specs.declared.entry.HostStep.TheVariants as host
+use Rattle.napi_types.specs.Functions.{FunctionState}
+use Rattle.napi_types.specs.Lists.{has_number}
+use Rattle.napi_types.specs.Pool.{WorkPool, new_pool}
 
 -- which of the hub's four great events was the last: none, `go`, `loop_end`, `drain`, `finals`
 pub data Stage : Type 0 where
@@ -13,11 +18,40 @@ pub data Stage : Type 0 where
 
 -- the state of the hub
 pub record Hub : Type 0 where
+  -- how many threads and how many workers there are, and which of them have ended
+  pub threads : ℕ
+  pub workers : ℕ
+  pub ended_threads : List ℕ
+  pub ended_workers : List ℕ
   pub stage : Stage
+  pub pool : WorkPool
+  -- the thread-safe functions, that of number 1 first
+  pub functions : List FunctionState
+  -- what the duty of the hub told whose frame stands, where one does
+  pub standing : Option DueInfo
 
--- a hub as it opens
-abbrev pub new_hub : Hub
-new_hub = record { stage = Before }
+-- a hub as it opens, for so many threads and workers
+abbrev pub new_hub : ℕ → ℕ → Hub
+new_hub threads workers = record {
+  threads = threads;
+  workers = workers;
+  ended_threads = [];
+  ended_workers = [];
+  stage = Before;
+  pool = new_pool;
+  functions = [];
+  standing = None;
+}
+
+-- the drain has come
+abbrev pub is_past_drain : Stage → Bool
+is_past_drain Drained = true
+is_past_drain Final = true
+is_past_drain _ = false
+
+-- a hub without other actors, of which no call was asked, is its stage alone; from the drain on its pool is closing
+abbrev pub quiet_hub : Stage → Hub
+quiet_hub s = record (new_hub 0 0) { stage = s; pool = record new_pool { closing = is_past_drain s } }
 
 -- `go`, `loop_end`, `drain` and `finals` happen once each and in this order
 abbrev pub stage_after : Stage → HostStep → Option Stage
@@ -27,11 +61,13 @@ stage_after Looped host.Drain = Some Drained
 stage_after Drained host.Finals = Some Final
 stage_after _ _ = None
 
--- the hub at its next stage, where there is one
-abbrev pub staged : Hub → Option Stage → Option Hub
-staged h None = None
-staged h (Some s) = Some (record h { stage = s })
+-- those of so many, counted from 0, that have not ended
+abbrev pub left_of : ℕ → List ℕ → List ℕ
+left_of count ended = filter (λ n. not (has_number n ended)) (range_with_len 0 count)
 
--- the hub after one of its events; none where the event may not happen
-abbrev pub hub_next : Hub → HostStep → Option Hub
-hub_next h event = staged h (stage_after h.stage event)
+-- the threads and the workers that have not ended
+abbrev pub threads_left : Hub → List ℕ
+threads_left h = left_of h.threads h.ended_threads
+
+abbrev pub workers_left : Hub → List ℕ
+workers_left h = left_of h.workers h.ended_workers

@@ -1,3 +1,5 @@
+pub mod Actors
+pub mod Alone
 pub mod Asks
 pub mod AttachmentRefusals
 pub mod Attachments
@@ -22,6 +24,7 @@ pub mod ExpectedKinds
 pub mod ExternalCalls
 pub mod Frames
 pub mod FunctionCalls
+pub mod Functions
 pub mod Graph
 pub mod Guards
 pub mod Heap
@@ -31,8 +34,14 @@ pub mod HookRefusals
 pub mod Hooked
 pub mod Hooks
 pub mod Hub
+pub mod HubCalls
+pub mod HubLaws
+pub mod HubMoves
+pub mod HubSteps
 pub mod InstanceCalls
 pub mod InstanceData
+pub mod Jobs
+pub mod Joined
 pub mod Laws
 pub mod Lists
 pub mod Loop
@@ -48,6 +57,7 @@ pub mod Owners
 pub mod Parting
 pub mod Phases
 pub mod Plan
+pub mod Pool
 pub mod Properties
 pub mod PropertyCalls
 pub mod Reach
@@ -57,6 +67,7 @@ pub mod References
 pub mod Refusals
 pub mod Registering
 pub mod Registers
+pub mod Replays
 pub mod Replies
 pub mod Room
 pub mod Roots
@@ -76,6 +87,7 @@ pub mod ScriptSchedule
 pub mod ScriptThreads
 pub mod SeenLines
 pub mod Setting
+pub mod SharedCalls
 pub mod Step
 pub mod Teardown
 pub mod Text
@@ -85,4 +97,5 @@ pub mod ValueCalls
 pub mod Values
 pub mod VersionCall
 pub mod Weave
+pub mod Works
 pub mod WrapCalls

@@ -52,6 +52,11 @@ first_some [] = None
 first_some (None ∷ xs) = first_some xs
 first_some (Some x ∷ xs) = Some x
 
+-- nothing is in the list
+abbrev pub is_empty : {A : Type 0} → List A → Bool
+is_empty [] = true
+is_empty (x ∷ xs) = false
+
 -- the list without its first element
 abbrev pub tail : {A : Type 0} → List A → List A
 tail [] = []

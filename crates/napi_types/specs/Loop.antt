@@ -7,12 +7,15 @@ use Rattle.napi_types.specs.declared.entry.Phase.TheVariants as phase
 use Rattle.napi_types.specs.Book.{lowest_due}
 use Rattle.napi_types.specs.Environment.{Environment}
 use Rattle.napi_types.specs.Hooks.{last_hook}
+use Rattle.napi_types.specs.HubMoves.{HubMove}
 
--- an event of the environment where no frame stands: the opening, the init frame of an addon, the frame of a ticket, the four events of the hub, and the end
+-- an event of the environment where no frame stands: the opening, the init frame of an addon, the frame of a ticket, a move of the hub, its four great events, and
+-- the end
 pub data Event : Type 0 where
   Opens : Event
   Inits : ℕ → Event
   Tickets : ℕ → Event
+  Moves : HubMove → Event
   Goes : Event
   EndsLoop : LoopEnd → Event
   Drains : Event

@@ -12,6 +12,12 @@ pub record Machine : Type 0 where
   pub history_length : ℕ
   pub limits : Limits
 
--- the opening state of a script with so many addons and texts
-abbrev pub opening : ℕ → ℕ → Limits → Machine
-opening addons texts limits = record { env = new_environment addons texts; hub = new_hub; journal_length = 0; history_length = 0; limits = limits }
+-- the opening state of a script with so many addons, texts, threads and workers
+abbrev pub opening : ℕ → ℕ → ℕ → ℕ → Limits → Machine
+opening addons texts threads workers limits = record {
+  env = new_environment addons texts;
+  hub = new_hub threads workers;
+  journal_length = 0;
+  history_length = 0;
+  limits = limits;
+}

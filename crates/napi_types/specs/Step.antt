@@ -1,5 +1,5 @@
 -- The entry that must stand next, what it leaves, and whether it may stand there.
-use Rattle.std.specs.Prelude.{ℕ, ◌+◌, ◌==◌, Bool, true, false, not, ◌&&◌, List, [], ◌∷◌, Option, Some, None}
+use Rattle.std.specs.Prelude.{ℕ, ◌+◌, ◌==◌, Bool, true, false, not, ◌&&◌, ◌||◌, List, [], ◌∷◌, length, Option, Some, None}
 use Rattle.napi_types.specs.declared.call.Call.{Call}
 use Rattle.napi_types.specs.declared.call.Ask.{Ask}
 use Rattle.napi_types.specs.declared.call.Ask.TheVariants as ask
@@ -10,21 +10,25 @@ use Rattle.napi_types.specs.declared.entry.HostStep.{HostStep}
 use Rattle.napi_types.specs.declared.entry.HostStep.TheVariants as host
 use Rattle.napi_types.specs.declared.entry.Actor.{Actor}
 use Rattle.napi_types.specs.declared.entry.Actor.TheVariants as actor
+use Rattle.napi_types.specs.declared.entry.What.{What}
 use Rattle.napi_types.specs.declared.entry.Why.{Why}
 use Rattle.napi_types.specs.declared.entry.Why.TheVariants as why
 use Rattle.napi_types.specs.declared.entry.Phase.{Phase}
 use Rattle.napi_types.specs.declared.entry.Phase.TheVariants as phase
 use Rattle.napi_types.specs.Book.{Registration, registration_at}
-use Rattle.napi_types.specs.Built.{built_ask}
-use Rattle.napi_types.specs.Frames.{Frame, asks_made, most_asks}
-use Rattle.napi_types.specs.Hub.{Hub, hub_next}
+use Rattle.napi_types.specs.Environment.{Environment}
+use Rattle.napi_types.specs.Frames.{Frame, asks_made, most_asks, duty_of, is_hub_duty}
+use Rattle.napi_types.specs.Guards.{is_shared}
+use Rattle.napi_types.specs.HubMoves.{HubMove, Delivers, Closes, Finishes}
+use Rattle.napi_types.specs.HubSteps.{HubStep, hub_step, delivery_entry}
 use Rattle.napi_types.specs.Machine.{Machine}
-use Rattle.napi_types.specs.Room.{room_of, is_full, may_want_memory}
+use Rattle.napi_types.specs.Room.{history_room, room_of, is_full, fits_in, may_want_memory}
 use Rattle.napi_types.specs.Changes.{Change, host_entry, opening_change, init_change, number_of, is_fresh_result, may_ask, may_call, gone_change, in_phase}
 use Rattle.napi_types.specs.Choice.{choice}
 use Rattle.napi_types.specs.Ends.{end_change}
 use Rattle.napi_types.specs.Entering.{asked_change}
-use Rattle.napi_types.specs.Loop.{Event, Opens, Inits, Tickets, Goes, EndsLoop, Drains, FinalsCome, IsGone}
+use Rattle.napi_types.specs.Loop.{Event, Opens, Inits, Tickets, Moves, Goes, EndsLoop, Drains, FinalsCome, IsGone}
+use Rattle.napi_types.specs.SharedCalls.{shared_entry, after_shared, after_delivery, without_root}
 use Rattle.napi_types.specs.Tickets.{may_begin_in, ticket_change}
 use Rattle.napi_types.specs.Weave.{Side, Journal, History}
 
@@ -43,19 +47,18 @@ no_step m = record { entry = host_entry host.Gone out.Nothing; side = Journal; a
 abbrev pub locally : Machine → Change → Bool → Step
 locally m c may = record { entry = c.entry; side = Journal; after = record m { env = c.after; journal_length = m.journal_length + 1 }; may = may }
 
--- an event of the hub is one entry more in the history, and moves the environment's phase
-abbrev pub hub_moved : Machine → HostStep → Phase → Out → Option Hub → Step
-hub_moved m event p o None = no_step m
-hub_moved m event p o (Some h) = record {
-  entry = host_entry event o;
+-- a step of the hub is one entry more in the history, and leaves this environment
+abbrev pub shared : Machine → HubStep → Environment → Bool → Step
+shared m s e may = record {
+  entry = s.entry;
   side = History;
-  after = record m { env = in_phase p m.env; hub = h; history_length = m.history_length + 1 };
-  may = true;
+  after = record m { env = e; hub = s.after; history_length = m.history_length + 1 };
+  may = may && s.may;
 }
 
--- an event of the hub, after which the environment is in the phase
+-- a great event of the hub, with this result, moves the environment's phase
 abbrev pub by_hub : Machine → HostStep → Phase → Out → Step
-by_hub m event p o = hub_moved m event p o (hub_next m.hub event)
+by_hub m event p o = shared m (hub_step m.hub (host_entry event o)) (in_phase p m.env) true
 
 -- EVENTS WHERE NO FRAME STANDS
 -- the frame of a ticket begins; that of one that was never given, or has not come so far, may not
@@ -63,15 +66,21 @@ abbrev pub ticket_step : Machine → ℕ → Option Registration → Step
 ticket_step m n None = no_step m
 ticket_step m n (Some r) = locally m (ticket_change n r m.env) (may_begin_in m.env.phase r.state)
 
+-- the frame of a duty of the hub begins, or a function moves; one that finishes no longer keeps its value alive
+abbrev pub move_step : Machine → HubMove → Step
+move_step m (Delivers d) = shared m (hub_step m.hub (delivery_entry d)) (after_delivery d m.env) true
+move_step m (Closes n) = shared m (hub_step m.hub (host_entry host.CloseTsfn (out.Function (record { 0 = n })))) m.env true
+move_step m (Finishes n) = shared m (hub_step m.hub (host_entry host.FinishTsfn (out.Function (record { 0 = n })))) (without_root n m.env) true
+
 -- the step of each event where no frame stands
 abbrev pub event_step : Machine → Event → Step
 event_step m Opens = locally m (opening_change m.env) true
 event_step m (Inits n) = locally m (init_change n m.env) true
 event_step m (Tickets n) = ticket_step m n (registration_at m.env.book n)
+event_step m (Moves move) = move_step m move
 event_step m Goes = by_hub m host.Go phase.Live out.Nothing
 event_step m (EndsLoop w) = by_hub m host.LoopEnd phase.Hooks (out.Ended w)
--- no work is queued, so none is cancelled
-event_step m Drains = by_hub m host.Drain phase.Drain (out.Unsigned 0)
+event_step m Drains = by_hub m host.Drain phase.Drain (out.Unsigned (length m.hub.pool.queued))
 event_step m FinalsCome = by_hub m host.Finals phase.Finals out.Nothing
 event_step m IsGone = locally m (gone_change m.env) true
 
@@ -81,21 +90,45 @@ chosen m None = no_step m
 chosen m (Some event) = event_step m event
 
 -- STEPS OF A FRAME
--- whether a frame may be cut so, where this is its ask: after its last ask, or at a call that stopped
+-- whether a frame may be cut so, where this is its ask: after its last ask, or at a call that stopped. A local call that is full did not stop for want of memory;
+-- a shared one may have, since others may have filled the history between the stop and the end
 abbrev pub may_cut : Machine → Ask → Why → Bool
 may_cut m a why.Asks = asks_made m.env.frames == most_asks
 may_cut m (ask.Do c) why.Full = may_call m.env && is_full (room_of m c) c
-may_cut m (ask.Do c) why.Memory = may_call m.env && may_want_memory (room_of m c) c && not (is_full (room_of m c) c)
+may_cut m (ask.Do c) why.Memory = may_call m.env && may_want_memory (room_of m c) c && (is_shared c || not (is_full (room_of m c) c))
 may_cut m (ask.Leave v) _ = false
 
--- a call leaves its entry, or enters its frame, where its frame makes asks and there is room for it
+-- a local call leaves its entry, or enters its frame, where its frame makes asks and there is room for it
+abbrev pub local_call_step : Machine → Call → Out → Step
+local_call_step m c o = locally m (asked_change m.env c (number_of o)) (may_call m.env && is_fresh_result m.env o && not (is_full (room_of m c) c))
+
+-- the hub answers a shared call, likewise
+abbrev pub answered_by : Machine → Call → HubStep → Step
+answered_by m c s = shared m s (after_shared c s.entry.reply m.env) (may_call m.env && not (is_full (room_of m c) c))
+
+abbrev pub shared_call_step : Machine → Call → Out → Step
+shared_call_step m c o = answered_by m c (hub_step m.hub (shared_entry m.env c o))
+
+-- a call, given whether it is shared
+abbrev pub call_step_on : Bool → Machine → Call → Out → Step
+call_step_on false m c o = local_call_step m c o
+call_step_on true m c o = shared_call_step m c o
+
 abbrev pub call_step : Machine → Call → Out → Step
-call_step m c o = locally m (asked_change m.env c (number_of o)) (may_call m.env && is_fresh_result m.env o && not (is_full (room_of m c) c))
+call_step m c o = call_step_on (is_shared c) m c o
+
+-- the innermost frame ends: that of a duty of the hub in the history, every other in the journal
+abbrev pub end_step_on : Bool → Machine → Change → Bool → Step
+end_step_on false m c may = locally m c may
+end_step_on true m c may = shared m (hub_step m.hub c.entry) c.after may
+
+abbrev pub end_step : Machine → Change → Bool → Step
+end_step m c may = end_step_on (is_hub_duty (duty_of m.env.frames)) m c may
 
 -- the step of what a frame asks: its call, or its end
 abbrev pub asked_step : Machine → Ask → Out → Step
 asked_step m (ask.Do c) o = call_step m c o
-asked_step m (ask.Leave v) o = locally m (end_change v None m.env) (may_ask m.env)
+asked_step m (ask.Leave v) o = end_step m (end_change v None m.env) (may_ask m.env)
 
 -- the cut that a result tells, if it tells one
 abbrev pub cut_of : Out → Option Why
@@ -104,20 +137,27 @@ cut_of _ = None
 
 -- the step of a frame: its end where it is cut, or else what it asks
 abbrev pub frame_step : Machine → Ask → Out → Option Why → Step
-frame_step m a o (Some w) = locally m (end_change None (Some w) m.env) (may_cut m a w)
+frame_step m a o (Some w) = end_step m (end_change None (Some w) m.env) (may_cut m a w)
 frame_step m a o None = asked_step m a o
 
--- the step of the environment: that of its innermost frame by what it is taken to ask, or of its next event where no frame stands
+-- the step of the environment: that of its innermost frame by what it asks, or of its next event where no frame stands
 abbrev pub env_step : Machine → Ask → Out → List Frame → Step
 env_step m a o [] = chosen m (choice m)
-env_step m a o (f ∷ fs) = frame_step m (built_ask a) o (cut_of o)
+env_step m a o (f ∷ fs) = frame_step m a o (cut_of o)
 
--- threads and workers make no entry
+-- STEPS OF OTHERS
+-- whether the history has room for what an actor beside the environment does
+abbrev pub has_room : Machine → What → Bool
+has_room m w = fits_in (history_room m.hub m.history_length m.limits.history) w
+
+-- a thread or a worker makes the hub's step, and the environment stays as it is
+abbrev pub other_step : Machine → Entry → Step
+other_step m x = shared m (hub_step m.hub x) m.env (has_room m x.what)
+
 abbrev pub step_of : Machine → Ask → Entry → Actor → Step
 step_of m a x actor.Env = env_step m a x.reply.out m.env.frames
-step_of m a x (actor.Thread t) = no_step m
-step_of m a x (actor.Worker w) = no_step m
+step_of m a x _ = other_step m x
 
--- the step at which the entry must stand: of the entry only the actor, a number that it newly gives and a cut are read
+-- the step at which the entry must stand: of an entry of the environment only the actor, a number that it newly gives and a cut are read
 abbrev pub step : Machine → Ask → Entry → Step
 step m a x = step_of m a x x.actor

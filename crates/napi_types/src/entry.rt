@@ -133,6 +133,16 @@ pub struct Target {
     pub torn_runs: bool,
 }
 
+/// How far a thread-safe function has come. While it is closing the items that wait are still delivered; where it has a finalizer it is
+/// finished until that begins, and then done.
+#[derive(Clone, Copy, Debug, PartialEq, Eq)]
+pub enum TsfnState {
+    Open,
+    Closing,
+    Finished,
+    Done,
+}
+
 /// What the environment hands to the hub with a shared call: the calling addon, the target of a new function,
 /// and the environment's own refusal.
 #[derive(Clone, Copy, Debug, PartialEq, Eq)]
@@ -156,7 +166,7 @@ pub struct SharedCall {
 /// One event of the trace.
 ///
 /// For a call of a frame `depth` is the number of frames that stand and `step` the number of the ask in its frame,
-/// from 0. For every other event of the environment both are 0.
+/// from 0. For a call of a thread `depth` is 0 and `step` the number of its operation, from 0. For every other event both are 0.
 #[derive(Clone, Copy)]
 pub struct Entry {
     pub actor: Actor,

@@ -1,8 +1,9 @@
 //! What the machine's definitions come to over all runs, as laws: each function does nothing, and its contract states a law.
-ghost use Rattle.napi_types.specs.Laws.{RoomSuffices, CollectionsKeepWhatIsReached, TicketsAreOnce, OnlyTicketsAreMade, EveryDutyIsOnce, TicketsBeginInOrder, TicketsAreCounted};
+ghost use Rattle.napi_types.specs.Laws.{RoomSuffices, CollectionsKeepWhatIsReached, TicketsAreOnce, WithdrawnByTheirCalls, RunsAloneAreQuiet, OnlyTicketsAreMade, EveryDutyIsOnce, TicketsBeginInOrder, TicketsAreCounted};
 
 /// Where the limits have room for the events that every run has, entries and reserved places stay within them at the end
-/// of every run, and so at every moment; once the environment is gone no place is left reserved.
+/// of every run, and so at every moment; once the environment is gone no place is left reserved in either list. Among those
+/// events is the end of each thread and of each worker.
 pub fn room_suffices()
     ensures { RoomSuffices }
 {}
@@ -19,12 +20,24 @@ pub fn tickets_are_once()
     ensures { TicketsAreOnce }
 {}
 
-/// So far no duty but those of finalizers and hooks is made, withdrawn or begun.
+/// Only an accepted `remove_wrap`, `set_instance_data` or `remove_env_cleanup_hook` withdraws a duty.
+pub fn duties_are_withdrawn_by_their_calls()
+    ensures { WithdrawnByTheirCalls }
+{}
+
+/// Where there are no threads and no workers, and no call that is built is shared, nothing is asked of the hub: the environment makes every entry, the
+/// loop ends by exit or idle, and the drain cancels no work.
+pub fn a_run_alone_is_quiet()
+    ensures { RunsAloneAreQuiet }
+{}
+
+/// In such a run no duty but those of finalizers and hooks is made, withdrawn or begun.
 pub fn only_tickets_are_made()
     ensures { OnlyTicketsAreMade }
 {}
 
-/// Both together: of all duties. One is withdrawn by an accepted `remove_wrap`, `set_instance_data` or `remove_env_cleanup_hook` alone.
+/// So in every such run to its end each duty that is made and not withdrawn begins exactly once, and one that is withdrawn never. One is withdrawn by
+/// an accepted `remove_wrap`, `set_instance_data` or `remove_env_cleanup_hook` alone.
 pub fn every_duty_is_once()
     ensures { EveryDutyIsOnce }
 {}

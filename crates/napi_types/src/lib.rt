@@ -10,6 +10,7 @@ mod duties;
 mod edge;
 mod entry;
 mod fill;
+pub mod hub_laws;
 mod ids;
 pub mod laws;
 mod lists;
@@ -25,7 +26,7 @@ pub use duties::{Begun, Due, DueInfo, SeenList, Slip};
 pub use edge::{Gate, MemSink, MemSource, OpenGate, SafeSink, SafeSource, Sink, Source};
 pub use entry::{
     Actor, Cause, Duty, Entry, Failed, Given, HostStep, Limits, Local, LoopEnd, NoMemory, Out,
-    Phase, Reply, SharedCall, Target, What, Why,
+    Phase, Reply, SharedCall, Target, TsfnState, What, Why,
 };
 pub use ids::{HandleId, RefId, ScopeId, ScopeKind, TextNo, Ticket, TsfnId, ValueId, WorkId};
 pub use lists::{Actors, AddonPlan, EntryList, Listed, LocalList, OpList, OpLists, Plans, Record};

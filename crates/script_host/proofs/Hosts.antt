@@ -9,6 +9,7 @@ use Rattle.napi_types.specs.declared.lists.Record.{Record}
 use Rattle.napi_types.specs.declared.script.Script.{Script}
 use Rattle.napi_types.specs.declared.script.Wrong.{Wrong}
 use Rattle.napi_types.specs.declared.script.Wrong.TheVariants as wrong
+use Rattle.napi_types.specs.Alone.{IsAlone}
 use Rattle.napi_types.specs.Laws.{HasRoom}
 use Rattle.napi_types.specs.Plan.{Plan}
 use Rattle.napi_types.specs.Room.{most_entries}
@@ -20,7 +21,7 @@ use Rattle.napi_types.specs.Order.{HooksFall, FinalsRise}
 use Rattle.napi_types.proofs.Keeping.{kept-run}
 use Rattle.napi_types.proofs.Onces.{tickets-counted}
 use Rattle.napi_types.proofs.Orders.{order-holds}
-use Rattle.napi_types.proofs.Rooms.{room-suffices}
+use Rattle.napi_types.proofs.Rooms.{built-local, room-suffices}
 use Rattle.napi_types.proofs.Withdrawals.{once-holds}
 use Rattle.env_loop.specs.Recording.{AddonStates, IsEnded}
 use Rattle.script_host.specs.Loading.{told_plans, setting_with}
@@ -65,6 +66,7 @@ ran-of script texts handed after left counted enough ended loaded others =
     let e : IsEnded (setting_of script handed.plans) left.journal left.history states handed.seen = subst E counted ended in
     let order : HooksFall (weave left.journal left.history) × FinalsRise (weave left.journal left.history) =
     order-holds (setting_of script handed.plans) e.asks (weave left.journal left.history) e.ended.run.steps in
+    let alone : IsAlone (setting_of script handed.plans) = record { unshared = built-local; threads = refl; workers = refl } in
     record {
       enough = enough;
       run = record {
@@ -78,7 +80,7 @@ ran-of script texts handed after left counted enough ended loaded others =
         counted = tickets-counted (setting_of script handed.plans) e.asks (weave left.journal left.history) e.ended.run;
         hooks = order.0;
         finals = order.1;
-        once = once-holds (setting_of script handed.plans) e.asks (weave left.journal left.history) e.ended;
+        once = once-holds (setting_of script handed.plans) e.asks (weave left.journal left.history) alone e.ended;
       };
       loaded = loaded;
       others = others;

@@ -6,6 +6,7 @@ use Rattle.napi_types.specs.declared.entry.Entry.{Entry}
 use Rattle.napi_types.specs.declared.entry.Local.{Local}
 use Rattle.napi_types.specs.declared.lists.AddonPlan.{AddonPlan}
 use Rattle.napi_types.specs.declared.entry.Phase.TheVariants as phase
+use Rattle.napi_types.specs.Hub.{Before, quiet_hub}
 use Rattle.napi_types.specs.Registers.{blank_registers}
 use Rattle.napi_types.specs.Plan.{Plan, plan_of, Registers, registers_of}
 use Rattle.napi_types.specs.Room.{most_entries}
@@ -121,13 +122,16 @@ whole-ended given handed loaded texts count core start ran journal left all now 
     let opened : core ≡ opened_core (length told) texts most_entries = opens ∙ ap (λ n. opened_core n texts most_entries) same in
     let R : Run → Type 0 = λ r. GoesOn loaded r all ran now in
     let from_core : GoesOn loaded (opened_run core) all ran now = subst R starts goes in
-    let C : Core → Type 0 = λ c. IsRecorded s c [] all all.seen in
-    let recorded : IsRecorded s core [] all all.seen = subst C (sym opened) (opened-recorded s all (λ addon below. blank addon (omega (arith, as_many, below)))) in
+    let C : Core → Type 0 = λ c. IsRecorded s c (quiet_hub Before) [] all all.seen in
+    let recorded : IsRecorded s core (quiet_hub Before) [] all all.seen = subst C (sym opened) (opened-recorded s all refl refl (λ addon below. blank addon (omega (arith, as_many, below)))) in
     let of : IsOf s loaded core = record {
       count = sym (ap (λ (c : Core). c.env.addons) opened);
       first = λ addon below. sym (ap (λ l. plan_of l addon) plans ∙ get_or_append_left told (drop (length given) handed) _ addon below);
+      threads = refl;
+      workers = refl;
+      built = refl;
     } in
     let F : List (List DueInfo) → Type 0 = λ x. IsEnded s ran.core.journal ran.history now x in
     let J : List Local → Type 0 = λ x. IsEnded s x left now firsts in
     let H : List Entry → Type 0 = λ x. IsEnded s ran.core.journal x now firsts in
-    subst J (sym lists) (subst H (sym history) (subst F same_seen (gone_change-ended s ran.core ran.history now all.seen (from_core s all.seen of recorded) gone_there)))
+    subst J (sym lists) (subst H (sym history) (subst F same_seen (gone_change-ended s ran.core ran.hub ran.history now all.seen (from_core s all.seen of recorded) gone_there)))

@@ -1,6 +1,7 @@
 -- The plans that the addons of a script are given.
 use Rattle.std.specs.Prelude.{ℕ, List, [], ◌∷◌, option_map}
 use Rattle.napi_types.specs.declared.lists.AddonPlan.{AddonPlan}
+use Rattle.napi_types.specs.Built.{is_built}
 use Rattle.napi_types.specs.Plan.{Plan}
 use Rattle.napi_types.specs.Room.{most_entries}
 use Rattle.napi_types.specs.Setting.{Setting}
@@ -10,6 +11,13 @@ abbrev pub told_plans : List AddonPlan → List Plan → List Plan
 told_plans (given ∷ rest) (told ∷ others) = option_map (λ _. given.entries) told ∷ told_plans rest others
 told_plans _ _ = []
 
--- a run of a script whose addons tell these plans, under the limits of every run
+-- a run of a script whose addons tell these plans, without threads and workers, under the limits of every run and with the calls that are built
 abbrev pub setting_with : List Plan → ℕ → Setting
-setting_with plans texts = record { plans = plans; texts = texts; limits = record { journal = most_entries; history = most_entries } }
+setting_with plans texts = record {
+  plans = plans;
+  texts = texts;
+  threads = 0;
+  workers = 0;
+  limits = record { journal = most_entries; history = most_entries };
+  built = is_built;
+}

@@ -1,11 +1,11 @@
 //! The frames of tickets, as they begin and as they end.
-ghost use Rattle.std.specs.Prelude.{◌≡◌, ◌≢◌, ◌<◌, [], ◌∷◌, length, true, Some, None, IfSome, ◌↔◌};
+ghost use Rattle.std.specs.Prelude.{◌≡◌, ◌≢◌, ◌<◌, [], ◌∷◌, length, true, false, Some, None, IfSome, ◌↔◌};
 ghost use Rattle.std.specs.Option.{is_some};
 ghost use Rattle.napi_types.specs.declared.entry.HostStep.TheVariants as host;
 ghost use Rattle.napi_types.specs.Book.{is_begun, is_at, lowest_due};
 ghost use Rattle.napi_types.specs.Changes.{host_entry as entry_of};
 ghost use Rattle.napi_types.specs.Ends.{duty_ended, outermost_end_change};
-ghost use Rattle.napi_types.specs.Frames.{most_frames, duty_of, frame_of_duty, begin_told};
+ghost use Rattle.napi_types.specs.Frames.{most_frames, duty_of, frame_of_duty, begin_told, is_hub_duty};
 ghost use Rattle.napi_types.specs.Hooked.{IsHooked};
 ghost use Rattle.napi_types.specs.Lists.{tail};
 ghost use Rattle.napi_types.specs.Loop.{next_ticket};
@@ -76,12 +76,13 @@ impl State {
     }
 
     /// The frame of a ticket ends, which stands alone, cut or not, and its scopes close. The ticket has ended, and an exception that
-    /// is pending is cleared.
+    /// is pending is cleared. The duty is never one of the hub.
     pub fn end_duty(&mut self, begun: Begun, cut: Option<Why>) -> Entry
         requires duty { duty_of self.old.frames ≡ Some begun.duty }
         requires alone { tail self.old.frames ≡ [] }
         ensures entry { result ≡ (outermost_end_change cut self.old).entry }
         ensures after { self.new ≡ (outermost_end_change cut self.old).after }
+        ensures local { is_hub_duty (Some begun.duty) ≡ false }
     {
         let out = self.clear_at_end(cut);
         self.scopes.leave_frame();

@@ -5,11 +5,11 @@ use Rattle.env_loop.proofs.Calls.{target-there, replied-turn, replied-held, ente
 use Rattle.env_loop.proofs.Cuts.{stopped-turn-at}
 use Rattle.env_loop.proofs.Ends.{left-turn}
 use Rattle.env_loop.proofs.Registers.{told-from, given-from}
-use Rattle.env_loop.proofs.Steps.{built_ask-built}
+use Rattle.env_loop.proofs.Steps.{taken-built}
 use Rattle.env_loop.proofs.turn.ask_turn.Goals as goal
 
 pub step-requires-clause-built : goal.step-requires-clause-built
-step-requires-clause-built g c = built_ask-built c.ask_at-ask.result c.in-Do.call c.in-Do.ensures
+step-requires-clause-built g c = taken-built c.ask_at-ask.result c.in-Do.call c.in-Do.ensures
 
 pub enter_at-requires : goal.enter_at-requires
 enter_at-requires g c =
@@ -19,7 +19,7 @@ enter_at-requires g c =
 pub returns-in-Leave-clause-turn : goal.returns-in-Leave-clause-turn
 returns-in-Leave-clause-turn g c =
     left-turn _ c.args.core.now c.end_frame.new.core _ _ (machine_frame c.args.frame) c.ask_at-ask.result c.in-Leave.value
-    (record { sound = c.requires.sound; top = c.requires.stands; makes = refl; asked = c.ask_at-ask.ensures.asked }) c.requires.within c.in-Leave.ensures c.end_frame.ensures.ended
+    (record { sound = c.requires.sound; top = c.requires.stands; makes = refl; asked = c.ask_at-ask.ensures.asked }) c.requires.within c.in-Leave.ensures c.end_frame.ensures.local c.end_frame.ensures.ended
     (told-from _ _ _ _ _ _ _ c.ask_at-ask.ensures.plans c.ask_at-ask.ensures.regs c.end_frame.ensures.told)
     (c.end_frame.ensures.seen ∙ c.ask_at-ask.ensures.seen)
 
@@ -40,7 +40,7 @@ returns-in-Enter-clause-turn g c =
 pub returns-in-Stop-clause-turn : goal.returns-in-Stop-clause-turn
 returns-in-Stop-clause-turn g c =
     stopped-turn-at _ _ c.args.core.now c.step.new.self c.end_frame-in-Stop.new.core _ _ _ (machine_frame c.args.frame) c.ask_at-ask.result c.in-Do.call c.in-Stop.status c.why.result
-    (record { sound = c.requires.sound; top = c.requires.stands; makes = refl; asked = c.ask_at-ask.ensures.asked }) c.requires.within c.in-Do.ensures c.in-Stop.ensures.cause c.why.ensures c.in-Stop.ensures.stop c.end_frame-in-Stop.ensures.ended
+    (record { sound = c.requires.sound; top = c.requires.stands; makes = refl; asked = c.ask_at-ask.ensures.asked }) c.requires.within c.in-Do.ensures c.in-Stop.ensures.cause c.why.ensures c.in-Stop.ensures.stop c.end_frame-in-Stop.ensures.local c.end_frame-in-Stop.ensures.ended
     c.ask_at-ask.ensures.plans c.ask_at-ask.ensures.regs c.end_frame-in-Stop.ensures.told (c.end_frame-in-Stop.ensures.seen ∙ c.ask_at-ask.ensures.seen)
 
 pub returns-in-Reply-clause-held : goal.returns-in-Reply-clause-held

@@ -1,4 +1,4 @@
-use Rattle.std.proofs.Common.{◌≡◌, ℕ, ◌+◌, Bool, true, false, cond, nat_lt, IsTrue, Option, None, refl, subst, [], ◌∷◌, ◌++◌}
+use Rattle.std.proofs.Common.{◌≡◌, ◌+◌, true, false, cond, nat_lt, IsTrue, refl, ap, [], ◌∷◌, ◌++◌, ◌∙◌, sym, Option}
 use Rattle.napi_types.specs.declared.call.Ask.TheVariants as ask
 use Rattle.napi_types.specs.declared.call.Call.{Call}
 use Rattle.napi_types.specs.declared.call.Call.TheVariants as call
@@ -6,48 +6,48 @@ use Rattle.napi_types.specs.declared.call.Args.{Args}
 use Rattle.napi_types.specs.declared.entry.Cause.TheVariants as cause
 use Rattle.napi_types.specs.declared.entry.Why.TheVariants as why
 use Rattle.napi_types.specs.declared.ids.HandleId.{HandleId}
-use Rattle.machine_laws.specs.Cuts.{tight, begun, opening_asks, create, object_made, cut_by, IsOnlyNext}
-use Rattle.napi_types.specs.Room.{Room, need, is_full, room_of}
-use Rattle.napi_types.specs.Built.{is_built}
 use Rattle.napi_types.specs.Changes.{may_call}
-use Rattle.napi_types.specs.Step.{may_cut}
+use Rattle.napi_types.specs.Guards.{is_shared}
+use Rattle.napi_types.specs.Room.{need, is_full, may_want_memory, room_of, history_room, journal_room}
 use Rattle.napi_types.specs.Run.{IsNext}
-use Rattle.machine_laws.specs.RunWords.{opening_entries}
 use Rattle.napi_types.specs.Setting.{opening_of}
-use Rattle.napi_types.proofs.Rooms.{built-room}
+use Rattle.machine_laws.specs.Cuts.{tight, begun, opening_asks, create, object_made, cut_by, IsOnlyNext, IsCutFull}
+use Rattle.machine_laws.specs.RunWords.{opening_entries}
 use Rattle.napi_types.proofs.Runs.{and-right}
 use Rattle.machine_laws.proofs.Computing.{run-of}
-use Rattle.machine_laws.proofs.Cutting.{only-in-frame, full-only}
+use Rattle.machine_laws.proofs.Cutting.{cut-full, taken-full, taken-wants}
 use Rattle.machine_laws.proofs.cuts.cuts_at_first_call.Goals as goal
 
--- a call that is built and needs one place is not full at the first ask, ..
-not-full : (c : Call) → is_built c ≡ true → need c ≡ 1 → IsTrue (is_full (room_of begun c) c) → ⊥
-not-full c built one h =
-    let P : ℕ → Type 0 = λ n. IsTrue (nat_lt 5 (4 + n)) in
-    let Q : Room → Type 0 = λ x. IsTrue (is_full x c) in
-    let k : IsTrue false = subst P one (subst Q (built-room begun c built) h) in cc
+-- a local call that needs one place is not full at the first ask
+not-full : (c : Call) → is_shared c ≡ false → need c ≡ 1 → is_full (room_of begun c) c ≡ false
+not-full c alone one =
+    ap (λ b. is_full (cond b (history_room begun.hub 0 4) (journal_room begun.env 2 5)) c) alone ∙ ap (λ n. nat_lt 5 (4 + n)) one
 
--- .. so the frame may not be cut as full, whether the call is built or not
-not-cut : (c : Call) (b : Bool) → is_built c ≡ b → need c ≡ 1 → IsTrue (may_cut begun (cond b (ask.Do c) (ask.Leave None)) why.Full) → ⊥
-not-cut c true built one h = not-full c built one (and-right (may_call begun.env) (is_full (room_of begun c) c) h)
-not-cut c false left one h = cc
+room : (c : Call) → is_shared c ≡ false → need c ≡ 1 → IsNext begun (ask.Do c) (cut_by cause.Init why.Full) → ⊥
+room c alone one n =
+    let full : IsTrue (is_full (room_of begun c) c) = and-right (may_call begun.env) (is_full (room_of begun c) c) n.1 in
+    let no : false ≡ true = sym (not-full c alone one) ∙ full in cc
 
-room : (c : Call) → need c ≡ 1 → IsNext begun (ask.Do c) (cut_by cause.Init why.Full) → ⊥
-room c one n = not-cut c (is_built c) refl one n.1
+-- a shared call is
+shared : (c : Call) → is_shared c ≡ true → IsCutFull begun c
+shared c is =
+    let room : room_of begun c ≡ history_room begun.hub 0 4 = ap (λ b. cond b (history_room begun.hub 0 4) (journal_room begun.env 2 5)) is in
+    cut-full begun c _ _ refl refl refl refl refl refl refl (ap (λ r. is_full r c) room ∙ taken-full 4 c) (λ shares. ap (λ r. may_want_memory r c) room ∙ taken-wants c)
 
 stays : (h : HandleId) → IsNext begun (ask.Do (call.Typeof h)) (cut_by cause.Init why.Memory) → ⊥
 stays h n = cc
 
 calls : (receiver : Option HandleId) (f : HandleId) (args : Args) → IsOnlyNext begun (ask.Do (call.CallFunction receiver f args)) (cut_by cause.Init why.Full)
-calls receiver f args = (
-  (refl, refl),
-  only-in-frame begun (ask.Do (call.CallFunction receiver f args)) _ _ (cut_by cause.Init why.Full) refl (full-only begun (call.CallFunction receiver f args) _ _ refl refl refl),
-)
+calls receiver f args =
+    let c : Call = call.CallFunction receiver f args in
+    let full : IsCutFull begun c = cut-full begun c _ _ refl refl refl refl refl refl refl refl (λ shares. cc) in
+    (full.full, full.local refl)
 
 pub returns : goal.returns
 returns c = record {
   first = record { steps = run-of (opening_of tight) (opening_asks ++ create ∷ []) (opening_entries ++ object_made ∷ []) (refl, refl); asked = refl };
   room = room;
+  shared = shared;
   calls = calls;
   grows = (refl, refl);
   stays = stays;

@@ -1,20 +1,16 @@
-use Rattle.std.proofs.Common.{◌≡◌, true, Some, refl, sym, subst}
-use Rattle.napi_types.specs.declared.call.Ask.TheVariants as ask
+use Rattle.std.proofs.Common.{◌≡◌, true, cond, refl, ap, ◌∙◌}
 use Rattle.napi_types.specs.declared.call.Call.{Call}
-use Rattle.napi_types.specs.declared.entry.Cause.TheVariants as cause
-use Rattle.napi_types.specs.declared.entry.Out.TheVariants as out
-use Rattle.napi_types.specs.declared.entry.Why.TheVariants as why
-use Rattle.napi_types.specs.Built.{is_built}
-use Rattle.machine_laws.specs.Cuts.{cut_by, first_called, IsOnlyNext}
-use Rattle.machine_laws.proofs.Cutting.{Steps, MayStand, built-asks, only-in-frame, full-only, full-there}
+use Rattle.napi_types.specs.Guards.{is_shared}
+use Rattle.napi_types.specs.Room.{room_of, may_want_memory, journal_room, history_room}
+use Rattle.machine_laws.specs.Cuts.{first_called, FullAtSecondCall}
+use Rattle.machine_laws.proofs.Cutting.{cut-full, full-there, taken-wants}
 use Rattle.machine_laws.proofs.cuts.cuts_at_second_call.Goals as goal
 
-full : (c : Call) → is_built c ≡ true → IsOnlyNext first_called (ask.Do c) (cut_by cause.Init why.Full)
-full c b = (
-  subst (λ a. MayStand first_called (out.Cut why.Full) (Some why.Full) (cut_by cause.Init why.Full) a) (sym (built-asks c b)) (refl, full-there c b),
-  only-in-frame first_called (ask.Do c) _ _ (cut_by cause.Init why.Full) refl
-      (subst (λ a. Steps first_called (cut_by cause.Init why.Full) a) (sym (built-asks c b)) (full-only first_called c _ _ refl (full-there c b) refl)),
-)
+wants : (c : Call) → is_shared c ≡ true → may_want_memory (room_of first_called c) c ≡ true
+wants c shared = ap (λ b. may_want_memory (cond b (history_room first_called.hub 0 4) (journal_room first_called.env 3 5)) c) shared ∙ taken-wants c
+
+full : FullAtSecondCall
+full c = cut-full first_called c _ _ refl refl refl refl refl refl refl (full-there c) (wants c)
 
 pub returns : goal.returns
 returns c = full

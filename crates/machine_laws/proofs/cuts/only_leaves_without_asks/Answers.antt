@@ -1,4 +1,4 @@
-use Rattle.std.proofs.Common.{◌≡◌, ◌<◌, ◌==◌, ◌&&◌, true, false, cond, not, List, ◌∷◌, IsTrue, refl, ap, sym, ◌∙◌, subst, Option, Some, None}
+use Rattle.std.proofs.Common.{◌≡◌, ◌<◌, ◌==◌, Bool, false, cond, List, ◌∷◌, IsTrue, refl, ap, ◌∙◌, subst, Option, Some, None}
 use Rattle.napi_types.specs.declared.call.Ask.{Ask}
 use Rattle.napi_types.specs.declared.call.Ask.TheVariants as ask
 use Rattle.napi_types.specs.declared.call.Call.{Call}
@@ -8,26 +8,27 @@ use Rattle.napi_types.specs.declared.entry.Out.{Out}
 use Rattle.napi_types.specs.declared.entry.Why.{Why}
 use Rattle.napi_types.specs.declared.entry.Why.TheVariants as why
 use Rattle.napi_types.specs.declared.ids.HandleId.{HandleId}
-use Rattle.napi_types.specs.Built.{is_built, built_ask}
-use Rattle.napi_types.specs.Changes.{is_fresh_result, may_ask, may_call}
+use Rattle.napi_types.specs.Built.{built_ask}
+use Rattle.napi_types.specs.Changes.{may_ask, may_call}
 use Rattle.napi_types.specs.Ends.{end_change}
 use Rattle.napi_types.specs.Environment.{Environment}
-use Rattle.napi_types.specs.Frames.{Frame, is_asking, asks_made}
+use Rattle.napi_types.specs.Frames.{Frame, is_asking, asks_made, duty_of, is_hub_duty}
+use Rattle.napi_types.specs.Guards.{is_shared}
 use Rattle.napi_types.specs.Machine.{Machine}
 use Rattle.napi_types.specs.Plan.{Plan, plan_of, Registers, registers_of, frame_ask, frames_ask, asked}
-use Rattle.napi_types.specs.Room.{room_of, is_full, may_want_memory}
 use Rattle.napi_types.specs.Run.{IsNext}
-use Rattle.napi_types.specs.Step.{Step, env_step, step_of, frame_step, asked_step, cut_of}
-use Rattle.machine_laws.specs.Cuts.{IsOnlyNext, OnlyLeavesWithoutAsks}
-use Rattle.napi_types.proofs.FrameEnds.{Ends, ended-ends}
-use Rattle.napi_types.proofs.Runs.{and-left, and-right}
-use Rattle.machine_laws.proofs.Cutting.{frame-step, only-in-frame, not-last, below-last}
+use Rattle.napi_types.specs.Step.{Step, may_cut, frame_step, step, cut_of}
+use Rattle.machine_laws.specs.Cuts.{IsOnlyOfEnvironment, StandsInHub, OnlyLeavesWithoutAsks}
+use Rattle.napi_types.proofs.Runs.{and-right}
+use Rattle.machine_laws.proofs.Cutting.{only-in-frame, call-may, cut-may, end-may, end-entry, ours-of, left-next, not-last, below-last}
+use Rattle.machine_laws.proofs.Forms.{frame-next}
 use Rattle.machine_laws.proofs.cuts.only_leaves_without_asks.Goals as goal
 
-asked-none : (m : Machine) (f : Frame) (fs : List Frame) → m.env.frames ≡ f ∷ fs → f.makes_asks ≡ false → (ps : List Plan) (rss : Registers) (a : Ask)
-    → asked ps rss m a actor.Env ≡ ask.Leave None
-asked-none m f fs stands silent ps rss a =
-    ap (λ l. frames_ask ps rss l a) stands ∙ ap (λ b. cond b (frame_ask (plan_of ps f.addon) (registers_of rss f.addon) f a) (ask.Leave None)) silent
+asked-none : (m : Machine) (f : Frame) (fs : List Frame) → m.env.frames ≡ f ∷ fs → f.makes_asks ≡ false → (built : Call → Bool) (ps : List Plan) (rss : Registers) (a : Ask)
+    → asked built ps rss m a actor.Env ≡ ask.Leave None
+asked-none m f fs stands silent built ps rss a =
+    ap (λ l. frames_ask built ps rss l a) stands
+    ∙ ap (λ b. cond b (built_ask built (frame_ask (plan_of ps f.addon) (registers_of rss f.addon) f a)) (ask.Leave None)) silent
 
 -- it makes no call
 no-call : (e : Environment) (f : Frame) (fs : List Frame) → e.frames ≡ f ∷ fs → f.makes_asks ≡ false → IsTrue (may_call e) → ⊥
@@ -39,50 +40,47 @@ no-call e f fs stands silent h =
 not-spent : (e : Environment) (f : Frame) (fs : List Frame) → e.frames ≡ f ∷ fs → f.asks < 65536 → IsTrue (asks_made e.frames == 65536) → ⊥
 not-spent e f fs stands below h = not-last f.asks below (rw stands at h)
 
+-- whether its end stands in the history
+abbrev is_ours : Machine → Bool
+is_ours m = is_hub_duty (duty_of m.env.frames)
+
 none-at-call : (m : Machine) (f : Frame) (fs : List Frame) → m.env.frames ≡ f ∷ fs → f.makes_asks ≡ false → f.asks < 65536
     → (c : Call) (o : Out) (w : Option Why)
     → IsTrue (frame_step m (ask.Do c) o w).may → ⊥
-none-at-call m f fs stands silent below c o (Some why.Asks) h = not-spent m.env f fs stands below h
-none-at-call m f fs stands silent below c o (Some why.Full) h = no-call m.env f fs stands silent (and-left (may_call m.env) (is_full (room_of m c) c) h)
+none-at-call m f fs stands silent below c o (Some why.Asks) h =
+    not-spent m.env f fs stands below (end-may m (end_change None (Some why.Asks) m.env) (may_cut m (ask.Do c) why.Asks) (is_ours m) h)
+none-at-call m f fs stands silent below c o (Some why.Full) h =
+    no-call m.env f fs stands silent (cut-may m c why.Full (end-may m (end_change None (Some why.Full) m.env) (may_cut m (ask.Do c) why.Full) (is_ours m) h) (λ z. cc))
 none-at-call m f fs stands silent below c o (Some why.Memory) h =
-    no-call m.env f fs stands silent (and-left (may_call m.env) (may_want_memory (room_of m c) c) (and-left (may_call m.env && may_want_memory (room_of m c) c) (not (is_full (room_of m c) c)) h))
-none-at-call m f fs stands silent below c o None h =
-    no-call m.env f fs stands silent (and-left (may_call m.env) (is_fresh_result m.env o) (and-left (may_call m.env && is_fresh_result m.env o) (not (is_full (room_of m c) c)) h))
+    no-call m.env f fs stands silent (cut-may m c why.Memory (end-may m (end_change None (Some why.Memory) m.env) (may_cut m (ask.Do c) why.Memory) (is_ours m) h) (λ z. cc))
+none-at-call m f fs stands silent below c o None h = no-call m.env f fs stands silent (call-may m c o (is_shared c) h)
 
-built : (c : Call) → is_built c ≡ true → built_ask (ask.Do c) ≡ ask.Do c
-built c b = rw b refl
-
-calls : (m : Machine) (f : Frame) (fs : List Frame) → m.env.frames ≡ f ∷ fs → f.makes_asks ≡ false → f.asks < 65536 → (c : Call) → is_built c ≡ true
-    → (x : Entry)
+calls : (m : Machine) (f : Frame) (fs : List Frame) → m.env.frames ≡ f ∷ fs → f.makes_asks ≡ false → f.asks < 65536 → (c : Call) (x : Entry) → x.actor ≡ actor.Env
     → IsNext m (ask.Do c) x → ⊥
-calls m f fs stands silent below c b x next =
-    let s : step_of m (ask.Do c) x x.actor ≡ frame_step m (built_ask (ask.Do c)) x.reply.out (cut_of x.reply.out) = frame-step m (ask.Do c) x x.actor f fs stands next.1 in
-    let P : Step → Type 0 = λ t. IsTrue t.may in
-    let Q : Ask → Type 0 = λ a. IsTrue (frame_step m a x.reply.out (cut_of x.reply.out)).may in
-    none-at-call m f fs stands silent below c x.reply.out (cut_of x.reply.out) (subst Q (built c b) (subst P s next.1))
+calls m f fs stands silent below c x who next =
+    let s : step m (ask.Do c) x ≡ frame_step m (ask.Do c) x.reply.out (cut_of x.reply.out) = frame-next m (ask.Do c) x f fs who stands in
+    none-at-call m f fs stands silent below c x.reply.out (cut_of x.reply.out) (subst (λ (t : Step). IsTrue t.may) s next.1)
 
 -- its end may come
-only-end : (m : Machine) (f : Frame) (fs : List Frame) → m.env.frames ≡ f ∷ fs → f.asks < 65536 → (v : Option HandleId) (o : Out) (w : Option Why)
+only-end : (m : Machine) (f : Frame) (fs : List Frame) → m.env.frames ≡ f ∷ fs → StandsInHub m.hub f → f.asks < 65536 → (v : Option HandleId) (o : Out) (w : Option Why)
     → IsTrue (frame_step m (ask.Leave v) o w).may → (frame_step m (ask.Leave v) o w).entry ≡ (end_change v None m.env).entry
-only-end m f fs stands below v o None h = refl
-only-end m f fs stands below v o (Some why.Asks) h = absurd (not-spent m.env f fs stands below h)
-only-end m f fs stands below v o (Some why.Full) h = cc
-only-end m f fs stands below v o (Some why.Memory) h = cc
+only-end m f fs stands fits below v o None h = end-entry m f fs v None (may_ask m.env) (is_ours m) stands (ours-of m f fs stands) fits
+only-end m f fs stands fits below v o (Some why.Asks) h =
+    absurd (not-spent m.env f fs stands below (end-may m (end_change None (Some why.Asks) m.env) (may_cut m (ask.Leave v) why.Asks) (is_ours m) h))
+only-end m f fs stands fits below v o (Some why.Full) h = let no : IsTrue false = end-may m (end_change None (Some why.Full) m.env) false (is_ours m) h in cc
+only-end m f fs stands fits below v o (Some why.Memory) h = let no : IsTrue false = end-may m (end_change None (Some why.Memory) m.env) false (is_ours m) h in cc
 
-leaves : (m : Machine) (f : Frame) (fs : List Frame) → m.env.frames ≡ f ∷ fs → f.asks < 65536 → (v : Option HandleId)
-    → IsOnlyNext m (ask.Leave v) (end_change v None m.env).entry
-leaves m f fs stands below v =
-    let y : Entry = (end_change v None m.env).entry in
-    let e : Ends None y = ended-ends v None m.env in
-    let s : step_of m (ask.Leave v) y y.actor ≡ asked_step m (ask.Leave v) y.reply.out =
-    ap (step_of m (ask.Leave v) y) e.who ∙ ap (env_step m (ask.Leave v) y.reply.out) stands ∙ ap (frame_step m (ask.Leave v) y.reply.out) e.told in
-    let P : Step → Type 0 = λ t. (y ≡ t.entry) × IsTrue t.may in
-    (subst P (sym s) (refl, rw stands (below-last f.asks below)), only-in-frame m (ask.Leave v) f fs y stands (only-end m f fs stands below v))
+leaves : (m : Machine) (f : Frame) (fs : List Frame) → m.env.frames ≡ f ∷ fs → StandsInHub m.hub f → f.asks < 65536 → (v : Option HandleId)
+    → IsOnlyOfEnvironment m (ask.Leave v) (end_change v None m.env).entry
+leaves m f fs stands fits below v = (
+  left-next m f fs (ask.Leave v) v None (may_ask m.env) stands fits refl (rw stands (below-last f.asks below)),
+  only-in-frame m (ask.Leave v) f fs (end_change v None m.env).entry stands (only-end m f fs stands fits below v),
+)
 
 law : OnlyLeavesWithoutAsks
-law m f fs stands silent below = record {
+law m f fs stands fits silent below = record {
   asked = asked-none m f fs stands silent;
-  leaves = leaves m f fs stands below;
+  leaves = leaves m f fs stands fits below;
   calls = calls m f fs stands silent below;
 }
 

@@ -1,25 +1,21 @@
-use Rattle.std.proofs.Common.{◌≡◌, ℕ, true, [], ◌∷◌, ◌++◌, Some, refl, sym, subst}
+use Rattle.std.proofs.Common.{◌≡◌, ◌∙◌, ap, cond, ℕ, true, [], ◌∷◌, ◌++◌, Some, refl}
 use Rattle.napi_types.specs.declared.call.Ask.TheVariants as ask
 use Rattle.napi_types.specs.declared.call.Call.{Call}
 use Rattle.napi_types.specs.declared.call.Call.TheVariants as call
-use Rattle.napi_types.specs.declared.entry.Cause.TheVariants as cause
-use Rattle.napi_types.specs.declared.entry.Out.TheVariants as out
-use Rattle.napi_types.specs.declared.entry.Why.TheVariants as why
-use Rattle.napi_types.specs.Built.{is_built}
-use Rattle.napi_types.specs.Guards.{is_registering}
+use Rattle.napi_types.specs.Guards.{is_registering, is_shared}
+use Rattle.napi_types.specs.Room.{room_of, may_want_memory, journal_room, history_room}
 use Rattle.napi_types.specs.Setting.{RunsBy, opening_of}
-use Rattle.machine_laws.specs.Cuts.{cut_by, script_within, opening_asks, two_left, external_made, IsOnlyNext}
+use Rattle.machine_laws.specs.Cuts.{script_within, opening_asks, two_left, external_made, IsCutFull}
 use Rattle.machine_laws.specs.RunWords.{opening_entries}
 use Rattle.machine_laws.proofs.Computing.{run-of}
-use Rattle.machine_laws.proofs.Cutting.{Steps, MayStand, built-asks, only-in-frame, full-only, two-full}
+use Rattle.machine_laws.proofs.Cutting.{cut-full, two-full, taken-wants}
 use Rattle.machine_laws.proofs.cuts.registers_with_three_places.Goals as goal
 
-full : (c : Call) → is_built c ≡ true → is_registering c ≡ true → IsOnlyNext two_left (ask.Do c) (cut_by cause.Init why.Full)
-full c b registers = (
-  subst (λ a. MayStand two_left (out.Cut why.Full) (Some why.Full) (cut_by cause.Init why.Full) a) (sym (built-asks c b)) (refl, two-full c b registers),
-  only-in-frame two_left (ask.Do c) _ _ (cut_by cause.Init why.Full) refl
-      (subst (λ a. Steps two_left (cut_by cause.Init why.Full) a) (sym (built-asks c b)) (full-only two_left c _ _ refl (two-full c b registers) refl)),
-)
+wants : (c : Call) → is_shared c ≡ true → may_want_memory (room_of two_left c) c ≡ true
+wants c shared = ap (λ b. may_want_memory (cond b (history_room two_left.hub 0 4) (journal_room two_left.env 2 6)) c) shared ∙ taken-wants c
+
+full : (c : Call) → is_registering c ≡ true → IsCutFull two_left c
+full c registers = cut-full two_left c _ _ refl refl refl refl refl refl refl (two-full c registers) (wants c)
 
 room : (payload entry hint : ℕ)
     → RunsBy (script_within 7) (opening_asks ++ ask.Do (call.CreateExternal payload (Some entry) hint) ∷ []) (opening_entries ++ external_made payload entry hint ∷ [])

@@ -1,7 +1,11 @@
-use Rattle.std.proofs.Common.{◌≡◌, ◌≤◌, true, false, [], ◌++◌, set, refl, arith}
+use Rattle.std.proofs.Common.{◌≡◌, ◌≤◌, true, false, not, [], ◌++◌, set, refl, arith}
+use Rattle.std.proofs.lemmas.Bool.{not-true}
 use Rattle.napi_types.specs.declared.status.Status.TheVariants as status
+use Rattle.napi_types.specs.Alone.{IsAlone}
 use Rattle.napi_types.specs.Book.{ticket_duty}
 use Rattle.napi_types.specs.Counts.{Once}
+use Rattle.napi_types.specs.Guards.{is_shared}
+use Rattle.napi_types.specs.Setting.{Setting}
 use Rattle.napi_types.proofs.Withdrawals.{once-holds}
 use Rattle.machine_laws.specs.OnceMisses.{withdrawn_elsewhere, withdrawn_where_refused}
 use Rattle.machine_laws.specs.RunWords.{ticket, gone_entry}
@@ -10,8 +14,15 @@ use Rattle.machine_laws.specs.WrapTwice.{setting, trace, trace_with, wrapped_aga
 use Rattle.machine_laws.proofs.Rows.{ends-of}
 use Rattle.machine_laws.proofs.finalizer_runs.once_is_strict.Goals as goal
 
-ends : EndsAsTold setting trace
-ends = ends-of setting (told_asks setting trace) trace (refl, refl) refl refl
+-- the same script, of which no call that is built is shared
+abbrev alone : Setting
+alone = record setting { built = λ c. not (is_shared c) }
+
+is-alone : IsAlone alone
+is-alone = record { unshared = λ c built. not-true (is_shared c) built; threads = refl; workers = refl }
+
+ends : EndsAsTold alone trace
+ends = ends-of alone (told_asks alone trace) trace (refl, refl) refl refl
 
 not-twice : Once (trace_with (runs 2 ++ runs 2)) → ⊥
 not-twice once = let z : 2 ≡ 1 = (once.each (ticket_duty 2)).kept refl refl in absurd (omega (arith, z))
@@ -36,7 +47,7 @@ not-refused once = let z : status.InvalidArg ≡ status.Ok = (once.withdrawals 6
 
 pub returns : goal.returns
 returns c = record {
-  run = once-holds setting (told_asks setting trace) trace ends;
+  run = once-holds alone (told_asks alone trace) trace is-alone ends;
   twice = not-twice;
   never = not-never;
   withdrawn = not-withdrawn;

@@ -1,13 +1,14 @@
 use Rattle.std.proofs.Common.{arith, [], ◌∷◌, refl, Some}
 use Rattle.std.proofs.lemmas.Bool.{false≢true}
+use Rattle.std.proofs.lemmas.List.Elements.{All-nil, All-cons}
 use Rattle.napi_types.specs.declared.body.Body.TheVariants as body
-use Rattle.napi_types.specs.Environment.{Environment}
+use Rattle.napi_types.specs.Environment.{Environment, FunctionRoot}
 use Rattle.napi_types.specs.Frames.{most_frames}
 use Rattle.napi_types.specs.Heap.{new_heap}
 use Rattle.napi_types.specs.HeapChanges.{with_handle, with_frame}
 use Rattle.napi_types.specs.Values.{undefined_value, null_value, fresh_value}
-use Rattle.machine_laws.specs.Consistency.{IsConsistent}
-use Rattle.machine_laws.specs.ConsistencyMisses.{IsStrict, in_init_frame, holding, two_held, deep, reference}
+use Rattle.machine_laws.specs.Consistency.{IsConsistent, IsLiveAmong}
+use Rattle.machine_laws.specs.ConsistencyMisses.{IsStrict, in_init_frame, holding, two_held, deep, rooting, reference}
 use Rattle.machine_laws.proofs.ConsistentRuns.{new-heap-good}
 use Rattle.machine_laws.proofs.Counting.{distinct-times, none-issued}
 use Rattle.machine_laws.proofs.ConsistentAnswers.{whole-of}
@@ -24,7 +25,19 @@ two-good =
 two-fit : IsConsistent (in_init_frame (holding two_held))
 two-fit =
     let e : Environment = in_init_frame (holding two_held) in
-    whole-of e (record { heap = two-good; referred = λ k d below. absurd (omega (arith, below)); references = none-map; pending = tt }) refl (omega arith)
+    whole-of e (record { heap = two-good; referred = λ k d below. absurd (omega (arith, below)); references = none-map; pending = tt; rooted = λ k d below. absurd (omega (arith, below)) }) refl (omega arith)
+
+rooted-fit : IsConsistent (rooting undefined_value)
+rooted-fit =
+    let P : FunctionRoot → Type 0 = λ r. IsLiveAmong (holding two_held).values r.value in
+    whole-of (rooting undefined_value)
+    (record {
+      heap = two-good;
+      referred = λ k d below. absurd (omega (arith, below));
+      references = none-map;
+      pending = tt;
+      rooted = All-cons P (record { function = 1; value = undefined_value }) [] refl (All-nil P);
+    }) refl (omega arith)
 
 deep-good : IsConsistentHeap (deep most_frames).heap
 deep-good = record {
@@ -36,12 +49,13 @@ deep-good = record {
 }
 
 deep-fit : IsConsistent (deep most_frames)
-deep-fit = whole-of (deep most_frames) (record { heap = deep-good; referred = λ k d below. absurd (omega (arith, below)); references = none-map; pending = tt }) refl (omega arith)
+deep-fit = whole-of (deep most_frames) (record { heap = deep-good; referred = λ k d below. absurd (omega (arith, below)); references = none-map; pending = tt; rooted = λ k d below. absurd (omega (arith, below)) }) refl (omega arith)
 
 law : IsStrict
 law = record {
   fits = two-fit;
   fits_deep = deep-fit;
+  fits_rooted = rooted-fit;
   twice = λ v w c. absurd (omega (arith, distinct-times 1 (1 ∷ 1 ∷ []) c.handles.apart));
   unissued = λ c. absurd (omega (arith, (c.handles.within 1 0 (omega arith)).1));
   nought = λ c. absurd (omega (arith, (c.handles.within 0 1 (omega arith)).0));
@@ -53,6 +67,7 @@ law = record {
   falling_numbers = λ c. absurd (omega (arith, c.references.numbers.0 0 0 (omega arith)));
   uncounted = λ c. false≢true (c.references.issued 0 (reference 0) (omega arith));
   pending = λ c. false≢true c.pending;
+  rooted = λ c. false≢true (c.rooted 0 (record { function = 1; value = 6 }) (omega arith));
   child = λ c. false≢true (c.children 5 (fresh_value 1 body.Undefined) (omega arith) 0 0 (omega arith));
   starting = λ c. false≢true (c.starting 0 0 (omega arith));
   scopes = λ c. absurd (omega (arith, c.frames));

@@ -5,8 +5,8 @@ use Rattle.machine_laws.proofs.runs.others_leave_registers.Goals as goal
 
 law : OthersLeaveRegisters
 law n = (
-  record { asked = λ ps rss m a. refl; registers = λ ps rss m a x who. ap (after_entry ps rss m a x) who },
-  record { asked = λ ps rss m a. refl; registers = λ ps rss m a x who. ap (after_entry ps rss m a x) who },
+  record { asked = λ built ps rss m a. refl; registers = λ ps rss m a x who. ap (after_entry ps rss m a x) who },
+  record { asked = λ built ps rss m a. refl; registers = λ ps rss m a x who. ap (after_entry ps rss m a x) who },
 )
 
 pub returns : goal.returns

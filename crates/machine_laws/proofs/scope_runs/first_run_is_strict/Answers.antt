@@ -10,7 +10,7 @@ use Rattle.machine_laws.specs.RunWords.{loop_ended, left_out}
 use Rattle.napi_types.specs.Setting.{final_of}
 use Rattle.machine_laws.specs.Told.{IsRun}
 use Rattle.machine_laws.proofs.Asks.{told-run}
-use Rattle.machine_laws.proofs.Misses.{entry_at, told_kind, told_reason, told-steps, gone-is-last}
+use Rattle.machine_laws.proofs.Misses.{entry_at, told_kind, told_reason, told-steps, IsOver, gone-is-last}
 use Rattle.machine_laws.proofs.scope_runs.first_run_is_strict.Goals as goal
 
 no-other-kind : (k : Kind) → IsRun setting (set trace 4 (typeof_entry k)) → k ≡ kind.Object
@@ -22,8 +22,11 @@ no-other-reason e r = ap (λ xs. told_reason e (entry_at 8 xs).reply.out) (told-
 no-close : IsRun setting (left_out 5 trace) → ⊥
 no-close r = let w : (entry_at 5 (left_out 5 trace)).what ≡ _ = ap (λ xs. (entry_at 5 xs).what) (told-run setting (left_out 5 trace) refl r) in cc
 
+over : IsOver (final_of setting asks trace)
+over = record { phase = refl; stage = refl; frames = refl; threads = refl; workers = refl }
+
 nothing-after : (x : Entry) → IsRun setting (trace ++ x ∷ []) → ⊥
-nothing-after x r = gone-is-last (final_of setting asks trace) (ask.Leave None) x refl refl refl (told-steps setting (trace ++ x ∷ []) refl r).1.1.1.1.1.1.1.1.1.1.1.1.0
+nothing-after x r = gone-is-last (final_of setting asks trace) (ask.Leave None) x over (told-steps setting (trace ++ x ∷ []) refl r).1.1.1.1.1.1.1.1.1.1.1.1.0
 
 pub returns : goal.returns
 returns c = record { kind = no-other-kind; close = no-close; reason = no-other-reason; last = nothing-after }

@@ -10,6 +10,14 @@ kept c =
     let s = c.self.inside in
     places-kept s.state c.call.new.self s.journal c.args.call.now c.in-Ok.entry.reply c.self.invariant (calls-keep s.state c.call.new.self c.args.call.now c.in-Ok.entry c.in-Ok.ensures.ok)
 
+-- a call has a place for its entry
+pub push-requires : goal.push-requires
+push-requires c =
+    let s = c.self.inside in
+    let x = c.in-Ok.entry in
+    let k : KeepsPlaces s.journal.promised c.args.call.now x.reply = places-kept s.state c.call.new.self s.journal c.args.call.now x.reply c.self.invariant (calls-keep s.state c.call.new.self c.args.call.now x c.in-Ok.ensures.ok) in
+    omega (arith, k.made, c.places_of-places.ensures, ap (λ (p : Pages). p.promised) c.in_default.ensures.ok)
+
 pub overflow_sub-places : goal.overflow_sub-places
 overflow_sub-places c = let k = kept c in omega (arith, c.places_of-places.ensures, k.made)
 

@@ -1,3 +1,5 @@
+use Rattle.std.proofs.Common.{ap}
+use Rattle.napi_types.specs.Frames.{is_hub_duty}
 use Rattle.env_core.proofs.Cores.{core-ended}
 use Rattle.env_core.proofs.env.EnvCore.leave.Goals as goal
 
@@ -5,4 +7,5 @@ pub invariant_of-self : goal.invariant_of-self
 invariant_of-self c =
     let s = c.self.inside in
     let stands = rw (← c.self.view_is) at c.requires.standing in
-    core-ended s.state c.leave-entry.new.self s.journal c.push.new.self c.leave-entry.result c.args.value c.args.cut c.self.invariant stands c.leave-entry.ensures.after c.push.ensures
+    let local = ap is_hub_duty (rw (← c.self.view_is) at c.requires.plain) in
+    core-ended s.state c.leave-entry.new.self s.journal c.push.new.self c.leave-entry.result c.args.value c.args.cut c.self.invariant stands local c.leave-entry.ensures.after c.push.ensures

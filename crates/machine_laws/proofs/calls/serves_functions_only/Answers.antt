@@ -1,0 +1,37 @@
+use Rattle.std.proofs.Common.{◌≡◌, ◌<◌, ℕ, ◌==◌, Bool, true, false, refl, Option, Some, None, arith}
+use Rattle.std.specs.Option.{option_or}
+use Rattle.napi_types.specs.declared.call.Call.TheVariants as call
+use Rattle.napi_types.specs.declared.ids.HandleId.{HandleId}
+use Rattle.napi_types.specs.declared.status.Status.TheVariants as status
+use Rattle.napi_types.specs.Bodies.{is_function}
+use Rattle.napi_types.specs.Heap.{Heap, handle_body}
+use Rattle.napi_types.specs.Lists.{when, unless}
+use Rattle.napi_types.specs.OwnRefusals.{row_refusal}
+use Rattle.machine_laws.specs.CallLaws.{OnlyFunctionsAreServed}
+use Rattle.machine_laws.proofs.calls.serves_functions_only.Goals as goal
+
+some-hold : (n : ℕ) → 0 < n → (n == 0) ≡ false
+some-hold n some = grind arith
+
+-- nobody holds it
+none-hold : (b : Bool) → option_or (unless b status.InvalidArg) (when true status.InvalidArg) ≡ Some status.InvalidArg
+none-hold true = refl
+none-hold false = refl
+
+unheld : (heap : Heap) (most : ℕ) (finalizer : Option ℕ) (context : ℕ) (f : Option HandleId) (entry : Option ℕ)
+    → row_refusal heap (call.CreateThreadsafeFunction f entry most 0 finalizer context) ≡ Some status.InvalidArg
+unheld heap most finalizer context None None = refl
+unheld heap most finalizer context None (Some entry) = refl
+unheld heap most finalizer context (Some h) entry = none-hold (is_function (handle_body heap h.0))
+
+law : OnlyFunctionsAreServed
+law heap most count finalizer context = record {
+  function = λ h entry addon runs payload is some. rw (is, some-hold count some) refl;
+  entered = λ entry some. rw (some-hold count some) refl;
+  number = λ h entry n is. rw is refl;
+  neither = refl;
+  unheld = unheld heap most finalizer context;
+}
+
+pub returns : goal.returns
+returns c = law

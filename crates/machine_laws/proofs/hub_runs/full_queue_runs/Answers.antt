@@ -1,0 +1,59 @@
+use Rattle.std.proofs.Common.{◌≡◌, ap, refl, Option, None}
+use Rattle.std.specs.Fmt.{digits}
+use Rattle.napi_types.specs.declared.entry.Duty.{Duty}
+use Rattle.napi_types.specs.declared.status.Status.{Status}
+use Rattle.napi_types.specs.declared.status.Status.TheVariants as status
+use Rattle.machine_laws.specs.FullQueue.{operations, setting, journal, history, trace, second_call, third_call, thread_call}
+use Rattle.napi_types.specs.declared.call.Mode.TheVariants as mode
+use Rattle.napi_types.specs.declared.call.Release.TheVariants as release
+use Rattle.napi_types.specs.declared.entry.Out.{Out}
+use Rattle.napi_types.specs.declared.entry.Out.TheVariants as out
+use Rattle.napi_types.specs.Actors.{KeepsScript}
+use Rattle.machine_laws.specs.HubWords.{next_after, by_thread, thread_ends, releases, calls_function}
+use Rattle.machine_laws.specs.Told.{IsRun}
+use Rattle.machine_laws.proofs.KeptScripts.{keeps-script}
+use Rattle.machine_laws.proofs.Misses.{told-entry, told-may}
+use Rattle.machine_laws.proofs.Rows.{ends-on-lists, runs-as-told}
+use Rattle.machine_laws.proofs.hub_runs.full_queue_runs.Goals as goal
+
+pub returns-clause-ends : goal.returns-clause-ends
+returns-clause-ends c = ends-on-lists setting journal history (refl, refl) refl refl refl
+
+pub returns-clause-script : goal.returns-clause-script
+returns-clause-script c = keeps-script setting 0 operations history refl refl
+
+pub returns-clause-prints : goal.returns-clause-prints
+unfolding digits
+returns-clause-prints c = refl
+
+is-full : (s : Status) (d : Option Duty) → IsRun setting (next_after 4 trace (second_call s d)) → (s ≡ status.QueueFull) × (d ≡ None)
+is-full s d r = let same : second_call s d ≡ _ = told-entry setting _ 4 refl r in (ap (λ x. x.reply.status) same, ap (λ x. x.reply.made) same)
+
+would-deadlock : (s : Status) (d : Option Duty) → IsRun setting (next_after 5 trace (third_call s d)) → (s ≡ status.WouldDeadlock) × (d ≡ None)
+would-deadlock s d r = let same : third_call s d ≡ _ = told-entry setting _ 5 refl r in (ap (λ x. x.reply.status) same, ap (λ x. x.reply.made) same)
+
+waits : (s : Status) (d : Option Duty) → IsRun setting (next_after 8 trace (thread_call s d)) → ⊥
+waits s d r = let z : _ = told-may setting _ refl r in cc
+
+not-before : (s : Status) (d : Option Duty) → IsRun setting (next_after 3 trace (thread_call s d)) → ⊥
+not-before s d r = let z : _ = told-may setting _ refl r in cc
+
+call-first : KeepsScript setting 0 operations (next_after 6 history (by_thread 0 0 (releases release.Release) status.Ok None)) → ⊥
+call-first k = let z : releases release.Release ≡ calls_function 10 mode.Blocking = (k.1.1.1.1.1.1.0 refl).0 in cc
+
+not-without : (o : Out) → KeepsScript setting 0 operations (next_after 8 history (thread_ends 0 o)) → ⊥
+not-without o k = let z : _ = (k.1.1.1.1.1.1.1.1.0 refl).1 in cc
+
+may-end : IsRun setting (next_after 11 trace (thread_ends 0 out.Nothing))
+may-end = runs-as-told setting (next_after 11 trace (thread_ends 0 out.Nothing)) (refl, refl) refl
+
+pub returns-clause-strict : goal.returns-clause-strict
+returns-clause-strict c = record {
+  full = is-full;
+  deadlock = would-deadlock;
+  waits = waits;
+  before = not-before;
+  first = call-first;
+  release = not-without;
+  hub = may-end;
+}

@@ -1,0 +1,5 @@
+use Rattle.napi_types.proofs.Scripts.{fronts-keep}
+use Rattle.napi_types.proofs.hub_laws.fronts_keep_scripts.Goals as goal
+
+pub returns : goal.returns
+returns c = fronts-keep

@@ -1,0 +1,5 @@
+use Rattle.napi_types.proofs.Joining.{others-join}
+use Rattle.napi_types.proofs.hub_laws.others_join.Goals as goal
+
+pub returns : goal.returns
+returns c = others-join
