@@ -1,0 +1,9 @@
+pub mod Counting
+pub mod Draining
+pub mod Executions
+pub mod Ids
+pub mod Keeping
+pub mod Linking
+pub mod Queueing
+pub mod Standing
+pub mod Viewing

@@ -1,0 +1,55 @@
+use Rattle.std.proofs.Common.{◌≡◌, ◌∙◌, Some, None, option_map, refl, sym, ap, arith}
+use Rattle.napi_types.specs.declared.status.Status.TheVariants as status
+use Rattle.napi_types.specs.Lists.{unless}
+use Rattle.napi_types.specs.Pool.{work_at, work_state, without_work}
+use Rattle.napi_types.specs.Works.{is_deletable}
+use Rattle.async_work.specs.Line.{line_seen}
+use Rattle.async_work.specs.Places.{Placed, places_seen, place_at}
+use Rattle.async_work.specs.States.{state_seen, place_state}
+use Rattle.async_work.proofs.Ids.{place-bounds, places-set}
+use Rattle.async_work.proofs.Keeping.{kept-deleted}
+use Rattle.async_work.proofs.Standing.{refusal-of, states-of, state-place, deletable-done}
+use Rattle.async_work.proofs.Viewing.{view-deleted}
+use Rattle.async_work.proofs.pool.Pool.delete.Goals as goal
+use Rattle.async_work.proofs.pool.Pool.delete.Goals.{In_ok-state, Joined-index_mut}
+
+known : (g : _) (c : In_ok-state g) → Some (state_seen c.in_ok-state.state) ≡ option_map (work_state c.args.self.now) (work_at c.args.self.now c.args.id.0)
+known g c = ap (option_map state_seen) (sym c.in_ok-state.ensures.ok_part) ∙ c.state.ensures.state
+
+-- where the work stands
+place : (g : _) (c : In_ok-state g) → (p : Placed) × (place_at (places_seen g.J.Job.spec c.self.inside.places.items) c.args.id.0 ≡ Some p) × (place_state
+    (line_seen g.J.Job.spec c.self.inside.line.items) p ≡ state_seen c.in_ok-state.state)
+place g c = state-place _ _ c.args.id.0 _ (known g c ∙ states-of _ _ _ _ _ _ _ _ _ c.self.invariant _ c.self.view_is c.args.id.0)
+
+pub returns-then-not-is_deletable-clause-refusal : goal.returns-then-not-is_deletable-clause-refusal
+returns-then-not-is_deletable-clause-refusal g c =
+    ap (λ b. unless b status.GenericFailure) (sym c.if-not-is_deletable.true ∙ c.is_deletable.ensures)
+    ∙ refusal-of c.args.self.now is_deletable c.args.id.0 _ (known g (goal.at.returns-then-not-is_deletable-clause-refusal g c).In_ok-state)
+
+pub overflow_sub-id : goal.overflow_sub-id
+overflow_sub-id g c =
+    let p = place g (goal.at.overflow_sub-id g c).In_ok-state in
+    (place-bounds g.J.Job.spec c.self.inside.places.items c.args.id.0 p.0 p.1).0
+
+pub index_mut-requires : goal.index_mut-requires
+index_mut-requires g c =
+    let p = place g (goal.at.index_mut-requires g c).In_ok-state in
+    let bounds = place-bounds g.J.Job.spec c.self.inside.places.items c.args.id.0 p.0 p.1 in
+    omega (arith, bounds.0, bounds.1, c.self.inside.places.ok.0)
+
+pub invariant_of-self : goal.invariant_of-self
+invariant_of-self g c =
+    let p = place g (goal.at.invariant_of-self g c).In_ok-state in
+    kept-deleted _ _ _ _ _ _ _ _ _ c.self.invariant _ c.args.id.0 p.0 (places-set g.J.Job.spec c.self.inside.places.items _ None None refl) p.1
+    (deletable-done _ p.0 _ p.2 (sym c.is_deletable.ensures ∙ c.if-not-is_deletable.false))
+
+pub returns-clause-refusal : goal.returns-clause-refusal
+returns-clause-refusal g c =
+    ap (λ b. unless b status.GenericFailure) (sym c.if-not-is_deletable.false ∙ c.is_deletable.ensures)
+    ∙ refusal-of c.args.self.now is_deletable c.args.id.0 _ (known g (goal.at.returns-clause-refusal g c).In_ok-state)
+
+pub returns-clause-ok : goal.returns-clause-ok
+returns-clause-ok g c =
+    let p = place g (goal.at.returns-clause-ok g c).In_ok-state in
+    view-deleted _ _ _ _ _ c.args.id.0 p.0 (places-set g.J.Job.spec c.self.inside.places.items _ None None refl) p.1
+    ∙ ap (without_work c.args.id.0) c.self.view_is
