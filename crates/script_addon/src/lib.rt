@@ -1,11 +1,15 @@
-//! The addon that follows its script: it tells its plan, and asks what the plan says.
-//! Contracts see it by `plan`, `regs` and `seen` of the trait `Addon`. The program hands such addons to the top calls.
+//! The addon that follows its script: it tells its plan, and asks what the plan says. And the jobs of its works: they compute what a
+//! script says. Contracts see an addon by `plan`, `regs` and `seen` of the trait `Addon`, and a job by `spec` of the trait `Job`. The
+//! program hands such addons to the top calls.
 #![tactic(auto)]
+
+mod job;
 
 ghost use Rattle.std.specs.Prelude.{◌≡◌, [], Some, set};
 ghost use Rattle.napi_types.specs.Registers.{operation, blank_registers};
 
 use addon_trait::Addon;
+pub use job::ScriptJob;
 use napi_types::{AddonPlan, Ask, Begun, Due, Listed, Op, Reply, SeenList, Status};
 use std::alloc::Global;
 
