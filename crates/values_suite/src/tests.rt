@@ -10,11 +10,14 @@ use value_store::Store;
 mod attachments;
 mod collections;
 mod exceptions;
+mod functions;
 mod hooks;
+mod jobs;
 mod references;
 mod scopes;
 mod tickets;
 mod values;
+mod works;
 
 const PLAIN: Body = Body::Object {
     array: false,

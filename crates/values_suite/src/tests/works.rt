@@ -1,0 +1,310 @@
+//! What shows of a work in every state at every call, and of the order in which works start and come out, where there is memory.
+ghost use Rattle.std.specs.Prelude.{◌≡◌, ◌+◌, ◌<◌, ◌≤◌, [], false, true, length, None, Ok, OnErr};
+ghost use Rattle.napi_types.specs.Jobs.{job_value};
+ghost use Rattle.napi_types.specs.Lists.{with_record};
+ghost use Rattle.napi_types.specs.Pool.{new_pool, executed_by, value_of_work};
+
+use super::ample;
+use async_work::{Finished, Job, Picked, Pool, Running};
+use napi_types::{JobSpec, Status, WorkId};
+use script_addon::ScriptJob;
+use std::alloc::Global;
+use std::process::Abort;
+
+type Works = Pool<ScriptJob>;
+
+/// What a call on a work is answered.
+type Answer = Result<(), Status>;
+
+const DONE: Answer = Ok(());
+
+const REFUSED: Answer = Err(Status::GenericFailure);
+
+const UNKNOWN: Answer = Err(Status::InvalidArg);
+
+/// How far a work is brought.
+#[derive(Clone, Copy, Debug)]
+enum Brought {
+    Created,
+    Queued,
+    Running,
+    Finished,
+    Cancelled,
+    Completed,
+    Deleted,
+    /// The call names this id, which no work has.
+    Unknown(u64),
+}
+
+#[derive(Clone, Copy, Debug)]
+enum Asked {
+    Delete,
+    Queue,
+    Cancel,
+}
+
+/// What a call that deletes it is answered then, one that queues it, and one that cancels it.
+const ROWS: [(Brought, Answer, Answer, Answer); 9] = [
+    (Brought::Created, DONE, DONE, REFUSED),
+    (Brought::Queued, REFUSED, REFUSED, DONE),
+    (Brought::Running, REFUSED, REFUSED, REFUSED),
+    (Brought::Finished, REFUSED, REFUSED, REFUSED),
+    (Brought::Cancelled, REFUSED, REFUSED, REFUSED),
+    (Brought::Completed, DONE, REFUSED, REFUSED),
+    (Brought::Deleted, UNKNOWN, UNKNOWN, UNKNOWN),
+    (Brought::Unknown(0), UNKNOWN, UNKNOWN, UNKNOWN),
+    (Brought::Unknown(2), UNKNOWN, UNKNOWN, UNKNOWN),
+];
+
+fn ask(works: &mut Works, id: WorkId, asked: Asked) -> Answer
+    requires { works.old.closing ≡ false }
+    ensures { OnErr result (works.new ≡ works.old) }
+{
+    match asked {
+        Asked::Delete => works.delete(id),
+        Asked::Queue => works.queue(id).map(|_| ()),
+        Asked::Cancel => works.cancel(id),
+    }
+}
+
+/// What was answered where nothing is refused.
+fn accepted<T>(rt: &impl Abort, outcome: Result<T, Status>) -> T
+    ensures { outcome ≡ Ok result }
+{
+    match outcome {
+        Ok(value) => value,
+        Err(_) => panic!(rt; "it is refused"),
+    }
+}
+
+/// A worker starts the work that was queued first.
+fn start(rt: &impl Abort, works: &mut Works, worker: u32) -> Running<ScriptJob>
+    requires { executed_by works.old worker ≡ None }
+    ensures executed { works.new.executions ≡ with_record (λ x. x.worker) (record { worker = worker; work = result.number }) works.old.executions }
+    ensures value { value_of_work works.new result.number ≡ job_value result.spec }
+    ensures same { works.new.works ≡ works.old.works }
+    ensures closing { works.new.closing ≡ works.old.closing }
+{
+    match works.start(worker) {
+        Picked::Job(running) => running,
+        Picked::Nothing | Picked::Closing => panic!(rt; "no work starts"),
+    }
+}
+
+/// A worker executes that work.
+fn run(rt: &impl Abort, works: &mut Works)
+    requires { works.old.executions ≡ [] }
+    ensures executed { works.new.executions ≡ [] }
+    ensures closing { works.new.closing ≡ works.old.closing }
+{
+    let running = start(rt, works, 0);
+    works.finish(0, running.execute());
+}
+
+/// What a completion tells: the number, the addon, the entry, the payload, the status and the value; and the value of the job where
+/// it did not run.
+type Told = (u64, u32, u32, u64, Status, u64, Option<u64>);
+
+/// The completion of the work that came out first begins.
+fn complete(works: &mut Works) -> Option<Told>
+    ensures executed { works.new.executions ≡ works.old.executions }
+    ensures closing { works.new.closing ≡ works.old.closing }
+{
+    let Finished {
+        slip,
+        number,
+        addon,
+        entry,
+        payload,
+        status,
+        value,
+        job,
+    } = works.take_finished()?;
+    slip.discard();
+    let unspent = job.map(|job| job.execute());
+    Some((number, addon, entry, payload, status, value, unspent))
+}
+
+/// A work that was created comes so far; one that is to run is queued.
+fn bring(rt: &impl Abort, works: &mut Works, id: WorkId, brought: Brought)
+    requires executed { works.old.executions ≡ [] }
+    requires closing { works.old.closing ≡ false }
+    ensures executed { works.new.executions ≡ [] }
+    ensures closing { works.new.closing ≡ false }
+{
+    match brought {
+        Brought::Created | Brought::Unknown(_) => {}
+        Brought::Deleted => accepted(rt, works.delete(id)),
+        Brought::Queued | Brought::Running => {
+            accepted(rt, works.queue(id));
+        }
+        Brought::Cancelled => {
+            accepted(rt, works.queue(id));
+            accepted(rt, works.cancel(id));
+        }
+        Brought::Finished => {
+            accepted(rt, works.queue(id));
+            run(rt, works);
+        }
+        Brought::Completed => {
+            accepted(rt, works.queue(id));
+            run(rt, works);
+            assert!(rt; complete(works).is_some());
+        }
+    }
+}
+
+/// What is answered while a worker executes the work that was queued first.
+fn ask_in_run(rt: &impl Abort, works: &mut Works, id: WorkId, asked: Asked) -> Answer
+    requires executed { works.old.executions ≡ [] }
+    requires closing { works.old.closing ≡ false }
+{
+    let running = start(rt, works, 0);
+    let answer = ask(works, id, asked);
+    assert!(rt; answer.is_err());
+    works.finish(0, running.execute());
+    answer
+}
+
+/// What is answered on a work that was brought so far, the only one that there is.
+fn answered(rt: &impl Abort, alloc: Global, brought: Brought, asked: Asked) -> Answer {
+    let mut works: Works = ample(rt, Pool::new(alloc));
+    let id = ample(rt, works.create(JobSpec::Sum(4), 5, 6, 70));
+    bring(rt, &mut works, id, brought);
+    match brought {
+        Brought::Running => ask_in_run(rt, &mut works, id, asked),
+        Brought::Unknown(other) => {
+            assert!(rt; other != id.0);
+            ask(&mut works, WorkId(other), asked)
+        }
+        _ => ask(&mut works, id, asked),
+    }
+}
+
+fn check(rt: &impl Abort, alloc: Global, brought: Brought, asked: Asked, want: Answer) {
+    assert_eq!(rt;
+        answered(rt, alloc, brought, asked),
+        want,
+        "{brought:?} {asked:?}"
+    );
+}
+
+#[test]
+fn calls_are_answered_by_state(rt: HostRuntime) {
+    for (brought, delete, queue, cancel) in ROWS {
+        check(&rt, rt.alloc(), brought, Asked::Delete, delete);
+        check(&rt, rt.alloc(), brought, Asked::Queue, queue);
+        check(&rt, rt.alloc(), brought, Asked::Cancel, cancel);
+    }
+}
+
+/// A work is created whose job computes the sum up to its payload.
+fn create(rt: &impl Abort, works: &mut Works, payload: u64) -> WorkId
+    requires { length works.old.issued < 9 }
+    ensures few { length works.new.issued ≤ length works.old.issued + 1 }
+    ensures executed { works.new.executions ≡ works.old.executions }
+    ensures closing { works.new.closing ≡ works.old.closing }
+{
+    ample(rt, works.create(JobSpec::Sum(payload), 5, 6, payload))
+}
+
+/// Four works, the payload of each being its place among them. Those at the places 2, 1, 3 and 4 are queued in this order.
+fn four(rt: &impl Abort, works: &mut Works) -> [WorkId; 4]
+    requires few { length works.old.issued ≡ 0 }
+    requires closing { works.old.closing ≡ false }
+    ensures executed { works.new.executions ≡ works.old.executions }
+    ensures closing { works.new.closing ≡ false }
+{
+    let first = create(rt, works, 1);
+    let second = create(rt, works, 2);
+    let third = create(rt, works, 3);
+    let fourth = create(rt, works, 4);
+    assert_eq!(rt; accepted(rt, works.queue(second)), 1);
+    assert_eq!(rt; accepted(rt, works.queue(first)), 2);
+    assert_eq!(rt; accepted(rt, works.queue(third)), 3);
+    assert_eq!(rt; accepted(rt, works.queue(fourth)), 4);
+    [first, second, third, fourth]
+}
+
+/// How many are queued, running and finished.
+fn counts(works: &Works) -> [u64; 3] {
+    [works.queued(), works.running(), works.finished()]
+}
+
+/// The third is cancelled. Two workers start the two that were queued first, and finish them in the other order.
+fn cancel_and_run(rt: &impl Abort, works: &mut Works)
+    requires { works.old ≡ new_pool }
+{
+    let [_, _, third, _] = four(rt, works);
+    accepted(rt, works.cancel(third));
+    let first = start(rt, works, 0);
+    let second = start(rt, works, 1);
+    assert_eq!(rt; counts(works), [1, 2, 1]);
+    works.finish(1, second.execute());
+    works.finish(0, first.execute());
+    assert_eq!(rt; counts(works), [1, 0, 3]);
+}
+
+/// What five completions tell, one after another.
+fn completions(works: &mut Works) -> [Option<Told>; 5] {
+    let first = complete(works);
+    let second = complete(works);
+    let third = complete(works);
+    let fourth = complete(works);
+    [first, second, third, fourth, complete(works)]
+}
+
+#[test]
+fn works_come_out_in_the_order_of_their_ends(rt: HostRuntime) {
+    let mut works: Works = ample(&rt, Pool::new(rt.alloc()));
+    cancel_and_run(&rt, &mut works);
+    let want = [
+        Some((3, 5, 6, 3, Status::Cancelled, 0, Some(6))),
+        Some((2, 5, 6, 1, Status::Ok, 1, None)),
+        Some((1, 5, 6, 2, Status::Ok, 3, None)),
+        None,
+        None,
+    ];
+    assert_eq!(rt; completions(&mut works), want);
+}
+
+/// Whether no work starts any more, where none is started.
+fn starts_none(rt: &impl Abort, works: &mut Works, worker: u32) -> bool
+    requires { executed_by works.old worker ≡ None }
+    ensures { works.new ≡ works.old }
+{
+    match works.start(worker) {
+        Picked::Job(_running) => panic!(rt; "a work starts"),
+        Picked::Nothing => false,
+        Picked::Closing => true,
+    }
+}
+
+/// One runs while all that wait are cancelled.
+fn cancel_all_in_run(rt: &impl Abort, works: &mut Works)
+    requires { works.old ≡ new_pool }
+{
+    assert!(rt; !starts_none(rt, works, 0));
+    four(rt, works);
+    let running = start(rt, works, 0);
+    assert_eq!(rt; works.cancel_all_queued(), 3);
+    assert_eq!(rt; counts(works), [0, 1, 3]);
+    assert!(rt; starts_none(rt, works, 1));
+    works.finish(0, running.execute());
+    assert!(rt; starts_none(rt, works, 0));
+    assert_eq!(rt; works.cancel_all_queued(), 0);
+}
+
+#[test]
+fn all_that_wait_are_cancelled_in_their_order(rt: HostRuntime) {
+    let mut works: Works = ample(&rt, Pool::new(rt.alloc()));
+    cancel_all_in_run(&rt, &mut works);
+    let want = [
+        Some((2, 5, 6, 1, Status::Cancelled, 0, Some(1))),
+        Some((3, 5, 6, 3, Status::Cancelled, 0, Some(6))),
+        Some((4, 5, 6, 4, Status::Cancelled, 0, Some(10))),
+        Some((1, 5, 6, 2, Status::Ok, 3, None)),
+        None,
+    ];
+    assert_eq!(rt; completions(&mut works), want);
+}
