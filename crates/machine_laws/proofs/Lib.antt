@@ -21,6 +21,7 @@ mod Forms
 mod Fronts
 mod Holding
 mod KeptScripts
+mod KeptValues
 mod LiveNumbers
 mod Misses
 mod Naming

@@ -23,6 +23,7 @@ pub mod FrameCutForMemory
 pub mod FrameCutFull
 pub mod FrameCutInJournal
 pub mod FullQueue
+pub mod FunctionRoots
 pub mod HandleAfterScope
 pub mod HandleLaws
 pub mod HubWords

@@ -1,4 +1,5 @@
 //! Laws over all runs, and over all stores.
+ghost use Rattle.machine_laws.specs.FunctionRoots.{NewFunctionsKeepTheirValue, FunctionsKeepUntilTheyFinish, FinishedFunctionsKeepNone};
 ghost use Rattle.machine_laws.specs.RunLaws.{FrontsAreRuns, RunsAreComputed, EntriesCountOnTheirList, OthersLeaveRegisters, ReachIsLeast};
 
 /// A run, and what computes to be one, are the same.
@@ -24,4 +25,12 @@ pub fn others_leave_registers()
 /// What roots reach is the least set of the numbers of values that has each root and each child of its members.
 pub fn reach_is_least()
     ensures { ReachIsLeast }
+{}
+
+/// A new thread-safe function keeps the value of its function, where it has one. It keeps it until it finishes, and then it keeps none. What it keeps
+/// is a root.
+pub fn functions_keep_their_value()
+    ensures new { NewFunctionsKeepTheirValue }
+    ensures kept { FunctionsKeepUntilTheyFinish }
+    ensures finished { FinishedFunctionsKeepNone }
 {}
