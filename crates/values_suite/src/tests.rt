@@ -7,15 +7,8 @@ use napi_types::{Body, NoMemory, TextNo, ValueId};
 use std::process::Abort;
 use value_store::Store;
 
-mod attachments;
-mod collections;
-mod exceptions;
 mod functions;
-mod hooks;
 mod jobs;
-mod references;
-mod scopes;
-mod tickets;
 mod values;
 mod works;
 

@@ -1,5 +1,0 @@
-use Rattle.trace_collect.proofs.Callers.{HoldsFirst}
-use Rattle.values_suite.proofs.tests.collections.starting.Given as goal
-
-abbrev pub invariant-loop-which : goal.invariant-loop-which
-invariant-loop-which g l = HoldsFirst l.store l.which l.roots.items
