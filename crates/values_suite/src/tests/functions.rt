@@ -57,7 +57,7 @@ fn created(rt: &impl Abort, alloc: Global, max: u32, initial: u32, finalize: Opt
     ensures { accepted_items result ≡ 0 }
 {
     let about = TsfnNew {
-        id: TsfnId(3),
+        id: ID,
         addon: 5,
         target: Target {
             addon: 6,
@@ -72,14 +72,22 @@ fn created(rt: &impl Abort, alloc: Global, max: u32, initial: u32, finalize: Opt
     ample(rt, Tsfn::new(alloc, about))
 }
 
-/// An item is queued.
+/// What is told of a function: its state, its count, and how many items wait.
+type Shown = (TsfnState, u32, u64);
+
+fn shown(function: &Tsfn) -> Shown {
+    (function.state(), function.count(), function.queued())
+}
+
+/// An item is queued, where the function takes it.
 fn add(rt: &impl Abort, function: &mut Tsfn, payload: u64)
     requires { accepted_items function.old < 9 }
     ensures { accepted_items function.new ≤ accepted_items function.old + 1 }
 {
-    let (mode, who) = (Mode::Nonblocking, Actor::Thread(1));
-    let tried = ample(rt, function.call(payload, mode, who));
-    assert!(rt; matches!(tried, Tried::Answer(Status::Ok, Some(_))));
+    ample(
+        rt,
+        function.call(payload, Mode::Nonblocking, Actor::Thread(1)),
+    );
 }
 
 /// Two items are queued at most.
@@ -96,11 +104,11 @@ fn fill(rt: &impl Abort, function: &mut Tsfn, items: u64)
 }
 
 /// Nobody holds it any more, where one did and none is to.
-fn let_go(rt: &impl Abort, function: &mut Tsfn, count: u32)
+fn let_go(function: &mut Tsfn, count: u32)
     ensures { accepted_items function.new ≡ accepted_items function.old }
 {
     if count == 0 {
-        assert_eq!(rt; function.release(Release::Release), Status::Ok);
+        function.release(Release::Release);
     }
 }
 
@@ -119,37 +127,47 @@ fn bring(rt: &impl Abort, function: &mut Tsfn, state: TsfnState)
     }
 }
 
+/// An open function without items comes to this state, this count and so many items.
+fn set_up(rt: &impl Abort, function: &mut Tsfn, want: Shown)
+    requires { accepted_items function.old ≡ 0 }
+    ensures { accepted_items function.new ≤ 2 }
+{
+    let (state, count, items) = want;
+    fill(rt, function, items);
+    let_go(function, count);
+    bring(rt, function, state);
+    assert_eq!(rt; shown(function), want);
+}
+
 /// A function of this state, count, maximum and number of items. Once it is finished or done, there are none.
 fn standing(rt: &impl Abort, alloc: Global, at: (TsfnState, u32), queue: (u32, u64)) -> Tsfn
     ensures { accepted_items result ≤ 2 }
 {
     let (state, count) = at;
-    let (max, items) = queue;
+    let (max, most) = queue;
+    let items = if matches!(state, Open | Closing) {
+        most
+    } else {
+        0
+    };
     let finalize = (state == Finished).then_some(8);
     let mut function = created(rt, alloc, max, count.max(1), finalize);
-    if matches!(state, Open | Closing) {
-        fill(rt, &mut function, items);
-    }
-    let_go(rt, &mut function, count);
-    bring(rt, &mut function, state);
-    assert_eq!(rt; (function.state(), function.count()), at);
+    set_up(rt, &mut function, (state, count, items));
     function
 }
 
-/// What is told of a function: its state, its count, and how many items wait.
-type Shown = (TsfnState, u32, u64);
-
-fn shown(function: &Tsfn) -> Shown {
-    (function.state(), function.count(), function.queued())
-}
-
-/// What a call comes to, and what is told before it and after it.
-fn called(rt: &impl Abort, function: &mut Tsfn, mode: Mode, who: Actor) -> (Shown, Tried, Shown)
-    requires { accepted_items function.old ≤ 2 }
-{
-    let before = shown(function);
-    let tried = ample(rt, function.call(90, mode, who));
-    (before, tried, shown(function))
+/// What is told before a call, what the call comes to, and what is told after it.
+fn called(
+    rt: &impl Abort,
+    alloc: Global,
+    at: (TsfnState, u32),
+    queue: (u32, u64),
+    call: (Mode, Actor),
+) -> (Shown, Tried, Shown) {
+    let mut function = standing(rt, alloc, at, queue);
+    let before = shown(&function);
+    let tried = ample(rt, function.call(90, call.0, call.1));
+    (before, tried, shown(&function))
 }
 
 /// What an answer comes to, where this is told before. No item was taken out before.
@@ -169,18 +187,6 @@ fn told(answer: Option<Status>, before: Shown) -> (Tried, Shown) {
     }
 }
 
-/// A call is answered so.
-fn check_call(rt: &impl Abort, function: &mut Tsfn, mode: Mode, who: Actor, answer: Option<Status>)
-    requires { accepted_items function.old ≤ 2 }
-{
-    let (before, tried, after) = called(rt, function, mode, who);
-    assert_eq!(rt;
-        (tried, after),
-        told(answer, before),
-        "{before:?} {mode:?} {who:?}"
-    );
-}
-
 /// Each call is answered so, or else as this queue asks.
 fn check_calls(
     rt: &impl Abort,
@@ -191,61 +197,39 @@ fn check_calls(
 ) {
     let (max, items, is_full) = queue;
     for (mode, who, when_full) in CALLERS {
-        let mut function = standing(rt, alloc, at, (max, items));
+        let (before, tried, after) = called(rt, alloc, at, (max, items), (mode, who));
         let open = if is_full { when_full } else { Some(Status::Ok) };
-        check_call(rt, &mut function, mode, who, every.or(open));
-    }
-}
-
-fn check_queues(rt: &impl Abort, alloc: Global, at: (TsfnState, u32), every: Option<Status>) {
-    for queue in QUEUES {
-        check_calls(rt, alloc, at, queue, every);
+        let want = told(every.or(open), before);
+        assert_eq!(rt; (tried, after), want, "{before:?} {mode:?} {who:?}");
     }
 }
 
 #[test]
 fn calls_are_answered_by_state_count_and_queue(rt: HostRuntime) {
     for (state, count, every, _, _, _) in ROWS {
-        check_queues(&rt, rt.alloc(), (state, count), every);
+        for queue in QUEUES {
+            check_calls(&rt, rt.alloc(), (state, count), queue, every);
+        }
     }
 }
 
 /// A change of who holds a function.
-#[derive(Clone, Copy, Debug)]
+#[derive(Clone, Copy)]
 enum Holding {
     Acquire,
     Release(Release),
 }
 
-const ACQUIRE: Holding = Holding::Acquire;
-
-const RELEASE: Holding = Holding::Release(Release::Release);
-
-const ABORT: Holding = Holding::Release(Release::Abort);
-
 /// What is answered and told then, where an item waits unless the function is finished or done.
-fn held(
-    rt: &impl Abort,
-    alloc: Global,
-    at: (TsfnState, u32),
-    change: Holding,
-) -> (Status, TsfnState, u32) {
+type Held = (Status, TsfnState, u32);
+
+fn held(rt: &impl Abort, alloc: Global, at: (TsfnState, u32), change: Holding) -> Held {
     let mut function = standing(rt, alloc, at, (2, 1));
     let status = match change {
         Holding::Acquire => function.acquire(),
         Holding::Release(mode) => function.release(mode),
     };
     (status, function.state(), function.count())
-}
-
-fn check_held(
-    rt: &impl Abort,
-    alloc: Global,
-    at: (TsfnState, u32),
-    change: Holding,
-    want: (Status, TsfnState, u32),
-) {
-    assert_eq!(rt; held(rt, alloc, at, change), want, "{at:?} {change:?}");
 }
 
 #[test]
@@ -256,9 +240,17 @@ fn holders_come_and_go_by_state_and_count(rt: HostRuntime) {
             Status::Ok => count.saturating_add(1),
             _ => count,
         };
-        check_held(&rt, rt.alloc(), at, ACQUIRE, (acquire, state, more));
-        check_held(&rt, rt.alloc(), at, RELEASE, (release, state, fewer));
-        check_held(&rt, rt.alloc(), at, ABORT, (release, aborted, fewer));
+        let found = [
+            held(&rt, rt.alloc(), at, Holding::Acquire),
+            held(&rt, rt.alloc(), at, Holding::Release(Release::Release)),
+            held(&rt, rt.alloc(), at, Holding::Release(Release::Abort)),
+        ];
+        let want = [
+            (acquire, state, more),
+            (release, state, fewer),
+            (release, aborted, fewer),
+        ];
+        assert_eq!(rt; found, want, "{at:?}");
     }
 }
 
@@ -288,51 +280,64 @@ fn deliver(rt: &impl Abort, function: &mut Tsfn) -> Option<Told> {
     }
 }
 
-/// Three items are queued, and an abort comes after the first of them is delivered.
-fn deliver_three(rt: &impl Abort, function: &mut Tsfn) -> [Option<Told>; 4]
+/// Three items are queued, and an abort comes after the first of them is delivered. What is answered to it, and what the items tell.
+fn deliver_three(rt: &impl Abort, function: &mut Tsfn) -> (Status, [Option<Told>; 4])
     requires { accepted_items function.old ≡ 0 }
 {
     add(rt, function, 70);
     add(rt, function, 71);
     add(rt, function, 72);
     let first = deliver(rt, function);
-    assert_eq!(rt; function.release(Release::Abort), Status::Ok);
+    let aborted = function.release(Release::Abort);
     let second = deliver(rt, function);
     let third = deliver(rt, function);
-    [first, second, third, deliver(rt, function)]
+    (aborted, [first, second, third, deliver(rt, function)])
 }
 
-/// A closing function is done once its finalizer begins, and this is what that is told.
-fn finish(rt: &impl Abort, function: &mut Tsfn) -> Told {
+/// A closing function is done once its finalizer begins, and this is what that is told. What is told of the function before and after.
+fn finish(rt: &impl Abort, function: &mut Tsfn) -> (Shown, Told, Shown) {
     assert!(rt; function.state() == Closing && function.queued() == 0);
     function.finish();
     assert!(rt; function.state() == Finished);
-    run(function.take_final())
+    let before = shown(function);
+    let told = run(function.take_final());
+    (before, told, shown(function))
 }
+
+const ID: TsfnId = TsfnId(3);
+
+const ITEMS: [Option<Told>; 4] = [
+    Some((Duty::Item(ID, 1), Cause::Item, 6, 7, [70, 1, 80], true)),
+    Some((Duty::Item(ID, 2), Cause::Torn, 6, 7, [71, 0, 80], false)),
+    Some((Duty::Item(ID, 3), Cause::Torn, 6, 7, [72, 0, 80], false)),
+    None,
+];
+
+const FINAL: Told = (Duty::Function(ID), Cause::Finalize, 5, 8, [80, 0, 0], true);
 
 #[test]
 fn items_are_delivered_in_order_and_torn_once_it_closes(rt: HostRuntime) {
     let mut function = created(&rt, rt.alloc(), 0, 2, Some(8));
-    let id = TsfnId(3);
-    let want = [
-        Some((Duty::Item(id, 1), Cause::Item, 6, 7, [70, 1, 80], true)),
-        Some((Duty::Item(id, 2), Cause::Torn, 6, 7, [71, 0, 80], false)),
-        Some((Duty::Item(id, 3), Cause::Torn, 6, 7, [72, 0, 80], false)),
-        None,
-    ];
-    assert_eq!(rt; deliver_three(&rt, &mut function), want);
-    let want = (Duty::Function(id), Cause::Finalize, 5, 8, [80, 0, 0], true);
-    assert_eq!(rt; finish(&rt, &mut function), want);
-    assert_eq!(rt; shown(&function), (Done, 1, 0));
+    let delivered = deliver_three(&rt, &mut function);
+    let found = (delivered, finish(&rt, &mut function));
+    let finished = ((Finished, 1, 0), FINAL, (Done, 1, 0));
+    assert_eq!(rt; found, ((Status::Ok, ITEMS), finished));
+}
+
+/// The context of a function, and whether the loop waits for it: at first, then once it is told not to, and once it is told to again.
+fn refers(function: &mut Tsfn) -> (u64, [bool; 3]) {
+    let first = function.is_referenced();
+    function.unrefer();
+    let second = function.is_referenced();
+    function.refer();
+    (
+        function.context(),
+        [first, second, function.is_referenced()],
+    )
 }
 
 #[test]
 fn the_loop_waits_for_a_function_until_it_is_told_not_to(rt: HostRuntime) {
     let mut function = created(&rt, rt.alloc(), 0, 1, None);
-    assert_eq!(rt; function.context(), 80);
-    assert!(rt; function.is_referenced());
-    function.unrefer();
-    assert!(rt; !function.is_referenced());
-    function.refer();
-    assert!(rt; function.is_referenced());
+    assert_eq!(rt; refers(&mut function), (80, [true, false, true]));
 }

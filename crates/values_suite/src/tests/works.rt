@@ -36,7 +36,7 @@ enum Brought {
     Unknown(u64),
 }
 
-#[derive(Clone, Copy, Debug)]
+#[derive(Clone, Copy)]
 enum Asked {
     Delete,
     Queue,
@@ -44,16 +44,16 @@ enum Asked {
 }
 
 /// What a call that deletes it is answered then, one that queues it, and one that cancels it.
-const ROWS: [(Brought, Answer, Answer, Answer); 9] = [
-    (Brought::Created, DONE, DONE, REFUSED),
-    (Brought::Queued, REFUSED, REFUSED, DONE),
-    (Brought::Running, REFUSED, REFUSED, REFUSED),
-    (Brought::Finished, REFUSED, REFUSED, REFUSED),
-    (Brought::Cancelled, REFUSED, REFUSED, REFUSED),
-    (Brought::Completed, DONE, REFUSED, REFUSED),
-    (Brought::Deleted, UNKNOWN, UNKNOWN, UNKNOWN),
-    (Brought::Unknown(0), UNKNOWN, UNKNOWN, UNKNOWN),
-    (Brought::Unknown(2), UNKNOWN, UNKNOWN, UNKNOWN),
+const ROWS: [(Brought, [Answer; 3]); 9] = [
+    (Brought::Created, [DONE, DONE, REFUSED]),
+    (Brought::Queued, [REFUSED, REFUSED, DONE]),
+    (Brought::Running, [REFUSED, REFUSED, REFUSED]),
+    (Brought::Finished, [REFUSED, REFUSED, REFUSED]),
+    (Brought::Cancelled, [REFUSED, REFUSED, REFUSED]),
+    (Brought::Completed, [DONE, REFUSED, REFUSED]),
+    (Brought::Deleted, [UNKNOWN, UNKNOWN, UNKNOWN]),
+    (Brought::Unknown(0), [UNKNOWN, UNKNOWN, UNKNOWN]),
+    (Brought::Unknown(2), [UNKNOWN, UNKNOWN, UNKNOWN]),
 ];
 
 fn ask(works: &mut Works, id: WorkId, asked: Asked) -> Answer
@@ -181,20 +181,15 @@ fn answered(rt: &impl Abort, alloc: Global, brought: Brought, asked: Asked) -> A
     }
 }
 
-fn check(rt: &impl Abort, alloc: Global, brought: Brought, asked: Asked, want: Answer) {
-    assert_eq!(rt;
-        answered(rt, alloc, brought, asked),
-        want,
-        "{brought:?} {asked:?}"
-    );
-}
-
 #[test]
 fn calls_are_answered_by_state(rt: HostRuntime) {
-    for (brought, delete, queue, cancel) in ROWS {
-        check(&rt, rt.alloc(), brought, Asked::Delete, delete);
-        check(&rt, rt.alloc(), brought, Asked::Queue, queue);
-        check(&rt, rt.alloc(), brought, Asked::Cancel, cancel);
+    for (brought, want) in ROWS {
+        let answers = [
+            answered(&rt, rt.alloc(), brought, Asked::Delete),
+            answered(&rt, rt.alloc(), brought, Asked::Queue),
+            answered(&rt, rt.alloc(), brought, Asked::Cancel),
+        ];
+        assert_eq!(rt; answers, want, "{brought:?}");
     }
 }
 
@@ -208,10 +203,19 @@ fn create(rt: &impl Abort, works: &mut Works, payload: u64) -> WorkId
     ample(rt, works.create(JobSpec::Sum(payload), 5, 6, payload))
 }
 
-/// Four works, the payload of each being its place among them. Those at the places 2, 1, 3 and 4 are queued in this order.
-fn four(rt: &impl Abort, works: &mut Works) -> [WorkId; 4]
-    requires few { length works.old.issued ≡ 0 }
-    requires closing { works.old.closing ≡ false }
+/// A work is queued, and this is its number.
+fn queue(rt: &impl Abort, works: &mut Works, id: WorkId) -> u64
+    requires { works.old.closing ≡ false }
+    ensures executed { works.new.executions ≡ works.old.executions }
+    ensures closing { works.new.closing ≡ false }
+{
+    accepted(rt, works.queue(id))
+}
+
+/// Four works, the payload of each being its place among them. Those at the places 2, 1, 3 and 4 are queued in this order, and get
+/// these numbers. The id of the third is told.
+fn four(rt: &impl Abort, works: &mut Works) -> (WorkId, [u64; 4])
+    requires { works.old ≡ new_pool }
     ensures executed { works.new.executions ≡ works.old.executions }
     ensures closing { works.new.closing ≡ false }
 {
@@ -219,11 +223,13 @@ fn four(rt: &impl Abort, works: &mut Works) -> [WorkId; 4]
     let second = create(rt, works, 2);
     let third = create(rt, works, 3);
     let fourth = create(rt, works, 4);
-    assert_eq!(rt; accepted(rt, works.queue(second)), 1);
-    assert_eq!(rt; accepted(rt, works.queue(first)), 2);
-    assert_eq!(rt; accepted(rt, works.queue(third)), 3);
-    assert_eq!(rt; accepted(rt, works.queue(fourth)), 4);
-    [first, second, third, fourth]
+    let numbers = [
+        queue(rt, works, second),
+        queue(rt, works, first),
+        queue(rt, works, third),
+        queue(rt, works, fourth),
+    ];
+    (third, numbers)
 }
 
 /// How many are queued, running and finished.
@@ -231,18 +237,19 @@ fn counts(works: &Works) -> [u64; 3] {
     [works.queued(), works.running(), works.finished()]
 }
 
-/// The third is cancelled. Two workers start the two that were queued first, and finish them in the other order.
-fn cancel_and_run(rt: &impl Abort, works: &mut Works)
+/// The third is cancelled. Two workers start the two that were queued first, and finish them in the other order. The numbers of the
+/// four, and how many stand where while both run and after.
+fn cancel_and_run(rt: &impl Abort, works: &mut Works) -> ([u64; 4], [[u64; 3]; 2])
     requires { works.old ≡ new_pool }
 {
-    let [_, _, third, _] = four(rt, works);
+    let (third, numbers) = four(rt, works);
     accepted(rt, works.cancel(third));
     let first = start(rt, works, 0);
     let second = start(rt, works, 1);
-    assert_eq!(rt; counts(works), [1, 2, 1]);
+    let running = counts(works);
     works.finish(1, second.execute());
     works.finish(0, first.execute());
-    assert_eq!(rt; counts(works), [1, 0, 3]);
+    (numbers, [running, counts(works)])
 }
 
 /// What five completions tell, one after another.
@@ -254,18 +261,22 @@ fn completions(works: &mut Works) -> [Option<Told>; 5] {
     [first, second, third, fourth, complete(works)]
 }
 
+const NUMBERS: [u64; 4] = [1, 2, 3, 4];
+
+const BY_THEIR_ENDS: [Option<Told>; 5] = [
+    Some((3, 5, 6, 3, Status::Cancelled, 0, Some(6))),
+    Some((2, 5, 6, 1, Status::Ok, 1, None)),
+    Some((1, 5, 6, 2, Status::Ok, 3, None)),
+    None,
+    None,
+];
+
 #[test]
 fn works_come_out_in_the_order_of_their_ends(rt: HostRuntime) {
     let mut works: Works = ample(&rt, Pool::new(rt.alloc()));
-    cancel_and_run(&rt, &mut works);
-    let want = [
-        Some((3, 5, 6, 3, Status::Cancelled, 0, Some(6))),
-        Some((2, 5, 6, 1, Status::Ok, 1, None)),
-        Some((1, 5, 6, 2, Status::Ok, 3, None)),
-        None,
-        None,
-    ];
-    assert_eq!(rt; completions(&mut works), want);
+    let (numbers, stand) = cancel_and_run(&rt, &mut works);
+    let found = (numbers, stand, completions(&mut works));
+    assert_eq!(rt; found, (NUMBERS, [[1, 2, 1], [1, 0, 3]], BY_THEIR_ENDS));
 }
 
 /// Whether no work starts any more, where none is started.
@@ -280,31 +291,39 @@ fn starts_none(rt: &impl Abort, works: &mut Works, worker: u32) -> bool
     }
 }
 
-/// One runs while all that wait are cancelled.
-fn cancel_all_in_run(rt: &impl Abort, works: &mut Works)
+/// What shows as one runs while all that wait are cancelled: whether no work starts any more, before, in the run and after; how many
+/// are cancelled, in the run and after; and how many stand where in the run.
+fn cancel_all_in_run(rt: &impl Abort, works: &mut Works) -> ([bool; 3], [u64; 2], [u64; 3])
     requires { works.old ≡ new_pool }
 {
-    assert!(rt; !starts_none(rt, works, 0));
+    let before = starts_none(rt, works, 0);
     four(rt, works);
     let running = start(rt, works, 0);
-    assert_eq!(rt; works.cancel_all_queued(), 3);
-    assert_eq!(rt; counts(works), [0, 1, 3]);
-    assert!(rt; starts_none(rt, works, 1));
+    let cancelled = works.cancel_all_queued();
+    let stand = counts(works);
+    let closing = starts_none(rt, works, 1);
     works.finish(0, running.execute());
-    assert!(rt; starts_none(rt, works, 0));
-    assert_eq!(rt; works.cancel_all_queued(), 0);
+    let after = starts_none(rt, works, 0);
+    (
+        [before, closing, after],
+        [cancelled, works.cancel_all_queued()],
+        stand,
+    )
 }
+
+const ALL_CANCELLED: [Option<Told>; 5] = [
+    Some((2, 5, 6, 1, Status::Cancelled, 0, Some(1))),
+    Some((3, 5, 6, 3, Status::Cancelled, 0, Some(6))),
+    Some((4, 5, 6, 4, Status::Cancelled, 0, Some(10))),
+    Some((1, 5, 6, 2, Status::Ok, 3, None)),
+    None,
+];
 
 #[test]
 fn all_that_wait_are_cancelled_in_their_order(rt: HostRuntime) {
     let mut works: Works = ample(&rt, Pool::new(rt.alloc()));
-    cancel_all_in_run(&rt, &mut works);
-    let want = [
-        Some((2, 5, 6, 1, Status::Cancelled, 0, Some(1))),
-        Some((3, 5, 6, 3, Status::Cancelled, 0, Some(6))),
-        Some((4, 5, 6, 4, Status::Cancelled, 0, Some(10))),
-        Some((1, 5, 6, 2, Status::Ok, 3, None)),
-        None,
-    ];
-    assert_eq!(rt; completions(&mut works), want);
+    let shown = cancel_all_in_run(&rt, &mut works);
+    let found = (shown, completions(&mut works));
+    let want = ([false, true, true], [3, 0], [0, 1, 3]);
+    assert_eq!(rt; found, (want, ALL_CANCELLED));
 }
