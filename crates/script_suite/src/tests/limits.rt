@@ -1,150 +1,195 @@
 //! Scripts of many kilobytes: lists at their greatest lengths and one above, and what is refused before and behind them.
-use script_read::{LimitName, Refusal, read_script};
-use std::alloc::{AllocError, Global};
+use napi_types::LimitName;
+use script_read::{Refusal, read_script};
+use std::alloc::Global;
 use std::process::Abort;
-use std::test::Fail;
 
-/// What is answered, and the script. `<3 x []>` stands for three members, `[],[],[]`.
-const OPERATIONS: &str =
-    r#"shape addons/0/entries/0/4095 | {"version":9,"workers":0,"addons":[{"name":"a","entries":[[<4095 x ["get_null",0]>,0]]}],"threads":[]}
-ok | {"version":9,"workers":0,"addons":[{"name":"a","entries":[[<4096 x ["get_null",0]>]]}],"threads":[]}
-ok | {"version":9,"workers":0,"addons":[{"name":"a","entries":[[<4096 x ["get_null",0]>],[<4096 x ["get_null",0]>]]}],"threads":[]}
-limit operations | {"version":9,"workers":0,"addons":[{"name":"a","entries":[[<4097 x ["get_null",0]>]]}],"threads":[]}
-limit operations | {"version":9,"workers":0,"addons":[{"name":"a","entries":[[<4097 x 0>]]}],"threads":[]}
-limit operations | {"version":9,"workers":0,"addons":[{"name":"a","entries":[[1,<4096 x ["get_null",0]>]]}],"threads":[]}
-limit operations | {"version":9,"workers":0,"addons":[{"name":"a","entries":[[<4096 x ["get_null",0]>,1]]}],"threads":[]}
-limit operations | {"version":9,"workers":0,"addons":[{"name":"a","entries":[[],[<4097 x ["get_null",0]>]]}],"threads":[]}
-limit operations | {"version":9,"workers":0,"addons":[{"name":"a","entries":[[<4097 x 0>],0]}],"threads":[]}
-shape addons/0/entries/0/0 | {"version":9,"workers":0,"addons":[{"name":"a","entries":[[0],[<4097 x 0>]]}],"threads":[]}
-limit entries | {"version":9,"workers":0,"addons":[{"name":"a","entries":[[<4097 x ["get_null",0]>],<64 x []>]}],"threads":[]}"#;
+/// What is answered to a script.
+#[derive(Clone, Copy)]
+enum Answer {
+    Ok,
+    Stage,
+    /// The part of this path has the wrong form.
+    Shape(&'static str),
+    Limit(LimitName),
+}
 
-/// The same of threads.
-const THREADS: &str =
-    r#"shape threads/0/16383 | {"version":9,"workers":0,"addons":[],"threads":[[<16383 x ["acquire_threadsafe_function",1]>,0]]}
-stage | {"version":9,"workers":0,"addons":[],"threads":[[<16384 x ["acquire_threadsafe_function",1]>]],"schedule":[]}
-limit operations | {"version":9,"workers":0,"addons":[],"threads":[[<16385 x ["acquire_threadsafe_function",1]>]],"schedule":[]}
-limit operations | {"version":9,"workers":0,"addons":[],"threads":[[<16385 x 0>]]}
-limit operations | {"version":9,"workers":0,"addons":[],"threads":[[1,<16384 x ["acquire_threadsafe_function",1]>]]}
-limit operations | {"version":9,"workers":0,"addons":[],"threads":[[<16384 x ["acquire_threadsafe_function",1]>,1]]}
-limit operations | {"version":9,"workers":0,"addons":[],"threads":[[],[<16385 x ["acquire_threadsafe_function",1]>]]}
-limit operations | {"version":9,"workers":0,"addons":[],"threads":[[<16385 x 0>],0]}
-shape threads/0/0 | {"version":9,"workers":0,"addons":[],"threads":[[0],[<16385 x 0>]]}
-limit threads | {"version":9,"workers":0,"addons":[],"threads":[[<16385 x ["acquire_threadsafe_function",1]>],<16 x []>]}"#;
+const FIRST_OPERATION: Answer = Answer::Shape("addons/0/entries/0/0");
 
-/// The same of the schedule.
-const SCHEDULES: &str =
-    r#"stage | {"version":9,"workers":0,"addons":[],"threads":[],"schedule":[<65536 x "env">]}
-limit schedule | {"version":9,"workers":0,"addons":[],"threads":[],"schedule":[<65537 x "env">]}
-limit schedule | {"version":9,"workers":0,"addons":[],"threads":[],"schedule":[<65537 x 0>]}
-limit schedule | {"version":9,"workers":0,"addons":[],"threads":[],"schedule":[1,<65536 x "env">]}
-limit schedule | {"version":9,"workers":0,"addons":[],"threads":[],"schedule":[<65536 x "env">,1]}
-shape schedule/65535 | {"version":9,"workers":0,"addons":[],"threads":[],"schedule":[<65535 x "env">,"t0"]}
-limit threads | {"version":9,"workers":0,"addons":[],"threads":[<17 x 0>],"schedule":[<65537 x 0>]}
-shape threads/0 | {"version":9,"workers":0,"addons":[],"threads":[0],"schedule":[<65537 x 0>]}"#;
+const LAST_OPERATION: Answer = Answer::Shape("addons/0/entries/0/4095");
 
-/// Whether reading bytes answers this: `ok`, or the refusal in the words of the program's line.
-fn is_answered(alloc: Global, bytes: &[u8], expected: &str) -> bool {
+const FIRST_OF_THREAD: Answer = Answer::Shape("threads/0/0");
+
+const LAST_OF_THREAD: Answer = Answer::Shape("threads/0/16383");
+
+const FIRST_THREAD: Answer = Answer::Shape("threads/0");
+
+const LAST_WORD: Answer = Answer::Shape("schedule/65535");
+
+const OPERATIONS: Answer = Answer::Limit(LimitName::Operations);
+
+const ENTRY_COUNT: Answer = Answer::Limit(LimitName::Entries);
+
+const THREAD_COUNT: Answer = Answer::Limit(LimitName::Threads);
+
+const WORD_COUNT: Answer = Answer::Limit(LimitName::Schedule);
+
+/// A piece of a script that stands so many times in it, with a comma between each two.
+type Piece = (usize, &'static str);
+
+/// Up to the first operation of an addon's first entry, behind the last operation, and behind the last entry.
+const ENTRY: Piece = (
+    1,
+    r#"{"version":9,"workers":0,"addons":[{"name":"a","entries":[["#,
+);
+
+const ENTRY_END: Piece = (1, r#"]]}],"threads":[]}"#);
+
+const ENTRIES_END: Piece = (1, r#"]}],"threads":[]}"#);
+
+/// Up to the first operation of the first thread, behind the last operation, and up to the first thread.
+const THREAD: Piece = (1, r#"{"version":9,"workers":0,"addons":[],"threads":[["#);
+
+const THREAD_END: Piece = (1, "]]}");
+
+const THREADS: Piece = (1, r#"{"version":9,"workers":0,"addons":[],"threads":["#);
+
+/// Up to the schedule's first word: from the beginning, and behind the last thread.
+const WORDS: Piece = (
+    1,
+    r#"{"version":9,"workers":0,"addons":[],"threads":[],"schedule":["#,
+);
+
+const SCHEDULE: Piece = (1, r#"],"schedule":["#);
+
+/// From one list to the next, and behind the last word or the last thread.
+const NEXT: Piece = (1, "],[");
+
+const LIST_END: Piece = (1, "]}");
+
+const NULL: &str = r#"["get_null",0]"#;
+
+const ACQUIRE: &str = r#"["acquire_threadsafe_function",1]"#;
+
+const ENV: &str = r#""env""#;
+
+/// What is answered, and the pieces of the script.
+static ROWS: [(Answer, &[Piece]); 29] = [
+    // Entries of an addon.
+    (LAST_OPERATION, &[ENTRY, (4095, NULL), (1, ",0"), ENTRY_END]),
+    (Answer::Ok, &[ENTRY, (4096, NULL), ENTRY_END]),
+    (
+        Answer::Ok,
+        &[ENTRY, (4096, NULL), NEXT, (4096, NULL), ENTRY_END],
+    ),
+    (OPERATIONS, &[ENTRY, (4097, NULL), ENTRY_END]),
+    (OPERATIONS, &[ENTRY, (4097, "0"), ENTRY_END]),
+    (OPERATIONS, &[ENTRY, (1, "1,"), (4096, NULL), ENTRY_END]),
+    (OPERATIONS, &[ENTRY, (4096, NULL), (1, ",1"), ENTRY_END]),
+    (OPERATIONS, &[ENTRY, NEXT, (4097, NULL), ENTRY_END]),
+    (OPERATIONS, &[ENTRY, (4097, "0"), (1, "],0"), ENTRIES_END]),
+    (
+        FIRST_OPERATION,
+        &[ENTRY, (1, "0"), NEXT, (4097, "0"), ENTRY_END],
+    ),
+    (
+        ENTRY_COUNT,
+        &[ENTRY, (4097, NULL), (1, "],"), (64, "[]"), ENTRIES_END],
+    ),
+    // Threads.
+    (
+        LAST_OF_THREAD,
+        &[THREAD, (16_383, ACQUIRE), (1, ",0"), THREAD_END],
+    ),
+    (
+        Answer::Stage,
+        &[THREAD, (16_384, ACQUIRE), (1, "]"), SCHEDULE, LIST_END],
+    ),
+    (
+        OPERATIONS,
+        &[THREAD, (16_385, ACQUIRE), (1, "]"), SCHEDULE, LIST_END],
+    ),
+    (OPERATIONS, &[THREAD, (16_385, "0"), THREAD_END]),
+    (
+        OPERATIONS,
+        &[THREAD, (1, "1,"), (16_384, ACQUIRE), THREAD_END],
+    ),
+    (
+        OPERATIONS,
+        &[THREAD, (16_384, ACQUIRE), (1, ",1"), THREAD_END],
+    ),
+    (OPERATIONS, &[THREAD, NEXT, (16_385, ACQUIRE), THREAD_END]),
+    (OPERATIONS, &[THREAD, (16_385, "0"), (1, "],0"), LIST_END]),
+    (
+        FIRST_OF_THREAD,
+        &[THREAD, (1, "0"), NEXT, (16_385, "0"), THREAD_END],
+    ),
+    (
+        THREAD_COUNT,
+        &[THREAD, (16_385, ACQUIRE), (1, "],"), (16, "[]"), LIST_END],
+    ),
+    // Schedules.
+    (Answer::Stage, &[WORDS, (65_536, ENV), LIST_END]),
+    (WORD_COUNT, &[WORDS, (65_537, ENV), LIST_END]),
+    (WORD_COUNT, &[WORDS, (65_537, "0"), LIST_END]),
+    (WORD_COUNT, &[WORDS, (1, "1,"), (65_536, ENV), LIST_END]),
+    (WORD_COUNT, &[WORDS, (65_536, ENV), (1, ",1"), LIST_END]),
+    (
+        LAST_WORD,
+        &[WORDS, (65_535, ENV), (1, r#","t0""#), LIST_END],
+    ),
+    (
+        THREAD_COUNT,
+        &[THREADS, (17, "0"), SCHEDULE, (65_537, "0"), LIST_END],
+    ),
+    (
+        FIRST_THREAD,
+        &[THREADS, (1, "0"), SCHEDULE, (65_537, "0"), LIST_END],
+    ),
+];
+
+/// Adds pieces to a text.
+fn add(rt: &impl Abort, whole: &mut String, pieces: &[Piece]) {
+    for (times, piece) in pieces {
+        for at in 0..*times {
+            if at > 0 {
+                whole.push_str(",").expect(rt, "memory for a script");
+            }
+            whole.push_str(piece).expect(rt, "memory for a script");
+        }
+    }
+}
+
+/// Whether this is the answer that the part of a path has the wrong form.
+fn is_shape(want: Answer, path: &[u8]) -> bool {
+    match want {
+        Answer::Shape(told) => told.as_bytes() == path,
+        _ => false,
+    }
+}
+
+/// Whether reading bytes answers this.
+fn is_answered(alloc: Global, bytes: &[u8], want: Answer) -> bool {
     match read_script(alloc, bytes) {
-        Ok(_) => expected == "ok",
-        Err(Refusal::NotJson) => expected == "json",
-        Err(Refusal::Stage) => expected == "stage",
-        Err(Refusal::NoMemory) => false,
-        Err(Refusal::Shape { path }) => is_shape(expected, path.bytes()),
-        Err(Refusal::Limit { which }) => expected == limit(which),
+        Ok(_) => matches!(want, Answer::Ok),
+        Err(Refusal::Stage) => matches!(want, Answer::Stage),
+        Err(Refusal::Shape { path }) => is_shape(want, path.bytes()),
+        Err(Refusal::Limit { which }) => matches!(want, Answer::Limit(told) if told == which),
+        Err(Refusal::NotJson | Refusal::NoMemory) => false,
     }
 }
 
-/// Whether this is the refusal of the part with a path.
-fn is_shape(expected: &str, path: &[u8]) -> bool {
-    match expected.strip_prefix("shape ") {
-        Some(told) => told.as_bytes() == path,
-        None => false,
-    }
-}
-
-fn limit(which: LimitName) -> &'static str {
-    match which {
-        LimitName::Workers => "limit workers",
-        LimitName::Addons => "limit addons",
-        LimitName::Entries => "limit entries",
-        LimitName::Operations => "limit operations",
-        LimitName::Threads => "limit threads",
-        LimitName::Schedule => "limit schedule",
-    }
-}
-
-/// Adds the members of a list that is told as `3 x []`. False where it is told otherwise.
-fn add_members(whole: &mut String, told: &str) -> Result<bool, AllocError> {
-    let Some((times, piece)) = told.split_once(" x ") else {
-        return Ok(false);
-    };
-    let Ok(times) = times.parse::<usize>() else {
-        return Ok(false);
-    };
-    for at in 0..times {
-        if at > 0 {
-            whole.push_str(",")?;
-        }
-        whole.push_str(piece)?;
-    }
-    Ok(true)
-}
-
-/// Adds a piece that follows a `<`. False where it tells no list.
-fn add_piece(whole: &mut String, piece: &str) -> Result<bool, AllocError> {
-    let Some((told, rest)) = piece.split_once('>') else {
-        return Ok(false);
-    };
-    if !add_members(whole, told)? {
-        return Ok(false);
-    }
-    whole.push_str(rest)?;
-    Ok(true)
-}
-
-/// Adds a text with the members of each list that it tells. False where it tells one otherwise.
-fn add_expanded(whole: &mut String, text: &str) -> Result<bool, AllocError> {
-    let mut pieces = text.split('<');
-    whole.push_str(pieces.next().unwrap_or(""))?;
-    for piece in pieces {
-        if !add_piece(whole, piece)? {
-            return Ok(false);
-        }
-    }
-    Ok(true)
-}
-
-/// Whether the script of a row is answered as it tells.
-fn holds(alloc: Global, row: &str) -> Result<bool, AllocError> {
-    let Some((expected, text)) = row.split_once(" | ") else {
-        return Ok(false);
-    };
+/// The script of these pieces is answered so.
+fn check(rt: &impl Abort, alloc: Global, want: Answer, pieces: &[Piece]) {
     let mut script = String::new(alloc);
-    Ok(add_expanded(&mut script, text)? && is_answered(alloc, script.as_bytes(), expected))
+    add(rt, &mut script, pieces);
+    let holds = is_answered(alloc, script.as_bytes(), want);
+    assert!(rt; holds, "{pieces:?}");
 }
 
-/// Each row of a table holds.
-fn check<R: Abort>(rt: &R, alloc: Global, rows: &str) -> Result<(), AllocError> {
-    for row in rows.lines() {
-        assert!(rt; holds(alloc, row)?, "at {row}");
+#[test]
+fn lists_at_their_limits(rt: HostRuntime) {
+    for (want, pieces) in &ROWS {
+        check(&rt, rt.alloc(), *want, pieces);
     }
-    Ok(())
-}
-
-#[test]
-fn operations_of_entries(rt: HostRuntime) -> Result<(), Fail> {
-    check(&rt, rt.alloc(), OPERATIONS)?;
-    Ok(())
-}
-
-#[test]
-fn threads(rt: HostRuntime) -> Result<(), Fail> {
-    check(&rt, rt.alloc(), THREADS)?;
-    Ok(())
-}
-
-#[test]
-fn schedules(rt: HostRuntime) -> Result<(), Fail> {
-    check(&rt, rt.alloc(), SCHEDULES)?;
-    Ok(())
 }
