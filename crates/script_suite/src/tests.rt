@@ -1,4 +1,4 @@
-//! Tests by their subjects.
+//! Tests by their subjects. What finds no memory ends its test.
 mod asks;
 mod events;
 mod limits;

@@ -1,50 +1,91 @@
 //! The text of each event that is no call: its status, its actor, its name and its duties.
 use super::traces::{check, event};
+use napi_types::Actor::{Env, Thread, Worker};
+use napi_types::HostStep::{
+    ActorEnd, Begin, CloseTsfn, Drain, End, Finals, Finish, FinishTsfn, Go, Gone, LoopEnd, Opened,
+    Start,
+};
+use napi_types::Status::{
+    ArrayExpected, ArraybufferExpected, BigintExpected, BooleanExpected, CallbackScopeMismatch,
+    Cancelled, CannotRunJs, Closing, DateExpected, DetachableArraybufferExpected,
+    EscapeCalledTwice, FunctionExpected, GenericFailure, HandleScopeMismatch, InvalidArg,
+    NameExpected, NoExternalBuffersAllowed, NoMemory, NumberExpected, ObjectExpected,
+    PendingException, QueueFull, StringExpected, TraceFull, WouldDeadlock,
+};
 use napi_types::{Actor, Duty, Entry, HostStep, Status, Ticket, TsfnId};
-use std::alloc::{AllocError, Global};
+use std::alloc::Global;
 use std::process::Abort;
-use std::test::Fail;
 
-/// These events of the environment, each with its status.
-fn events(alloc: Global, told: &[(HostStep, Status)]) -> Result<Vec<Entry>, AllocError> {
-    let mut history = Vec::new(alloc);
-    for (step, status) in told {
-        history.push(event(Actor::Env, *step, *status, None, None))?;
-    }
-    Ok(history)
-}
+const TICKET: Option<Duty> = Some(Duty::Ticket(Ticket(4)));
 
-/// The trace of these events has this text.
-fn check_events<R: Abort>(
-    rt: &R,
-    alloc: Global,
-    told: &[(HostStep, Status)],
-    text: &str,
-) -> Result<(), Fail> {
-    let history = events(alloc, told)?;
-    assert!(rt; history.len() == told.len() && history.len() < 100);
-    check(rt, alloc, &[], history.as_slice(), text);
-    Ok(())
-}
+const WORK: Option<Duty> = Some(Duty::Work(4));
 
-#[test]
-fn events_of_the_environment(rt: HostRuntime) -> Result<(), Fail> {
-    check_events(
-        &rt,
-        rt.alloc(),
-        &[
-            (HostStep::Opened, Status::Ok),
-            (HostStep::Begin, Status::Ok),
-            (HostStep::End, Status::Ok),
-            (HostStep::Go, Status::Ok),
-            (HostStep::LoopEnd, Status::Ok),
-            (HostStep::CloseTsfn, Status::Ok),
-            (HostStep::FinishTsfn, Status::Ok),
-            (HostStep::Drain, Status::Ok),
-            (HostStep::Finals, Status::Ok),
-            (HostStep::Gone, Status::Ok),
-        ],
-        "1 env opened 0 -
+const ITEM: Option<Duty> = Some(Duty::Item(TsfnId(2), 7));
+
+const FUNCTION: Option<Duty> = Some(Duty::Function(TsfnId(2)));
+
+const OTHER_WORK: Option<Duty> = Some(Duty::Work(1));
+
+/// An event: its actor, its name, its status, and the duties that it withdraws and makes.
+type Event = (Actor, HostStep, Status, Option<Duty>, Option<Duty>);
+
+/// Each event of the environment, each status, each actor, and each duty: withdrawn, made, and made where another is withdrawn.
+const EVENTS: [Event; 51] = [
+    (Env, Opened, Status::Ok, None, None),
+    (Env, Begin, Status::Ok, None, None),
+    (Env, End, Status::Ok, None, None),
+    (Env, Go, Status::Ok, None, None),
+    (Env, LoopEnd, Status::Ok, None, None),
+    (Env, CloseTsfn, Status::Ok, None, None),
+    (Env, FinishTsfn, Status::Ok, None, None),
+    (Env, Drain, Status::Ok, None, None),
+    (Env, Finals, Status::Ok, None, None),
+    (Env, Gone, Status::Ok, None, None),
+    (Env, Drain, Status::Ok, None, None),
+    (Env, Drain, InvalidArg, None, None),
+    (Env, Drain, ObjectExpected, None, None),
+    (Env, Drain, StringExpected, None, None),
+    (Env, Drain, NameExpected, None, None),
+    (Env, Drain, FunctionExpected, None, None),
+    (Env, Drain, NumberExpected, None, None),
+    (Env, Drain, BooleanExpected, None, None),
+    (Env, Drain, ArrayExpected, None, None),
+    (Env, Drain, GenericFailure, None, None),
+    (Env, Drain, PendingException, None, None),
+    (Env, Drain, Cancelled, None, None),
+    (Env, Drain, EscapeCalledTwice, None, None),
+    (Env, Drain, HandleScopeMismatch, None, None),
+    (Env, Drain, CallbackScopeMismatch, None, None),
+    (Env, Drain, QueueFull, None, None),
+    (Env, Drain, Closing, None, None),
+    (Env, Drain, BigintExpected, None, None),
+    (Env, Drain, DateExpected, None, None),
+    (Env, Drain, ArraybufferExpected, None, None),
+    (Env, Drain, DetachableArraybufferExpected, None, None),
+    (Env, Drain, WouldDeadlock, None, None),
+    (Env, Drain, NoExternalBuffersAllowed, None, None),
+    (Env, Drain, CannotRunJs, None, None),
+    (Env, Drain, NoMemory, None, None),
+    (Env, Drain, TraceFull, None, None),
+    (Worker(0), Start, Status::Ok, None, None),
+    (Worker(15), Finish, Status::Ok, None, None),
+    (Thread(2), ActorEnd, Status::Ok, None, None),
+    (Env, Gone, Status::Ok, TICKET, None),
+    (Env, Go, Status::Ok, None, TICKET),
+    (Env, Go, Status::Ok, OTHER_WORK, TICKET),
+    (Env, Gone, Status::Ok, WORK, None),
+    (Env, Go, Status::Ok, None, WORK),
+    (Env, Go, Status::Ok, OTHER_WORK, WORK),
+    (Env, Gone, Status::Ok, ITEM, None),
+    (Env, Go, Status::Ok, None, ITEM),
+    (Env, Go, Status::Ok, OTHER_WORK, ITEM),
+    (Env, Gone, Status::Ok, FUNCTION, None),
+    (Env, Go, Status::Ok, None, FUNCTION),
+    (Env, Go, Status::Ok, OTHER_WORK, FUNCTION),
+];
+
+/// The trace of these events.
+const LINES: &str = "1 env opened 0 -
 2 env begin 0 -
 3 env end 0 -
 4 env go 0 -
@@ -54,162 +95,63 @@ fn events_of_the_environment(rt: HostRuntime) -> Result<(), Fail> {
 8 env drain 0 -
 9 env finals 0 -
 10 env gone 0 -
-",
-    )
-}
+11 env drain 0 -
+12 env drain 1 -
+13 env drain 2 -
+14 env drain 3 -
+15 env drain 4 -
+16 env drain 5 -
+17 env drain 6 -
+18 env drain 7 -
+19 env drain 8 -
+20 env drain 9 -
+21 env drain 10 -
+22 env drain 11 -
+23 env drain 12 -
+24 env drain 13 -
+25 env drain 14 -
+26 env drain 15 -
+27 env drain 16 -
+28 env drain 17 -
+29 env drain 18 -
+30 env drain 19 -
+31 env drain 20 -
+32 env drain 21 -
+33 env drain 22 -
+34 env drain 23 -
+35 env drain 1000 -
+36 env drain 1001 -
+37 w0 start 0 -
+38 w15 finish 0 -
+39 t2 actor_end 0 -
+40 env gone 0 - -#4
+41 env go 0 - +#4
+42 env go 0 - -j1 +#4
+43 env gone 0 - -j4
+44 env go 0 - +j4
+45 env go 0 - -j1 +j4
+46 env gone 0 - -f2.7
+47 env go 0 - +f2.7
+48 env go 0 - -j1 +f2.7
+49 env gone 0 - -f2
+50 env go 0 - +f2
+51 env go 0 - -j1 +f2
+";
 
-#[test]
-fn statuses_to_8(rt: HostRuntime) -> Result<(), Fail> {
-    check_events(
-        &rt,
-        rt.alloc(),
-        &[
-            (HostStep::Drain, Status::Ok),
-            (HostStep::Drain, Status::InvalidArg),
-            (HostStep::Drain, Status::ObjectExpected),
-            (HostStep::Drain, Status::StringExpected),
-            (HostStep::Drain, Status::NameExpected),
-            (HostStep::Drain, Status::FunctionExpected),
-            (HostStep::Drain, Status::NumberExpected),
-            (HostStep::Drain, Status::BooleanExpected),
-            (HostStep::Drain, Status::ArrayExpected),
-        ],
-        "1 env drain 0 -
-2 env drain 1 -
-3 env drain 2 -
-4 env drain 3 -
-5 env drain 4 -
-6 env drain 5 -
-7 env drain 6 -
-8 env drain 7 -
-9 env drain 8 -
-",
-    )
-}
-
-#[test]
-fn statuses_to_17(rt: HostRuntime) -> Result<(), Fail> {
-    check_events(
-        &rt,
-        rt.alloc(),
-        &[
-            (HostStep::Drain, Status::GenericFailure),
-            (HostStep::Drain, Status::PendingException),
-            (HostStep::Drain, Status::Cancelled),
-            (HostStep::Drain, Status::EscapeCalledTwice),
-            (HostStep::Drain, Status::HandleScopeMismatch),
-            (HostStep::Drain, Status::CallbackScopeMismatch),
-            (HostStep::Drain, Status::QueueFull),
-            (HostStep::Drain, Status::Closing),
-            (HostStep::Drain, Status::BigintExpected),
-        ],
-        "1 env drain 9 -
-2 env drain 10 -
-3 env drain 11 -
-4 env drain 12 -
-5 env drain 13 -
-6 env drain 14 -
-7 env drain 15 -
-8 env drain 16 -
-9 env drain 17 -
-",
-    )
-}
-
-#[test]
-fn statuses_to_1001(rt: HostRuntime) -> Result<(), Fail> {
-    check_events(
-        &rt,
-        rt.alloc(),
-        &[
-            (HostStep::Drain, Status::DateExpected),
-            (HostStep::Drain, Status::ArraybufferExpected),
-            (HostStep::Drain, Status::DetachableArraybufferExpected),
-            (HostStep::Drain, Status::WouldDeadlock),
-            (HostStep::Drain, Status::NoExternalBuffersAllowed),
-            (HostStep::Drain, Status::CannotRunJs),
-            (HostStep::Drain, Status::NoMemory),
-            (HostStep::Drain, Status::TraceFull),
-        ],
-        "1 env drain 18 -
-2 env drain 19 -
-3 env drain 20 -
-4 env drain 21 -
-5 env drain 22 -
-6 env drain 23 -
-7 env drain 1000 -
-8 env drain 1001 -
-",
-    )
-}
-
-#[test]
-fn events_of_workers_and_threads(rt: HostRuntime) {
-    let history = [
-        event(Actor::Worker(0), HostStep::Start, Status::Ok, None, None),
-        event(Actor::Worker(15), HostStep::Finish, Status::Ok, None, None),
-        event(Actor::Thread(2), HostStep::ActorEnd, Status::Ok, None, None),
-    ];
-    check(
-        &rt,
-        rt.alloc(),
-        &[],
-        &history,
-        "1 w0 start 0 -
-2 w15 finish 0 -
-3 t2 actor_end 0 -
-",
-    );
-}
-
-/// The lines of events that withdraw a duty, that make it, and that make it where another is withdrawn.
-fn check_duty<R: Abort>(rt: &R, alloc: Global, duty: Duty, text: &str) {
-    let history = [
-        event(Actor::Env, HostStep::Gone, Status::Ok, Some(duty), None),
-        event(Actor::Env, HostStep::Go, Status::Ok, None, Some(duty)),
-        event(
-            Actor::Env,
-            HostStep::Go,
-            Status::Ok,
-            Some(Duty::Work(1)),
-            Some(duty),
-        ),
-    ];
-    check(rt, alloc, &[], &history, text);
-}
-
-#[test]
-fn duties(rt: HostRuntime) {
-    for (duty, text) in [
-        (
-            Duty::Ticket(Ticket(4)),
-            "1 env gone 0 - -#4
-2 env go 0 - +#4
-3 env go 0 - -j1 +#4
-",
-        ),
-        (
-            Duty::Work(4),
-            "1 env gone 0 - -j4
-2 env go 0 - +j4
-3 env go 0 - -j1 +j4
-",
-        ),
-        (
-            Duty::Item(TsfnId(2), 7),
-            "1 env gone 0 - -f2.7
-2 env go 0 - +f2.7
-3 env go 0 - -j1 +f2.7
-",
-        ),
-        (
-            Duty::Function(TsfnId(2)),
-            "1 env gone 0 - -f2
-2 env go 0 - +f2
-3 env go 0 - -j1 +f2
-",
-        ),
-    ] {
-        check_duty(&rt, rt.alloc(), duty, text);
+/// The entries of events.
+fn history(rt: &impl Abort, alloc: Global, events: &[Event]) -> Vec<Entry> {
+    let mut history = Vec::new(alloc);
+    for (actor, step, status, dropped, made) in events {
+        history
+            .push(event(*actor, *step, *status, *dropped, *made))
+            .expect(rt, "memory for a history");
     }
+    history
+}
+
+#[test]
+fn each_event_has_its_text(rt: HostRuntime) {
+    let history = history(&rt, rt.alloc(), &EVENTS);
+    assert!(rt; history.len() == EVENTS.len());
+    check(&rt, rt.alloc(), &[], &history, LINES);
 }

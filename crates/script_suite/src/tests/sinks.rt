@@ -2,99 +2,81 @@
 ghost use Rattle.std.specs.Prelude.{◌<◌, ◌≤◌, length};
 ghost use Rattle.napi_types.specs.Room.{most_entries};
 
-use super::traces::{call, check_taken, write};
-use napi_types::{Call, Entry, Failed, MemSink, NoMemory, Out};
-use std::alloc::{AllocError, Global};
+use super::traces::{collect, write};
+use napi_types::{Entry, Failed, MemSink, NoMemory, Out};
+use std::alloc::Global;
 use std::process::Abort;
-use std::test::Fail;
 use trace_text::put_all;
 
 /// A sink that takes so many bytes a call, and fails at the call of this number, counted from 0.
-fn failing_sink(alloc: Global, greatest: usize, failing: u64) -> Result<MemSink, AllocError>
+fn failing_sink(rt: &impl Abort, alloc: Global, greatest: usize, failing: u64) -> MemSink
     requires { 0 < greatest }
 {
-    let mut numbers = Vec::new(alloc);
-    numbers.push(failing)?;
-    Ok(MemSink::new(alloc, greatest, numbers))
+    MemSink::new(
+        alloc,
+        greatest,
+        vec![in alloc; failing].expect(rt, "memory for a number"),
+    )
+}
+
+/// Of `hello world` a sink that takes four bytes a call and fails at the call of this number has these bytes.
+fn check_put(rt: &impl Abort, alloc: Global, failing: u64, is_put: bool, bytes: &[u8]) {
+    let mut sink = failing_sink(rt, alloc, 4, failing);
+    let found = put_all(&mut sink, b"hello world").is_ok();
+    assert_eq!(rt; (found, sink.bytes()), (is_put, bytes));
 }
 
 #[test]
-fn bytes_pass_through_short_writes(rt: HostRuntime) {
-    let mut sink = MemSink::new(rt.alloc(), 4, Vec::new(rt.alloc()));
-    assert!(rt; put_all(&mut sink, b"hello world").is_ok());
-    check_taken(&rt, &sink, b"hello world");
+fn bytes_pass_through_short_writes_until_a_fault(rt: HostRuntime) {
+    check_put(&rt, rt.alloc(), 3, true, b"hello world");
+    check_put(&rt, rt.alloc(), 1, false, b"hell");
 }
 
-#[test]
-fn a_fault_leaves_a_front(rt: HostRuntime) -> Result<(), Fail> {
-    let mut sink = failing_sink(rt.alloc(), 4, 1)?;
-    assert!(rt; put_all(&mut sink, b"hello world").is_err());
-    check_taken(&rt, &sink, b"hell");
-    Ok(())
-}
-
-#[test]
-fn a_fault_at_the_second_call_leaves_a_front_of_the_trace(rt: HostRuntime) -> Result<(), Fail> {
-    let history = [
-        call(Call::Collect, Out::Nothing),
-        call(Call::Exit, Out::Nothing),
-    ];
-    let mut sink = failing_sink(rt.alloc(), 16, 1)?;
-    assert!(rt; write(rt.alloc(), &mut sink, &[], &history).is_err());
-    check_taken(&rt, &sink, b"1 env collect 0 ");
-    Ok(())
-}
-
-#[test]
-fn errors_have_a_text(rt: HostRuntime) -> Result<(), Fail> {
-    let failed = format!(in rt.alloc(); "{Failed}")?;
-    assert_eq!(rt; failed.as_str(), "the outside failed");
-    let no_memory = format!(in rt.alloc(); "{NoMemory}")?;
-    assert_eq!(rt; no_memory.as_str(), "a part found no memory");
-    Ok(())
-}
-
-/// The text of two thousand calls of `collect` that tell nothing: 40,893 bytes, which take five calls.
-fn two_thousand_lines(alloc: Global) -> Result<String, Fail> {
-    let mut text = String::new(alloc);
-    for number in 1..2001 {
-        write!(text, "{number} env collect 0 -\n")?;
-    }
-    Ok(text)
-}
-
-#[test]
-fn a_long_trace_is_written_in_full(rt: HostRuntime) -> Result<(), Fail> {
-    let history = [call(Call::Collect, Out::Nothing); 2000];
-    let text = two_thousand_lines(rt.alloc())?;
-    let mut sink = MemSink::new(rt.alloc(), 100_000, Vec::new(rt.alloc()));
-    assert!(rt; write(rt.alloc(), &mut sink, &[], &history).is_ok());
-    check_taken(&rt, &sink, text.as_bytes());
-    Ok(())
-}
-
-/// Where the call of this number fails, a sink has a front of a long text.
-fn check_fault<R: Abort>(
-    rt: &R,
+/// How much such a sink has of the trace of calls, where that is not written in full, and what the sink has is a front of a text.
+fn front_length(
+    rt: &impl Abort,
     alloc: Global,
+    greatest: usize,
     failing: u64,
     history: &[Entry],
     text: &[u8],
-) -> Result<(), AllocError>
-    requires { length history.now ≤ most_entries }
+) -> Option<usize>
+    requires greatest { 0 < greatest }
+    requires history { length history.now ≤ most_entries }
 {
-    let mut sink = failing_sink(alloc, 100_000, failing)?;
-    assert!(rt; write(alloc, &mut sink, &[], history).is_err());
-    assert!(rt; text.starts_with(sink.bytes()));
-    Ok(())
+    let mut sink = failing_sink(rt, alloc, greatest, failing);
+    let is_written = write(rt, alloc, &mut sink, &[], history);
+    let bytes = sink.bytes();
+    (!is_written && text.starts_with(bytes)).then_some(bytes.len())
 }
 
 #[test]
-fn a_fault_leaves_a_front_of_a_long_trace(rt: HostRuntime) -> Result<(), Fail> {
-    let history = [call(Call::Collect, Out::Nothing); 2000];
-    let text = two_thousand_lines(rt.alloc())?;
+fn a_fault_at_the_second_call_leaves_a_front_of_the_trace(rt: HostRuntime) {
+    let history = [collect(Out::Nothing); 2];
+    let found = front_length(&rt, rt.alloc(), 16, 1, &history, b"1 env collect 0 -\n");
+    assert_eq!(rt; found, Some(16));
+}
+
+// The trace of two thousand calls has 40,893 bytes, which take five calls.
+#[test]
+fn a_fault_leaves_a_front_of_a_long_trace(rt: HostRuntime) {
+    let history = [collect(Out::Nothing); 2000];
+    let mut whole = MemSink::new(rt.alloc(), 100_000, Vec::new(rt.alloc()));
+    let is_written = write(&rt, rt.alloc(), &mut whole, &[], &history);
+    let mut are_fronts = true;
     for failing in 0..5 {
-        check_fault(&rt, rt.alloc(), failing, &history, text.as_bytes())?;
+        let found = front_length(&rt, rt.alloc(), 100_000, failing, &history, whole.bytes());
+        are_fronts &= found.is_some();
     }
-    Ok(())
+    let found = (is_written, whole.bytes().len(), are_fronts);
+    assert_eq!(rt; found, (true, 40_893, true));
+}
+
+#[test]
+fn errors_have_a_text(rt: HostRuntime) {
+    let texts = format!(in rt.alloc(); "{Failed}, {NoMemory}").expect(&rt, "memory for texts");
+    assert_eq!(rt;
+        texts.as_str(),
+        "the outside failed, a part found no memory"
+    );
 }
