@@ -11,23 +11,15 @@ use std::thread::{Threads, join};
 
 const TURNS: u64 = 1000;
 
-/// All rows are there, and each thread's own are as many as it added. What `two` ensures comes from the clauses of `close` alone.
+/// Each thread adds as many rows as it takes turns. That these are the rows that are there is what `two` ensures, by the clauses of
+/// `close` alone.
 #[test]
 fn two_threads(rt: HostRuntime) {
     let alloc = rt.alloc();
     let (turn, passes) = ample(&rt, Turn::new(alloc, Rows::new(alloc), 2));
     let (rows, first, second) = two(&rt, turn, passes);
-    assert_eq!(rt; first, TURNS);
-    assert_eq!(rt; second, TURNS);
-    assert_eq!(rt; rows.rows.len() as u64, 2 * TURNS);
-    assert_eq!(rt;
-        rows.rows.iter().filter(|row| row.pass == 0).count() as u64,
-        TURNS
-    );
-    assert_eq!(rt;
-        rows.rows.iter().filter(|row| row.pass == 1).count() as u64,
-        TURNS
-    );
+    let found = (rows.rows.len() as u64, first, second);
+    assert_eq!(rt; found, (2 * TURNS, TURNS, TURNS));
 }
 
 /// Two passes take turns in threads of their own. Answers the rows, and how many each pass added.
@@ -45,9 +37,8 @@ fn two<R: Threads + Wait + Abort + Sync>(
     let second = passes.remove(1);
     let first = passes.remove(0);
     let ((first, one), (second, other)) = both(rt, &turn, first, second);
-    if passes.push(first).is_err() || passes.push(second).is_err() {
-        panic!(rt; "there is no memory");
-    }
+    passes.push(first).expect(rt, "there is no memory");
+    passes.push(second).expect(rt, "there is no memory");
     (turn.close(passes), one, other)
 }
 

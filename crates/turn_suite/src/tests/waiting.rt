@@ -18,8 +18,7 @@ fn a_sleeper_is_woken(rt: HostRuntime) {
     let alloc = rt.alloc();
     let (turn, passes) = ample(&rt, Turn::new(alloc, Rows::new(alloc), 2));
     let looks = look_and_add(&rt, &turn, passes);
-    assert!(rt; looks >= 2);
-    assert!(rt; looks <= MOST_LOOKS);
+    assert!(rt; (2..=MOST_LOOKS).contains(&looks));
 }
 
 /// Answers how often the second pass looked for a row.
