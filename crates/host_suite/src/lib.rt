@@ -1,6 +1,6 @@
-//! Tests of the top call, of its ends and of addons that follow no script, where no row of `rows_suite` says it: sources and sinks that
-//! fail, sources of the greatest length, other words than `run`, another number of addons, addons that tell no plan. It has tests
-//! alone, uses public items of the crates below, and nothing stands above it.
+//! Tests of the top call with addons that follow no script, and of the ends over a reader and a writer. What a script, words, lengths,
+//! faults and a number of addons can say is a row of `rows_suite`. It has tests alone, uses public items of the crates below, and
+//! nothing stands above it.
 #![tactic(auto)]
 
 #[cfg(test)]

@@ -1,5 +1,6 @@
 //! The ends over a reader and a writer.
 use super::*;
+use napi_types::{Sink, Source};
 use script_host::{StdSink, StdSource};
 use std::io;
 use std::io::{ErrorKind, Read, Write};
