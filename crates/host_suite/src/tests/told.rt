@@ -1,12 +1,8 @@
 //! What an addon that tells no plan is asked and told, in order. No clause says it, since a contract knows nothing of such an addon.
-ghost use Rattle.std.specs.Prelude.{◌≤◌, length, None};
+ghost use Rattle.std.specs.Prelude.{None};
 
 use super::*;
-use addon_trait::{ask_at, begin_at, enter_at, load_at, note_at};
-use napi_types::{
-    AddonPlan, Ask, Begun, Call, Cause, Due, DueInfo, Duty, Listed, Out, Reply, Slip, Status,
-    Ticket,
-};
+use napi_types::{AddonPlan, Ask, Begun, Call, Due, Duty, Reply};
 use std::alloc::AllocError;
 use std::cell::RefCell;
 use std::process::Abort;
@@ -315,69 +311,5 @@ fn addons_are_told_each_begin_and_each_reply(rt: HostRuntime) -> Result<(), Fail
         let expected = expanded(alloc, text)?;
         compare(&rt, subject, found.as_str(), expected.as_str());
     }
-    Ok(())
-}
-
-/// A finalizer of entry 4 of the second addon.
-const FINALIZER: DueInfo = DueInfo {
-    duty: Duty::Ticket(Ticket(7)),
-    cause: Cause::Finalize,
-    addon: 1,
-    entry: 4,
-    status: Status::Ok,
-    gifts: [70, 71, 0, 0, 0, 0, 0, 0],
-    runs: true,
-};
-
-/// Each call of an addon of the list, with the addon that is told it.
-const CALLED: &str = "0 load 0
-1 load 0
-0 enter 3 1 11 0 0 0 12 13 0
-1 duty 7 1 0 1
-1 finalize 4 70 71 0 0 0 0 0 0
-0 ask 3 5
-1 ask 4 0
-0 note 3 5 0
-1 note 4 0 0
-";
-
-/// A plan with no entries.
-fn no_plan(alloc: Global) -> AddonPlan {
-    AddonPlan {
-        entries: Listed::of(Vec::new(alloc)),
-    }
-}
-
-/// Makes each call of an addon of the list, and answers what the duty told in the end.
-fn call_each(alloc: Global, addons: &mut Vec<Box<dyn Addon>>, due: Due) -> DueInfo
-    requires { 2 ≤ length addons.old.items }
-{
-    load_at(addons, 0, no_plan(alloc));
-    load_at(addons, 1, no_plan(alloc));
-    enter_at(addons, 0, 3, &[1, 11, 0, 0, 0, 12, 13, 0]);
-    let begun = begin_at(addons, 1, due);
-    let _ = ask_at(addons, 0, 3, 5);
-    let _ = ask_at(addons, 1, 4, 0);
-    let reply = Reply::plain(Status::Ok, Out::Nothing);
-    note_at(addons, 0, 3, 5, &reply);
-    note_at(addons, 1, 4, 0, &reply);
-    begun.end()
-}
-
-#[test]
-fn each_call_of_a_list_is_told_to_its_addon(rt: HostRuntime) -> Result<(), Fail> {
-    let alloc = rt.alloc();
-    let text = Rc::new(alloc, RefCell::new(String::new(alloc)))?;
-    let mut addons = listeners(alloc, &text)?;
-    let Ok(slip) = Slip::new(alloc) else {
-        return Err(Fail::new("the slip found no memory"));
-    };
-    if addons.len() < 2 {
-        return Err(Fail::new("an addon is missing"));
-    }
-    let info = call_each(alloc, &mut addons, slip.arm(FINALIZER));
-    assert_eq!(rt; (info.duty, info.gifts), (FINALIZER.duty, FINALIZER.gifts));
-    drop(addons);
-    compare(&rt, "calls of a list", written(text)?.as_str(), CALLED);
     Ok(())
 }

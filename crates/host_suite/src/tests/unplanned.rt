@@ -238,11 +238,3 @@ fn each_addon_of_the_script_has_its_frame(rt: HostRuntime) -> Result<(), Fail> {
     }
     Ok(())
 }
-
-#[test]
-fn an_addon_may_heed_no_plan(rt: HostRuntime) -> Result<(), Fail> {
-    let mut addon: Box<dyn Addon> = Box::new(rt.alloc(), that_does(Way::Stays))?;
-    addon.enter(0, &[1, 2, 3, 4, 5, 6, 7, 8]);
-    assert!(rt; matches!(addon.ask(0, 65_535), Ask::Do(Call::GetUndefined)));
-    Ok(())
-}
