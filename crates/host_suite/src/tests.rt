@@ -1,11 +1,11 @@
-//! What the tests share: texts, ends in memory, and a run.
+//! What the tests share: what a step gives that does not fail, and a run of a script with addons of theirs.
 use addon_trait::Addon;
-use napi_types::{MemSink, MemSource, OpenGate, Record, Text};
+use napi_types::{MemSink, OpenGate, Record, SafeSource, Text};
 use script_addon::ScriptAddon;
 use script_host::host;
 use std::alloc::Global;
+use std::process::Abort;
 use std::sync::Wait;
-use std::test::Fail;
 use std::thread::Threads;
 
 mod example;
@@ -14,51 +14,38 @@ mod standard;
 mod told;
 mod unplanned;
 
-/// The first run of `examples/`.
-const FIRST_RUN: &[u8] =
-    br#"{"version":9,"workers":0,"addons":[{"name":"a","entries":[[["open_handle_scope",0],["create_object",1],["typeof",1,2],["close_handle_scope",0]]]}],"threads":[]}"#;
-
-/// A script with no addon.
-const EMPTY: &[u8] = br#"{"version":9,"workers":0,"addons":[],"threads":[]}"#;
-
 /// The most bytes that a sink takes in one call.
-const LONGEST: usize = 4_194_304;
+const GREATEST: usize = 65_536;
 
-/// These words as texts.
-fn texts_of(alloc: Global, words: &[&str]) -> Result<Vec<Text>, Fail> {
-    let mut texts = Vec::new(alloc);
-    for word in words {
-        texts.push(Text::of(alloc, word).map_err(|_| Fail::from("no memory"))?)?;
+/// What a step gives. The test ends where a step fails, as for want of memory.
+fn given<T, E: Drop>(rt: &impl Abort, step: Result<T, E>) -> T {
+    match step {
+        Ok(value) => value,
+        Err(_) => panic!(rt; "a step failed"),
     }
-    Ok(texts)
 }
 
-/// A source of these bytes, of which these calls fail.
-fn source_of(alloc: Global, bytes: Vec<u8>, failing: &[u64]) -> Result<MemSource, Fail> {
-    let failing = Vec::from_slice(alloc, failing)?;
-    Ok(MemSource::of(bytes, failing))
-}
-
-/// The status of a run of a script with these addons, whose text the sink takes.
-fn status_with<R: Threads + Wait + Sync>(
+/// The status of a run of a script with these addons, and what it writes.
+fn run_of<R: Abort + Threads + Wait + Sync>(
     rt: &R,
     alloc: Global,
     script: &[u8],
     addons: &mut Vec<Box<dyn Addon>>,
-    sink: &mut MemSink,
-    left: &mut Record,
-) -> Result<u8, Fail> {
-    let words = texts_of(alloc, &["run"])?;
-    let bytes = Vec::from_slice(alloc, script)?;
-    let mut source = source_of(alloc, bytes, &[])?;
-    Ok(host(
+) -> (u8, String) {
+    let words = [given(rt, Text::of(alloc, "run"))];
+    let mut source = SafeSource::of(given(rt, Vec::from_slice(alloc, script)));
+    let mut sink = MemSink::new(alloc, GREATEST, Vec::new(alloc));
+    let mut left = Record::blank(alloc);
+    let status = host(
         rt,
         alloc,
         &words,
         &mut source,
-        sink,
+        &mut sink,
         &OpenGate,
         addons,
-        left,
-    ))
+        &mut left,
+    );
+    let written = given(rt, str::from_utf8(sink.bytes()));
+    (status, given(rt, String::from_str(alloc, written)))
 }

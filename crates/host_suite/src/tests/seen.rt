@@ -25,16 +25,6 @@ const MOST: usize = 4;
 /// The entry by which a test asks a witness what it has seen. No script has it.
 const TELLS: u32 = 1_000_000;
 
-/// A witness of this number that has seen nothing.
-fn numbered(number: u32) -> Witness {
-    Witness {
-        registers: [0; 32],
-        number,
-        lines: [[0; 3]; MOST],
-        seen: SeenList::new(),
-    }
-}
-
 /// The line of a begin.
 fn line_of(info: &DueInfo) -> Line {
     let ticket = match info.duty {
@@ -160,29 +150,38 @@ fn seen_by_each(addons: &mut Vec<Box<dyn Addon>>) -> [Seen; 3]
 }
 
 /// The status of a run of a script with three witnesses, and what each of them has seen then.
-fn seen_after<R: Threads + Wait + Sync>(
+fn seen_after<R: Abort + Threads + Wait + Sync>(
     rt: &R,
     alloc: Global,
     script: &[u8],
-) -> Result<(u8, [Seen; 3]), Fail> {
+) -> (u8, [Seen; 3]) {
     let mut addons: Vec<Box<dyn Addon>> = Vec::new(alloc);
     for number in 0..3 {
-        addons.push(Box::new(alloc, numbered(number))?)?;
+        let witness = Witness {
+            registers: [0; 32],
+            number,
+            lines: [NO_LINE; MOST],
+            seen: SeenList::new(),
+        };
+        let addon = given(rt, Box::new(alloc, witness));
+        given(rt, addons.push(addon));
     }
-    let mut sink = MemSink::new(alloc, LONGEST, Vec::new(alloc));
-    let mut left = Record::blank(alloc);
-    let status = status_with(rt, alloc, script, &mut addons, &mut sink, &mut left)?;
+    let (status, _) = run_of(rt, alloc, script, &mut addons);
     if addons.len() < 3 {
-        return Err(Fail::new("an addon is missing"));
+        panic!(rt; "an addon is missing");
     }
-    Ok((status, seen_by_each(&mut addons)))
+    (status, seen_by_each(&mut addons))
 }
 
 #[test]
-fn each_addon_has_seen_its_own_finalizers(rt: HostRuntime) -> Result<(), Fail> {
-    for (script, third) in [(THREE, SEEN_BY_THE_THIRD), (TWO, NOTHING_SEEN)] {
-        let found = seen_after(&rt, rt.alloc(), script)?;
-        assert_eq!(rt; found, (0, [NOTHING_SEEN, SEEN_BY_THE_SECOND, third]));
-    }
-    Ok(())
+fn each_addon_has_seen_its_own_finalizers(rt: HostRuntime) {
+    let alloc = rt.alloc();
+    let found = [seen_after(&rt, alloc, THREE), seen_after(&rt, alloc, TWO)];
+    assert_eq!(rt;
+        found,
+        [
+            (0, [NOTHING_SEEN, SEEN_BY_THE_SECOND, SEEN_BY_THE_THIRD]),
+            (0, [NOTHING_SEEN, SEEN_BY_THE_SECOND, NOTHING_SEEN]),
+        ]
+    );
 }

@@ -39,34 +39,47 @@ impl Write for Idle {
     }
 }
 
+/// What a read of four bytes answers: how many it gave, and the bytes.
+fn read_four<S: Source>(source: &mut S) -> (Option<usize>, [u8; 4]) {
+    let mut piece = [0; 4];
+    (source.read(&mut piece).ok(), piece)
+}
+
 #[test]
 fn a_source_fails_where_its_reader_does(rt: HostRuntime) {
-    let mut piece = [0; 4];
     let mut whole = StdSource::new(b"abcdef".as_slice());
-    assert!(rt; matches!(whole.read(&mut piece), Ok(4)));
-    assert_eq!(rt; piece, *b"abcd");
-    assert!(rt; matches!(whole.read(&mut piece), Ok(2)));
-    assert_eq!(rt; piece, *b"efcd");
-    assert!(rt; matches!(whole.read(&mut piece), Ok(0)));
-    let mut broken = StdSource::new(Broken);
-    assert!(rt; broken.read(&mut piece).is_err());
+    let found = [
+        read_four(&mut whole),
+        read_four(&mut whole),
+        read_four(&mut whole),
+        read_four(&mut StdSource::new(Broken)),
+    ];
+    let expected = [
+        (Some(4), *b"abcd"),
+        (Some(2), *b"ef\0\0"),
+        (Some(0), [0; 4]),
+        (None, [0; 4]),
+    ];
+    assert_eq!(rt; found, expected);
+}
+
+/// How many of the first bytes, and then of the second ones, a sink takes, where it does not fail.
+fn write_both<K: Sink>(
+    sink: &mut K,
+    first: &[u8],
+    second: &[u8],
+) -> (Option<usize>, Option<usize>) {
+    (sink.write(first).ok(), sink.write(second).ok())
 }
 
 #[test]
-fn a_sink_fails_where_its_writer_does(rt: HostRuntime) {
+fn a_sink_fails_where_its_writer_does_or_takes_nothing(rt: HostRuntime) {
     let mut taken = Vec::new(rt.alloc());
-    let mut whole = StdSink::new(&mut taken);
-    assert!(rt; matches!(whole.write(b"abc"), Ok(3)));
-    assert!(rt; matches!(whole.write(b"de"), Ok(2)));
-    assert_eq!(rt; taken.as_slice(), b"abcde".as_slice());
-    let mut broken = StdSink::new(Broken);
-    assert!(rt; broken.write(b"abc").is_err());
-    assert!(rt; broken.write(b"").is_err());
-}
-
-#[test]
-fn a_write_of_no_bytes_is_a_fault(rt: HostRuntime) {
-    let mut idle = StdSink::new(Idle);
-    assert!(rt; idle.write(b"abc").is_err());
-    assert!(rt; matches!(idle.write(b""), Ok(0)));
+    let counts = [
+        write_both(&mut StdSink::new(&mut taken), b"abc", b"de"),
+        write_both(&mut StdSink::new(Broken), b"abc", b""),
+        write_both(&mut StdSink::new(Idle), b"abc", b""),
+    ];
+    let expected = [(Some(3), Some(2)), (None, None), (None, Some(0))];
+    assert_eq!(rt; (counts, taken.as_slice()), (expected, b"abcde".as_slice()));
 }

@@ -5,7 +5,6 @@ use super::*;
 use napi_types::{AddonPlan, Ask, Begun, Call, Due, Duty, Reply};
 use std::alloc::AllocError;
 use std::cell::RefCell;
-use std::process::Abort;
 use std::rc::Rc;
 
 /// An addon that follows its script and tells no plan. It writes a line of what it is asked and told into a text that it shares.
@@ -41,6 +40,7 @@ fn number_of(duty: Duty) -> u64 {
 }
 
 impl Listener {
+    /// Writes a line of what it is told.
     fn write_line(&self, what: &str, entry: u64, numbers: &[u64]) {
         if let Ok(mut heard) = self.heard.try_borrow_mut() {
             // Where there is no memory the text is too short, and the test fails.
@@ -95,54 +95,43 @@ impl Addon for Listener {
     }
 }
 
-/// Two addons that write what they are told into this text.
-fn listeners(alloc: Global, text: &Rc<RefCell<String>>) -> Result<Vec<Box<dyn Addon>>, Fail> {
+/// Three addons that write what they are told into this text. The scripts have two, so the third one is told nothing.
+fn listeners<R: Abort>(rt: &R, alloc: Global, text: &Rc<RefCell<String>>) -> Vec<Box<dyn Addon>> {
     let mut addons: Vec<Box<dyn Addon>> = Vec::new(alloc);
-    for number in 0..2 {
+    for number in 0..3 {
         let listener = Listener {
             follower: ScriptAddon::blank(alloc),
             number,
-            heard: text.clone()?,
+            heard: given(rt, text.clone()),
         };
-        addons.push(Box::new(alloc, listener)?)?;
+        let addon = given(rt, Box::new(alloc, listener));
+        given(rt, addons.push(addon));
     }
-    Ok(addons)
+    addons
 }
 
-/// The status of a run of two addons that write what they are told into this text.
-fn status_of_listeners<R: Threads + Wait + Sync>(
+/// The status of a run of a script with three addons that write what they are told into this text.
+fn status_of_listeners<R: Abort + Threads + Wait + Sync>(
     rt: &R,
     alloc: Global,
     script: &[u8],
     text: &Rc<RefCell<String>>,
-) -> Result<u8, Fail> {
-    let mut addons = listeners(alloc, text)?;
-    let mut sink = MemSink::new(alloc, LONGEST, Vec::new(alloc));
-    let mut left = Record::blank(alloc);
-    status_with(rt, alloc, script, &mut addons, &mut sink, &mut left)
+) -> u8 {
+    let mut addons = listeners(rt, alloc, text);
+    let (status, _) = run_of(rt, alloc, script, &mut addons);
+    status
 }
 
-/// What was written, where no addon is left.
-fn written(text: Rc<RefCell<String>>) -> Result<String, Fail> {
-    match Rc::into_inner(text) {
-        Some(cell) => Ok(cell.into_inner()),
-        None => Err(Fail::new("an addon is left")),
-    }
+/// The status of a run of a script with three addons, and what they are told in it.
+fn heard<R: Abort + Threads + Wait + Sync>(rt: &R, alloc: Global, script: &[u8]) -> (u8, String) {
+    let text = given(rt, Rc::new(alloc, RefCell::new(String::new(alloc))));
+    let status = status_of_listeners(rt, alloc, script, &text);
+    let cell = given(rt, Rc::into_inner(text).ok_or("an addon is left"));
+    (status, cell.into_inner())
 }
 
-/// What two addons are told in a run.
-fn heard<R: Threads + Wait + Sync>(rt: &R, alloc: Global, script: &[u8]) -> Result<String, Fail> {
-    let text = Rc::new(alloc, RefCell::new(String::new(alloc)))?;
-    let status = status_of_listeners(rt, alloc, script, &text)?;
-    if status != 0 {
-        return Err(Fail::new("the run has no trace"));
-    }
-    written(text)
-}
-
-/// A text in which the line `endless` stands for 65,536 asks of the first addon's entry that never leaves, each with its reply.
-fn expanded(alloc: Global, text: &str) -> Result<String, Fail> {
-    let mut whole = String::new(alloc);
+/// Adds a text in which the line `endless` stands for 65,536 asks of the first addon's entry that never leaves, each with its reply.
+fn add_expanded(whole: &mut String, text: &str) -> Result<(), AllocError> {
     for line in text.lines() {
         if line == "endless" {
             for step in 0..65_536 {
@@ -152,15 +141,14 @@ fn expanded(alloc: Global, text: &str) -> Result<String, Fail> {
             write!(whole, "{line}\n")?;
         }
     }
-    Ok(whole)
+    Ok(())
 }
 
-/// Both texts are the same.
-fn compare(rt: &impl Abort, subject: &str, found: &str, expected: &str) {
-    for (at, (one, other)) in found.lines().zip(expected.lines()).enumerate() {
-        assert_eq!(rt; one, other, "{subject}, at line {at}");
-    }
-    assert_eq!(rt; found.len(), expected.len(), "{subject}");
+/// Such a text with its lines.
+fn expanded<R: Abort>(rt: &R, alloc: Global, text: &str) -> String {
+    let mut whole = String::new(alloc);
+    given(rt, add_expanded(&mut whole, text));
+    whole
 }
 
 /// A handle that is unknown, a call of what is no function, and a guarded call while an exception is pending: each refusal is told, and
@@ -298,8 +286,7 @@ const FINALIZED: (&[u8], &str) = (
 );
 
 #[test]
-fn addons_are_told_each_begin_and_each_reply(rt: HostRuntime) -> Result<(), Fail> {
-    let alloc = rt.alloc();
+fn addons_are_told_each_begin_and_each_reply(rt: HostRuntime) {
     for (subject, (script, text)) in [
         ("refused calls", REFUSED),
         ("failed calls", FAILED),
@@ -307,9 +294,8 @@ fn addons_are_told_each_begin_and_each_reply(rt: HostRuntime) -> Result<(), Fail
         ("calls between addons", BETWEEN),
         ("finalizers", FINALIZED),
     ] {
-        let found = heard(&rt, alloc, script)?;
-        let expected = expanded(alloc, text)?;
-        compare(&rt, subject, found.as_str(), expected.as_str());
+        let found = heard(&rt, rt.alloc(), script);
+        let expected = (0, expanded(&rt, rt.alloc(), text));
+        assert_eq!(rt; found, expected, "{subject}");
     }
-    Ok(())
 }

@@ -3,6 +3,11 @@ ghost use Rattle.std.specs.Prelude.{None};
 
 use super::*;
 use napi_types::{AddonPlan, Args, Ask, Begun, Call, Due, HandleId, Reply, ScopeId, SeenList};
+use std::alloc::AllocError;
+
+/// A script of one addon, which has one entry.
+const ONE: &[u8] =
+    br#"{"version":9,"workers":0,"addons":[{"name":"a","entries":[[["get_null",0]]]}],"threads":[]}"#;
 
 /// What an addon does, whatever its script says.
 #[derive(Clone, Copy)]
@@ -25,15 +30,6 @@ struct Unplanned {
     registers: [u64; 32],
     seen: SeenList,
     way: Way,
-}
-
-/// An addon that does this, whose registers are all 7.
-fn that_does(way: Way) -> Unplanned {
-    Unplanned {
-        registers: [7; 32],
-        seen: SeenList::new(),
-        way,
-    }
 }
 
 /// What the first entry of the addon that registers asks. Its object has the handle 1, in the scope 1.
@@ -92,149 +88,162 @@ impl Addon for Unplanned {
     fn note(&mut self, _entry: u32, _step: u32, _reply: &Reply) {}
 }
 
-/// The status of a run of a script with three addons of this kind, whose text the sink takes.
-fn status_without_plan<R: Threads + Wait + Sync>(
-    rt: &R,
-    alloc: Global,
-    way: Way,
-    script: &[u8],
-    sink: &mut MemSink,
-    left: &mut Record,
-) -> Result<u8, Fail> {
-    let mut addons: Vec<Box<dyn Addon>> = Vec::new(alloc);
-    for _ in 0..3 {
-        addons.push(Box::new(alloc, that_does(way))?)?;
-    }
-    status_with(rt, alloc, script, &mut addons, sink, left)
-}
-
 /// A line of a trace without its number and actor, and how many times it comes in a row.
 type Line = (u32, &'static str);
 
-/// The text of a trace with these lines.
-fn trace_of(alloc: Global, lines: &[Line]) -> Result<String, Fail> {
-    let mut text = String::new(alloc);
+/// A script that three addons of one kind are run with, and the lines of its trace.
+#[derive(Clone, Copy)]
+struct Case {
+    subject: &'static str,
+    way: Way,
+    script: &'static [u8],
+    lines: &'static [Line],
+}
+
+const CASES: &[Case] = &[
+    Case {
+        subject: "no addon of the script",
+        way: Way::Brief,
+        script: br#"{"version":9,"workers":0,"addons":[],"threads":[]}"#,
+        lines: &[
+            (1, "opened 0 9"),
+            (1, "go 0 -"),
+            (1, "loop_end 0 idle"),
+            (1, "drain 0 0"),
+            (1, "finals 0 -"),
+            (1, "gone 0 -"),
+        ],
+    },
+    Case {
+        subject: "each addon of the script",
+        way: Way::Brief,
+        script: br#"{"version":9,"workers":0,"addons":[{"name":"a","entries":[]},{"name":"b","entries":[]},{"name":"c","entries":[]}],"threads":[]}"#,
+        lines: &[
+            (1, "opened 0 9"),
+            (1, "begin 0 init:0.0"),
+            (1, "create_object 0 handle"),
+            (1, "end 0 -"),
+            (1, "begin 0 init:1.0"),
+            (1, "create_object 0 handle"),
+            (1, "end 0 -"),
+            (1, "begin 0 init:2.0"),
+            (1, "create_object 0 handle"),
+            (1, "end 0 -"),
+            (1, "go 0 -"),
+            (1, "loop_end 0 idle"),
+            (1, "drain 0 0"),
+            (1, "finals 0 -"),
+            (1, "gone 0 -"),
+        ],
+    },
+    Case {
+        subject: "an init frame that never leaves",
+        way: Way::Stays,
+        script: ONE,
+        lines: &[
+            (1, "opened 0 9"),
+            (1, "begin 0 init:0.0"),
+            (65_536, "get_undefined 0 handle"),
+            (1, "end 0 cut:asks"),
+            (1, "go 0 -"),
+            (1, "loop_end 0 idle"),
+            (1, "drain 0 0"),
+            (1, "finals 0 -"),
+            (1, "gone 0 -"),
+        ],
+    },
+    Case {
+        subject: "a call that never returns",
+        way: Way::CallsOneThatStays,
+        script: ONE,
+        lines: &[
+            (1, "opened 0 9"),
+            (1, "begin 0 init:0.0"),
+            (1, "create_function 0 handle"),
+            (1, "begin 0 call:0.1"),
+            (65_536, "get_undefined 0 handle"),
+            (1, "end 9 cut:asks"),
+            (1, "get_last_error_info 0 9"),
+            (1, "end 0 -"),
+            (1, "go 0 -"),
+            (1, "loop_end 0 idle"),
+            (1, "drain 0 0"),
+            (1, "finals 0 -"),
+            (1, "gone 0 -"),
+        ],
+    },
+    Case {
+        subject: "a finalizer that never leaves, and the next one",
+        way: Way::RegistersOneThatStays,
+        script: ONE,
+        lines: &[
+            (1, "opened 0 9"),
+            (1, "begin 0 init:0.0"),
+            (1, "open_handle_scope 0 scope"),
+            (1, "create_object 0 handle"),
+            (1, "add_finalizer 0 - +#1"),
+            (1, "add_finalizer 0 - +#2"),
+            (1, "close_handle_scope 0 -"),
+            (1, "collect 0 1"),
+            (1, "end 0 -"),
+            (1, "go 0 -"),
+            (1, "begin 0 finalize:0.1:#1"),
+            (65_536, "get_undefined 0 handle"),
+            (1, "end 0 cut:asks"),
+            (1, "begin 0 finalize:0.2:#2"),
+            (1, "get_version 0 9"),
+            (1, "end 0 -"),
+            (1, "loop_end 0 idle"),
+            (1, "drain 0 0"),
+            (1, "finals 0 -"),
+            (1, "gone 0 -"),
+        ],
+    },
+];
+
+/// Adds the text of a trace with these lines.
+fn add_trace(text: &mut String, lines: &[Line]) -> Result<(), AllocError> {
     let mut number = 0u64;
     for (times, line) in lines {
         for _ in 0..*times {
             number = number.saturating_add(1);
-            let numbered = format!(in alloc; "{number} env {line}\n")?;
-            text.push_str(numbered.as_str())?;
+            write!(text, "{number} env {line}\n")?;
         }
     }
-    Ok(text)
+    Ok(())
 }
 
-/// Whether a run of the first run's script with addons of this kind prints these lines.
-fn prints<R: Threads + Wait + Sync>(
+/// The text of a trace with these lines.
+fn trace_of<R: Abort>(rt: &R, alloc: Global, lines: &[Line]) -> String {
+    let mut text = String::new(alloc);
+    given(rt, add_trace(&mut text, lines));
+    text
+}
+
+/// The status of the run of a case, and what it writes.
+fn run_of_case<R: Abort + Threads + Wait + Sync>(
     rt: &R,
     alloc: Global,
-    way: Way,
-    lines: &[Line],
-) -> Result<bool, Fail> {
-    let trace = trace_of(alloc, lines)?;
-    let mut sink = MemSink::new(alloc, LONGEST, Vec::new(alloc));
-    let mut left = Record::blank(alloc);
-    let status = status_without_plan(rt, alloc, way, FIRST_RUN, &mut sink, &mut left)?;
-    Ok(status == 0 && sink.bytes() == trace.as_bytes())
-}
-
-#[test]
-fn an_addon_that_never_leaves_is_cut(rt: HostRuntime) -> Result<(), Fail> {
-    let lines = [
-        (1, "opened 0 9"),
-        (1, "begin 0 init:0.0"),
-        (65_536, "get_undefined 0 handle"),
-        (1, "end 0 cut:asks"),
-        (1, "go 0 -"),
-        (1, "loop_end 0 idle"),
-        (1, "drain 0 0"),
-        (1, "finals 0 -"),
-        (1, "gone 0 -"),
-    ];
-    assert!(rt; prints(&rt, rt.alloc(), Way::Stays, &lines)?);
-    Ok(())
-}
-
-#[test]
-fn a_call_that_never_returns_is_cut(rt: HostRuntime) -> Result<(), Fail> {
-    let lines = [
-        (1, "opened 0 9"),
-        (1, "begin 0 init:0.0"),
-        (1, "create_function 0 handle"),
-        (1, "begin 0 call:0.1"),
-        (65_536, "get_undefined 0 handle"),
-        (1, "end 9 cut:asks"),
-        (1, "get_last_error_info 0 9"),
-        (1, "end 0 -"),
-        (1, "go 0 -"),
-        (1, "loop_end 0 idle"),
-        (1, "drain 0 0"),
-        (1, "finals 0 -"),
-        (1, "gone 0 -"),
-    ];
-    assert!(rt; prints(&rt, rt.alloc(), Way::CallsOneThatStays, &lines)?);
-    Ok(())
-}
-
-#[test]
-fn a_finalizer_that_never_leaves_is_cut_and_the_next_one_begins(
-    rt: HostRuntime,
-) -> Result<(), Fail> {
-    let lines = [
-        (1, "opened 0 9"),
-        (1, "begin 0 init:0.0"),
-        (1, "open_handle_scope 0 scope"),
-        (1, "create_object 0 handle"),
-        (1, "add_finalizer 0 - +#1"),
-        (1, "add_finalizer 0 - +#2"),
-        (1, "close_handle_scope 0 -"),
-        (1, "collect 0 1"),
-        (1, "end 0 -"),
-        (1, "go 0 -"),
-        (1, "begin 0 finalize:0.1:#1"),
-        (65_536, "get_undefined 0 handle"),
-        (1, "end 0 cut:asks"),
-        (1, "begin 0 finalize:0.2:#2"),
-        (1, "get_version 0 9"),
-        (1, "end 0 -"),
-        (1, "loop_end 0 idle"),
-        (1, "drain 0 0"),
-        (1, "finals 0 -"),
-        (1, "gone 0 -"),
-    ];
-    assert!(rt; prints(&rt, rt.alloc(), Way::RegistersOneThatStays, &lines)?);
-    Ok(())
-}
-
-/// Three addons without entries.
-const THREE_ADDONS: &[u8] =
-    br#"{"version":9,"workers":0,"addons":[{"name":"a","entries":[]},{"name":"b","entries":[]},{"name":"c","entries":[]}],"threads":[]}"#;
-
-/// How many entries the journal and the history have after a run of a script with three addons handed in.
-fn lengths<R: Threads + Wait + Sync>(
-    rt: &R,
-    alloc: Global,
-    script: &[u8],
-) -> Result<(u8, usize, usize), Fail> {
-    let mut sink = MemSink::new(alloc, LONGEST, Vec::new(alloc));
-    let mut left = Record::blank(alloc);
-    let status = status_without_plan(rt, alloc, Way::Brief, script, &mut sink, &mut left)?;
-    Ok((
-        status,
-        left.journal.items().len(),
-        left.history.items().len(),
-    ))
-}
-
-#[test]
-fn each_addon_of_the_script_has_its_frame(rt: HostRuntime) -> Result<(), Fail> {
-    for (script, expected) in [
-        (EMPTY, (0, 2, 4)),
-        (FIRST_RUN, (0, 5, 4)),
-        (THREE_ADDONS, (0, 11, 4)),
-    ] {
-        assert_eq!(rt; lengths(&rt, rt.alloc(), script)?, expected);
+    case: &Case,
+) -> (u8, String) {
+    let mut addons: Vec<Box<dyn Addon>> = Vec::new(alloc);
+    for _ in 0..3 {
+        let unplanned = Unplanned {
+            registers: [0; 32],
+            seen: SeenList::new(),
+            way: case.way,
+        };
+        let addon = given(rt, Box::new(alloc, unplanned));
+        given(rt, addons.push(addon));
     }
-    Ok(())
+    run_of(rt, alloc, case.script, &mut addons)
+}
+
+#[test]
+fn addons_without_a_plan_run_as_any_other(rt: HostRuntime) {
+    let alloc = rt.alloc();
+    for case in CASES {
+        let expected = (0, trace_of(&rt, alloc, case.lines));
+        assert_eq!(rt; run_of_case(&rt, alloc, case), expected, "{}", case.subject);
+    }
 }
