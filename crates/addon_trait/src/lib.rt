@@ -9,7 +9,7 @@ mod phased;
 ghost use Rattle.std.specs.Prelude.{◌≡◌, ℕ, List, [], ◌∷◌, ◌++◌, Option, None, IfSome, option_map};
 ghost use Rattle.napi_types.specs.declared.duties.DueInfo.{DueInfo};
 ghost use Rattle.napi_types.specs.declared.op.Op.{Op};
-ghost use Rattle.napi_types.specs.Registers.{plan_ask, registers_after_reply, blank_registers, with_gifts};
+ghost use Rattle.napi_types.specs.scripts.Registers.{plan_ask, registers_after_reply, blank_registers, with_gifts};
 
 pub use list::{ask_at, begin_at, enter_at, load_at, note_at};
 use napi_types::{AddonPlan, Ask, Begun, Due, Reply};

@@ -1,8 +1,8 @@
 //! What the teardown sees of an environment's core.
 ghost use Rattle.std.specs.Prelude.{◌≡◌, ℕ, Bool, false, Some};
-ghost use Rattle.napi_types.specs.Phases.{next_phase};
 ghost use Rattle.napi_types.specs.declared.entry.Phase.{Phase};
 ghost use Rattle.napi_types.specs.declared.ids.TsfnId.{TsfnId};
+ghost use Rattle.napi_types.specs.plain.Phases.{next_phase};
 
 use napi_types::{Phase, TsfnId};
 

@@ -6,8 +6,8 @@ use Rattle.std.proofs.lemmas.Bool.Decides.{nat_tests}
 use Rattle.std.proofs.lemmas.List.Sums.{sum_by-cons}
 use Rattle.std.proofs.lemmas.List.Elements.{All-head, All-tail, All-cons, All-nil}
 use Rattle.std.proofs.lemmas.Option.{slice_get_within, slice_get-map}
-use Rattle.napi_types.specs.Lists.{found, has, as_map}
-use Rattle.napi_types.proofs.Found.{IsRising, same-self, same-tells, apart-below, apart-above, found-above, found-first, found-later, found-All, found-number, found-as_map, rising-as_map, has-found}
+use Rattle.napi_types.specs.plain.Lists.{found, has, as_map}
+use Rattle.napi_types.proofs.plain.Found.{IsRising, same-self, same-tells, apart-below, apart-above, found-above, found-first, found-later, found-All, found-number, found-as_map, rising-as_map, has-found}
 use Rattle.async_work.specs.Counted.{element, listed}
 
 pub turned : (m n : ℕ) → (m == n) ≡ (n == m)

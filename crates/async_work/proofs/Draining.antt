@@ -1,9 +1,9 @@
 -- The first work that waits, and all works that wait as they are cancelled one by one.
 use Rattle.std.proofs.Common.{◌≡◌, ◌∙◌, ℕ, ◌<◌, ◌==◌, ◌||◌, true, not, List, [], ◌∷◌, ◌++◌, length, map, filter, Some, None, IfSome, refl, ap, sym, arith, append_assoc, append-nil}
-use Rattle.napi_types.specs.Lists.{has_number, head, tail, one}
-use Rattle.napi_types.specs.Pool.{WorkPool, cancelled_at, drained}
-use Rattle.napi_types.specs.Works.{cancelled_outcome}
-use Rattle.napi_types.proofs.Found.{same-self}
+use Rattle.napi_types.specs.plain.Lists.{has_number, head, tail, one}
+use Rattle.napi_types.specs.parts.Pool.{WorkPool, cancelled_at, drained}
+use Rattle.napi_types.specs.parts.Works.{cancelled_outcome}
+use Rattle.napi_types.proofs.plain.Found.{same-self}
 use Rattle.async_work.specs.Draining.{IsDraining}
 use Rattle.async_work.proofs.Linking.{same-some, if-some}
 

@@ -2,9 +2,9 @@
 use Rattle.std.proofs.Common.{◌≡◌, ◌∙◌, ℕ, suc, ◌+◌, ◌==◌, Bool, true, false, not, cond, List, length, filter, Option, Some, None, is_some, option_map, refl, ap, sym, arith}
 use Rattle.std.specs.List.{All, slice_get}
 use Rattle.std.specs.Option.{option_and_then, option_map_or}
-use Rattle.napi_types.specs.Lists.{found, has, with_record, as_map}
-use Rattle.napi_types.specs.Works.{Execution}
-use Rattle.napi_types.proofs.Found.{same-self, same-tells, found-same, found-with_record, found-as_map, found-filter, found-number, found-All, rising-with_record, rising-as_map, rising-filter, has-found}
+use Rattle.napi_types.specs.plain.Lists.{found, has, with_record, as_map}
+use Rattle.napi_types.specs.parts.Works.{Execution}
+use Rattle.napi_types.proofs.plain.Found.{same-self, same-tells, found-same, found-with_record, found-as_map, found-filter, found-number, found-All, rising-with_record, rising-as_map, rising-filter, has-found}
 use Rattle.async_work.specs.Line.{Done, InLine, runner, entry_at, runner_at, listed_execution, executions_listed, executions}
 use Rattle.async_work.proofs.Counting.{listed-All, listed-rising, found-listed, found-other, has-as_map, length-without, some}
 

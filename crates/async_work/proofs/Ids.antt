@@ -7,10 +7,10 @@ use Rattle.std.proofs.lemmas.List.{length-set, length-map, map-set}
 use Rattle.std.proofs.lemmas.List.Elements.{All-head, All-tail, All-cons, All-nil}
 use Rattle.std.proofs.lemmas.Option.{slice_get-get_or}
 use Rattle.napi_types.specs.declared.call.JobSpec.{JobSpec}
-use Rattle.napi_types.specs.Lists.{found, has_number, with_record, with_number, up_to}
-use Rattle.napi_types.specs.Works.{Work, is_number, has_work_number}
-use Rattle.napi_types.proofs.Found.{IsRising, same-self, same-tells, apart-above, found-same, found-with_record, found-filter, rising-with_record, rising-filter}
-use Rattle.napi_types.proofs.Issued.{above-up_to, up_to-more}
+use Rattle.napi_types.specs.plain.Lists.{found, has_number, with_record, with_number, up_to}
+use Rattle.napi_types.specs.parts.Works.{Work, is_number, has_work_number}
+use Rattle.napi_types.proofs.plain.Found.{IsRising, same-self, same-tells, apart-above, found-same, found-with_record, found-filter, rising-with_record, rising-filter}
+use Rattle.napi_types.proofs.plain.Issued.{above-up_to, up_to-more}
 use Rattle.async_work.specs.Counted.{element}
 use Rattle.async_work.specs.declared.place.Place.{Place}
 use Rattle.async_work.specs.declared.place.Standing.{Standing}

@@ -7,9 +7,9 @@ use Rattle.std.proofs.lemmas.List.Sums.{sum_by-cons, sum_by-append, sum_by-set}
 use Rattle.std.proofs.lemmas.List.Elements.{All-nil}
 use Rattle.std.proofs.lemmas.Option.{get_or_from_slice_get}
 use Rattle.napi_types.specs.declared.call.JobSpec.{JobSpec}
-use Rattle.napi_types.specs.Lists.{found, has_number, with_record, one, head, tail}
-use Rattle.napi_types.proofs.Found.{IsRising, same-self, same-tells, apart-above}
-use Rattle.napi_types.proofs.Maps.{filter_all}
+use Rattle.napi_types.specs.plain.Lists.{found, has_number, with_record, one, head, tail}
+use Rattle.napi_types.proofs.plain.Found.{IsRising, same-self, same-tells, apart-above}
+use Rattle.napi_types.proofs.plain.Maps.{filter_all}
 use Rattle.async_work.specs.Counted.{element}
 use Rattle.async_work.specs.declared.line.Numbered.{Numbered}
 use Rattle.async_work.specs.Places.{Placed, place_at, is_held, with_place_number}

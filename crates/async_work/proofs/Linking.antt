@@ -5,7 +5,7 @@ use Rattle.std.specs.Option.{option_and_then, option_map_or}
 use Rattle.std.proofs.lemmas.List.Sums.{sum_by-cons, sum_by-append, get_or-le-sum_by}
 use Rattle.std.proofs.lemmas.List.Elements.{All-append, All-cons, All-nil, All-head, All-tail}
 use Rattle.napi_types.specs.declared.call.JobSpec.{JobSpec}
-use Rattle.napi_types.proofs.Found.{same-self, same-tells, apart-above}
+use Rattle.napi_types.proofs.plain.Found.{same-self, same-tells, apart-above}
 use Rattle.async_work.specs.Counted.{element}
 use Rattle.async_work.specs.Places.{Placed, place_at, with_place_number}
 use Rattle.async_work.specs.Line.{LineStage, Waits, Runs, Ended, Done, InLine, CameOut, waiting_job, has_ended, is_done, with_stage, entry_at, stage_at, id_at, ended_at}

@@ -6,9 +6,9 @@ use Rattle.std.proofs.lemmas.List.{length-set, length-map, map-set, map-append}
 use Rattle.std.proofs.lemmas.Option.{slice_get-get_or}
 use Rattle.napi_types.specs.declared.call.JobSpec.{JobSpec}
 use Rattle.napi_types.specs.declared.duties.Slip.{Slip}
-use Rattle.napi_types.specs.Lists.{found, has_number, one}
-use Rattle.napi_types.proofs.Found.{IsRising, same-self, same-tells, found-same, found-filter, rising-filter, has-found}
-use Rattle.napi_types.proofs.Maps.{all-among}
+use Rattle.napi_types.specs.plain.Lists.{found, has_number, one}
+use Rattle.napi_types.proofs.plain.Found.{IsRising, same-self, same-tells, found-same, found-filter, rising-filter, has-found}
+use Rattle.napi_types.proofs.plain.Maps.{all-among}
 use Rattle.async_work.specs.declared.line.Numbered.{Numbered}
 use Rattle.async_work.specs.declared.line.Outcome as code
 use Rattle.async_work.specs.declared.line.Stage.{Stage}

@@ -5,9 +5,9 @@ use Rattle.std.specs.Option.{option_and_then, option_map_or}
 use Rattle.napi_types.specs.declared.call.JobSpec.{JobSpec}
 use Rattle.napi_types.specs.declared.status.Status.{Status}
 use Rattle.napi_types.specs.declared.status.Status.TheVariants as status
-use Rattle.napi_types.specs.Lists.{has, unless}
-use Rattle.napi_types.specs.Works.{Work, WorkState, Created, Queued, Running, Finished, Completed, Outcome, is_created, is_deletable}
-use Rattle.napi_types.specs.Pool.{WorkPool, work_at, work_numbered, number_of_work, standing_at, work_state, state_refusal, work_refusal}
+use Rattle.napi_types.specs.plain.Lists.{has, unless}
+use Rattle.napi_types.specs.parts.Pool.{WorkPool, work_at, work_numbered, number_of_work, standing_at, work_state, state_refusal, work_refusal}
+use Rattle.napi_types.specs.parts.Works.{Work, WorkState, Created, Queued, Running, Finished, Completed, Outcome, is_created, is_deletable}
 use Rattle.async_work.specs.Places.{Placed, place_at, work_of}
 use Rattle.async_work.specs.Line.{LineStage, Waits, Runs, Ended, Done, InLine, CameOut, outcome_of, outcome_status, waiting_job, runner, has_ended, is_done, stage_state, entry_at, stage_at, id_at, waits, ended_at}
 use Rattle.async_work.specs.Kept.{pool_of, Stands, AreKept}

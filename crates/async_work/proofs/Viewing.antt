@@ -2,9 +2,9 @@
 use Rattle.std.proofs.Common.{◌≡◌, ◌∙◌, ℕ, ◌+◌, ◌-◌, ◌==◌, Bool, not, cond, List, [], ◌∷◌, ◌++◌, length, map, filter, set, Option, Some, None, refl, ap, sym, length-append}
 use Rattle.std.proofs.lemmas.List.{length-set, map-append}
 use Rattle.napi_types.specs.declared.call.JobSpec.{JobSpec}
-use Rattle.napi_types.specs.Lists.{one, with_record, up_to}
-use Rattle.napi_types.specs.Works.{Work, Execution, Outcome}
-use Rattle.napi_types.specs.Pool.{WorkPool, executed_by, value_of_work, with_work, without_work, with_queued, cancelled_at, started_from, with_started, finished_at, with_finished, with_completed}
+use Rattle.napi_types.specs.plain.Lists.{one, with_record, up_to}
+use Rattle.napi_types.specs.parts.Pool.{WorkPool, executed_by, value_of_work, with_work, without_work, with_queued, cancelled_at, started_from, with_started, finished_at, with_finished, with_completed}
+use Rattle.napi_types.specs.parts.Works.{Work, Execution, Outcome}
 use Rattle.async_work.specs.Places.{Placed, place_at, with_place_number, works_of}
 use Rattle.async_work.specs.Line.{Runs, Ended, Done, InLine, CameOut, outcome_of, unstarted_outcome, ran_outcome, waiting_job, runner, with_stage, entry_at, runner_at, waiting}
 use Rattle.async_work.specs.Kept.{pool_of, AreKept}

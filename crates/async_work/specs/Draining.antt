@@ -1,7 +1,7 @@
 -- A pool whose waiting works are cancelled one by one.
 use Rattle.std.specs.Prelude.{◌≡◌, ◌++◌, map}
-use Rattle.napi_types.specs.Pool.{WorkPool}
-use Rattle.napi_types.specs.Works.{cancelled_outcome}
+use Rattle.napi_types.specs.parts.Pool.{WorkPool}
+use Rattle.napi_types.specs.parts.Works.{cancelled_outcome}
 
 -- so far the works that waited first came out, and nothing else changed
 pub record IsDraining (start p : WorkPool) : Type 0 where

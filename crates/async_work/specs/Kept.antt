@@ -3,8 +3,8 @@ use Rattle.std.specs.Prelude.{◌≡◌, ℕ, ◌+◌, ◌≤◌, ◌==◌, Bool
 use Rattle.std.specs.List.{All}
 use Rattle.std.specs.Option.{option_and_then}
 use Rattle.napi_types.specs.declared.call.JobSpec.{JobSpec}
-use Rattle.napi_types.specs.Lists.{up_to}
-use Rattle.napi_types.specs.Pool.{WorkPool}
+use Rattle.napi_types.specs.plain.Lists.{up_to}
+use Rattle.napi_types.specs.parts.Pool.{WorkPool}
 use Rattle.async_work.specs.Places.{Placed, place_at, is_held, works_of}
 use Rattle.async_work.specs.Line.{InLine, CameOut, outcome_of, is_done, waiting_job, entry_at, id_at, waits, runner_at, ended_at, waiting, executions}
 

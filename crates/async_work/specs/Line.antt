@@ -4,8 +4,8 @@ use Rattle.std.specs.Option.{option_map_or}
 use Rattle.napi_types.specs.declared.call.JobSpec.{JobSpec}
 use Rattle.napi_types.specs.declared.status.Status.{Status}
 use Rattle.napi_types.specs.declared.status.Status.TheVariants as status
-use Rattle.napi_types.specs.Lists.{as_map}
-use Rattle.napi_types.specs.Works.{WorkState, Queued, Running, Finished, Completed, Execution, Outcome}
+use Rattle.napi_types.specs.plain.Lists.{as_map}
+use Rattle.napi_types.specs.parts.Works.{WorkState, Queued, Running, Finished, Completed, Execution, Outcome}
 use Rattle.async_work.specs.Counted.{element, listed}
 use Rattle.async_work.specs.declared.line.Ending.{Ending}
 use Rattle.async_work.specs.declared.line.Ending.TheVariants as ending

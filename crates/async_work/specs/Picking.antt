@@ -6,10 +6,10 @@ use Rattle.napi_types.specs.declared.duties.DueInfo.{DueInfo}
 use Rattle.napi_types.specs.declared.entry.Cause.TheVariants as cause
 use Rattle.napi_types.specs.declared.entry.Duty.TheVariants as duty
 use Rattle.napi_types.specs.declared.status.Status.{Status}
-use Rattle.napi_types.specs.Lists.{head}
-use Rattle.napi_types.specs.Numbers.{status_number}
-use Rattle.napi_types.specs.Pool.{WorkPool, work_numbered}
-use Rattle.napi_types.specs.Works.{is_cancelled}
+use Rattle.napi_types.specs.plain.Lists.{head}
+use Rattle.napi_types.specs.plain.Numbers.{status_number}
+use Rattle.napi_types.specs.parts.Pool.{WorkPool, work_numbered}
+use Rattle.napi_types.specs.parts.Works.{is_cancelled}
 use Rattle.async_work.specs.Executing.{StartedWork}
 use Rattle.async_work.specs.declared.pool.Finished.{Finished}
 use Rattle.async_work.specs.declared.pool.Picked.{Picked}

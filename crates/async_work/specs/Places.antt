@@ -2,7 +2,7 @@
 use Rattle.std.specs.Prelude.{ℕ, Bool, List, map, Option, Some, None, is_some, option_map}
 use Rattle.std.specs.Option.{option_and_then}
 use Rattle.napi_types.specs.declared.call.JobSpec.{JobSpec}
-use Rattle.napi_types.specs.Works.{Work}
+use Rattle.napi_types.specs.parts.Works.{Work}
 use Rattle.async_work.specs.Counted.{element, listed}
 use Rattle.async_work.specs.declared.place.Place.{Place}
 use Rattle.async_work.specs.declared.place.Standing.{Standing}

@@ -1,7 +1,7 @@
 -- How far a work has come, by its place and by the line.
 use Rattle.std.specs.Prelude.{ℕ, List, Option, Some, None}
 use Rattle.std.specs.Option.{option_map_or}
-use Rattle.napi_types.specs.Works.{WorkState, Created, Queued, Running, Finished, Completed}
+use Rattle.napi_types.specs.parts.Works.{WorkState, Created, Queued, Running, Finished, Completed}
 use Rattle.async_work.specs.Line.{InLine, stage_at, stage_state}
 use Rattle.async_work.specs.Places.{Placed}
 use Rattle.async_work.specs.declared.pool.State.{State}

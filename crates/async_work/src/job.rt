@@ -1,6 +1,6 @@
 //! Jobs, and how a worker executes one.
 ghost use Rattle.std.specs.Prelude.{◌≡◌};
-ghost use Rattle.napi_types.specs.Jobs.{job_value};
+ghost use Rattle.napi_types.specs.parts.Jobs.{job_value};
 
 use napi_types::JobSpec;
 use std::marker::Model;

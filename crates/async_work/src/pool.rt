@@ -3,12 +3,9 @@ ghost use Rattle.std.specs.Prelude.{◌≡◌, ◌+◌, ◌<◌, ◌^◌, ◌==�
 ghost use Rattle.std.specs.Prelude.{None, Some, IfSome, IfOk, OnOk, OnErr};
 ghost use Rattle.std.specs.Option.{is_none};
 ghost use Rattle.std.specs.Result.{result_err};
-ghost use Rattle.napi_types.specs.Lists.{has_number, head, tail};
-ghost use Rattle.napi_types.specs.Works.{is_created, is_queued, is_deletable};
-ghost use Rattle.napi_types.specs.Pool.{new_pool, work_at, work_state, work_refusal, number_of_work, new_number};
-ghost use Rattle.napi_types.specs.Pool.{executed_by, value_of_work, completion_info, first_completion};
-ghost use Rattle.napi_types.specs.Pool.{with_work, without_work, with_queued, with_cancelled, cancelled_at};
-ghost use Rattle.napi_types.specs.Pool.{with_started, with_finished, with_completed, drained};
+ghost use Rattle.napi_types.specs.plain.Lists.{has_number, head, tail};
+ghost use Rattle.napi_types.specs.parts.Pool.{new_pool, work_at, work_state, work_refusal, number_of_work, new_number, executed_by, value_of_work, completion_info, first_completion, with_work, without_work, with_queued, with_cancelled, cancelled_at, with_started, with_finished, with_completed, drained};
+ghost use Rattle.napi_types.specs.parts.Works.{is_created, is_queued, is_deletable};
 ghost use Rattle.async_work.specs.Line.{outcome_seen, outcome_status, outcome_of};
 ghost use Rattle.async_work.specs.Picking.{is_closing, is_nothing, is_empty, picked_work, finished_info, first_to_start, unspent_spec};
 ghost use Rattle.async_work.specs.Places.{place_seen, work_of};
@@ -72,7 +69,7 @@ pub struct Pool<J: Job> {
 impl<J: Job> Model for Pool<J> {
     ghost use Rattle.std.specs.Prelude.{vec_capacity};
     ghost use Rattle.std.specs.VecDeque.{deque_capacity};
-    ghost use Rattle.napi_types.specs.Pool.{WorkPool};
+    ghost use Rattle.napi_types.specs.parts.Pool.{WorkPool};
     ghost use Rattle.async_work.specs.Kept.{pool_of, AreKept};
     ghost use Rattle.async_work.specs.Line.{line_seen, outcomes_seen};
     ghost use Rattle.async_work.specs.Places.{places_seen};

@@ -5,7 +5,7 @@ use Rattle.std.specs.BTreeMap.{BTreeMap, get, is_at}
 use Rattle.std.specs.Ordering.{nat_cmp}
 use Rattle.std.proofs.lemmas.Cmp.{nat_cmp_total}
 use Rattle.std.proofs.lemmas.Map.Entries.{btree_map_get_place, place_from_lookup}
-use Rattle.napi_types.specs.Hooks.{Hook, is_hook, hook_ticket}
+use Rattle.napi_types.specs.parts.Hooks.{Hook, is_hook, hook_ticket}
 use Rattle.cleanup_hooks.specs.declared.key.HookKey.{HookKey}
 use Rattle.cleanup_hooks.specs.Kept.{key_cmp, hook_of, hooks_of, AreKept}
 use Rattle.cleanup_hooks.proofs.Keys.{same-hook, hook-same}

@@ -1,7 +1,7 @@
 -- The tests of the two maps and of the list find what is the same, and nothing else.
 use Rattle.std.proofs.Common.{◌≡◌, ℕ, true, arith, Decides}
 use Rattle.std.specs.Ordering.{nat_cmp, is_eq, eq_by_cmp}
-use Rattle.napi_types.specs.Hooks.{is_hook}
+use Rattle.napi_types.specs.parts.Hooks.{is_hook}
 use Rattle.cleanup_hooks.specs.declared.key.HookKey.{HookKey}
 use Rattle.cleanup_hooks.specs.Kept.{key_cmp, hook_of}
 

@@ -8,7 +8,7 @@ use Rattle.std.specs.Ordering.{nat_cmp, is_eq}
 use Rattle.std.specs.declared.cmp.Ordering.TheVariants.{Less, Greater}
 use Rattle.std.proofs.lemmas.List.Elements.{All-head, All-tail}
 use Rattle.std.proofs.lemmas.Map.Keys.{sorted_head, sorted_tail}
-use Rattle.napi_types.specs.Hooks.{Hook, last_hook, without_hook}
+use Rattle.napi_types.specs.parts.Hooks.{Hook, last_hook, without_hook}
 use Rattle.cleanup_hooks.specs.declared.key.HookKey.{HookKey}
 use Rattle.cleanup_hooks.specs.Kept.{hook_of, hooks_of}
 use Rattle.cleanup_hooks.proofs.Keys.{number-decides}

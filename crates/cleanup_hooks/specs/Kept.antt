@@ -3,7 +3,7 @@ use Rattle.std.specs.Prelude.{◌≡◌, ℕ, List, map, Some}
 use Rattle.std.specs.declared.cmp.Ordering.{Ordering}
 use Rattle.std.specs.Ordering.{nat_cmp, ordering_then}
 use Rattle.std.specs.BTreeMap.{BTreeMap, IsOrdered, get}
-use Rattle.napi_types.specs.Hooks.{Hook}
+use Rattle.napi_types.specs.parts.Hooks.{Hook}
 use Rattle.cleanup_hooks.specs.declared.key.HookKey.{HookKey}
 
 -- the order of what hooks are known by: by the addon, then by the entry, then by the argument

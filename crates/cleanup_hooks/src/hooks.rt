@@ -1,7 +1,7 @@
 //! The cleanup hooks, in the order of adding.
 ghost use Rattle.std.specs.Prelude.{◌≡◌, ◌<◌, ◌++◌, ◌∷◌, ◌↔◌, [], None, IfSome, OnOk, OnErr, option_map};
 ghost use Rattle.std.specs.List.{All};
-ghost use Rattle.napi_types.specs.Hooks.{Hook, hook_ticket, last_hook, without_hook};
+ghost use Rattle.napi_types.specs.parts.Hooks.{Hook, hook_ticket, last_hook, without_hook};
 
 use crate::key::HookKey;
 use napi_types::{NoMemory, Ticket};
@@ -20,7 +20,7 @@ pub struct Hooks {
 
 impl Model for Hooks {
     ghost use Rattle.std.specs.Prelude.{List};
-    ghost use Rattle.napi_types.specs.Hooks.{Hook};
+    ghost use Rattle.napi_types.specs.parts.Hooks.{Hook};
     ghost use Rattle.cleanup_hooks.specs.Kept.{hooks_of, AreKept};
 
     ghost Value = { List Hook };

@@ -9,19 +9,19 @@ use Rattle.napi_types.specs.declared.entry.Out.TheVariants as out
 use Rattle.napi_types.specs.declared.ids.HandleId.{HandleId}
 use Rattle.napi_types.specs.declared.status.Status.{Status}
 use Rattle.napi_types.specs.declared.status.Status.TheVariants as status
-use Rattle.napi_types.specs.Attachments.{Wrapped, Tagged, Attached, Attachments, no_attachments, wrap_of, tag_of, is_wrapped, is_tagged, wrap_payload, has_tag, with_wrap, without_wrap, with_tag}
-use Rattle.napi_types.specs.Book.{Book}
-use Rattle.napi_types.specs.Environment.{Environment}
-use Rattle.napi_types.specs.ExpectedKinds.{expects}
-use Rattle.napi_types.specs.Graph.{StoreState, IsSoundStore, IsLive, value_of, number_in}
-use Rattle.napi_types.specs.Heap.{handle_value}
-use Rattle.napi_types.specs.Lists.{as_map, when, unless}
-use Rattle.napi_types.specs.Refusals.{timely_refusal}
-use Rattle.napi_types.specs.Replies.{accepts, plain}
-use Rattle.napi_types.specs.Scopes.{gives}
-use Rattle.napi_types.specs.Values.{Value}
-use Rattle.napi_types.proofs.Found.{same-tells, same-self, has-found, as_map-with_record, as_map-kept}
-use Rattle.napi_types.proofs.Maps.{All-with_record}
+use Rattle.napi_types.specs.plain.Lists.{as_map, when, unless}
+use Rattle.napi_types.specs.plain.Replies.{accepts, plain}
+use Rattle.napi_types.specs.parts.Attachments.{Wrapped, Tagged, Attached, Attachments, no_attachments, wrap_of, tag_of, is_wrapped, is_tagged, wrap_payload, has_tag, with_wrap, without_wrap, with_tag}
+use Rattle.napi_types.specs.parts.Book.{Book}
+use Rattle.napi_types.specs.parts.ExpectedKinds.{expects}
+use Rattle.napi_types.specs.parts.Graph.{StoreState, IsSoundStore, IsLive, value_of, number_in}
+use Rattle.napi_types.specs.parts.Heap.{handle_value}
+use Rattle.napi_types.specs.parts.Scopes.{gives}
+use Rattle.napi_types.specs.parts.Values.{Value}
+use Rattle.napi_types.specs.environment.Environment.{Environment}
+use Rattle.napi_types.specs.environment.Refusals.{timely_refusal}
+use Rattle.napi_types.proofs.plain.Found.{same-tells, same-self, has-found, as_map-with_record, as_map-kept}
+use Rattle.napi_types.proofs.plain.Maps.{All-with_record}
 use Rattle.env_values.specs.Seen.{KeepsValues}
 use Rattle.env_core.specs.declared.handles.Takes.{Takes}
 use Rattle.env_core.specs.declared.handles.Takes.TheVariants as takes

@@ -12,28 +12,28 @@ use Rattle.napi_types.specs.declared.entry.Duty.TheVariants as duty
 use Rattle.napi_types.specs.declared.entry.Phase.{Phase}
 use Rattle.napi_types.specs.declared.entry.Phase.TheVariants as phase
 use Rattle.napi_types.specs.declared.entry.Why.{Why}
-use Rattle.napi_types.specs.Attachments.{Wrapped, Attached, Attachments}
-use Rattle.napi_types.specs.Book.{Book, Registration, TicketState, Registered, Due, Begun, Ended, Withdrawn, is_registered, is_begun, is_at, registration_at, due_info, made_due, made_withdrawn, made_due_and_begun, made_ended, moved, moved_at, moved_where, due_where, with_registration}
-use Rattle.napi_types.specs.Duties.{duties_of}
-use Rattle.napi_types.specs.Ends.{duty_ended, without_innermost_frame, outermost_end_change}
-use Rattle.napi_types.specs.Environment.{Environment}
-use Rattle.napi_types.specs.Frames.{Frame, duty_of, frame_of_duty, ask_counted, is_hub_duty}
-use Rattle.napi_types.specs.Graph.{StoreState, IsLive}
-use Rattle.napi_types.specs.Heap.{Heap}
-use Rattle.napi_types.specs.HeapChanges.{with_frame}
-use Rattle.napi_types.specs.Hooked.{is_late, IsHooked}
-use Rattle.napi_types.specs.Hooks.{Hook, last_hook, without_hook}
-use Rattle.napi_types.specs.Lists.{tail}
-use Rattle.napi_types.specs.References.{ReferenceMap}
-use Rattle.napi_types.specs.Scopes.{Held, held_by_frames}
-use Rattle.napi_types.specs.Tickets.{begun_in, hooks_left, ticket_change}
+use Rattle.napi_types.specs.plain.Lists.{tail}
+use Rattle.napi_types.specs.parts.Attachments.{Wrapped, Attached, Attachments}
+use Rattle.napi_types.specs.parts.Book.{Book, Registration, TicketState, Registered, Due, Begun, Ended, Withdrawn, is_registered, is_begun, is_at, registration_at, due_info, made_due, made_withdrawn, made_due_and_begun, made_ended, moved, moved_at, moved_where, due_where, with_registration}
+use Rattle.napi_types.specs.parts.Duties.{duties_of}
+use Rattle.napi_types.specs.parts.Frames.{Frame, duty_of, frame_of_duty, ask_counted, is_hub_duty}
+use Rattle.napi_types.specs.parts.Graph.{StoreState, IsLive}
+use Rattle.napi_types.specs.parts.Heap.{Heap}
+use Rattle.napi_types.specs.parts.HeapChanges.{with_frame}
+use Rattle.napi_types.specs.parts.Hooks.{Hook, last_hook, without_hook}
+use Rattle.napi_types.specs.parts.References.{ReferenceMap}
+use Rattle.napi_types.specs.parts.Scopes.{Held, held_by_frames}
+use Rattle.napi_types.specs.environment.Ends.{duty_ended, without_innermost_frame, outermost_end_change}
+use Rattle.napi_types.specs.environment.Environment.{Environment}
+use Rattle.napi_types.specs.environment.Hooked.{is_late, IsHooked}
+use Rattle.napi_types.specs.environment.Tickets.{begun_in, hooks_left, ticket_change}
+use Rattle.napi_types.proofs.plain.Found.{same-self}
+use Rattle.napi_types.proofs.parts.Books.{length-moved, All-moved}
+use Rattle.napi_types.proofs.parts.Moved.{registration_at-moved_where}
+use Rattle.napi_types.proofs.environment.HookedSteps.{hook-registered}
+use Rattle.napi_types.proofs.environment.Registrations.{registered-holds}
 use Rattle.finalizer_queue.specs.Kept.{ticket_number}
-use Rattle.napi_types.proofs.Moved.{registration_at-moved_where}
 use Rattle.handle_scope.specs.HandleScopes.{HandleScopes, with_frame_scopes}
-use Rattle.napi_types.proofs.Books.{length-moved, All-moved}
-use Rattle.napi_types.proofs.Found.{same-self}
-use Rattle.napi_types.proofs.HookedSteps.{hook-registered}
-use Rattle.napi_types.proofs.Registrations.{registered-holds}
 use Rattle.env_core.specs.Attaching.{IsAttached}
 use Rattle.env_core.specs.Beginning.{AreBegun, IsBookOf}
 use Rattle.env_core.specs.State.{IsState, is_by_call}

@@ -5,12 +5,12 @@ use Rattle.napi_types.specs.declared.entry.Reply.{Reply}
 use Rattle.napi_types.specs.declared.entry.Actor.TheVariants as actor
 use Rattle.napi_types.specs.declared.entry.What.TheVariants as what
 use Rattle.napi_types.specs.declared.entry.Entry.{Entry}
-use Rattle.napi_types.specs.Environment.{Environment}
-use Rattle.napi_types.specs.Calls.{answer}
-use Rattle.napi_types.specs.Changes.{with_noted_status, call_change, call_entry, number_of}
-use Rattle.napi_types.specs.Frames.{Frame, asks_made}
+use Rattle.napi_types.specs.parts.Frames.{Frame, asks_made}
+use Rattle.napi_types.specs.environment.Calls.{answer}
+use Rattle.napi_types.specs.environment.Changes.{with_noted_status, call_change, call_entry, number_of}
+use Rattle.napi_types.specs.environment.Environment.{Environment}
+use Rattle.napi_types.proofs.environment.Answers.{answer-keeps}
 use Rattle.env_core.specs.State.{Answers, Calls}
-use Rattle.napi_types.proofs.Answers.{answer-keeps}
 
 abbrev pub told_entry : ℕ → ℕ → Call → Reply → Entry
 told_entry depth step c r = record { actor = actor.Env; depth = depth; step = step; what = what.Call c; reply = r; given = None }

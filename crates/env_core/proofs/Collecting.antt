@@ -6,20 +6,21 @@ use Rattle.std.proofs.lemmas.List.Elements.{All-nil, All-cons, All-head, All-tai
 use Rattle.napi_types.specs.declared.call.Call.TheVariants as call
 use Rattle.napi_types.specs.declared.entry.Out.TheVariants as out
 use Rattle.napi_types.specs.declared.status.Status.TheVariants as status
-use Rattle.napi_types.specs.Attachments.{Attachments, left_on, hangs_on}
-use Rattle.napi_types.specs.Book.{Book, due_where}
-use Rattle.napi_types.specs.Collection.{those_of, all_but, is_freed, collected}
-use Rattle.napi_types.specs.Environment.{Environment}
-use Rattle.napi_types.specs.Frames.{Frame}
-use Rattle.napi_types.specs.Graph.{StoreState, IsLive, number_in, graph_of}
-use Rattle.napi_types.specs.Heap.{Heap}
-use Rattle.napi_types.specs.Lists.{has_number}
-use Rattle.napi_types.specs.Reach.{reach_from}
-use Rattle.napi_types.specs.References.{Reference, ReferenceMap, strong_values, value_left, emptied}
-use Rattle.napi_types.specs.Replies.{plain}
-use Rattle.napi_types.specs.Roots.{roots, reach}
-use Rattle.napi_types.specs.Scopes.{Held, held_by_frames}
-use Rattle.napi_types.specs.Values.{Value}
+use Rattle.napi_types.specs.plain.Lists.{has_number}
+use Rattle.napi_types.specs.plain.Replies.{plain}
+use Rattle.napi_types.specs.parts.Attachments.{Attachments, left_on, hangs_on}
+use Rattle.napi_types.specs.parts.Book.{Book, due_where}
+use Rattle.napi_types.specs.parts.Frames.{Frame}
+use Rattle.napi_types.specs.parts.Graph.{StoreState, IsLive, number_in, graph_of}
+use Rattle.napi_types.specs.parts.Heap.{Heap}
+use Rattle.napi_types.specs.parts.Reach.{reach_from}
+use Rattle.napi_types.specs.parts.References.{Reference, ReferenceMap, strong_values, value_left, emptied}
+use Rattle.napi_types.specs.parts.Scopes.{Held, held_by_frames}
+use Rattle.napi_types.specs.parts.Values.{Value}
+use Rattle.napi_types.specs.environment.Collection.{those_of, all_but, is_freed, collected}
+use Rattle.napi_types.specs.environment.Environment.{Environment}
+use Rattle.napi_types.specs.environment.Roots.{roots, reach}
+use Rattle.napi_types.proofs.parts.Reaching.{reach_from-same}
 use Rattle.value_store.specs.Changes.{Frees}
 use Rattle.handle_scope.specs.HandleScopes.{HandleScopes}
 use Rattle.env_values.specs.Seen.{seen_frame, heap_of}
@@ -30,7 +31,6 @@ use Rattle.env_core.specs.Referring.{seen_reference, references_seen, RefersToLi
 use Rattle.env_core.specs.Rooting.{AreRoots, held_values}
 use Rattle.env_core.specs.State.{pending_seen, IsState, AnswersInTime}
 use Rattle.env_core.proofs.Rooting.{whole, roots-seen, same-holds}
-use Rattle.napi_types.proofs.Reaching.{reach_from-same}
 
 -- the store freed exactly the live values that are not alive, and the roots are not among them
 pub record FreesOthers (s t : StoreState) (roots freed alive : List ℕ) : Type 0 where

@@ -15,31 +15,31 @@ use Rattle.napi_types.specs.declared.entry.Reply.{Reply}
 use Rattle.napi_types.specs.declared.entry.Why.{Why}
 use Rattle.napi_types.specs.declared.ids.HandleId.{HandleId}
 use Rattle.napi_types.specs.declared.status.Status.{Status}
-use Rattle.napi_types.specs.Book.{Book, Registration, is_registered, is_due, registration_at, lowest_due, owed_tickets, made_due, made_ended, moved_at}
-use Rattle.napi_types.specs.Built.{is_calling}
-use Rattle.napi_types.specs.Calls.{answer_unless_deep}
-use Rattle.napi_types.specs.Changes.{call_change, number_of, book_in, in_phase}
-use Rattle.napi_types.specs.Ends.{duty_ended, end_change_by, outermost_end_change, end_change}
-use Rattle.napi_types.specs.Entering.{is_entering}
-use Rattle.napi_types.specs.Environment.{Environment}
-use Rattle.napi_types.specs.Frames.{Frame, caller_of, cause_of, duty_of, is_hub_duty, local_frames}
-use Rattle.napi_types.specs.Hooked.{is_late, IsHooked}
-use Rattle.napi_types.specs.Hooks.{last_hook}
-use Rattle.napi_types.specs.Lists.{tail}
-use Rattle.napi_types.specs.Loop.{ticket_in, next_ticket}
-use Rattle.napi_types.specs.Phases.{next_phase}
-use Rattle.napi_types.specs.Refusals.{refusal, early_refusal, depth_refusal}
-use Rattle.napi_types.specs.Room.{one_if, gone_place, reserved_journal, need, is_full}
-use Rattle.napi_types.specs.Tickets.{begun_in, may_begin_in, ticket_change}
+use Rattle.napi_types.specs.plain.Built.{is_calling}
+use Rattle.napi_types.specs.plain.Lists.{tail}
+use Rattle.napi_types.specs.plain.Phases.{next_phase}
+use Rattle.napi_types.specs.plain.Room.{one_if, gone_place, reserved_journal, need, is_full}
+use Rattle.napi_types.specs.parts.Book.{Book, Registration, is_registered, is_due, registration_at, lowest_due, owed_tickets, made_due, made_ended, moved_at}
+use Rattle.napi_types.specs.parts.Frames.{Frame, caller_of, cause_of, duty_of, is_hub_duty, local_frames}
+use Rattle.napi_types.specs.parts.Hooks.{last_hook}
+use Rattle.napi_types.specs.environment.Calls.{answer_unless_deep}
+use Rattle.napi_types.specs.environment.Changes.{call_change, number_of, book_in, in_phase}
+use Rattle.napi_types.specs.environment.Ends.{duty_ended, end_change_by, outermost_end_change, end_change}
+use Rattle.napi_types.specs.environment.Entering.{is_entering}
+use Rattle.napi_types.specs.environment.Environment.{Environment}
+use Rattle.napi_types.specs.environment.Hooked.{is_late, IsHooked}
+use Rattle.napi_types.specs.environment.Refusals.{refusal, early_refusal, depth_refusal}
+use Rattle.napi_types.specs.environment.Tickets.{begun_in, may_begin_in, ticket_change}
+use Rattle.napi_types.specs.runs.Loop.{ticket_in, next_ticket}
+use Rattle.napi_types.proofs.parts.BookSteps.{step-length}
+use Rattle.napi_types.proofs.parts.Books.{owed-due_where, owed-begun, IsDueAt, lowest-due, length-moved}
+use Rattle.napi_types.proofs.environment.Answers.{course-parts, KeepsButAsk, call_change-keeps, call-reserved}
+use Rattle.napi_types.proofs.environment.FrameChanges.{book_left, owed-left, KeepsButFrame, ended-keeps}
+use Rattle.napi_types.proofs.environment.HookedSteps.{hooked-called, hooked-ended, hooked-begun, hooked-phase}
 use Rattle.env_core.specs.Journal.{Pages}
 use Rattle.env_core.specs.Core.{Core, IsCore, after_change, room_in}
 use Rattle.env_core.specs.State.{Calls}
 use Rattle.env_core.specs.Steps.{Replies}
-use Rattle.napi_types.proofs.Answers.{course-parts, KeepsButAsk, call_change-keeps, call-reserved}
-use Rattle.napi_types.proofs.Books.{owed-due_where, owed-begun, IsDueAt, lowest-due, length-moved}
-use Rattle.napi_types.proofs.BookSteps.{step-length}
-use Rattle.napi_types.proofs.FrameChanges.{book_left, owed-left, KeepsButFrame, ended-keeps}
-use Rattle.napi_types.proofs.HookedSteps.{hooked-called, hooked-ended, hooked-begun, hooked-phase}
 use Rattle.env_core.proofs.Beginning.{IsUnder, last-registered}
 
 -- the core of an environment and a journal

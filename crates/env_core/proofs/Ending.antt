@@ -1,12 +1,12 @@
 -- What stays of a state where a frame ends.
 use Rattle.std.proofs.Common.{◌≡◌, ℕ, ◌+◌, List, [], ◌∷◌, ◌++◌, length, refl, ap, sym, ◌∙◌, Option, Some, IfSome, arith}
 use Rattle.std.specs.List.{All}
-use Rattle.napi_types.specs.Frames.{Frame}
-use Rattle.napi_types.specs.Graph.{StoreState, IsLive}
-use Rattle.napi_types.specs.References.{ReferenceMap}
-use Rattle.napi_types.specs.Lists.{tail}
-use Rattle.napi_types.specs.Scopes.{Held, FrameScopes, held_by_scopes, held_by_frames}
-use Rattle.napi_types.specs.ScopeChanges.{hold_in}
+use Rattle.napi_types.specs.plain.Lists.{tail}
+use Rattle.napi_types.specs.parts.Frames.{Frame}
+use Rattle.napi_types.specs.parts.Graph.{StoreState, IsLive}
+use Rattle.napi_types.specs.parts.References.{ReferenceMap}
+use Rattle.napi_types.specs.parts.ScopeChanges.{hold_in}
+use Rattle.napi_types.specs.parts.Scopes.{Held, FrameScopes, held_by_scopes, held_by_frames}
 use Rattle.handle_scope.specs.HandleScopes.{HandleScopes, without_frame_scopes, without_call_scopes, with_issued_handle}
 use Rattle.env_values.proofs.Giving.{issued-live}
 use Rattle.env_core.specs.State.{IsState, is_by_call}

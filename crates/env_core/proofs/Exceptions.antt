@@ -10,24 +10,24 @@ use Rattle.napi_types.specs.declared.ids.TextNo.{TextNo}
 use Rattle.napi_types.specs.declared.ids.ValueId.{ValueId}
 use Rattle.napi_types.specs.declared.status.Status.{Status}
 use Rattle.napi_types.specs.declared.status.Status.TheVariants as status
-use Rattle.napi_types.specs.Calls.{answer_unless, answer_unless_deep, answer}
-use Rattle.napi_types.specs.Built.{is_calling}
-use Rattle.napi_types.specs.Changes.{number_of}
-use Rattle.napi_types.specs.Environment.{Environment, with_heap}
-use Rattle.napi_types.specs.ExceptionCalls.{with_pending, with_thrown_error}
-use Rattle.napi_types.specs.Frames.{Frame}
-use Rattle.napi_types.specs.Graph.{StoreState, IsLive, number_in}
-use Rattle.napi_types.specs.Heap.{Heap, handle_value}
-use Rattle.napi_types.specs.HeapChanges.{with_handle, with_thrown, thrown_number}
-use Rattle.napi_types.specs.Lists.{unless}
-use Rattle.napi_types.specs.References.{ReferenceMap}
-use Rattle.napi_types.specs.NamedNumbers.{is_known}
-use Rattle.napi_types.specs.Moments.{moment_refusal}
-use Rattle.napi_types.specs.Refusals.{refusal_in, timely_refusal, early_refusal, depth_refusal}
-use Rattle.napi_types.specs.Replies.{Answer, accepts, plain}
-use Rattle.napi_types.specs.Scopes.{gives}
-use Rattle.napi_types.specs.ScopeChanges.{hold_in}
-use Rattle.napi_types.specs.Values.{undefined_value}
+use Rattle.napi_types.specs.plain.Built.{is_calling}
+use Rattle.napi_types.specs.plain.Lists.{unless}
+use Rattle.napi_types.specs.plain.Replies.{Answer, accepts, plain}
+use Rattle.napi_types.specs.parts.Frames.{Frame}
+use Rattle.napi_types.specs.parts.Graph.{StoreState, IsLive, number_in}
+use Rattle.napi_types.specs.parts.Heap.{Heap, handle_value}
+use Rattle.napi_types.specs.parts.HeapChanges.{with_handle, with_thrown, thrown_number}
+use Rattle.napi_types.specs.parts.NamedNumbers.{is_known}
+use Rattle.napi_types.specs.parts.References.{ReferenceMap}
+use Rattle.napi_types.specs.parts.ScopeChanges.{hold_in}
+use Rattle.napi_types.specs.parts.Scopes.{gives}
+use Rattle.napi_types.specs.parts.Values.{undefined_value}
+use Rattle.napi_types.specs.environment.Calls.{answer_unless, answer_unless_deep, answer}
+use Rattle.napi_types.specs.environment.Changes.{number_of}
+use Rattle.napi_types.specs.environment.Environment.{Environment, with_heap}
+use Rattle.napi_types.specs.environment.ExceptionCalls.{with_pending, with_thrown_error}
+use Rattle.napi_types.specs.environment.Moments.{moment_refusal}
+use Rattle.napi_types.specs.environment.Refusals.{refusal_in, timely_refusal, early_refusal, depth_refusal}
 use Rattle.handle_scope.specs.HandleScopes.{HandleScopes, with_issued_handle}
 use Rattle.env_values.specs.Seen.{heap_of}
 use Rattle.env_values.proofs.Giving.{issued-live}

@@ -3,13 +3,13 @@ use Rattle.std.proofs.Common.{◌≡◌, ◌∙◌, ℕ, ◌≤◌, ◌==◌, �
 use Rattle.std.specs.List.{All, list_any, filter_map, cons_option}
 use Rattle.std.proofs.lemmas.List.Elements.{All-head, All-tail, All-cons, All-nil, All-append, All-filter, All-map}
 use Rattle.std.proofs.lemmas.List.Folds.{list_any-append}
-use Rattle.napi_types.specs.Attachments.{Wrapped, Tagged, Attached, Attachments, left_on, tickets_where, hangs_on}
-use Rattle.napi_types.specs.Book.{Book, due_where}
-use Rattle.napi_types.specs.Collection.{is_freed}
-use Rattle.napi_types.specs.Graph.{StoreState, IsSoundStore, IsLive, number_in}
-use Rattle.napi_types.specs.Lists.{has_number}
+use Rattle.napi_types.specs.plain.Lists.{has_number}
+use Rattle.napi_types.specs.parts.Attachments.{Wrapped, Tagged, Attached, Attachments, left_on, tickets_where, hangs_on}
+use Rattle.napi_types.specs.parts.Book.{Book, due_where}
+use Rattle.napi_types.specs.parts.Graph.{StoreState, IsSoundStore, IsLive, number_in}
+use Rattle.napi_types.specs.environment.Collection.{is_freed}
+use Rattle.napi_types.proofs.plain.Found.{passing, map-rising, as_map-kept}
 use Rattle.finalizer_queue.proofs.Moves.{length-due_where}
-use Rattle.napi_types.proofs.Found.{passing, map-rising, as_map-kept}
 use Rattle.wrap_tag.specs.Wraps.{AreGiven}
 use Rattle.wrap_tag.proofs.Dues.{due_where-same}
 use Rattle.env_core.specs.Attaching.{seen_wrap, seen_tag, seen_attached, attachments_seen, IsGiven, IsAttached}

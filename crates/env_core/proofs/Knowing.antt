@@ -4,10 +4,10 @@ use Rattle.std.specs.List.{list_all}
 use Rattle.napi_types.specs.declared.call.Args.{Args}
 use Rattle.napi_types.specs.declared.call.Call.TheVariants as call
 use Rattle.napi_types.specs.declared.ids.HandleId.{HandleId}
-use Rattle.napi_types.specs.Heap.{Heap}
-use Rattle.napi_types.specs.CallFacts.{handle_if}
-use Rattle.napi_types.specs.NamedNumbers.{is_known}
-use Rattle.napi_types.specs.Scopes.{gives}
+use Rattle.napi_types.specs.plain.CallFacts.{handle_if}
+use Rattle.napi_types.specs.parts.Heap.{Heap}
+use Rattle.napi_types.specs.parts.NamedNumbers.{is_known}
+use Rattle.napi_types.specs.parts.Scopes.{gives}
 
 and-true : (a : Bool) → a && true ≡ a
 and-true true = refl

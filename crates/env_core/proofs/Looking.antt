@@ -5,12 +5,12 @@ use Rattle.napi_types.specs.declared.body.Body.TheVariants as body
 use Rattle.napi_types.specs.declared.ids.HandleId.{HandleId}
 use Rattle.napi_types.specs.declared.ids.ValueId.{ValueId}
 use Rattle.napi_types.specs.declared.status.Status.TheVariants as status
-use Rattle.napi_types.specs.ExpectedKinds.{expects}
-use Rattle.napi_types.specs.Graph.{StoreState, IsLive, number_in, value_of, graph_of, renamed}
-use Rattle.napi_types.specs.Heap.{handle_value, handle_body}
-use Rattle.napi_types.specs.Lists.{unless}
-use Rattle.napi_types.specs.Scopes.{gives}
-use Rattle.napi_types.specs.Values.{Value, undefined_value, value_at}
+use Rattle.napi_types.specs.plain.Lists.{unless}
+use Rattle.napi_types.specs.parts.ExpectedKinds.{expects}
+use Rattle.napi_types.specs.parts.Graph.{StoreState, IsLive, number_in, value_of, graph_of, renamed}
+use Rattle.napi_types.specs.parts.Heap.{handle_value, handle_body}
+use Rattle.napi_types.specs.parts.Scopes.{gives}
+use Rattle.napi_types.specs.parts.Values.{Value, undefined_value, value_at}
 use Rattle.handle_scope.specs.HandleScopes.{HandleScopes}
 use Rattle.env_values.specs.Seen.{heap_of, HoldsLive}
 use Rattle.env_core.specs.declared.handles.Takes.{Takes}

@@ -12,19 +12,19 @@ use Rattle.napi_types.specs.declared.ids.HandleId.{HandleId}
 use Rattle.napi_types.specs.declared.ids.RefId.{RefId}
 use Rattle.napi_types.specs.declared.status.Status.{Status}
 use Rattle.napi_types.specs.declared.status.Status.TheVariants as status
-use Rattle.napi_types.specs.Calls.{effect, answer_unless}
-use Rattle.napi_types.specs.Changes.{number_of, is_fresh_result}
-use Rattle.napi_types.specs.Environment.{Environment, in_heap}
-use Rattle.napi_types.specs.Graph.{StoreState, IsLive, number_in}
-use Rattle.napi_types.specs.Heap.{Heap, handle_value}
-use Rattle.napi_types.specs.HeapChanges.{with_handle, handle_of}
-use Rattle.napi_types.specs.Lists.{found, has, has_number, with_number}
-use Rattle.napi_types.specs.ReferenceCalls.{counted_up, value_told}
-use Rattle.napi_types.specs.References.{Reference, ReferenceMap, has_reference, reference_at, referred_value, reference_count, with_reference, without_reference, with_count}
-use Rattle.napi_types.specs.ReferenceRefusals.{references_of, count_refusal, reference_refusal}
-use Rattle.napi_types.specs.Refusals.{refusal_in, timely_refusal}
-use Rattle.napi_types.specs.Replies.{Answer, accepts, plain}
-use Rattle.napi_types.proofs.Maps.{map-filter, map-with_record}
+use Rattle.napi_types.specs.plain.Lists.{found, has, has_number, with_number}
+use Rattle.napi_types.specs.plain.Replies.{Answer, accepts, plain}
+use Rattle.napi_types.specs.parts.Graph.{StoreState, IsLive, number_in}
+use Rattle.napi_types.specs.parts.Heap.{Heap, handle_value}
+use Rattle.napi_types.specs.parts.HeapChanges.{with_handle, handle_of}
+use Rattle.napi_types.specs.parts.ReferenceRefusals.{references_of, count_refusal, reference_refusal}
+use Rattle.napi_types.specs.parts.References.{Reference, ReferenceMap, has_reference, reference_at, referred_value, reference_count, with_reference, without_reference, with_count}
+use Rattle.napi_types.specs.environment.Calls.{effect, answer_unless}
+use Rattle.napi_types.specs.environment.Changes.{number_of, is_fresh_result}
+use Rattle.napi_types.specs.environment.Environment.{Environment, in_heap}
+use Rattle.napi_types.specs.environment.ReferenceCalls.{counted_up, value_told}
+use Rattle.napi_types.specs.environment.Refusals.{refusal_in, timely_refusal}
+use Rattle.napi_types.proofs.plain.Maps.{map-filter, map-with_record}
 use Rattle.handle_scope.specs.HandleScopes.{HandleScopes}
 use Rattle.env_values.specs.Seen.{heap_of}
 use Rattle.env_values.proofs.Giving.{given-answer}

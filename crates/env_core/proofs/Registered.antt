@@ -16,26 +16,26 @@ use Rattle.napi_types.specs.declared.entry.Reply.{Reply}
 use Rattle.napi_types.specs.declared.ids.HandleId.{HandleId}
 use Rattle.napi_types.specs.declared.ids.Ticket.{Ticket}
 use Rattle.napi_types.specs.declared.status.Status.TheVariants as status
-use Rattle.napi_types.specs.Attachments.{Wrapped, Attached, Attachments, wrap_of, wrap_ticket, with_wrap, without_wrap, with_attached}
-use Rattle.napi_types.specs.Book.{Book, Registration, made_withdrawn, new_ticket, with_registration}
-use Rattle.napi_types.specs.Calls.{effect}
-use Rattle.napi_types.specs.Changes.{number_of, is_fresh_result}
-use Rattle.napi_types.specs.Environment.{Environment, in_heap}
-use Rattle.napi_types.specs.ExternalCalls.{attached_if}
-use Rattle.napi_types.specs.Frames.{Frame}
-use Rattle.napi_types.specs.Graph.{StoreState, IsSoundStore, IsLive, number_in}
-use Rattle.napi_types.specs.Heap.{Heap, handle_value}
-use Rattle.napi_types.specs.HeapChanges.{new_value}
-use Rattle.napi_types.specs.Lists.{has}
-use Rattle.napi_types.specs.ReferenceCalls.{with_references}
-use Rattle.napi_types.specs.References.{ReferenceMap}
-use Rattle.napi_types.specs.Refusals.{timely_refusal}
-use Rattle.napi_types.specs.Registering.{finalizer_of, finalizer_if, ticket_if, registering_if, registered_only, withdrawing}
-use Rattle.napi_types.specs.Replies.{Answer, accepts}
-use Rattle.napi_types.specs.WrapCalls.{referring_if}
-use Rattle.napi_types.specs.ScopeChanges.{hold_in}
-use Rattle.napi_types.proofs.Books.{length-moved}
-use Rattle.napi_types.proofs.Maps.{All-with_record, map-with_record}
+use Rattle.napi_types.specs.plain.Lists.{has}
+use Rattle.napi_types.specs.plain.Replies.{Answer, accepts}
+use Rattle.napi_types.specs.parts.Attachments.{Wrapped, Attached, Attachments, wrap_of, wrap_ticket, with_wrap, without_wrap, with_attached}
+use Rattle.napi_types.specs.parts.Book.{Book, Registration, made_withdrawn, new_ticket, with_registration}
+use Rattle.napi_types.specs.parts.Frames.{Frame}
+use Rattle.napi_types.specs.parts.Graph.{StoreState, IsSoundStore, IsLive, number_in}
+use Rattle.napi_types.specs.parts.Heap.{Heap, handle_value}
+use Rattle.napi_types.specs.parts.HeapChanges.{new_value}
+use Rattle.napi_types.specs.parts.References.{ReferenceMap}
+use Rattle.napi_types.specs.parts.ScopeChanges.{hold_in}
+use Rattle.napi_types.specs.environment.Calls.{effect}
+use Rattle.napi_types.specs.environment.Changes.{number_of, is_fresh_result}
+use Rattle.napi_types.specs.environment.Environment.{Environment, in_heap}
+use Rattle.napi_types.specs.environment.ExternalCalls.{attached_if}
+use Rattle.napi_types.specs.environment.ReferenceCalls.{with_references}
+use Rattle.napi_types.specs.environment.Refusals.{timely_refusal}
+use Rattle.napi_types.specs.environment.Registering.{finalizer_of, finalizer_if, ticket_if, registering_if, registered_only, withdrawing}
+use Rattle.napi_types.specs.environment.WrapCalls.{referring_if}
+use Rattle.napi_types.proofs.plain.Maps.{All-with_record, map-with_record}
+use Rattle.napi_types.proofs.parts.Books.{length-moved}
 use Rattle.handle_scope.specs.HandleScopes.{HandleScopes}
 use Rattle.env_values.specs.Seen.{seen_frame, heap_of}
 use Rattle.env_core.specs.Attaching.{seen_wrap, seen_attached, attachments_seen, IsGiven, IsAttached, target_refusal}

@@ -5,9 +5,9 @@ use Rattle.std.specs.Option.{option_or}
 use Rattle.std.proofs.lemmas.Bool.{ltb-true}
 use Rattle.std.proofs.lemmas.List.{map-append}
 use Rattle.std.proofs.lemmas.List.Elements.{All-head, All-tail, All-filter}
-use Rattle.napi_types.specs.Lists.{found, has, with_record, as_map}
-use Rattle.napi_types.proofs.Found.{same-tells, same-self, IsRising, apart-below, found-above, found-later, found-append, found-as_map, has-found, passing, rising-as_map, found-same, map-rising, as_map-filter, parts-rising}
-use Rattle.napi_types.proofs.Maps.{list_any-with_record}
+use Rattle.napi_types.specs.plain.Lists.{found, has, with_record, as_map}
+use Rattle.napi_types.proofs.plain.Found.{same-tells, same-self, IsRising, apart-below, found-above, found-later, found-append, found-as_map, has-found, passing, rising-as_map, found-same, map-rising, as_map-filter, parts-rising}
+use Rattle.napi_types.proofs.plain.Maps.{list_any-with_record}
 
 -- the renaming keeps the numbers of this kind apart, and `see` renames a record
 module _ {A : Type 0} (number : A → ℕ) (rename : ℕ → ℕ) (see : A → A) (renames : (x : A) → number (see x) ≡ rename (number x))

@@ -6,14 +6,14 @@ use Rattle.std.proofs.lemmas.List.Elements.{filter_map-append, All-nil, All-cons
 use Rattle.std.proofs.lemmas.List.Folds.{list_any-append}
 use Rattle.std.proofs.lemmas.Bool.{or_cases, or_left, or_right, eqb-true, eq-eqb}
 use Rattle.std.specs.Option.{option_to_list}
-use Rattle.napi_types.specs.Environment.{Environment}
-use Rattle.napi_types.specs.Graph.{StoreState, IsLive, number_in}
-use Rattle.napi_types.specs.Lists.{has_number, HaveSameNumbers}
-use Rattle.napi_types.specs.Reach.{numbers}
-use Rattle.napi_types.specs.References.{Reference, ReferenceMap, strong_value, strong_values}
-use Rattle.napi_types.specs.Roots.{roots}
-use Rattle.napi_types.specs.Scopes.{Held, Scope, FrameScopes, held_by_scopes, held_by_frame, held_by_frames}
-use Rattle.napi_types.specs.Values.{starting_values}
+use Rattle.napi_types.specs.plain.Lists.{has_number, HaveSameNumbers}
+use Rattle.napi_types.specs.parts.Graph.{StoreState, IsLive, number_in}
+use Rattle.napi_types.specs.parts.Reach.{numbers}
+use Rattle.napi_types.specs.parts.References.{Reference, ReferenceMap, strong_value, strong_values}
+use Rattle.napi_types.specs.parts.Scopes.{Held, Scope, FrameScopes, held_by_scopes, held_by_frame, held_by_frames}
+use Rattle.napi_types.specs.parts.Values.{starting_values}
+use Rattle.napi_types.specs.environment.Environment.{Environment}
+use Rattle.napi_types.specs.environment.Roots.{roots}
 use Rattle.handle_scope.specs.HandleScopes.{HandleScopes, held_places, free_place, frame_places, handle_places}
 use Rattle.env_values.specs.Seen.{seen_held, seen_scope, seen_frame, heap_of, HoldsLive}
 use Rattle.napi_reference.specs.Places.{strong_in}

@@ -10,22 +10,22 @@ use Rattle.napi_types.specs.declared.ids.ScopeKind.{ScopeKind}
 use Rattle.napi_types.specs.declared.ids.ScopeKind.TheVariants as scope_kind
 use Rattle.napi_types.specs.declared.status.Status.{Status}
 use Rattle.napi_types.specs.declared.status.Status.TheVariants as status
-use Rattle.napi_types.specs.AttachmentRefusals.{attachment_refusal}
-use Rattle.napi_types.specs.Calls.{effect, answer_unless}
-use Rattle.napi_types.specs.Environment.{Environment, with_heap, in_heap}
-use Rattle.napi_types.specs.Frames.{Frame}
-use Rattle.napi_types.specs.Graph.{StoreState, IsLive, number_in}
-use Rattle.napi_types.specs.Heap.{Heap, handle_value}
-use Rattle.napi_types.specs.HeapChanges.{in_scopes}
-use Rattle.napi_types.specs.Lists.{first_changed, unless}
-use Rattle.napi_types.specs.References.{ReferenceMap}
-use Rattle.napi_types.specs.Refusals.{refusal_in, attached_refusal, timely_refusal}
-use Rattle.napi_types.specs.Replies.{Answer, accepts, plain}
-use Rattle.napi_types.specs.ScopeCalls.{with_escaped}
-use Rattle.napi_types.specs.Scopes.{Held, FrameScopes, gives, opened_scopes}
-use Rattle.napi_types.specs.ScopeChanges.{open_in, close_in, escape_in}
-use Rattle.napi_types.specs.ScopeRefusals.{closing, escaping}
-use Rattle.napi_types.specs.Values.{undefined_value}
+use Rattle.napi_types.specs.plain.Lists.{first_changed, unless}
+use Rattle.napi_types.specs.plain.Replies.{Answer, accepts, plain}
+use Rattle.napi_types.specs.parts.AttachmentRefusals.{attachment_refusal}
+use Rattle.napi_types.specs.parts.Frames.{Frame}
+use Rattle.napi_types.specs.parts.Graph.{StoreState, IsLive, number_in}
+use Rattle.napi_types.specs.parts.Heap.{Heap, handle_value}
+use Rattle.napi_types.specs.parts.HeapChanges.{in_scopes}
+use Rattle.napi_types.specs.parts.References.{ReferenceMap}
+use Rattle.napi_types.specs.parts.ScopeCalls.{with_escaped}
+use Rattle.napi_types.specs.parts.ScopeChanges.{open_in, close_in, escape_in}
+use Rattle.napi_types.specs.parts.ScopeRefusals.{closing, escaping}
+use Rattle.napi_types.specs.parts.Scopes.{Held, FrameScopes, gives, opened_scopes}
+use Rattle.napi_types.specs.parts.Values.{undefined_value}
+use Rattle.napi_types.specs.environment.Calls.{effect, answer_unless}
+use Rattle.napi_types.specs.environment.Environment.{Environment, with_heap, in_heap}
+use Rattle.napi_types.specs.environment.Refusals.{refusal_in, attached_refusal, timely_refusal}
 use Rattle.handle_scope.specs.HandleScopes.{HandleScopes, is_fresh_scope, with_open_scope, without_innermost_scope, with_escaped_handle}
 use Rattle.env_values.specs.Seen.{heap_of}
 use Rattle.env_values.proofs.Held.{escaped-holds}

@@ -7,11 +7,11 @@ use Rattle.std.proofs.lemmas.List.Elements.{All-nil, All-cons, All-head, All-tai
 use Rattle.napi_types.specs.declared.ids.ScopeKind.{ScopeKind}
 use Rattle.napi_types.specs.declared.ids.ScopeKind.TheVariants as scope_kind
 use Rattle.napi_types.specs.declared.status.Status.TheVariants as status
-use Rattle.napi_types.specs.Graph.{StoreState}
-use Rattle.napi_types.specs.Lists.{first_changed, tail, when}
-use Rattle.napi_types.specs.Scopes.{Held, Scope, FrameScopes, held_by_scopes, held_by_frames, opened_scopes}
-use Rattle.napi_types.specs.ScopeChanges.{open_in, close_in}
-use Rattle.napi_types.specs.ScopeRefusals.{has_scope, is_kind, closing, escapable_scope, refuses_escape, escaping}
+use Rattle.napi_types.specs.plain.Lists.{first_changed, tail, when}
+use Rattle.napi_types.specs.parts.Graph.{StoreState}
+use Rattle.napi_types.specs.parts.ScopeChanges.{open_in, close_in}
+use Rattle.napi_types.specs.parts.ScopeRefusals.{has_scope, is_kind, closing, escapable_scope, refuses_escape, escaping}
+use Rattle.napi_types.specs.parts.Scopes.{Held, Scope, FrameScopes, held_by_scopes, held_by_frames, opened_scopes}
 use Rattle.env_values.specs.Seen.{seen_held, seen_scope, seen_frame}
 
 -- WHAT IS SEEN

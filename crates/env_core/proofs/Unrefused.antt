@@ -6,14 +6,14 @@ use Rattle.napi_types.specs.declared.call.Call.TheVariants as call
 use Rattle.napi_types.specs.declared.ids.ScopeKind.{ScopeKind}
 use Rattle.napi_types.specs.declared.ids.ScopeKind.TheVariants as scope_kind
 use Rattle.napi_types.specs.declared.ids.TextNo.{TextNo}
-use Rattle.napi_types.specs.Built.{is_value_call}
-use Rattle.napi_types.specs.Environment.{Environment}
-use Rattle.napi_types.specs.Graph.{StoreState}
-use Rattle.napi_types.specs.Moments.{moment_refusal}
-use Rattle.napi_types.specs.NamedNumbers.{is_known}
-use Rattle.napi_types.specs.ReferenceRefusals.{reference_refusal}
-use Rattle.napi_types.specs.References.{ReferenceMap}
-use Rattle.napi_types.specs.Refusals.{refusal_in, timely_refusal, early_refusal}
+use Rattle.napi_types.specs.plain.Built.{is_value_call}
+use Rattle.napi_types.specs.parts.Graph.{StoreState}
+use Rattle.napi_types.specs.parts.NamedNumbers.{is_known}
+use Rattle.napi_types.specs.parts.ReferenceRefusals.{reference_refusal}
+use Rattle.napi_types.specs.parts.References.{ReferenceMap}
+use Rattle.napi_types.specs.environment.Environment.{Environment}
+use Rattle.napi_types.specs.environment.Moments.{moment_refusal}
+use Rattle.napi_types.specs.environment.Refusals.{refusal_in, timely_refusal, early_refusal}
 use Rattle.env_core.specs.State.{opening_call}
 use Rattle.env_core.proofs.Exceptions.{thrown-refusal}
 use Rattle.env_core.proofs.Referring.{referring, NamesReference, by-reference, seen-refusal}

@@ -6,32 +6,32 @@ use Rattle.std.proofs.lemmas.List.Elements.{All-nil, All-cons, All-head, All-tai
 use Rattle.napi_types.specs.declared.call.Call.{Call}
 use Rattle.napi_types.specs.declared.call.Call.TheVariants as call
 use Rattle.napi_types.specs.declared.status.Status.{Status}
-use Rattle.napi_types.specs.AttachmentRefusals.{attachment_refusal}
-use Rattle.napi_types.specs.Attachments.{Attachments}
-use Rattle.napi_types.specs.Built.{is_value_call}
 use Rattle.napi_types.specs.declared.entry.Reply.{Reply}
-use Rattle.napi_types.specs.Heap.{Heap}
-use Rattle.napi_types.specs.Frames.{caller_of}
-use Rattle.napi_types.specs.Graph.{StoreState, IsLive}
-use Rattle.napi_types.specs.Replies.{Answer}
-use Rattle.napi_types.specs.Environment.{Environment, with_heap, in_heap}
-use Rattle.napi_types.specs.Calls.{addon_effect, heap_answer_unless, heap_answer, effect, answer_unless}
-use Rattle.napi_types.specs.References.{Reference, ReferenceMap}
-use Rattle.napi_types.specs.HookRefusals.{hook_refusal}
-use Rattle.napi_types.specs.Hooks.{Hook}
-use Rattle.napi_types.specs.Refusals.{refusal_in, attached_refusal, timely_refusal}
-use Rattle.napi_types.specs.ReferenceRefusals.{reference_refusal}
-use Rattle.napi_types.specs.Changes.{is_fresh_result, number_of}
+use Rattle.napi_types.specs.plain.Built.{is_value_call}
+use Rattle.napi_types.specs.plain.Replies.{Answer}
+use Rattle.napi_types.specs.parts.AttachmentRefusals.{attachment_refusal}
+use Rattle.napi_types.specs.parts.Attachments.{Attachments}
+use Rattle.napi_types.specs.parts.Book.{Book}
+use Rattle.napi_types.specs.parts.Frames.{caller_of}
+use Rattle.napi_types.specs.parts.Graph.{StoreState, IsLive}
+use Rattle.napi_types.specs.parts.Heap.{Heap}
+use Rattle.napi_types.specs.parts.HookRefusals.{hook_refusal}
+use Rattle.napi_types.specs.parts.Hooks.{Hook}
+use Rattle.napi_types.specs.parts.ReferenceRefusals.{reference_refusal}
+use Rattle.napi_types.specs.parts.References.{Reference, ReferenceMap}
+use Rattle.napi_types.specs.environment.Calls.{addon_effect, heap_answer_unless, heap_answer, effect, answer_unless}
+use Rattle.napi_types.specs.environment.Changes.{is_fresh_result, number_of}
+use Rattle.napi_types.specs.environment.Environment.{Environment, with_heap, in_heap}
+use Rattle.napi_types.specs.environment.Refusals.{refusal_in, attached_refusal, timely_refusal}
+use Rattle.napi_types.proofs.environment.Answers.{heap_answer-keeps}
 use Rattle.std.specs.Option.{option_or}
 use Rattle.handle_scope.specs.HandleScopes.{HandleScopes}
 use Rattle.env_values.specs.Seen.{seen_frame, heap_of, KeepsValues}
-use Rattle.napi_types.specs.Book.{Book}
 use Rattle.env_core.specs.Attaching.{attachments_seen, IsAttached}
 use Rattle.env_core.proofs.Attaching.{attachments-kept}
 use Rattle.env_core.proofs.Referring.{or-none}
 use Rattle.env_core.specs.Referring.{seen_reference, references_seen, RefersToLive}
 use Rattle.env_core.specs.State.{pending_seen, AnswersInTime}
-use Rattle.napi_types.proofs.Answers.{heap_answer-keeps}
 
 accepted-any : (addon : ℕ) (heap : Heap) (c : Call) (n : ℕ) → is_value_call c ≡ true → addon_effect addon heap c 0 ≡ addon_effect addon heap c n
 accepted-any addon heap call.OpenHandleScope n h = cc

@@ -6,14 +6,14 @@ use Rattle.napi_types.specs.declared.body.Body.{Body}
 use Rattle.napi_types.specs.declared.ids.HandleId.{HandleId}
 use Rattle.napi_types.specs.declared.status.Status.{Status}
 use Rattle.napi_types.specs.declared.status.Status.TheVariants as status
-use Rattle.napi_types.specs.Attachments.{Attachments, Wrapped, Tagged, Attached}
-use Rattle.napi_types.specs.Bodies.{is_object_like, is_taggable}
-use Rattle.napi_types.specs.Book.{Book}
-use Rattle.napi_types.specs.ExpectedKinds.{expects}
-use Rattle.napi_types.specs.Graph.{StoreState, IsLive, number_in}
-use Rattle.napi_types.specs.Heap.{Heap}
-use Rattle.napi_types.specs.Lists.{as_map, unless}
-use Rattle.napi_types.specs.Scopes.{gives}
+use Rattle.napi_types.specs.plain.Lists.{as_map, unless}
+use Rattle.napi_types.specs.parts.Attachments.{Attachments, Wrapped, Tagged, Attached}
+use Rattle.napi_types.specs.parts.Bodies.{is_object_like, is_taggable}
+use Rattle.napi_types.specs.parts.Book.{Book}
+use Rattle.napi_types.specs.parts.ExpectedKinds.{expects}
+use Rattle.napi_types.specs.parts.Graph.{StoreState, IsLive, number_in}
+use Rattle.napi_types.specs.parts.Heap.{Heap}
+use Rattle.napi_types.specs.parts.Scopes.{gives}
 use Rattle.env_core.specs.declared.handles.Takes.{Takes}
 use Rattle.env_core.specs.declared.handles.Takes.TheVariants as takes
 

@@ -4,12 +4,12 @@ use Rattle.std.specs.List.{All}
 use Rattle.napi_types.specs.declared.duties.DueInfo.{DueInfo}
 use Rattle.napi_types.specs.declared.entry.Cause.TheVariants as cause
 use Rattle.napi_types.specs.declared.entry.Entry.{Entry}
-use Rattle.napi_types.specs.Book.{Book, Registration, is_begun, is_at, registration_at, due_info}
-use Rattle.napi_types.specs.Duties.{duties_of}
-use Rattle.napi_types.specs.Environment.{Environment}
-use Rattle.napi_types.specs.Frames.{Frame}
-use Rattle.napi_types.specs.Loop.{next_ticket}
-use Rattle.napi_types.specs.Tickets.{ticket_change}
+use Rattle.napi_types.specs.parts.Book.{Book, Registration, is_begun, is_at, registration_at, due_info}
+use Rattle.napi_types.specs.parts.Duties.{duties_of}
+use Rattle.napi_types.specs.parts.Frames.{Frame}
+use Rattle.napi_types.specs.environment.Environment.{Environment}
+use Rattle.napi_types.specs.environment.Tickets.{ticket_change}
+use Rattle.napi_types.specs.runs.Loop.{next_ticket}
 use Rattle.finalizer_queue.specs.Kept.{ticket_number}
 
 -- each duty whose frame stands is that of a ticket that has begun

@@ -1,6 +1,6 @@
 -- The instance data of addons, as the machine sees it.
 use Rattle.std.specs.Prelude.{List, map, Option, option_map}
-use Rattle.napi_types.specs.InstanceData.{InstanceData, Instances}
+use Rattle.napi_types.specs.parts.InstanceData.{InstanceData, Instances}
 use Rattle.env_core.specs.declared.instances.InstanceData.{InstanceData as Kept}
 
 -- that of one addon

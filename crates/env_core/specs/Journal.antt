@@ -1,7 +1,7 @@
 -- The journal as a list of entries beside its promised places.
 use Rattle.std.specs.Prelude.{ℕ, ◌+◌, ◌<◌, ◌≤◌, List, length, min}
 use Rattle.napi_types.specs.declared.entry.Local.{Local}
-use Rattle.napi_types.specs.Room.{first_places, most_entries}
+use Rattle.napi_types.specs.plain.Room.{first_places, most_entries}
 
 -- the entries, how many places are promised, the limit, and the length of the history as it was noted last
 pub record Pages : Type 0 where

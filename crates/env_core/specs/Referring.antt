@@ -1,7 +1,7 @@
 -- References as the machine sees them.
 use Rattle.std.specs.Prelude.{map, option_map}
-use Rattle.napi_types.specs.Graph.{StoreState, IsLive, number_in}
-use Rattle.napi_types.specs.References.{Reference, ReferenceMap}
+use Rattle.napi_types.specs.parts.Graph.{StoreState, IsLive, number_in}
+use Rattle.napi_types.specs.parts.References.{Reference, ReferenceMap}
 use Rattle.napi_reference.specs.Places.{AllValues}
 
 -- a reference has the creation number of its value, where the crate below has the store's number

@@ -3,9 +3,9 @@ use Rattle.std.specs.Prelude.{◌≡◌, ℕ, Bool, true, false, ◌&&◌, ◌�
 use Rattle.napi_types.specs.declared.entry.Duty.{Duty}
 use Rattle.napi_types.specs.declared.entry.Out.{Out}
 use Rattle.napi_types.specs.declared.entry.Out.TheVariants as out
-use Rattle.napi_types.specs.Book.{Book, Registration, made_withdrawn, moved_at, new_ticket, ticket_duty, with_registration}
-use Rattle.napi_types.specs.Lists.{has_number}
-use Rattle.napi_types.specs.References.{ReferenceMap, with_reference}
+use Rattle.napi_types.specs.plain.Lists.{has_number}
+use Rattle.napi_types.specs.parts.Book.{Book, Registration, made_withdrawn, moved_at, new_ticket, ticket_duty, with_registration}
+use Rattle.napi_types.specs.parts.References.{ReferenceMap, with_reference}
 
 -- REGISTERED
 -- the ticket that the next registration gets, where there is something to register

@@ -2,12 +2,12 @@
 use Rattle.std.specs.Prelude.{◌≡◌, ℕ, List, ◌++◌, map, Option}
 use Rattle.std.specs.List.{All}
 use Rattle.std.specs.Option.{option_to_list}
-use Rattle.napi_types.specs.Graph.{StoreState, IsLive, number_in}
-use Rattle.napi_types.specs.Lists.{HaveSameNumbers}
-use Rattle.napi_types.specs.Reach.{numbers}
-use Rattle.napi_types.specs.References.{ReferenceMap, strong_values}
-use Rattle.napi_types.specs.Scopes.{held_by_frames}
-use Rattle.napi_types.specs.Values.{starting_values}
+use Rattle.napi_types.specs.plain.Lists.{HaveSameNumbers}
+use Rattle.napi_types.specs.parts.Graph.{StoreState, IsLive, number_in}
+use Rattle.napi_types.specs.parts.Reach.{numbers}
+use Rattle.napi_types.specs.parts.References.{ReferenceMap, strong_values}
+use Rattle.napi_types.specs.parts.Scopes.{held_by_frames}
+use Rattle.napi_types.specs.parts.Values.{starting_values}
 use Rattle.handle_scope.specs.HandleScopes.{HandleScopes}
 
 -- these name the starting values, in their order

@@ -1,6 +1,6 @@
 -- The frames that stand, as the machine sees them.
 use Rattle.std.specs.Prelude.{ℕ, ◌≤◌, true, List, length}
-use Rattle.napi_types.specs.Frames.{Frame, most_frames}
+use Rattle.napi_types.specs.parts.Frames.{Frame, most_frames}
 use Rattle.env_core.specs.declared.frames.StandingFrame.{StandingFrame}
 
 -- a frame as the machine sees it: it makes asks

@@ -12,18 +12,18 @@ use Rattle.napi_types.specs.declared.entry.Cause.TheVariants as cause
 use Rattle.napi_types.specs.declared.entry.Entry.{Entry}
 use Rattle.napi_types.specs.declared.entry.Reply.{Reply}
 use Rattle.napi_types.specs.declared.entry.Target.{Target}
-use Rattle.napi_types.specs.Frames.{Frame}
-use Rattle.napi_types.specs.Environment.{Environment}
-use Rattle.napi_types.specs.Calls.{answer_unless, answer}
-use Rattle.napi_types.specs.Changes.{call_change, number_of, is_fresh_result}
-use Rattle.napi_types.specs.Graph.{StoreState, IsLive, number_in}
-use Rattle.napi_types.specs.Entering.{is_entering, enter_change}
-use Rattle.napi_types.specs.FunctionCalls.{callee_of, call_gifts, receiver_handle, with_receiver}
-use Rattle.napi_types.specs.HeapChanges.{with_frame}
-use Rattle.napi_types.specs.References.{ReferenceMap}
-use Rattle.napi_types.specs.Refusals.{timely_refusal, refusal}
-use Rattle.napi_types.specs.Replies.{Answer}
-use Rattle.napi_types.specs.Properties.{most_names}
+use Rattle.napi_types.specs.plain.Replies.{Answer}
+use Rattle.napi_types.specs.parts.Frames.{Frame}
+use Rattle.napi_types.specs.parts.FunctionCalls.{callee_of, call_gifts, receiver_handle, with_receiver}
+use Rattle.napi_types.specs.parts.Graph.{StoreState, IsLive, number_in}
+use Rattle.napi_types.specs.parts.HeapChanges.{with_frame}
+use Rattle.napi_types.specs.parts.Properties.{most_names}
+use Rattle.napi_types.specs.parts.References.{ReferenceMap}
+use Rattle.napi_types.specs.environment.Calls.{answer_unless, answer}
+use Rattle.napi_types.specs.environment.Changes.{call_change, number_of, is_fresh_result}
+use Rattle.napi_types.specs.environment.Entering.{is_entering, enter_change}
+use Rattle.napi_types.specs.environment.Environment.{Environment}
+use Rattle.napi_types.specs.environment.Refusals.{timely_refusal, refusal}
 use Rattle.handle_scope.specs.HandleScopes.{HandleScopes}
 use Rattle.env_core.specs.declared.state.calling.Called.{Called}
 use Rattle.env_core.specs.declared.state.calling.Called.TheVariants as called_of

@@ -1,7 +1,7 @@
 //! The frames that stand.
 ghost use Rattle.std.specs.Prelude.{◌≡◌, ◌<◌, ◌≤◌, [], ◌∷◌, length, IfOk, option_map};
-ghost use Rattle.napi_types.specs.Frames.{most_frames, ask_counted, asks_made, most_asks};
-ghost use Rattle.napi_types.specs.Lists.{head, tail};
+ghost use Rattle.napi_types.specs.plain.Lists.{head, tail};
+ghost use Rattle.napi_types.specs.parts.Frames.{most_frames, ask_counted, asks_made, most_asks};
 ghost use Rattle.env_core.specs.Standing.{machine_frame};
 
 use napi_types::{Cause, Duty, NoMemory};
@@ -31,7 +31,7 @@ pub struct Frames {
 
 impl Model for Frames {
     ghost use Rattle.std.specs.Prelude.{List, map, reverse, vec_capacity};
-    ghost use Rattle.napi_types.specs.Frames.{Frame};
+    ghost use Rattle.napi_types.specs.parts.Frames.{Frame};
     ghost use Rattle.env_core.specs.Standing.{machine_frame as seen, IsStanding};
 
     ghost Value = { List Frame };

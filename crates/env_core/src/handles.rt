@@ -1,9 +1,9 @@
 //! The values of handles.
 ghost use Rattle.std.specs.Prelude.{◌≡◌, IfOk, OnOk};
 ghost use Rattle.std.specs.Result.{result_err};
-ghost use Rattle.napi_types.specs.FunctionCalls.{left_value};
-ghost use Rattle.napi_types.specs.Graph.{IsLive, IsSoundStore, number_in};
-ghost use Rattle.napi_types.specs.Heap.{handle_value, handle_body};
+ghost use Rattle.napi_types.specs.parts.FunctionCalls.{left_value};
+ghost use Rattle.napi_types.specs.parts.Graph.{IsLive, IsSoundStore, number_in};
+ghost use Rattle.napi_types.specs.parts.Heap.{handle_value, handle_body};
 ghost use Rattle.env_core.specs.Attaching.{is_accepted, target_refusal};
 ghost use Rattle.env_values.specs.Seen.{heap_of, HoldsLive};
 

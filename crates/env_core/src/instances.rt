@@ -1,6 +1,6 @@
 //! The instance data of addons.
 ghost use Rattle.std.specs.Prelude.{◌≡◌, replicate, None, IfOk, option_map};
-ghost use Rattle.napi_types.specs.InstanceData.{instance_number, instance_ticket, with_instance};
+ghost use Rattle.napi_types.specs.parts.InstanceData.{instance_number, instance_ticket, with_instance};
 
 use napi_types::{NoMemory, Ticket};
 use std::alloc::Global;
@@ -21,7 +21,7 @@ pub struct Instances {
 }
 
 impl Model for Instances {
-    ghost use Rattle.napi_types.specs.InstanceData.{Instances as Seen};
+    ghost use Rattle.napi_types.specs.parts.InstanceData.{Instances as Seen};
     ghost use Rattle.env_core.specs.Instancing.{instances_seen};
 
     ghost Value = { Seen };

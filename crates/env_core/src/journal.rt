@@ -1,6 +1,6 @@
 //! The journal: the entries of the environment's local events, and the places that are promised to further ones.
 ghost use Rattle.std.specs.Prelude.{◌≡◌, ℕ, ◌+◌, ◌-◌, ◌<◌, ◌≤◌, [], ◌∷◌, ◌++◌, length, min, IfOk, OnOk, OnErr, IfErr, ◌↔◌, ◌⊎◌};
-ghost use Rattle.napi_types.specs.Room.{first_places, most_entries};
+ghost use Rattle.napi_types.specs.plain.Room.{first_places, most_entries};
 ghost use Rattle.env_core.specs.Journal.{Exceeds};
 
 use napi_types::{Entry, Listed, Local, LocalList, NoMemory, Status};

@@ -1,8 +1,8 @@
 //! The roots of a collection.
 ghost use Rattle.std.specs.Prelude.{◌≡◌, ◌++◌, option_map, IfOk, OnOk, IfSome};
-ghost use Rattle.napi_types.specs.Graph.{IsLive};
-ghost use Rattle.napi_types.specs.Lists.{HaveSameNumbers};
-ghost use Rattle.napi_types.specs.References.{strong_values};
+ghost use Rattle.napi_types.specs.plain.Lists.{HaveSameNumbers};
+ghost use Rattle.napi_types.specs.parts.Graph.{IsLive};
+ghost use Rattle.napi_types.specs.parts.References.{strong_values};
 ghost use Rattle.std.specs.Option.{option_to_list};
 ghost use Rattle.value_store.specs.Changes.{numbers_of};
 ghost use Rattle.napi_reference.specs.Places.{map_of};

@@ -1,20 +1,20 @@
 //! The environment's state without its journal: values, scopes, the frames that stand, and how far the run has come.
 ghost use Rattle.std.specs.Prelude.{◌≡◌, ◌≢◌, ◌+◌, ◌<◌, ◌^◌, [], length, true, false, option_map, Some, None, IfOk, OnErr, IsTrue};
 ghost use Rattle.napi_types.specs.declared.call.Call.TheVariants as call_of;
-ghost use Rattle.napi_types.specs.Built.{is_built, is_calling, is_value_call};
-ghost use Rattle.napi_types.specs.Changes.{opening_change, init_change, gone_change, in_phase, with_noted_status, call_entry, host_entry as entry_of, host_told as told_of};
-ghost use Rattle.napi_types.specs.Environment.{new_environment};
-ghost use Rattle.napi_types.specs.Frames.{caller_of, asks_made, most_asks};
-ghost use Rattle.napi_types.specs.Hooked.{IsHooked};
-ghost use Rattle.napi_types.specs.Lists.{head};
-ghost use Rattle.napi_types.specs.Numbers.{napi_version};
+ghost use Rattle.napi_types.specs.plain.Built.{is_built, is_calling, is_value_call};
+ghost use Rattle.napi_types.specs.plain.Lists.{head};
+ghost use Rattle.napi_types.specs.plain.Numbers.{napi_version};
+ghost use Rattle.napi_types.specs.plain.Room.{is_growing};
+ghost use Rattle.napi_types.specs.parts.Frames.{caller_of, asks_made, most_asks};
+ghost use Rattle.napi_types.specs.parts.NamedNumbers.{is_known};
+ghost use Rattle.napi_types.specs.parts.Properties.{most_names};
+ghost use Rattle.napi_types.specs.environment.Changes.{opening_change, init_change, gone_change, in_phase, with_noted_status, call_entry, host_entry as entry_of, host_told as told_of};
+ghost use Rattle.napi_types.specs.environment.Environment.{new_environment};
+ghost use Rattle.napi_types.specs.environment.Hooked.{IsHooked};
+ghost use Rattle.napi_types.specs.environment.Moments.{is_tearing, moment_refusal};
+ghost use Rattle.napi_types.specs.environment.Refusals.{timely_refusal, early_refusal};
+ghost use Rattle.napi_types.specs.environment.Registering.{finalizer_if};
 ghost use Rattle.env_core.specs.Standing.{machine_frame};
-ghost use Rattle.napi_types.specs.NamedNumbers.{is_known};
-ghost use Rattle.napi_types.specs.Moments.{is_tearing, moment_refusal};
-ghost use Rattle.napi_types.specs.Refusals.{timely_refusal, early_refusal};
-ghost use Rattle.napi_types.specs.Registering.{finalizer_if};
-ghost use Rattle.napi_types.specs.Room.{is_growing};
-ghost use Rattle.napi_types.specs.Properties.{most_names};
 ghost use Rattle.finalizer_queue.specs.Rows.{registration_of};
 ghost use Rattle.env_core.specs.Core.{next_init};
 ghost use Rattle.env_core.specs.State.{HasNumbersFor, Calls, Answers, AnswersInTime, opening_call, closing_call};
@@ -71,7 +71,7 @@ pub struct State {
 
 impl Model for State {
     ghost use Rattle.std.specs.Prelude.{[]};
-    ghost use Rattle.napi_types.specs.Environment.{Environment};
+    ghost use Rattle.napi_types.specs.environment.Environment.{Environment};
 
     ghost Value = { Environment };
 

@@ -11,31 +11,31 @@ use Rattle.napi_types.specs.declared.entry.Reply.{Reply}
 use Rattle.napi_types.specs.declared.entry.Target.{Target}
 use Rattle.napi_types.specs.declared.entry.Out.{Out}
 use Rattle.napi_types.specs.declared.ids.HandleId.{HandleId}
-use Rattle.napi_types.specs.Built.{is_built, built_ask}
-use Rattle.napi_types.specs.Changes.{Change, number_of, is_fresh_result, call_change}
-use Rattle.napi_types.specs.Duties.{duties_of}
-use Rattle.napi_types.specs.Entering.{enter_change, asked_change}
-use Rattle.napi_types.specs.Frames.{Frame, ask_counted, most_asks}
-use Rattle.napi_types.specs.FunctionCalls.{callee_of, call_gifts}
-use Rattle.napi_types.specs.Lists.{tail}
-use Rattle.napi_types.specs.Machine.{Machine}
-use Rattle.napi_types.specs.Phases.{stage_of}
-use Rattle.napi_types.specs.Plan.{Plan, plan_of, caller_after_reply, with_addon_gifts, with_callee_gifts, registers_of}
-use Rattle.napi_types.specs.Refusals.{early_refusal, depth_refusal}
-use Rattle.napi_types.specs.Registers.{registers_after_reply}
-use Rattle.napi_types.specs.Room.{room_of, is_full, need}
-use Rattle.napi_types.specs.Step.{locally}
+use Rattle.napi_types.specs.plain.Built.{is_built, built_ask}
+use Rattle.napi_types.specs.plain.Lists.{tail}
+use Rattle.napi_types.specs.plain.Phases.{stage_of}
+use Rattle.napi_types.specs.plain.Room.{room_of, is_full, need}
+use Rattle.napi_types.specs.parts.Duties.{duties_of}
+use Rattle.napi_types.specs.parts.Frames.{Frame, ask_counted, most_asks}
+use Rattle.napi_types.specs.parts.FunctionCalls.{callee_of, call_gifts}
+use Rattle.napi_types.specs.scripts.Registers.{registers_after_reply}
+use Rattle.napi_types.specs.environment.Changes.{Change, number_of, is_fresh_result, call_change}
+use Rattle.napi_types.specs.environment.Entering.{enter_change, asked_change}
+use Rattle.napi_types.specs.environment.Refusals.{early_refusal, depth_refusal}
+use Rattle.napi_types.specs.runs.Machine.{Machine}
+use Rattle.napi_types.specs.runs.Plan.{Plan, plan_of, caller_after_reply, with_addon_gifts, with_callee_gifts, registers_of}
+use Rattle.napi_types.specs.runs.Step.{locally}
+use Rattle.napi_types.proofs.environment.Answers.{course-parts, answer-keeps}
+use Rattle.napi_types.proofs.environment.FrameChanges.{enter_change-keeps, asked_change-call_change, asked_change-enter_change, KeepsButFrames, asked_change-fits}
+use Rattle.napi_types.proofs.environment.Owners.{callee-owned}
+use Rattle.napi_types.proofs.environment.StandingFrames.{duties-asked}
+use Rattle.napi_types.proofs.all_runs.Rooms.{built-local}
 use Rattle.addon_trait.specs.Addons.{OthersStay}
 use Rattle.env_core.specs.Core.{Core, after_change}
 use Rattle.env_core.specs.Steps.{Replies, EntersBy, Enters}
 use Rattle.env_loop.specs.Recording.{AddonStates, machine_of, HasSeen, Continues}
 use Rattle.env_loop.specs.Runs.{IsSoundEnvironment, Holds}
 use Rattle.env_loop.specs.Turns.{IsTold, OnlyInnermostChanges, IsTurn}
-use Rattle.napi_types.proofs.Answers.{course-parts, answer-keeps}
-use Rattle.napi_types.proofs.FrameChanges.{enter_change-keeps, asked_change-call_change, asked_change-enter_change, KeepsButFrames, asked_change-fits}
-use Rattle.napi_types.proofs.Owners.{callee-owned}
-use Rattle.napi_types.proofs.Rooms.{built-local}
-use Rattle.napi_types.proofs.StandingFrames.{duties-asked}
 use Rattle.env_loop.proofs.Recordings.{local-grown}
 use Rattle.env_loop.proofs.Steps.{TellsNoFrame, reply-tells, taken-built, call-next, same-room}
 use Rattle.env_loop.proofs.Frames.{InFrame, in-stands, in-some, in-calls, sound-asked}

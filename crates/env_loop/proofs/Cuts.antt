@@ -8,25 +8,25 @@ use Rattle.napi_types.specs.declared.entry.Why.{Why}
 use Rattle.napi_types.specs.declared.entry.Why.TheVariants as why
 use Rattle.napi_types.specs.declared.status.Status.{Status}
 use Rattle.napi_types.specs.declared.status.Status.TheVariants as status
-use Rattle.napi_types.specs.Built.{is_built, built_ask}
-use Rattle.napi_types.specs.Changes.{may_call}
-use Rattle.napi_types.specs.Ends.{end_change}
-use Rattle.napi_types.specs.Frames.{Frame, asks_made, duty_of, is_hub_duty, most_asks}
-use Rattle.napi_types.specs.Hub.{Hub}
-use Rattle.napi_types.specs.Lists.{head, tail}
-use Rattle.napi_types.specs.Plan.{Plan, plan_of, Registers, registers_of}
-use Rattle.napi_types.specs.Registers.{plan_ask}
-use Rattle.napi_types.specs.Environment.{Environment}
-use Rattle.napi_types.specs.Room.{Room, room_of, is_full, is_growing, need, first_places, may_want_memory}
-use Rattle.napi_types.specs.Step.{may_cut}
-use Rattle.napi_types.specs.Setting.{Setting}
+use Rattle.napi_types.specs.plain.Built.{is_built, built_ask}
+use Rattle.napi_types.specs.plain.Lists.{head, tail}
+use Rattle.napi_types.specs.plain.Room.{Room, room_of, is_full, is_growing, need, first_places, may_want_memory}
+use Rattle.napi_types.specs.parts.Frames.{Frame, asks_made, duty_of, is_hub_duty, most_asks}
+use Rattle.napi_types.specs.scripts.Registers.{plan_ask}
+use Rattle.napi_types.specs.environment.Changes.{may_call}
+use Rattle.napi_types.specs.environment.Ends.{end_change}
+use Rattle.napi_types.specs.environment.Environment.{Environment}
+use Rattle.napi_types.specs.hub.Hub.{Hub}
+use Rattle.napi_types.specs.runs.Plan.{Plan, plan_of, Registers, registers_of}
+use Rattle.napi_types.specs.runs.Setting.{Setting}
+use Rattle.napi_types.specs.runs.Step.{may_cut}
+use Rattle.napi_types.proofs.environment.FrameEnds.{ended-ends}
+use Rattle.napi_types.proofs.all_runs.Rooms.{built-local}
 use Rattle.env_core.specs.Core.{Core, after_change, room_in}
 use Rattle.env_core.specs.Steps.{GrowsUnrefused, PassesFirstPlaces, StopsBy}
 use Rattle.env_loop.specs.Recording.{AddonStates, machine_of, why_stopped}
 use Rattle.env_loop.specs.Runs.{IsSoundEnvironment}
 use Rattle.env_loop.specs.Turns.{IsAsked, IsTurn}
-use Rattle.napi_types.proofs.FrameEnds.{ended-ends}
-use Rattle.napi_types.proofs.Rooms.{built-local}
 use Rattle.env_loop.proofs.Steps.{two_may, both_may, taken-built, cut-next, same-room}
 use Rattle.env_loop.proofs.Frames.{InFrame, in-stands, in-calls}
 use Rattle.env_loop.proofs.Registers.{told-from}

@@ -10,30 +10,30 @@ use Rattle.napi_types.specs.declared.entry.Entry.{Entry}
 use Rattle.napi_types.specs.declared.entry.Reply.{Reply}
 use Rattle.napi_types.specs.declared.entry.Why.{Why}
 use Rattle.napi_types.specs.declared.ids.HandleId.{HandleId}
-use Rattle.napi_types.specs.Built.{is_built, built_ask}
-use Rattle.napi_types.specs.Changes.{Change}
-use Rattle.napi_types.specs.Duties.{duties_of}
-use Rattle.napi_types.specs.Ends.{end_change}
-use Rattle.napi_types.specs.Environment.{Environment}
-use Rattle.napi_types.specs.Frames.{Frame, duty_of, is_hub_duty, at_last_ask, most_asks}
-use Rattle.napi_types.specs.Hub.{Hub}
-use Rattle.napi_types.specs.Lists.{head, tail}
-use Rattle.napi_types.specs.Machine.{Machine}
-use Rattle.napi_types.specs.Phases.{stage_of}
-use Rattle.napi_types.specs.Plan.{Plan, plan_of, caller_after_reply, after_event, Registers, registers_of}
-use Rattle.napi_types.specs.Registers.{registers_after_reply}
-use Rattle.napi_types.specs.Step.{locally, env_step}
-use Rattle.napi_types.specs.Setting.{Setting}
+use Rattle.napi_types.specs.plain.Built.{is_built, built_ask}
+use Rattle.napi_types.specs.plain.Lists.{head, tail}
+use Rattle.napi_types.specs.plain.Phases.{stage_of}
+use Rattle.napi_types.specs.parts.Duties.{duties_of}
+use Rattle.napi_types.specs.parts.Frames.{Frame, duty_of, is_hub_duty, at_last_ask, most_asks}
+use Rattle.napi_types.specs.scripts.Registers.{registers_after_reply}
+use Rattle.napi_types.specs.environment.Changes.{Change}
+use Rattle.napi_types.specs.environment.Ends.{end_change}
+use Rattle.napi_types.specs.environment.Environment.{Environment}
+use Rattle.napi_types.specs.hub.Hub.{Hub}
+use Rattle.napi_types.specs.runs.Machine.{Machine}
+use Rattle.napi_types.specs.runs.Plan.{Plan, plan_of, caller_after_reply, after_event, Registers, registers_of}
+use Rattle.napi_types.specs.runs.Setting.{Setting}
+use Rattle.napi_types.specs.runs.Step.{locally, env_step}
+use Rattle.napi_types.proofs.environment.Answers.{course-parts}
+use Rattle.napi_types.proofs.environment.FrameChanges.{KeepsButFrame, ended-keeps}
+use Rattle.napi_types.proofs.environment.FrameEnds.{Ends, ended-ends}
+use Rattle.napi_types.proofs.environment.Owners.{owned-ended}
+use Rattle.napi_types.proofs.environment.StandingFrames.{duties-plain}
 use Rattle.addon_trait.specs.Addons.{OthersStay}
 use Rattle.env_core.specs.Core.{Core, after_change}
 use Rattle.env_loop.specs.Recording.{AddonStates, machine_of, HasSeen, Continues}
 use Rattle.env_loop.specs.Runs.{IsSoundEnvironment, Holds}
 use Rattle.env_loop.specs.Turns.{IsTold, OnlyInnermostChanges, IsTurn}
-use Rattle.napi_types.proofs.Answers.{course-parts}
-use Rattle.napi_types.proofs.FrameChanges.{KeepsButFrame, ended-keeps}
-use Rattle.napi_types.proofs.FrameEnds.{Ends, ended-ends}
-use Rattle.napi_types.proofs.Owners.{owned-ended}
-use Rattle.napi_types.proofs.StandingFrames.{duties-plain}
 use Rattle.env_loop.proofs.Recordings.{local-grown}
 use Rattle.env_loop.proofs.Steps.{leave-next, by-env, ended-untold}
 use Rattle.env_loop.proofs.Frames.{head-stands, head-below, tail-below, InFrame, in-stands, in-some, in-asks, sound-ended}

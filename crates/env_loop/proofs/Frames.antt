@@ -6,25 +6,25 @@ use Rattle.napi_types.specs.declared.call.Ask.{Ask}
 use Rattle.napi_types.specs.declared.call.Call.{Call}
 use Rattle.napi_types.specs.declared.entry.Why.{Why}
 use Rattle.napi_types.specs.declared.ids.HandleId.{HandleId}
-use Rattle.napi_types.specs.Changes.{may_ask, may_call}
-use Rattle.napi_types.specs.Duties.{AreNested}
-use Rattle.napi_types.specs.Ends.{end_change}
-use Rattle.napi_types.specs.Entering.{asked_change}
-use Rattle.napi_types.specs.Environment.{Environment}
-use Rattle.napi_types.specs.Frames.{Frame, at_last_ask, is_asking, asks_made, most_asks}
-use Rattle.napi_types.specs.Hooked.{IsHooked}
-use Rattle.napi_types.specs.Lists.{head, tail}
-use Rattle.napi_types.specs.Owners.{IsOwned}
-use Rattle.napi_types.specs.Plan.{Plan, Registers}
-use Rattle.napi_types.specs.Room.{need}
+use Rattle.napi_types.specs.plain.Lists.{head, tail}
+use Rattle.napi_types.specs.plain.Room.{need}
+use Rattle.napi_types.specs.parts.Duties.{AreNested}
+use Rattle.napi_types.specs.parts.Frames.{Frame, at_last_ask, is_asking, asks_made, most_asks}
+use Rattle.napi_types.specs.environment.Changes.{may_ask, may_call}
+use Rattle.napi_types.specs.environment.Ends.{end_change}
+use Rattle.napi_types.specs.environment.Entering.{asked_change}
+use Rattle.napi_types.specs.environment.Environment.{Environment}
+use Rattle.napi_types.specs.environment.Hooked.{IsHooked}
+use Rattle.napi_types.specs.environment.Owners.{IsOwned}
+use Rattle.napi_types.specs.runs.Plan.{Plan, Registers}
+use Rattle.napi_types.proofs.environment.Answers.{course-parts}
+use Rattle.napi_types.proofs.environment.FrameChanges.{KeepsButFrame, ended-keeps, KeepsButFrames, asked_change-fits}
+use Rattle.napi_types.proofs.environment.HookedSteps.{hooked-asked, hooked-ended}
+use Rattle.napi_types.proofs.environment.Owners.{owned-asked, owned-ended, within-asked, within-ended}
+use Rattle.napi_types.proofs.environment.Registrations.{AreUncalled, uncalled-asked, uncalled-ended}
+use Rattle.napi_types.proofs.environment.StandingFrames.{nested-asked, nested-ended}
 use Rattle.env_loop.specs.Runs.{IsSoundEnvironment}
 use Rattle.env_loop.specs.Turns.{IsAsked}
-use Rattle.napi_types.proofs.Answers.{course-parts}
-use Rattle.napi_types.proofs.HookedSteps.{hooked-asked, hooked-ended}
-use Rattle.napi_types.proofs.FrameChanges.{KeepsButFrame, ended-keeps, KeepsButFrames, asked_change-fits}
-use Rattle.napi_types.proofs.Owners.{owned-asked, owned-ended, within-asked, within-ended}
-use Rattle.napi_types.proofs.Registrations.{AreUncalled, uncalled-asked, uncalled-ended}
-use Rattle.napi_types.proofs.StandingFrames.{nested-asked, nested-ended}
 use Rattle.env_loop.proofs.Steps.{two_may}
 
 -- WHERE A FRAME STANDS

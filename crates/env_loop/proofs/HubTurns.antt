@@ -11,19 +11,22 @@ use Rattle.napi_types.specs.declared.entry.Out.{Out}
 use Rattle.napi_types.specs.declared.entry.Out.TheVariants as out
 use Rattle.napi_types.specs.declared.entry.Phase.{Phase}
 use Rattle.napi_types.specs.declared.entry.Phase.TheVariants as phase
-use Rattle.napi_types.specs.Changes.{host_entry, in_phase}
-use Rattle.napi_types.specs.Book.{lowest_due}
-use Rattle.napi_types.specs.Choice.{local_choice_in, hub_choice, choice}
-use Rattle.napi_types.specs.Duties.{duties_of}
-use Rattle.napi_types.specs.Environment.{Environment}
-use Rattle.napi_types.specs.Frames.{Frame}
-use Rattle.napi_types.specs.Hub.{Stage, stage_after, quiet_hub}
-use Rattle.napi_types.specs.Loop.{Opens, Inits, Tickets, Goes, IsGone, ticket_in, next_ticket}
-use Rattle.napi_types.specs.Machine.{Machine}
-use Rattle.napi_types.specs.Phases.{next_phase, stage_of}
-use Rattle.napi_types.specs.Room.{stage_places}
-use Rattle.napi_types.specs.Weave.{Side}
-use Rattle.napi_types.specs.Setting.{Setting}
+use Rattle.napi_types.specs.plain.Phases.{next_phase, stage_of}
+use Rattle.napi_types.specs.plain.Room.{stage_places}
+use Rattle.napi_types.specs.plain.Weave.{Side}
+use Rattle.napi_types.specs.parts.Book.{lowest_due}
+use Rattle.napi_types.specs.parts.Duties.{duties_of}
+use Rattle.napi_types.specs.parts.Frames.{Frame}
+use Rattle.napi_types.specs.environment.Changes.{host_entry, in_phase}
+use Rattle.napi_types.specs.environment.Environment.{Environment}
+use Rattle.napi_types.specs.hub.Hub.{Stage, stage_after, quiet_hub}
+use Rattle.napi_types.specs.runs.Choice.{local_choice_in, hub_choice, choice}
+use Rattle.napi_types.specs.runs.Loop.{Opens, Inits, Tickets, Goes, IsGone, ticket_in, next_ticket}
+use Rattle.napi_types.specs.runs.Machine.{Machine}
+use Rattle.napi_types.specs.runs.Setting.{Setting}
+use Rattle.napi_types.proofs.environment.HookedSteps.{hooked-phase}
+use Rattle.napi_types.proofs.environment.Owners.{owned-phase}
+use Rattle.napi_types.proofs.environment.Registrations.{uncalled-phase}
 use Rattle.env_core.specs.Core.{Core, after_phase}
 use Rattle.env_teardown.specs.declared.step.TearStep.{TearStep}
 use Rattle.env_teardown.specs.declared.step.TearStep.TheVariants as tear
@@ -33,9 +36,6 @@ use Rattle.env_loop.specs.declared.turn.LocalTurn.TheVariants as turn
 use Rattle.env_loop.specs.Recording.{AddonStates, IsRecorded}
 use Rattle.env_loop.specs.Runs.{Run, IsSoundEnvironment, IsRunning, MovesOn}
 use Rattle.env_loop.specs.Turns.{turn_at, side_of, uncounted, turn_of}
-use Rattle.napi_types.proofs.Owners.{owned-phase}
-use Rattle.napi_types.proofs.HookedSteps.{hooked-phase}
-use Rattle.napi_types.proofs.Registrations.{uncalled-phase}
 use Rattle.env_loop.proofs.Tickets.{turn-of-ticket}
 use Rattle.env_loop.proofs.Recordings.{go-grown, loop_end-grown, drain-grown, finals-grown}
 

@@ -15,27 +15,27 @@ use Rattle.napi_types.specs.declared.entry.Phase.{Phase}
 use Rattle.napi_types.specs.declared.entry.Phase.TheVariants as phase
 use Rattle.napi_types.specs.declared.call.Ask.TheVariants as ask
 use Rattle.std.specs.Option.{option_or, option_to_list}
-use Rattle.napi_types.specs.Begins.{told_at, begun_info, begun_along}
-use Rattle.napi_types.specs.Book.{lowest_due}
-use Rattle.napi_types.specs.Hooks.{last_hook}
-use Rattle.napi_types.specs.Hub.{Hub, Before, Going, Looped, Drained, Final, new_hub, quiet_hub}
-use Rattle.napi_types.specs.Loop.{Tickets, EndsLoop}
-use Rattle.napi_types.specs.Machine.{Machine}
-use Rattle.napi_types.specs.Parting.{sides_along}
-use Rattle.napi_types.specs.Step.{Step, step, locally}
-use Rattle.napi_types.specs.Run.{after, IsNext}
-use Rattle.napi_types.specs.Changes.{Change, host_entry, in_phase, gone_change, init_change}
-use Rattle.napi_types.specs.Registers.{blank_registers}
 use Rattle.napi_types.specs.declared.entry.Reply.{Reply}
-use Rattle.napi_types.specs.Plan.{Plan, after_host_event, after_event, after_entry, plan_of, registers_of, frames_ask, asked, registers_after, Registers, loaded_registers}
-use Rattle.napi_types.specs.Weave.{Side, Journal, History, weave, sides, RisesBetween}
-use Rattle.napi_types.specs.Setting.{Setting, opening_of, RunsBy, final_of, final_registers, planned_asks}
+use Rattle.napi_types.specs.plain.Weave.{Side, Journal, History, weave, sides, RisesBetween}
+use Rattle.napi_types.specs.parts.Book.{lowest_due}
+use Rattle.napi_types.specs.parts.Hooks.{last_hook}
+use Rattle.napi_types.specs.scripts.Registers.{blank_registers}
+use Rattle.napi_types.specs.environment.Changes.{Change, host_entry, in_phase, gone_change, init_change}
+use Rattle.napi_types.specs.hub.Hub.{Hub, Before, Going, Looped, Drained, Final, new_hub, quiet_hub}
+use Rattle.napi_types.specs.runs.Begins.{told_at, begun_info, begun_along}
+use Rattle.napi_types.specs.runs.Loop.{Tickets, EndsLoop}
+use Rattle.napi_types.specs.runs.Machine.{Machine}
+use Rattle.napi_types.specs.runs.Parting.{sides_along}
+use Rattle.napi_types.specs.runs.Plan.{Plan, after_host_event, after_event, after_entry, plan_of, registers_of, frames_ask, asked, registers_after, Registers, loaded_registers}
+use Rattle.napi_types.specs.runs.Run.{after, IsNext}
+use Rattle.napi_types.specs.runs.Setting.{Setting, opening_of, RunsBy, final_of, final_registers, planned_asks}
+use Rattle.napi_types.specs.runs.Step.{Step, step, locally}
+use Rattle.napi_types.proofs.plain.Weaves.{weave-local, weave-shared, sides-local, sides-shared, rises-append, rises-more}
+use Rattle.napi_types.proofs.runs.Runs.{run-more, final-more, asked-more, registers-more, sides-more, begun-more}
 use Rattle.env_core.specs.Core.{Core, after_change, opened_core}
 use Rattle.env_teardown.specs.Hubs.{quiet_end}
 use Rattle.env_loop.specs.Recording.{AddonStates, machine_of, AgreesWhereTold, AgreesWith, HasSeen, IsRecorded, IsEnded}
-use Rattle.napi_types.proofs.Runs.{run-more, final-more, asked-more, registers-more, sides-more, begun-more}
 use Rattle.env_loop.proofs.Seen.{seen-same, seen-more}
-use Rattle.napi_types.proofs.Weaves.{weave-local, weave-shared, sides-local, sides-shared, rises-append, rises-more}
 
 -- what one more entry makes of a run by its asks
 pub record Grown (s : Setting) (asks : List Ask) (xs : List Entry) (after : Machine) (registers : Registers) (sides : List Side) (begun : List DueInfo) : Type 0 where

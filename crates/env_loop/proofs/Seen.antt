@@ -7,14 +7,14 @@ use Rattle.napi_types.specs.declared.duties.DueInfo.{DueInfo}
 use Rattle.napi_types.specs.declared.entry.LoopEnd.TheVariants as loop_end
 use Rattle.napi_types.specs.declared.entry.Phase.{Phase}
 use Rattle.napi_types.specs.declared.entry.Phase.TheVariants as phase
-use Rattle.napi_types.specs.Book.{lowest_due, ticket_duty}
-use Rattle.napi_types.specs.Begins.{duty_info, of_addon}
-use Rattle.napi_types.specs.Choice.{local_choice_in}
-use Rattle.napi_types.specs.Environment.{Environment}
-use Rattle.napi_types.specs.Frames.{Frame}
-use Rattle.napi_types.specs.Hooks.{last_hook}
-use Rattle.napi_types.specs.Loop.{Opens, Inits, Tickets, EndsLoop, IsGone, ticket_in, next_ticket}
-use Rattle.napi_types.proofs.Runs.{of_addon-append}
+use Rattle.napi_types.specs.parts.Book.{lowest_due, ticket_duty}
+use Rattle.napi_types.specs.parts.Frames.{Frame}
+use Rattle.napi_types.specs.parts.Hooks.{last_hook}
+use Rattle.napi_types.specs.environment.Environment.{Environment}
+use Rattle.napi_types.specs.runs.Begins.{duty_info, of_addon}
+use Rattle.napi_types.specs.runs.Choice.{local_choice_in}
+use Rattle.napi_types.specs.runs.Loop.{Opens, Inits, Tickets, EndsLoop, IsGone, ticket_in, next_ticket}
+use Rattle.napi_types.proofs.runs.Runs.{of_addon-append}
 use Rattle.addon_trait.specs.Addons.{seen_of}
 use Rattle.env_loop.specs.Recording.{HasSeen}
 use Rattle.env_loop.specs.Turns.{uncounted, ticket_of, begins_over, begins_next}

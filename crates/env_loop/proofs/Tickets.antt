@@ -8,22 +8,27 @@ use Rattle.napi_types.specs.declared.entry.Entry.{Entry}
 use Rattle.napi_types.specs.declared.entry.LoopEnd.TheVariants as loop_end
 use Rattle.napi_types.specs.declared.entry.Phase.{Phase}
 use Rattle.napi_types.specs.declared.entry.Phase.TheVariants as phase
-use Rattle.napi_types.specs.Begins.{duty_info}
-use Rattle.napi_types.specs.Book.{Book, Registration, registration_at, is_registered, is_due, is_at, lowest_due, due_info}
-use Rattle.napi_types.specs.Choice.{choice, hub_choice, local_choice_in}
-use Rattle.napi_types.specs.Environment.{Environment}
-use Rattle.napi_types.specs.Frames.{Frame, frame_of_duty}
-use Rattle.napi_types.specs.Hooked.{IsHooked, is_late}
-use Rattle.napi_types.specs.Hooks.{Hook, last_hook}
-use Rattle.napi_types.specs.Hub.{Hub}
-use Rattle.napi_types.specs.Loop.{Tickets, EndsLoop, IsGone, ticket_in, next_ticket}
-use Rattle.napi_types.specs.Machine.{Machine}
-use Rattle.napi_types.specs.Owners.{IsOwned}
-use Rattle.napi_types.specs.Plan.{Plan, with_addon_gifts, with_begun_gifts}
-use Rattle.napi_types.specs.Setting.{Setting}
-use Rattle.napi_types.specs.Step.{step, event_step, chosen, env_step, locally, ticket_step}
-use Rattle.napi_types.specs.Tickets.{may_begin_in, ticket_change}
-use Rattle.napi_types.specs.Weave.{Side, Journal}
+use Rattle.napi_types.specs.plain.Weave.{Side, Journal}
+use Rattle.napi_types.specs.parts.Book.{Book, Registration, registration_at, is_registered, is_due, is_at, lowest_due, due_info}
+use Rattle.napi_types.specs.parts.Frames.{Frame, frame_of_duty}
+use Rattle.napi_types.specs.parts.Hooks.{Hook, last_hook}
+use Rattle.napi_types.specs.environment.Environment.{Environment}
+use Rattle.napi_types.specs.environment.Hooked.{IsHooked, is_late}
+use Rattle.napi_types.specs.environment.Owners.{IsOwned}
+use Rattle.napi_types.specs.environment.Tickets.{may_begin_in, ticket_change}
+use Rattle.napi_types.specs.hub.Hub.{Hub}
+use Rattle.napi_types.specs.runs.Begins.{duty_info}
+use Rattle.napi_types.specs.runs.Choice.{choice, hub_choice, local_choice_in}
+use Rattle.napi_types.specs.runs.Loop.{Tickets, EndsLoop, IsGone, ticket_in, next_ticket}
+use Rattle.napi_types.specs.runs.Machine.{Machine}
+use Rattle.napi_types.specs.runs.Plan.{Plan, with_addon_gifts, with_begun_gifts}
+use Rattle.napi_types.specs.runs.Setting.{Setting}
+use Rattle.napi_types.specs.runs.Step.{step, event_step, chosen, env_step, locally, ticket_step}
+use Rattle.napi_types.proofs.parts.Books.{IsDueAt, lowest-due}
+use Rattle.napi_types.proofs.environment.HookedSteps.{hook-registered, hooked-begun}
+use Rattle.napi_types.proofs.environment.Owners.{owned-ticket, within-ticket}
+use Rattle.napi_types.proofs.environment.Registrations.{uncalled-begun}
+use Rattle.napi_types.proofs.environment.StandingFrames.{nested-ticket}
 use Rattle.addon_trait.specs.Addons.{seen_of}
 use Rattle.env_core.specs.Core.{Core, after_change}
 use Rattle.env_core.specs.Steps.{BeginsTicket}
@@ -31,11 +36,6 @@ use Rattle.env_loop.specs.declared.turn.LocalTurn.TheVariants as turn
 use Rattle.env_loop.specs.Recording.{AddonStates, HasSeen, machine_of, IsRecorded}
 use Rattle.env_loop.specs.Runs.{IsSoundEnvironment}
 use Rattle.env_loop.specs.Turns.{turn_at, turn_of, side_of, uncounted, begins_next, IsTurn}
-use Rattle.napi_types.proofs.Books.{IsDueAt, lowest-due}
-use Rattle.napi_types.proofs.HookedSteps.{hook-registered, hooked-begun}
-use Rattle.napi_types.proofs.Owners.{owned-ticket, within-ticket}
-use Rattle.napi_types.proofs.Registrations.{uncalled-begun}
-use Rattle.napi_types.proofs.StandingFrames.{nested-ticket}
 use Rattle.env_loop.proofs.Recordings.{local-grown}
 use Rattle.env_loop.proofs.Registers.{Kept, begun-touched, others-given, given-others, given-kept}
 use Rattle.env_loop.proofs.Seen.{begins-ticket, seen-begun}

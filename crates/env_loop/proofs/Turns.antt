@@ -3,19 +3,19 @@ use Rattle.std.proofs.Common.{◌≡◌, ◌<◌, ℕ, nat_lt, Bool, true, false
 use Rattle.std.specs.Option.{option_to_list}
 use Rattle.napi_types.specs.declared.duties.DueInfo.{DueInfo}
 use Rattle.napi_types.specs.declared.entry.Phase.TheVariants as phase
-use Rattle.napi_types.specs.Changes.{Change, init_change, gone_change}
-use Rattle.napi_types.specs.Environment.{Environment}
-use Rattle.napi_types.specs.Frames.{duty_of}
-use Rattle.napi_types.specs.Loop.{ticket_in, next_ticket}
-use Rattle.napi_types.specs.Phases.{stage_of}
-use Rattle.napi_types.specs.Plan.{Plan}
+use Rattle.napi_types.specs.plain.Phases.{stage_of}
+use Rattle.napi_types.specs.parts.Frames.{duty_of}
+use Rattle.napi_types.specs.environment.Changes.{Change, init_change, gone_change}
+use Rattle.napi_types.specs.environment.Environment.{Environment}
+use Rattle.napi_types.specs.runs.Loop.{ticket_in, next_ticket}
+use Rattle.napi_types.specs.runs.Plan.{Plan}
+use Rattle.napi_types.proofs.environment.HookedSteps.{hooked-init, hooked-gone}
+use Rattle.napi_types.proofs.environment.Owners.{owned-init, within-init}
+use Rattle.napi_types.proofs.environment.StandingFrames.{nested-init}
 use Rattle.env_core.specs.Core.{Core, after_change, next_init}
 use Rattle.env_loop.specs.Recording.{AddonStates, HasSeen, Continues}
 use Rattle.env_loop.specs.Runs.{IsSoundEnvironment}
 use Rattle.env_loop.specs.Turns.{begins_next, OnlyInnermostChanges, IsTurn}
-use Rattle.napi_types.proofs.HookedSteps.{hooked-init, hooked-gone}
-use Rattle.napi_types.proofs.Owners.{owned-init, within-init}
-use Rattle.napi_types.proofs.StandingFrames.{nested-init}
 use Rattle.env_loop.proofs.Registers.{none-touched}
 use Rattle.env_loop.proofs.Seen.{begins-ticket, seen-same}
 use Rattle.env_loop.proofs.Recordings.{init-grown, gone_change-grown}

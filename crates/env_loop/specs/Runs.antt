@@ -7,19 +7,19 @@ use Rattle.napi_types.specs.declared.entry.Cause.TheVariants as cause
 use Rattle.napi_types.specs.declared.entry.Entry.{Entry}
 use Rattle.napi_types.specs.declared.entry.Local.{Local}
 use Rattle.napi_types.specs.declared.entry.Phase.TheVariants as phase
-use Rattle.napi_types.specs.Asks.{AsksWithin}
-use Rattle.napi_types.specs.Duties.{duties_of, AreNested}
-use Rattle.napi_types.specs.Environment.{Environment}
-use Rattle.napi_types.specs.Frames.{Frame}
-use Rattle.napi_types.specs.Hooked.{IsHooked}
-use Rattle.napi_types.specs.Hub.{Hub, Before, quiet_hub}
-use Rattle.napi_types.specs.Order.{HooksFall, FinalsRise}
-use Rattle.napi_types.specs.Owners.{IsOwned}
-use Rattle.napi_types.specs.Phases.{stage_of}
-use Rattle.napi_types.specs.Plan.{Plan}
-use Rattle.napi_types.specs.Room.{stage_places}
-use Rattle.napi_types.specs.Setting.{Setting}
-use Rattle.napi_types.specs.Weave.{weave}
+use Rattle.napi_types.specs.plain.Phases.{stage_of}
+use Rattle.napi_types.specs.plain.Room.{stage_places}
+use Rattle.napi_types.specs.plain.Weave.{weave}
+use Rattle.napi_types.specs.parts.Duties.{duties_of, AreNested}
+use Rattle.napi_types.specs.parts.Frames.{Frame}
+use Rattle.napi_types.specs.environment.Asks.{AsksWithin}
+use Rattle.napi_types.specs.environment.Environment.{Environment}
+use Rattle.napi_types.specs.environment.Hooked.{IsHooked}
+use Rattle.napi_types.specs.environment.Owners.{IsOwned}
+use Rattle.napi_types.specs.hub.Hub.{Hub, Before, quiet_hub}
+use Rattle.napi_types.specs.runs.Plan.{Plan}
+use Rattle.napi_types.specs.runs.Setting.{Setting}
+use Rattle.napi_types.specs.all_runs.Order.{HooksFall, FinalsRise}
 use Rattle.env_core.specs.Core.{Core, opened_core}
 use Rattle.env_teardown.specs.Hubs.{QuietHub}
 use Rattle.env_loop.specs.Recording.{AddonStates, IsOf, IsRecorded}

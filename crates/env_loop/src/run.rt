@@ -1,9 +1,9 @@
 //! A running environment, and a run without other actors.
 ghost use Rattle.std.specs.Prelude.{◌≡◌, ◌≢◌, ℕ, ◌<◌, ◌≤◌, ◌↔◌, [], ◌++◌, length, map, drop, IfOk, None};
 ghost use Rattle.std.specs.Option.{option_to_list};
-ghost use Rattle.napi_types.specs.Begins.{of_addon};
-ghost use Rattle.napi_types.specs.Phases.{stage_of};
-ghost use Rattle.napi_types.specs.Room.{most_entries};
+ghost use Rattle.napi_types.specs.plain.Phases.{stage_of};
+ghost use Rattle.napi_types.specs.plain.Room.{most_entries};
+ghost use Rattle.napi_types.specs.runs.Begins.{of_addon};
 ghost use Rattle.addon_trait.specs.Addons.{seen_of};
 ghost use Rattle.env_loop.specs.Recording.{AddonStates};
 ghost use Rattle.env_loop.specs.Runs.{IsOpened, opened_run, OneMore, Extends, GoesOn, EndsInOrder, MovesOn};
@@ -28,7 +28,7 @@ pub struct EnvRun {
 }
 
 impl Model for EnvRun {
-    ghost use Rattle.napi_types.specs.Hub.{quiet_hub};
+    ghost use Rattle.napi_types.specs.hub.Hub.{quiet_hub};
     ghost use Rattle.env_loop.specs.Runs.{Run, IsRunning};
 
     ghost Value = { Run };

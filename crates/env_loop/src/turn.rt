@@ -1,13 +1,13 @@
 //! One turn of the environment: an ask of the innermost frame, or the next event where no frame stands.
 ghost use Rattle.std.specs.Prelude.{◌≡◌, ◌≢◌, ◌<◌, ◌≤◌, [], length, map, Some, None, true, false, is_some};
-ghost use Rattle.napi_types.specs.Built.{is_built, built_ask};
-ghost use Rattle.napi_types.specs.Lists.{head, tail};
+ghost use Rattle.napi_types.specs.plain.Built.{is_built, built_ask};
+ghost use Rattle.napi_types.specs.plain.Lists.{head, tail};
+ghost use Rattle.napi_types.specs.parts.Frames.{at_last_ask, asks_made, duty_of, is_hub_duty, most_asks};
+ghost use Rattle.napi_types.specs.environment.Ends.{end_change};
+ghost use Rattle.napi_types.specs.runs.Loop.{next_ticket};
 ghost use Rattle.env_core.specs.Standing.{machine_frame};
 ghost use Rattle.env_loop.specs.Recording.{AddonStates, why_stopped};
 ghost use Rattle.env_loop.specs.Runs.{IsSoundEnvironment, Holds};
-ghost use Rattle.napi_types.specs.Ends.{end_change};
-ghost use Rattle.napi_types.specs.Frames.{at_last_ask, asks_made, duty_of, is_hub_duty, most_asks};
-ghost use Rattle.napi_types.specs.Loop.{next_ticket};
 ghost use Rattle.env_core.specs.Core.{after_change};
 ghost use Rattle.env_loop.specs.Turns.{turn_of, IsTold, IsTurn};
 

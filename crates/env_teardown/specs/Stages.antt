@@ -1,6 +1,6 @@
 -- How far the hub is, by how many of its events happened.
 use Rattle.std.specs.Prelude.{ℕ, zero, suc}
-use Rattle.napi_types.specs.Hub.{Stage, Before, Going, Looped, Drained, Final}
+use Rattle.napi_types.specs.hub.Hub.{Stage, Before, Going, Looped, Drained, Final}
 
 abbrev pub stage_at : ℕ → Stage
 stage_at zero = Before

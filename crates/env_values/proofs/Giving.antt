@@ -6,15 +6,15 @@ use Rattle.napi_types.specs.declared.body.Body.{Body}
 use Rattle.napi_types.specs.declared.entry.Out.TheVariants as out
 use Rattle.napi_types.specs.declared.ids.HandleId.{HandleId}
 use Rattle.napi_types.specs.declared.ids.TextNo.{TextNo}
-use Rattle.napi_types.specs.Graph.{StoreState, IsLive, IsSoundStore, value_of, number_in, graph_of}
-use Rattle.napi_types.specs.Heap.{Heap}
-use Rattle.napi_types.specs.HeapChanges.{handle_of, with_handle, with_list, with_thrown}
-use Rattle.napi_types.specs.Lists.{first_changed, has_number}
-use Rattle.napi_types.specs.Replies.{accepts}
-use Rattle.napi_types.specs.Scopes.{Held, held_by_frames}
-use Rattle.napi_types.specs.ScopeChanges.{hold_in}
-use Rattle.napi_types.specs.Values.{Value}
-use Rattle.napi_types.specs.NewValues.{list_of, thrown_strings, thrown_of}
+use Rattle.napi_types.specs.plain.Lists.{first_changed, has_number}
+use Rattle.napi_types.specs.plain.Replies.{accepts}
+use Rattle.napi_types.specs.parts.Graph.{StoreState, IsLive, IsSoundStore, value_of, number_in, graph_of}
+use Rattle.napi_types.specs.parts.Heap.{Heap}
+use Rattle.napi_types.specs.parts.HeapChanges.{handle_of, with_handle, with_list, with_thrown}
+use Rattle.napi_types.specs.parts.NewValues.{list_of, thrown_strings, thrown_of}
+use Rattle.napi_types.specs.parts.ScopeChanges.{hold_in}
+use Rattle.napi_types.specs.parts.Scopes.{Held, held_by_frames}
+use Rattle.napi_types.specs.parts.Values.{Value}
 use Rattle.handle_scope.specs.HandleScopes.{HandleScopes, with_issued_handle}
 use Rattle.value_store.specs.Changes.{MakesValue, MakesList}
 use Rattle.value_store.proofs.Callers.{makes-live}

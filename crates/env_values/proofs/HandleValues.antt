@@ -3,13 +3,13 @@ use Rattle.std.proofs.Common.{◌≡◌, ◌∙◌, ℕ, zero, suc, ◌==◌, Bo
 use Rattle.std.specs.Option.{unwrap_or}
 use Rattle.napi_types.specs.declared.body.Body.TheVariants as body
 use Rattle.napi_types.specs.declared.ids.ValueId.{ValueId}
-use Rattle.napi_types.specs.Graph.{StoreState, IsLive, value_of, number_in, renamed}
-use Rattle.napi_types.specs.Heap.{handle_body, handle_properties, handle_elements}
-use Rattle.napi_types.specs.Lists.{found}
-use Rattle.napi_types.specs.Scopes.{FrameScopes, gives}
-use Rattle.napi_types.specs.Values.{Value, value_at, undefined_value}
-use Rattle.napi_types.specs.Properties.{Property, property_at, element_at}
-use Rattle.napi_types.specs.Bodies.{is_object_like}
+use Rattle.napi_types.specs.plain.Lists.{found}
+use Rattle.napi_types.specs.parts.Bodies.{is_object_like}
+use Rattle.napi_types.specs.parts.Graph.{StoreState, IsLive, value_of, number_in, renamed}
+use Rattle.napi_types.specs.parts.Heap.{handle_body, handle_properties, handle_elements}
+use Rattle.napi_types.specs.parts.Properties.{Property, property_at, element_at}
+use Rattle.napi_types.specs.parts.Scopes.{FrameScopes, gives}
+use Rattle.napi_types.specs.parts.Values.{Value, value_at, undefined_value}
 use Rattle.handle_scope.specs.HandleScopes.{HandleScopes}
 use Rattle.value_store.specs.Changes.{properties_in, elements_in}
 use Rattle.env_values.specs.declared.known.HandleValue.{HandleValue}

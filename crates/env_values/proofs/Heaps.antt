@@ -3,11 +3,11 @@ use Rattle.std.proofs.Common.{◌≡◌, ◌∙◌, ℕ, ◌==◌, true, false, 
 use Rattle.std.specs.Option.{unwrap_or}
 use Rattle.std.proofs.lemmas.List.Elements.{All-weaker}
 use borrow.Author.Tests.{eqb-true}
-use Rattle.napi_types.specs.Graph.{StoreState, IsLive, value_of, number_in, graph_of}
-use Rattle.napi_types.specs.Heap.{handle_value}
-use Rattle.napi_types.specs.HeapChanges.{with_changed}
-use Rattle.napi_types.specs.Scopes.{Held, held_by_frames}
-use Rattle.napi_types.specs.Values.{Value, value_changed}
+use Rattle.napi_types.specs.parts.Graph.{StoreState, IsLive, value_of, number_in, graph_of}
+use Rattle.napi_types.specs.parts.Heap.{handle_value}
+use Rattle.napi_types.specs.parts.HeapChanges.{with_changed}
+use Rattle.napi_types.specs.parts.Scopes.{Held, held_by_frames}
+use Rattle.napi_types.specs.parts.Values.{Value, value_changed}
 use Rattle.handle_scope.specs.HandleScopes.{HandleScopes}
 use Rattle.value_store.specs.Changes.{ChangesOnly}
 use Rattle.value_store.proofs.Callers.{changes-live}

@@ -3,9 +3,9 @@ use Rattle.std.proofs.Common.{◌≡◌, ℕ, ◌==◌, Bool, true, false, List,
 use Rattle.std.specs.List.{All}
 use Rattle.std.specs.Option.{option_or}
 use Rattle.std.proofs.lemmas.List.Elements.{All-nil, All-cons, All-head, All-tail, All-append}
-use Rattle.napi_types.specs.Lists.{found, first_changed}
-use Rattle.napi_types.specs.Scopes.{Held, Scope, FrameScopes, value_in, value_in_scopes, gives, held_by_scopes, held_by_frame, held_by_frames}
-use Rattle.napi_types.specs.ScopeChanges.{hold_in, hold_at, inside, escape_at, escape_in}
+use Rattle.napi_types.specs.plain.Lists.{found, first_changed}
+use Rattle.napi_types.specs.parts.ScopeChanges.{hold_in, hold_at, inside, escape_at, escape_in}
+use Rattle.napi_types.specs.parts.Scopes.{Held, Scope, FrameScopes, value_in, value_in_scopes, gives, held_by_scopes, held_by_frame, held_by_frames}
 
 -- what holds of each element of two lists holds of each element of either
 pub All-left : {X : Type 0} (P : X → Type 0) (xs ys : List X) → All P (xs ++ ys) → All P xs

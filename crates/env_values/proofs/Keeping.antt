@@ -2,8 +2,8 @@
 use Rattle.std.proofs.Common.{◌≡◌, ℕ, ◌+◌, refl, ap, Result, Ok, Err, IfOk, OnOk, OnErr}
 use Rattle.std.specs.Option.{unwrap_or}
 use Rattle.napi_types.specs.declared.ids.ValueId.{ValueId}
-use Rattle.napi_types.specs.Graph.{StoreState, IsSoundStore, IsLive, value_of, number_in}
-use Rattle.napi_types.specs.Values.{Value}
+use Rattle.napi_types.specs.parts.Graph.{StoreState, IsSoundStore, IsLive, value_of, number_in}
+use Rattle.napi_types.specs.parts.Values.{Value}
 use Rattle.value_store.specs.Changes.{ChangesOnly, MakesValue, MakesList}
 use Rattle.value_store.proofs.Callers.{changes-live, makes-live}
 use Rattle.env_values.specs.Seen.{KeepsValues}

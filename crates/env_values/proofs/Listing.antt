@@ -2,9 +2,9 @@
 use Rattle.std.proofs.Common.{◌≡◌, ℕ, zero, suc, ◌+◌, List, [], ◌∷◌, ◌++◌, map, take, length, ◌≤◌, Some, option_map, slice_get, ap, refl, add-one, arith}
 use Rattle.napi_types.specs.declared.body.Body.TheVariants as body
 use Rattle.napi_types.specs.declared.ids.TextNo.{TextNo}
-use Rattle.napi_types.specs.Graph.{StoreState}
-use Rattle.napi_types.specs.PropertyCalls.{names_of}
-use Rattle.napi_types.specs.Properties.{Property}
+use Rattle.napi_types.specs.parts.Graph.{StoreState}
+use Rattle.napi_types.specs.parts.Properties.{Property}
+use Rattle.napi_types.specs.parts.PropertyCalls.{names_of}
 use Rattle.env_values.proofs.HandleValues.{seen_property}
 
 more-names : (ps : List Property) (at : ℕ) (name : TextNo) → option_map (λ p. p.name) (slice_get ps at) ≡ Some name.0 → names_of (take (suc at) ps) ≡ names_of (take at ps) ++ body.Str name ∷ []

@@ -1,8 +1,8 @@
 -- A call on values finds numbers for the values that it makes.
 use Rattle.std.proofs.Common.{◌<◌, ◌+◌, ◌^◌, length, arith}
 use Rattle.std.proofs.Math.Nat.{min-le_right}
-use Rattle.napi_types.specs.Graph.{StoreState}
-use Rattle.napi_types.specs.Properties.{most_names}
+use Rattle.napi_types.specs.parts.Graph.{StoreState}
+use Rattle.napi_types.specs.parts.Properties.{most_names}
 use Rattle.value_store.specs.Changes.{properties_in}
 use Rattle.env_values.specs.Numbering.{HasNumbersLeft}
 

@@ -4,10 +4,10 @@ use Rattle.std.specs.List.{All}
 use Rattle.std.specs.Option.{option_or}
 use Rattle.std.proofs.lemmas.List.{map-append}
 use Rattle.std.proofs.lemmas.List.Elements.{All-head, All-tail}
-use Rattle.napi_types.specs.Graph.{StoreState, number_in}
-use Rattle.napi_types.specs.Lists.{found, first_changed}
-use Rattle.napi_types.specs.Scopes.{Held, Scope, FrameScopes, value_in, value_in_scopes, gives, held_by_scopes, held_by_frame, held_by_frames}
-use Rattle.napi_types.specs.ScopeChanges.{hold_in, hold_at, inside, escape_at, escape_in}
+use Rattle.napi_types.specs.plain.Lists.{found, first_changed}
+use Rattle.napi_types.specs.parts.Graph.{StoreState, number_in}
+use Rattle.napi_types.specs.parts.ScopeChanges.{hold_in, hold_at, inside, escape_at, escape_in}
+use Rattle.napi_types.specs.parts.Scopes.{Held, Scope, FrameScopes, value_in, value_in_scopes, gives, held_by_scopes, held_by_frame, held_by_frames}
 use Rattle.env_values.specs.Seen.{seen_held, seen_scope, seen_frame}
 use Rattle.env_values.proofs.Held.{All-left, All-right}
 

@@ -4,11 +4,11 @@ use Rattle.std.proofs.lemmas.List.{length-map}
 use Rattle.napi_types.specs.declared.call.Call.TheVariants as call
 use Rattle.napi_types.specs.declared.ids.HandleId.{HandleId}
 use Rattle.napi_types.specs.declared.ids.TextNo.{TextNo}
-use Rattle.napi_types.specs.Bodies.{is_object_like}
-use Rattle.napi_types.specs.Graph.{StoreState}
-use Rattle.napi_types.specs.Heap.{handle_body, handle_properties}
-use Rattle.napi_types.specs.Properties.{most_names, most_index}
-use Rattle.napi_types.specs.Refusals.{refusal_in}
+use Rattle.napi_types.specs.parts.Bodies.{is_object_like}
+use Rattle.napi_types.specs.parts.Graph.{StoreState}
+use Rattle.napi_types.specs.parts.Heap.{handle_body, handle_properties}
+use Rattle.napi_types.specs.parts.Properties.{most_names, most_index}
+use Rattle.napi_types.specs.environment.Refusals.{refusal_in}
 use Rattle.handle_scope.specs.HandleScopes.{HandleScopes}
 use Rattle.value_store.specs.Changes.{properties_in}
 use Rattle.env_values.specs.declared.known.HandleValue.{HandleValue}

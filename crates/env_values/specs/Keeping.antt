@@ -1,6 +1,6 @@
 -- What a call that gives a handle or makes a value stands on, and what it keeps.
 use Rattle.std.specs.Prelude.{◌≡◌, ◌≢◌, ℕ, ◌+◌, ◌<◌, ◌^◌, []}
-use Rattle.napi_types.specs.Graph.{StoreState}
+use Rattle.napi_types.specs.parts.Graph.{StoreState}
 use Rattle.handle_scope.specs.HandleScopes.{HandleScopes}
 use Rattle.env_values.specs.Seen.{HoldsLive, KeepsValues}
 

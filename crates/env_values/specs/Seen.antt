@@ -1,9 +1,9 @@
 -- The heap of the machine that a store of values and handle scopes stand for.
 use Rattle.std.specs.Prelude.{◌≡◌, ℕ, map}
 use Rattle.std.specs.List.{All}
-use Rattle.napi_types.specs.Graph.{StoreState, IsLive, number_in, graph_of}
-use Rattle.napi_types.specs.Heap.{Heap}
-use Rattle.napi_types.specs.Scopes.{Held, Scope, FrameScopes, held_by_frames}
+use Rattle.napi_types.specs.parts.Graph.{StoreState, IsLive, number_in, graph_of}
+use Rattle.napi_types.specs.parts.Heap.{Heap}
+use Rattle.napi_types.specs.parts.Scopes.{Held, Scope, FrameScopes, held_by_frames}
 use Rattle.handle_scope.specs.HandleScopes.{HandleScopes}
 
 -- a handle as the machine sees it: it has the creation number of its value, where the scopes have the store's number

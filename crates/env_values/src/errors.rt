@@ -1,8 +1,8 @@
 //! Errors: what makes one of values, and the call that does.
 ghost use Rattle.std.specs.Prelude.{◌≡◌, ℕ, ◌≢◌, ◌+◌, ◌<◌, ◌^◌, ◌++◌, [], ◌∷◌, length, option_map, IfSome, IfOk, OnOk, OnErr};
-ghost use Rattle.napi_types.specs.Graph.{IsLive, number_in, graph_of};
-ghost use Rattle.napi_types.specs.HeapChanges.{new_error};
-ghost use Rattle.napi_types.specs.NewValues.{error_of, thrown_strings, thrown_of};
+ghost use Rattle.napi_types.specs.parts.Graph.{IsLive, number_in, graph_of};
+ghost use Rattle.napi_types.specs.parts.HeapChanges.{new_error};
+ghost use Rattle.napi_types.specs.parts.NewValues.{error_of, thrown_strings, thrown_of};
 ghost use Rattle.value_store.specs.Changes.{MakesValue};
 ghost use Rattle.env_values.specs.Keeping.{CanMake, KeepsHeap};
 ghost use Rattle.env_values.specs.Seen.{heap_of, KeepsValues};

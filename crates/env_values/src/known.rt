@@ -1,11 +1,10 @@
 //! The values of handles, and what a call may expect of a value.
 ghost use Rattle.std.specs.Prelude.{◌≡◌, true, false, is_some, nat_lt, option_map, IfSome, IfOk, IfErr, OnOk};
-ghost use Rattle.napi_types.specs.Graph.{number_in, IsLive, IsSoundStore};
-ghost use Rattle.napi_types.specs.Scopes.{gives};
-ghost use Rattle.napi_types.specs.Bodies.{is_object_like, is_string, is_number, is_bigint, is_boolean, is_array, is_external, is_error_body, signed_of, flag_of, text_of};
-ghost use Rattle.napi_types.specs.Bodies.{external_payload, strictly_equal};
-ghost use Rattle.napi_types.specs.Properties.{element_at};
-ghost use Rattle.napi_types.specs.Values.{undefined_value};
+ghost use Rattle.napi_types.specs.parts.Bodies.{is_object_like, is_string, is_number, is_bigint, is_boolean, is_array, is_external, is_error_body, signed_of, flag_of, text_of, external_payload, strictly_equal};
+ghost use Rattle.napi_types.specs.parts.Graph.{number_in, IsLive, IsSoundStore};
+ghost use Rattle.napi_types.specs.parts.Properties.{element_at};
+ghost use Rattle.napi_types.specs.parts.Scopes.{gives};
+ghost use Rattle.napi_types.specs.parts.Values.{undefined_value};
 ghost use Rattle.std.specs.Option.{unwrap_or};
 ghost use Rattle.value_store.specs.Changes.{elements_in};
 ghost use Rattle.env_values.specs.Seen.{heap_of, HoldsLive};

@@ -1,8 +1,8 @@
 //! The calls that give handles: of starting values, and of values that they make.
 ghost use Rattle.std.specs.Prelude.{◌≡◌, ◌≢◌, ◌+◌, ◌<◌, ◌≤◌, ◌^◌, [], length, IfOk, OnOk, OnErr};
-ghost use Rattle.napi_types.specs.Graph.{IsLive, number_in};
-ghost use Rattle.napi_types.specs.HeapChanges.{handle_of, new_value, new_list};
-ghost use Rattle.napi_types.specs.Replies.{accepts};
+ghost use Rattle.napi_types.specs.plain.Replies.{accepts};
+ghost use Rattle.napi_types.specs.parts.Graph.{IsLive, number_in};
+ghost use Rattle.napi_types.specs.parts.HeapChanges.{handle_of, new_value, new_list};
 ghost use Rattle.env_values.specs.Keeping.{CanGive, CanMake, KeepsScopes, KeepsHeap};
 ghost use Rattle.env_values.specs.Seen.{heap_of};
 ghost use Rattle.env_values.specs.Steps.{Gives};

@@ -1,8 +1,8 @@
 //! The names of an object's properties.
 ghost use Rattle.std.specs.Prelude.{◌≡◌, ℕ, ◌≢◌, ◌+◌, ◌<◌, ◌≤◌, ◌^◌, [], true, false, length, nat_lt, IfOk, IfErr, OnOk};
-ghost use Rattle.napi_types.specs.HeapChanges.{new_list};
-ghost use Rattle.napi_types.specs.PropertyCalls.{names_of};
-ghost use Rattle.napi_types.specs.Properties.{most_names};
+ghost use Rattle.napi_types.specs.parts.HeapChanges.{new_list};
+ghost use Rattle.napi_types.specs.parts.Properties.{most_names};
+ghost use Rattle.napi_types.specs.parts.PropertyCalls.{names_of};
 ghost use Rattle.value_store.specs.Changes.{properties_in};
 ghost use Rattle.env_values.specs.Numbering.{HasNumbersLeft};
 ghost use Rattle.env_values.specs.Keeping.{CanGive, CanMake, KeepsHeap};

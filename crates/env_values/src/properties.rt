@@ -1,6 +1,6 @@
 //! The calls that set and remove properties and elements.
 ghost use Rattle.std.specs.Prelude.{◌≡◌, ℕ, ◌≤◌, true, false, nat_lt, IfOk, IfErr, OnOk};
-ghost use Rattle.napi_types.specs.Properties.{most_index};
+ghost use Rattle.napi_types.specs.parts.Properties.{most_index};
 ghost use Rattle.env_values.specs.Keeping.{KeepsHeap};
 ghost use Rattle.env_values.specs.Seen.{heap_of, HoldsLive};
 ghost use Rattle.env_values.specs.Steps.{Comes};

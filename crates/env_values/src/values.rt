@@ -1,6 +1,6 @@
 //! The calls that make values, and those that give the value of a property or an element.
 ghost use Rattle.std.specs.Prelude.{◌≡◌, ℕ, ◌≢◌, ◌+◌, ◌<◌, ◌^◌, []};
-ghost use Rattle.napi_types.specs.Graph.{IsLive};
+ghost use Rattle.napi_types.specs.parts.Graph.{IsLive};
 ghost use Rattle.env_values.specs.Keeping.{CanGive, CanMake, KeepsScopes, KeepsHeap};
 ghost use Rattle.env_values.specs.Seen.{heap_of};
 ghost use Rattle.env_values.specs.Steps.{Comes};

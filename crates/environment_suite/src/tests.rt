@@ -1,7 +1,7 @@
 //! Tables of what is done with an environment, and of what it is to answer, with memory at hand. The steps stand in functions that
 //! borrow the environment: one that owns it is proved to drop it wherever it may return, which takes far longer.
 ghost use Rattle.std.specs.Prelude.{◌+◌, ◌*◌, ◌≤◌, ◌<◌, ◌≢◌, Some};
-ghost use Rattle.napi_types.specs.Room.{most_entries};
+ghost use Rattle.napi_types.specs.plain.Room.{most_entries};
 
 use env_core::{EnvCore, Stepped};
 use napi_types::{Call, Duty, HandleId, Limits, NAPI_VERSION, Out, Status, Why};

@@ -4,7 +4,7 @@
 #![tactic(auto)]
 
 ghost use Rattle.std.specs.Prelude.{◌≡◌, [], ◌∷◌, ◌++◌, None};
-ghost use Rattle.napi_types.specs.Registers.{blank_registers, with_gifts};
+ghost use Rattle.napi_types.specs.scripts.Registers.{blank_registers, with_gifts};
 ghost use Rattle.example_addon.specs.Example.{starting, main_ask, callback_ask, ask_of, accepted_result, given_handle, given_reference, lowered_after, progress_after, noted};
 
 use addon_trait::Addon;

@@ -7,8 +7,8 @@ use Rattle.std.specs.Option.{unwrap_or, is_some}
 use Rattle.std.proofs.lemmas.List.{length-set, length-append, length-map}
 use Rattle.std.proofs.lemmas.List.Sums.{sum_by-set, sum_by-append, sum_by-cons, get_or-le-sum_by}
 use Rattle.std.proofs.lemmas.Bool.Decides.{nat_tests}
-use Rattle.napi_types.specs.Book.{Registration, lowest_due, TicketState, Registered, Due, Begun, Ended, Withdrawn, is_registered, is_due, is_begun, is_at, moved, made_due, made_withdrawn, made_begun, made_ended, made_due_and_begun}
 use Rattle.napi_types.specs.declared.duties.Slip.{Slip}
+use Rattle.napi_types.specs.parts.Book.{Registration, lowest_due, TicketState, Registered, Due, Begun, Ended, Withdrawn, is_registered, is_due, is_begun, is_at, moved, made_due, made_withdrawn, made_begun, made_ended, made_due_and_begun}
 use Rattle.finalizer_queue.specs.declared.rows.Row.{Row}
 use Rattle.finalizer_queue.specs.declared.rows.RowState.{RowState}
 use Rattle.finalizer_queue.specs.declared.rows.RowState.TheVariants as state

@@ -2,7 +2,7 @@
 use Rattle.std.proofs.Common.{◌≡◌, ◌∙◌, ℕ, zero, suc, ◌+◌, ◌<◌, ◌≤◌, Bool, true, false, cond, length, Some, None, refl, ap, arith}
 use Rattle.std.specs.List.{find, range_with_len}
 use Rattle.std.specs.Option.{is_some}
-use Rattle.napi_types.specs.Book.{Book, is_due, is_at, lowest_due}
+use Rattle.napi_types.specs.parts.Book.{Book, is_due, is_at, lowest_due}
 
 -- the first number of a range that passes a test, where those before it fail
 find-passes : (test : ℕ → Bool) (k len : ℕ) (b : Bool) → test k ≡ b → find test (range_with_len k (suc len)) ≡ cond b (Some k) (find test (range_with_len (k + 1) len))

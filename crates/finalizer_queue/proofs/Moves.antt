@@ -3,7 +3,7 @@ use Rattle.std.proofs.Common.{◌≡◌, ◌∙◌, ℕ, zero, suc, ◌+◌, ◌
 use Rattle.std.specs.Option.{unwrap_or}
 use Rattle.std.proofs.lemmas.List.{map-set, length-map}
 use Rattle.std.proofs.lemmas.Option.{slice_get-map, slice_get_read, slice_get_within, slice_get_past}
-use Rattle.napi_types.specs.Book.{Book, Registration, TicketState, made_due, moved, moved_from, moved_at, due_where, all_due, registration_at, is_at}
+use Rattle.napi_types.specs.parts.Book.{Book, Registration, TicketState, made_due, moved, moved_from, moved_at, due_where, all_due, registration_at, is_at}
 use Rattle.finalizer_queue.specs.declared.rows.Row.{Row}
 use Rattle.finalizer_queue.specs.Rows.{row_registration, state_of, book_of}
 

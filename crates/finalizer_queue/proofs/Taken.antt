@@ -3,11 +3,11 @@ use Rattle.std.proofs.Common.{◌≡◌, ◌∙◌, ℕ, ◌==◌, Bool, true, f
 use Rattle.std.specs.List.{find}
 use Rattle.std.specs.Option.{unwrap_or}
 use Rattle.napi_types.specs.declared.duties.DueInfo.{DueInfo}
-use Rattle.napi_types.specs.Book.{Book, Registration, TicketState, Registered, Due, Begun, Ended, Withdrawn, is_due, is_begun, is_at, made_begun, moved, moved_at, registration_at, lowest_due}
-use Rattle.napi_types.specs.Lists.{up_to}
+use Rattle.napi_types.specs.plain.Lists.{up_to}
+use Rattle.napi_types.specs.parts.Book.{Book, Registration, TicketState, Registered, Due, Begun, Ended, Withdrawn, is_due, is_begun, is_at, made_begun, moved, moved_at, registration_at, lowest_due}
+use Rattle.napi_types.proofs.parts.Moved.{registration_at-moved_where}
 use Rattle.finalizer_queue.specs.Kept.{Takes, ticket_number}
 use Rattle.finalizer_queue.proofs.Moves.{same-number}
-use Rattle.napi_types.proofs.Moved.{registration_at-moved_where}
 
 find-passes : (test : ℕ → Bool) (xs : List ℕ) (n : ℕ) → find test xs ≡ Some n → test n ≡ true
 find-passes test [] n is = let no : ⊥ = cc in absurd no

@@ -3,7 +3,7 @@ use Rattle.std.specs.Prelude.{◌≡◌, ℕ, Some}
 use Rattle.napi_types.specs.declared.duties.DueInfo.{DueInfo}
 use Rattle.napi_types.specs.declared.entry.Duty.{Duty}
 use Rattle.napi_types.specs.declared.entry.Duty.TheVariants as duty
-use Rattle.napi_types.specs.Book.{Book, Registration, registration_at, lowest_due, due_info, made_begun, moved_at}
+use Rattle.napi_types.specs.parts.Book.{Book, Registration, registration_at, lowest_due, due_info, made_begun, moved_at}
 
 -- the book, and for how many tickets more it has the memory
 pub record KeptBook : Type 0 where

@@ -3,8 +3,8 @@ use Rattle.std.specs.Prelude.{◌≡◌, ℕ, ◌+◌, ◌≤◌, ◌==◌, cond
 use Rattle.std.specs.BinaryHeap.{IsHeap}
 use Rattle.std.specs.Ordering.{nat_cmp}
 use Rattle.std.specs.declared.cmp.Reverse.{Reverse}
-use Rattle.napi_types.specs.Book.{Book, Registration, TicketState, Registered, Due, Begun, Ended, Withdrawn, is_registered, is_due, is_at}
 use Rattle.napi_types.specs.declared.duties.Slip.{Slip}
+use Rattle.napi_types.specs.parts.Book.{Book, Registration, TicketState, Registered, Due, Begun, Ended, Withdrawn, is_registered, is_due, is_at}
 use Rattle.finalizer_queue.specs.declared.rows.NewDuty.{NewDuty}
 use Rattle.finalizer_queue.specs.declared.rows.RowState.{RowState}
 use Rattle.finalizer_queue.specs.declared.rows.RowState.TheVariants as state

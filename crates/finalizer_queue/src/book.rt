@@ -1,7 +1,7 @@
 //! The tickets, each with what was registered under it.
 ghost use Rattle.std.specs.Prelude.{◌≡◌, ◌+◌, ◌<◌, ◌≤◌, ◌^◌, ◌++◌, ◌∷◌, ◌↔◌, [], length, true, None, IfSome, IfOk, OnOk};
 ghost use Rattle.std.specs.Option.{is_some};
-ghost use Rattle.napi_types.specs.Book.{is_registered, is_begun, is_at, registration_at, lowest_due, due_info, made_due, made_withdrawn, made_ended, made_due_and_begun, moved_at, all_due};
+ghost use Rattle.napi_types.specs.parts.Book.{is_registered, is_begun, is_at, registration_at, lowest_due, due_info, made_due, made_withdrawn, made_ended, made_due_and_begun, moved_at, all_due};
 ghost use Rattle.finalizer_queue.specs.Kept.{ticket_number, Takes};
 ghost use Rattle.finalizer_queue.specs.Rows.{registration_of};
 

@@ -1,6 +1,6 @@
 //! What stands under a ticket, read and changed by number.
 ghost use Rattle.std.specs.Prelude.{◌≡◌, ◌||◌, true};
-ghost use Rattle.napi_types.specs.Book.{is_registered, is_due, is_begun, is_at, due_info, made_due, made_withdrawn, made_due_and_begun, made_ended, moved};
+ghost use Rattle.napi_types.specs.parts.Book.{is_registered, is_due, is_begun, is_at, due_info, made_due, made_withdrawn, made_due_and_begun, made_ended, moved};
 ghost use Rattle.finalizer_queue.specs.Rows.{registration_of, row_registration, book_of};
 
 use napi_types::{Cause, Due, DueInfo, Duty, Slip, Status, Ticket};

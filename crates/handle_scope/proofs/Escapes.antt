@@ -14,7 +14,7 @@ use Rattle.std.proofs.lemmas.List.Sums.{sum_by-cons}
 use Rattle.std.proofs.lemmas.List.{get_or_append_left, get_or-append-add, get_or-take, get_or-set_same, get_or-set_other, get_or-map, length-map, length-set, length-append, length-reverse, length-take, reverse-reverse}
 use Rattle.std.proofs.lemmas.Option.{slice_get-get_or, slice_get_past}
 use Rattle.napi_types.specs.declared.ids.ScopeKind.TheVariants as kind
-use Rattle.napi_types.specs.Scopes.{value_in}
+use Rattle.napi_types.specs.parts.Scopes.{value_in}
 use Rattle.handle_scope.specs.declared.scopes.HeldHandle.{HeldHandle}
 use Rattle.handle_scope.specs.declared.scopes.ScopeMark.{ScopeMark}
 use Rattle.handle_scope.specs.declared.scopes.Escape.{Escape}

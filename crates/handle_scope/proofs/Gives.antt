@@ -2,7 +2,7 @@
 use Rattle.std.proofs.Common.{◌≡◌, ◌∙◌, ℕ, ◌≤◌, List, [], ◌∷◌, ◌++◌, length, reverse, take, drop, refl, ap, sym, subst, arith, Option}
 use Rattle.std.specs.Option.{option_or}
 use Rattle.std.proofs.lemmas.List.{take-append-drop, length-take-le}
-use Rattle.napi_types.specs.Scopes.{Held, FrameScopes, gives, value_in, value_in_scopes}
+use Rattle.napi_types.specs.parts.Scopes.{Held, FrameScopes, gives, value_in, value_in_scopes}
 use Rattle.handle_scope.specs.declared.scopes.ScopeMark.{ScopeMark}
 use Rattle.handle_scope.specs.declared.scopes.FrameMark.{FrameMark}
 use Rattle.handle_scope.specs.Marks.{waiting, all_waiting, scopes_above, frames_marked, AreScopesWithin, AreFramesWithin, AreInOrder, AreScopesInOrder, AreFramesInOrder, Rises}

@@ -3,7 +3,7 @@ use Rattle.std.proofs.Common.{◌≡◌, ℕ, zero, suc, ◌+◌, ◌<◌, ◌==
 use Rattle.std.proofs.lemmas.Bool.Decides.{nat_tests}
 use Rattle.std.proofs.lemmas.List.{get_or-map, length-map, get_or-append-add, length-append}
 use Rattle.std.specs.Option.{option_or}
-use Rattle.napi_types.specs.Scopes.{Held, value_in}
+use Rattle.napi_types.specs.parts.Scopes.{Held, value_in}
 use Rattle.handle_scope.specs.declared.scopes.HeldHandle.{HeldHandle}
 use Rattle.handle_scope.specs.Marks.{held_of, Rises}
 use Rattle.handle_scope.proofs.Numbers.{HasAt, Lacks, HasAt-tail, Lacks-tail, Rises-tail}

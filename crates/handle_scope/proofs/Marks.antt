@@ -7,9 +7,9 @@ use Rattle.std.proofs.Math.ListN.{set}
 use Rattle.std.proofs.lemmas.List.{set_split, set-get_or, drop-set-add, take-set-le, length-set}
 use Rattle.std.proofs.Math.Seq.{drop-length, take-length}
 use Rattle.napi_types.specs.declared.ids.ScopeKind.{ScopeKind}
-use Rattle.napi_types.specs.Lists.{first_changed}
-use Rattle.napi_types.specs.Scopes.{Held, FrameScopes, opened_scopes}
-use Rattle.napi_types.specs.ScopeChanges.{hold_in, open_in, close_in, escape_in, inside}
+use Rattle.napi_types.specs.plain.Lists.{first_changed}
+use Rattle.napi_types.specs.parts.ScopeChanges.{hold_in, open_in, close_in, escape_in, inside}
+use Rattle.napi_types.specs.parts.Scopes.{Held, FrameScopes, opened_scopes}
 use Rattle.handle_scope.specs.declared.scopes.HeldHandle.{HeldHandle}
 use Rattle.handle_scope.specs.declared.scopes.ScopeMark.{ScopeMark}
 use Rattle.handle_scope.specs.declared.scopes.FrameMark.{FrameMark}

@@ -5,7 +5,7 @@ use Rattle.std.specs.List.Sorted.{IsSearchInRange, IsBinarySearchResult}
 use Rattle.std.specs.Ordering.{nat_cmp}
 use Rattle.std.proofs.lemmas.Bool.{cases_lt}
 use Rattle.std.proofs.lemmas.List.{take-append-le, drop-append-le, take-take, take-append-drop, reverse-append, length-append, length-take-le, length-reverse, length-map, length-drop, map-append, get_or_append_left, get_or-append-add, get_or-append_right, get_or-map, get_or-drop, get_or-take, reverse-reverse}
-use Rattle.napi_types.specs.Scopes.{Held, FrameScopes}
+use Rattle.napi_types.specs.parts.Scopes.{Held, FrameScopes}
 use Rattle.handle_scope.specs.HandleScopes.{held_places, frame_places, handle_places}
 use Rattle.handle_scope.specs.declared.scopes.HeldHandle.{HeldHandle}
 use Rattle.handle_scope.specs.declared.scopes.ScopeMark.{ScopeMark}

@@ -9,9 +9,9 @@ use Rattle.napi_types.specs.declared.ids.ScopeKind.{ScopeKind}
 use Rattle.napi_types.specs.declared.ids.ScopeKind.TheVariants as scope_kind
 use Rattle.napi_types.specs.declared.status.Status.{Status}
 use Rattle.napi_types.specs.declared.status.Status.TheVariants as status
-use Rattle.napi_types.specs.Lists.{when, head}
-use Rattle.napi_types.specs.Scopes.{Held, Scope}
-use Rattle.napi_types.specs.ScopeRefusals.{has_scope, is_kind, closing, escapable_scope, escaping, refuses_escape}
+use Rattle.napi_types.specs.plain.Lists.{when, head}
+use Rattle.napi_types.specs.parts.ScopeRefusals.{has_scope, is_kind, closing, escapable_scope, escaping, refuses_escape}
+use Rattle.napi_types.specs.parts.Scopes.{Held, Scope}
 use Rattle.handle_scope.specs.declared.scopes.HeldHandle.{HeldHandle}
 use Rattle.handle_scope.specs.declared.scopes.ScopeMark.{ScopeMark}
 use Rattle.handle_scope.specs.Marks.{waiting, scopes_above, Rises, IsEscapable}

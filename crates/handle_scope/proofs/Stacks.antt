@@ -6,10 +6,10 @@ use Rattle.std.proofs.Math.Seq.{map-set_same}
 use Rattle.std.proofs.lemmas.List.{map-append, length-map, length-append, length-take-le, length-take, take-map, length-reverse, take_all, length-drop, length-set, get_or-drop}
 use Rattle.std.proofs.lemmas.List.Sums.{sum_by-take-le, sum_by_push, sum_by-set}
 use Rattle.napi_types.specs.declared.ids.ScopeKind.{ScopeKind}
-use Rattle.napi_types.specs.Lists.{first_changed, tail, head}
-use Rattle.napi_types.specs.Scopes.{Held, opened_scopes, gives, value_in}
-use Rattle.napi_types.specs.ScopeChanges.{hold_in, open_in, close_in, escape_in}
-use Rattle.napi_types.specs.ScopeRefusals.{closing, escaping}
+use Rattle.napi_types.specs.plain.Lists.{first_changed, tail, head}
+use Rattle.napi_types.specs.parts.ScopeChanges.{hold_in, open_in, close_in, escape_in}
+use Rattle.napi_types.specs.parts.ScopeRefusals.{closing, escaping}
+use Rattle.napi_types.specs.parts.Scopes.{Held, opened_scopes, gives, value_in}
 use Rattle.handle_scope.specs.HandleScopes.{handle_places}
 use Rattle.handle_scope.specs.declared.scopes.HeldHandle.{HeldHandle}
 use Rattle.handle_scope.specs.declared.scopes.ScopeMark.{ScopeMark}

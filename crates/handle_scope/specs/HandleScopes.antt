@@ -1,9 +1,9 @@
 -- The handle scopes as the machine sees them, and what each call makes of them.
 use Rattle.std.specs.Prelude.{ℕ, ◌+◌, ◌-◌, max, Bool, true, false, not, cond, List, [], ◌∷◌, ◌++◌, map, Option, Some, None}
 use Rattle.napi_types.specs.declared.ids.ScopeKind.{ScopeKind}
-use Rattle.napi_types.specs.Lists.{has_number, first_changed, tail, with_number}
-use Rattle.napi_types.specs.Scopes.{Held, Scope, FrameScopes, no_handles}
-use Rattle.napi_types.specs.ScopeChanges.{hold_in, open_in, close_in, escape_in}
+use Rattle.napi_types.specs.plain.Lists.{has_number, first_changed, tail, with_number}
+use Rattle.napi_types.specs.parts.ScopeChanges.{hold_in, open_in, close_in, escape_in}
+use Rattle.napi_types.specs.parts.Scopes.{Held, Scope, FrameScopes, no_handles}
 
 -- all handle scopes of an environment, and the numbers that were issued
 pub record HandleScopes : Type 0 where

@@ -2,9 +2,9 @@
 use Rattle.std.specs.Prelude.{◌≡◌, ◌≢◌, ℕ, ◌+◌, ◌*◌, ◌<◌, ◌≤◌, ◌==◌, ◌&&◌, Bool, true, cond, List, [], ◌∷◌, ◌++◌, length, map, reverse, take, drop, slice_index_or, slice_get, sum_by, Option, Some, None, option_map, option_and_then}
 use Rattle.std.specs.Option.{is_some, option_to_list}
 use Rattle.std.specs.List.{list_any}
-use Rattle.napi_types.specs.Frames.{most_frames}
-use Rattle.napi_types.specs.Scopes.{Held, FrameScopes, value_in}
-use Rattle.napi_types.specs.ScopeChanges.{inside}
+use Rattle.napi_types.specs.parts.Frames.{most_frames}
+use Rattle.napi_types.specs.parts.ScopeChanges.{inside}
+use Rattle.napi_types.specs.parts.Scopes.{Held, FrameScopes, value_in}
 use Rattle.handle_scope.specs.HandleScopes.{HandleScopes, held_places}
 use Rattle.handle_scope.specs.declared.scopes.HeldHandle.{HeldHandle}
 use Rattle.handle_scope.specs.declared.scopes.ScopeMark.{ScopeMark}

@@ -3,10 +3,10 @@ ghost use Rattle.std.specs.Prelude.{ℕ, ◌≡◌, ◌≢◌, ◌+◌, ◌*◌,
 ghost use Rattle.std.specs.Option.{is_some, option_to_list};
 ghost use Rattle.std.specs.Result.{result_err};
 ghost use Rattle.std.specs.List.{list_any};
-ghost use Rattle.napi_types.specs.Frames.{most_frames};
-ghost use Rattle.napi_types.specs.Lists.{head};
-ghost use Rattle.napi_types.specs.Scopes.{gives, value_in, opened_scopes};
-ghost use Rattle.napi_types.specs.ScopeRefusals.{is_kind, closing, escaping};
+ghost use Rattle.napi_types.specs.plain.Lists.{head};
+ghost use Rattle.napi_types.specs.parts.Frames.{most_frames};
+ghost use Rattle.napi_types.specs.parts.ScopeRefusals.{is_kind, closing, escaping};
+ghost use Rattle.napi_types.specs.parts.Scopes.{gives, value_in, opened_scopes};
 ghost use Rattle.handle_scope.specs.HandleScopes.{no_scopes, with_frame_scopes, with_call_scopes, without_frame_scopes, without_call_scopes, with_open_scope, without_innermost_scope, with_reserved_place, with_issued_handle, with_escaped_handle, handle_places, is_fresh_scope};
 ghost use Rattle.handle_scope.specs.Marks.{Rises, AreAtMost, AreStartsWithin, ArePlaced, IsTracked, IsEscapable, held_of, scopes_above, places_marked, all_waiting, waiting_value, place_left, with_spare};
 
@@ -80,7 +80,7 @@ impl Model for Scopes {
     ghost Value = { HandleScopes };
 
     ghost use Rattle.std.specs.Prelude.{map, reverse, vec_capacity};
-    ghost use Rattle.napi_types.specs.Lists.{up_to};
+    ghost use Rattle.napi_types.specs.plain.Lists.{up_to};
     ghost use Rattle.handle_scope.specs.Marks.{frames_of, FitsStack};
 
     ghost view = { λ s. record {

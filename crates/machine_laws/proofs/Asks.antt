@@ -8,17 +8,17 @@ use Rattle.napi_types.specs.declared.entry.Entry.{Entry}
 use Rattle.napi_types.specs.declared.call.Ask.{Ask}
 use Rattle.napi_types.specs.declared.call.Ask.TheVariants as ask
 use Rattle.napi_types.specs.declared.call.Call.{Call}
-use Rattle.napi_types.specs.Built.{built_ask}
-use Rattle.napi_types.specs.Lists.{head, tail}
-use Rattle.napi_types.specs.Frames.{Frame}
-use Rattle.napi_types.specs.Machine.{Machine}
-use Rattle.napi_types.specs.Run.{after, IsRunBy}
+use Rattle.napi_types.specs.plain.Built.{built_ask}
+use Rattle.napi_types.specs.plain.Lists.{head, tail}
+use Rattle.napi_types.specs.parts.Frames.{Frame}
+use Rattle.napi_types.specs.runs.Machine.{Machine}
+use Rattle.napi_types.specs.runs.Plan.{Plan, plan_of, Registers, registers_of, frame_ask, frames_ask, asked, asked_along, registers_after, loaded_registers}
+use Rattle.napi_types.specs.runs.Run.{after, IsRunBy}
+use Rattle.napi_types.specs.runs.Setting.{Setting, opening_of}
+use Rattle.napi_types.proofs.runs.Runs.{and-left, and-right}
 use Rattle.machine_laws.specs.Computing.{steps, entries_of}
-use Rattle.napi_types.specs.Plan.{Plan, plan_of, Registers, registers_of, frame_ask, frames_ask, asked, asked_along, registers_after, loaded_registers}
 use Rattle.machine_laws.specs.Told.{told_asks_along}
-use Rattle.napi_types.specs.Setting.{Setting, opening_of}
 use Rattle.machine_laws.specs.Told.{IsRun, all_told, told_asks}
-use Rattle.napi_types.proofs.Runs.{and-left, and-right}
 use Rattle.machine_laws.proofs.Computing.{entries-of}
 
 all-of-at : (ps : List Plan) (a : ℕ) → IsTrue (list_all is_some ps) → is_some (plan_of ps a) ≡ true

@@ -15,27 +15,27 @@ use Rattle.napi_types.specs.declared.entry.Phase.{Phase}
 use Rattle.napi_types.specs.declared.entry.Phase.TheVariants as phase
 use Rattle.napi_types.specs.declared.entry.What.{What}
 use Rattle.napi_types.specs.declared.entry.What.TheVariants as what
-use Rattle.napi_types.specs.Changes.{host_entry}
-use Rattle.napi_types.specs.Choice.{is_idle}
-use Rattle.napi_types.specs.Ends.{end_change}
-use Rattle.napi_types.specs.Functions.{closed, is_environment}
-use Rattle.napi_types.specs.Guards.{is_shared}
-use Rattle.napi_types.specs.Hub.{Hub}
-use Rattle.napi_types.specs.HubCalls.{is_thread_call}
-use Rattle.napi_types.specs.HubMoves.{hub_move}
-use Rattle.napi_types.specs.HubSteps.{HubStep, hub_step, hub_step_of, loop_end_step, frame_end_step, thread_step, thread_event, worker_step, worker_event, start_step, work_end_step}
-use Rattle.napi_types.specs.Machine.{Machine}
-use Rattle.napi_types.specs.Pool.{new_pool, drained, executed_by}
-use Rattle.napi_types.specs.Run.{IsRunBy, after, final}
-use Rattle.napi_types.specs.Setting.{Setting, opening_of, final_of}
-use Rattle.napi_types.specs.Step.{Step, has_room, step}
+use Rattle.napi_types.specs.plain.Guards.{is_shared}
+use Rattle.napi_types.specs.parts.Functions.{closed, is_environment}
+use Rattle.napi_types.specs.parts.Pool.{new_pool, drained, executed_by}
+use Rattle.napi_types.specs.environment.Changes.{host_entry}
+use Rattle.napi_types.specs.environment.Ends.{end_change}
+use Rattle.napi_types.specs.hub.Hub.{Hub}
+use Rattle.napi_types.specs.hub.HubCalls.{is_thread_call}
+use Rattle.napi_types.specs.hub.HubMoves.{hub_move}
+use Rattle.napi_types.specs.hub.HubSteps.{HubStep, hub_step, hub_step_of, loop_end_step, frame_end_step, thread_step, thread_event, worker_step, worker_event, start_step, work_end_step}
+use Rattle.napi_types.specs.runs.Choice.{is_idle}
+use Rattle.napi_types.specs.runs.Machine.{Machine}
+use Rattle.napi_types.specs.runs.Run.{IsRunBy, after, final}
+use Rattle.napi_types.specs.runs.Setting.{Setting, opening_of, final_of}
+use Rattle.napi_types.specs.runs.Step.{Step, has_room, step}
+use Rattle.napi_types.proofs.environment.FrameEnds.{ended-ends}
+use Rattle.napi_types.proofs.hub.HubKeeps.{hub_step-what, other-calls}
+use Rattle.napi_types.proofs.runs.Runs.{and-right}
+use Rattle.napi_types.proofs.runs.SharedSteps.{hub_step-end}
+use Rattle.napi_types.proofs.runs.StepCases.{StepCase, calls, ends, opens, inits, begins, vanishes, shares, leaves, passes, moves, others, event_before, step-case}
+use Rattle.napi_types.proofs.all_runs.Orderly.{Orderly, orderly-step, orderly-opens}
 use Rattle.machine_laws.specs.ExitLaws.{is_shared_call, has_shared}
-use Rattle.napi_types.proofs.FrameEnds.{ended-ends}
-use Rattle.napi_types.proofs.HubKeeps.{hub_step-what, other-calls}
-use Rattle.napi_types.proofs.Orderly.{Orderly, orderly-step, orderly-opens}
-use Rattle.napi_types.proofs.Runs.{and-right}
-use Rattle.napi_types.proofs.SharedSteps.{hub_step-end}
-use Rattle.napi_types.proofs.StepCases.{StepCase, calls, ends, opens, inits, begins, vanishes, shares, leaves, passes, moves, others, event_before, step-case}
 use Rattle.machine_laws.proofs.Forms.{shared-what}
 
 -- no work was created, and no function; the pool may be closing

@@ -5,8 +5,8 @@ use Rattle.std.specs.Option.{IfSome, unwrap_or}
 use Rattle.std.proofs.lemmas.Bool.{cases_lt}
 use Rattle.std.proofs.lemmas.List.{get_or_past}
 use Rattle.std.proofs.lemmas.List.Elements.{All-nil, All-cons, All-head, All-tail, All-append, All-set, All-replicate, All-get_or}
-use Rattle.napi_types.specs.Values.{Value, children, with_property, without_property, with_element, properties_of, elements_of}
-use Rattle.napi_types.specs.Properties.{Property, property_at, property_set, property_removed, element_at, element_set}
+use Rattle.napi_types.specs.parts.Properties.{Property, property_at, property_set, property_removed, element_at, element_set}
+use Rattle.napi_types.specs.parts.Values.{Value, children, with_property, without_property, with_element, properties_of, elements_of}
 
 -- the numbers that properties, and elements, name
 abbrev pub named : List Property → List ℕ

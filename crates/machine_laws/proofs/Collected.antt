@@ -6,14 +6,14 @@ use Rattle.std.proofs.lemmas.Bool.{eq-eqb, or_left, or_right}
 use Rattle.std.proofs.lemmas.List.Elements.{All-nil, All-cons, All-filter, All-map, All-weaker, filter_passes}
 use Rattle.std.proofs.lemmas.List.Folds.{list_any-append}
 use Rattle.std.proofs.lemmas.Map.Keys.{IsDistinct-head, IsDistinct-tail}
-use Rattle.napi_types.specs.Collection.{those_of, collected}
-use Rattle.napi_types.specs.Environment.{Environment, FunctionRoot}
-use Rattle.napi_types.specs.Lists.{has_number}
-use Rattle.napi_types.specs.Reach.{numbers, children_at}
-use Rattle.napi_types.specs.References.{Reference, strong_values, value_left}
-use Rattle.napi_types.specs.Roots.{roots, reach}
-use Rattle.napi_types.specs.Values.{Value, children, value_at, starting_values}
-use Rattle.napi_types.proofs.Reaching.{reach-roots, reach-closed, numbers-kept}
+use Rattle.napi_types.specs.plain.Lists.{has_number}
+use Rattle.napi_types.specs.parts.Reach.{numbers, children_at}
+use Rattle.napi_types.specs.parts.References.{Reference, strong_values, value_left}
+use Rattle.napi_types.specs.parts.Values.{Value, children, value_at, starting_values}
+use Rattle.napi_types.specs.environment.Collection.{those_of, collected}
+use Rattle.napi_types.specs.environment.Environment.{Environment, FunctionRoot}
+use Rattle.napi_types.specs.environment.Roots.{roots, reach}
+use Rattle.napi_types.proofs.parts.Reaching.{reach-roots, reach-closed, numbers-kept}
 use Rattle.machine_laws.specs.Consistency.{values_of_handles, IsLiveAmong}
 use Rattle.machine_laws.proofs.Children.{OfChildren}
 use Rattle.machine_laws.proofs.Counting.{Within, within-map, count-cons, issued-fewer}

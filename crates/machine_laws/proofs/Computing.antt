@@ -3,12 +3,12 @@ use Rattle.std.proofs.Common.{◌≡◌, ◌&&◌, List, [], ◌∷◌, IsTrue, 
 use Rattle.std.specs.Option.{unwrap_or}
 use Rattle.napi_types.specs.declared.entry.Entry.{Entry}
 use Rattle.napi_types.specs.declared.call.Ask.{Ask}
-use Rattle.napi_types.specs.Lists.{head, tail}
-use Rattle.napi_types.specs.Machine.{Machine}
-use Rattle.napi_types.specs.Step.{Step, step}
-use Rattle.napi_types.specs.Run.{after, IsRunBy}
+use Rattle.napi_types.specs.plain.Lists.{head, tail}
+use Rattle.napi_types.specs.runs.Machine.{Machine}
+use Rattle.napi_types.specs.runs.Run.{after, IsRunBy}
+use Rattle.napi_types.specs.runs.Step.{Step, step}
+use Rattle.napi_types.proofs.runs.Runs.{and-left, and-right, and-both}
 use Rattle.machine_laws.specs.Computing.{ComputesBy, steps, all_may, entries_of, is_paired}
-use Rattle.napi_types.proofs.Runs.{and-left, and-right, and-both}
 
 -- two facts on whole lists make a run
 pub run-of : (m : Machine) (bs : List Ask) (xs : List Entry) → ComputesBy m bs xs → IsRunBy m bs xs

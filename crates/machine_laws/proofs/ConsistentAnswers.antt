@@ -9,26 +9,26 @@ use Rattle.napi_types.specs.declared.call.Call.{Call}
 use Rattle.napi_types.specs.declared.call.Call.TheVariants as call
 use Rattle.napi_types.specs.declared.ids.TextNo.{TextNo}
 use Rattle.napi_types.specs.declared.status.Status.{Status}
-use Rattle.napi_types.specs.Attachments.{Attachments, wrap_ticket, with_attached}
-use Rattle.napi_types.specs.Book.{Book, Registration, made_withdrawn, moved_at, new_ticket, with_registration}
-use Rattle.napi_types.specs.Calls.{effect, answer_unless, answer_unless_deep}
-use Rattle.napi_types.specs.Changes.{call_change}
-use Rattle.napi_types.specs.Environment.{FunctionRoot, Environment, with_heap}
-use Rattle.napi_types.specs.ExceptionCalls.{with_pending, with_thrown_error}
-use Rattle.napi_types.specs.Frames.{caller_of, most_frames}
-use Rattle.napi_types.specs.Heap.{Heap, handle_value}
-use Rattle.napi_types.specs.HeapChanges.{with_handle, with_thrown, thrown_number}
-use Rattle.napi_types.specs.Hooks.{Hook, hook_ticket}
-use Rattle.napi_types.specs.InstanceData.{Instances, instance_ticket}
-use Rattle.napi_types.specs.Lists.{found}
-use Rattle.napi_types.specs.ReferenceCalls.{with_references, counted_up, value_told}
-use Rattle.napi_types.specs.References.{Reference, ReferenceMap, referred_value, with_reference, without_reference, with_count}
-use Rattle.napi_types.specs.Refusals.{early_refusal, depth_refusal}
-use Rattle.napi_types.specs.Registering.{finalizer_if, registering_if, registered_only, withdrawing}
-use Rattle.napi_types.specs.Replies.{Answer}
-use Rattle.napi_types.specs.Values.{undefined_value}
-use Rattle.napi_types.specs.WrapCalls.{with_attachments, referring_if}
-use Rattle.napi_types.proofs.Answers.{KeepsButAsk, call_change-keeps}
+use Rattle.napi_types.specs.plain.Lists.{found}
+use Rattle.napi_types.specs.plain.Replies.{Answer}
+use Rattle.napi_types.specs.parts.Attachments.{Attachments, wrap_ticket, with_attached}
+use Rattle.napi_types.specs.parts.Book.{Book, Registration, made_withdrawn, moved_at, new_ticket, with_registration}
+use Rattle.napi_types.specs.parts.Frames.{caller_of, most_frames}
+use Rattle.napi_types.specs.parts.Heap.{Heap, handle_value}
+use Rattle.napi_types.specs.parts.HeapChanges.{with_handle, with_thrown, thrown_number}
+use Rattle.napi_types.specs.parts.Hooks.{Hook, hook_ticket}
+use Rattle.napi_types.specs.parts.InstanceData.{Instances, instance_ticket}
+use Rattle.napi_types.specs.parts.References.{Reference, ReferenceMap, referred_value, with_reference, without_reference, with_count}
+use Rattle.napi_types.specs.parts.Values.{undefined_value}
+use Rattle.napi_types.specs.environment.Calls.{effect, answer_unless, answer_unless_deep}
+use Rattle.napi_types.specs.environment.Changes.{call_change}
+use Rattle.napi_types.specs.environment.Environment.{FunctionRoot, Environment, with_heap}
+use Rattle.napi_types.specs.environment.ExceptionCalls.{with_pending, with_thrown_error}
+use Rattle.napi_types.specs.environment.ReferenceCalls.{with_references, counted_up, value_told}
+use Rattle.napi_types.specs.environment.Refusals.{early_refusal, depth_refusal}
+use Rattle.napi_types.specs.environment.Registering.{finalizer_if, registering_if, registered_only, withdrawing}
+use Rattle.napi_types.specs.environment.WrapCalls.{with_attachments, referring_if}
+use Rattle.napi_types.proofs.environment.Answers.{KeepsButAsk, call_change-keeps}
 use Rattle.machine_laws.specs.Consistency.{IsConsistent, IsLiveAmong, IsMap}
 use Rattle.machine_laws.proofs.Collected.{heap-kept, referred-kept, pending-kept, rooted-kept}
 use Rattle.machine_laws.proofs.ConsistentCalls.{heap-call, handle-live, or-undefined}

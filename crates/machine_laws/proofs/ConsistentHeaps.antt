@@ -3,13 +3,13 @@ use Rattle.std.proofs.Common.{◌≡◌, ◌≤◌, arith, ℕ, ◌+◌, ◌==�
 use Rattle.std.specs.List.{All, count_by}
 use Rattle.std.proofs.lemmas.Bool.{ne_eqb, and_left}
 use Rattle.std.proofs.lemmas.List.Elements.{All-nil, All-cons}
-use Rattle.napi_types.specs.Heap.{Heap}
-use Rattle.napi_types.specs.HeapChanges.{with_handle, with_frame, without_frame}
-use Rattle.napi_types.specs.Lists.{one, tail, first_changed}
-use Rattle.napi_types.specs.Reach.{numbers}
-use Rattle.napi_types.specs.Scopes.{Held, FrameScopes, no_handles, held_by_frames}
-use Rattle.napi_types.specs.ScopeChanges.{hold_in}
-use Rattle.napi_types.specs.Values.{starting_values}
+use Rattle.napi_types.specs.plain.Lists.{one, tail, first_changed}
+use Rattle.napi_types.specs.parts.Heap.{Heap}
+use Rattle.napi_types.specs.parts.HeapChanges.{with_handle, with_frame, without_frame}
+use Rattle.napi_types.specs.parts.Reach.{numbers}
+use Rattle.napi_types.specs.parts.ScopeChanges.{hold_in}
+use Rattle.napi_types.specs.parts.Scopes.{Held, FrameScopes, no_handles, held_by_frames}
+use Rattle.napi_types.specs.parts.Values.{starting_values}
 use Rattle.machine_laws.specs.Consistency.{AreIssued, held_handles, values_of_handles, IsLiveAmong}
 use Rattle.machine_laws.proofs.Children.{OfChildren}
 use Rattle.machine_laws.proofs.Counting.{Within, counted, within-all, count-cons, issued-fewer, issued-next}

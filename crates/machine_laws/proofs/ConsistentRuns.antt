@@ -3,11 +3,11 @@ use Rattle.std.proofs.Common.{◌≡◌, arith, ℕ, ◌+◌, true, false, Bool,
 use Rattle.std.specs.List.{All, list_all}
 use Rattle.std.proofs.lemmas.Bool.{and_parts}
 use Rattle.std.proofs.lemmas.List.Elements.{All-nil, All-cons}
-use Rattle.napi_types.specs.Environment.{Environment, new_environment}
-use Rattle.napi_types.specs.Heap.{new_heap}
-use Rattle.napi_types.specs.Reach.{numbers}
-use Rattle.napi_types.specs.Values.{Value, children, starting_values}
-use Rattle.napi_types.specs.Setting.{opening_of}
+use Rattle.napi_types.specs.parts.Heap.{new_heap}
+use Rattle.napi_types.specs.parts.Reach.{numbers}
+use Rattle.napi_types.specs.parts.Values.{Value, children, starting_values}
+use Rattle.napi_types.specs.environment.Environment.{Environment, new_environment}
+use Rattle.napi_types.specs.runs.Setting.{opening_of}
 use Rattle.machine_laws.specs.Consistency.{AreIssued, IsConsistent, IsLiveAmong}
 use Rattle.machine_laws.specs.HandleLaws.{EnvironmentsAreConsistent}
 use Rattle.machine_laws.proofs.Children.{OfChildren}

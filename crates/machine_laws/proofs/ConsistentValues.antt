@@ -6,12 +6,12 @@ use Rattle.std.proofs.lemmas.List.{append-nil, append_assoc}
 use Rattle.std.proofs.lemmas.List.Elements.{All-nil, All-cons, All-head, All-tail, All-push, All-weaker}
 use Rattle.napi_types.specs.declared.body.Body.{Body}
 use Rattle.napi_types.specs.declared.ids.TextNo.{TextNo}
-use Rattle.napi_types.specs.Heap.{Heap, handle_value}
-use Rattle.napi_types.specs.HeapChanges.{with_handle, with_value, with_error, with_thrown, with_list, with_changed, thrown_number}
-use Rattle.napi_types.specs.Lists.{has_number}
-use Rattle.napi_types.specs.Reach.{numbers}
-use Rattle.napi_types.specs.Values.{Value, fresh_value, starting_values, value_changed}
-use Rattle.napi_types.specs.NewValues.{made_after, array_of, list_of, error_of, code_property, thrown_of, thrown_strings}
+use Rattle.napi_types.specs.plain.Lists.{has_number}
+use Rattle.napi_types.specs.parts.Heap.{Heap, handle_value}
+use Rattle.napi_types.specs.parts.HeapChanges.{with_handle, with_value, with_error, with_thrown, with_list, with_changed, thrown_number}
+use Rattle.napi_types.specs.parts.NewValues.{made_after, array_of, list_of, error_of, code_property, thrown_of, thrown_strings}
+use Rattle.napi_types.specs.parts.Reach.{numbers}
+use Rattle.napi_types.specs.parts.Values.{Value, fresh_value, starting_values, value_changed}
 use Rattle.machine_laws.specs.Consistency.{AreIssued, values_of_handles, IsLiveAmong}
 use Rattle.machine_laws.proofs.Children.{OfChildren, Keeps, named, children-of}
 use Rattle.machine_laws.proofs.Counting.{issued-next}

@@ -20,44 +20,44 @@ use Rattle.napi_types.specs.declared.entry.What.TheVariants as what
 use Rattle.napi_types.specs.declared.entry.Why.{Why}
 use Rattle.napi_types.specs.declared.ids.HandleId.{HandleId}
 use Rattle.napi_types.specs.declared.status.Status.{Status}
-use Rattle.napi_types.specs.Attachments.{wrap_ticket}
-use Rattle.napi_types.specs.Book.{Registration, lowest_due}
-use Rattle.napi_types.specs.Built.{is_exiting}
-use Rattle.napi_types.specs.Calls.{effect, answer_unless, answer_unless_deep, answer}
-use Rattle.napi_types.specs.Changes.{host_entry}
-use Rattle.napi_types.specs.Choice.{local_choice, hub_choice, choice, is_idle, is_quiet}
-use Rattle.napi_types.specs.Ends.{end_change_by, uncut_call_end, end_change}
-use Rattle.napi_types.specs.Entering.{function_change, asked_change}
-use Rattle.napi_types.specs.Environment.{Environment}
-use Rattle.napi_types.specs.Frames.{caller_of, cause_of}
-use Rattle.napi_types.specs.Guards.{is_shared}
-use Rattle.napi_types.specs.Heap.{handle_value}
-use Rattle.napi_types.specs.Hooks.{hook_ticket}
-use Rattle.napi_types.specs.Hub.{Stage, Before, Going, Looped, Drained, Final}
-use Rattle.napi_types.specs.HubMoves.{HubMove, Delivers, Closes, Finishes, hub_move}
-use Rattle.napi_types.specs.HubSteps.{hub_step, delivery_entry}
-use Rattle.napi_types.specs.InstanceData.{instance_ticket}
-use Rattle.napi_types.specs.Loop.{Event, Opens, Inits, Tickets, Moves, Goes, EndsLoop, Drains, FinalsCome, IsGone}
-use Rattle.napi_types.specs.Machine.{Machine}
-use Rattle.napi_types.specs.Phases.{stage_of}
-use Rattle.napi_types.specs.ReferenceCalls.{counted_up, value_told}
-use Rattle.napi_types.specs.References.{referred_value}
-use Rattle.napi_types.specs.Refusals.{early_refusal, depth_refusal, refusal}
-use Rattle.napi_types.specs.Registering.{finalizer_if, registering_if, registered_only, withdrawing}
-use Rattle.napi_types.specs.Replies.{Answer}
-use Rattle.napi_types.specs.Run.{IsRunBy, after, final}
-use Rattle.napi_types.specs.Setting.{opening_of, final_of}
-use Rattle.napi_types.specs.SharedCalls.{shared_entry}
-use Rattle.napi_types.specs.Step.{Step, locally, shared, move_step, event_step, answered_by, has_room, step}
-use Rattle.napi_types.specs.WrapCalls.{referring_if}
+use Rattle.napi_types.specs.plain.Built.{is_exiting}
+use Rattle.napi_types.specs.plain.Guards.{is_shared}
+use Rattle.napi_types.specs.plain.Phases.{stage_of}
+use Rattle.napi_types.specs.plain.Replies.{Answer}
+use Rattle.napi_types.specs.parts.Attachments.{wrap_ticket}
+use Rattle.napi_types.specs.parts.Book.{Registration, lowest_due}
+use Rattle.napi_types.specs.parts.Frames.{caller_of, cause_of}
+use Rattle.napi_types.specs.parts.Heap.{handle_value}
+use Rattle.napi_types.specs.parts.Hooks.{hook_ticket}
+use Rattle.napi_types.specs.parts.InstanceData.{instance_ticket}
+use Rattle.napi_types.specs.parts.References.{referred_value}
+use Rattle.napi_types.specs.environment.Calls.{effect, answer_unless, answer_unless_deep, answer}
+use Rattle.napi_types.specs.environment.Changes.{host_entry}
+use Rattle.napi_types.specs.environment.Ends.{end_change_by, uncut_call_end, end_change}
+use Rattle.napi_types.specs.environment.Entering.{function_change, asked_change}
+use Rattle.napi_types.specs.environment.Environment.{Environment}
+use Rattle.napi_types.specs.environment.ReferenceCalls.{counted_up, value_told}
+use Rattle.napi_types.specs.environment.Refusals.{early_refusal, depth_refusal, refusal}
+use Rattle.napi_types.specs.environment.Registering.{finalizer_if, registering_if, registered_only, withdrawing}
+use Rattle.napi_types.specs.environment.SharedCalls.{shared_entry}
+use Rattle.napi_types.specs.environment.WrapCalls.{referring_if}
+use Rattle.napi_types.specs.hub.Hub.{Stage, Before, Going, Looped, Drained, Final}
+use Rattle.napi_types.specs.hub.HubMoves.{HubMove, Delivers, Closes, Finishes, hub_move}
+use Rattle.napi_types.specs.hub.HubSteps.{hub_step, delivery_entry}
+use Rattle.napi_types.specs.runs.Choice.{local_choice, hub_choice, choice, is_idle, is_quiet}
+use Rattle.napi_types.specs.runs.Loop.{Event, Opens, Inits, Tickets, Moves, Goes, EndsLoop, Drains, FinalsCome, IsGone}
+use Rattle.napi_types.specs.runs.Machine.{Machine}
+use Rattle.napi_types.specs.runs.Run.{IsRunBy, after, final}
+use Rattle.napi_types.specs.runs.Setting.{opening_of, final_of}
+use Rattle.napi_types.specs.runs.Step.{Step, locally, shared, move_step, event_step, answered_by, has_room, step}
+use Rattle.napi_types.proofs.environment.FrameEnds.{ended-ends}
+use Rattle.napi_types.proofs.hub.HubKeeps.{hub_step-what}
+use Rattle.napi_types.proofs.runs.Runs.{and-right}
+use Rattle.napi_types.proofs.runs.SharedSteps.{is_of_others, others-told, after_shared-alone}
+use Rattle.napi_types.proofs.runs.StepCases.{StepCase, calls, ends, opens, inits, begins, vanishes, shares, leaves, passes, moves, others, event_before, InPhase, step-case}
+use Rattle.napi_types.proofs.all_runs.Orderly.{Orderly, orderly-step, orderly-opens}
 use Rattle.machine_laws.specs.Choices.{begins_due_tickets_in, is_of_frames, BeginsLowest, BeginsLastHook, BeginsOfHub}
 use Rattle.machine_laws.specs.ExitLaws.{asks_exit, has_exit, reason_of, ExitIsAskedByItsCall, EndsByReason, TheLoopEndsByItsReason, TheLoopEndsByExitOrIdle, WhatIsDueWaitsForFinalsOnceExitWasAsked}
-use Rattle.napi_types.proofs.FrameEnds.{ended-ends}
-use Rattle.napi_types.proofs.HubKeeps.{hub_step-what}
-use Rattle.napi_types.proofs.Orderly.{Orderly, orderly-step, orderly-opens}
-use Rattle.napi_types.proofs.Runs.{and-right}
-use Rattle.napi_types.proofs.SharedSteps.{is_of_others, others-told, after_shared-alone}
-use Rattle.napi_types.proofs.StepCases.{StepCase, calls, ends, opens, inits, begins, vanishes, shares, leaves, passes, moves, others, event_before, InPhase, step-case}
 use Rattle.machine_laws.proofs.Bare.{IsBare, bare-run, bare-idle}
 use Rattle.machine_laws.proofs.Beginning.{tickets-begin}
 use Rattle.machine_laws.proofs.Choosing.{Happens, happens-next, happens-what, hub-in-phase}

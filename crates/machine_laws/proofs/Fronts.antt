@@ -4,10 +4,10 @@ use Rattle.napi_types.specs.declared.call.Ask.{Ask}
 use Rattle.napi_types.specs.declared.call.Call.{Call}
 use Rattle.napi_types.specs.declared.entry.Entry.{Entry}
 use Rattle.machine_laws.specs.RunLaws.{FrontsAreRuns}
-use Rattle.napi_types.specs.Machine.{Machine}
-use Rattle.napi_types.specs.Plan.{Plan, Registers, asked, asked_along, registers_after, loaded_registers}
-use Rattle.napi_types.specs.Run.{IsRunBy, after}
-use Rattle.napi_types.specs.Setting.{opening_of}
+use Rattle.napi_types.specs.runs.Machine.{Machine}
+use Rattle.napi_types.specs.runs.Plan.{Plan, Registers, asked, asked_along, registers_after, loaded_registers}
+use Rattle.napi_types.specs.runs.Run.{IsRunBy, after}
+use Rattle.napi_types.specs.runs.Setting.{opening_of}
 
 pub steps-front : (m : Machine) (bs : List Ask) (xs : List Entry) (n : ℕ) → IsRunBy m bs xs → IsRunBy m (take n bs) (take n xs)
 steps-front m bs xs zero r = tt

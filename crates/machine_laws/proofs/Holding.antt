@@ -6,9 +6,9 @@ use Rattle.std.proofs.lemmas.Bool.{eqb-true, eq-eqb, and_from, and_parts}
 use Rattle.std.proofs.lemmas.List.Elements.{All-head, All-tail}
 use Rattle.std.proofs.lemmas.Option.{same_Some, none-some}
 use Rattle.napi_types.specs.declared.ids.ScopeKind.{ScopeKind}
-use Rattle.napi_types.specs.Lists.{first_changed, tail, one, found}
-use Rattle.napi_types.specs.Scopes.{Held, Scope, FrameScopes, no_handles, value_in, value_in_scopes, gives, held_by_scopes, held_by_frame, held_by_frames}
-use Rattle.napi_types.specs.ScopeChanges.{hold_at, hold_in, open_in, close_in, inside, escape_at, escape_in}
+use Rattle.napi_types.specs.plain.Lists.{first_changed, tail, one, found}
+use Rattle.napi_types.specs.parts.ScopeChanges.{hold_at, hold_in, open_in, close_in, inside, escape_at, escape_in}
+use Rattle.napi_types.specs.parts.Scopes.{Held, Scope, FrameScopes, no_handles, value_in, value_in_scopes, gives, held_by_scopes, held_by_frame, held_by_frames}
 use Rattle.machine_laws.specs.Consistency.{held_handles, values_of_handles}
 use Rattle.machine_laws.proofs.Counting.{Within, within-map, counted, count-append, count-cons}
 

@@ -10,13 +10,13 @@ use Rattle.napi_types.specs.declared.entry.What.{What}
 use Rattle.napi_types.specs.declared.entry.What.TheVariants as what
 use Rattle.napi_types.specs.declared.entry.Why.TheVariants as why
 use Rattle.napi_types.specs.declared.op.Op.{Op}
-use Rattle.napi_types.specs.Actors.{is_thread, thread_calls, left_after, IsNextOfThread, KeepsScriptFrom, KeepsScript}
-use Rattle.napi_types.specs.Hub.{Hub}
-use Rattle.napi_types.specs.HubSteps.{hub_step}
-use Rattle.napi_types.specs.Lists.{head, tail}
-use Rattle.napi_types.specs.Room.{Room, history_room, is_full, may_want_memory}
-use Rattle.napi_types.specs.Setting.{Setting, opening_of}
-use Rattle.napi_types.proofs.Runs.{and-left, and-right}
+use Rattle.napi_types.specs.plain.Lists.{head, tail}
+use Rattle.napi_types.specs.plain.Room.{Room, history_room, is_full, may_want_memory}
+use Rattle.napi_types.specs.hub.Actors.{is_thread, thread_calls, left_after, IsNextOfThread, KeepsScriptFrom, KeepsScript}
+use Rattle.napi_types.specs.hub.Hub.{Hub}
+use Rattle.napi_types.specs.hub.HubSteps.{hub_step}
+use Rattle.napi_types.specs.runs.Setting.{Setting, opening_of}
+use Rattle.napi_types.proofs.runs.Runs.{and-left, and-right}
 
 -- the entry that must stand as the next one of a thread, and whether it may
 abbrev next_of_thread : Room → ℕ → Option (List Call) → Entry → What → Entry × Bool

@@ -19,32 +19,32 @@ use Rattle.napi_types.specs.declared.entry.Why.{Why}
 use Rattle.napi_types.specs.declared.ids.HandleId.{HandleId}
 use Rattle.napi_types.specs.declared.ids.TsfnId.{TsfnId}
 use Rattle.napi_types.specs.declared.status.Status.{Status}
-use Rattle.napi_types.specs.Book.{Registration, registration_at}
-use Rattle.napi_types.specs.Calls.{effect, answer_unless, answer_unless_deep}
-use Rattle.napi_types.specs.Changes.{call_change, host_entry, number_of}
-use Rattle.napi_types.specs.Choice.{choice}
-use Rattle.napi_types.specs.Ends.{uncut_call_end, end_change_by, end_change}
-use Rattle.napi_types.specs.Entering.{function_change, asked_change}
-use Rattle.napi_types.specs.Environment.{Environment, FunctionRoot}
-use Rattle.napi_types.specs.Frames.{caller_of, cause_of}
-use Rattle.napi_types.specs.Guards.{is_shared}
-use Rattle.napi_types.specs.Heap.{handle_value}
-use Rattle.napi_types.specs.HubMoves.{HubMove, Delivers, Closes, Finishes, hub_move}
-use Rattle.napi_types.specs.HubSteps.{hub_step, finish_step}
-use Rattle.napi_types.specs.InstanceData.{instance_ticket}
-use Rattle.napi_types.specs.Lists.{one}
-use Rattle.napi_types.specs.Loop.{Event, Opens, Inits, Tickets, Moves, Goes, EndsLoop, Drains, FinalsCome, IsGone}
-use Rattle.napi_types.specs.Machine.{Machine}
-use Rattle.napi_types.specs.ReferenceCalls.{value_told, counted_up}
-use Rattle.napi_types.specs.References.{referred_value}
-use Rattle.napi_types.specs.Refusals.{early_refusal, depth_refusal, refusal}
-use Rattle.napi_types.specs.Registering.{finalizer_if, registering_if, registered_only, withdrawing}
-use Rattle.napi_types.specs.Replies.{Answer}
-use Rattle.napi_types.specs.Run.{after, final}
-use Rattle.napi_types.specs.SharedCalls.{with_root, without_root, shared_entry}
-use Rattle.napi_types.specs.Step.{Step, ticket_step, move_step, event_step, shared_call_step, end_step_on, step}
-use Rattle.napi_types.specs.WrapCalls.{wrapping, finalizing}
-use Rattle.napi_types.proofs.SharedSteps.{is_of_others}
+use Rattle.napi_types.specs.plain.Guards.{is_shared}
+use Rattle.napi_types.specs.plain.Lists.{one}
+use Rattle.napi_types.specs.plain.Replies.{Answer}
+use Rattle.napi_types.specs.parts.Book.{Registration, registration_at}
+use Rattle.napi_types.specs.parts.Frames.{caller_of, cause_of}
+use Rattle.napi_types.specs.parts.Heap.{handle_value}
+use Rattle.napi_types.specs.parts.InstanceData.{instance_ticket}
+use Rattle.napi_types.specs.parts.References.{referred_value}
+use Rattle.napi_types.specs.environment.Calls.{effect, answer_unless, answer_unless_deep}
+use Rattle.napi_types.specs.environment.Changes.{call_change, host_entry, number_of}
+use Rattle.napi_types.specs.environment.Ends.{uncut_call_end, end_change_by, end_change}
+use Rattle.napi_types.specs.environment.Entering.{function_change, asked_change}
+use Rattle.napi_types.specs.environment.Environment.{Environment, FunctionRoot}
+use Rattle.napi_types.specs.environment.ReferenceCalls.{value_told, counted_up}
+use Rattle.napi_types.specs.environment.Refusals.{early_refusal, depth_refusal, refusal}
+use Rattle.napi_types.specs.environment.Registering.{finalizer_if, registering_if, registered_only, withdrawing}
+use Rattle.napi_types.specs.environment.SharedCalls.{with_root, without_root, shared_entry}
+use Rattle.napi_types.specs.environment.WrapCalls.{wrapping, finalizing}
+use Rattle.napi_types.specs.hub.HubMoves.{HubMove, Delivers, Closes, Finishes, hub_move}
+use Rattle.napi_types.specs.hub.HubSteps.{hub_step, finish_step}
+use Rattle.napi_types.specs.runs.Choice.{choice}
+use Rattle.napi_types.specs.runs.Loop.{Event, Opens, Inits, Tickets, Moves, Goes, EndsLoop, Drains, FinalsCome, IsGone}
+use Rattle.napi_types.specs.runs.Machine.{Machine}
+use Rattle.napi_types.specs.runs.Run.{after, final}
+use Rattle.napi_types.specs.runs.Step.{Step, ticket_step, move_step, event_step, shared_call_step, end_step_on, step}
+use Rattle.napi_types.proofs.runs.SharedSteps.{is_of_others}
 use Rattle.machine_laws.specs.FunctionRoots.{kept_by, is_finish_of, tells_finish, KeepsOn, NewFunctionsKeepTheirValue, FunctionsKeepUntilTheyFinish, FinishedFunctionsKeepNone}
 use Rattle.machine_laws.proofs.Chosen.{chosen-move}
 use Rattle.machine_laws.proofs.Forms as form

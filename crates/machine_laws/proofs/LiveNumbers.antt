@@ -6,10 +6,10 @@ use Rattle.std.proofs.lemmas.List.{map-append}
 use Rattle.std.proofs.lemmas.List.Elements.{All-nil, All-cons, All-head, All-tail, All-weaker}
 use Rattle.std.proofs.lemmas.List.Folds.{list_any-append}
 use Rattle.napi_types.specs.declared.body.Body.{Body}
-use Rattle.napi_types.specs.Lists.{has_number}
-use Rattle.napi_types.specs.Reach.{numbers}
-use Rattle.napi_types.specs.Values.{Value, value_changed}
-use Rattle.napi_types.specs.NewValues.{made_after}
+use Rattle.napi_types.specs.plain.Lists.{has_number}
+use Rattle.napi_types.specs.parts.NewValues.{made_after}
+use Rattle.napi_types.specs.parts.Reach.{numbers}
+use Rattle.napi_types.specs.parts.Values.{Value, value_changed}
 use Rattle.machine_laws.specs.Consistency.{IsLiveAmong}
 use Rattle.machine_laws.proofs.Children.{OfChildren, Keeps}
 use Rattle.machine_laws.proofs.Counting.{Within, within-map, count-append}

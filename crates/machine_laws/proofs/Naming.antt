@@ -6,11 +6,11 @@ use Rattle.std.specs.List.{list_all}
 use Rattle.std.specs.Option.{option_or}
 use Rattle.napi_types.specs.declared.call.Call.TheVariants as call
 use Rattle.napi_types.specs.declared.status.Status.{Status}
-use Rattle.napi_types.specs.Frames.{caller_of}
-use Rattle.napi_types.specs.HookRefusals.{hook_refusal}
-use Rattle.napi_types.specs.Lists.{has_number}
-use Rattle.napi_types.specs.ReferenceRefusals.{reference_refusal}
-use Rattle.napi_types.specs.Refusals.{refusal_in, attached_refusal}
+use Rattle.napi_types.specs.plain.Lists.{has_number}
+use Rattle.napi_types.specs.parts.Frames.{caller_of}
+use Rattle.napi_types.specs.parts.HookRefusals.{hook_refusal}
+use Rattle.napi_types.specs.parts.ReferenceRefusals.{reference_refusal}
+use Rattle.napi_types.specs.environment.Refusals.{refusal_in, attached_refusal}
 use Rattle.machine_laws.specs.CallLaws.{ReferencesAreNamedAlone, HooksAreNamedAlone}
 
 option_or-none : (s : Option Status) → option_or s None ≡ s

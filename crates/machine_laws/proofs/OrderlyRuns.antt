@@ -2,12 +2,12 @@
 use Rattle.std.proofs.Common.{List, [], ◌∷◌}
 use Rattle.napi_types.specs.declared.call.Ask.{Ask}
 use Rattle.napi_types.specs.declared.entry.Entry.{Entry}
-use Rattle.napi_types.specs.Machine.{Machine}
-use Rattle.napi_types.specs.Run.{IsRunBy, after, final}
-use Rattle.napi_types.specs.Setting.{Setting, opening_of, final_of}
-use Rattle.napi_types.specs.Step.{step}
-use Rattle.napi_types.proofs.Orderly.{Orderly, orderly-step, orderly-opens}
-use Rattle.napi_types.proofs.StepCases.{step-case}
+use Rattle.napi_types.specs.runs.Machine.{Machine}
+use Rattle.napi_types.specs.runs.Run.{IsRunBy, after, final}
+use Rattle.napi_types.specs.runs.Setting.{Setting, opening_of, final_of}
+use Rattle.napi_types.specs.runs.Step.{step}
+use Rattle.napi_types.proofs.runs.StepCases.{step-case}
+use Rattle.napi_types.proofs.all_runs.Orderly.{Orderly, orderly-step, orderly-opens}
 
 run-orderly : (m : Machine) (bs : List Ask) (xs : List Entry) → Orderly m → IsRunBy m bs xs → Orderly (final m bs xs)
 run-orderly m (a ∷ bs) (x ∷ xs) here run =

@@ -8,18 +8,18 @@ use Rattle.napi_types.specs.declared.entry.HostStep.{HostStep}
 use Rattle.napi_types.specs.declared.entry.HostStep.TheVariants as host
 use Rattle.napi_types.specs.declared.entry.What.{What}
 use Rattle.napi_types.specs.declared.entry.What.TheVariants as what
-use Rattle.napi_types.specs.Hub.{Hub, left_of}
-use Rattle.napi_types.specs.HubCalls.{hub_answer, is_thread_call}
-use Rattle.napi_types.specs.HubSteps.{hub_step, hub_step_of, is_gone_on, is_thread_there, is_worker_there, nothing_given, is_thread_end, thread_step, thread_event, worker_step, worker_event, start_step, work_end_step}
-use Rattle.napi_types.specs.Lists.{has_number}
-use Rattle.napi_types.specs.Machine.{Machine}
-use Rattle.napi_types.specs.Pool.{executed_by}
-use Rattle.napi_types.specs.Run.{IsNext}
-use Rattle.napi_types.specs.Step.{has_room, step_of}
+use Rattle.napi_types.specs.plain.Lists.{has_number}
+use Rattle.napi_types.specs.parts.Pool.{executed_by}
+use Rattle.napi_types.specs.hub.Hub.{Hub, left_of}
+use Rattle.napi_types.specs.hub.HubCalls.{hub_answer, is_thread_call}
+use Rattle.napi_types.specs.hub.HubSteps.{hub_step, hub_step_of, is_gone_on, is_thread_there, is_worker_there, nothing_given, is_thread_end, thread_step, thread_event, worker_step, worker_event, start_step, work_end_step}
+use Rattle.napi_types.specs.runs.Machine.{Machine}
+use Rattle.napi_types.specs.runs.Run.{IsNext}
+use Rattle.napi_types.specs.runs.Step.{has_room, step_of}
+use Rattle.napi_types.proofs.hub.HubKeeps.{answered-may}
+use Rattle.napi_types.proofs.runs.Runs.{and-left, and-right}
 use Rattle.machine_laws.specs.Choices.{is_of_threads, is_of_workers, IsOfOther, OthersComeWhereTheyAre}
 use Rattle.machine_laws.specs.Cuts.{IsOnlyNext, IsOnlyOfEnvironment}
-use Rattle.napi_types.proofs.HubKeeps.{answered-may}
-use Rattle.napi_types.proofs.Runs.{and-left, and-right}
 
 -- THREADS
 abbrev OfThread : Hub → ℕ → What → Type 0

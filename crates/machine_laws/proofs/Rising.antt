@@ -5,10 +5,10 @@ use Rattle.std.proofs.lemmas.Bool.{ltb-true, eq-eqb, eqb-true, cases_lt}
 use Rattle.std.proofs.lemmas.Bool.Decides.{nat_tests}
 use Rattle.std.proofs.lemmas.List.Elements.{All-append, All-cons, All-filter, All-head, All-map, All-nil, All-tail, All-weaker, filter_passes}
 use Rattle.std.proofs.lemmas.List.Folds.{list_any-append}
-use Rattle.napi_types.specs.Lists.{found, has_number, with_record, with_number}
-use Rattle.napi_types.specs.References.{Reference, ReferenceMap, no_references, with_reference, without_reference, with_count, emptied, value_left}
-use Rattle.napi_types.proofs.Maps.{All-with_record}
-use Rattle.napi_types.proofs.Reaching.{has_number-filter}
+use Rattle.napi_types.specs.plain.Lists.{found, has_number, with_record, with_number}
+use Rattle.napi_types.specs.parts.References.{Reference, ReferenceMap, no_references, with_reference, without_reference, with_count, emptied, value_left}
+use Rattle.napi_types.proofs.plain.Maps.{All-with_record}
+use Rattle.napi_types.proofs.parts.Reaching.{has_number-filter}
 use Rattle.machine_laws.specs.Consistency.{RisesBy, IsMap}
 
 -- RISING RECORDS

@@ -6,9 +6,9 @@ use Rattle.napi_types.specs.declared.entry.Local.{Local}
 use Rattle.napi_types.specs.declared.entry.Phase.TheVariants as phase
 use Rattle.machine_laws.specs.Computing.{ComputesBy}
 use Rattle.machine_laws.specs.Told.{IsRun, told_asks, EndsOnItsLists}
-use Rattle.napi_types.specs.Parting.{IsParted}
-use Rattle.napi_types.specs.Setting.{Setting, opening_of, final_of, planned_asks, EndsBy}
-use Rattle.napi_types.specs.Weave.{weave}
+use Rattle.napi_types.specs.plain.Weave.{weave}
+use Rattle.napi_types.specs.runs.Parting.{IsParted}
+use Rattle.napi_types.specs.runs.Setting.{Setting, opening_of, final_of, planned_asks, EndsBy}
 use Rattle.machine_laws.proofs.Computing.{run-of}
 
 pub ends-of : (s : Setting) (bs : List Ask) (xs : List Entry) → ComputesBy (opening_of s) bs xs → bs ≡ planned_asks s bs xs → (final_of s bs xs).env.phase ≡ phase.Gone

@@ -3,9 +3,9 @@ use Rattle.std.proofs.Common.{◌≡◌, ◌<◌, ◌≤◌, arith, ℕ, ◌==�
 use Rattle.std.specs.List.{IsDistinct, count_by}
 use Rattle.std.proofs.lemmas.Bool.{and_left, cases_lt}
 use Rattle.std.proofs.lemmas.Map.Keys.{IsDistinct-tail}
-use Rattle.napi_types.specs.Environment.{Environment}
-use Rattle.napi_types.specs.Scopes.{Held, held_by_frames, gives}
-use Rattle.napi_types.specs.Setting.{opening_of, final_of}
+use Rattle.napi_types.specs.parts.Scopes.{Held, held_by_frames, gives}
+use Rattle.napi_types.specs.environment.Environment.{Environment}
+use Rattle.napi_types.specs.runs.Setting.{opening_of, final_of}
 use Rattle.machine_laws.specs.Consistency.{IsConsistent}
 use Rattle.machine_laws.specs.HandleLaws.{HandlesAreStable}
 use Rattle.machine_laws.proofs.ConsistentAnswers.{Follows}

@@ -14,30 +14,30 @@ use Rattle.napi_types.specs.declared.entry.Out.{Out}
 use Rattle.napi_types.specs.declared.entry.Out.TheVariants as out
 use Rattle.napi_types.specs.declared.entry.Why.{Why}
 use Rattle.napi_types.specs.declared.ids.HandleId.{HandleId}
-use Rattle.napi_types.specs.Book.{Registration, registration_at}
-use Rattle.napi_types.specs.Changes.{host_entry, number_of}
-use Rattle.napi_types.specs.Choice.{choice}
-use Rattle.napi_types.specs.Duties.{duties_of, AreNested}
-use Rattle.napi_types.specs.Ends.{end_change}
-use Rattle.napi_types.specs.Environment.{Environment}
-use Rattle.napi_types.specs.Frames.{Frame, duty_of, is_hub_duty}
-use Rattle.napi_types.specs.Hub.{Hub}
-use Rattle.napi_types.specs.HubMoves.{HubMove, Delivers, Closes, Finishes, hub_move}
-use Rattle.napi_types.specs.HubSteps.{HubStep, hub_step, begin_step, close_step, finish_step, frame_end_step, delivery_entry}
-use Rattle.napi_types.specs.Lists.{tail}
-use Rattle.napi_types.specs.Loop.{Event, Opens, Inits, Tickets, Moves, Goes, EndsLoop, Drains, FinalsCome, IsGone}
-use Rattle.napi_types.specs.Machine.{Machine}
-use Rattle.napi_types.specs.Run.{IsRunBy, after, final}
-use Rattle.napi_types.specs.Setting.{Setting, opening_of, final_of}
-use Rattle.napi_types.specs.SharedCalls.{shared_entry}
-use Rattle.napi_types.specs.Step.{Step, ticket_step, event_step, shared_call_step, end_step_on, step}
+use Rattle.napi_types.specs.plain.Lists.{tail}
+use Rattle.napi_types.specs.parts.Book.{Registration, registration_at}
+use Rattle.napi_types.specs.parts.Duties.{duties_of, AreNested}
+use Rattle.napi_types.specs.parts.Frames.{Frame, duty_of, is_hub_duty}
+use Rattle.napi_types.specs.environment.Changes.{host_entry, number_of}
+use Rattle.napi_types.specs.environment.Ends.{end_change}
+use Rattle.napi_types.specs.environment.Environment.{Environment}
+use Rattle.napi_types.specs.environment.SharedCalls.{shared_entry}
+use Rattle.napi_types.specs.hub.Hub.{Hub}
+use Rattle.napi_types.specs.hub.HubMoves.{HubMove, Delivers, Closes, Finishes, hub_move}
+use Rattle.napi_types.specs.hub.HubSteps.{HubStep, hub_step, begin_step, close_step, finish_step, frame_end_step, delivery_entry}
+use Rattle.napi_types.specs.runs.Choice.{choice}
+use Rattle.napi_types.specs.runs.Loop.{Event, Opens, Inits, Tickets, Moves, Goes, EndsLoop, Drains, FinalsCome, IsGone}
+use Rattle.napi_types.specs.runs.Machine.{Machine}
+use Rattle.napi_types.specs.runs.Run.{IsRunBy, after, final}
+use Rattle.napi_types.specs.runs.Setting.{Setting, opening_of, final_of}
+use Rattle.napi_types.specs.runs.Step.{Step, ticket_step, event_step, shared_call_step, end_step_on, step}
+use Rattle.napi_types.proofs.environment.FrameChanges.{ended-keeps}
+use Rattle.napi_types.proofs.environment.FrameEnds.{ended-ends}
+use Rattle.napi_types.proofs.environment.StandingFrames.{counted-duties, duties-asked, duty-alone}
+use Rattle.napi_types.proofs.hub.HubKeeps.{given-keeps, other-keeps}
+use Rattle.napi_types.proofs.runs.Runs.{and-right}
+use Rattle.napi_types.proofs.runs.SharedSteps.{hub_step-end, after_shared-alone, delivery-of_hub}
 use Rattle.machine_laws.specs.Cuts.{StandsInHub, hub_duties, standing_duties, FramesStandInTheHub, HubDutiesStandInTheHub}
-use Rattle.napi_types.proofs.FrameChanges.{ended-keeps}
-use Rattle.napi_types.proofs.FrameEnds.{ended-ends}
-use Rattle.napi_types.proofs.HubKeeps.{given-keeps, other-keeps}
-use Rattle.napi_types.proofs.Runs.{and-right}
-use Rattle.napi_types.proofs.SharedSteps.{hub_step-end, after_shared-alone, delivery-of_hub}
-use Rattle.napi_types.proofs.StandingFrames.{counted-duties, duties-asked, duty-alone}
 use Rattle.machine_laws.proofs.Chosen.{chosen-move}
 use Rattle.machine_laws.proofs.Forms as form
 use Rattle.machine_laws.proofs.Forms.{Form, form-of}

@@ -7,8 +7,8 @@ use Rattle.std.proofs.lemmas.Bool.Decides.{nat_tests}
 use Rattle.std.proofs.lemmas.List.{append-nil}
 use Rattle.std.proofs.lemmas.List.Elements.{filter-append}
 use Rattle.std.proofs.lemmas.List.Folds.{find-append}
-use Rattle.napi_types.specs.Lists.{found, has, with_record, as_map, with_number}
-use Rattle.napi_types.specs.References.{Reference}
+use Rattle.napi_types.specs.plain.Lists.{found, has, with_record, as_map, with_number}
+use Rattle.napi_types.specs.parts.References.{Reference}
 use Rattle.napi_reference.specs.Places.{standing}
 
 -- TWO TESTS

@@ -13,25 +13,25 @@ use Rattle.napi_types.specs.declared.ids.TsfnId.{TsfnId}
 use Rattle.napi_types.specs.declared.ids.WorkId.{WorkId}
 use Rattle.napi_types.specs.declared.status.Status.{Status}
 use Rattle.napi_types.specs.declared.status.Status.TheVariants as status
-use Rattle.napi_types.specs.Calls.{answer, with_depth_error, groups}
-use Rattle.napi_types.specs.Built.{is_built, is_calling}
-use Rattle.napi_types.specs.Changes.{call_change}
-use Rattle.napi_types.specs.Environment.{Environment}
-use Rattle.napi_types.specs.Frames.{caller_of, ask_counted}
-use Rattle.napi_types.specs.Guards.{is_registering, is_shared}
-use Rattle.napi_types.specs.Heap.{Heap, handle_body}
-use Rattle.napi_types.specs.HookRefusals.{hook_refusal}
-use Rattle.napi_types.specs.Lists.{has_number}
-use Rattle.napi_types.specs.Replies.{plain}
-use Rattle.napi_types.specs.ReferenceRefusals.{references_of, reference_refusal}
-use Rattle.napi_types.specs.NamedNumbers.{handles_of, texts_of, unknown_refusal}
-use Rattle.napi_types.specs.Moments.{moment_refusal}
-use Rattle.napi_types.specs.ExpectedKinds.{kind_refusal}
-use Rattle.napi_types.specs.OwnRefusals.{row_refusal}
-use Rattle.napi_types.specs.Refusals.{refusal_in, attached_refusal, timely_refusal, early_refusal, depth_refusal, refusal}
-use Rattle.napi_types.specs.Room.{one_if, need, is_growing}
-use Rattle.napi_types.specs.Scopes.{gives}
-use Rattle.napi_types.specs.Texts.{fixed_texts, message_text, code_text}
+use Rattle.napi_types.specs.plain.Built.{is_built, is_calling}
+use Rattle.napi_types.specs.plain.Guards.{is_registering, is_shared}
+use Rattle.napi_types.specs.plain.Lists.{has_number}
+use Rattle.napi_types.specs.plain.Replies.{plain}
+use Rattle.napi_types.specs.plain.Room.{one_if, need, is_growing}
+use Rattle.napi_types.specs.plain.Texts.{fixed_texts, message_text, code_text}
+use Rattle.napi_types.specs.parts.ExpectedKinds.{kind_refusal}
+use Rattle.napi_types.specs.parts.Frames.{caller_of, ask_counted}
+use Rattle.napi_types.specs.parts.Heap.{Heap, handle_body}
+use Rattle.napi_types.specs.parts.HookRefusals.{hook_refusal}
+use Rattle.napi_types.specs.parts.NamedNumbers.{handles_of, texts_of, unknown_refusal}
+use Rattle.napi_types.specs.parts.OwnRefusals.{row_refusal}
+use Rattle.napi_types.specs.parts.ReferenceRefusals.{references_of, reference_refusal}
+use Rattle.napi_types.specs.parts.Scopes.{gives}
+use Rattle.napi_types.specs.environment.Calls.{answer, with_depth_error, groups}
+use Rattle.napi_types.specs.environment.Changes.{call_change}
+use Rattle.napi_types.specs.environment.Environment.{Environment}
+use Rattle.napi_types.specs.environment.Moments.{moment_refusal}
+use Rattle.napi_types.specs.environment.Refusals.{refusal_in, attached_refusal, timely_refusal, early_refusal, depth_refusal, refusal}
 
 -- the call is refused as one at a wrong moment, or else as an invalid argument; it tells nothing, and leaves the environment as it was
 pub record RefusesArgument (e : Environment) (c : Call) : Type 0 where

@@ -2,9 +2,9 @@
 use Rattle.std.specs.Prelude.{◌≡◌, Bool, true, false, ◌&&◌, List, [], ◌∷◌, IsTrue}
 use Rattle.napi_types.specs.declared.entry.Entry.{Entry}
 use Rattle.napi_types.specs.declared.call.Ask.{Ask}
-use Rattle.napi_types.specs.Machine.{Machine}
-use Rattle.napi_types.specs.Run.{after}
-use Rattle.napi_types.specs.Step.{Step, step}
+use Rattle.napi_types.specs.runs.Machine.{Machine}
+use Rattle.napi_types.specs.runs.Run.{after}
+use Rattle.napi_types.specs.runs.Step.{Step, step}
 
 -- the steps of whole lists
 abbrev pub steps : Machine → List Ask → List Entry → List Step

@@ -2,13 +2,13 @@
 use Rattle.std.specs.Prelude.{◌≡◌, ◌<◌, ◌≤◌, ℕ, nat_eq, true, List, [], ◌∷◌, length, map}
 use Rattle.std.specs.List.{All, IsDistinct}
 use Rattle.std.specs.Option.{IfSome}
-use Rattle.napi_types.specs.Environment.{Environment}
-use Rattle.napi_types.specs.Frames.{most_frames}
-use Rattle.napi_types.specs.Lists.{has_number}
-use Rattle.napi_types.specs.Reach.{numbers}
-use Rattle.napi_types.specs.References.{ReferenceMap}
-use Rattle.napi_types.specs.Scopes.{FrameScopes, held_by_frames}
-use Rattle.napi_types.specs.Values.{Value, children, starting_values}
+use Rattle.napi_types.specs.plain.Lists.{has_number}
+use Rattle.napi_types.specs.parts.Frames.{most_frames}
+use Rattle.napi_types.specs.parts.Reach.{numbers}
+use Rattle.napi_types.specs.parts.References.{ReferenceMap}
+use Rattle.napi_types.specs.parts.Scopes.{FrameScopes, held_by_frames}
+use Rattle.napi_types.specs.parts.Values.{Value, children, starting_values}
+use Rattle.napi_types.specs.environment.Environment.{Environment}
 
 -- these numbers were issued, where numbers are issued from 1 to the last one: each is one of those, and none stands twice
 pub record AreIssued (last : ℕ) (ns : List ℕ) : Type 0 where

@@ -2,13 +2,13 @@
 use Rattle.std.specs.Prelude.{ℕ, ◌+◌, List, [], ◌∷◌, ◌++◌, Some, replicate}
 use Rattle.napi_types.specs.declared.body.Body.TheVariants as body
 use Rattle.napi_types.specs.declared.entry.Cause.TheVariants as cause
-use Rattle.napi_types.specs.Environment.{Environment, new_environment}
-use Rattle.napi_types.specs.Frames.{Frame, frame_of, most_frames}
-use Rattle.napi_types.specs.Heap.{Heap, new_heap}
-use Rattle.napi_types.specs.References.{Reference, with_reference, no_references}
-use Rattle.napi_types.specs.Scopes.{Held, no_handles}
-use Rattle.napi_types.specs.Values.{undefined_value, null_value, starting_values, fresh_value}
-use Rattle.napi_types.specs.NewValues.{array_of}
+use Rattle.napi_types.specs.parts.Frames.{Frame, frame_of, most_frames}
+use Rattle.napi_types.specs.parts.Heap.{Heap, new_heap}
+use Rattle.napi_types.specs.parts.NewValues.{array_of}
+use Rattle.napi_types.specs.parts.References.{Reference, with_reference, no_references}
+use Rattle.napi_types.specs.parts.Scopes.{Held, no_handles}
+use Rattle.napi_types.specs.parts.Values.{undefined_value, null_value, starting_values, fresh_value}
+use Rattle.napi_types.specs.environment.Environment.{Environment, new_environment}
 use Rattle.machine_laws.specs.Consistency.{IsConsistent}
 
 -- a handle of this number to a value

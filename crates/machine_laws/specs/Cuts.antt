@@ -19,20 +19,20 @@ use Rattle.napi_types.specs.declared.entry.Why.{Why}
 use Rattle.napi_types.specs.declared.entry.Why.TheVariants as why
 use Rattle.napi_types.specs.declared.ids.HandleId.{HandleId}
 use Rattle.napi_types.specs.declared.status.Status.TheVariants as status
-use Rattle.napi_types.specs.Built.{built_ask}
-use Rattle.napi_types.specs.Changes.{host_told, host_entry}
-use Rattle.napi_types.specs.Duties.{duties_of}
-use Rattle.napi_types.specs.Ends.{end_change}
-use Rattle.napi_types.specs.Guards.{is_registering, is_shared}
-use Rattle.napi_types.specs.Hub.{Hub}
-use Rattle.napi_types.specs.Machine.{Machine}
-use Rattle.napi_types.specs.Plan.{Plan, Registers, asked}
-use Rattle.napi_types.specs.Refusals.{refusal}
-use Rattle.napi_types.specs.Room.{need}
-use Rattle.napi_types.specs.Run.{IsNext, IsRunBy}
-use Rattle.napi_types.specs.Frames.{Frame, is_hub_duty}
+use Rattle.napi_types.specs.plain.Built.{built_ask}
+use Rattle.napi_types.specs.plain.Guards.{is_registering, is_shared}
+use Rattle.napi_types.specs.plain.Room.{need}
+use Rattle.napi_types.specs.parts.Duties.{duties_of}
+use Rattle.napi_types.specs.parts.Frames.{Frame, is_hub_duty}
+use Rattle.napi_types.specs.environment.Changes.{host_told, host_entry}
+use Rattle.napi_types.specs.environment.Ends.{end_change}
+use Rattle.napi_types.specs.environment.Refusals.{refusal}
+use Rattle.napi_types.specs.hub.Hub.{Hub}
+use Rattle.napi_types.specs.runs.Machine.{Machine}
+use Rattle.napi_types.specs.runs.Plan.{Plan, Registers, asked}
+use Rattle.napi_types.specs.runs.Run.{IsNext, IsRunBy}
+use Rattle.napi_types.specs.runs.Setting.{Setting, RunsBy, opening_of, final_of}
 use Rattle.machine_laws.specs.RunWords.{call_at, call_making, ticket, opening_entries}
-use Rattle.napi_types.specs.Setting.{Setting, RunsBy, opening_of, final_of}
 
 -- the end by a cut of a frame that began for this reason: that of a call's frame says that the call failed
 abbrev pub cut_by : Cause → Why → Entry

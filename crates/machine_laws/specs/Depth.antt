@@ -10,7 +10,7 @@ use Rattle.napi_types.specs.declared.ids.HandleId.{HandleId}
 use Rattle.napi_types.specs.declared.status.Status.{Status}
 use Rattle.napi_types.specs.declared.status.Status.TheVariants as status
 use Rattle.machine_laws.specs.RunWords.{script_of_entries, call_at, call_in, call_begins, call_ends, frame_ends, opening_entries, great_events, gone_entry}
-use Rattle.napi_types.specs.Setting.{Setting}
+use Rattle.napi_types.specs.runs.Setting.{Setting}
 use Rattle.machine_laws.specs.Told.{IsRun}
 
 -- the function's handle

@@ -12,14 +12,14 @@ use Rattle.napi_types.specs.declared.entry.Out.TheVariants as out
 use Rattle.napi_types.specs.declared.entry.Phase.TheVariants as phase
 use Rattle.napi_types.specs.declared.entry.What.{What}
 use Rattle.napi_types.specs.declared.entry.What.TheVariants as what
-use Rattle.napi_types.specs.Book.{lowest_due}
-use Rattle.napi_types.specs.Built.{is_exiting}
-use Rattle.napi_types.specs.Choice.{is_idle, is_quiet}
-use Rattle.napi_types.specs.Guards.{is_shared}
-use Rattle.napi_types.specs.HubMoves.{hub_move}
-use Rattle.napi_types.specs.Machine.{Machine}
-use Rattle.napi_types.specs.Run.{IsNext, IsRunBy}
-use Rattle.napi_types.specs.Setting.{Setting, opening_of, final_of}
+use Rattle.napi_types.specs.plain.Built.{is_exiting}
+use Rattle.napi_types.specs.plain.Guards.{is_shared}
+use Rattle.napi_types.specs.parts.Book.{lowest_due}
+use Rattle.napi_types.specs.hub.HubMoves.{hub_move}
+use Rattle.napi_types.specs.runs.Choice.{is_idle, is_quiet}
+use Rattle.napi_types.specs.runs.Machine.{Machine}
+use Rattle.napi_types.specs.runs.Run.{IsNext, IsRunBy}
+use Rattle.napi_types.specs.runs.Setting.{Setting, opening_of, final_of}
 use Rattle.machine_laws.specs.Choices.{BeginsLastHook, BeginsOfHub}
 
 -- a call that asks to exit

@@ -7,11 +7,11 @@ use Rattle.napi_types.specs.declared.entry.Entry.{Entry}
 use Rattle.napi_types.specs.declared.entry.HostStep.TheVariants as host
 use Rattle.napi_types.specs.declared.entry.Out.TheVariants as out
 use Rattle.napi_types.specs.declared.entry.What.TheVariants as what
-use Rattle.napi_types.specs.Book.{is_registered, is_at}
-use Rattle.napi_types.specs.Duties.{AreNested}
-use Rattle.napi_types.specs.Hooked.{is_late}
-use Rattle.napi_types.specs.Run.{IsNext, IsRunBy}
-use Rattle.napi_types.specs.Setting.{Setting, opening_of, final_of}
+use Rattle.napi_types.specs.parts.Book.{is_registered, is_at}
+use Rattle.napi_types.specs.parts.Duties.{AreNested}
+use Rattle.napi_types.specs.environment.Hooked.{is_late}
+use Rattle.napi_types.specs.runs.Run.{IsNext, IsRunBy}
+use Rattle.napi_types.specs.runs.Setting.{Setting, opening_of, final_of}
 use Rattle.machine_laws.specs.Choices.{BeginsLowest, BeginsLastHook, BeginsOfHub}
 
 -- only the outermost frame is one that no call began, so only it is one that a duty began: no duty runs inside another frame

@@ -12,13 +12,13 @@ use Rattle.napi_types.specs.declared.entry.Out.TheVariants as out
 use Rattle.napi_types.specs.declared.status.Kind.{Kind}
 use Rattle.napi_types.specs.declared.status.Kind.TheVariants as kind
 use Rattle.napi_types.specs.declared.status.Status.TheVariants as status
-use Rattle.napi_types.specs.Parting.{IsParted}
-use Rattle.napi_types.specs.Plan.{registers_of}
-use Rattle.napi_types.specs.Text.{text}
-use Rattle.napi_types.specs.Texts.{fixed_texts}
+use Rattle.napi_types.specs.plain.Texts.{fixed_texts}
+use Rattle.napi_types.specs.plain.Weave.{weave}
+use Rattle.napi_types.specs.scripts.Text.{text}
+use Rattle.napi_types.specs.runs.Parting.{IsParted}
+use Rattle.napi_types.specs.runs.Plan.{registers_of}
+use Rattle.napi_types.specs.runs.Setting.{Setting, opening_of, final_registers}
 use Rattle.machine_laws.specs.RunWords.{script_of, call_at, opening_entries, frame_end, great_events, gone_entry, loop_ended, left_out, opening_lines}
-use Rattle.napi_types.specs.Weave.{weave}
-use Rattle.napi_types.specs.Setting.{Setting, opening_of, final_registers}
 use Rattle.machine_laws.specs.Told.{IsRun, told_asks}
 
 -- the script: the scope's number goes to register 0, the handle's to register 1, the kind's to register 2

@@ -8,7 +8,7 @@ use Rattle.napi_types.specs.declared.entry.Out.TheVariants as out
 use Rattle.napi_types.specs.declared.entry.Why.TheVariants as why
 use Rattle.napi_types.specs.declared.op.Op.TheVariants as op
 use Rattle.napi_types.specs.declared.status.Status.TheVariants as status
-use Rattle.napi_types.specs.Setting.{Setting}
+use Rattle.napi_types.specs.runs.Setting.{Setting}
 use Rattle.machine_laws.specs.HubWords.{script_for, within, item, shared_making, target_of, function_created, calls_function, item_begins, by_thread}
 use Rattle.machine_laws.specs.RunWords.{frame_ends, opening_entries, frame_end, go_entry}
 use Rattle.machine_laws.specs.Told.{IsRun}

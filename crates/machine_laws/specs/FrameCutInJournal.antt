@@ -10,11 +10,11 @@ use Rattle.napi_types.specs.declared.entry.Out.TheVariants as out
 use Rattle.napi_types.specs.declared.entry.Why.TheVariants as why
 use Rattle.napi_types.specs.declared.op.Op.TheVariants as op
 use Rattle.napi_types.specs.declared.status.Status.TheVariants as status
-use Rattle.napi_types.specs.Parting.{IsParted}
-use Rattle.napi_types.specs.Setting.{Setting, opening_of}
-use Rattle.napi_types.specs.Text.{text}
-use Rattle.napi_types.specs.Texts.{fixed_texts}
-use Rattle.napi_types.specs.Weave.{weave}
+use Rattle.napi_types.specs.plain.Texts.{fixed_texts}
+use Rattle.napi_types.specs.plain.Weave.{weave}
+use Rattle.napi_types.specs.scripts.Text.{text}
+use Rattle.napi_types.specs.runs.Parting.{IsParted}
+use Rattle.napi_types.specs.runs.Setting.{Setting, opening_of}
 use Rattle.machine_laws.specs.HubWords.{function_lines, script_for, within, at_length, next_after, item, shared_making, target_of, function_created, calls_function, item_begins, function_finishes, drains, finals}
 use Rattle.machine_laws.specs.RunWords.{call_at, frame_ends, opening_entries, frame_end, loop_ended, go_entry, gone_entry}
 use Rattle.machine_laws.specs.Told.{IsRun, told_asks}

@@ -11,11 +11,11 @@ use Rattle.napi_types.specs.declared.entry.What.{What}
 use Rattle.napi_types.specs.declared.entry.What.TheVariants as what
 use Rattle.napi_types.specs.declared.ids.HandleId.{HandleId}
 use Rattle.napi_types.specs.declared.ids.TsfnId.{TsfnId}
-use Rattle.napi_types.specs.Environment.{Environment}
-use Rattle.napi_types.specs.Heap.{handle_value}
-use Rattle.napi_types.specs.Lists.{one}
-use Rattle.napi_types.specs.Machine.{Machine}
-use Rattle.napi_types.specs.Run.{IsNext, IsRunBy, after, final}
+use Rattle.napi_types.specs.plain.Lists.{one}
+use Rattle.napi_types.specs.parts.Heap.{handle_value}
+use Rattle.napi_types.specs.environment.Environment.{Environment}
+use Rattle.napi_types.specs.runs.Machine.{Machine}
+use Rattle.napi_types.specs.runs.Run.{IsNext, IsRunBy, after, final}
 
 -- the values that the thread-safe function of this number keeps alive. They are roots
 abbrev pub kept_by : ℕ → Environment → List ℕ

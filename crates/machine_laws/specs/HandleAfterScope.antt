@@ -8,10 +8,10 @@ use Rattle.napi_types.specs.declared.status.Kind.{Kind}
 use Rattle.napi_types.specs.declared.status.Status.{Status}
 use Rattle.napi_types.specs.declared.status.Status.TheVariants as status
 use Rattle.napi_types.specs.declared.entry.Out.{Out}
-use Rattle.napi_types.specs.Text.{text}
-use Rattle.napi_types.specs.Texts.{fixed_texts}
+use Rattle.napi_types.specs.plain.Texts.{fixed_texts}
+use Rattle.napi_types.specs.scripts.Text.{text}
+use Rattle.napi_types.specs.runs.Setting.{Setting}
 use Rattle.machine_laws.specs.RunWords.{script_of, call_at, run_of_calls, opening_lines}
-use Rattle.napi_types.specs.Setting.{Setting}
 use Rattle.machine_laws.specs.Told.{IsRun}
 
 -- the script makes an object in a scope, closes the scope, and asks for the kind of the object

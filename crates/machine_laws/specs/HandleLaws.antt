@@ -3,13 +3,13 @@ use Rattle.std.specs.Prelude.{◌≡◌, ℕ, true, List, take, Some, None, IsSo
 use Rattle.napi_types.specs.declared.call.Ask.{Ask}
 use Rattle.napi_types.specs.declared.call.Call.{Call}
 use Rattle.napi_types.specs.declared.entry.Entry.{Entry}
-use Rattle.napi_types.specs.Environment.{Environment}
-use Rattle.napi_types.specs.Lists.{has_number}
-use Rattle.napi_types.specs.NamedNumbers.{handles_of}
-use Rattle.napi_types.specs.Refusals.{refusal}
-use Rattle.napi_types.specs.Run.{IsRunBy}
-use Rattle.napi_types.specs.Scopes.{FrameScopes, gives}
-use Rattle.napi_types.specs.Setting.{Setting, opening_of, final_of}
+use Rattle.napi_types.specs.plain.Lists.{has_number}
+use Rattle.napi_types.specs.parts.NamedNumbers.{handles_of}
+use Rattle.napi_types.specs.parts.Scopes.{FrameScopes, gives}
+use Rattle.napi_types.specs.environment.Environment.{Environment}
+use Rattle.napi_types.specs.environment.Refusals.{refusal}
+use Rattle.napi_types.specs.runs.Run.{IsRunBy}
+use Rattle.napi_types.specs.runs.Setting.{Setting, opening_of, final_of}
 use Rattle.machine_laws.specs.Consistency.{IsConsistent}
 
 -- the environment after the first n entries of a run

@@ -7,10 +7,10 @@ use Rattle.napi_types.specs.declared.entry.Entry.{Entry}
 use Rattle.napi_types.specs.declared.entry.LoopEnd.TheVariants as loop_end
 use Rattle.napi_types.specs.declared.entry.Out.TheVariants as out
 use Rattle.napi_types.specs.declared.status.Status.TheVariants as status
-use Rattle.napi_types.specs.Text.{text}
-use Rattle.napi_types.specs.Texts.{fixed_texts}
+use Rattle.napi_types.specs.plain.Texts.{fixed_texts}
+use Rattle.napi_types.specs.scripts.Text.{text}
+use Rattle.napi_types.specs.runs.Setting.{Setting}
 use Rattle.machine_laws.specs.RunWords.{script_of_entries, call_at, call_making, call_swapping, ticket, finalizer_begins, finalizer_runs, run_ended_by, opening_lines}
-use Rattle.napi_types.specs.Setting.{Setting}
 use Rattle.machine_laws.specs.Told.{IsRun}
 
 -- the script sets instance data with a finalizer twice, and asks for it. The finalizers run the second entry, which asks nothing

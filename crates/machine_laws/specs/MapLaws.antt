@@ -1,7 +1,7 @@
 -- Laws of finite maps: in what order records were added, and at what places references stand, shows nowhere in them.
 use Rattle.std.specs.Prelude.{◌≡◌, ◌≢◌, ℕ, ◌<◌, ◌==◌, false, List, [], ◌∷◌, length, Some, None, slice_index_or, slice_set}
-use Rattle.napi_types.specs.Lists.{found, has, as_map, with_number}
-use Rattle.napi_types.specs.References.{Reference, ReferenceMap, reference_at, with_reference}
+use Rattle.napi_types.specs.plain.Lists.{found, has, as_map, with_number}
+use Rattle.napi_types.specs.parts.References.{Reference, ReferenceMap, reference_at, with_reference}
 use Rattle.machine_laws.specs.Consistency.{RisesBy}
 use Rattle.napi_reference.specs.Places.{ReferencePlaces, standing, map_of}
 

@@ -4,7 +4,7 @@ use Rattle.napi_types.specs.declared.call.Call.TheVariants as call
 use Rattle.napi_types.specs.declared.entry.Entry.{Entry}
 use Rattle.napi_types.specs.declared.entry.Out.TheVariants as out
 use Rattle.napi_types.specs.declared.status.Status.TheVariants as status
-use Rattle.napi_types.specs.Counts.{Once}
+use Rattle.napi_types.specs.all_runs.Counts.{Once}
 use Rattle.machine_laws.specs.RunWords.{call_dropping, ticket, handle}
 use Rattle.machine_laws.specs.WrapTwice.{trace, trace_with, wrapped_again, runs}
 

@@ -6,10 +6,10 @@ use Rattle.napi_types.specs.declared.entry.Entry.{Entry}
 use Rattle.napi_types.specs.declared.entry.Out.TheVariants as out
 use Rattle.napi_types.specs.declared.status.Status.{Status}
 use Rattle.napi_types.specs.declared.status.Status.TheVariants as status
-use Rattle.napi_types.specs.Text.{text}
-use Rattle.napi_types.specs.Texts.{fixed_texts}
+use Rattle.napi_types.specs.plain.Texts.{fixed_texts}
+use Rattle.napi_types.specs.scripts.Text.{text}
+use Rattle.napi_types.specs.runs.Setting.{Setting}
 use Rattle.machine_laws.specs.RunWords.{script_of, call_at, run_of_calls, opening_lines}
-use Rattle.napi_types.specs.Setting.{Setting}
 use Rattle.machine_laws.specs.Told.{IsRun}
 
 -- the script opens two scopes, and closes the outer, the inner, and twice the outer

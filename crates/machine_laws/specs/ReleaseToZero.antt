@@ -13,10 +13,10 @@ use Rattle.napi_types.specs.declared.entry.LoopEnd.TheVariants as loop_end
 use Rattle.napi_types.specs.declared.op.Op.TheVariants as op
 use Rattle.napi_types.specs.declared.status.Status.{Status}
 use Rattle.napi_types.specs.declared.status.Status.TheVariants as status
-use Rattle.napi_types.specs.Setting.{Setting}
-use Rattle.napi_types.specs.Text.{text}
-use Rattle.napi_types.specs.Texts.{fixed_texts}
-use Rattle.napi_types.specs.Weave.{weave}
+use Rattle.napi_types.specs.plain.Texts.{fixed_texts}
+use Rattle.napi_types.specs.plain.Weave.{weave}
+use Rattle.napi_types.specs.scripts.Text.{text}
+use Rattle.napi_types.specs.runs.Setting.{Setting}
 use Rattle.machine_laws.specs.HubWords.{function_lines, shared_journal, script_for, next_after, item, shared_at, shared_making, target_of, function_created, calls_function, releases, item_begins, runs_empty, function_closes, function_finishes}
 use Rattle.machine_laws.specs.RunWords.{loop_ended, go_entry, ending_events}
 use Rattle.machine_laws.specs.Told.{IsRun}

@@ -6,16 +6,16 @@ use Rattle.napi_types.specs.declared.call.Call.{Call}
 use Rattle.napi_types.specs.declared.entry.Actor.{Actor}
 use Rattle.napi_types.specs.declared.entry.Actor.TheVariants as actor
 use Rattle.napi_types.specs.declared.entry.Entry.{Entry}
-use Rattle.napi_types.specs.Lists.{has_number}
-use Rattle.napi_types.specs.Machine.{Machine}
-use Rattle.napi_types.specs.Plan.{Plan, Registers, asked, registers_after}
-use Rattle.napi_types.specs.Reach.{numbers, children_at, reach_from}
-use Rattle.napi_types.specs.Setting.{Setting, RunsBy}
-use Rattle.napi_types.specs.Run.{after, IsNext, IsRunBy}
-use Rattle.napi_types.specs.Step.{step}
+use Rattle.napi_types.specs.plain.Lists.{has_number}
+use Rattle.napi_types.specs.plain.Weave.{Side, Journal, History}
+use Rattle.napi_types.specs.parts.Reach.{numbers, children_at, reach_from}
+use Rattle.napi_types.specs.parts.Values.{Value}
+use Rattle.napi_types.specs.runs.Machine.{Machine}
+use Rattle.napi_types.specs.runs.Plan.{Plan, Registers, asked, registers_after}
+use Rattle.napi_types.specs.runs.Run.{after, IsNext, IsRunBy}
+use Rattle.napi_types.specs.runs.Setting.{Setting, RunsBy}
+use Rattle.napi_types.specs.runs.Step.{step}
 use Rattle.machine_laws.specs.Computing.{ComputesBy}
-use Rattle.napi_types.specs.Values.{Value}
-use Rattle.napi_types.specs.Weave.{Side, Journal, History}
 
 -- a run, and what computes to be one, are the same
 abbrev pub RunsAreComputed : Type 0

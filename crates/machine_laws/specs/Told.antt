@@ -6,12 +6,12 @@ use Rattle.napi_types.specs.declared.call.Ask.TheVariants as ask
 use Rattle.napi_types.specs.declared.call.Call.{Call}
 use Rattle.napi_types.specs.declared.entry.Entry.{Entry}
 use Rattle.napi_types.specs.declared.entry.Local.{Local}
-use Rattle.napi_types.specs.Machine.{Machine}
-use Rattle.napi_types.specs.Parting.{IsParted}
-use Rattle.napi_types.specs.Plan.{Plan, Registers, asked, registers_after, loaded_registers}
-use Rattle.napi_types.specs.Run.{after}
-use Rattle.napi_types.specs.Setting.{Setting, RunsBy, opening_of, EndsBy}
-use Rattle.napi_types.specs.Weave.{weave}
+use Rattle.napi_types.specs.plain.Weave.{weave}
+use Rattle.napi_types.specs.runs.Machine.{Machine}
+use Rattle.napi_types.specs.runs.Parting.{IsParted}
+use Rattle.napi_types.specs.runs.Plan.{Plan, Registers, asked, registers_after, loaded_registers}
+use Rattle.napi_types.specs.runs.Run.{after}
+use Rattle.napi_types.specs.runs.Setting.{Setting, RunsBy, opening_of, EndsBy}
 
 -- a run of the script, by some asks
 abbrev pub IsRun : Setting → List Entry → Type 0

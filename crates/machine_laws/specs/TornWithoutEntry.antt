@@ -12,10 +12,10 @@ use Rattle.napi_types.specs.declared.entry.Target.{Target}
 use Rattle.napi_types.specs.declared.op.Op.TheVariants as op
 use Rattle.napi_types.specs.declared.status.Status.{Status}
 use Rattle.napi_types.specs.declared.status.Status.TheVariants as status
-use Rattle.napi_types.specs.Setting.{Setting}
-use Rattle.napi_types.specs.Text.{text}
-use Rattle.napi_types.specs.Texts.{fixed_texts}
-use Rattle.napi_types.specs.Weave.{weave}
+use Rattle.napi_types.specs.plain.Texts.{fixed_texts}
+use Rattle.napi_types.specs.plain.Weave.{weave}
+use Rattle.napi_types.specs.scripts.Text.{text}
+use Rattle.napi_types.specs.runs.Setting.{Setting}
 use Rattle.machine_laws.specs.HubWords.{script_for, at_length, next_after, item, finalizer, shared_at, shared_making, target_of, function_created, calls_function, releases, begins, item_begins, runs_empty, function_finishes}
 use Rattle.machine_laws.specs.RunWords.{call_at, opening_entries, frame_end, go_entry, ending_events, gone_entry, opening_lines, handle}
 use Rattle.machine_laws.specs.Told.{IsRun}

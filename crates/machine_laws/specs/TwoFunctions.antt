@@ -12,18 +12,18 @@ use Rattle.napi_types.specs.declared.entry.LoopEnd.TheVariants as loop_end
 use Rattle.napi_types.specs.declared.entry.Out.TheVariants as out
 use Rattle.napi_types.specs.declared.op.Op.TheVariants as op
 use Rattle.napi_types.specs.declared.status.Status.TheVariants as status
-use Rattle.napi_types.specs.Changes.{host_entry}
-use Rattle.napi_types.specs.Replies.{plain}
 use Rattle.napi_types.specs.declared.entry.Duty.TheVariants as duty
 use Rattle.napi_types.specs.declared.entry.HostStep.{HostStep}
 use Rattle.napi_types.specs.declared.entry.HostStep.TheVariants as host
 use Rattle.napi_types.specs.declared.ids.TsfnId.{TsfnId}
 use Rattle.napi_types.specs.declared.op.Op.{Op}
-use Rattle.napi_types.specs.Plan.{registers_of}
-use Rattle.napi_types.specs.Setting.{Setting, final_registers}
-use Rattle.napi_types.specs.Text.{text}
-use Rattle.napi_types.specs.Texts.{fixed_texts}
-use Rattle.napi_types.specs.Weave.{weave}
+use Rattle.napi_types.specs.plain.Replies.{plain}
+use Rattle.napi_types.specs.plain.Texts.{fixed_texts}
+use Rattle.napi_types.specs.plain.Weave.{weave}
+use Rattle.napi_types.specs.scripts.Text.{text}
+use Rattle.napi_types.specs.environment.Changes.{host_entry}
+use Rattle.napi_types.specs.runs.Plan.{registers_of}
+use Rattle.napi_types.specs.runs.Setting.{Setting, final_registers}
 use Rattle.machine_laws.specs.HubWords.{shared_journal, script_for, next_after, shared_replied, shared_at, shared_making, shared_refused, target_of, begins, runs_empty, drains, finals, by_thread, thread_ends}
 use Rattle.machine_laws.specs.RunWords.{loop_ended, go_entry, opening_lines}
 use Rattle.machine_laws.specs.Told.{IsRun, told_asks}

@@ -5,7 +5,7 @@ use Rattle.napi_types.specs.declared.call.JobSpec.TheVariants as job
 use Rattle.napi_types.specs.declared.entry.Entry.{Entry}
 use Rattle.napi_types.specs.declared.op.Op.TheVariants as op
 use Rattle.napi_types.specs.declared.status.Status.TheVariants as status
-use Rattle.napi_types.specs.Setting.{Setting}
+use Rattle.napi_types.specs.runs.Setting.{Setting}
 use Rattle.machine_laws.specs.HubWords.{script_for, next_after, work_duty, work, shared_making, work_created, worker_starts, worker_finishes}
 use Rattle.machine_laws.specs.RunWords.{opening_entries}
 use Rattle.machine_laws.specs.Told.{IsRun}

@@ -7,10 +7,10 @@ use Rattle.napi_types.specs.declared.entry.Entry.{Entry}
 use Rattle.napi_types.specs.declared.entry.Out.TheVariants as out
 use Rattle.napi_types.specs.declared.status.Status.{Status}
 use Rattle.napi_types.specs.declared.status.Status.TheVariants as status
-use Rattle.napi_types.specs.Text.{text}
-use Rattle.napi_types.specs.Texts.{fixed_texts}
+use Rattle.napi_types.specs.plain.Texts.{fixed_texts}
+use Rattle.napi_types.specs.scripts.Text.{text}
+use Rattle.napi_types.specs.runs.Setting.{Setting}
 use Rattle.machine_laws.specs.RunWords.{script_of_entries, call_at, call_making, call_dropping, ticket, finalizer_runs, run_of_finalizers, opening_lines, handle}
-use Rattle.napi_types.specs.Setting.{Setting}
 use Rattle.machine_laws.specs.Told.{IsRun}
 
 -- in a scope the script makes an object and wraps it with a finalizer, and again; it removes the wrap, wraps the object anew with a finalizer and asks for its

@@ -6,11 +6,11 @@ use Rattle.napi_types.specs.declared.entry.Entry.{Entry}
 use Rattle.napi_types.specs.declared.entry.Out.TheVariants as out
 use Rattle.napi_types.specs.declared.status.Status.{Status}
 use Rattle.napi_types.specs.declared.status.Status.TheVariants as status
-use Rattle.napi_types.specs.Attachments.{no_attachments}
-use Rattle.napi_types.specs.Text.{text}
-use Rattle.napi_types.specs.Texts.{fixed_texts}
+use Rattle.napi_types.specs.plain.Texts.{fixed_texts}
+use Rattle.napi_types.specs.parts.Attachments.{no_attachments}
+use Rattle.napi_types.specs.scripts.Text.{text}
+use Rattle.napi_types.specs.runs.Setting.{Setting, final_of}
 use Rattle.machine_laws.specs.RunWords.{script_of, call_at, run_of_calls, opening_lines, handle}
-use Rattle.napi_types.specs.Setting.{Setting, final_of}
 use Rattle.machine_laws.specs.Told.{IsRun, told_asks}
 
 -- in a scope the script makes an object, wraps it and wraps it again, and tags it and tags it again; it asks an external for its payload and for that tag; it

@@ -3,11 +3,11 @@ use Rattle.std.proofs.Common.{◌≡◌, ◌∙◌, ℕ, zero, suc, ◌+◌, ◌
 use Rattle.std.specs.List.{filter, filter_map}
 use Rattle.std.proofs.lemmas.List.{length-set, length-append}
 use Rattle.std.proofs.lemmas.List.Elements.{filter_map-append}
-use Rattle.napi_types.specs.Lists.{has_number, with_record, as_map, with_number, up_to}
 use Rattle.napi_types.specs.declared.ids.ValueId.{ValueId}
-use Rattle.napi_types.specs.References.{Reference, ReferenceMap, with_reference, without_reference, with_count}
-use Rattle.napi_types.proofs.Issued.{above-up_to, up_to-more}
-use Rattle.napi_types.proofs.Maps.{with_record-last}
+use Rattle.napi_types.specs.plain.Lists.{has_number, with_record, as_map, with_number, up_to}
+use Rattle.napi_types.specs.parts.References.{Reference, ReferenceMap, with_reference, without_reference, with_count}
+use Rattle.napi_types.proofs.plain.Issued.{above-up_to, up_to-more}
+use Rattle.napi_types.proofs.plain.Maps.{with_record-last}
 use Rattle.napi_reference.specs.declared.rows.Row.{Row}
 use Rattle.napi_reference.specs.Places.{ReferencePlaces, map_of}
 use Rattle.napi_reference.specs.Rows.{reference_of, references_from, places_of, row_of}

@@ -4,9 +4,9 @@ use Rattle.napi_types.specs.declared.call.Call.{Call}
 use Rattle.napi_types.specs.declared.call.Call.TheVariants as call
 use Rattle.napi_types.specs.declared.ids.RefId.{RefId}
 use Rattle.napi_types.specs.declared.status.Status.TheVariants as status
-use Rattle.napi_types.specs.Lists.{one}
-use Rattle.napi_types.specs.References.{ReferenceMap, has_reference, most_count}
-use Rattle.napi_types.specs.ReferenceRefusals.{references_of, count_refusal, reference_refusal}
+use Rattle.napi_types.specs.plain.Lists.{one}
+use Rattle.napi_types.specs.parts.ReferenceRefusals.{references_of, count_refusal, reference_refusal}
+use Rattle.napi_types.specs.parts.References.{ReferenceMap, has_reference, most_count}
 use Rattle.napi_reference.specs.declared.rows.Row.{Row}
 use Rattle.napi_reference.proofs.Numbers.{IsRow, valued, apart-above, apart-below}
 

@@ -3,9 +3,9 @@ use Rattle.std.proofs.Common.{◌≡◌, ◌∙◌, ℕ, zero, suc, ◌+◌, ◌
 use Rattle.std.specs.List.{All, filter_map, cons_option}
 use Rattle.std.proofs.lemmas.List.{length-map}
 use Rattle.std.proofs.lemmas.List.Elements.{All-head, All-tail}
-use Rattle.napi_types.specs.Lists.{as_map, up_to}
 use Rattle.napi_types.specs.declared.ids.ValueId.{ValueId}
-use Rattle.napi_types.specs.References.{Reference, strong_value, strong_values, value_left, emptied}
+use Rattle.napi_types.specs.plain.Lists.{as_map, up_to}
+use Rattle.napi_types.specs.parts.References.{Reference, strong_value, strong_values, value_left, emptied}
 use Rattle.napi_reference.specs.declared.rows.Row.{Row}
 use Rattle.napi_reference.specs.Places.{ReferencePlaces, map_of}
 use Rattle.napi_reference.specs.Rows.{reference_of, places_of, id_left, weak_emptied}

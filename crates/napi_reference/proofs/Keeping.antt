@@ -3,9 +3,9 @@ use Rattle.std.proofs.Common.{ℕ, ◌==◌, ◌∷◌, not, Bool, true, false, 
 use Rattle.std.specs.List.{All, filter_map, cons_option}
 use Rattle.std.specs.Option.{unwrap_or}
 use Rattle.std.proofs.lemmas.List.Elements.{All-nil, All-cons, All-head, All-tail, All-filter}
-use Rattle.napi_types.specs.Lists.{found}
-use Rattle.napi_types.specs.References.{Reference, ReferenceMap, no_references, with_reference, without_reference, with_count, referred_value, value_left, emptied, strong_value, strong_values}
-use Rattle.napi_types.proofs.Maps.{All-with_record}
+use Rattle.napi_types.specs.plain.Lists.{found}
+use Rattle.napi_types.specs.parts.References.{Reference, ReferenceMap, no_references, with_reference, without_reference, with_count, referred_value, value_left, emptied, strong_value, strong_values}
+use Rattle.napi_types.proofs.plain.Maps.{All-with_record}
 use Rattle.napi_reference.specs.Places.{AllValues}
 
 pub AllValues-no_references : (P : ℕ → Type 0) → AllValues P no_references

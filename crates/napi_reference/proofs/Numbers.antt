@@ -4,9 +4,9 @@ use Rattle.std.specs.List.{All, AllByRecursion, IsDistinct, filter_map}
 use Rattle.std.proofs.lemmas.List.Elements.{All-nil, All-cons}
 use Rattle.std.proofs.lemmas.Map.Keys.{IsDistinct-cons}
 use Rattle.napi_types.specs.declared.ids.ValueId.{ValueId}
-use Rattle.napi_types.specs.Lists.{found, has, with_record, as_map}
-use Rattle.napi_types.specs.References.{Reference, ReferenceMap, reference_at, has_reference, referred_value, reference_count}
-use Rattle.napi_types.proofs.Maps.{with_record-first}
+use Rattle.napi_types.specs.plain.Lists.{found, has, with_record, as_map}
+use Rattle.napi_types.specs.parts.References.{Reference, ReferenceMap, reference_at, has_reference, referred_value, reference_count}
+use Rattle.napi_types.proofs.plain.Maps.{with_record-first}
 use Rattle.napi_reference.specs.declared.rows.Row.{Row}
 use Rattle.napi_reference.specs.Places.{ReferencePlaces, map_of, EachReferenceStandsOnce}
 use Rattle.napi_reference.specs.Rows.{reference_of, references_from, places_of, row_of}

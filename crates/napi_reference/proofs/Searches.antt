@@ -10,7 +10,7 @@ use Rattle.std.proofs.lemmas.List.Folds.{list_any_at, list_any_none}
 use Rattle.std.proofs.lemmas.List.Sorted.{IsNonDecreasingBy-from_all_adjacent}
 use Rattle.std.proofs.lemmas.Map.Keys.{le_from_is_le}
 use Rattle.napi_types.specs.declared.ids.ValueId.{ValueId}
-use Rattle.napi_types.specs.Lists.{has_number}
+use Rattle.napi_types.specs.plain.Lists.{has_number}
 use Rattle.napi_reference.proofs.Numbers.{apart-above, apart-below, same-number}
 
 comparisons-rise : (xs : List ValueId) (k : ℕ) → IsNonDecreasingBy (λ v. v.0) xs → IsNonDecreasingBy (λ v. ordering_index (nat_cmp v.0 k)) xs

@@ -3,9 +3,9 @@ use Rattle.std.proofs.Common.{◌≡◌, ◌∙◌, ℕ, zero, suc, ◌+◌, ◌
 use Rattle.std.specs.List.{filter_map, cons_option, list_any}
 use Rattle.std.specs.Option.{option_to_list}
 use Rattle.std.proofs.lemmas.List.Folds.{list_any-append}
-use Rattle.napi_types.specs.Lists.{has_number, HaveSameNumbers, as_map}
-use Rattle.napi_types.specs.References.{Reference, strong_value, strong_values}
-use Rattle.napi_types.proofs.Maps.{list_any-as_map}
+use Rattle.napi_types.specs.plain.Lists.{has_number, HaveSameNumbers, as_map}
+use Rattle.napi_types.specs.parts.References.{Reference, strong_value, strong_values}
+use Rattle.napi_types.proofs.plain.Maps.{list_any-as_map}
 use Rattle.napi_reference.specs.declared.rows.Row.{Row}
 use Rattle.napi_reference.specs.Places.{ReferencePlaces, map_of, standing, EachReferenceStandsOnce, strong_in}
 use Rattle.napi_reference.specs.Rows.{reference_of, references_from}

@@ -1,8 +1,8 @@
 -- The places where references stand, as their callers go over them, and the map that they stand for.
 use Rattle.std.specs.Prelude.{◌≡◌, ℕ, nat_eq, List, map, Option, Some, None, IfSome}
 use Rattle.std.specs.List.{All, IsDistinct, filter_map}
-use Rattle.napi_types.specs.Lists.{found, as_map}
-use Rattle.napi_types.specs.References.{Reference, ReferenceMap, reference_at, strong_value}
+use Rattle.napi_types.specs.plain.Lists.{found, as_map}
+use Rattle.napi_types.specs.parts.References.{Reference, ReferenceMap, reference_at, strong_value}
 
 -- each place, with the reference that stands there, if one does, and the numbers that were issued
 pub record ReferencePlaces : Type 0 where

@@ -1,8 +1,8 @@
 -- How the list of rows stands for the places of the references.
 use Rattle.std.specs.Prelude.{ℕ, zero, suc, ◌==◌, Bool, cond, List, [], ◌∷◌, length, Option, Some, None, option_map, slice_index_or}
 use Rattle.napi_types.specs.declared.ids.ValueId.{ValueId}
-use Rattle.napi_types.specs.Lists.{up_to}
-use Rattle.napi_types.specs.References.{Reference}
+use Rattle.napi_types.specs.plain.Lists.{up_to}
+use Rattle.napi_types.specs.parts.References.{Reference}
 use Rattle.napi_reference.specs.declared.rows.Row.{Row}
 use Rattle.napi_reference.specs.Places.{ReferencePlaces}
 

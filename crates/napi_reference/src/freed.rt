@@ -1,6 +1,6 @@
 //! Whether a value is among those that were freed.
 ghost use Rattle.std.specs.Prelude.{◌≡◌, map};
-ghost use Rattle.napi_types.specs.Lists.{has_number};
+ghost use Rattle.napi_types.specs.plain.Lists.{has_number};
 ghost use Rattle.napi_reference.specs.Freed.{IsInOrder};
 
 use napi_types::ValueId;

@@ -2,10 +2,10 @@
 ghost use Rattle.std.specs.Prelude.{◌≡◌, ◌+◌, ◌-◌, ◌<◌, ◌^◌, ◌∷◌, false, map, length, None, IsSome, IfOk, OnOk, OnErr, option_map, slice_index_or};
 ghost use Rattle.std.specs.List.{All};
 ghost use Rattle.std.specs.Result.{result_err};
-ghost use Rattle.napi_types.specs.Lists.{has_number};
-ghost use Rattle.napi_types.specs.References.{no_references, with_reference, without_reference, with_count, referred_value, reference_count, strong_values, emptied};
-ghost use Rattle.napi_types.specs.ReferenceRefusals.{reference_refusal};
 ghost use Rattle.napi_types.specs.declared.call.Call.TheVariants as call;
+ghost use Rattle.napi_types.specs.plain.Lists.{has_number};
+ghost use Rattle.napi_types.specs.parts.ReferenceRefusals.{reference_refusal};
+ghost use Rattle.napi_types.specs.parts.References.{no_references, with_reference, without_reference, with_count, referred_value, reference_count, strong_values, emptied};
 ghost use Rattle.napi_reference.specs.Places.{map_of, EachReferenceStandsOnce, strong_in};
 
 use crate::rows::{self, Row};

@@ -1,6 +1,6 @@
 //! The list of references, read and changed by number.
 ghost use Rattle.std.specs.Prelude.{◌≡◌, ℕ, ◌-◌, ◌++◌, [], ◌∷◌, IsSome, OnOk, OnErr, Some, map, option_map, slice_set};
-ghost use Rattle.napi_types.specs.Lists.{has_number};
+ghost use Rattle.napi_types.specs.plain.Lists.{has_number};
 ghost use Rattle.napi_reference.specs.Freed.{IsInOrder};
 ghost use Rattle.napi_reference.specs.Places.{strong_in};
 ghost use Rattle.napi_reference.specs.Rows.{reference_of, row_of, weak_emptied};

@@ -1,6 +1,6 @@
 //! What a value is.
 ghost use Rattle.std.specs.Prelude.{◌≡◌};
-ghost use Rattle.napi_types.specs.Bodies.{kind_of};
+ghost use Rattle.napi_types.specs.parts.Bodies.{kind_of};
 
 use crate::{Kind, TextNo};
 

@@ -1,7 +1,7 @@
 //! Calls of the environment, by their names in the Node-API manual, and what an addon asks.
 ghost use Rattle.std.specs.Prelude.{◌≡◌};
-ghost use Rattle.napi_types.specs.Built.{is_built, is_value_call};
-ghost use Rattle.napi_types.specs.Guards.{is_guarded, is_registering};
+ghost use Rattle.napi_types.specs.plain.Built.{is_built, is_value_call};
+ghost use Rattle.napi_types.specs.plain.Guards.{is_guarded, is_registering};
 
 use crate::{HandleId, RefId, ScopeId, TextNo, TsfnId, WorkId};
 

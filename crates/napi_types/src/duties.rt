@@ -146,7 +146,7 @@ pub struct SeenList {
 impl Model for SeenList {
     ghost use Rattle.std.specs.Prelude.{◌≡◌, ◌^◌, ◌-◌, List, length, min};
     ghost use Rattle.napi_types.specs.declared.duties.DueInfo.{DueInfo};
-    ghost use Rattle.napi_types.specs.SeenLines.{infos};
+    ghost use Rattle.napi_types.specs.plain.SeenLines.{infos};
 
     ghost Value = { List DueInfo };
 

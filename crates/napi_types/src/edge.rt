@@ -2,7 +2,7 @@
 ghost use Rattle.std.specs.Prelude.{◌≡◌, ℕ, ◌+◌, ◌<◌, ◌≤◌, ◌↔◌, List, [], ◌++◌, None, Some, length, min, drop, IfOk, IfSome, OnOk, OnErr, IsErr, IsTrue, is_ok, if◌then◌else◌};
 ghost use Rattle.std.specs.declared.option.Option.{Option};
 ghost use Rattle.std.specs.Io.KnownBytes.{prepend_known, append_known};
-ghost use Rattle.napi_types.specs.Edge.{HasRisen, moved, CallPlan, opening_plan, fails_next, counted, count_call, count_fault};
+ghost use Rattle.napi_types.specs.plain.Edge.{HasRisen, moved, CallPlan, opening_plan, fails_next, counted, count_call, count_fault};
 
 use crate::Failed;
 use std::alloc::Global;
@@ -75,7 +75,7 @@ struct Calls {
 }
 
 impl Model for Calls {
-    ghost use Rattle.napi_types.specs.Edge.{CallPlan};
+    ghost use Rattle.napi_types.specs.plain.Edge.{CallPlan};
 
     ghost Value = { CallPlan };
 
@@ -124,7 +124,7 @@ pub struct MemSource {
 impl Model for MemSource {
     ghost use Rattle.std.specs.Prelude.{drop};
     ghost use Rattle.std.specs.Io.Cursor.{cursor_inner, cursor_position};
-    ghost use Rattle.napi_types.specs.Edge.{SourceInMemory};
+    ghost use Rattle.napi_types.specs.plain.Edge.{SourceInMemory};
 
     ghost Value = { SourceInMemory };
 
@@ -217,7 +217,7 @@ pub struct MemSink {
 
 impl Model for MemSink {
     ghost use Rattle.std.specs.Prelude.{◌<◌};
-    ghost use Rattle.napi_types.specs.Edge.{SinkInMemory};
+    ghost use Rattle.napi_types.specs.plain.Edge.{SinkInMemory};
 
     ghost Value = { SinkInMemory };
 

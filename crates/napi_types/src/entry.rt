@@ -1,6 +1,6 @@
 //! Entries of the trace.
 ghost use Rattle.std.specs.Prelude.{◌≡◌};
-ghost use Rattle.napi_types.specs.Replies.{plain as plain_reply};
+ghost use Rattle.napi_types.specs.plain.Replies.{plain as plain_reply};
 
 use crate::{Call, HandleId, Kind, RefId, ScopeId, Status, TextNo, Ticket, TsfnId, WorkId};
 use std::alloc::{AllocError, AllocFailed};

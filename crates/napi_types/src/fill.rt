@@ -1,6 +1,6 @@
 //! How an operation of a script is filled from registers, and what a register keeps of its result.
 ghost use Rattle.std.specs.Prelude.{◌≡◌, option_map};
-ghost use Rattle.napi_types.specs.Registers.{register_at as number_in_register, handle_in, arguments_in, operation_ask, result_register, register_value};
+ghost use Rattle.napi_types.specs.scripts.Registers.{register_at as number_in_register, handle_in, arguments_in, operation_ask, result_register, register_value};
 
 use crate::{Args, Ask, Call, HandleId, Op, Out, RefId, Regs, ScopeId, TsfnId, WorkId};
 

@@ -1,6 +1,6 @@
 //! What the machine's definitions come to over all runs in which threads and workers take part, as laws: each function does nothing, and its
 //! contract states a law.
-ghost use Rattle.napi_types.specs.HubLaws.{
+ghost use Rattle.napi_types.specs.all_runs.HubLaws.{
   OthersJoin,
   AddonsAreTheScripts,
   ScriptsStayAsOthersGoOn,

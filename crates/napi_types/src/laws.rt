@@ -1,5 +1,5 @@
 //! What the machine's definitions come to over all runs, as laws: each function does nothing, and its contract states a law.
-ghost use Rattle.napi_types.specs.Laws.{RoomSuffices, CollectionsKeepWhatIsReached, TicketsAreOnce, WithdrawnByTheirCalls, RunsAloneAreQuiet, OnlyTicketsAreMade, EveryDutyIsOnce, TicketsBeginInOrder, TicketsAreCounted};
+ghost use Rattle.napi_types.specs.all_runs.Laws.{RoomSuffices, CollectionsKeepWhatIsReached, TicketsAreOnce, WithdrawnByTheirCalls, RunsAloneAreQuiet, OnlyTicketsAreMade, EveryDutyIsOnce, TicketsBeginInOrder, TicketsAreCounted};
 
 /// Where the limits have room for the events that every run has, entries and reserved places stay within them at the end
 /// of every run, and so at every moment; once the environment is gone no place is left reserved in either list. Among those

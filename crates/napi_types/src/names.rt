@@ -1,6 +1,6 @@
 //! The words of a trace for calls, steps of the host, kinds of values, causes and ends.
 ghost use Rattle.std.specs.Prelude.{◌≡◌};
-ghost use Rattle.napi_types.specs.Names.{call_name, host_name, what_name, kind_name, cause_name, loop_end_name, why_name};
+ghost use Rattle.napi_types.specs.scripts.Names.{call_name, host_name, what_name, kind_name, cause_name, loop_end_name, why_name};
 
 use crate::{Call, Cause, HostStep, Kind, LoopEnd, What, Why};
 

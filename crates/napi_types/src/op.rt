@@ -1,6 +1,6 @@
 //! Operations of a script: calls whose arguments stand in registers.
 ghost use Rattle.std.specs.Prelude.{◌≡◌};
-ghost use Rattle.napi_types.specs.ScriptOperations.{operation_name, is_built_operation};
+ghost use Rattle.napi_types.specs.scripts.ScriptOperations.{operation_name, is_built_operation};
 
 use crate::{Ask, JobSpec, Mode, Release, TextNo};
 

@@ -1,6 +1,6 @@
 //! What a script gives to a run, and what is wrong with a JSON value that is no script.
 ghost use Rattle.std.specs.Prelude.{◌≡◌, IfOk, string_bytes};
-ghost use Rattle.napi_types.specs.ScriptPaths.{path};
+ghost use Rattle.napi_types.specs.scripts.ScriptPaths.{path};
 
 use crate::{Actors, NoMemory, OpLists, Plans, Text, Texts};
 use std::alloc::{AllocError, Global};

@@ -1,6 +1,6 @@
 //! Statuses and value kinds, with the numbers of the Node-API manual.
 ghost use Rattle.std.specs.Prelude.{◌≡◌, IfSome, IfNone, ℕ};
-ghost use Rattle.napi_types.specs.Numbers.{status_number, kind_number};
+ghost use Rattle.napi_types.specs.plain.Numbers.{status_number, kind_number};
 
 /// What a call answers: the manual's `napi_status`, and two of this project's own.
 ///

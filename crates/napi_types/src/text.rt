@@ -1,6 +1,6 @@
 //! Texts, and the table of a script's texts.
 ghost use Rattle.std.specs.Prelude.{◌≡◌, IfOk, slice_get, option_map};
-ghost use Rattle.napi_types.specs.Texts.{IsTextTable};
+ghost use Rattle.napi_types.specs.plain.Texts.{IsTextTable};
 
 use crate::{NoMemory, TextNo};
 use std::alloc::Global;
@@ -45,7 +45,7 @@ pub struct Texts {
 
 impl Model for Texts {
     ghost use Rattle.std.specs.Prelude.{List, ℕ};
-    ghost use Rattle.napi_types.specs.Texts.{IsTextTable};
+    ghost use Rattle.napi_types.specs.plain.Texts.{IsTextTable};
 
     ghost Value = { List (List ℕ) };
 

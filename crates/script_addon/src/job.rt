@@ -1,7 +1,7 @@
 //! The job of a script's work: it computes what the script says.
 ghost use Rattle.std.specs.Prelude.{◌≡◌, ◌%◌, ◌^◌};
-ghost use Rattle.napi_types.specs.Jobs.{job_value, mixed};
 ghost use Rattle.napi_types.specs.declared.call.JobSpec.TheVariants.{Sum};
+ghost use Rattle.napi_types.specs.parts.Jobs.{job_value, mixed};
 
 use async_work::Job;
 use napi_types::JobSpec;

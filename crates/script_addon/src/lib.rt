@@ -6,7 +6,7 @@
 mod job;
 
 ghost use Rattle.std.specs.Prelude.{◌≡◌, [], Some, set};
-ghost use Rattle.napi_types.specs.Registers.{operation, blank_registers};
+ghost use Rattle.napi_types.specs.scripts.Registers.{operation, blank_registers};
 
 use addon_trait::Addon;
 pub use job::ScriptJob;

@@ -6,8 +6,8 @@ use Rattle.serde_json.specs.Data.{Data}
 use Rattle.napi_types.specs.declared.script.Script.{Script}
 use Rattle.napi_types.specs.declared.script.Wrong.{Wrong}
 use Rattle.napi_types.specs.declared.script.Wrong.TheVariants as wrong
-use Rattle.napi_types.specs.ScriptReading.{IsJson, IsNoJson}
-use Rattle.napi_types.specs.Script.{IsScript, IsWrong, script}
+use Rattle.napi_types.specs.scripts.Script.{IsScript, IsWrong, script}
+use Rattle.napi_types.specs.scripts.ScriptReading.{IsJson, IsNoJson}
 use Rattle.script_host.specs.Reading.{longest_source}
 use Rattle.script_host.specs.Host.{Gave, GaveScript, GaveTooMuch, IsRead, IsTooLong, IsRefused, HasTooManyAddons, IsRunnable, Causes}
 use Rattle.script_host.specs.Words.{line_status}

@@ -9,20 +9,20 @@ use Rattle.napi_types.specs.declared.lists.Record.{Record}
 use Rattle.napi_types.specs.declared.script.Script.{Script}
 use Rattle.napi_types.specs.declared.script.Wrong.{Wrong}
 use Rattle.napi_types.specs.declared.script.Wrong.TheVariants as wrong
-use Rattle.napi_types.specs.Alone.{IsAlone}
-use Rattle.napi_types.specs.Laws.{HasRoom}
-use Rattle.napi_types.specs.Plan.{Plan}
-use Rattle.napi_types.specs.Room.{most_entries}
-use Rattle.napi_types.specs.ScriptReading.{IsNoJson}
-use Rattle.napi_types.specs.Script.{IsWrong}
-use Rattle.napi_types.specs.Weave.{weave}
-use Rattle.napi_types.specs.Setting.{opening_of, final_of}
-use Rattle.napi_types.specs.Order.{HooksFall, FinalsRise}
-use Rattle.napi_types.proofs.Keeping.{kept-run}
-use Rattle.napi_types.proofs.Onces.{tickets-counted}
-use Rattle.napi_types.proofs.Orders.{order-holds}
-use Rattle.napi_types.proofs.Rooms.{built-local, room-suffices}
-use Rattle.napi_types.proofs.Withdrawals.{once-holds}
+use Rattle.napi_types.specs.plain.Room.{most_entries}
+use Rattle.napi_types.specs.plain.Weave.{weave}
+use Rattle.napi_types.specs.scripts.Script.{IsWrong}
+use Rattle.napi_types.specs.scripts.ScriptReading.{IsNoJson}
+use Rattle.napi_types.specs.runs.Plan.{Plan}
+use Rattle.napi_types.specs.runs.Setting.{opening_of, final_of}
+use Rattle.napi_types.specs.all_runs.Alone.{IsAlone}
+use Rattle.napi_types.specs.all_runs.Laws.{HasRoom}
+use Rattle.napi_types.specs.all_runs.Order.{HooksFall, FinalsRise}
+use Rattle.napi_types.proofs.all_runs.Keeping.{kept-run}
+use Rattle.napi_types.proofs.all_runs.Onces.{tickets-counted}
+use Rattle.napi_types.proofs.all_runs.Orders.{order-holds}
+use Rattle.napi_types.proofs.all_runs.Rooms.{built-local, room-suffices}
+use Rattle.napi_types.proofs.all_runs.Withdrawals.{once-holds}
 use Rattle.env_loop.specs.Recording.{AddonStates, IsEnded}
 use Rattle.script_host.specs.Loading.{told_plans, setting_with}
 use Rattle.script_host.specs.declared.words.Line.{Line}

@@ -6,11 +6,11 @@ use Rattle.napi_types.specs.declared.entry.Entry.{Entry}
 use Rattle.napi_types.specs.declared.entry.Local.{Local}
 use Rattle.napi_types.specs.declared.lists.AddonPlan.{AddonPlan}
 use Rattle.napi_types.specs.declared.entry.Phase.TheVariants as phase
-use Rattle.napi_types.specs.Hub.{Before, quiet_hub}
-use Rattle.napi_types.specs.Registers.{blank_registers}
-use Rattle.napi_types.specs.Plan.{Plan, plan_of, Registers, registers_of}
-use Rattle.napi_types.specs.Room.{most_entries}
-use Rattle.napi_types.specs.Setting.{Setting}
+use Rattle.napi_types.specs.plain.Room.{most_entries}
+use Rattle.napi_types.specs.scripts.Registers.{blank_registers}
+use Rattle.napi_types.specs.hub.Hub.{Before, quiet_hub}
+use Rattle.napi_types.specs.runs.Plan.{Plan, plan_of, Registers, registers_of}
+use Rattle.napi_types.specs.runs.Setting.{Setting}
 use Rattle.env_core.specs.Core.{Core, opened_core}
 use Rattle.addon_trait.specs.Addons.{loaded_at}
 use Rattle.env_loop.specs.Recording.{AddonStates, IsRecorded, IsEnded, IsOf}

@@ -7,8 +7,8 @@ use Rattle.std.specs.Str.{IsUtf8, is_utf8}
 use Rattle.serde_json.specs.Data.{Data}
 use Rattle.serde_json.specs.Read.{read}
 use Rattle.napi_types.specs.declared.script.Script.{Script}
-use Rattle.napi_types.specs.ScriptReading.{IsJson, Reading}
-use Rattle.napi_types.specs.Script.{script}
+use Rattle.napi_types.specs.scripts.Script.{script}
+use Rattle.napi_types.specs.scripts.ScriptReading.{IsJson, Reading}
 use Rattle.script_host.specs.Reading.{longest_source}
 use Rattle.script_host.specs.Host.{IsTooLong, IsRefused, IsRunnable}
 use Rattle.script_host.proofs.Complete.{no-refused}

@@ -1,7 +1,7 @@
 -- What a sink took that was given a line piece by piece.
 use Rattle.std.proofs.Common.{◌≡◌, ℕ, List, ◌++◌, Option, Some, None, Result, Ok, Err, OnErr, refl, ap, sym, ◌∙◌, append_assoc}
 use Rattle.std.specs.Io.KnownBytes.{append_known}
-use Rattle.napi_types.specs.Edge.{TookFront}
+use Rattle.napi_types.specs.plain.Edge.{TookFront}
 
 -- two pieces in turn are their text
 pub both-known : (had : Option (List ℕ)) (xs ys : List ℕ) → append_known (append_known had xs) ys ≡ append_known had (xs ++ ys)

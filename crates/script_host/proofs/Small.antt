@@ -12,10 +12,10 @@ use Rattle.napi_types.specs.declared.script.Place.TheVariants as place
 use Rattle.napi_types.specs.declared.script.Script.{Script}
 use Rattle.napi_types.specs.declared.script.Wrong.TheVariants as wrong
 use Rattle.napi_types.specs.declared.lists.AddonPlan.{AddonPlan}
-use Rattle.napi_types.specs.ScriptReading.{Reading, ◌>>=◌, formed, list_at, within_limit, each, Read, Table, read_with, when_formed}
-use Rattle.napi_types.specs.Script.{addons_in, is_root, version_in, workers_in, threads_in, script_in, script, is_built_script, IsScript}
-use Rattle.napi_types.specs.ScriptAddons.{addon_at}
-use Rattle.napi_types.specs.ScriptThreads.{schedule_in}
+use Rattle.napi_types.specs.scripts.Script.{addons_in, is_root, version_in, workers_in, threads_in, script_in, script, is_built_script, IsScript}
+use Rattle.napi_types.specs.scripts.ScriptAddons.{addon_at}
+use Rattle.napi_types.specs.scripts.ScriptReading.{Reading, ◌>>=◌, formed, list_at, within_limit, each, Read, Table, read_with, when_formed}
+use Rattle.napi_types.specs.scripts.ScriptThreads.{schedule_in}
 use Rattle.script_host.specs.Host.{IsSmall}
 use Rattle.script_host.specs.declared.words.Line.{Line}
 

@@ -8,18 +8,18 @@ use Rattle.napi_types.specs.declared.lists.Record.{Record}
 use Rattle.napi_types.specs.declared.script.Script.{Script}
 use Rattle.napi_types.specs.declared.script.Wrong.{Wrong}
 use Rattle.napi_types.specs.declared.script.Wrong.TheVariants as wrong
-use Rattle.napi_types.specs.Begins.{begun_along, of_addon}
-use Rattle.napi_types.specs.Counts.{Once}
-use Rattle.napi_types.specs.Edge.{HasRisen, TookFront}
-use Rattle.napi_types.specs.CollectionLaw.{KeepsReached}
-use Rattle.napi_types.specs.Order.{TicketsCount, HooksFall, FinalsRise}
-use Rattle.napi_types.specs.Parting.{IsParted}
-use Rattle.napi_types.specs.Plan.{Plan, plan_of, registers_of}
-use Rattle.napi_types.specs.ScriptReading.{IsNoJson}
-use Rattle.napi_types.specs.Script.{IsScript, IsWrong, HasWrongShape}
-use Rattle.napi_types.specs.Text.{text}
-use Rattle.napi_types.specs.Weave.{weave, RisesBetween}
-use Rattle.napi_types.specs.Setting.{Setting, EndsBy, opening_of, final_registers}
+use Rattle.napi_types.specs.plain.Edge.{HasRisen, TookFront}
+use Rattle.napi_types.specs.plain.Weave.{weave, RisesBetween}
+use Rattle.napi_types.specs.scripts.Script.{IsScript, IsWrong, HasWrongShape}
+use Rattle.napi_types.specs.scripts.ScriptReading.{IsNoJson}
+use Rattle.napi_types.specs.scripts.Text.{text}
+use Rattle.napi_types.specs.runs.Begins.{begun_along, of_addon}
+use Rattle.napi_types.specs.runs.Parting.{IsParted}
+use Rattle.napi_types.specs.runs.Plan.{Plan, plan_of, registers_of}
+use Rattle.napi_types.specs.runs.Setting.{Setting, EndsBy, opening_of, final_registers}
+use Rattle.napi_types.specs.all_runs.CollectionLaw.{KeepsReached}
+use Rattle.napi_types.specs.all_runs.Counts.{Once}
+use Rattle.napi_types.specs.all_runs.Order.{TicketsCount, HooksFall, FinalsRise}
 use Rattle.addon_trait.specs.Addons.{seen_of}
 use Rattle.script_host.specs.Reading.{longest_source, GaveTooMany}
 use Rattle.env_loop.specs.Recording.{AgreesWhereTold}

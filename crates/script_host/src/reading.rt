@@ -1,7 +1,7 @@
 //! Reading a source to its end.
 ghost use Rattle.std.specs.Prelude.{◌≡◌, ◌≢◌, ◌<◌, ◌≤◌, IfOk, IfSome, OnOk, length, vec_len};
 ghost use Rattle.std.specs.Io.KnownBytes.{prepend_known, IsAtEnd};
-ghost use Rattle.napi_types.specs.Edge.{HasRisen};
+ghost use Rattle.napi_types.specs.plain.Edge.{HasRisen};
 ghost use Rattle.script_host.specs.Reading.{longest_source, GaveFront, GaveTooMany};
 
 use napi_types::Source;

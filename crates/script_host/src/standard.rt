@@ -2,7 +2,7 @@
 //! They tell nothing of the bytes: what the system gives and takes, no contract can say.
 ghost use Rattle.std.specs.Prelude.{◌≡◌, ◌+◌, ◌<◌, ◌≤◌, None, min, length, is_ok, IfOk, OnErr, if◌then◌else◌};
 ghost use Rattle.std.specs.Io.KnownBytes.{ReadConsumes, WriteAppends};
-ghost use Rattle.napi_types.specs.Edge.{HasRisen, last_count};
+ghost use Rattle.napi_types.specs.plain.Edge.{HasRisen, last_count};
 
 use napi_types::{Failed, Sink, Source};
 use std::io::{Read, Write};

@@ -1,7 +1,7 @@
 //! The top call.
 ghost use Rattle.std.specs.Prelude.{◌≡◌, ◌≢◌, ◌≤◌, ◌<◌, ◌^◌, ℕ, ◌↔◌, ◌==◌, List, length, map, true, false, IfOk, OnOk, OnErr, IfErr, ◌⊎◌};
 ghost use Rattle.std.specs.Io.KnownBytes.{append_known};
-ghost use Rattle.napi_types.specs.Edge.{HasRisen, TookFront};
+ghost use Rattle.napi_types.specs.plain.Edge.{HasRisen, TookFront};
 ghost use Rattle.script_host.specs.Host.{Handed, Ran, IsSmall, trace_of, WroteTrace, is_whole, IsStatus, IsRunStatus};
 ghost use Rattle.script_host.specs.Host.{GaveScript, GaveRefused, GaveTooMuch, Causes, WroteLine, IsRead, IsTooLong, IsRefused, IsRunnable};
 ghost use Rattle.script_host.specs.Reading.{GaveFront};

@@ -1,7 +1,7 @@
 //! The command line, and the lines that stand in place of a trace.
 ghost use Rattle.std.specs.Prelude.{◌≡◌, ◌≤◌, OnOk, OnErr};
 ghost use Rattle.std.specs.Io.KnownBytes.{append_known};
-ghost use Rattle.napi_types.specs.Edge.{HasRisen, TookFront};
+ghost use Rattle.napi_types.specs.plain.Edge.{HasRisen, TookFront};
 ghost use Rattle.script_host.specs.Words.{is_run_words, line_text, line_status, limit_line, shape_line};
 
 use napi_types::{Failed, LimitName, Sink, Text};

@@ -3,9 +3,9 @@ use Rattle.std.proofs.Common.{◌≡◌, ◌<◌, ◌≤◌, ℕ, List, [], ◌�
 use Rattle.serde_json.specs.View.{items_view}
 use Rattle.serde_json.specs.declared.value.Value.{Value}
 use Rattle.napi_types.specs.declared.op.Op.{Op}
-use Rattle.napi_types.specs.ScriptArguments.{registers_among, job_of}
+use Rattle.napi_types.specs.scripts.ScriptArguments.{registers_among, job_of}
+use Rattle.napi_types.specs.scripts.ScriptOperations.{with_more_arguments, text_operation, thread_operation_named}
 use Rattle.serde_json.specs.Data.{Data}
-use Rattle.napi_types.specs.ScriptOperations.{with_more_arguments, text_operation, thread_operation_named}
 
 pub job-few : (vs : List Value) → length vs < 2 → job_of (items_view vs) ≡ None
 unfolding job_of

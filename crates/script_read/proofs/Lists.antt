@@ -7,7 +7,7 @@ use Rattle.serde_json.specs.View.{view, items_view, members_view}
 use Rattle.serde_json.specs.declared.value.Value.{Value}
 use Rattle.serde_json.proofs.Views.{items_len-items_view, members_len-members_view}
 use Rattle.napi_types.specs.declared.script.Wrong.{Wrong}
-use Rattle.napi_types.specs.ScriptReading.{Table, Reading, Read, read_with, each, every, ◌>>=◌}
+use Rattle.napi_types.specs.scripts.ScriptReading.{Table, Reading, Read, read_with, each, every, ◌>>=◌}
 use Rattle.script_read.specs.Lists.{onto, before}
 use Rattle.script_read.specs.Reads.{Stops}
 use Rattle.script_read.specs.declared.json.Stop.{Stop}

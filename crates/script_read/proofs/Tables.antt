@@ -4,7 +4,7 @@ use Rattle.std.proofs.lemmas.Slice.Eq.{bytes_eq-Decides}
 use Rattle.std.proofs.lemmas.Grind.{common_steps}
 use Rattle.std.specs.List.{position_from}
 use Rattle.std.specs.Map.{update}
-use Rattle.napi_types.specs.Texts.{IsTextTable, place_of, fixed_texts}
+use Rattle.napi_types.specs.plain.Texts.{IsTextTable, place_of, fixed_texts}
 use Rattle.script_read.specs.Table.{IsTable}
 
 -- a text that has no place stands nowhere

@@ -1,7 +1,7 @@
 -- What was read of a list so far, before what the rest of it reads.
 use Rattle.std.specs.Prelude.{List, ◌++◌}
 use Rattle.std.specs.declared.result.Result.TheVariants.{Ok, Err}
-use Rattle.napi_types.specs.ScriptReading.{Reading, Read, read_with}
+use Rattle.napi_types.specs.scripts.ScriptReading.{Reading, Read, read_with}
 
 -- these members, and behind them those that the rest reads
 abbrev pub onto : {A : Type 0} → List A → Reading (Read (List A)) → Reading (Read (List A))

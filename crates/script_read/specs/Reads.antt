@@ -2,7 +2,7 @@
 use Rattle.std.specs.Prelude.{◌≡◌, ⊤}
 use Rattle.std.specs.declared.result.Result.{Result}
 use Rattle.std.specs.declared.result.Result.TheVariants.{Ok, Err}
-use Rattle.napi_types.specs.ScriptReading.{Reading}
+use Rattle.napi_types.specs.scripts.ScriptReading.{Reading}
 use Rattle.script_read.specs.declared.json.Stop.{Stop}
 use Rattle.script_read.specs.declared.json.Stop.TheVariants as stop
 

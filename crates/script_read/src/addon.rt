@@ -1,8 +1,8 @@
 //! The addons of a script.
 ghost use Rattle.std.specs.Prelude.{◌≡◌};
 ghost use Rattle.serde_json.specs.View.{view, items_view};
-ghost use Rattle.napi_types.specs.ScriptReading.{read_with, each};
-ghost use Rattle.napi_types.specs.ScriptAddons.{entry_at, is_addon, addon_at};
+ghost use Rattle.napi_types.specs.scripts.ScriptAddons.{entry_at, is_addon, addon_at};
+ghost use Rattle.napi_types.specs.scripts.ScriptReading.{read_with, each};
 ghost use Rattle.script_read.specs.Reads.{ReadsAs};
 
 use crate::entry::entry_at;
@@ -36,7 +36,7 @@ fn each_entry(
 }
 
 /// Whether a value is an object with exactly the members `name` and `entries`.
-#[tactic(auto, unfolding(napi_types::specs::ScriptAddons::is_addon))]
+#[tactic(auto, unfolding(napi_types::specs::scripts::ScriptAddons::is_addon))]
 fn is_addon(value: &Value) -> bool
     ensures { result ≡ is_addon (view value.now) }
 {
@@ -44,7 +44,7 @@ fn is_addon(value: &Value) -> bool
 }
 
 /// An addon: its name, which is a text, and its entries.
-#[tactic(auto, using(crate::proofs::Lists::items_len_of), unfolding(napi_types::specs::ScriptAddons::addon_at))]
+#[tactic(auto, using(crate::proofs::Lists::items_len_of), unfolding(napi_types::specs::scripts::ScriptAddons::addon_at))]
 fn addon_at(alloc: Global, a: usize, table: &mut Table, value: &Value) -> Result<AddonPlan, Stop>
     ensures { ReadsAs (read_with table.new) result (addon_at a table.old (view value.now)) }
 {

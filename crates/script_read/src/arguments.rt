@@ -1,13 +1,13 @@
 //! The arguments of an operation, each form by itself: what a value is, `None` exactly where it has another form.
 ghost use Rattle.std.specs.Prelude.{◌≡◌, ℤ, option_map};
 ghost use Rattle.serde_json.specs.View.{view, items_view};
-ghost use Rattle.napi_types.specs.ScriptArguments.{whole, whole_below, signed, flag, text_argument, is_none, or_none, register, register_or_none, short, entry_number, entry_or_none, text_or_none, mode_number, release_number, job_size, job_in, job_of, sum_job, mix_job, registers_in, registers_among, register_list};
+ghost use Rattle.napi_types.specs.scripts.ScriptArguments.{whole, whole_below, signed, flag, text_argument, is_none, or_none, register, register_or_none, short, entry_number, entry_or_none, text_or_none, mode_number, release_number, job_size, job_in, job_of, sum_job, mix_job, registers_in, registers_among, register_list};
 
 use napi_types::{JobSpec, Mode, Regs, Release};
 use serde_json::Value;
 
 /// A whole number from 0 to 2^64-1.
-#[tactic(auto, unfolding(napi_types::specs::ScriptArguments::whole))]
+#[tactic(auto, unfolding(napi_types::specs::scripts::ScriptArguments::whole))]
 pub(crate) fn whole(value: &Value) -> Option<u64>
     ensures { result ≡ whole (view value.now) }
 {
@@ -15,7 +15,7 @@ pub(crate) fn whole(value: &Value) -> Option<u64>
 }
 
 /// A whole number below a bound.
-#[tactic(auto, unfolding(napi_types::specs::ScriptArguments::whole_below))]
+#[tactic(auto, unfolding(napi_types::specs::scripts::ScriptArguments::whole_below))]
 fn whole_below(bound: u64, value: &Value) -> Option<u64>
     ensures { result ≡ whole_below bound (view value.now) }
 {
@@ -24,7 +24,7 @@ fn whole_below(bound: u64, value: &Value) -> Option<u64>
 }
 
 /// A signed whole number of 64 bits.
-#[tactic(auto, unfolding(napi_types::specs::ScriptArguments::signed))]
+#[tactic(auto, unfolding(napi_types::specs::scripts::ScriptArguments::signed))]
 pub(crate) fn signed(value: &Value) -> Option<i64>
     ensures { result ≡ signed (view value.now) }
 {
@@ -32,7 +32,7 @@ pub(crate) fn signed(value: &Value) -> Option<i64>
 }
 
 /// True or false.
-#[tactic(auto, unfolding(napi_types::specs::ScriptArguments::flag))]
+#[tactic(auto, unfolding(napi_types::specs::scripts::ScriptArguments::flag))]
 pub(crate) fn flag(value: &Value) -> Option<bool>
     ensures { result ≡ flag (view value.now) }
 {
@@ -40,7 +40,7 @@ pub(crate) fn flag(value: &Value) -> Option<bool>
 }
 
 /// A text.
-#[tactic(auto, unfolding(napi_types::specs::ScriptArguments::text_argument))]
+#[tactic(auto, unfolding(napi_types::specs::scripts::ScriptArguments::text_argument))]
 pub(crate) fn text(value: &Value) -> Option<&str>
     ensures { option_map (λ found. found.now) result ≡ text_argument (view value.now) }
 {
@@ -48,7 +48,7 @@ pub(crate) fn text(value: &Value) -> Option<&str>
 }
 
 /// The number -1, which stands for none.
-#[tactic(auto, unfolding(napi_types::specs::ScriptArguments::is_none))]
+#[tactic(auto, unfolding(napi_types::specs::scripts::ScriptArguments::is_none))]
 fn is_none(value: &Value) -> bool
     ensures { result ≡ is_none (view value.now) }
 {
@@ -59,7 +59,7 @@ fn is_none(value: &Value) -> bool
 }
 
 /// A register: 0 to 31.
-#[tactic(auto, unfolding(napi_types::specs::ScriptArguments::register, napi_types::specs::ScriptArguments::whole_below))]
+#[tactic(auto, unfolding(napi_types::specs::scripts::ScriptArguments::register, napi_types::specs::scripts::ScriptArguments::whole_below))]
 pub(crate) fn register(value: &Value) -> Option<u8>
     ensures { result ≡ register (view value.now) }
 {
@@ -72,7 +72,7 @@ pub(crate) fn register(value: &Value) -> Option<u8>
 }
 
 /// A register, or -1 for none.
-#[tactic(auto, unfolding(napi_types::specs::ScriptArguments::register_or_none, napi_types::specs::ScriptArguments::or_none))]
+#[tactic(auto, unfolding(napi_types::specs::scripts::ScriptArguments::register_or_none, napi_types::specs::scripts::ScriptArguments::or_none))]
 pub(crate) fn register_or_none(value: &Value) -> Option<Option<u8>>
     ensures { result ≡ register_or_none (view value.now) }
 {
@@ -83,7 +83,7 @@ pub(crate) fn register_or_none(value: &Value) -> Option<Option<u8>>
 }
 
 /// A whole number from 0 to 2^32-1.
-#[tactic(auto, unfolding(napi_types::specs::ScriptArguments::short, napi_types::specs::ScriptArguments::whole_below))]
+#[tactic(auto, unfolding(napi_types::specs::scripts::ScriptArguments::short, napi_types::specs::scripts::ScriptArguments::whole_below))]
 pub(crate) fn short(value: &Value) -> Option<u32>
     ensures { result ≡ short (view value.now) }
 {
@@ -96,7 +96,7 @@ pub(crate) fn short(value: &Value) -> Option<u32>
 }
 
 /// An entry of an addon with so many entries.
-#[tactic(auto, unfolding(napi_types::specs::ScriptArguments::entry_number, napi_types::specs::ScriptArguments::whole_below))]
+#[tactic(auto, unfolding(napi_types::specs::scripts::ScriptArguments::entry_number, napi_types::specs::scripts::ScriptArguments::whole_below))]
 pub(crate) fn entry_number(entries: u32, value: &Value) -> Option<u32>
     ensures { result ≡ entry_number entries (view value.now) }
 {
@@ -109,7 +109,7 @@ pub(crate) fn entry_number(entries: u32, value: &Value) -> Option<u32>
 }
 
 /// An entry, or -1 for none.
-#[tactic(auto, unfolding(napi_types::specs::ScriptArguments::entry_or_none, napi_types::specs::ScriptArguments::or_none))]
+#[tactic(auto, unfolding(napi_types::specs::scripts::ScriptArguments::entry_or_none, napi_types::specs::scripts::ScriptArguments::or_none))]
 pub(crate) fn entry_or_none(entries: u32, value: &Value) -> Option<Option<u32>>
     ensures { result ≡ entry_or_none entries (view value.now) }
 {
@@ -120,7 +120,7 @@ pub(crate) fn entry_or_none(entries: u32, value: &Value) -> Option<Option<u32>>
 }
 
 /// A text, or -1 for none.
-#[tactic(auto, unfolding(napi_types::specs::ScriptArguments::text_or_none, napi_types::specs::ScriptArguments::or_none))]
+#[tactic(auto, unfolding(napi_types::specs::scripts::ScriptArguments::text_or_none, napi_types::specs::scripts::ScriptArguments::or_none))]
 pub(crate) fn text_or_none(value: &Value) -> Option<Option<&str>>
     ensures { option_map (option_map (λ found. found.now)) result ≡ text_or_none (view value.now) }
 {
@@ -131,7 +131,7 @@ pub(crate) fn text_or_none(value: &Value) -> Option<Option<&str>>
 }
 
 /// How a thread-safe function is called: 0 does not wait, 1 does.
-#[tactic(auto, unfolding(napi_types::specs::ScriptArguments::mode_number, napi_types::specs::ScriptArguments::whole_below))]
+#[tactic(auto, unfolding(napi_types::specs::scripts::ScriptArguments::mode_number, napi_types::specs::scripts::ScriptArguments::whole_below))]
 pub(crate) fn mode(value: &Value) -> Option<Mode>
     ensures { result ≡ mode_number (view value.now) }
 {
@@ -142,7 +142,7 @@ pub(crate) fn mode(value: &Value) -> Option<Mode>
 }
 
 /// How a thread-safe function is released: 0 by one, 1 with all that hold it.
-#[tactic(auto, unfolding(napi_types::specs::ScriptArguments::release_number, napi_types::specs::ScriptArguments::whole_below))]
+#[tactic(auto, unfolding(napi_types::specs::scripts::ScriptArguments::release_number, napi_types::specs::scripts::ScriptArguments::whole_below))]
 pub(crate) fn release(value: &Value) -> Option<Release>
     ensures { result ≡ release_number (view value.now) }
 {
@@ -153,7 +153,7 @@ pub(crate) fn release(value: &Value) -> Option<Release>
 }
 
 /// The last number of a job.
-#[tactic(auto, unfolding(napi_types::specs::ScriptArguments::job_size))]
+#[tactic(auto, unfolding(napi_types::specs::scripts::ScriptArguments::job_size))]
 fn job_size(value: &Value) -> Option<u64>
     ensures { result ≡ job_size (view value.now) }
 {
@@ -161,7 +161,7 @@ fn job_size(value: &Value) -> Option<u64>
 }
 
 /// The job of a sum.
-#[tactic(auto, unfolding(napi_types::specs::ScriptArguments::sum_job))]
+#[tactic(auto, unfolding(napi_types::specs::scripts::ScriptArguments::sum_job))]
 fn sum_job(word: &Value, number: &Value) -> Option<JobSpec>
     ensures { result ≡ sum_job (view word.now) (view number.now) }
 {
@@ -173,7 +173,7 @@ fn sum_job(word: &Value, number: &Value) -> Option<JobSpec>
 }
 
 /// The job of a mix.
-#[tactic(auto, unfolding(napi_types::specs::ScriptArguments::mix_job))]
+#[tactic(auto, unfolding(napi_types::specs::scripts::ScriptArguments::mix_job))]
 fn mix_job(word: &Value, number: &Value, times: &Value) -> Option<JobSpec>
     ensures { result ≡ mix_job (view word.now) (view number.now) (view times.now) }
 {
@@ -186,7 +186,7 @@ fn mix_job(word: &Value, number: &Value, times: &Value) -> Option<JobSpec>
 }
 
 /// The job that has these parts.
-#[tactic(auto, unfolding(napi_types::specs::ScriptArguments::job_of))]
+#[tactic(auto, unfolding(napi_types::specs::scripts::ScriptArguments::job_of))]
 fn job_of(items: &[Value]) -> Option<JobSpec>
     ensures { result ≡ job_of (items_view items.now) }
 {
@@ -198,7 +198,7 @@ fn job_of(items: &[Value]) -> Option<JobSpec>
 }
 
 /// A job.
-#[tactic(auto, unfolding(napi_types::specs::ScriptArguments::job_in))]
+#[tactic(auto, unfolding(napi_types::specs::scripts::ScriptArguments::job_in))]
 pub(crate) fn job(value: &Value) -> Option<JobSpec>
     ensures { result ≡ job_in (view value.now) }
 {
@@ -217,7 +217,7 @@ fn list_of(count: u8, first: u8, second: u8, third: u8, fourth: u8) -> Regs
     }
 }
 
-#[tactic(auto, unfolding(napi_types::specs::ScriptArguments::registers_among))]
+#[tactic(auto, unfolding(napi_types::specs::scripts::ScriptArguments::registers_among))]
 fn registers_among(items: &[Value]) -> Option<Regs>
     ensures { result ≡ registers_among (items_view items.now) }
 {
@@ -232,7 +232,7 @@ fn registers_among(items: &[Value]) -> Option<Regs>
 }
 
 /// A list of zero to four registers.
-#[tactic(auto, unfolding(napi_types::specs::ScriptArguments::registers_in))]
+#[tactic(auto, unfolding(napi_types::specs::scripts::ScriptArguments::registers_in))]
 pub(crate) fn registers(value: &Value) -> Option<Regs>
     ensures { result ≡ registers_in (view value.now) }
 {

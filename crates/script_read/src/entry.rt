@@ -1,7 +1,7 @@
 //! The entries of an addon and their operations.
 ghost use Rattle.serde_json.specs.View.{view, items_view};
-ghost use Rattle.napi_types.specs.ScriptReading.{read_with, each};
-ghost use Rattle.napi_types.specs.ScriptAddons.{operation_at, entry_at};
+ghost use Rattle.napi_types.specs.scripts.ScriptAddons.{operation_at, entry_at};
+ghost use Rattle.napi_types.specs.scripts.ScriptReading.{read_with, each};
 ghost use Rattle.script_read.specs.Reads.{ReadsAs};
 
 use crate::json::{Stop, list_at};
@@ -15,7 +15,7 @@ use std::alloc::Global;
 const MOST_OPERATIONS: usize = 4096;
 
 /// An operation of an entry.
-#[tactic(auto, unfolding(napi_types::specs::ScriptAddons::operation_at))]
+#[tactic(auto, unfolding(napi_types::specs::scripts::ScriptAddons::operation_at))]
 fn operation_at(
     alloc: Global,
     entries: u32,
@@ -56,7 +56,7 @@ fn each_operation(
 }
 
 /// An entry of an addon with so many entries.
-#[tactic(auto, unfolding(napi_types::specs::ScriptAddons::entry_at))]
+#[tactic(auto, unfolding(napi_types::specs::scripts::ScriptAddons::entry_at))]
 pub(crate) fn entry_at(
     alloc: Global,
     entries: u32,

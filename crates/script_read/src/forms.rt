@@ -1,7 +1,7 @@
 //! The table of operations: what the arguments of each are read as, a line an operation.
 ghost use Rattle.std.specs.Prelude.{◌≡◌};
 ghost use Rattle.serde_json.specs.View.{view, items_view};
-ghost use Rattle.napi_types.specs.ScriptOperations.{with_register, with_two_registers, with_one_argument, with_two_arguments, with_three_arguments, with_four_arguments, with_five_arguments, with_seven_arguments, with_more_arguments, plain_operation, without_arguments};
+ghost use Rattle.napi_types.specs.scripts.ScriptOperations.{with_register, with_two_registers, with_one_argument, with_two_arguments, with_three_arguments, with_four_arguments, with_five_arguments, with_seven_arguments, with_more_arguments, plain_operation, without_arguments};
 
 use crate::arguments::{
     entry_number, entry_or_none, flag, job, mode, register, register_or_none, registers, release,
@@ -51,7 +51,7 @@ macro_rules! from {
 }
 
 /// The operation of a register.
-#[tactic(auto, unfolding(napi_types::specs::ScriptOperations::with_register))]
+#[tactic(auto, unfolding(napi_types::specs::scripts::ScriptOperations::with_register))]
 fn with_register(kind: Op, x: u8) -> Option<Op>
     ensures { result ≡ with_register kind x }
 {
@@ -84,7 +84,7 @@ fn with_register(kind: Op, x: u8) -> Option<Op>
 }
 
 /// The operation of one argument.
-#[tactic(auto, unfolding(napi_types::specs::ScriptOperations::with_one_argument))]
+#[tactic(auto, unfolding(napi_types::specs::scripts::ScriptOperations::with_one_argument))]
 fn with_one_argument(kind: Op, a: &Value) -> Option<Op>
     ensures { result ≡ with_one_argument kind (view a.now) }
 {
@@ -98,7 +98,7 @@ fn with_one_argument(kind: Op, a: &Value) -> Option<Op>
 }
 
 /// The operation of two registers.
-#[tactic(auto, unfolding(napi_types::specs::ScriptOperations::with_two_registers))]
+#[tactic(auto, unfolding(napi_types::specs::scripts::ScriptOperations::with_two_registers))]
 fn with_two_registers(kind: Op, x: u8, y: u8) -> Option<Op>
     ensures { result ≡ with_two_registers kind x y }
 {
@@ -124,7 +124,7 @@ fn with_two_registers(kind: Op, x: u8, y: u8) -> Option<Op>
 }
 
 /// The operation of two arguments of which none is a text.
-#[tactic(auto, unfolding(napi_types::specs::ScriptOperations::with_two_arguments))]
+#[tactic(auto, unfolding(napi_types::specs::scripts::ScriptOperations::with_two_arguments))]
 fn with_two_arguments(entries: u32, kind: Op, a: &Value, b: &Value) -> Option<Op>
     ensures { result ≡ with_two_arguments entries kind (view a.now) (view b.now) }
 {
@@ -156,7 +156,7 @@ fn with_two_arguments(entries: u32, kind: Op, a: &Value, b: &Value) -> Option<Op
 }
 
 /// The operation of three arguments of which none is a text.
-#[tactic(auto, unfolding(napi_types::specs::ScriptOperations::with_three_arguments))]
+#[tactic(auto, unfolding(napi_types::specs::scripts::ScriptOperations::with_three_arguments))]
 fn with_three_arguments(entries: u32, kind: Op, a: &Value, b: &Value, c: &Value) -> Option<Op>
     ensures { result ≡ with_three_arguments entries kind (view a.now) (view b.now) (view c.now) }
 {
@@ -197,7 +197,7 @@ fn with_three_arguments(entries: u32, kind: Op, a: &Value, b: &Value, c: &Value)
 }
 
 /// The operation of four arguments.
-#[tactic(auto, unfolding(napi_types::specs::ScriptOperations::with_four_arguments))]
+#[tactic(auto, unfolding(napi_types::specs::scripts::ScriptOperations::with_four_arguments))]
 fn with_four_arguments(
     entries: u32,
     kind: Op,
@@ -242,7 +242,7 @@ fn with_four_arguments(
 }
 
 /// The operation of five arguments.
-#[tactic(auto, unfolding(napi_types::specs::ScriptOperations::with_five_arguments))]
+#[tactic(auto, unfolding(napi_types::specs::scripts::ScriptOperations::with_five_arguments))]
 fn with_five_arguments(
     entries: u32,
     kind: Op,
@@ -276,7 +276,7 @@ fn with_five_arguments(
 }
 
 /// The operation of seven arguments.
-#[tactic(auto, unfolding(napi_types::specs::ScriptOperations::with_seven_arguments))]
+#[tactic(auto, unfolding(napi_types::specs::scripts::ScriptOperations::with_seven_arguments))]
 fn with_seven_arguments(
     entries: u32,
     kind: Op,
@@ -306,7 +306,7 @@ fn with_seven_arguments(
 }
 
 /// The operation of no argument.
-#[tactic(auto, unfolding(napi_types::specs::ScriptOperations::without_arguments))]
+#[tactic(auto, unfolding(napi_types::specs::scripts::ScriptOperations::without_arguments))]
 fn without_arguments(kind: Op) -> Option<Op>
     ensures { result ≡ without_arguments kind }
 {
@@ -317,7 +317,7 @@ fn without_arguments(kind: Op) -> Option<Op>
 }
 
 /// The operation of five arguments or more.
-#[tactic(auto, unfolding(napi_types::specs::ScriptOperations::with_more_arguments))]
+#[tactic(auto, unfolding(napi_types::specs::scripts::ScriptOperations::with_more_arguments))]
 fn with_more_arguments(
     entries: u32,
     kind: Op,
@@ -338,7 +338,7 @@ fn with_more_arguments(
 }
 
 /// The operation of a kind with these arguments, where none of them is a text.
-#[tactic(auto, unfolding(napi_types::specs::ScriptOperations::plain_operation))]
+#[tactic(auto, unfolding(napi_types::specs::scripts::ScriptOperations::plain_operation))]
 pub(crate) fn plain_operation(entries: u32, kind: Op, args: &[Value]) -> Option<Op>
     ensures { result ≡ plain_operation entries kind (items_view args.now) }
 {

@@ -2,8 +2,8 @@
 ghost use Rattle.std.specs.Prelude.{◌≡◌, ◌≤◌, IfOk, length, option_map};
 ghost use Rattle.serde_json.specs.Find.{as_array};
 ghost use Rattle.serde_json.specs.View.{view, items_view};
-ghost use Rattle.napi_types.specs.ScriptReading.{IsJson, IsNoJson, list_at};
-ghost use Rattle.napi_types.specs.ScriptAddons.{has_members};
+ghost use Rattle.napi_types.specs.scripts.ScriptAddons.{has_members};
+ghost use Rattle.napi_types.specs.scripts.ScriptReading.{IsJson, IsNoJson, list_at};
 ghost use Rattle.script_read.specs.Reads.{ReadsAs};
 
 use napi_types::{LimitName, Place, Wrong};
@@ -48,7 +48,7 @@ fn items(value: &Value) -> Option<&[Value]>
 }
 
 /// The items of an array with at most so many.
-#[tactic(auto, using(crate::proofs::Lists::items_len_of), unfolding(napi_types::specs::ScriptReading::list_at))]
+#[tactic(auto, using(crate::proofs::Lists::items_len_of), unfolding(napi_types::specs::scripts::ScriptReading::list_at))]
 pub(crate) fn list_at<'v>(
     place: Place,
     which: LimitName,
@@ -69,7 +69,7 @@ pub(crate) fn list_at<'v>(
 }
 
 /// Whether a value is an object with so many members.
-#[tactic(auto, using(crate::proofs::Lists::members_len_of), unfolding(napi_types::specs::ScriptAddons::has_members))]
+#[tactic(auto, using(crate::proofs::Lists::members_len_of), unfolding(napi_types::specs::scripts::ScriptAddons::has_members))]
 pub(crate) fn has_members(value: &Value, count: usize) -> bool
     ensures { result ≡ has_members count (view value.now) }
 {

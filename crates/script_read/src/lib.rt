@@ -4,10 +4,10 @@
 #![tactic(auto)]
 
 ghost use Rattle.std.specs.Prelude.{◌≡◌, IfOk, List, ℕ};
-ghost use Rattle.napi_types.specs.ScriptReading.{IsNoJson};
-ghost use Rattle.napi_types.specs.Script.{IsScript, IsWrong, HasWrongShape};
-ghost use Rattle.napi_types.specs.ScriptPaths.{path as path_of};
 ghost use Rattle.napi_types.specs.declared.script.Wrong.TheVariants as wrong;
+ghost use Rattle.napi_types.specs.scripts.Script.{IsScript, IsWrong, HasWrongShape};
+ghost use Rattle.napi_types.specs.scripts.ScriptPaths.{path as path_of};
+ghost use Rattle.napi_types.specs.scripts.ScriptReading.{IsNoJson};
 
 mod addon;
 mod arguments;

@@ -1,6 +1,6 @@
 //! Operations by their names.
 ghost use Rattle.std.specs.Prelude.{◌≡◌, bytes_eq};
-ghost use Rattle.napi_types.specs.ScriptOperations.{named, operation_name, operations};
+ghost use Rattle.napi_types.specs.scripts.ScriptOperations.{named, operation_name, operations};
 
 use napi_types::{JobSpec, Mode, Op, Regs, Release, TextNo};
 
@@ -12,7 +12,7 @@ fn is_named(operation: &Op, name: &str) -> bool
 }
 
 /// The operation of a name among some.
-#[tactic(auto, unfolding(napi_types::specs::ScriptOperations::named))]
+#[tactic(auto, unfolding(napi_types::specs::scripts::ScriptOperations::named))]
 pub(crate) fn named(name: &str, operations: &[Op]) -> Option<Op>
     ensures { result ≡ named name.now operations.now }
 {

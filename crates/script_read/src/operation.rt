@@ -1,7 +1,7 @@
 //! The operation that a value is, in an addon.
 ghost use Rattle.std.specs.Prelude.{◌≡◌, IfOk, option_map};
 ghost use Rattle.serde_json.specs.View.{view, items_view};
-ghost use Rattle.napi_types.specs.ScriptOperations.{numbered, with_string, with_object_and_name, with_name, thrown_with, with_error_texts, with_texts, text_operation, operation_of, operation_named, operation_in};
+ghost use Rattle.napi_types.specs.scripts.ScriptOperations.{numbered, with_string, with_object_and_name, with_name, thrown_with, with_error_texts, with_texts, text_operation, operation_of, operation_named, operation_in};
 
 use crate::arguments::{register, text, text_or_none};
 use crate::forms::plain_operation;
@@ -12,7 +12,7 @@ use serde_json::Value;
 use std::alloc::Global;
 
 /// The operation that makes a string of a text.
-#[tactic(auto, unfolding(napi_types::specs::ScriptOperations::with_string))]
+#[tactic(auto, unfolding(napi_types::specs::scripts::ScriptOperations::with_string))]
 fn with_string(
     alloc: Global,
     table: &mut Table,
@@ -31,7 +31,7 @@ fn with_string(
 }
 
 /// The operation of a register, the number of a text and a register.
-#[tactic(auto, unfolding(napi_types::specs::ScriptOperations::with_object_and_name))]
+#[tactic(auto, unfolding(napi_types::specs::scripts::ScriptOperations::with_object_and_name))]
 fn with_property(kind: Op, x: u8, y: TextNo, z: u8) -> Option<Op>
     ensures { result ≡ with_object_and_name kind x y z }
 {
@@ -45,7 +45,7 @@ fn with_property(kind: Op, x: u8, y: TextNo, z: u8) -> Option<Op>
 }
 
 /// The operation of a register, a text and a register.
-#[tactic(auto, unfolding(napi_types::specs::ScriptOperations::with_name))]
+#[tactic(auto, unfolding(napi_types::specs::scripts::ScriptOperations::with_name))]
 fn with_name(
     alloc: Global,
     table: &mut Table,
@@ -74,7 +74,7 @@ fn with_name(
 }
 
 /// An error's operation: its code, or none, and its message, whose text comes after the code's.
-#[tactic(auto, unfolding(napi_types::specs::ScriptOperations::thrown_with, napi_types::specs::ScriptOperations::thrown))]
+#[tactic(auto, unfolding(napi_types::specs::scripts::ScriptOperations::thrown_with, napi_types::specs::scripts::ScriptOperations::thrown))]
 fn thrown_with(
     alloc: Global,
     table: &mut Table,
@@ -93,7 +93,7 @@ fn thrown_with(
 }
 
 /// The operation that throws an error of a code, which is a text or none, and a message.
-#[tactic(auto, unfolding(napi_types::specs::ScriptOperations::with_error_texts))]
+#[tactic(auto, unfolding(napi_types::specs::scripts::ScriptOperations::with_error_texts))]
 fn with_error_texts(
     alloc: Global,
     table: &mut Table,
@@ -112,7 +112,7 @@ fn with_error_texts(
 }
 
 /// The operation of two arguments of which one is a text.
-#[tactic(auto, unfolding(napi_types::specs::ScriptOperations::with_texts))]
+#[tactic(auto, unfolding(napi_types::specs::scripts::ScriptOperations::with_texts))]
 fn with_texts(
     alloc: Global,
     table: &mut Table,
@@ -130,7 +130,7 @@ fn with_texts(
 }
 
 /// The operation of a kind with these arguments, where one of them is a text.
-#[tactic(auto, unfolding(napi_types::specs::ScriptOperations::text_operation))]
+#[tactic(auto, unfolding(napi_types::specs::scripts::ScriptOperations::text_operation))]
 fn text_operation(
     alloc: Global,
     table: &mut Table,
@@ -147,7 +147,7 @@ fn text_operation(
 }
 
 /// The operation of a kind with these arguments.
-#[tactic(auto, unfolding(napi_types::specs::ScriptOperations::operation_of))]
+#[tactic(auto, unfolding(napi_types::specs::scripts::ScriptOperations::operation_of))]
 fn operation_of(
     alloc: Global,
     entries: u32,
@@ -164,7 +164,7 @@ fn operation_of(
 }
 
 /// The operation of a name with these arguments.
-#[tactic(auto, unfolding(napi_types::specs::ScriptOperations::operation_named))]
+#[tactic(auto, unfolding(napi_types::specs::scripts::ScriptOperations::operation_named))]
 fn operation_named(
     alloc: Global,
     entries: u32,
@@ -181,7 +181,7 @@ fn operation_named(
 }
 
 /// The operation that a value is, in an addon with so many entries, and its texts in the table.
-#[tactic(auto, unfolding(napi_types::specs::ScriptOperations::operation_in))]
+#[tactic(auto, unfolding(napi_types::specs::scripts::ScriptOperations::operation_in))]
 pub(crate) fn operation_in(
     alloc: Global,
     entries: u32,

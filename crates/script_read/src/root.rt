@@ -1,11 +1,11 @@
 //! The script that a JSON value is.
 ghost use Rattle.std.specs.Prelude.{◌≡◌, IfOk, option_map};
 ghost use Rattle.serde_json.specs.View.{view};
-ghost use Rattle.napi_types.specs.ScriptReading.{read_with};
-ghost use Rattle.napi_types.specs.Script.{is_root, version_in, workers_in, addons_in, threads_in, script_in, is_built_plan, is_built_script, script, members_named};
-ghost use Rattle.napi_types.specs.Texts.{fixed_texts};
+ghost use Rattle.napi_types.specs.plain.Texts.{fixed_texts};
+ghost use Rattle.napi_types.specs.scripts.Script.{is_root, version_in, workers_in, addons_in, threads_in, script_in, is_built_plan, is_built_script, script, members_named};
+ghost use Rattle.napi_types.specs.scripts.ScriptOperations.{is_built_operation};
+ghost use Rattle.napi_types.specs.scripts.ScriptReading.{read_with};
 ghost use Rattle.std.specs.List.{list_all};
-ghost use Rattle.napi_types.specs.ScriptOperations.{is_built_operation};
 ghost use Rattle.script_read.specs.Reads.{Reads, ReadsAs};
 
 use crate::addon::each_addon;
@@ -35,7 +35,7 @@ fn count_of(value: &Value, name: &str) -> usize
 }
 
 /// Whether a value is an object that has no member but those of a script.
-#[tactic(auto, unfolding(napi_types::specs::Script::is_root))]
+#[tactic(auto, unfolding(napi_types::specs::scripts::Script::is_root))]
 fn is_root(value: &Value) -> bool
     ensures { result ≡ is_root (view value.now) }
 {
@@ -48,7 +48,7 @@ fn is_root(value: &Value) -> bool
 }
 
 /// The version of Node-API.
-#[tactic(auto, unfolding(napi_types::specs::Script::version_in))]
+#[tactic(auto, unfolding(napi_types::specs::scripts::Script::version_in))]
 fn version_in(found: Option<&Value>) -> Result<(), Stop>
     ensures { Reads result (version_in (option_map (λ v. view v.now) found.entry)) }
 {
@@ -59,7 +59,7 @@ fn version_in(found: Option<&Value>) -> Result<(), Stop>
 }
 
 /// The number of workers.
-#[tactic(auto, unfolding(napi_types::specs::Script::workers_in))]
+#[tactic(auto, unfolding(napi_types::specs::scripts::Script::workers_in))]
 fn workers_in(found: Option<&Value>) -> Result<u32, Stop>
     ensures { Reads result (workers_in (option_map (λ v. view v.now) found.entry)) }
 {
@@ -86,7 +86,7 @@ fn first_texts(alloc: Global) -> Result<Table, Stop>
 }
 
 /// The addons, with the table of their texts.
-#[tactic(auto, unfolding(napi_types::specs::Script::addons_in))]
+#[tactic(auto, unfolding(napi_types::specs::scripts::Script::addons_in))]
 fn addons_in(alloc: Global, found: Option<&Value>) -> Result<(Plans, Table), Stop>
     ensures { ReadsAs (λ p. read_with p.1 p.0) result (addons_in (option_map (λ v. view v.now) found.entry)) }
 {
@@ -97,7 +97,7 @@ fn addons_in(alloc: Global, found: Option<&Value>) -> Result<(Plans, Table), Sto
 }
 
 /// The threads.
-#[tactic(auto, unfolding(napi_types::specs::Script::threads_in))]
+#[tactic(auto, unfolding(napi_types::specs::scripts::Script::threads_in))]
 fn threads_in(alloc: Global, found: Option<&Value>) -> Result<OpLists, Stop>
     ensures { Reads result (threads_in (option_map (λ v. view v.now) found.entry)) }
 {
@@ -106,7 +106,7 @@ fn threads_in(alloc: Global, found: Option<&Value>) -> Result<OpLists, Stop>
 }
 
 /// The script that a value is, whether or not all of it is built.
-#[tactic(auto, unfolding(napi_types::specs::Script::script_in))]
+#[tactic(auto, unfolding(napi_types::specs::scripts::Script::script_in))]
 fn script_in(alloc: Global, value: &Value) -> Result<Script, Stop>
     ensures { Reads result (script_in (view value.now)) }
 {
@@ -154,7 +154,7 @@ fn are_built_plans(plans: &Plans) -> bool
 }
 
 /// Whether all of a script is built.
-#[tactic(auto, unfolding(napi_types::specs::Script::is_built_script))]
+#[tactic(auto, unfolding(napi_types::specs::scripts::Script::is_built_script))]
 fn is_built_script(script: &Script) -> bool
     ensures { result ≡ is_built_script script.now }
 {
@@ -171,7 +171,7 @@ fn is_built_script(script: &Script) -> bool
 }
 
 /// The script that a value is, where all of it is built.
-#[tactic(auto, unfolding(napi_types::specs::Script::script))]
+#[tactic(auto, unfolding(napi_types::specs::scripts::Script::script))]
 pub(crate) fn script(alloc: Global, value: &Value) -> Result<Script, Stop>
     ensures { Reads result (script (view value.now)) }
 {

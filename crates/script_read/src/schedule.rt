@@ -1,9 +1,9 @@
 //! The schedule of a script.
 ghost use Rattle.std.specs.Prelude.{◌≡◌, ◌<◌, IfSome, option_map};
 ghost use Rattle.serde_json.specs.View.{view, items_view};
-ghost use Rattle.napi_types.specs.ScriptReading.{every};
-ghost use Rattle.napi_types.specs.ScriptThreads.{word_at, schedule_in};
-ghost use Rattle.napi_types.specs.ScriptSchedule.{digit, small_number, number_below, lettered, actor_named, actor_in};
+ghost use Rattle.napi_types.specs.scripts.ScriptReading.{every};
+ghost use Rattle.napi_types.specs.scripts.ScriptSchedule.{digit, small_number, number_below, lettered, actor_named, actor_in};
+ghost use Rattle.napi_types.specs.scripts.ScriptThreads.{word_at, schedule_in};
 ghost use Rattle.script_read.specs.Reads.{Reads};
 
 use crate::arguments::text;
@@ -16,7 +16,7 @@ use std::alloc::Global;
 const MOST_WORDS: usize = 65_536;
 
 /// The value of a digit.
-#[tactic(auto, unfolding(napi_types::specs::ScriptSchedule::digit))]
+#[tactic(auto, unfolding(napi_types::specs::scripts::ScriptSchedule::digit))]
 fn digit(letter: u8) -> Option<u32>
     ensures value { result ≡ digit letter }
     ensures small { IfSome result (λ n. n < 10) }
@@ -29,7 +29,7 @@ fn digit(letter: u8) -> Option<u32>
 }
 
 /// A number from 0 to 19, as it is written.
-#[tactic(auto, unfolding(napi_types::specs::ScriptSchedule::small_number))]
+#[tactic(auto, unfolding(napi_types::specs::scripts::ScriptSchedule::small_number))]
 fn small_number(written: &[u8]) -> Option<u32>
     ensures { result ≡ small_number written.now }
 {
@@ -47,7 +47,7 @@ fn small_number(written: &[u8]) -> Option<u32>
 }
 
 /// A number that is written, below a bound.
-#[tactic(auto, unfolding(napi_types::specs::ScriptSchedule::number_below))]
+#[tactic(auto, unfolding(napi_types::specs::scripts::ScriptSchedule::number_below))]
 fn number_below(bound: usize, written: &[u8]) -> Option<u32>
     ensures { result ≡ number_below bound written.now }
 {
@@ -60,7 +60,7 @@ fn number_below(bound: usize, written: &[u8]) -> Option<u32>
 }
 
 /// A thread or a worker of the script, by its letter and its number.
-#[tactic(auto, unfolding(napi_types::specs::ScriptSchedule::lettered))]
+#[tactic(auto, unfolding(napi_types::specs::scripts::ScriptSchedule::lettered))]
 fn lettered(threads: usize, workers: usize, word: &[u8]) -> Option<Actor>
     ensures { result ≡ lettered threads workers word.now }
 {
@@ -79,7 +79,7 @@ fn lettered(threads: usize, workers: usize, word: &[u8]) -> Option<Actor>
 }
 
 /// The actor that a word names, in a script with so many threads and workers.
-#[tactic(auto, unfolding(napi_types::specs::ScriptSchedule::actor_named))]
+#[tactic(auto, unfolding(napi_types::specs::scripts::ScriptSchedule::actor_named))]
 fn actor_named(threads: usize, workers: usize, word: &str) -> Option<Actor>
     ensures { result ≡ actor_named threads workers word.now }
 {
@@ -91,7 +91,7 @@ fn actor_named(threads: usize, workers: usize, word: &str) -> Option<Actor>
 }
 
 /// The actor that a value names.
-#[tactic(auto, unfolding(napi_types::specs::ScriptSchedule::actor_in))]
+#[tactic(auto, unfolding(napi_types::specs::scripts::ScriptSchedule::actor_in))]
 fn actor_in(threads: usize, workers: usize, value: &Value) -> Option<Actor>
     ensures { result ≡ actor_in threads workers (view value.now) }
 {
@@ -99,7 +99,7 @@ fn actor_in(threads: usize, workers: usize, value: &Value) -> Option<Actor>
 }
 
 /// A word of the schedule.
-#[tactic(auto, unfolding(napi_types::specs::ScriptThreads::word_at))]
+#[tactic(auto, unfolding(napi_types::specs::scripts::ScriptThreads::word_at))]
 fn word_at(threads: usize, workers: usize, s: usize, value: &Value) -> Result<Actor, Stop>
     ensures { Reads result (word_at threads workers s (view value.now)) }
 {
@@ -124,7 +124,7 @@ fn each_word(alloc: Global, threads: usize, workers: usize, items: &[Value]) -> 
 }
 
 /// The schedule, where there is one.
-#[tactic(auto, unfolding(napi_types::specs::ScriptThreads::schedule_in))]
+#[tactic(auto, unfolding(napi_types::specs::scripts::ScriptThreads::schedule_in))]
 pub(crate) fn schedule_in(
     alloc: Global,
     threads: usize,

@@ -1,7 +1,7 @@
 //! The table of a script's texts while the script is read: each text once, found by its bytes in time logarithmic in the texts.
 ghost use Rattle.std.specs.Prelude.{◌≡◌, ◌+◌, ◌^◌, ◌<◌, ◌++◌, ◌∷◌, [], ℕ, List, None, length, IfOk, OnOk, OnErr};
 ghost use Rattle.std.specs.BTreeMap.{get_by_text};
-ghost use Rattle.napi_types.specs.Texts.{fixed_texts, place_of, text_number, with_text};
+ghost use Rattle.napi_types.specs.plain.Texts.{fixed_texts, place_of, text_number, with_text};
 
 use napi_types::{NoMemory, Text, TextNo, Texts};
 use std::alloc::Global;
@@ -71,7 +71,7 @@ impl Table {
     }
 
     /// The number of a text: its place, and where it does not stand in the table yet the place that it would get.
-    #[tactic(auto, unfolding(napi_types::specs::Texts::text_number))]
+    #[tactic(auto, unfolding(napi_types::specs::plain::Texts::text_number))]
     pub(crate) fn number(&self, text: &str) -> u32
         ensures { result ≡ text_number self.now text.now }
     {
@@ -82,7 +82,7 @@ impl Table {
     }
 
     /// Keeps a text at the number that `number` tells of it.
-    #[tactic(auto, unfolding(napi_types::specs::Texts::with_text))]
+    #[tactic(auto, unfolding(napi_types::specs::plain::Texts::with_text))]
     pub(crate) fn keep(&mut self, alloc: Global, text: &str) -> Result<(), NoMemory>
         ensures { OnOk result (self.new ≡ with_text self.old text.now) }
     {

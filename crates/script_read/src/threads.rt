@@ -1,9 +1,9 @@
 //! The threads of a script and their operations.
 ghost use Rattle.std.specs.Prelude.{◌≡◌};
 ghost use Rattle.serde_json.specs.View.{view, items_view};
-ghost use Rattle.napi_types.specs.ScriptReading.{every};
-ghost use Rattle.napi_types.specs.ScriptThreads.{thread_operation_at, thread_at};
-ghost use Rattle.napi_types.specs.ScriptOperations.{thread_acquire, thread_release, thread_call, thread_operation_named, thread_operation};
+ghost use Rattle.napi_types.specs.scripts.ScriptOperations.{thread_acquire, thread_release, thread_call, thread_operation_named, thread_operation};
+ghost use Rattle.napi_types.specs.scripts.ScriptReading.{every};
+ghost use Rattle.napi_types.specs.scripts.ScriptThreads.{thread_operation_at, thread_at};
 ghost use Rattle.script_read.specs.Reads.{Reads};
 
 use crate::arguments::{mode, release, whole};
@@ -17,7 +17,7 @@ use std::alloc::Global;
 const MOST_OPERATIONS: usize = 16_384;
 
 /// A thread's acquiring of a function, by the function's own number.
-#[tactic(auto, unfolding(napi_types::specs::ScriptOperations::thread_acquire))]
+#[tactic(auto, unfolding(napi_types::specs::scripts::ScriptOperations::thread_acquire))]
 fn thread_acquire(name: &str, a: &Value) -> Option<Op>
     ensures { result ≡ thread_acquire name.now (view a.now) }
 {
@@ -26,7 +26,7 @@ fn thread_acquire(name: &str, a: &Value) -> Option<Op>
 }
 
 /// A thread's release of a function.
-#[tactic(auto, unfolding(napi_types::specs::ScriptOperations::thread_release))]
+#[tactic(auto, unfolding(napi_types::specs::scripts::ScriptOperations::thread_release))]
 fn thread_release(name: &str, a: &Value, b: &Value) -> Option<Op>
     ensures { result ≡ thread_release name.now (view a.now) (view b.now) }
 {
@@ -36,7 +36,7 @@ fn thread_release(name: &str, a: &Value, b: &Value) -> Option<Op>
 }
 
 /// A thread's call of a function.
-#[tactic(auto, unfolding(napi_types::specs::ScriptOperations::thread_call))]
+#[tactic(auto, unfolding(napi_types::specs::scripts::ScriptOperations::thread_call))]
 fn thread_call(name: &str, a: &Value, b: &Value, c: &Value) -> Option<Op>
     ensures { result ≡ thread_call name.now (view a.now) (view b.now) (view c.now) }
 {
@@ -47,7 +47,7 @@ fn thread_call(name: &str, a: &Value, b: &Value, c: &Value) -> Option<Op>
 }
 
 /// The operation of a thread of this name with these arguments.
-#[tactic(auto, unfolding(napi_types::specs::ScriptOperations::thread_operation_named))]
+#[tactic(auto, unfolding(napi_types::specs::scripts::ScriptOperations::thread_operation_named))]
 fn thread_operation_named(name: &str, args: &[Value]) -> Option<Op>
     ensures { result ≡ thread_operation_named name.now (items_view args.now) }
 {
@@ -60,7 +60,7 @@ fn thread_operation_named(name: &str, args: &[Value]) -> Option<Op>
 }
 
 /// The operation of a thread that a value is.
-#[tactic(auto, unfolding(napi_types::specs::ScriptOperations::thread_operation))]
+#[tactic(auto, unfolding(napi_types::specs::scripts::ScriptOperations::thread_operation))]
 fn thread_operation(value: &Value) -> Option<Op>
     ensures { result ≡ thread_operation (view value.now) }
 {
@@ -74,7 +74,7 @@ fn thread_operation(value: &Value) -> Option<Op>
 }
 
 /// An operation of a thread.
-#[tactic(auto, unfolding(napi_types::specs::ScriptThreads::thread_operation_at))]
+#[tactic(auto, unfolding(napi_types::specs::scripts::ScriptThreads::thread_operation_at))]
 fn thread_operation_at(t: usize, o: usize, value: &Value) -> Result<Op, Stop>
     ensures { Reads result (thread_operation_at t o (view value.now)) }
 {
@@ -99,7 +99,7 @@ fn each_operation(alloc: Global, t: usize, items: &[Value]) -> Result<OpList, St
 }
 
 /// A thread.
-#[tactic(auto, unfolding(napi_types::specs::ScriptThreads::thread_at))]
+#[tactic(auto, unfolding(napi_types::specs::scripts::ScriptThreads::thread_at))]
 fn thread_at(alloc: Global, t: usize, value: &Value) -> Result<OpList, Stop>
     ensures { Reads result (thread_at t (view value.now)) }
 {

@@ -6,9 +6,9 @@ use Rattle.std.proofs.lemmas.List.{map-append}
 use Rattle.std.proofs.lemmas.List.Elements.{All-nil, All-push}
 use Rattle.std.proofs.lemmas.Bool.{or_left, eq-eqb}
 use Rattle.napi_types.specs.declared.ids.ValueId.{ValueId}
-use Rattle.napi_types.specs.Lists.{has_number}
-use Rattle.napi_types.specs.Values.{Value}
-use Rattle.napi_types.specs.Graph.{StoreState, IsLive, value_of, number_in}
+use Rattle.napi_types.specs.plain.Lists.{has_number}
+use Rattle.napi_types.specs.parts.Graph.{StoreState, IsLive, value_of, number_in}
+use Rattle.napi_types.specs.parts.Values.{Value}
 use Rattle.value_store.specs.Changes.{numbers_of, IsStarting}
 use Rattle.trace_collect.proofs.Members.{has-left, has-right}
 

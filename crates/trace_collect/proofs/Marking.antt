@@ -5,8 +5,8 @@ use Rattle.std.proofs.lemmas.List.{get_or-map, length-map, take_more}
 use Rattle.std.proofs.lemmas.List.Elements.{All-nil, All-append, All-weaker}
 use Rattle.std.proofs.lemmas.List.Folds.{sum_by-replicate}
 use Rattle.napi_types.specs.declared.ids.ValueId.{ValueId}
-use Rattle.napi_types.specs.Lists.{has_number, HaveSameNumbers}
-use Rattle.napi_types.specs.Graph.{StoreState}
+use Rattle.napi_types.specs.plain.Lists.{has_number, HaveSameNumbers}
+use Rattle.napi_types.specs.parts.Graph.{StoreState}
 use Rattle.value_store.specs.Changes.{id_at, numbers_of}
 use Rattle.value_store.proofs.Clearing.{numbers_of-more}
 use Rattle.value_store.proofs.Naming.{All-has, All-from_has}

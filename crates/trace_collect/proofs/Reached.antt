@@ -3,11 +3,11 @@ use Rattle.std.proofs.Common.{◌≡◌, ℕ, zero, suc, ◌⊎◌, inl, inr, Bo
 use Rattle.std.specs.List.{All}
 use Rattle.std.specs.Option.{unwrap_or}
 use Rattle.std.proofs.lemmas.List.Elements.{All-weaker}
-use Rattle.napi_types.specs.Lists.{has_number}
-use Rattle.napi_types.specs.Reach.{numbers, children_at}
-use Rattle.napi_types.specs.Values.{Value, children, value_at}
-use Rattle.napi_types.specs.Graph.{StoreState, IsLive, IsSoundStore, value_of, number_in, graph_of}
-use Rattle.napi_types.proofs.Reaching.{reach-roots, reach-closed, reach-least}
+use Rattle.napi_types.specs.plain.Lists.{has_number}
+use Rattle.napi_types.specs.parts.Graph.{StoreState, IsLive, IsSoundStore, value_of, number_in, graph_of}
+use Rattle.napi_types.specs.parts.Reach.{numbers, children_at}
+use Rattle.napi_types.specs.parts.Values.{Value, children, value_at}
+use Rattle.napi_types.proofs.parts.Reaching.{reach-roots, reach-closed, reach-least}
 use Rattle.value_store.specs.Changes.{id_at, children_in, EachStandsOnce}
 use Rattle.value_store.proofs.LiveValues.{has-numbers, place-live, live-place, graph-live, live-graph, number-apart, graph-children}
 use Rattle.value_store.proofs.Reading.{some-is}

@@ -5,7 +5,7 @@ use Rattle.std.specs.Option.{option_to_list}
 use Rattle.std.proofs.lemmas.List.{map-append}
 use Rattle.std.proofs.lemmas.List.Elements.{filter_map-append}
 use Rattle.napi_types.specs.declared.ids.ValueId.{ValueId}
-use Rattle.napi_types.specs.Graph.{StoreState}
+use Rattle.napi_types.specs.parts.Graph.{StoreState}
 use Rattle.value_store.specs.Changes.{id_at, numbers_of}
 use Rattle.trace_collect.specs.Marks.{is_marked, unmarked_ids}
 

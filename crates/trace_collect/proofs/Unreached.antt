@@ -8,12 +8,12 @@ use Rattle.std.proofs.lemmas.List.{length-map, get_or-map}
 use Rattle.std.proofs.lemmas.List.Sorted.{IsPermutation-map, list_any-IsPermutation}
 use Rattle.std.proofs.lemmas.Map.Keys.{IsDistinct-IsPermutation, IsStrictlyIncreasing-from_distinct}
 use Rattle.napi_types.specs.declared.ids.ValueId.{ValueId}
-use Rattle.napi_types.specs.Collection.{those_of, all_but}
-use Rattle.napi_types.specs.Lists.{has_number}
-use Rattle.napi_types.specs.Reach.{numbers, children_at}
-use Rattle.napi_types.specs.Values.{Value, children}
-use Rattle.napi_types.specs.Graph.{Stored, StoreState, IsLive, IsSoundStore, value_of, creation_number, number_in, graph_of}
-use Rattle.napi_types.proofs.Reaching.{reach-roots, reach-closed, has_number-filter}
+use Rattle.napi_types.specs.plain.Lists.{has_number}
+use Rattle.napi_types.specs.parts.Graph.{Stored, StoreState, IsLive, IsSoundStore, value_of, creation_number, number_in, graph_of}
+use Rattle.napi_types.specs.parts.Reach.{numbers, children_at}
+use Rattle.napi_types.specs.parts.Values.{Value, children}
+use Rattle.napi_types.specs.environment.Collection.{those_of, all_but}
+use Rattle.napi_types.proofs.parts.Reaching.{reach-roots, reach-closed, has_number-filter}
 use Rattle.value_store.specs.Changes.{id_at, numbers_of, EachStandsOnce, CanFree}
 use Rattle.value_store.proofs.LiveValues.{in-range, place-live, live-place, graph-live, live-graph, number-apart, number-value, graph-children, graph-distinct}
 use Rattle.value_store.proofs.Properties.{same-flip}

@@ -1,9 +1,9 @@
 -- What a collection frees of a store, and what it leaves.
 use Rattle.std.specs.Prelude.{◌≡◌, ◌↔◌, ℕ, ◌+◌, ◌<◌, true, false, List, map, length}
-use Rattle.napi_types.specs.Graph.{StoreState, IsLive, number_in, graph_of}
-use Rattle.napi_types.specs.Lists.{has_number}
-use Rattle.napi_types.specs.Reach.{reach_from}
-use Rattle.napi_types.specs.Values.{starting_values}
+use Rattle.napi_types.specs.plain.Lists.{has_number}
+use Rattle.napi_types.specs.parts.Graph.{StoreState, IsLive, number_in, graph_of}
+use Rattle.napi_types.specs.parts.Reach.{reach_from}
+use Rattle.napi_types.specs.parts.Values.{starting_values}
 
 -- what the values of these numbers reach, by creation numbers
 abbrev pub reached : StoreState → List ℕ → List ℕ

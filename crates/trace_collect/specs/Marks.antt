@@ -1,8 +1,8 @@
 -- Which places of a store are marked, and which values are left to follow.
 use Rattle.std.specs.Prelude.{◌≡◌, ◌⊎◌, ℕ, ◌+◌, Bool, true, false, not, if◌then◌else◌, List, [], length, count_by, filter_map, Some, None, slice_index_or}
 use Rattle.std.specs.List.{All, range_with_len}
-use Rattle.napi_types.specs.Graph.{StoreState, IsLive, number_in}
-use Rattle.napi_types.specs.Lists.{has_number}
+use Rattle.napi_types.specs.plain.Lists.{has_number}
+use Rattle.napi_types.specs.parts.Graph.{StoreState, IsLive, number_in}
 use Rattle.value_store.specs.Changes.{id_at, children_in}
 use Rattle.trace_collect.specs.Collects.{reached}
 

@@ -6,7 +6,7 @@ use Rattle.std.specs.List.{flat_map}
 use Rattle.std.proofs.Math.Seq.{take-add}
 use Rattle.std.specs.declared.option.Option.{Option}
 use Rattle.std.specs.Io.KnownBytes.{append_known}
-use Rattle.napi_types.specs.Edge.{HasRisen, TookFront}
+use Rattle.napi_types.specs.plain.Edge.{HasRisen, TookFront}
 use Rattle.trace_text.specs.Writing.{Adds, Waiting, Took, Stand, stand}
 
 -- what a sink took in two steps

@@ -4,9 +4,9 @@ use Rattle.std.proofs.lemmas.List.{drop_more}
 use Rattle.std.proofs.Math.Seq.{drop-length}
 use Rattle.napi_types.specs.declared.entry.Entry.{Entry}
 use Rattle.napi_types.specs.declared.entry.Local.{Local}
-use Rattle.napi_types.specs.Text.{line, lines_from}
-use Rattle.napi_types.specs.Weave.{local_at, weave_from, RisesBetween}
-use Rattle.napi_types.proofs.Weaves.{bounds-rise}
+use Rattle.napi_types.specs.plain.Weave.{local_at, weave_from, RisesBetween}
+use Rattle.napi_types.specs.scripts.Text.{line, lines_from}
+use Rattle.napi_types.proofs.plain.Weaves.{bounds-rise}
 use Rattle.trace_text.specs.Merging.{BeginsAt, unwoven}
 use Rattle.trace_text.specs.Writing.{Adds, Owes, Stand}
 use Rattle.trace_text.proofs.Adding.{adds_none, adds_then}

@@ -6,8 +6,8 @@ use Rattle.std.proofs.lemmas.List.Elements.{filter-append}
 use Rattle.std.specs.List.{filter}
 use Rattle.napi_types.specs.declared.entry.Entry.{Entry}
 use Rattle.napi_types.specs.declared.entry.Local.{Local}
-use Rattle.napi_types.specs.Text.{line, lines_from}
-use Rattle.napi_types.specs.Weave.{local_at, weave_from}
+use Rattle.napi_types.specs.plain.Weave.{local_at, weave_from}
+use Rattle.napi_types.specs.scripts.Text.{line, lines_from}
 use Rattle.trace_text.specs.Writing.{Adds, Owes, Stand}
 use Rattle.trace_text.proofs.Adding.{adds_none, adds_then}
 

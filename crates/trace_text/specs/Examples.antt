@@ -10,8 +10,8 @@ use Rattle.napi_types.specs.declared.entry.Duty.TheVariants as duty
 use Rattle.napi_types.specs.declared.entry.Cause.TheVariants as cause
 use Rattle.napi_types.specs.declared.call.Call.TheVariants as call
 use Rattle.napi_types.specs.declared.status.Status.TheVariants as status
-use Rattle.napi_types.specs.Text.{text}
-use Rattle.napi_types.specs.Weave.{weave}
+use Rattle.napi_types.specs.plain.Weave.{weave}
+use Rattle.napi_types.specs.scripts.Text.{text}
 
 -- an accepted `create_object` of the environment with this result
 abbrev pub object_entry : Out → Entry

@@ -2,7 +2,7 @@
 use Rattle.std.specs.Prelude.{◌≡◌, ℕ, List, [], ◌∷◌, drop}
 use Rattle.napi_types.specs.declared.entry.Entry.{Entry}
 use Rattle.napi_types.specs.declared.entry.Local.{Local}
-use Rattle.napi_types.specs.Weave.{weave_from}
+use Rattle.napi_types.specs.plain.Weave.{weave_from}
 
 -- what is left of the weave, so many entries of the journal and of the history being passed
 abbrev pub unwoven : List Local → List Entry → ℕ → ℕ → List Entry

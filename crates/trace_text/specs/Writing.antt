@@ -1,7 +1,7 @@
 -- Writing a text piece by piece, through bytes that are held back, to a sink that may fail on the way.
 use Rattle.std.specs.Prelude.{◌≡◌, ℕ, ◌≤◌, Bool, true, false, List, ◌++◌}
 use Rattle.std.specs.declared.option.Option.{Option}
-use Rattle.napi_types.specs.Edge.{HasRisen, TookFront}
+use Rattle.napi_types.specs.plain.Edge.{HasRisen, TookFront}
 
 -- the bytes that wait to be written, and whether the writing failed
 pub record Waiting : Type 0 where

@@ -2,9 +2,9 @@
 ghost use Rattle.std.specs.Prelude.{◌≡◌, ◌<◌, ◌++◌, codes, decimal};
 ghost use Rattle.std.specs.Char.{digit_char};
 ghost use Rattle.std.specs.List.{flat_map};
-ghost use Rattle.napi_types.specs.Names.{cause_name};
-ghost use Rattle.napi_types.specs.Numbers.{status_number};
-ghost use Rattle.napi_types.specs.Text.{actor_text, duty_text, marked, flag_text, escaped, quoted, text_at, out_text, line};
+ghost use Rattle.napi_types.specs.plain.Numbers.{status_number};
+ghost use Rattle.napi_types.specs.scripts.Names.{cause_name};
+ghost use Rattle.napi_types.specs.scripts.Text.{actor_text, duty_text, marked, flag_text, escaped, quoted, text_at, out_text, line};
 ghost use Rattle.trace_text.specs.Writing.{Adds, stand};
 
 use crate::pending::{Pending, add};

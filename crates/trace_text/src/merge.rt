@@ -1,8 +1,8 @@
 //! The text of a trace whose journal stands in the order of its places: journal and history are merged in one pass.
 ghost use Rattle.std.specs.Prelude.{◌≡◌, ◌+◌, ◌<◌, ◌≤◌, ◌↔◌, ◌∷◌, IsTrue, length, drop};
-ghost use Rattle.napi_types.specs.Text.{text};
-ghost use Rattle.napi_types.specs.Weave.{RisesBetween, weave};
-ghost use Rattle.napi_types.specs.Room.{most_entries};
+ghost use Rattle.napi_types.specs.plain.Room.{most_entries};
+ghost use Rattle.napi_types.specs.plain.Weave.{RisesBetween, weave};
+ghost use Rattle.napi_types.specs.scripts.Text.{text};
 ghost use Rattle.trace_text.specs.Merging.{BeginsAt, unwoven};
 ghost use Rattle.trace_text.specs.Writing.{Adds, stand};
 

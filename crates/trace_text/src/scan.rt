@@ -1,8 +1,8 @@
 //! The text of a trace of any journal: at each place the whole journal is looked through.
 ghost use Rattle.std.specs.Prelude.{◌≡◌, ◌+◌, ◌^◌, ◌<◌, ◌≤◌, [], ◌∷◌, ◌++◌, length};
-ghost use Rattle.napi_types.specs.Text.{lines_from, text};
-ghost use Rattle.napi_types.specs.Weave.{local_at, weave};
-ghost use Rattle.napi_types.specs.Room.{most_entries};
+ghost use Rattle.napi_types.specs.plain.Room.{most_entries};
+ghost use Rattle.napi_types.specs.plain.Weave.{local_at, weave};
+ghost use Rattle.napi_types.specs.scripts.Text.{lines_from, text};
 ghost use Rattle.trace_text.specs.Writing.{Adds, stand};
 
 use crate::line::add_line;

@@ -1,10 +1,10 @@
 //! The text of a whole trace.
 ghost use Rattle.std.specs.Prelude.{◌≡◌, ◌≤◌, length, OnOk, OnErr};
 ghost use Rattle.std.specs.Io.KnownBytes.{append_known};
-ghost use Rattle.napi_types.specs.Edge.{HasRisen, TookFront};
-ghost use Rattle.napi_types.specs.Text.{text};
-ghost use Rattle.napi_types.specs.Weave.{weave};
-ghost use Rattle.napi_types.specs.Room.{most_entries};
+ghost use Rattle.napi_types.specs.plain.Edge.{HasRisen, TookFront};
+ghost use Rattle.napi_types.specs.plain.Room.{most_entries};
+ghost use Rattle.napi_types.specs.plain.Weave.{weave};
+ghost use Rattle.napi_types.specs.scripts.Text.{text};
 ghost use Rattle.trace_text.specs.Writing.{Adds, stand};
 
 use crate::merge::{add_merged, rises_within};

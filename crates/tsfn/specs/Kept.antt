@@ -2,7 +2,7 @@
 use Rattle.std.specs.Prelude.{◌≡◌, ◌≤◌, ◌^◌, true, false, map, Option, is_some}
 use Rattle.napi_types.specs.declared.entry.TsfnState.TheVariants.{Finished}
 use Rattle.napi_types.specs.declared.duties.Slip.{Slip}
-use Rattle.napi_types.specs.Functions.{FunctionState, accepted_items, is_done}
+use Rattle.napi_types.specs.parts.Functions.{FunctionState, accepted_items, is_done}
 use Rattle.tsfn.specs.declared.function.Tsfn.TheInside.{Inside}
 
 -- the function that the fields stand for

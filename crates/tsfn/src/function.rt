@@ -1,8 +1,8 @@
 //! One thread-safe function.
 ghost use Rattle.std.specs.Prelude.{◌≡◌, ◌+◌, ◌<◌, ◌^◌, [], true, false, length, Some, IfOk, OnOk, OnErr, option_map};
 ghost use Rattle.std.specs.Option.{is_some};
-ghost use Rattle.napi_types.specs.Lists.{head};
-ghost use Rattle.napi_types.specs.Functions.{new_function, is_full_queue, accepted_items, call_status, called, acquire_status, acquired, release_status, released, closed, with_referenced, item_info, torn_info, first_taken, finished, function_info, done};
+ghost use Rattle.napi_types.specs.plain.Lists.{head};
+ghost use Rattle.napi_types.specs.parts.Functions.{new_function, is_full_queue, accepted_items, call_status, called, acquire_status, acquired, release_status, released, closed, with_referenced, item_info, torn_info, first_taken, finished, function_info, done};
 ghost use Rattle.tsfn.specs.Trials.{tried_of};
 
 use napi_types::{
@@ -63,7 +63,7 @@ pub struct Tsfn {
 }
 
 impl Model for Tsfn {
-    ghost use Rattle.napi_types.specs.Functions.{FunctionState};
+    ghost use Rattle.napi_types.specs.parts.Functions.{FunctionState};
 
     ghost Value = { FunctionState };
 

@@ -4,9 +4,9 @@ use Rattle.std.specs.List.{IsDistinct}
 use Rattle.std.proofs.lemmas.List.Elements.{All-nil, All-cons, All-weaker}
 use borrow.Author.Tests.{eqb-true}
 use Rattle.napi_types.specs.declared.body.Body.{Body}
-use Rattle.napi_types.specs.Lists.{has_number}
-use Rattle.napi_types.specs.Values.{Value, children}
-use Rattle.napi_types.specs.Graph.{StoreState, IsSoundStore, IsLive, value_of, creation_number}
+use Rattle.napi_types.specs.plain.Lists.{has_number}
+use Rattle.napi_types.specs.parts.Graph.{StoreState, IsSoundStore, IsLive, value_of, creation_number}
+use Rattle.napi_types.specs.parts.Values.{Value, children}
 use Rattle.value_store.specs.Changes.{ChangesOnly, Makes, MakesValue, CanFree}
 use Rattle.value_store.proofs.Lookup.{other-number}
 

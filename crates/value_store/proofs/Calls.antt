@@ -6,11 +6,11 @@ use Rattle.std.specs.List.{All}
 use Rattle.std.proofs.lemmas.List.Elements.{All-nil, All-head, All-tail, All-weaker}
 use borrow.Author.Tests.{eqb-true}
 use Rattle.napi_types.specs.declared.body.Body.{Body}
-use Rattle.napi_types.specs.Lists.{has_number, up_to}
-use Rattle.napi_types.specs.Values.{Value, fresh_value, children, with_property, without_property, with_element}
-use Rattle.napi_types.specs.Properties.{HasDistinctNames}
-use Rattle.napi_types.specs.Graph.{StoreState, value_of, creation_number}
-use Rattle.napi_types.proofs.Issued.{above-up_to, has-up_to}
+use Rattle.napi_types.specs.plain.Lists.{has_number, up_to}
+use Rattle.napi_types.specs.parts.Graph.{StoreState, value_of, creation_number}
+use Rattle.napi_types.specs.parts.Properties.{HasDistinctNames}
+use Rattle.napi_types.specs.parts.Values.{Value, fresh_value, children, with_property, without_property, with_element}
+use Rattle.napi_types.proofs.plain.Issued.{above-up_to, has-up_to}
 use Rattle.value_store.specs.Places.{state_of, at_number, changed_at, IsNumbered, IsCleared}
 use Rattle.value_store.specs.Changes.{ChangesOnly, Makes, MakesValue, Frees, CanFree}
 use Rattle.value_store.proofs.Naming.{children-with_property, children-without_property, children-with_element}

@@ -3,8 +3,8 @@ use Rattle.std.proofs.Common.{◌≡◌, ℕ, ◌+◌, ◌-◌, ◌<◌, ◌≤�
 use Rattle.std.specs.List.{All}
 use Rattle.std.proofs.lemmas.List.{get_or-map, take_more, map-append, length-map, length-set}
 use Rattle.napi_types.specs.declared.ids.ValueId.{ValueId}
-use Rattle.napi_types.specs.Lists.{has_number}
-use Rattle.napi_types.specs.Values.{Value}
+use Rattle.napi_types.specs.plain.Lists.{has_number}
+use Rattle.napi_types.specs.parts.Values.{Value}
 use Rattle.value_store.specs.Changes.{numbers_of}
 use Rattle.value_store.specs.Places.{at_number, IsCleared}
 use Rattle.value_store.proofs.Lookup.{at_number-set, number-within}

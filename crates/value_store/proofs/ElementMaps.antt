@@ -9,10 +9,10 @@ use Rattle.std.proofs.lemmas.List.FromFn.{get_or-map-range_with_len, length-map-
 use Rattle.std.proofs.lemmas.Map.Keys.{IsDistinct-head, IsDistinct-tail}
 use borrow.Author.Tests.{eqb-true}
 use Rattle.napi_types.specs.declared.ids.ValueId.{ValueId}
-use Rattle.napi_types.specs.Lists.{has_number, HaveSameNumbers}
-use Rattle.napi_types.specs.NewValues.{array_of}
-use Rattle.napi_types.specs.Properties.{Property, element_at, element_set}
-use Rattle.napi_types.specs.Values.{with_element}
+use Rattle.napi_types.specs.plain.Lists.{has_number, HaveSameNumbers}
+use Rattle.napi_types.specs.parts.NewValues.{array_of}
+use Rattle.napi_types.specs.parts.Properties.{Property, element_at, element_set}
+use Rattle.napi_types.specs.parts.Values.{with_element}
 use Rattle.value_store.specs.Properties.{property_of, listed_properties, listed_elements, element_of, numbers_in}
 use Rattle.value_store.proofs.Lookup.{other-number, same-number}
 use Rattle.value_store.proofs.Properties.{same-flip}

@@ -4,11 +4,11 @@ use Rattle.std.specs.List.{All}
 use Rattle.std.proofs.lemmas.List.Elements.{All-nil, All-cons}
 use Rattle.std.proofs.lemmas.Map.Keys.{IsDistinct-cons}
 use Rattle.napi_types.specs.declared.ids.ValueId.{ValueId}
-use Rattle.napi_types.specs.Texts.{message_text, code_text}
-use Rattle.napi_types.specs.Values.{Value, children}
-use Rattle.napi_types.specs.Properties.{HasDistinctNames}
-use Rattle.napi_types.specs.NewValues.{error_of}
-use Rattle.napi_types.specs.Graph.{StoreState, IsLive, number_in, graph_of}
+use Rattle.napi_types.specs.plain.Texts.{message_text, code_text}
+use Rattle.napi_types.specs.parts.Graph.{StoreState, IsLive, number_in, graph_of}
+use Rattle.napi_types.specs.parts.NewValues.{error_of}
+use Rattle.napi_types.specs.parts.Properties.{HasDistinctNames}
+use Rattle.napi_types.specs.parts.Values.{Value, children}
 use Rattle.value_store.specs.Places.{state_of, at_number, IsNumbered}
 use Rattle.value_store.specs.Changes.{MakesValue}
 use Rattle.value_store.proofs.Calls.{pushed-numbered, pushed-makes}

@@ -4,9 +4,9 @@ use Rattle.std.specs.List.{All}
 use Rattle.std.specs.Option.{unwrap_or}
 use Rattle.std.proofs.lemmas.List.Elements.{All-head, All-tail, filter_map-append}
 use Rattle.napi_types.specs.declared.body.Body.{Body}
-use Rattle.napi_types.specs.Lists.{has_number}
-use Rattle.napi_types.specs.Values.{Value, value_at, value_changed, fresh_value, with_property, without_property, with_element}
-use Rattle.napi_types.specs.Graph.{StoreState, value_of, number_in, renamed, graph_of}
+use Rattle.napi_types.specs.plain.Lists.{has_number}
+use Rattle.napi_types.specs.parts.Graph.{StoreState, value_of, number_in, renamed, graph_of}
+use Rattle.napi_types.specs.parts.Values.{Value, value_at, value_changed, fresh_value, with_property, without_property, with_element}
 use Rattle.value_store.specs.Changes.{CanFree}
 use Rattle.value_store.specs.Places.{state_of, at_number, changed_at, IsNumbered, IsCleared}
 use Rattle.value_store.proofs.Lookup.{value_of-state_of}

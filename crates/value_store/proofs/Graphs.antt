@@ -3,10 +3,10 @@ use Rattle.std.proofs.Common.{◌≡◌, ℕ, zero, suc, ◌+◌, ◌≤◌, ◌
 use Rattle.std.specs.List.{All, filter_map, range_with_len, cons_option}
 use Rattle.std.specs.Option.{unwrap_or}
 use Rattle.std.proofs.lemmas.List.Elements.{All-head, All-tail}
-use Rattle.napi_types.specs.Lists.{found, has_number}
-use Rattle.napi_types.specs.Values.{Value, children, value_at, value_changed}
-use Rattle.napi_types.specs.Properties.{Property}
-use Rattle.napi_types.specs.Graph.{Stored, live, value_of, number_in, renamed, graph_of}
+use Rattle.napi_types.specs.plain.Lists.{found, has_number}
+use Rattle.napi_types.specs.parts.Graph.{Stored, live, value_of, number_in, renamed, graph_of}
+use Rattle.napi_types.specs.parts.Properties.{Property}
+use Rattle.napi_types.specs.parts.Values.{Value, children, value_at, value_changed}
 use Rattle.value_store.specs.Places.{state_of, stored_as, at_number, IsNumbered, IsCleared}
 use Rattle.value_store.proofs.Naming.{left, right, to_options}
 use Rattle.value_store.proofs.Lookup.{value_of-state_of, apart-above, apart-below, same-number}

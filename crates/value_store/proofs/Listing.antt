@@ -6,11 +6,11 @@ use Rattle.std.proofs.lemmas.List.Elements.{filter_map-append}
 use Rattle.std.proofs.lemmas.List.FromFn.{get_or-range_with_len, length-range_with_len}
 use borrow.Author.Tests.{eqb-true}
 use Rattle.napi_types.specs.declared.body.Body.{Body}
-use Rattle.napi_types.specs.Lists.{has_number, up_to}
-use Rattle.napi_types.specs.Values.{Value, fresh_value, children}
-use Rattle.napi_types.specs.NewValues.{made_after, array_of, list_of}
-use Rattle.napi_types.specs.Graph.{StoreState, graph_of}
-use Rattle.napi_types.proofs.Issued.{above-up_to, has-up_to}
+use Rattle.napi_types.specs.plain.Lists.{has_number, up_to}
+use Rattle.napi_types.specs.parts.Graph.{StoreState, graph_of}
+use Rattle.napi_types.specs.parts.NewValues.{made_after, array_of, list_of}
+use Rattle.napi_types.specs.parts.Values.{Value, fresh_value, children}
+use Rattle.napi_types.proofs.plain.Issued.{above-up_to, has-up_to}
 use Rattle.value_store.specs.Places.{state_of, at_number, IsNumbered}
 use Rattle.value_store.specs.Changes.{MakesList}
 use Rattle.value_store.proofs.Lookup.{value_of-state_of, at_number-push, apart-below, same-number}

@@ -4,11 +4,11 @@ use Rattle.std.specs.List.{filter_map, range_with_len, cons_option, IsDistinct, 
 use Rattle.std.specs.Option.{unwrap_or}
 use Rattle.std.proofs.lemmas.List.{map-append}
 use borrow.Author.Tests.{eqb-true}
-use Rattle.napi_types.specs.Lists.{found, has_number}
-use Rattle.napi_types.specs.Reach.{numbers, children_at}
-use Rattle.napi_types.specs.Values.{Value, children, value_at}
-use Rattle.napi_types.specs.Properties.{Property}
-use Rattle.napi_types.specs.Graph.{Stored, StoreState, live, value_of, number_in, renamed, graph_of, IsLive, IsSoundStore}
+use Rattle.napi_types.specs.plain.Lists.{found, has_number}
+use Rattle.napi_types.specs.parts.Graph.{Stored, StoreState, live, value_of, number_in, renamed, graph_of, IsLive, IsSoundStore}
+use Rattle.napi_types.specs.parts.Properties.{Property}
+use Rattle.napi_types.specs.parts.Reach.{numbers, children_at}
+use Rattle.napi_types.specs.parts.Values.{Value, children, value_at}
 use Rattle.value_store.specs.Changes.{id_at, EachStandsOnce}
 use Rattle.value_store.proofs.Lookup.{same-number, apart-number, other-number}
 use Rattle.value_store.proofs.Reading.{some-is}

@@ -2,9 +2,9 @@
 use Rattle.std.proofs.Common.{◌≡◌, ◌≢◌, ℕ, zero, suc, ◌+◌, ◌-◌, ◌<◌, ◌≤◌, ◌==◌, Bool, true, false, cond, List, [], ◌∷◌, ◌++◌, map, length, set, Option, Some, None, IsSome, option_map, slice_index_or, refl, arith, get_or-set_same, get_or-set_other}
 use Rattle.std.specs.List.{filter_map}
 use borrow.Author.Tests.{eqb-true}
-use Rattle.napi_types.specs.Lists.{found}
-use Rattle.napi_types.specs.Values.{Value}
-use Rattle.napi_types.specs.Graph.{Stored, value_of}
+use Rattle.napi_types.specs.plain.Lists.{found}
+use Rattle.napi_types.specs.parts.Graph.{Stored, value_of}
+use Rattle.napi_types.specs.parts.Values.{Value}
 use Rattle.value_store.specs.Places.{state_of, stored_as, at_number}
 
 pub apart-above : (a n : ℕ) → n < a → (a == n) ≡ false

@@ -2,7 +2,7 @@
 use Rattle.std.proofs.Common.{◌≡◌, ℕ, ◌==◌, nat_eq, Bool, true, false, cond, not, List, [], ◌∷◌, map, refl}
 use Rattle.std.specs.List.{IsDistinct, AllByRecursion}
 use Rattle.std.proofs.lemmas.Map.Keys.{IsDistinct-head, IsDistinct-tail, IsDistinct-cons}
-use Rattle.napi_types.specs.Properties.{Property, property_set, property_removed, HasDistinctNames}
+use Rattle.napi_types.specs.parts.Properties.{Property, property_set, property_removed, HasDistinctNames}
 
 abbrev names_of : List Property → List ℕ
 names_of ps = map (λ p. p.name) ps

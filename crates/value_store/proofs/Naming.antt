@@ -3,9 +3,9 @@ use Rattle.std.proofs.Common.{◌≡◌, ℕ, zero, suc, ◌+◌, ◌-◌, ◌==
 use Rattle.std.specs.List.{All, filter_map}
 use Rattle.std.proofs.lemmas.Bool.{eqb-true, eq-eqb, or_cases, or_left, or_right}
 use Rattle.std.proofs.lemmas.List.Elements.{All-nil, All-cons, All-head, All-tail, All-append, All-set, All-replicate}
-use Rattle.napi_types.specs.Lists.{found, has_number}
-use Rattle.napi_types.specs.Values.{Value, children, with_property, without_property, with_element}
-use Rattle.napi_types.specs.Properties.{Property, property_set, property_removed, property_at, element_at, element_set}
+use Rattle.napi_types.specs.plain.Lists.{found, has_number}
+use Rattle.napi_types.specs.parts.Properties.{Property, property_set, property_removed, property_at, element_at, element_set}
+use Rattle.napi_types.specs.parts.Values.{Value, children, with_property, without_property, with_element}
 
 module _ (P : ℕ → Type 0) where
   pub left : (xs ys : List ℕ) → All P (xs ++ ys) → All P xs

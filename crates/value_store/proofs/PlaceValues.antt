@@ -2,7 +2,7 @@
 use Rattle.std.proofs.Common.{◌≡◌, ℕ, zero, suc, ◌+◌, ◌-◌, ◌<◌, ◌≤◌, List, [], ◌∷◌, ◌++◌, length, set, Option, None, IsSome, option_map, slice_index_or, refl, ap, sym, ◌∙◌, arith}
 use Rattle.std.specs.Option.{unwrap_or}
 use Rattle.std.proofs.lemmas.List.{get_or_read}
-use Rattle.napi_types.specs.Values.{Value}
+use Rattle.napi_types.specs.parts.Values.{Value}
 use Rattle.value_store.specs.declared.place.Place.{Place}
 use Rattle.value_store.specs.declared.place.Place.TheVariants.{Free, Plain, Full}
 use Rattle.value_store.specs.Places.{value_here, values_from, values_of, at_number, changed_at, properties_at, properties_here, ChangesPlace}

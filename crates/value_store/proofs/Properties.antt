@@ -6,8 +6,8 @@ use Rattle.std.proofs.lemmas.Map.Keys.{IsDistinct-head, IsDistinct-tail}
 use borrow.Author.Tests.{eqb-true}
 use Rattle.indexmap.specs.IndexMap.{insert_entry}
 use Rattle.napi_types.specs.declared.ids.ValueId.{ValueId}
-use Rattle.napi_types.specs.Lists.{found}
-use Rattle.napi_types.specs.Properties.{Property, property_at, property_set, property_removed, HasDistinctNames}
+use Rattle.napi_types.specs.plain.Lists.{found}
+use Rattle.napi_types.specs.parts.Properties.{Property, property_at, property_set, property_removed, HasDistinctNames}
 use Rattle.value_store.specs.Properties.{property_of, listed_properties}
 
 pub same-flip : (a b : ℕ) → (a == b) ≡ (b == a)

@@ -5,11 +5,11 @@ use Rattle.std.specs.Option.{unwrap_or}
 use Rattle.std.proofs.lemmas.List.{length-map}
 use Rattle.std.proofs.lemmas.List.Elements.{All-nil}
 use Rattle.napi_types.specs.declared.ids.ValueId.{ValueId}
-use Rattle.napi_types.specs.Lists.{HaveSameNumbers}
-use Rattle.napi_types.specs.Values.{Value, children, value_at, starting_values}
-use Rattle.napi_types.specs.Properties.{property_at, element_at}
-use Rattle.napi_types.specs.Bodies.{is_object_like}
-use Rattle.napi_types.specs.Graph.{StoreState, Stored, IsSoundStore, IsLive, value_of}
+use Rattle.napi_types.specs.plain.Lists.{HaveSameNumbers}
+use Rattle.napi_types.specs.parts.Bodies.{is_object_like}
+use Rattle.napi_types.specs.parts.Graph.{StoreState, Stored, IsSoundStore, IsLive, value_of}
+use Rattle.napi_types.specs.parts.Properties.{property_at, element_at}
+use Rattle.napi_types.specs.parts.Values.{Value, children, value_at, starting_values}
 use Rattle.value_store.specs.Places.{state_of, stored_as, at_number, properties_at, elements_at, children_of, IsNumbered}
 use Rattle.value_store.specs.Changes.{properties_in, elements_in, children_in, id_at, EachStandsOnce, IsObject, IsStarting, StandsAt}
 use Rattle.value_store.proofs.Lookup.{value_of-state_of, number-within}

@@ -3,7 +3,7 @@ use Rattle.std.proofs.Common.{◌≡◌, ℕ, zero, suc, ◌+◌, ◌<◌, true,
 use Rattle.std.proofs.lemmas.List.Elements.{All-nil}
 use Rattle.napi_types.specs.declared.body.Body.{Body}
 use Rattle.napi_types.specs.declared.body.Body.TheVariants as body
-use Rattle.napi_types.specs.Values.{Value, fresh_value, value_at, starting_values}
+use Rattle.napi_types.specs.parts.Values.{Value, fresh_value, value_at, starting_values}
 use Rattle.value_store.specs.Places.{at_number, starting_list, IsNumbered}
 use Rattle.value_store.proofs.Names.{distinct-none}
 

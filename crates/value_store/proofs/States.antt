@@ -4,11 +4,11 @@ use Rattle.std.specs.List.{All}
 use Rattle.std.proofs.lemmas.List.{length-set}
 use Rattle.std.proofs.lemmas.List.Elements.{All-weaker}
 use borrow.Author.Tests.{eqb-true}
-use Rattle.napi_types.specs.Lists.{has_number, up_to}
-use Rattle.napi_types.specs.Values.{Value, children, value_at, starting_values}
-use Rattle.napi_types.specs.Properties.{HasDistinctNames}
-use Rattle.napi_types.specs.Graph.{IsSoundStore, IsSoundMap, value_of}
-use Rattle.napi_types.proofs.Issued.{has-up_to}
+use Rattle.napi_types.specs.plain.Lists.{has_number, up_to}
+use Rattle.napi_types.specs.parts.Graph.{IsSoundStore, IsSoundMap, value_of}
+use Rattle.napi_types.specs.parts.Properties.{HasDistinctNames}
+use Rattle.napi_types.specs.parts.Values.{Value, children, value_at, starting_values}
+use Rattle.napi_types.proofs.plain.Issued.{has-up_to}
 use Rattle.value_store.specs.Places.{state_of, at_number, changed_at, IsNumbered}
 use Rattle.value_store.specs.Changes.{ChangesOnly}
 use Rattle.value_store.proofs.Lookup.{value_of-state_of, number-within, at_number-set, other-number, same-number, apart-number, apart-above}

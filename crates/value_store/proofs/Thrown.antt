@@ -5,11 +5,11 @@ use Rattle.std.proofs.lemmas.List.{map-append}
 use Rattle.std.proofs.lemmas.List.Elements.{All-nil, All-cons, filter_map-append}
 use Rattle.napi_types.specs.declared.body.Body.{Body}
 use Rattle.napi_types.specs.declared.ids.TextNo.{TextNo}
-use Rattle.napi_types.specs.Lists.{has_number, up_to}
-use Rattle.napi_types.specs.Values.{Value, children}
-use Rattle.napi_types.specs.NewValues.{made_after, error_of, thrown_strings, thrown_of}
-use Rattle.napi_types.specs.Graph.{StoreState, graph_of}
-use Rattle.napi_types.proofs.Issued.{above-up_to}
+use Rattle.napi_types.specs.plain.Lists.{has_number, up_to}
+use Rattle.napi_types.specs.parts.Graph.{StoreState, graph_of}
+use Rattle.napi_types.specs.parts.NewValues.{made_after, error_of, thrown_strings, thrown_of}
+use Rattle.napi_types.specs.parts.Values.{Value, children}
+use Rattle.napi_types.proofs.plain.Issued.{above-up_to}
 use Rattle.value_store.specs.declared.place.Place.{Place}
 use Rattle.value_store.specs.Places.{value_here, state_of, at_number, HasValue, IsNumbered}
 use Rattle.value_store.specs.Changes.{MakesList}

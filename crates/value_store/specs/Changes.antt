@@ -3,11 +3,11 @@ use Rattle.std.specs.Prelude.{◌≡◌, ◌≢◌, ℕ, ◌+◌, ◌<◌, ◌==
 use Rattle.std.specs.List.{All, IsDistinct}
 use Rattle.napi_types.specs.declared.body.Body.{Body}
 use Rattle.napi_types.specs.declared.ids.ValueId.{ValueId}
-use Rattle.napi_types.specs.Lists.{has_number}
-use Rattle.napi_types.specs.Values.{Value, fresh_value, starting_values, value_at, children}
-use Rattle.napi_types.specs.Properties.{Property}
-use Rattle.napi_types.specs.Bodies.{is_object_like}
-use Rattle.napi_types.specs.Graph.{StoreState, value_of, IsLive, creation_number, graph_of}
+use Rattle.napi_types.specs.plain.Lists.{has_number}
+use Rattle.napi_types.specs.parts.Bodies.{is_object_like}
+use Rattle.napi_types.specs.parts.Graph.{StoreState, value_of, IsLive, creation_number, graph_of}
+use Rattle.napi_types.specs.parts.Properties.{Property}
+use Rattle.napi_types.specs.parts.Values.{Value, fresh_value, starting_values, value_at, children}
 use Rattle.std.specs.Option.{unwrap_or}
 
 -- the properties of the value that a number names, none where no live value has the number

@@ -1,11 +1,11 @@
 -- How the list of a store's values stands for the store's state.
 use Rattle.std.specs.Prelude.{◌≡◌, ℕ, zero, suc, ◌+◌, ◌-◌, ◌<◌, cond, List, [], ◌∷◌, length, map, Option, Some, None, option_map, IsSome, slice_index_or, slice_set}
 use Rattle.std.specs.List.{All}
-use Rattle.napi_types.specs.Values.{Value, fresh_value, children, value_at, starting_values}
-use Rattle.napi_types.specs.Properties.{Property, HasDistinctNames}
+use Rattle.napi_types.specs.plain.Lists.{has_number, up_to}
+use Rattle.napi_types.specs.parts.Graph.{Stored, StoreState}
+use Rattle.napi_types.specs.parts.Properties.{Property, HasDistinctNames}
+use Rattle.napi_types.specs.parts.Values.{Value, fresh_value, children, value_at, starting_values}
 use Rattle.std.specs.Option.{unwrap_or}
-use Rattle.napi_types.specs.Lists.{has_number, up_to}
-use Rattle.napi_types.specs.Graph.{Stored, StoreState}
 use Rattle.value_store.specs.declared.place.Place.{Place}
 use Rattle.value_store.specs.declared.place.Place.TheVariants.{Free, Plain, Full}
 

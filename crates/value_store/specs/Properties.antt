@@ -3,7 +3,7 @@ use Rattle.std.specs.Prelude.{ℕ, ◌+◌, ◌<◌, ◌≤◌, nat_eq, List, ma
 use Rattle.std.specs.List.{IsDistinct, range_with_len}
 use Rattle.std.specs.Map.{keys_of, lookup}
 use Rattle.napi_types.specs.declared.ids.ValueId.{ValueId}
-use Rattle.napi_types.specs.Properties.{Property, most_index}
+use Rattle.napi_types.specs.parts.Properties.{Property, most_index}
 
 -- the properties and the elements of a value
 pub record ListedParts : Type 0 where

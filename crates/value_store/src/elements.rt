@@ -1,7 +1,7 @@
 //! The elements of one value.
 ghost use Rattle.std.specs.Prelude.{◌≡◌, ◌^◌, ◌<◌, ◌≤◌, [], length, filter_map, OnOk, OnErr, option_map};
-ghost use Rattle.napi_types.specs.Lists.{HaveSameNumbers};
-ghost use Rattle.napi_types.specs.Properties.{most_index, element_at, element_set};
+ghost use Rattle.napi_types.specs.plain.Lists.{HaveSameNumbers};
+ghost use Rattle.napi_types.specs.parts.Properties.{most_index, element_at, element_set};
 ghost use Rattle.value_store.specs.Properties.{numbers_in};
 
 use indexmap::IndexMap;

@@ -1,8 +1,8 @@
 //! A value, as a store lends it.
 ghost use Rattle.std.specs.Prelude.{◌≡◌, ◌<◌, length, option_map, slice_get, Some};
-ghost use Rattle.napi_types.specs.Lists.{HaveSameNumbers};
-ghost use Rattle.napi_types.specs.Values.{fresh_value, children};
-ghost use Rattle.napi_types.specs.Properties.{property_at, element_at};
+ghost use Rattle.napi_types.specs.plain.Lists.{HaveSameNumbers};
+ghost use Rattle.napi_types.specs.parts.Properties.{property_at, element_at};
+ghost use Rattle.napi_types.specs.parts.Values.{fresh_value, children};
 
 use crate::Children;
 use crate::parts::Parts;
@@ -21,7 +21,7 @@ pub struct ValueInfo<'a> {
 impl<'a> Model for ValueInfo<'a> {
     ghost use Rattle.std.specs.Prelude.{option_map, []};
     ghost use Rattle.std.specs.Option.{unwrap_or};
-    ghost use Rattle.napi_types.specs.Values.{Value as GraphValue};
+    ghost use Rattle.napi_types.specs.parts.Values.{Value as GraphValue};
 
     ghost Value = { GraphValue };
 

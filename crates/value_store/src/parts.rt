@@ -1,7 +1,7 @@
 //! The parts of one value: its properties and its elements; and its children, which these name.
 ghost use Rattle.std.specs.Prelude.{◌≡◌, ◌+◌, ◌^◌, ◌<◌, ◌≤◌, ◌++◌, [], length, map, filter_map, OnOk, OnErr, option_map, slice_get, slice_index, is_some, Some};
-ghost use Rattle.napi_types.specs.Lists.{HaveSameNumbers};
-ghost use Rattle.napi_types.specs.Properties.{most_index, property_at, property_set, property_removed, element_at, element_set};
+ghost use Rattle.napi_types.specs.plain.Lists.{HaveSameNumbers};
+ghost use Rattle.napi_types.specs.parts.Properties.{most_index, property_at, property_set, property_removed, element_at, element_set};
 ghost use Rattle.value_store.specs.Properties.{numbers_in};
 
 use crate::elements::Elements;

@@ -1,9 +1,9 @@
 //! One place of a store, and the value that stands there.
 ghost use Rattle.std.specs.Prelude.{◌≡◌, ◌+◌, ◌^◌, ◌<◌, ◌≤◌, IfOk, OnOk, OnErr, option_map, is_some};
 ghost use Rattle.std.specs.List.{range_with_len};
-ghost use Rattle.napi_types.specs.Values.{with_property, without_property, with_element};
-ghost use Rattle.napi_types.specs.NewValues.{array_of, error_of};
-ghost use Rattle.napi_types.specs.Properties.{most_index, property_at};
+ghost use Rattle.napi_types.specs.parts.NewValues.{array_of, error_of};
+ghost use Rattle.napi_types.specs.parts.Properties.{most_index, property_at};
+ghost use Rattle.napi_types.specs.parts.Values.{with_property, without_property, with_element};
 ghost use Rattle.value_store.specs.Places.{value_here, properties_here, HasValue, ChangesPlace};
 
 use crate::ValueInfo;

@@ -1,10 +1,10 @@
 //! The list of a store's values, read and changed by number.
 ghost use Rattle.std.specs.Prelude.{◌≡◌, ℕ, ◌+◌, ◌-◌, ◌<◌, ◌≤◌, ◌^◌, ◌++◌, [], ◌∷◌, true, length, map, vec_capacity, slice_get, slice_index_or, slice_set, is_some, cond, option_map, IsSome, OnOk, OnErr, IfOk, Some, None};
 ghost use Rattle.std.specs.List.{All};
-ghost use Rattle.napi_types.specs.Lists.{HaveSameNumbers};
-ghost use Rattle.napi_types.specs.Properties.{most_index, property_at, element_at};
-ghost use Rattle.napi_types.specs.Values.{with_property, without_property, with_element};
-ghost use Rattle.napi_types.specs.NewValues.{made_after, list_of, error_of, thrown_of};
+ghost use Rattle.napi_types.specs.plain.Lists.{HaveSameNumbers};
+ghost use Rattle.napi_types.specs.parts.NewValues.{made_after, list_of, error_of, thrown_of};
+ghost use Rattle.napi_types.specs.parts.Properties.{most_index, property_at, element_at};
+ghost use Rattle.napi_types.specs.parts.Values.{with_property, without_property, with_element};
 ghost use Rattle.value_store.specs.Changes.{numbers_of};
 ghost use Rattle.value_store.specs.Places.{value_here, values_of, at_number, changed_at, properties_at, elements_at, children_of, starting_list, IsCleared};
 

@@ -1,11 +1,11 @@
 //! The store: the values that were made and not freed, each under a number.
 ghost use Rattle.std.specs.Prelude.{◌≡◌, ◌+◌, ◌-◌, ◌<◌, ◌≤◌, ◌^◌, ◌++◌, [], ◌∷◌, not, filter, map, length, slice_get, is_some, option_map, IfSome, IfOk, OnOk, OnErr, Some, None};
 ghost use Rattle.std.specs.List.{All};
-ghost use Rattle.napi_types.specs.Lists.{has_number, HaveSameNumbers};
-ghost use Rattle.napi_types.specs.Values.{value_at, value_changed, fresh_value, with_property, without_property, with_element};
-ghost use Rattle.napi_types.specs.NewValues.{error_of, list_of, thrown_strings, thrown_of};
-ghost use Rattle.napi_types.specs.Properties.{most_index, property_at, element_at};
-ghost use Rattle.napi_types.specs.Graph.{value_of, number_in, renamed, graph_of, IsLive, IsSoundStore};
+ghost use Rattle.napi_types.specs.plain.Lists.{has_number, HaveSameNumbers};
+ghost use Rattle.napi_types.specs.parts.Graph.{value_of, number_in, renamed, graph_of, IsLive, IsSoundStore};
+ghost use Rattle.napi_types.specs.parts.NewValues.{error_of, list_of, thrown_strings, thrown_of};
+ghost use Rattle.napi_types.specs.parts.Properties.{most_index, property_at, element_at};
+ghost use Rattle.napi_types.specs.parts.Values.{value_at, value_changed, fresh_value, with_property, without_property, with_element};
 ghost use Rattle.value_store.specs.Changes.{properties_in, elements_in, children_in, id_at, EachStandsOnce, numbers_of, IsNew, IsStarting, IsObject, StandsAt, ChangesOnly, Makes, MakesValue, MakesList, Frees, CanFree};
 
 use crate::place::Place;
@@ -23,7 +23,7 @@ pub struct Store {
 }
 
 impl Model for Store {
-    ghost use Rattle.napi_types.specs.Graph.{StoreState};
+    ghost use Rattle.napi_types.specs.parts.Graph.{StoreState};
 
     ghost Value = { StoreState };
 

@@ -4,10 +4,10 @@ use Rattle.std.specs.List.{IsDistinct}
 use Rattle.std.specs.Map.{keys_of}
 use Rattle.std.specs.Option.{option_and_then, unwrap_or}
 use Rattle.std.proofs.lemmas.Bool.Decides.{nat_tests}
-use Rattle.napi_types.specs.Lists.{found, has, has_number}
-use Rattle.napi_types.specs.Attachments.{Attachments, Wrapped, Tagged, Attached, no_attachments, wrap_of, tag_of, with_wrap, without_wrap, with_tag, with_attached, left_on}
 use Rattle.napi_types.specs.declared.ids.Ticket.{Ticket}
-use Rattle.napi_types.proofs.Found.{has-found, same-tells}
+use Rattle.napi_types.specs.plain.Lists.{found, has, has_number}
+use Rattle.napi_types.specs.parts.Attachments.{Attachments, Wrapped, Tagged, Attached, no_attachments, wrap_of, tag_of, with_wrap, without_wrap, with_tag, with_attached, left_on}
+use Rattle.napi_types.proofs.plain.Found.{has-found, same-tells}
 use Rattle.wrap_tag.specs.declared.row.Row.{Row}
 use Rattle.wrap_tag.specs.declared.row.Wrap.{Wrap}
 use Rattle.wrap_tag.specs.declared.row.Tag.{Tag}

@@ -4,9 +4,9 @@ use Rattle.std.specs.List.{IsDistinct, flat_map}
 use Rattle.std.specs.Map.{keys_of}
 use Rattle.std.specs.Option.{option_and_then, option_or, MatchOption}
 use Rattle.std.proofs.lemmas.Map.Keys.{IsDistinct-tail}
-use Rattle.napi_types.specs.Lists.{found, has_number, with_record, as_map}
-use Rattle.napi_types.specs.Attachments.{Attached}
-use Rattle.napi_types.proofs.Found.{same-tells, same-self, found-append, found-with_record, found-kept, found-as_map, found-same, rising-with_record, rising-filter, rising-as_map}
+use Rattle.napi_types.specs.plain.Lists.{found, has_number, with_record, as_map}
+use Rattle.napi_types.specs.parts.Attachments.{Attached}
+use Rattle.napi_types.proofs.plain.Found.{same-tells, same-self, found-append, found-with_record, found-kept, found-as_map, found-same, rising-with_record, rising-filter, rising-as_map}
 use Rattle.wrap_tag.specs.declared.row.Row.{Row}
 use Rattle.wrap_tag.specs.Rows.{tickets_of_chain, tickets_beside, attached_in, row_of, is_attached, AreRows}
 use Rattle.wrap_tag.proofs.ByValue.{row_of-later, equal-tests}

@@ -5,8 +5,8 @@ use Rattle.std.specs.Map.{keys_of}
 use Rattle.std.specs.Option.{option_and_then}
 use Rattle.std.proofs.lemmas.Bool.Decides.{nat_tests}
 use Rattle.std.proofs.lemmas.Map.Keys.{IsDistinct-head, IsDistinct-tail}
-use Rattle.napi_types.specs.Lists.{found, with_record, as_map}
-use Rattle.napi_types.proofs.Found.{same-self, found-with_record, found-filter, found-as_map, found-same, rising-with_record, rising-filter, rising-as_map}
+use Rattle.napi_types.specs.plain.Lists.{found, with_record, as_map}
+use Rattle.napi_types.proofs.plain.Found.{same-self, found-with_record, found-filter, found-as_map, found-same, rising-with_record, rising-filter, rising-as_map}
 use Rattle.wrap_tag.specs.declared.row.Row.{Row}
 use Rattle.wrap_tag.specs.Rows.{row_of, PutsRow}
 

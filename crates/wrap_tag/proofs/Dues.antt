@@ -7,9 +7,9 @@ use Rattle.std.proofs.lemmas.Bool.Decides.{nat_tests}
 use Rattle.std.proofs.lemmas.List.Elements.{All-head, All-tail}
 use Rattle.std.proofs.lemmas.List.Folds.{list_any-append}
 use Rattle.std.proofs.lemmas.Map.Views.{All-from_any}
-use Rattle.napi_types.specs.Lists.{has_number}
-use Rattle.napi_types.proofs.Found.{same-tells}
-use Rattle.napi_types.specs.Book.{TicketState, Registered, Due, Begun, Ended, Withdrawn, Registration, Book, made_due, moved, moved_from, due_where}
+use Rattle.napi_types.specs.plain.Lists.{has_number}
+use Rattle.napi_types.specs.parts.Book.{TicketState, Registered, Due, Begun, Ended, Withdrawn, Registration, Book, made_due, moved, moved_from, due_where}
+use Rattle.napi_types.proofs.plain.Found.{same-tells}
 use Rattle.finalizer_queue.proofs.Moves.{length-due_where}
 use Rattle.wrap_tag.specs.Wraps.{AreGiven}
 

@@ -8,10 +8,10 @@ use Rattle.std.proofs.lemmas.List.{map-append, take-append-drop}
 use Rattle.std.proofs.Math.Seq.{take-suc}
 use Rattle.std.proofs.lemmas.Bool.Decides.{nat_tests}
 use Rattle.napi_types.specs.declared.ids.ValueId.{ValueId}
-use Rattle.napi_types.specs.Lists.{found, has, has_number, as_map}
-use Rattle.napi_types.specs.Attachments.{Attachments, Wrapped, Tagged, Attached, tickets_of, tickets_where, hangs_on, left_on}
-use Rattle.napi_types.specs.Book.{Book, due_where}
-use Rattle.napi_types.proofs.Found.{IsRising, same-tells, same-self, apart-above, has-found, found-kept, rising-as_map}
+use Rattle.napi_types.specs.plain.Lists.{found, has, has_number, as_map}
+use Rattle.napi_types.specs.parts.Attachments.{Attachments, Wrapped, Tagged, Attached, tickets_of, tickets_where, hangs_on, left_on}
+use Rattle.napi_types.specs.parts.Book.{Book, due_where}
+use Rattle.napi_types.proofs.plain.Found.{IsRising, same-tells, same-self, apart-above, has-found, found-kept, rising-as_map}
 use Rattle.wrap_tag.specs.declared.row.Row.{Row}
 use Rattle.wrap_tag.specs.declared.row.Wrap.{Wrap}
 use Rattle.wrap_tag.specs.Rows.{tickets_of_chain, tickets_of_row, ticket_of_wrap, tickets_beside, blank_row, wrapped_as, wrap_in, row_of, is_attached, attachments_of, AreRows}

@@ -3,11 +3,11 @@ use Rattle.std.specs.Prelude.{◌≡◌, ℕ, nat_eq, Bool, true, cond, List, []
 use Rattle.std.specs.Option.{unwrap_or, option_and_then, option_to_list}
 use Rattle.std.specs.List.{IsDistinct, flat_map}
 use Rattle.std.specs.Map.{keys_of, lookup}
-use Rattle.napi_types.specs.Lists.{has_number, as_map}
-use Rattle.napi_types.specs.Attachments.{Attachments, Wrapped, Tagged, Attached}
 use Rattle.wrap_tag.specs.declared.row.Chain.{Chain}
 use Rattle.wrap_tag.specs.declared.row.Chain.TheVariants.{End, Link'}
 use Rattle.napi_types.specs.declared.ids.Ticket.{Ticket}
+use Rattle.napi_types.specs.plain.Lists.{has_number, as_map}
+use Rattle.napi_types.specs.parts.Attachments.{Attachments, Wrapped, Tagged, Attached}
 use Rattle.wrap_tag.specs.declared.row.Row.{Row}
 use Rattle.wrap_tag.specs.declared.row.Tag.{Tag}
 use Rattle.wrap_tag.specs.declared.row.Wrap.{Wrap}

@@ -2,9 +2,9 @@
 use Rattle.std.specs.Prelude.{ℕ, ◌≤◌, Bool, List, map, length}
 use Rattle.std.specs.List.{All}
 use Rattle.napi_types.specs.declared.ids.ValueId.{ValueId}
-use Rattle.napi_types.specs.Lists.{has_number}
-use Rattle.napi_types.specs.Attachments.{Attachments}
-use Rattle.napi_types.specs.Book.{Book}
+use Rattle.napi_types.specs.plain.Lists.{has_number}
+use Rattle.napi_types.specs.parts.Attachments.{Attachments}
+use Rattle.napi_types.specs.parts.Book.{Book}
 
 -- the three maps, and how many attachments are added before memory is taken
 pub record WrapState : Type 0 where

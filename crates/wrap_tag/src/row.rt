@@ -1,7 +1,7 @@
 //! What is attached to one value.
 ghost use Rattle.std.specs.Prelude.{◌≡◌, ◌≤◌, ◌∷◌, None, length};
-ghost use Rattle.napi_types.specs.Lists.{has_number};
-ghost use Rattle.napi_types.specs.Book.{due_where};
+ghost use Rattle.napi_types.specs.plain.Lists.{has_number};
+ghost use Rattle.napi_types.specs.parts.Book.{due_where};
 ghost use Rattle.wrap_tag.specs.Rows.{tickets_of_chain, ticket_of_wrap, tickets_of_row, blank_row};
 ghost use Rattle.wrap_tag.specs.Wraps.{AreGiven};
 

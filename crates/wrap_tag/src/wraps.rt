@@ -1,10 +1,9 @@
 //! What is attached to values.
 ghost use Rattle.std.specs.Prelude.{◌≡◌, ◌==◌, ◌+◌, ◌<◌, ◌≤◌, None, false, IfOk, IfSome, OnOk, option_map};
 ghost use Rattle.std.specs.Option.{option_and_then};
-ghost use Rattle.napi_types.specs.Lists.{has, has_number};
-ghost use Rattle.napi_types.specs.Attachments.{no_attachments, wrap_of, tag_of as tag_at, with_wrap, without_wrap, with_tag, with_attached};
-ghost use Rattle.napi_types.specs.Attachments.{tickets_of, tickets_where, hangs_on, left_on};
-ghost use Rattle.napi_types.specs.Book.{due_where};
+ghost use Rattle.napi_types.specs.plain.Lists.{has, has_number};
+ghost use Rattle.napi_types.specs.parts.Attachments.{no_attachments, wrap_of, tag_of as tag_at, with_wrap, without_wrap, with_tag, with_attached, tickets_of, tickets_where, hangs_on, left_on};
+ghost use Rattle.napi_types.specs.parts.Book.{due_where};
 ghost use Rattle.wrap_tag.specs.Wraps.{AreGiven, among};
 
 use crate::row::{Chain, Row, Tag, Wrap};

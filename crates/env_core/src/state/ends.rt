@@ -1,8 +1,8 @@
 //! Ends of frames.
 ghost use Rattle.std.specs.Prelude.{◌≡◌, ◌≢◌, ◌<◌, ◌^◌, [], Some, None};
-ghost use Rattle.napi_types.specs.Ends.{end_change, call_end_change, uncut_call_end, call_end_with, outermost_end_change, end_out};
-ghost use Rattle.napi_types.specs.Frames.{cause_of, duty_of};
-ghost use Rattle.napi_types.specs.HeapChanges.{without_frame};
+ghost use Rattle.napi_types.specs.parts.Frames.{cause_of, duty_of};
+ghost use Rattle.napi_types.specs.parts.HeapChanges.{without_frame};
+ghost use Rattle.napi_types.specs.environment.Ends.{end_change, call_end_change, uncut_call_end, call_end_with, outermost_end_change, end_out};
 
 use super::{State, host_entry, host_told};
 use crate::handles::left_by;

@@ -1,9 +1,9 @@
 //! Calls on exceptions and on the last status.
 ghost use Rattle.std.specs.Prelude.{◌≡◌, ◌≢◌, ◌+◌, ◌<◌, ◌^◌, [], None, IfOk, OnErr};
 ghost use Rattle.napi_types.specs.declared.call.Call.TheVariants as call_of;
-ghost use Rattle.napi_types.specs.NamedNumbers.{is_known};
-ghost use Rattle.napi_types.specs.Properties.{most_names};
-ghost use Rattle.napi_types.specs.Refusals.{timely_refusal};
+ghost use Rattle.napi_types.specs.parts.NamedNumbers.{is_known};
+ghost use Rattle.napi_types.specs.parts.Properties.{most_names};
+ghost use Rattle.napi_types.specs.environment.Refusals.{timely_refusal};
 ghost use Rattle.env_core.specs.State.{AnswersInTime};
 
 use super::State;

@@ -1,8 +1,8 @@
 //! The call that creates an external.
 ghost use Rattle.std.specs.Prelude.{◌≡◌, ◌≢◌, ◌+◌, ◌<◌, ◌^◌, [], length, None, IfOk, OnErr};
 ghost use Rattle.napi_types.specs.declared.call.Call.TheVariants as call_of;
-ghost use Rattle.napi_types.specs.Properties.{most_names};
-ghost use Rattle.napi_types.specs.Refusals.{timely_refusal};
+ghost use Rattle.napi_types.specs.parts.Properties.{most_names};
+ghost use Rattle.napi_types.specs.environment.Refusals.{timely_refusal};
 ghost use Rattle.env_core.specs.State.{AnswersInTime};
 
 use super::State;

@@ -1,11 +1,11 @@
 //! Calls on references.
 ghost use Rattle.std.specs.Prelude.{◌≡◌, ◌≢◌, ◌+◌, ◌<◌, ◌^◌, [], length, None, IfOk, IfErr, OnErr};
 ghost use Rattle.napi_types.specs.declared.call.Call.TheVariants as call_of;
-ghost use Rattle.napi_types.specs.Heap.{handle_body};
-ghost use Rattle.napi_types.specs.Lists.{unless};
-ghost use Rattle.napi_types.specs.Refusals.{refusal_in, timely_refusal};
-ghost use Rattle.napi_types.specs.Replies.{plain};
-ghost use Rattle.napi_types.specs.Bodies.{is_referable as is_referable_body};
+ghost use Rattle.napi_types.specs.plain.Lists.{unless};
+ghost use Rattle.napi_types.specs.plain.Replies.{plain};
+ghost use Rattle.napi_types.specs.parts.Bodies.{is_referable as is_referable_body};
+ghost use Rattle.napi_types.specs.parts.Heap.{handle_body};
+ghost use Rattle.napi_types.specs.environment.Refusals.{refusal_in, timely_refusal};
 ghost use Rattle.env_core.specs.State.{AnswersInTime};
 
 use super::State;

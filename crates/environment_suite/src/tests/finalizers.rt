@@ -1,7 +1,7 @@
 //! Tickets by hand: in which phases one is next, which one it is, what it tells, and how its frame ends.
 ghost use Rattle.std.specs.Prelude.{◌≡◌, ◌≢◌, [], true, Some};
-ghost use Rattle.napi_types.specs.Frames.{cause_of, duty_of};
-ghost use Rattle.napi_types.specs.Lists.{tail};
+ghost use Rattle.napi_types.specs.plain.Lists.{tail};
+ghost use Rattle.napi_types.specs.parts.Frames.{cause_of, duty_of};
 
 use super::{Act, NOTHING, compare_in, in_first_frame, in_frame, left, ticket_of};
 use env_core::EnvCore;

@@ -1,6 +1,6 @@
 //! A function is made and called, turn by turn, and where the journal has no room for all of it.
 ghost use Rattle.std.specs.Prelude.{◌≡◌, ◌≤◌, IfOk, length};
-ghost use Rattle.napi_types.specs.Room.{most_entries};
+ghost use Rattle.napi_types.specs.plain.Room.{most_entries};
 ghost use Rattle.env_core.specs.Core.{opened_core};
 ghost use Rattle.env_loop.specs.Runs.{opened_run};
 

@@ -1,6 +1,6 @@
 //! Bytes and traces through short writes, and what a sink has where a write failed: a front.
 ghost use Rattle.std.specs.Prelude.{◌<◌, ◌≤◌, length};
-ghost use Rattle.napi_types.specs.Room.{most_entries};
+ghost use Rattle.napi_types.specs.plain.Room.{most_entries};
 
 use super::traces::{collect, write};
 use napi_types::{Entry, Failed, MemSink, NoMemory, Out};

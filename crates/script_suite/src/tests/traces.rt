@@ -1,6 +1,6 @@
 //! Traces over a sink in memory that takes 64 bytes a call: what each test here shares, and the order of journal and history.
 ghost use Rattle.std.specs.Prelude.{◌≡◌, ◌≤◌, length};
-ghost use Rattle.napi_types.specs.Room.{most_entries};
+ghost use Rattle.napi_types.specs.plain.Room.{most_entries};
 
 use napi_types::{
     Actor, Call, Duty, Entry, HostStep, Local, MemSink, Out, Reply, Status, Text, Texts, What,

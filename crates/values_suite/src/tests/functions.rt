@@ -1,7 +1,7 @@
 //! What shows of a thread-safe function in every state at every call, and of how its items are delivered, where there is memory.
 //! The answers were worked out by hand.
 ghost use Rattle.std.specs.Prelude.{◌≡◌, ◌+◌, ◌<◌, ◌≤◌};
-ghost use Rattle.napi_types.specs.Functions.{accepted_items};
+ghost use Rattle.napi_types.specs.parts.Functions.{accepted_items};
 
 use super::ample;
 use napi_types::{

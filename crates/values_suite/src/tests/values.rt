@@ -1,7 +1,7 @@
 //! In which order a store has its values, and the children of one. No clause tells it.
 ghost use Rattle.std.specs.Prelude.{◌≡◌, ◌≤◌};
-ghost use Rattle.napi_types.specs.Bodies.{is_object_like as has_properties};
-ghost use Rattle.napi_types.specs.Properties.{most_index};
+ghost use Rattle.napi_types.specs.parts.Bodies.{is_object_like as has_properties};
+ghost use Rattle.napi_types.specs.parts.Properties.{most_index};
 ghost use Rattle.value_store.specs.Changes.{IsNew};
 
 use super::ample;

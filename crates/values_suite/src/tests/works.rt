@@ -1,8 +1,8 @@
 //! What shows of a work in every state at every call, and of the order in which works start and come out, where there is memory.
 ghost use Rattle.std.specs.Prelude.{◌≡◌, ◌+◌, ◌<◌, ◌≤◌, [], false, true, length, None, Ok, OnErr};
-ghost use Rattle.napi_types.specs.Jobs.{job_value};
-ghost use Rattle.napi_types.specs.Lists.{with_record};
-ghost use Rattle.napi_types.specs.Pool.{new_pool, executed_by, value_of_work};
+ghost use Rattle.napi_types.specs.plain.Lists.{with_record};
+ghost use Rattle.napi_types.specs.parts.Jobs.{job_value};
+ghost use Rattle.napi_types.specs.parts.Pool.{new_pool, executed_by, value_of_work};
 
 use super::ample;
 use async_work::{Finished, Job, Picked, Pool, Running};

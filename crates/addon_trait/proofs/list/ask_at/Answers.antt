@@ -1,5 +1,5 @@
 use Rattle.std.proofs.Common.{◌≡◌, [], IfSome, Some}
-use Rattle.napi_types.specs.Registers.{plan_ask}
+use Rattle.napi_types.specs.scripts.Registers.{plan_ask}
 use Rattle.addon_trait.proofs.Members.{map-set_alike, fact_here}
 use Rattle.addon_trait.proofs.list.ask_at.Goals as goal
 

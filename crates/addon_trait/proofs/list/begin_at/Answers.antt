@@ -1,5 +1,5 @@
 use Rattle.std.proofs.Common.{[], ◌∷◌, ◌++◌}
-use Rattle.napi_types.specs.Registers.{with_gifts}
+use Rattle.napi_types.specs.scripts.Registers.{with_gifts}
 use Rattle.addon_trait.proofs.Members.{map-set_alike, map-set_by}
 use Rattle.addon_trait.proofs.list.begin_at.Goals as goal
 

@@ -1,5 +1,5 @@
 use Rattle.std.proofs.Common.{◌≡◌, [], IfSome, Some}
-use Rattle.napi_types.specs.Registers.{registers_after_reply}
+use Rattle.napi_types.specs.scripts.Registers.{registers_after_reply}
 use Rattle.addon_trait.proofs.Members.{map-set_alike, map-set_others, fact_after}
 use Rattle.addon_trait.proofs.list.note_at.Goals as goal
 

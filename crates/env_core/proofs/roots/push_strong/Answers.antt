@@ -1,6 +1,6 @@
 use Rattle.std.proofs.Common.{◌∙◌, ◌++◌, ap, sym, map, arith}
-use Rattle.napi_types.specs.Lists.{has_number}
-use Rattle.napi_types.specs.References.{strong_values}
+use Rattle.napi_types.specs.plain.Lists.{has_number}
+use Rattle.napi_types.specs.parts.References.{strong_values}
 use Rattle.std.specs.List.{filter_map}
 use Rattle.std.proofs.lemmas.List.{length-map, take_all}
 use Rattle.value_store.specs.Changes.{numbers_of}

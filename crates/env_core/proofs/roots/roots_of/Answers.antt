@@ -1,6 +1,6 @@
 use Rattle.std.proofs.Common.{IfSome, Option, Some, None, option_map}
 use Rattle.napi_types.specs.declared.ids.ValueId.{ValueId}
-use Rattle.napi_types.specs.Graph.{StoreState, IsLive}
+use Rattle.napi_types.specs.parts.Graph.{StoreState, IsLive}
 use Rattle.value_store.specs.Changes.{numbers_of}
 use Rattle.napi_reference.specs.Places.{map_of}
 use Rattle.env_core.proofs.Rooting.{gathered}

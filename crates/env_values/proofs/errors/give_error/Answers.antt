@@ -1,8 +1,8 @@
 use Rattle.std.proofs.Common.{◌≡◌, ◌∙◌, ◌+◌, ap, refl, option_map}
 use Rattle.napi_types.specs.declared.ids.ValueId.{ValueId}
-use Rattle.napi_types.specs.Graph.{number_in}
-use Rattle.napi_types.specs.HeapChanges.{with_error}
-use Rattle.napi_types.specs.NewValues.{error_of}
+use Rattle.napi_types.specs.parts.Graph.{number_in}
+use Rattle.napi_types.specs.parts.HeapChanges.{with_error}
+use Rattle.napi_types.specs.parts.NewValues.{error_of}
 use Rattle.handle_scope.specs.HandleScopes.{HandleScopes, with_issued_handle, with_reserved_place}
 use Rattle.env_values.specs.Seen.{heap_of}
 use Rattle.env_values.proofs.Giving.{given-answer, made-heap, made-live}

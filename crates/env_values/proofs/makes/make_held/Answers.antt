@@ -1,7 +1,7 @@
 use Rattle.std.proofs.Common.{◌≡◌, ◌∙◌, ◌+◌, Option, option_map, IsSome, ap, refl, subst, sym}
 use Rattle.std.specs.Option.{unwrap_or}
-use Rattle.napi_types.specs.HeapChanges.{with_value}
-use Rattle.napi_types.specs.Values.{Value, fresh_value}
+use Rattle.napi_types.specs.parts.HeapChanges.{with_value}
+use Rattle.napi_types.specs.parts.Values.{Value, fresh_value}
 use Rattle.handle_scope.specs.HandleScopes.{HandleScopes, with_issued_handle, with_reserved_place}
 use Rattle.env_values.specs.Seen.{heap_of}
 use Rattle.env_values.proofs.Giving.{given-answer, made-heap, made-live}

@@ -1,7 +1,7 @@
 use Rattle.std.proofs.Common.{◌∙◌, ap, sym, refl}
 use Rattle.napi_types.specs.declared.call.Call.TheVariants as call
-use Rattle.napi_types.specs.HeapChanges.{new_list}
-use Rattle.napi_types.specs.PropertyCalls.{names_of}
+use Rattle.napi_types.specs.parts.HeapChanges.{new_list}
+use Rattle.napi_types.specs.parts.PropertyCalls.{names_of}
 use Rattle.value_store.specs.Changes.{properties_in}
 use Rattle.env_values.specs.Seen.{heap_of}
 use Rattle.env_values.proofs.Coming.{comes-without_memory}

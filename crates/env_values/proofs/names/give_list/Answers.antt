@@ -1,5 +1,5 @@
 use Rattle.std.proofs.Common.{◌≡◌, ◌∙◌, ◌+◌, length, ap}
-use Rattle.napi_types.specs.HeapChanges.{with_list}
+use Rattle.napi_types.specs.parts.HeapChanges.{with_list}
 use Rattle.handle_scope.specs.HandleScopes.{HandleScopes, with_issued_handle, with_reserved_place}
 use Rattle.env_values.specs.Seen.{heap_of}
 use Rattle.env_values.proofs.Giving.{given-answer, listed-heap, listed-live}

@@ -1,5 +1,5 @@
 use Rattle.std.proofs.Common.{◌≡◌, take}
-use Rattle.napi_types.specs.PropertyCalls.{names_of}
+use Rattle.napi_types.specs.parts.PropertyCalls.{names_of}
 use Rattle.value_store.specs.Changes.{properties_in}
 use Rattle.env_values.proofs.names.names.Given as goal
 

@@ -1,8 +1,8 @@
 use Rattle.std.proofs.Common.{◌≡◌, ◌∙◌, true, is_some, ap, sym, refl}
-use Rattle.napi_types.specs.Heap.{handle_body}
-use Rattle.napi_types.specs.Replies.{accepts}
 use Rattle.napi_types.specs.declared.entry.Out.TheVariants as out
-use Rattle.napi_types.specs.Bodies.{is_object_like}
+use Rattle.napi_types.specs.plain.Replies.{accepts}
+use Rattle.napi_types.specs.parts.Bodies.{is_object_like}
+use Rattle.napi_types.specs.parts.Heap.{handle_body}
 use Rattle.env_values.specs.Seen.{heap_of}
 use Rattle.env_values.proofs.HandleValues.{like-known, property-known, same-there}
 use Rattle.env_values.proofs.reads.has_named_property.Goals as goal

@@ -1,8 +1,8 @@
 use Rattle.std.proofs.Common.{◌∙◌, ap, sym, refl}
 use Rattle.std.specs.Option.{unwrap_or}
 use Rattle.napi_types.specs.declared.call.Call.TheVariants as call
-use Rattle.napi_types.specs.HeapChanges.{handle_of}
-use Rattle.napi_types.specs.Values.{undefined_value}
+use Rattle.napi_types.specs.parts.HeapChanges.{handle_of}
+use Rattle.napi_types.specs.parts.Values.{undefined_value}
 use Rattle.env_values.specs.Seen.{heap_of}
 use Rattle.env_values.proofs.Coming.{comes-without_memory}
 use Rattle.env_values.proofs.HandleValues.{property-known, found-number}

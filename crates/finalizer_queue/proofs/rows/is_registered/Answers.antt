@@ -1,6 +1,6 @@
 use Rattle.std.proofs.Common.{◌∙◌, get_or, sym, ap, arith}
 use Rattle.std.proofs.lemmas.Bool.{ltb-true, ltb-false}
-use Rattle.napi_types.specs.Book.{is_registered}
+use Rattle.napi_types.specs.parts.Book.{is_registered}
 use Rattle.finalizer_queue.specs.Rows.{state_of}
 use Rattle.finalizer_queue.proofs.Kept.{other-state}
 use Rattle.finalizer_queue.proofs.Moves.{IsRow, is_at-row, is_at-past}

@@ -2,7 +2,7 @@ use Rattle.std.proofs.Common.{◌∙◌, ap, sym, false, true, rules}
 use Rattle.std.proofs.lemmas.List.Sorted.{answers_always}
 use Rattle.napi_types.specs.declared.ids.ScopeKind.TheVariants as scope_kind
 use Rattle.napi_types.specs.declared.status.Status.TheVariants as status
-use Rattle.napi_types.specs.Lists.{when}
+use Rattle.napi_types.specs.plain.Lists.{when}
 use Rattle.handle_scope.specs.declared.scopes.ScopeMark.{ScopeMark}
 use Rattle.handle_scope.proofs.Numbers.{search-found, search-lacks}
 use Rattle.handle_scope.proofs.Marks.{opened_mark}

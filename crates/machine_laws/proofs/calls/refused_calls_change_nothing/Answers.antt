@@ -3,11 +3,11 @@ use Rattle.std.specs.Option.{option_or}
 use Rattle.napi_types.specs.declared.call.Call.{Call}
 use Rattle.napi_types.specs.declared.entry.Out.TheVariants as out
 use Rattle.napi_types.specs.declared.status.Status.{Status}
-use Rattle.napi_types.specs.Calls.{answer_unless_deep}
-use Rattle.napi_types.specs.Environment.{Environment}
+use Rattle.napi_types.specs.plain.Replies.{plain}
+use Rattle.napi_types.specs.environment.Calls.{answer_unless_deep}
+use Rattle.napi_types.specs.environment.Environment.{Environment}
+use Rattle.napi_types.specs.environment.Refusals.{early_refusal, depth_refusal}
 use Rattle.machine_laws.specs.CallLaws.{RefusedCallsChangeNothing}
-use Rattle.napi_types.specs.Refusals.{early_refusal, depth_refusal}
-use Rattle.napi_types.specs.Replies.{plain}
 use Rattle.machine_laws.proofs.calls.refused_calls_change_nothing.Goals as goal
 
 reply-of : (e : Environment) (c : Call) (n : ℕ) (early deep : Option Status) (s : Status) → option_or early deep ≡ Some s → (answer_unless_deep e c n early deep).reply ≡ plain s out.Nothing

@@ -6,20 +6,20 @@ use Rattle.napi_types.specs.declared.call.Call.TheVariants as call
 use Rattle.napi_types.specs.declared.entry.Out.TheVariants as out
 use Rattle.napi_types.specs.declared.status.Status.{Status}
 use Rattle.napi_types.specs.declared.status.Status.TheVariants as status
-use Rattle.napi_types.specs.AttachmentRefusals.{attachment_refusal}
-use Rattle.napi_types.specs.Calls.{answer_unless_deep}
-use Rattle.napi_types.specs.Environment.{Environment}
-use Rattle.napi_types.specs.Frames.{caller_of}
-use Rattle.napi_types.specs.HookRefusals.{hook_refusal}
-use Rattle.napi_types.specs.Lists.{has_number, one, unless}
-use Rattle.napi_types.specs.NamedNumbers.{handles_of, texts_of, unknown_refusal}
-use Rattle.napi_types.specs.Moments.{moment_refusal}
-use Rattle.napi_types.specs.Refusals.{refusal_in, attached_refusal, timely_refusal, depth_refusal}
-use Rattle.napi_types.specs.ReferenceRefusals.{reference_refusal}
-use Rattle.napi_types.specs.ExpectedKinds.{kind_refusal}
-use Rattle.napi_types.specs.OwnRefusals.{row_refusal}
-use Rattle.napi_types.specs.Replies.{plain}
-use Rattle.napi_types.specs.Scopes.{gives}
+use Rattle.napi_types.specs.plain.Lists.{has_number, one, unless}
+use Rattle.napi_types.specs.plain.Replies.{plain}
+use Rattle.napi_types.specs.parts.AttachmentRefusals.{attachment_refusal}
+use Rattle.napi_types.specs.parts.ExpectedKinds.{kind_refusal}
+use Rattle.napi_types.specs.parts.Frames.{caller_of}
+use Rattle.napi_types.specs.parts.HookRefusals.{hook_refusal}
+use Rattle.napi_types.specs.parts.NamedNumbers.{handles_of, texts_of, unknown_refusal}
+use Rattle.napi_types.specs.parts.OwnRefusals.{row_refusal}
+use Rattle.napi_types.specs.parts.ReferenceRefusals.{reference_refusal}
+use Rattle.napi_types.specs.parts.Scopes.{gives}
+use Rattle.napi_types.specs.environment.Calls.{answer_unless_deep}
+use Rattle.napi_types.specs.environment.Environment.{Environment}
+use Rattle.napi_types.specs.environment.Moments.{moment_refusal}
+use Rattle.napi_types.specs.environment.Refusals.{refusal_in, attached_refusal, timely_refusal, depth_refusal}
 use Rattle.machine_laws.specs.CallLaws.{RefusesUnknownHandles, RefusesUnknownInEachRow, TakesKnownHandles}
 use Rattle.machine_laws.proofs.Naming.{named-alone, hooks-alone, fails-all, passes-all}
 use Rattle.machine_laws.proofs.calls.refuses_unknown_handles.Goals as goal

@@ -3,10 +3,10 @@ use Rattle.std.specs.Option.{option_or}
 use Rattle.napi_types.specs.declared.call.Call.TheVariants as call
 use Rattle.napi_types.specs.declared.ids.HandleId.{HandleId}
 use Rattle.napi_types.specs.declared.status.Status.TheVariants as status
-use Rattle.napi_types.specs.Bodies.{is_function}
-use Rattle.napi_types.specs.Heap.{Heap, handle_body}
-use Rattle.napi_types.specs.Lists.{when, unless}
-use Rattle.napi_types.specs.OwnRefusals.{row_refusal}
+use Rattle.napi_types.specs.plain.Lists.{when, unless}
+use Rattle.napi_types.specs.parts.Bodies.{is_function}
+use Rattle.napi_types.specs.parts.Heap.{Heap, handle_body}
+use Rattle.napi_types.specs.parts.OwnRefusals.{row_refusal}
 use Rattle.machine_laws.specs.CallLaws.{OnlyFunctionsAreServed}
 use Rattle.machine_laws.proofs.calls.serves_functions_only.Goals as goal
 

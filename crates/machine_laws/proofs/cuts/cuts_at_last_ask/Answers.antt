@@ -1,6 +1,6 @@
 use Rattle.std.proofs.Common.{◌≡◌, ap, ◌∙◌}
 use Rattle.napi_types.specs.declared.entry.Why.TheVariants as why
-use Rattle.napi_types.specs.Frames.{asks_made}
+use Rattle.napi_types.specs.parts.Frames.{asks_made}
 use Rattle.machine_laws.specs.Cuts.{cut_by, CutAtLastAsk, NotBeforeLastAsk}
 use Rattle.machine_laws.proofs.Cutting.{only-in-frame, spent-only, asks-next, early-none}
 use Rattle.machine_laws.proofs.cuts.cuts_at_last_ask.Goals as goal

@@ -2,9 +2,9 @@ use Rattle.std.proofs.Common.{◌≡◌, ◌∙◌, ap, cond, ℕ, true, [], ◌
 use Rattle.napi_types.specs.declared.call.Ask.TheVariants as ask
 use Rattle.napi_types.specs.declared.call.Call.{Call}
 use Rattle.napi_types.specs.declared.call.Call.TheVariants as call
-use Rattle.napi_types.specs.Guards.{is_registering, is_shared}
-use Rattle.napi_types.specs.Room.{room_of, may_want_memory, journal_room, history_room}
-use Rattle.napi_types.specs.Setting.{RunsBy, opening_of}
+use Rattle.napi_types.specs.plain.Guards.{is_registering, is_shared}
+use Rattle.napi_types.specs.plain.Room.{room_of, may_want_memory, journal_room, history_room}
+use Rattle.napi_types.specs.runs.Setting.{RunsBy, opening_of}
 use Rattle.machine_laws.specs.Cuts.{script_within, opening_asks, two_left, external_made, IsCutFull}
 use Rattle.machine_laws.specs.RunWords.{opening_entries}
 use Rattle.machine_laws.proofs.Computing.{run-of}

@@ -1,12 +1,12 @@
 use Rattle.std.proofs.Common.{◌≡◌, ◌≤◌, true, false, not, [], ◌++◌, set, refl, arith}
 use Rattle.std.proofs.lemmas.Bool.{not-true}
 use Rattle.napi_types.specs.declared.status.Status.TheVariants as status
-use Rattle.napi_types.specs.Alone.{IsAlone}
-use Rattle.napi_types.specs.Book.{ticket_duty}
-use Rattle.napi_types.specs.Counts.{Once}
-use Rattle.napi_types.specs.Guards.{is_shared}
-use Rattle.napi_types.specs.Setting.{Setting}
-use Rattle.napi_types.proofs.Withdrawals.{once-holds}
+use Rattle.napi_types.specs.plain.Guards.{is_shared}
+use Rattle.napi_types.specs.parts.Book.{ticket_duty}
+use Rattle.napi_types.specs.runs.Setting.{Setting}
+use Rattle.napi_types.specs.all_runs.Alone.{IsAlone}
+use Rattle.napi_types.specs.all_runs.Counts.{Once}
+use Rattle.napi_types.proofs.all_runs.Withdrawals.{once-holds}
 use Rattle.machine_laws.specs.OnceMisses.{withdrawn_elsewhere, withdrawn_where_refused}
 use Rattle.machine_laws.specs.RunWords.{ticket, gone_entry}
 use Rattle.machine_laws.specs.Told.{EndsAsTold, told_asks}

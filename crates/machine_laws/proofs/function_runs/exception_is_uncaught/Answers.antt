@@ -1,7 +1,7 @@
 use Rattle.std.proofs.Common.{◌≡◌, ap, set, refl}
 use Rattle.napi_types.specs.declared.entry.Out.TheVariants as out
 use Rattle.machine_laws.specs.PendingException.{uncaught_setting, uncaught_trace, end_told}
-use Rattle.napi_types.specs.Setting.{opening_of}
+use Rattle.napi_types.specs.runs.Setting.{opening_of}
 use Rattle.machine_laws.specs.Told.{IsRun, told_asks}
 use Rattle.machine_laws.proofs.Asks.{told-run}
 use Rattle.machine_laws.proofs.Misses.{entry_at}

@@ -2,11 +2,11 @@ use Rattle.std.proofs.Common.{arith, [], ◌∷◌, refl, Some}
 use Rattle.std.proofs.lemmas.Bool.{false≢true}
 use Rattle.std.proofs.lemmas.List.Elements.{All-nil, All-cons}
 use Rattle.napi_types.specs.declared.body.Body.TheVariants as body
-use Rattle.napi_types.specs.Environment.{Environment, FunctionRoot}
-use Rattle.napi_types.specs.Frames.{most_frames}
-use Rattle.napi_types.specs.Heap.{new_heap}
-use Rattle.napi_types.specs.HeapChanges.{with_handle, with_frame}
-use Rattle.napi_types.specs.Values.{undefined_value, null_value, fresh_value}
+use Rattle.napi_types.specs.parts.Frames.{most_frames}
+use Rattle.napi_types.specs.parts.Heap.{new_heap}
+use Rattle.napi_types.specs.parts.HeapChanges.{with_handle, with_frame}
+use Rattle.napi_types.specs.parts.Values.{undefined_value, null_value, fresh_value}
+use Rattle.napi_types.specs.environment.Environment.{Environment, FunctionRoot}
 use Rattle.machine_laws.specs.Consistency.{IsConsistent, IsLiveAmong}
 use Rattle.machine_laws.specs.ConsistencyMisses.{IsStrict, in_init_frame, holding, two_held, deep, rooting, reference}
 use Rattle.machine_laws.proofs.ConsistentRuns.{new-heap-good}

@@ -1,4 +1,4 @@
-use Rattle.napi_types.specs.References.{Reference}
+use Rattle.napi_types.specs.parts.References.{Reference}
 use Rattle.machine_laws.proofs.Rising.{maps-equal}
 use Rattle.machine_laws.proofs.maps.maps_are_their_records.Goals as goal
 

@@ -1,5 +1,5 @@
 use Rattle.std.proofs.Common.{◌≡◌, ℕ, List, [], ◌∷◌, refl, ap}
-use Rattle.napi_types.specs.References.{Reference}
+use Rattle.napi_types.specs.parts.References.{Reference}
 use Rattle.machine_laws.proofs.maps.maps_rise.Goals as goal
 
 abbrev first_number : List Reference → ℕ

@@ -1,6 +1,6 @@
 use Rattle.std.proofs.Common.{List, Some, ap}
-use Rattle.napi_types.specs.Lists.{with_number}
-use Rattle.napi_types.specs.References.{Reference}
+use Rattle.napi_types.specs.plain.Lists.{with_number}
+use Rattle.napi_types.specs.parts.References.{Reference}
 use Rattle.machine_laws.specs.MapLaws.{PlacesHaveNoOrder}
 use Rattle.machine_laws.proofs.Unordered.{put-more}
 use Rattle.machine_laws.proofs.maps.places_have_no_order.Goals as goal

@@ -1,5 +1,5 @@
 use Rattle.std.proofs.Common.{◌≡◌, ℕ, List, Some}
-use Rattle.napi_types.specs.References.{Reference, ReferenceMap}
+use Rattle.napi_types.specs.parts.References.{Reference, ReferenceMap}
 use Rattle.machine_laws.specs.MapLaws.{ReferencesHaveNoOrder}
 use Rattle.machine_laws.proofs.Unordered.{with_record-swap, with_record-there, with_record-others, numbers-swap}
 use Rattle.machine_laws.proofs.maps.references_have_no_order.Goals as goal

@@ -1,8 +1,8 @@
 use Rattle.std.proofs.Common.{◌≡◌, ◌++◌, ap, refl, slice_index_or}
 use Rattle.std.specs.Fmt.{digits}
-use Rattle.napi_types.specs.Parting.{IsParted}
-use Rattle.napi_types.specs.Setting.{opening_of}
-use Rattle.napi_types.specs.Weave.{Journal, History}
+use Rattle.napi_types.specs.plain.Weave.{Journal, History}
+use Rattle.napi_types.specs.runs.Parting.{IsParted}
+use Rattle.napi_types.specs.runs.Setting.{opening_of}
 use Rattle.machine_laws.specs.FrameCutInJournal.{setting_within, setting, version_told, history_front, history_end, history, journal, trace, journal_with_end}
 use Rattle.machine_laws.specs.HubWords.{next_after}
 use Rattle.machine_laws.specs.Told.{IsRun, told_asks}

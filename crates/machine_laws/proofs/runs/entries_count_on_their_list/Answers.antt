@@ -1,12 +1,12 @@
 use Rattle.std.proofs.Common.{ℕ, Bool, true, false, IsTrue, refl, Option, Some, None}
 use Rattle.napi_types.specs.declared.entry.Why.{Why}
 use Rattle.napi_types.specs.declared.ids.HandleId.{HandleId}
-use Rattle.napi_types.specs.Book.{Registration, registration_at}
-use Rattle.napi_types.specs.Ends.{end_change}
-use Rattle.napi_types.specs.HubMoves.{Delivers, Closes, Finishes}
-use Rattle.napi_types.specs.Loop.{Event, Tickets, Moves}
-use Rattle.napi_types.specs.Machine.{Machine}
-use Rattle.napi_types.specs.Step.{Step, ticket_step, event_step, end_step_on, step}
+use Rattle.napi_types.specs.parts.Book.{Registration, registration_at}
+use Rattle.napi_types.specs.environment.Ends.{end_change}
+use Rattle.napi_types.specs.hub.HubMoves.{Delivers, Closes, Finishes}
+use Rattle.napi_types.specs.runs.Loop.{Event, Tickets, Moves}
+use Rattle.napi_types.specs.runs.Machine.{Machine}
+use Rattle.napi_types.specs.runs.Step.{Step, ticket_step, event_step, end_step_on, step}
 use Rattle.machine_laws.specs.RunLaws.{GrowsOn, EntriesCountOnTheirList}
 use Rattle.machine_laws.proofs.Forms.{Form, calls, shares, ends, happens, others, form-of}
 use Rattle.machine_laws.proofs.runs.entries_count_on_their_list.Goals as goal

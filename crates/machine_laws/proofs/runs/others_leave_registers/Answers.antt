@@ -1,5 +1,5 @@
 use Rattle.std.proofs.Common.{refl, ap}
-use Rattle.napi_types.specs.Plan.{after_entry}
+use Rattle.napi_types.specs.runs.Plan.{after_entry}
 use Rattle.machine_laws.specs.RunLaws.{OthersLeaveRegisters}
 use Rattle.machine_laws.proofs.runs.others_leave_registers.Goals as goal
 

@@ -1,6 +1,6 @@
 use Rattle.std.proofs.Common.{◌≡◌, true}
 use Rattle.machine_laws.specs.RunLaws.{ReachIsLeast}
-use Rattle.napi_types.proofs.Reaching.{reach-roots, reach-closed, reach-least}
+use Rattle.napi_types.proofs.parts.Reaching.{reach-roots, reach-closed, reach-least}
 use Rattle.machine_laws.proofs.runs.reach_is_least.Goals as goal
 
 law : ReachIsLeast

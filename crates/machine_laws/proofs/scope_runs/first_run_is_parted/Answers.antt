@@ -1,7 +1,7 @@
 use Rattle.std.proofs.Common.{◌≡◌, ◌∷◌, ap, drop, refl, slice_index_or}
-use Rattle.napi_types.specs.Parting.{IsParted}
-use Rattle.napi_types.specs.Weave.{Journal, History}
-use Rattle.napi_types.specs.Setting.{opening_of}
+use Rattle.napi_types.specs.plain.Weave.{Journal, History}
+use Rattle.napi_types.specs.runs.Parting.{IsParted}
+use Rattle.napi_types.specs.runs.Setting.{opening_of}
 use Rattle.machine_laws.specs.FirstRun.{setting, asks, history, journal_with_go, journal_without_end}
 use Rattle.machine_laws.specs.RunWords.{frame_end}
 use Rattle.machine_laws.proofs.scope_runs.first_run_is_parted.Goals as goal

@@ -7,7 +7,7 @@ use Rattle.napi_types.specs.declared.status.Kind.{Kind}
 use Rattle.napi_types.specs.declared.status.Kind.TheVariants as kind
 use Rattle.machine_laws.specs.FirstRun.{setting, trace, asks, typeof_entry}
 use Rattle.machine_laws.specs.RunWords.{loop_ended, left_out}
-use Rattle.napi_types.specs.Setting.{final_of}
+use Rattle.napi_types.specs.runs.Setting.{final_of}
 use Rattle.machine_laws.specs.Told.{IsRun}
 use Rattle.machine_laws.proofs.Asks.{told-run}
 use Rattle.machine_laws.proofs.Misses.{entry_at, told_kind, told_reason, told-steps, IsOver, gone-is-last}

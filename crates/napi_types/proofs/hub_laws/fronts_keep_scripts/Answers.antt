@@ -1,4 +1,4 @@
-use Rattle.napi_types.proofs.Scripts.{fronts-keep}
+use Rattle.napi_types.proofs.all_runs.Scripts.{fronts-keep}
 use Rattle.napi_types.proofs.hub_laws.fronts_keep_scripts.Goals as goal
 
 pub returns : goal.returns

@@ -1,4 +1,4 @@
-use Rattle.napi_types.proofs.OthersLower.{full-stays-full}
+use Rattle.napi_types.proofs.hub.OthersLower.{full-stays-full}
 use Rattle.napi_types.proofs.hub_laws.full_stays_full.Goals as goal
 
 pub returns : goal.returns

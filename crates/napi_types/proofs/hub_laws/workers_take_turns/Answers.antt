@@ -1,4 +1,4 @@
-use Rattle.napi_types.proofs.WorkerTurns.{workers-take-turns}
+use Rattle.napi_types.proofs.hub.WorkerTurns.{workers-take-turns}
 use Rattle.napi_types.proofs.hub_laws.workers_take_turns.Goals as goal
 
 pub returns : goal.returns

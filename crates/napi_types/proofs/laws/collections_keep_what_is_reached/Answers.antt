@@ -1,4 +1,4 @@
-use Rattle.napi_types.proofs.Keeping.{kept-run}
+use Rattle.napi_types.proofs.all_runs.Keeping.{kept-run}
 use Rattle.napi_types.proofs.laws.collections_keep_what_is_reached.Goals as goal
 
 pub returns : goal.returns

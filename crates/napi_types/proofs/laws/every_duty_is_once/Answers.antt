@@ -1,4 +1,4 @@
-use Rattle.napi_types.proofs.Withdrawals.{once-holds}
+use Rattle.napi_types.proofs.all_runs.Withdrawals.{once-holds}
 use Rattle.napi_types.proofs.laws.every_duty_is_once.Goals as goal
 
 pub returns : goal.returns

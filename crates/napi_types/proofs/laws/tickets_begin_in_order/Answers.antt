@@ -1,4 +1,4 @@
-use Rattle.napi_types.proofs.Orders.{order-holds}
+use Rattle.napi_types.proofs.all_runs.Orders.{order-holds}
 use Rattle.napi_types.proofs.laws.tickets_begin_in_order.Goals as goal
 
 pub returns : goal.returns

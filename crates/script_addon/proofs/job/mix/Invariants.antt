@@ -1,6 +1,6 @@
 -- What is left to mix of the number now makes what was to be mixed of the first one.
 use Rattle.std.specs.Prelude.{◌≡◌, ℕ, ◌+◌}
-use Rattle.napi_types.specs.Jobs.{mixed}
+use Rattle.napi_types.specs.parts.Jobs.{mixed}
 use Rattle.script_addon.proofs.job.mix.Given as goal
 
 abbrev pub invariant-loop : goal.invariant-loop

@@ -1,7 +1,7 @@
 use Rattle.std.proofs.Common.{◌≡◌, drop}
 use Rattle.serde_json.specs.View.{items_view}
-use Rattle.napi_types.specs.ScriptReading.{each}
-use Rattle.napi_types.specs.ScriptAddons.{operation_at}
+use Rattle.napi_types.specs.scripts.ScriptAddons.{operation_at}
+use Rattle.napi_types.specs.scripts.ScriptReading.{each}
 use Rattle.script_read.specs.Lists.{onto}
 use Rattle.script_read.proofs.entry.each_operation.Given as goal
 

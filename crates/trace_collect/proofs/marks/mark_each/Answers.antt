@@ -1,5 +1,5 @@
 use Rattle.std.proofs.Common.{◌∙◌, arith}
-use Rattle.napi_types.specs.Graph.{IsLive}
+use Rattle.napi_types.specs.parts.Graph.{IsLive}
 use Rattle.trace_collect.proofs.Marking.{listed, marks-next}
 use Rattle.trace_collect.proofs.marks.mark_each.Goals as goal
 

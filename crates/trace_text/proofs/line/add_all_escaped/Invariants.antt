@@ -1,6 +1,6 @@
 use Rattle.std.proofs.Common.{take}
 use Rattle.std.specs.List.{flat_map}
-use Rattle.napi_types.specs.Text.{escaped}
+use Rattle.napi_types.specs.scripts.Text.{escaped}
 use Rattle.trace_text.specs.Writing.{Adds, stand}
 use Rattle.trace_text.proofs.line.add_all_escaped.Given as goal
 

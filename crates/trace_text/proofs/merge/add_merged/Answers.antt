@@ -1,5 +1,5 @@
 use Rattle.std.proofs.Common.{◌≡◌, ◌+◌, length, drop, arith}
-use Rattle.napi_types.proofs.Weaves.{bounds-rise}
+use Rattle.napi_types.proofs.plain.Weaves.{bounds-rise}
 use Rattle.trace_text.proofs.Merging.{owes_line, owes_none, unwoven-end}
 use Rattle.trace_text.proofs.merge.add_merged.Goals as goal
 

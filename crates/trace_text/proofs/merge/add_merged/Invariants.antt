@@ -1,6 +1,6 @@
 use Rattle.std.proofs.Common.{◌≡◌, ◌+◌, ◌≤◌, length, drop}
-use Rattle.napi_types.specs.Text.{lines_from, text}
-use Rattle.napi_types.specs.Weave.{RisesBetween, weave}
+use Rattle.napi_types.specs.plain.Weave.{RisesBetween, weave}
+use Rattle.napi_types.specs.scripts.Text.{lines_from, text}
 use Rattle.trace_text.specs.Merging.{unwoven}
 use Rattle.trace_text.specs.Writing.{Owes, stand}
 use Rattle.trace_text.proofs.merge.add_merged.Given as goal

@@ -1,6 +1,6 @@
 use Rattle.std.proofs.Common.{◌+◌, length, drop, refl, arith}
 use Rattle.std.proofs.lemmas.Bool.{iff_false}
-use Rattle.napi_types.proofs.Weaves.{bounds-rise}
+use Rattle.napi_types.proofs.plain.Weaves.{bounds-rise}
 use Rattle.trace_text.proofs.Merging.{rises-local, rises-shared, unwoven-local, unwoven-shared}
 use Rattle.trace_text.proofs.merge.next_of.Goals as goal
 

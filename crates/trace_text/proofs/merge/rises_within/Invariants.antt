@@ -1,5 +1,5 @@
 use Rattle.std.proofs.Common.{◌≤◌, ◌↔◌, drop}
-use Rattle.napi_types.specs.Weave.{RisesBetween}
+use Rattle.napi_types.specs.plain.Weave.{RisesBetween}
 use Rattle.trace_text.proofs.merge.rises_within.Given as goal
 
 abbrev pub invariant-loop-local : goal.invariant-loop-local

@@ -1,6 +1,6 @@
 use Rattle.std.proofs.Common.{◌≡◌, ◌+◌, ◌≤◌, length, take}
-use Rattle.napi_types.specs.Text.{lines_from}
-use Rattle.napi_types.specs.Weave.{local_at}
+use Rattle.napi_types.specs.plain.Weave.{local_at}
+use Rattle.napi_types.specs.scripts.Text.{lines_from}
 use Rattle.trace_text.specs.Writing.{Adds, stand}
 use Rattle.trace_text.proofs.scan.add_locals.Given as goal
 

@@ -1,6 +1,6 @@
 use Rattle.std.proofs.Common.{◌+◌, ◌*◌, ◌≤◌, drop}
-use Rattle.napi_types.specs.Text.{lines_from, text}
-use Rattle.napi_types.specs.Weave.{weave_from, weave}
+use Rattle.napi_types.specs.plain.Weave.{weave_from, weave}
+use Rattle.napi_types.specs.scripts.Text.{lines_from, text}
 use Rattle.trace_text.specs.Writing.{Owes, stand}
 use Rattle.trace_text.proofs.scan.add_scanned.Given as goal
 

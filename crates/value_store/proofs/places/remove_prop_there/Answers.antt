@@ -1,6 +1,6 @@
 use Rattle.std.proofs.Common.{◌∙◌, ap, sym, is_some, arith}
-use Rattle.napi_types.specs.Properties.{property_at}
-use Rattle.napi_types.specs.Values.{without_property}
+use Rattle.napi_types.specs.parts.Properties.{property_at}
+use Rattle.napi_types.specs.parts.Values.{without_property}
 use Rattle.value_store.proofs.PlaceValues.{place-within, properties_at-here, changed-place}
 use Rattle.value_store.proofs.places.remove_prop_there.Goals as goal
 

@@ -1,5 +1,5 @@
 use Rattle.std.proofs.Common.{arith}
-use Rattle.napi_types.specs.Values.{with_element}
+use Rattle.napi_types.specs.parts.Values.{with_element}
 use Rattle.value_store.proofs.Calls.{ok-then}
 use Rattle.value_store.proofs.PlaceValues.{place-within, changed-place}
 use Rattle.value_store.proofs.places.set_element.Goals as goal

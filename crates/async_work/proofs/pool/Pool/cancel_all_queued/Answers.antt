@@ -1,6 +1,6 @@
 use Rattle.std.proofs.Common.{◌≡◌, ◌∙◌, true, Some, None, IfSome, filter, not, length, ◌<◌, ◌==◌, sym, ap, subst}
-use Rattle.napi_types.specs.Lists.{has_number, head, tail}
-use Rattle.napi_types.specs.Pool.{WorkPool}
+use Rattle.napi_types.specs.plain.Lists.{has_number, head, tail}
+use Rattle.napi_types.specs.parts.Pool.{WorkPool}
 use Rattle.async_work.specs.Draining.{IsDraining}
 use Rattle.async_work.proofs.Draining.{has-first, none-first, draining-start, draining-more, draining-less, draining-end}
 use Rattle.async_work.proofs.Keeping.{kept-closed}

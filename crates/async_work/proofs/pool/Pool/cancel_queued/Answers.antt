@@ -1,7 +1,7 @@
 use Rattle.std.proofs.Common.{◌≡◌, ◌∙◌, true, Some, sym, ap, refl, arith}
 use Rattle.std.proofs.lemmas.List.{length-map}
-use Rattle.napi_types.specs.Lists.{has_number}
-use Rattle.napi_types.specs.Pool.{WorkPool, cancelled_at}
+use Rattle.napi_types.specs.plain.Lists.{has_number}
+use Rattle.napi_types.specs.parts.Pool.{WorkPool, cancelled_at}
 use Rattle.async_work.specs.Line.{line_seen, outcome_seen, waits, CameOut, Ended, unstarted_outcome}
 use Rattle.async_work.proofs.Keeping.{kept-cancelled, room-to-cancel}
 use Rattle.async_work.proofs.Queueing.{has-waiting, waits-within, bounds-at, line-set, outcomes-push, waits-read, IsWaiting, some-is}

@@ -1,7 +1,7 @@
 use Rattle.std.proofs.Common.{◌≡◌, ◌∙◌, ◌+◌, ◌++◌, [], ◌∷◌, false, Some, None, length, option_map, refl, ap, subst, arith}
 use Rattle.std.proofs.lemmas.List.{length-map, map-append}
-use Rattle.napi_types.specs.Lists.{has_number}
-use Rattle.napi_types.specs.Pool.{WorkPool, with_work}
+use Rattle.napi_types.specs.plain.Lists.{has_number}
+use Rattle.napi_types.specs.parts.Pool.{WorkPool, with_work}
 use Rattle.async_work.specs.Line.{entry_seen, outcome_seen}
 use Rattle.async_work.specs.Places.{place_seen, places_seen}
 use Rattle.async_work.proofs.Ids.{issued-fresh}

@@ -1,8 +1,8 @@
 use Rattle.std.proofs.Common.{◌≡◌, ◌∙◌, Some, None, option_map, refl, sym, ap, arith}
 use Rattle.napi_types.specs.declared.status.Status.TheVariants as status
-use Rattle.napi_types.specs.Lists.{unless}
-use Rattle.napi_types.specs.Pool.{work_at, work_state, without_work}
-use Rattle.napi_types.specs.Works.{is_deletable}
+use Rattle.napi_types.specs.plain.Lists.{unless}
+use Rattle.napi_types.specs.parts.Pool.{work_at, work_state, without_work}
+use Rattle.napi_types.specs.parts.Works.{is_deletable}
 use Rattle.async_work.specs.Line.{line_seen}
 use Rattle.async_work.specs.Places.{Placed, places_seen, place_at}
 use Rattle.async_work.specs.States.{state_seen, place_state}

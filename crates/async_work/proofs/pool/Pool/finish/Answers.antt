@@ -1,6 +1,6 @@
 use Rattle.std.proofs.Common.{◌≡◌, ◌∙◌, ◌-◌, ◌≤◌, ◌++◌, [], ◌∷◌, Some, length, set, refl, sym, ap, arith}
 use Rattle.std.proofs.lemmas.List.{length-map}
-use Rattle.napi_types.specs.Pool.{WorkPool, executed_by, value_of_work, with_finished}
+use Rattle.napi_types.specs.parts.Pool.{WorkPool, executed_by, value_of_work, with_finished}
 use Rattle.async_work.specs.Line.{CameOut, Ended, entry_seen, line_seen, outcome_seen, outcomes_seen, entry_at, stage_at, runner, runner_at, with_stage, ran_outcome}
 use Rattle.async_work.proofs.Executions.{executed}
 use Rattle.async_work.proofs.Keeping.{only-runs, live-bounds, runs-read, kept-finished, room-to-finish}

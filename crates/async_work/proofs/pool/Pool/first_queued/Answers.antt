@@ -1,7 +1,7 @@
 use Rattle.std.proofs.Common.{◌≡◌, ◌∙◌, ℕ, ◌+◌, ◌<◌, ◌≤◌, ◌==◌, false, true, not, length, filter, IfSome, sym, ap, subst, arith}
 use Rattle.std.proofs.lemmas.List.{length-map}
-use Rattle.napi_types.specs.Lists.{head, tail}
-use Rattle.napi_types.specs.Pool.{WorkPool}
+use Rattle.napi_types.specs.plain.Lists.{head, tail}
+use Rattle.napi_types.specs.parts.Pool.{WorkPool}
 use Rattle.async_work.specs.Line.{entry_seen, line_seen, waits}
 use Rattle.async_work.proofs.Keeping.{kept-passed, none-waits, next-waits, rest-waits}
 use Rattle.async_work.proofs.Queueing.{rising-waiting}

@@ -1,9 +1,9 @@
 use Rattle.std.proofs.Common.{◌≡◌, ◌∙◌, ◌+◌, ◌-◌, ◌++◌, [], ◌∷◌, Some, None, option_map, length, set, refl, sym, ap, arith}
 use Rattle.std.proofs.lemmas.List.{length-map, map-append}
 use Rattle.napi_types.specs.declared.status.Status.TheVariants as status
-use Rattle.napi_types.specs.Lists.{unless}
-use Rattle.napi_types.specs.Pool.{WorkPool, work_at, work_state, with_queued}
-use Rattle.napi_types.specs.Works.{is_created}
+use Rattle.napi_types.specs.plain.Lists.{unless}
+use Rattle.napi_types.specs.parts.Pool.{WorkPool, work_at, work_state, with_queued}
+use Rattle.napi_types.specs.parts.Works.{is_created}
 use Rattle.async_work.specs.Line.{Waits, entry_seen, line_seen}
 use Rattle.async_work.specs.Places.{Placed, places_seen, place_at, held_job, with_place_number}
 use Rattle.async_work.specs.States.{state_seen}

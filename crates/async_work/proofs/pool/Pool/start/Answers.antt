@@ -1,8 +1,8 @@
 use Rattle.std.proofs.Common.{◌≡◌, ◌∙◌, ◌-◌, true, false, not, [], Some, None, option_map, set, filter, ◌==◌, refl, sym, ap, arith}
 use Rattle.std.specs.Option.{option_and_then}
-use Rattle.napi_types.specs.Lists.{head, tail}
-use Rattle.napi_types.specs.Pool.{WorkPool, executed_by, with_started}
-use Rattle.napi_types.specs.Works.{Work}
+use Rattle.napi_types.specs.plain.Lists.{head, tail}
+use Rattle.napi_types.specs.parts.Pool.{WorkPool, executed_by, with_started}
+use Rattle.napi_types.specs.parts.Works.{Work}
 use Rattle.async_work.specs.Executing.{StartedWork}
 use Rattle.async_work.specs.Kept.{pool_of, Stands}
 use Rattle.async_work.specs.Line.{Runs, entry_seen, line_seen, outcomes_seen, waits, with_stage, waiting}

@@ -1,7 +1,7 @@
 use Rattle.std.proofs.Common.{◌≡◌, ◌∙◌, ◌+◌, ◌-◌, ◌≤◌, Some, None, length, option_map, sym, ap, arith}
 use Rattle.std.specs.Option.{option_and_then, option_map_or}
-use Rattle.napi_types.specs.Pool.{WorkPool, work_at, work_state, number_of_work}
-use Rattle.napi_types.specs.Works.{WorkState, Created}
+use Rattle.napi_types.specs.parts.Pool.{WorkPool, work_at, work_state, number_of_work}
+use Rattle.napi_types.specs.parts.Works.{WorkState, Created}
 use Rattle.async_work.specs.declared.line.Stage.{Stage}
 use Rattle.async_work.specs.Line.{line_seen, stage_seen, stage_state, stage_at, entry_at}
 use Rattle.async_work.specs.Places.{Placed, place_seen, places_seen, place_at, standing_number}

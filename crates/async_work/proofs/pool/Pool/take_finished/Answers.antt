@@ -1,9 +1,9 @@
 use Rattle.std.proofs.Common.{◌≡◌, ◌∙◌, ◌-◌, ◌∷◌, false, Some, option_map, map, set, sym, ap, subst, arith}
 use Rattle.std.specs.Option.{option_and_then}
 use Rattle.napi_types.specs.declared.duties.DueInfo.{DueInfo}
-use Rattle.napi_types.specs.Lists.{head}
-use Rattle.napi_types.specs.Pool.{WorkPool, work_numbered, completion_info, first_completion, with_completed}
-use Rattle.napi_types.specs.Works.{Outcome}
+use Rattle.napi_types.specs.plain.Lists.{head}
+use Rattle.napi_types.specs.parts.Pool.{WorkPool, work_numbered, completion_info, first_completion, with_completed}
+use Rattle.napi_types.specs.parts.Works.{Outcome}
 use Rattle.async_work.specs.Kept.{pool_of, Stands, CameOutOnce}
 use Rattle.async_work.specs.Line.{Done, entry_seen, line_seen, outcome_seen, outcomes_seen, outcome_of, outcome_status, entry_at, stage_at, has_ended, is_done, with_stage}
 use Rattle.async_work.specs.Picking.{unspent_spec}

@@ -1,6 +1,6 @@
 use Rattle.std.proofs.Common.{◌∙◌, ◌<◌, ap, arith}
 use Rattle.std.proofs.lemmas.List.Elements.{All-same}
-use Rattle.napi_types.specs.Hooks.{Hook, hook_ticket}
+use Rattle.napi_types.specs.parts.Hooks.{Hook, hook_ticket}
 use Rattle.cleanup_hooks.specs.declared.key.HookKey.{HookKey}
 use Rattle.cleanup_hooks.proofs.Found.{found}
 use Rattle.cleanup_hooks.proofs.Kept.{kept-added, kept-restored}

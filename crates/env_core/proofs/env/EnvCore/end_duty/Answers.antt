@@ -1,6 +1,6 @@
 use Rattle.std.proofs.Common.{◌∙◌, sym, ap, None}
-use Rattle.napi_types.specs.Changes.{Change}
-use Rattle.napi_types.specs.Frames.{cause_of, is_hub_duty}
+use Rattle.napi_types.specs.parts.Frames.{cause_of, is_hub_duty}
+use Rattle.napi_types.specs.environment.Changes.{Change}
 use Rattle.env_core.proofs.Beginning.{duty-stands}
 use Rattle.env_core.proofs.Cores.{core-ended, end-outermost}
 use Rattle.env_core.proofs.env.EnvCore.end_duty.Goals as goal

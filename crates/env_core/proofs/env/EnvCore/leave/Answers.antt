@@ -1,5 +1,5 @@
 use Rattle.std.proofs.Common.{ap}
-use Rattle.napi_types.specs.Frames.{is_hub_duty}
+use Rattle.napi_types.specs.parts.Frames.{is_hub_duty}
 use Rattle.env_core.proofs.Cores.{core-ended}
 use Rattle.env_core.proofs.env.EnvCore.leave.Goals as goal
 

@@ -1,7 +1,7 @@
 use Rattle.std.proofs.Common.{◌∙◌, ◌∷◌, ◌++◌, [], length, ap, arith, length-append}
-use Rattle.napi_types.specs.Book.{Book}
-use Rattle.napi_types.specs.HookCalls.{hook_registration}
-use Rattle.napi_types.proofs.HookedSteps.{hooks-within}
+use Rattle.napi_types.specs.parts.Book.{Book}
+use Rattle.napi_types.specs.environment.HookCalls.{hook_registration}
+use Rattle.napi_types.proofs.environment.HookedSteps.{hooks-within}
 use Rattle.env_core.specs.contracts.state.State.{the_view}
 use Rattle.env_core.proofs.Beginning.{book-registered}
 use Rattle.env_core.proofs.Registered.{attached-longer}

@@ -1,6 +1,6 @@
 use Rattle.std.proofs.Common.{◌∙◌, Some, option_map, ap}
-use Rattle.napi_types.specs.Book.{Book}
-use Rattle.napi_types.specs.ExternalCalls.{attached_if}
+use Rattle.napi_types.specs.parts.Book.{Book}
+use Rattle.napi_types.specs.environment.ExternalCalls.{attached_if}
 use Rattle.finalizer_queue.specs.Rows.{registration_of}
 use Rattle.napi_reference.specs.Places.{map_of}
 use Rattle.env_core.specs.Registering.{ticket_for, with_registration_if, duty_if}

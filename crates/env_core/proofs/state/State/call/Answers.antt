@@ -1,7 +1,7 @@
 use Rattle.std.proofs.Common.{◌∙◌, sym, ap}
-use Rattle.napi_types.specs.Changes.{number_of}
-use Rattle.napi_types.specs.Frames.{asks_made}
-use Rattle.napi_types.proofs.Answers.{answer-keeps}
+use Rattle.napi_types.specs.parts.Frames.{asks_made}
+use Rattle.napi_types.specs.environment.Changes.{number_of}
+use Rattle.napi_types.proofs.environment.Answers.{answer-keeps}
 use Rattle.env_core.proofs.Called.{calls-told}
 use Rattle.env_core.proofs.state.State.call.Goals as goal
 

@@ -1,6 +1,6 @@
 use Rattle.std.proofs.Common.{true, ap, ◌∙◌, length}
-use Rattle.napi_types.specs.Book.{made_due}
-use Rattle.napi_types.proofs.Books.{length-moved}
+use Rattle.napi_types.specs.parts.Book.{made_due}
+use Rattle.napi_types.proofs.parts.Books.{length-moved}
 use Rattle.env_core.proofs.Beginning.{attached-moved, book-due}
 use Rattle.env_core.proofs.state.State.enter.Goals as goal
 

@@ -1,7 +1,7 @@
 use Rattle.std.proofs.Common.{option_map, refl, ap, sym, ◌∙◌}
 use Rattle.napi_types.specs.declared.call.Call.TheVariants as call
 use Rattle.napi_types.specs.declared.ids.ValueId.{ValueId}
-use Rattle.napi_types.specs.Graph.{number_in}
+use Rattle.napi_types.specs.parts.Graph.{number_in}
 use Rattle.napi_reference.specs.Places.{map_of}
 use Rattle.env_core.specs.contracts.state.State.{the_view}
 use Rattle.env_values.proofs.Giving.{given-heap}

@@ -1,7 +1,7 @@
 use Rattle.std.proofs.Common.{◌∙◌, ◌≡◌, ℕ, Bool, ap, take, is_some}
 use Rattle.std.specs.List.{list_all}
 use Rattle.napi_types.specs.declared.ids.HandleId.{HandleId}
-use Rattle.napi_types.specs.Scopes.{gives}
+use Rattle.napi_types.specs.parts.Scopes.{gives}
 use Rattle.env_core.proofs.Knowing.{known-call, all-told}
 use Rattle.env_core.proofs.state.State.knows_all.Goals as goal
 

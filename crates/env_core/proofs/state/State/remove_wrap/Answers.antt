@@ -3,9 +3,9 @@ use Rattle.napi_types.specs.declared.call.Call.TheVariants as call
 use Rattle.napi_types.specs.declared.entry.Out.TheVariants as out
 use Rattle.napi_types.specs.declared.status.Status.TheVariants as status
 use Rattle.napi_types.specs.declared.ids.Ticket.{Ticket}
-use Rattle.napi_types.specs.Attachments.{Attachments, without_wrap}
-use Rattle.napi_types.specs.Registering.{registered_only}
-use Rattle.napi_types.specs.Replies.{plain}
+use Rattle.napi_types.specs.plain.Replies.{plain}
+use Rattle.napi_types.specs.parts.Attachments.{Attachments, without_wrap}
+use Rattle.napi_types.specs.environment.Registering.{registered_only}
 use Rattle.napi_reference.specs.Places.{map_of}
 use Rattle.wrap_tag.specs.Wraps.{WrapState}
 use Rattle.env_core.specs.Registering.{withdrawn_if}

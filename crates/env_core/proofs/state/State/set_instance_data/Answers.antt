@@ -1,8 +1,8 @@
 use Rattle.std.proofs.Common.{◌≡◌, ℕ, ◌∙◌, length, option_map, Option, ap, arith}
-use Rattle.napi_types.specs.Book.{Book}
 use Rattle.napi_types.specs.declared.ids.Ticket.{Ticket}
-use Rattle.napi_types.specs.Environment.{Environment}
-use Rattle.napi_types.specs.Registering.{registered_only}
+use Rattle.napi_types.specs.parts.Book.{Book}
+use Rattle.napi_types.specs.environment.Environment.{Environment}
+use Rattle.napi_types.specs.environment.Registering.{registered_only}
 use Rattle.finalizer_queue.specs.Rows.{registration_of}
 use Rattle.env_core.specs.Registering.{withdrawn_if}
 use Rattle.env_core.proofs.Registered.{book-asked, book-dropped, longer, length-withdrawn, attached-longer}

@@ -1,7 +1,7 @@
 use Rattle.std.proofs.Common.{◌≡◌, true, subst, sym}
 use Rattle.napi_types.specs.declared.call.Call.TheVariants as call_of
-use Rattle.napi_types.specs.Environment.{Environment}
-use Rattle.napi_types.specs.NamedNumbers.{is_known}
+use Rattle.napi_types.specs.parts.NamedNumbers.{is_known}
+use Rattle.napi_types.specs.environment.Environment.{Environment}
 use Rattle.napi_reference.specs.Places.{map_of}
 use Rattle.env_core.specs.contracts.state.State.{the_view}
 use Rattle.env_values.specs.Seen.{heap_of}

@@ -1,5 +1,5 @@
 use Rattle.std.proofs.Common.{◌∙◌, sym, ap, subst}
-use Rattle.napi_types.specs.Attachments.{Attachments, with_tag}
+use Rattle.napi_types.specs.parts.Attachments.{Attachments, with_tag}
 use Rattle.env_core.specs.Attaching.{IsAttached}
 use Rattle.env_core.specs.contracts.state.State.{the_view}
 use Rattle.env_core.proofs.Attaching.{tag-refused, tag-unrefused, tag-answers, untold, attached-with_tag}

@@ -1,6 +1,6 @@
 use Rattle.std.proofs.Common.{◌≡◌, ◌∙◌, ◌+◌, length, sym, ap, arith}
 use Rattle.std.proofs.lemmas.List.{length-map}
-use Rattle.napi_types.specs.Book.{made_due, moved_at}
+use Rattle.napi_types.specs.parts.Book.{made_due, moved_at}
 use Rattle.finalizer_queue.specs.Rows.{row_registration}
 use Rattle.finalizer_queue.proofs.Moves.{due_where-none, due_where-more, due_where-all, length-due_where}
 use Rattle.finalizer_queue.proofs.book.Book.all_due.Goals as goal

@@ -1,5 +1,5 @@
 use Rattle.std.proofs.Common.{◌≡◌, ◌+◌, ◌≤◌, nat_lt}
-use Rattle.napi_types.specs.Book.{due_where}
+use Rattle.napi_types.specs.parts.Book.{due_where}
 use Rattle.finalizer_queue.proofs.book.Book.all_due.Given as goal
 
 abbrev pub invariant-loop-place : goal.invariant-loop-place

@@ -1,6 +1,6 @@
 use Rattle.std.proofs.Common.{◌≡◌, ◌∙◌, true, sym, ap}
-use Rattle.napi_types.specs.Book.{is_begun, is_at, made_ended, moved_at}
 use Rattle.napi_types.specs.declared.duties.DueInfo.{DueInfo}
+use Rattle.napi_types.specs.parts.Book.{is_begun, is_at, made_ended, moved_at}
 use Rattle.finalizer_queue.specs.Kept.{ticket_number}
 use Rattle.finalizer_queue.specs.Rows.{state_of}
 use Rattle.finalizer_queue.proofs.Kept.{kept-ended, begun-unregistered}

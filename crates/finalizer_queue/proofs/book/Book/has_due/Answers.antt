@@ -1,6 +1,6 @@
 use Rattle.std.proofs.Common.{◌∙◌, sym, ap, not}
 use Rattle.std.specs.Option.{is_some}
-use Rattle.napi_types.specs.Book.{lowest_due}
+use Rattle.napi_types.specs.parts.Book.{lowest_due}
 use Rattle.finalizer_queue.proofs.Kept.{filled-lowest}
 use Rattle.finalizer_queue.proofs.book.Book.has_due.Goals as goal
 

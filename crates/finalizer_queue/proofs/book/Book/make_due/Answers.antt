@@ -1,6 +1,6 @@
 use Rattle.std.proofs.Common.{◌≡◌, ◌∙◌, length, sym, ap, refl, arith}
 use Rattle.std.proofs.lemmas.List.{length-map}
-use Rattle.napi_types.specs.Book.{made_due, moved_at}
+use Rattle.napi_types.specs.parts.Book.{made_due, moved_at}
 use Rattle.finalizer_queue.specs.Rows.{row_registration}
 use Rattle.finalizer_queue.proofs.Kept.{kept-due, kept-stays, room-free, never_refused}
 use Rattle.finalizer_queue.proofs.Moves.{IsRow, book_of-moved}

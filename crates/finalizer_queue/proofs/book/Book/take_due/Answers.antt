@@ -1,5 +1,5 @@
 use Rattle.std.proofs.Common.{◌≡◌, ◌∙◌, true, Some, refl, sym, ap, arith, heap_items}
-use Rattle.napi_types.specs.Book.{is_due, is_at, made_begun, moved_at, registration_at, lowest_due}
+use Rattle.napi_types.specs.parts.Book.{is_due, is_at, made_begun, moved_at, registration_at, lowest_due}
 use Rattle.finalizer_queue.specs.Rows.{state_of, row_registration, book_of}
 use Rattle.finalizer_queue.proofs.Kept.{kept-taken, popped-due, popped-lowest, empty-lowest, due-waits, moved-begun, nil-length}
 use Rattle.finalizer_queue.proofs.Moves.{IsRow, book_of-moved, registration_at-row, is_at-within, row-passes}

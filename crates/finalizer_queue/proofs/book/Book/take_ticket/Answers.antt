@@ -1,5 +1,5 @@
 use Rattle.std.proofs.Common.{◌≡◌, ◌∙◌, true, Some, sym, ap}
-use Rattle.napi_types.specs.Book.{is_registered, registration_at, made_due_and_begun, moved_at}
+use Rattle.napi_types.specs.parts.Book.{is_registered, registration_at, made_due_and_begun, moved_at}
 use Rattle.finalizer_queue.specs.Rows.{state_of, row_registration}
 use Rattle.finalizer_queue.proofs.Kept.{kept-begun, registered-waits}
 use Rattle.finalizer_queue.proofs.Moves.{IsRow, book_of-moved, registration_at-row, row-passes}

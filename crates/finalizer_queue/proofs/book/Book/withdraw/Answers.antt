@@ -1,5 +1,5 @@
 use Rattle.std.proofs.Common.{◌∙◌, ap}
-use Rattle.napi_types.specs.Book.{is_registered, made_withdrawn, moved_at}
+use Rattle.napi_types.specs.parts.Book.{is_registered, made_withdrawn, moved_at}
 use Rattle.finalizer_queue.proofs.Kept.{kept-withdrawn}
 use Rattle.finalizer_queue.proofs.Moves.{book_of-moved, row-passes}
 use Rattle.finalizer_queue.proofs.book.Book.withdraw.Goals as goal

@@ -1,7 +1,7 @@
 use Rattle.std.proofs.Common.{◌≡◌, ◌≢◌, ◌≤◌, ◌+◌, ◌*◌, arith, length, subst, sym, refl, List, []}
 use Rattle.std.specs.Prelude.{vec_capacity}
 use Rattle.std.proofs.lemmas.List.{nil_from_length}
-use Rattle.napi_types.specs.Scopes.{opened_scopes}
+use Rattle.napi_types.specs.parts.Scopes.{opened_scopes}
 use Rattle.handle_scope.specs.declared.scopes.ScopeMark.{ScopeMark}
 use Rattle.handle_scope.specs.declared.scopes.Escape.{Escape}
 use Rattle.handle_scope.specs.HandleScopes.{HandleScopes}

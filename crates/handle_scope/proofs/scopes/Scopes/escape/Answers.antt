@@ -1,10 +1,10 @@
 use Rattle.std.proofs.Common.{◌≡◌, ◌∙◌, ◌+◌, ◌++◌, ◌∷◌, [], sym, ap, subst, refl, reverse, drop, arith, List, Some}
 use Rattle.std.proofs.Math.ListN.{set}
 use Rattle.std.specs.Prelude.{vec_capacity}
-use Rattle.napi_types.specs.Lists.{head, first_changed}
-use Rattle.napi_types.specs.ScopeRefusals.{escaping}
-use Rattle.napi_types.specs.ScopeChanges.{escape_in}
-use Rattle.napi_types.specs.Scopes.{opened_scopes}
+use Rattle.napi_types.specs.plain.Lists.{head, first_changed}
+use Rattle.napi_types.specs.parts.ScopeChanges.{escape_in}
+use Rattle.napi_types.specs.parts.ScopeRefusals.{escaping}
+use Rattle.napi_types.specs.parts.Scopes.{opened_scopes}
 use Rattle.handle_scope.specs.HandleScopes.{HandleScopes}
 use Rattle.handle_scope.specs.declared.scopes.HeldHandle.{HeldHandle}
 use Rattle.handle_scope.specs.declared.scopes.ScopeMark.{ScopeMark}

@@ -1,6 +1,6 @@
 use Rattle.std.proofs.Common.{◌≡◌, ◌∙◌, sym, ap, map, reverse, List, Some, None}
 use Rattle.std.specs.Option.{option_or}
-use Rattle.napi_types.specs.Scopes.{gives, value_in}
+use Rattle.napi_types.specs.parts.Scopes.{gives, value_in}
 use Rattle.handle_scope.specs.HandleScopes.{HandleScopes}
 use Rattle.handle_scope.specs.declared.scopes.ScopeMark.{ScopeMark}
 use Rattle.handle_scope.specs.Marks.{held_of, all_waiting}

@@ -1,6 +1,6 @@
 use Rattle.std.proofs.Common.{◌≡◌, ◌≢◌, ◌+◌, length, subst, sym, ap, refl, [], arith}
 use Rattle.handle_scope.specs.HandleScopes.{HandleScopes}
-use Rattle.napi_types.proofs.Issued.{length-up_to, fresh_number, up_to-more}
+use Rattle.napi_types.proofs.plain.Issued.{length-up_to, fresh_number, up_to-more}
 use Rattle.handle_scope.proofs.Stacks.{frames-opened, kept-opened}
 use Rattle.handle_scope.proofs.scopes.Scopes.open_scope.Goals as goal
 

@@ -1,7 +1,7 @@
 use Rattle.std.proofs.Common.{◌≡◌, ◌∙◌, sym, ap, reverse, drop, [], Some}
-use Rattle.napi_types.specs.Lists.{head}
-use Rattle.napi_types.specs.ScopeRefusals.{closing}
-use Rattle.napi_types.specs.Scopes.{opened_scopes}
+use Rattle.napi_types.specs.plain.Lists.{head}
+use Rattle.napi_types.specs.parts.ScopeRefusals.{closing}
+use Rattle.napi_types.specs.parts.Scopes.{opened_scopes}
 use Rattle.handle_scope.specs.HandleScopes.{HandleScopes}
 use Rattle.handle_scope.specs.Marks.{scopes_above}
 use Rattle.handle_scope.proofs.Stacks.{closing-frames, rest-slice}

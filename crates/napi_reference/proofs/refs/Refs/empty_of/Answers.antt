@@ -1,5 +1,5 @@
 use Rattle.std.proofs.Common.{map}
-use Rattle.napi_types.specs.Lists.{has_number}
+use Rattle.napi_types.specs.plain.Lists.{has_number}
 use Rattle.napi_reference.proofs.Emptying.{rows-emptied}
 use Rattle.napi_reference.proofs.refs.Refs.empty_of.Goals as goal
 

@@ -1,5 +1,5 @@
 use Rattle.std.proofs.Common.{◌+◌, ◌∙◌, Some, option_map, ap}
-use Rattle.napi_types.specs.Values.{with_element}
+use Rattle.napi_types.specs.parts.Values.{with_element}
 use Rattle.value_store.proofs.ElementMaps.{array-next}
 use Rattle.value_store.proofs.place.Place.array.Goals as goal
 

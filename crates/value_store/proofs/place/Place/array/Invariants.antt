@@ -1,5 +1,5 @@
 use Rattle.std.specs.List.{range_with_len}
-use Rattle.napi_types.specs.NewValues.{array_of}
+use Rattle.napi_types.specs.parts.NewValues.{array_of}
 use Rattle.value_store.specs.Places.{HasValue}
 use Rattle.value_store.proofs.place.Place.array.Given as goal
 

@@ -1,5 +1,5 @@
 use Rattle.std.proofs.Common.{◌∙◌, sym, ap, length}
-use Rattle.napi_types.specs.Lists.{has_number}
+use Rattle.napi_types.specs.plain.Lists.{has_number}
 use Rattle.value_store.specs.Places.{values_of}
 use Rattle.value_store.proofs.Reading.{children_in-view, children-live}
 use Rattle.value_store.proofs.store.Store.children.Goals as goal

@@ -1,5 +1,5 @@
 use Rattle.std.proofs.Common.{sym, subst}
-use Rattle.napi_types.specs.Graph.{StoreState}
+use Rattle.napi_types.specs.parts.Graph.{StoreState}
 use Rattle.value_store.specs.Changes.{CanFree, Frees, numbers_of}
 use Rattle.value_store.specs.Places.{values_of, state_of}
 use Rattle.value_store.proofs.Reading.{live-there}

@@ -1,5 +1,5 @@
 use Rattle.std.proofs.Common.{◌∙◌, sym, ap}
-use Rattle.napi_types.specs.Properties.{element_at}
+use Rattle.napi_types.specs.parts.Properties.{element_at}
 use Rattle.value_store.specs.Places.{values_of}
 use Rattle.value_store.proofs.Reading.{elements_in-view, element-live}
 use Rattle.value_store.proofs.store.Store.get_element.Goals as goal

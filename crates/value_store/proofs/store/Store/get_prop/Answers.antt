@@ -1,5 +1,5 @@
 use Rattle.std.proofs.Common.{◌∙◌, sym, ap}
-use Rattle.napi_types.specs.Properties.{property_at}
+use Rattle.napi_types.specs.parts.Properties.{property_at}
 use Rattle.value_store.specs.Places.{values_of}
 use Rattle.value_store.proofs.Reading.{properties_in-view, property-live}
 use Rattle.value_store.proofs.store.Store.get_prop.Goals as goal

@@ -1,5 +1,5 @@
 use Rattle.std.proofs.Common.{◌∙◌, sym, ap, is_some}
-use Rattle.napi_types.specs.Properties.{property_at}
+use Rattle.napi_types.specs.parts.Properties.{property_at}
 use Rattle.value_store.specs.Places.{values_of}
 use Rattle.value_store.proofs.Calls.{removed-numbered, removed-only}
 use Rattle.value_store.proofs.Reading.{properties_in-view}

@@ -1,5 +1,5 @@
 use Rattle.std.proofs.Common.{IsSome, ap}
-use Rattle.napi_types.specs.Values.{with_element}
+use Rattle.napi_types.specs.parts.Values.{with_element}
 use Rattle.value_store.specs.Places.{values_of, at_number}
 use Rattle.value_store.proofs.Calls.{ok-then, err-then, changed-or-not, change-only, good-element}
 use Rattle.value_store.proofs.Reading.{live-there}

@@ -1,4 +1,4 @@
-use Rattle.napi_types.proofs.Maps.{length-with_record}
+use Rattle.napi_types.proofs.plain.Maps.{length-with_record}
 use Rattle.values_suite.proofs.tests.works.create.Goals as goal
 
 pub returns-clause-few : goal.returns-clause-few

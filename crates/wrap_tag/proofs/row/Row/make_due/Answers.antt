@@ -1,8 +1,8 @@
 use Rattle.std.proofs.Common.{◌≡◌, ◌∙◌, ◌++◌, option_map, sym, ap, subst, Option}
 use Rattle.std.specs.Option.{option_to_list}
-use Rattle.napi_types.specs.Lists.{has_number}
-use Rattle.napi_types.specs.Book.{due_where}
 use Rattle.napi_types.specs.declared.ids.Ticket.{Ticket}
+use Rattle.napi_types.specs.plain.Lists.{has_number}
+use Rattle.napi_types.specs.parts.Book.{due_where}
 use Rattle.wrap_tag.specs.Rows.{tickets_of_chain}
 use Rattle.wrap_tag.specs.Wraps.{AreGiven}
 use Rattle.wrap_tag.proofs.Dues.{due_where-none, due_where-one, due_where-row, given-row}

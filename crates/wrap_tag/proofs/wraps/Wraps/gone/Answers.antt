@@ -1,6 +1,6 @@
 use Rattle.std.proofs.Common.{◌≡◌, ◌∙◌, ℕ, ◌==◌, sym, ap, refl}
-use Rattle.napi_types.specs.Lists.{has_number}
-use Rattle.napi_types.specs.Attachments.{tickets_of, left_on}
+use Rattle.napi_types.specs.plain.Lists.{has_number}
+use Rattle.napi_types.specs.parts.Attachments.{tickets_of, left_on}
 use Rattle.wrap_tag.specs.Rows.{tickets_of_row}
 use Rattle.wrap_tag.proofs.Attaching.{maps-left}
 use Rattle.wrap_tag.proofs.Freeing.{has-tickets_of}

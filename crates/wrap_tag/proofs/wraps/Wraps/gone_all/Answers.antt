@@ -1,7 +1,7 @@
 use Rattle.std.proofs.Common.{◌≡◌, ◌∙◌, ◌+◌, take, get_or, sym, ap, arith}
 use Rattle.std.proofs.lemmas.List.{take_all}
-use Rattle.napi_types.specs.Attachments.{left_on, hangs_on}
-use Rattle.napi_types.specs.Book.{due_where}
+use Rattle.napi_types.specs.parts.Attachments.{left_on, hangs_on}
+use Rattle.napi_types.specs.parts.Book.{due_where}
 use Rattle.wrap_tag.specs.Wraps.{among}
 use Rattle.wrap_tag.proofs.Freeing.{left_on-none, due-none, take-next, given-value, left-more, due-more}
 use Rattle.wrap_tag.proofs.wraps.Wraps.gone_all.Goals as goal

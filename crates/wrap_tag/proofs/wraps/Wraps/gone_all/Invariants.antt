@@ -1,6 +1,6 @@
 use Rattle.std.proofs.Common.{◌≡◌, ◌≤◌, take}
-use Rattle.napi_types.specs.Attachments.{hangs_on, left_on}
-use Rattle.napi_types.specs.Book.{due_where}
+use Rattle.napi_types.specs.parts.Attachments.{hangs_on, left_on}
+use Rattle.napi_types.specs.parts.Book.{due_where}
 use Rattle.wrap_tag.specs.Wraps.{among}
 use Rattle.wrap_tag.proofs.wraps.Wraps.gone_all.Given as goal
 

@@ -1,5 +1,5 @@
 use Rattle.std.proofs.Common.{◌∙◌, ap}
-use Rattle.napi_types.specs.Attachments.{with_tag}
+use Rattle.napi_types.specs.parts.Attachments.{with_tag}
 use Rattle.wrap_tag.proofs.Attaching.{tagged-rows}
 use Rattle.wrap_tag.proofs.wraps.Wraps.tag.Goals as goal
 

@@ -1,6 +1,6 @@
 use Rattle.std.proofs.Common.{◌∙◌, None, Some, option_map, min, sym, ap}
 use Rattle.std.specs.Option.{option_and_then, option_len}
-use Rattle.napi_types.specs.Attachments.{without_wrap}
+use Rattle.napi_types.specs.parts.Attachments.{without_wrap}
 use Rattle.wrap_tag.proofs.Attaching.{wrap_of-part, unwrapped-are, unwrapped-maps, unwrapped-none, same-state}
 use Rattle.wrap_tag.proofs.wraps.Wraps.unwrap_out.Goals as goal
 

@@ -1,5 +1,5 @@
 use Rattle.std.proofs.Common.{◌∙◌, option_map, ap}
-use Rattle.napi_types.specs.Attachments.{with_wrap}
+use Rattle.napi_types.specs.parts.Attachments.{with_wrap}
 use Rattle.wrap_tag.proofs.Attaching.{wrapped-rows}
 use Rattle.wrap_tag.proofs.wraps.Wraps.wrap.Goals as goal
 

@@ -1,0 +1,143 @@
+-- Where a journal and a front of the history are a run, and others went on from there, the journal and the whole history are a run.
+use Rattle.std.proofs.Common.{◌≡◌, ◌∙◌, Bool, false, List, [], ◌∷◌, ◌++◌, length, length-append, IsTrue, refl, ap, sym, subst, None, arith, append_assoc}
+use Rattle.std.proofs.lemmas.List.{append-nil}
+use Rattle.std.proofs.lemmas.List.Elements.{All-head, All-tail}
+use Rattle.napi_types.specs.declared.call.Ask.{Ask}
+use Rattle.napi_types.specs.declared.call.Ask.TheVariants as ask
+use Rattle.napi_types.specs.declared.call.Call.{Call}
+use Rattle.napi_types.specs.declared.entry.Actor.{Actor}
+use Rattle.napi_types.specs.declared.entry.Actor.TheVariants as actor
+use Rattle.napi_types.specs.declared.entry.Entry.{Entry}
+use Rattle.napi_types.specs.declared.entry.Local.{Local}
+use Rattle.napi_types.specs.plain.Room.{history_room, fits_in}
+use Rattle.napi_types.specs.plain.Weave.{History, weave, sides, RisesBetween}
+use Rattle.napi_types.specs.parts.Functions.{is_environment}
+use Rattle.napi_types.specs.hub.HubSteps.{IsHubNext, hub_step, hub_along}
+use Rattle.napi_types.specs.runs.Machine.{Machine}
+use Rattle.napi_types.specs.runs.Parting.{IsParted, sides_along}
+use Rattle.napi_types.specs.runs.Plan.{Plan, Registers, after_entry, asked, registers_after, loaded_registers}
+use Rattle.napi_types.specs.runs.Run.{IsNext, IsRunBy, after}
+use Rattle.napi_types.specs.runs.Setting.{Setting, RunsBy, opening_of, final_of, final_registers, planned_asks}
+use Rattle.napi_types.specs.runs.Step.{Step, has_room, other_step, step_of, step}
+use Rattle.napi_types.specs.all_runs.HubLaws.{OthersJoin}
+use Rattle.napi_types.specs.all_runs.Joined.{OthersGoOn, AreJoined, with_others, GoesOnJoined}
+use Rattle.napi_types.proofs.plain.Weaves.{rises-more, weave-shared, sides-shared}
+use Rattle.napi_types.proofs.runs.Runs.{and-both, run-more, final-more, asked-more, registers-more, sides-more}
+
+-- WHAT OTHERS COME TO
+-- the step of another actor is the hub's
+pub others-step : (m : Machine) (a : Ask) (x : Entry) (who : Actor) → is_environment who ≡ false → step_of m a x who ≡ other_step m x
+others-step m a x actor.Env other = cc
+others-step m a x (actor.Thread t) other = refl
+others-step m a x (actor.Worker w) other = refl
+
+-- it asks nothing of an addon, and keeps no register
+others-ask : (built : Call → Bool) (ps : List Plan) (rss : Registers) (m : Machine) (a : Ask) (who : Actor) → is_environment who ≡ false → asked built ps rss m a who ≡ ask.Leave None
+others-ask built ps rss m a actor.Env other = cc
+others-ask built ps rss m a (actor.Thread t) other = refl
+others-ask built ps rss m a (actor.Worker w) other = refl
+
+others-keep : (ps : List Plan) (rss : Registers) (m : Machine) (a : Ask) (x : Entry) → is_environment x.actor ≡ false → registers_after ps rss m a x ≡ rss
+others-keep ps rss m a x other = by x.actor other
+  where
+    by : (who : Actor) → is_environment who ≡ false → after_entry ps rss m a x who ≡ rss
+    by actor.Env other = cc
+    by (actor.Thread t) other = refl
+    by (actor.Worker w) other = refl
+
+-- its entry may come next
+others-next : (m : Machine) (x : Entry) → is_environment x.actor ≡ false → IsHubNext m.hub x → IsTrue (fits_in (history_room m.hub m.history_length m.limits.history) x.what)
+    → IsNext m (ask.Leave None) x
+others-next m x other next fits =
+    let same : step m (ask.Leave None) x ≡ other_step m x = others-step m (ask.Leave None) x x.actor other in
+    subst (λ (s : Step). (x ≡ s.entry) × IsTrue s.may) (sym same) (next.entry, and-both (has_room m x.what) (hub_step m.hub x).may fits next.may)
+
+-- ONE ENTRY OF ANOTHER
+abbrev Others : Entry → Type 0
+Others x = is_environment x.actor ≡ false
+
+-- the side of its entry is the history
+other-side : (m : Machine) (a : Ask) (x : Entry) → is_environment x.actor ≡ false → (step m a x).side ≡ History
+other-side m a x other = ap (λ (s : Step). s.side) (others-step m a x x.actor other)
+
+module _ (s : Setting) (asks : List Ask) (journal : List Local) (front : List Entry) (x : Entry) (rest : List Entry) where
+  -- the run, with the entry at its end
+  joined-more : AreJoined s asks journal front (x ∷ rest) → AreJoined s (asks ++ ask.Leave None ∷ []) journal (front ++ x ∷ []) rest
+  joined-more j =
+      let m : Machine = final_of s asks (weave journal front) in
+      let other : is_environment x.actor ≡ false = All-head Others x rest j.others.others in
+      let next : IsNext m (ask.Leave None) x = others-next m x other j.others.replays.0 j.others.replays.1 in
+      let longer : weave journal (front ++ x ∷ []) ≡ weave journal front ++ x ∷ [] = weave-shared journal front x j.rises in
+      let steps : IsRunBy (opening_of s) (asks ++ ask.Leave None ∷ []) (weave journal front ++ x ∷ []) = run-more (opening_of s) asks (weave journal front) (ask.Leave None) x j.run.steps next in
+      let now : final_of s (asks ++ ask.Leave None ∷ []) (weave journal front ++ x ∷ []) ≡ after m (ask.Leave None) x =
+      final-more (opening_of s) asks (weave journal front) (ask.Leave None) x j.run.steps in
+      let moved : after m (ask.Leave None) x ≡ (other_step m x).after = ap (λ (t : Step). t.after) (others-step m (ask.Leave None) x x.actor other) in
+      let planned : asks ++ ask.Leave None ∷ [] ≡ planned_asks s (asks ++ ask.Leave None ∷ []) (weave journal front ++ x ∷ []) =
+      sym (asked-more s.built s.plans (loaded_registers s.plans) (opening_of s) asks (weave journal front) (ask.Leave None) x j.run.steps
+      ∙ ap (λ l. planned_asks s asks (weave journal front) ++ l ∷ []) (others-ask s.built s.plans (final_registers s asks (weave journal front)) m (ask.Leave None) x.actor other)
+      ∙ ap (λ l. l ++ ask.Leave None ∷ []) (sym j.run.asked)) in
+      let sided : sides_along (opening_of s) (asks ++ ask.Leave None ∷ []) (weave journal front ++ x ∷ []) ≡ sides journal (front ++ x ∷ []) =
+      sides-more (opening_of s) asks (weave journal front) (ask.Leave None) x j.run.steps
+      ∙ ap (λ t. sides_along (opening_of s) asks (weave journal front) ++ t ∷ []) (other-side m (ask.Leave None) x other)
+      ∙ ap (λ ts. ts ++ History ∷ []) j.parted ∙ sym (sides-shared journal front x j.rises) in
+      record {
+        run = subst (λ ys. RunsBy s (asks ++ ask.Leave None ∷ []) ys) (sym longer) (record { steps = steps; asked = planned });
+        rises = rises-more 0 (length front) (length (front ++ x ∷ [])) journal (omega (arith, length-append front (x ∷ []))) j.rises;
+        parted = subst (λ ys. sides_along (opening_of s) (asks ++ ask.Leave None ∷ []) ys ≡ sides journal (front ++ x ∷ [])) (sym longer) sided;
+        others = subst (λ ys. OthersGoOn (final_of s (asks ++ ask.Leave None ∷ []) ys) rest) (sym longer)
+            (subst (λ (n : Machine). OthersGoOn n rest) (sym (now ∙ moved)) (record { others = All-tail Others x rest j.others.others; replays = j.others.replays.2 }));
+      }
+
+-- THE LAW
+registers-same : (s : Setting) (asks : List Ask) (ys : List Entry) (x : Entry) → IsRunBy (opening_of s) asks ys → is_environment x.actor ≡ false
+    → final_registers s (asks ++ ask.Leave None ∷ []) (ys ++ x ∷ []) ≡ final_registers s asks ys
+registers-same s asks ys x run other =
+    registers-more s.plans (loaded_registers s.plans) (opening_of s) asks ys (ask.Leave None) x run
+    ∙ others-keep s.plans (final_registers s asks ys) (final_of s asks ys) (ask.Leave None) x other
+
+env-same : (s : Setting) (asks : List Ask) (ys : List Entry) (x : Entry) → IsRunBy (opening_of s) asks ys → is_environment x.actor ≡ false
+    → (final_of s (asks ++ ask.Leave None ∷ []) (ys ++ x ∷ [])).env ≡ (final_of s asks ys).env
+env-same s asks ys x run other =
+    ap (λ (n : Machine). n.env) (final-more (opening_of s) asks ys (ask.Leave None) x run)
+    ∙ ap (λ (t : Step). t.after.env) (others-step (final_of s asks ys) (ask.Leave None) x x.actor other)
+
+hub-same : (s : Setting) (asks : List Ask) (ys : List Entry) (x : Entry) → IsRunBy (opening_of s) asks ys → is_environment x.actor ≡ false
+    → (final_of s (asks ++ ask.Leave None ∷ []) (ys ++ x ∷ [])).hub ≡ (hub_step (final_of s asks ys).hub x).after
+hub-same s asks ys x run other =
+    ap (λ (n : Machine). n.hub) (final-more (opening_of s) asks ys (ask.Leave None) x run)
+    ∙ ap (λ (t : Step). t.after.hub) (others-step (final_of s asks ys) (ask.Leave None) x x.actor other)
+
+pub others-join : OthersJoin
+others-join s asks journal front [] j =
+    let same : front ++ [] ≡ front = append-nil front in
+    let none : asks ++ [] ≡ asks = append-nil asks in
+    record {
+      run = subst (λ bs. RunsBy s bs (weave journal (front ++ []))) (sym none) (subst (λ ks. RunsBy s asks (weave journal ks)) (sym same) j.run);
+      rises = subst (λ ks. RisesBetween 0 (length ks) journal) (sym same) j.rises;
+      parted = subst (λ bs. IsParted (opening_of s) bs journal (front ++ [])) (sym none) (subst (λ ks. IsParted (opening_of s) asks journal ks) (sym same) j.parted);
+      hub = ap (λ bs. (final_of s bs (weave journal (front ++ []))).hub) none ∙ ap (λ ks. (final_of s asks (weave journal ks)).hub) same;
+      env = ap (λ bs. (final_of s bs (weave journal (front ++ []))).env) none ∙ ap (λ ks. (final_of s asks (weave journal ks)).env) same;
+      registers = ap (λ bs. final_registers s bs (weave journal (front ++ []))) none ∙ ap (λ ks. final_registers s asks (weave journal ks)) same;
+    }
+others-join s asks journal front (x ∷ rest) j =
+    let more : GoesOnJoined s (asks ++ ask.Leave None ∷ []) journal (front ++ x ∷ []) rest =
+    others-join s (asks ++ ask.Leave None ∷ []) journal (front ++ x ∷ []) rest (joined-more s asks journal front x rest j) in
+    let other : is_environment x.actor ≡ false = All-head Others x rest j.others.others in
+    let lists : (front ++ x ∷ []) ++ rest ≡ front ++ x ∷ rest = append_assoc front (x ∷ []) rest in
+    let asked : with_others (asks ++ ask.Leave None ∷ []) rest ≡ with_others asks (x ∷ rest) = append_assoc asks (ask.Leave None ∷ []) _ in
+    let longer : weave journal (front ++ x ∷ []) ≡ weave journal front ++ x ∷ [] = weave-shared journal front x j.rises in
+    record {
+      run = subst (λ bs. RunsBy s bs (weave journal (front ++ x ∷ rest))) asked (subst (λ ks. RunsBy s (with_others (asks ++ ask.Leave None ∷ []) rest) (weave journal ks)) lists more.run);
+      rises = subst (λ ks. RisesBetween 0 (length ks) journal) lists more.rises;
+      parted = subst (λ bs. IsParted (opening_of s) bs journal (front ++ x ∷ rest)) asked
+          (subst (λ ks. IsParted (opening_of s) (with_others (asks ++ ask.Leave None ∷ []) rest) journal ks) lists more.parted);
+      hub = ap (λ bs. (final_of s bs (weave journal (front ++ x ∷ rest))).hub) (sym asked)
+          ∙ ap (λ ks. (final_of s (with_others (asks ++ ask.Leave None ∷ []) rest) (weave journal ks)).hub) (sym lists)
+          ∙ more.hub ∙ ap (λ h. hub_along h rest) (ap (λ ys. (final_of s (asks ++ ask.Leave None ∷ []) ys).hub) longer ∙ hub-same s asks (weave journal front) x j.run.steps other);
+      env = ap (λ bs. (final_of s bs (weave journal (front ++ x ∷ rest))).env) (sym asked)
+          ∙ ap (λ ks. (final_of s (with_others (asks ++ ask.Leave None ∷ []) rest) (weave journal ks)).env) (sym lists)
+          ∙ more.env ∙ ap (λ ys. (final_of s (asks ++ ask.Leave None ∷ []) ys).env) longer ∙ env-same s asks (weave journal front) x j.run.steps other;
+      registers = ap (λ bs. final_registers s bs (weave journal (front ++ x ∷ rest))) (sym asked)
+          ∙ ap (λ ks. final_registers s (with_others (asks ++ ask.Leave None ∷ []) rest) (weave journal ks)) (sym lists)
+          ∙ more.registers ∙ ap (λ ys. final_registers s (asks ++ ask.Leave None ∷ []) ys) longer ∙ registers-same s asks (weave journal front) x j.run.steps other;
+    }

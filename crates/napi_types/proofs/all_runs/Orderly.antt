@@ -1,0 +1,204 @@
+-- What holds at every moment of a run of the tickets that are still to begin.
+use Rattle.std.proofs.Common.{◌≡◌, ◌≢◌, ◌∙◌, ℕ, suc, Bool, true, false, [], length, get_or, refl, ap, sym, Option, Some, None, is_some, subst, ◌⊎◌, inl, inr}
+use Rattle.std.specs.List.{All}
+use Rattle.std.proofs.lemmas.Option.{slice_get-get_or}
+use Rattle.napi_types.specs.declared.call.Call.{Call}
+use Rattle.napi_types.specs.declared.entry.Cause.TheVariants as cause
+use Rattle.napi_types.specs.declared.entry.Duty.{Duty}
+use Rattle.napi_types.specs.declared.entry.Entry.{Entry}
+use Rattle.napi_types.specs.declared.entry.Phase.{Phase}
+use Rattle.napi_types.specs.declared.entry.Phase.TheVariants as phase
+use Rattle.napi_types.specs.declared.entry.Why.{Why}
+use Rattle.napi_types.specs.declared.ids.HandleId.{HandleId}
+use Rattle.napi_types.specs.plain.Lists.{has}
+use Rattle.napi_types.specs.plain.Phases.{next_phase, stage_of}
+use Rattle.napi_types.specs.parts.Book.{Book, Registration, TicketState, Registered, Due, is_owed, made_withdrawn, made_begun, registration_at}
+use Rattle.napi_types.specs.parts.Hooks.{Hook}
+use Rattle.napi_types.specs.environment.Calls.{answer}
+use Rattle.napi_types.specs.environment.Changes.{book_in}
+use Rattle.napi_types.specs.environment.Ends.{end_change}
+use Rattle.napi_types.specs.environment.Entering.{asked_change}
+use Rattle.napi_types.specs.environment.Environment.{Environment}
+use Rattle.napi_types.specs.environment.Hooked.{is_late, IsHooked}
+use Rattle.napi_types.specs.environment.Moments.{is_tearing}
+use Rattle.napi_types.specs.runs.Machine.{Machine}
+use Rattle.napi_types.specs.runs.Setting.{Setting, opening_of}
+use Rattle.napi_types.specs.runs.Step.{Step}
+use Rattle.napi_types.proofs.parts.Books.{due-keeps, ended-keeps as ended-owed, NoneRegistered, all_due-none}
+use Rattle.napi_types.proofs.parts.Moved.{at-state, at-cause}
+use Rattle.napi_types.proofs.environment.Answers.{SameCourse, course-parts, torn-makes-none}
+use Rattle.napi_types.proofs.environment.FrameChanges.{SameHangings, hangings-parts, ended-keeps, asked_change-fits}
+use Rattle.napi_types.proofs.environment.FrameEnds.{ended-ends}
+use Rattle.napi_types.proofs.environment.HookedSteps.{unchanged, hooked-opening, hooked-opened, hooked-init, hooked-asked, hooked-ended, hooked-begun, hooked-phase, hooked-gone}
+use Rattle.napi_types.proofs.environment.Registrations.{KeptByMoves, asked-all, ended-all, begun-all, phase-all, none-asked, none-ended, none-begun}
+use Rattle.napi_types.proofs.runs.SharedSteps.{StandsStill, shares-still, moves-still, others-still, end-stage}
+use Rattle.napi_types.proofs.runs.StepCases.{StepCase, calls, ends, opens, inits, begins, vanishes, shares, leaves, passes, moves, others, InPhase}
+
+-- WHAT HOLDS
+-- the drain has come
+abbrev pub is_drained : Phase → Bool
+is_drained phase.Drain = true
+is_drained phase.Finals = true
+is_drained phase.Gone = true
+is_drained _ = false
+
+-- a hook that is neither registered nor due
+abbrev pub IsSpent : Registration → Type 0
+IsSpent r = r.cause ≡ cause.Hook → is_owed r.state ≡ false
+
+spent-kept : KeptByMoves IsSpent
+spent-kept = record {
+  due = λ r h why. due-keeps r.state ∙ h why;
+  withdrawn = λ r h why. withdrawn r.state (h why);
+  begun = λ r h why. begun r.state (h why);
+  ended = λ r h why. ended-owed r.state ∙ h why;
+}
+  where
+    withdrawn : (s : TicketState) → is_owed s ≡ false → is_owed (made_withdrawn s) ≡ false
+    withdrawn Registered h = refl
+    withdrawn _ h = h
+
+    begun : (s : TicketState) → is_owed s ≡ false → is_owed (made_begun s) ≡ false
+    begun Due h = refl
+    begun _ h = h
+
+-- the hub is as far as the phase says; from `finals` on none is registered, and once the drain has come no hook is registered or due
+pub record Orderly (m : Machine) : Type 0 where
+  pub stage : InPhase m
+  pub hooked : IsHooked m.env
+  pub settled : is_late m.env.phase ≡ true → NoneRegistered m.env.book
+  pub spent : is_drained m.env.phase ≡ true → All IsSpent m.env.book
+
+pub late-tears : (p : Phase) → is_late p ≡ true → is_tearing p ≡ true
+late-tears phase.Finals h = refl
+late-tears phase.Gone h = refl
+late-tears phase.Init h = cc
+late-tears phase.Live h = cc
+late-tears phase.Hooks h = cc
+late-tears phase.Drain h = cc
+
+drained-tears : (p : Phase) → is_drained p ≡ true → is_tearing p ≡ true
+drained-tears phase.Drain h = refl
+drained-tears phase.Finals h = refl
+drained-tears phase.Gone h = refl
+drained-tears phase.Init h = cc
+drained-tears phase.Live h = cc
+drained-tears phase.Hooks h = cc
+
+-- the drain comes from Hooks, or has come before
+drain-next : (q p : Phase) → next_phase q ≡ Some p → is_drained p ≡ true → (p ≡ phase.Drain) × (is_late q ≡ false) ⊎ is_drained q ≡ true
+drain-next phase.Init p next is = let same : phase.Live ≡ p = cc in let no : false ≡ true = ap is_drained same ∙ is in cc
+drain-next phase.Live p next is = let same : phase.Hooks ≡ p = cc in let no : false ≡ true = ap is_drained same ∙ is in cc
+drain-next phase.Hooks p next is = let same : phase.Drain ≡ p = cc in inl (sym same, refl)
+drain-next phase.Drain p next is = inr refl
+drain-next phase.Finals p next is = inr refl
+drain-next phase.Gone p next is = inr refl
+
+-- up to `finals`, where no hook is left in the list, none is registered or due
+all-spent : (e : Environment) → IsHooked e → is_late e.phase ≡ false → e.hooks ≡ [] → All IsSpent e.book
+all-spent e hooked early none k d inside why = by (is_owed r.state) refl
+  where
+    r : Registration
+    r = get_or e.book k d
+
+    there : registration_at e.book (suc k) ≡ Some r
+    there = slice_get-get_or e.book k d inside
+
+    by : (b : Bool) → is_owed r.state ≡ b → b ≡ false
+    by false owed = refl
+    by true owed =
+        let left : has (λ h. h.ticket) (suc k) e.hooks ≡ true =
+        hooked.others early (suc k) (at-cause e.book (suc k) r there ∙ ap Some why) (at-state is_owed e.book (suc k) r there ∙ owed) in
+        let no : false ≡ true = sym (ap (λ hooks. has (λ (h : Hook). h.ticket) (suc k) hooks) none) ∙ left in
+        cc
+
+-- the hub starts a phase
+settled-passed : (p : Phase) (book : Book) → p ≢ phase.Gone → is_late p ≡ true → NoneRegistered (book_in p book)
+settled-passed phase.Finals book never late = all_due-none book
+settled-passed phase.Gone book never late = absurd (never refl)
+settled-passed phase.Init book never late = cc
+settled-passed phase.Live book never late = cc
+settled-passed phase.Hooks book never late = cc
+settled-passed phase.Drain book never late = cc
+
+spent-passed : (e : Environment) (p : Phase) → next_phase e.phase ≡ Some p → (p ≡ phase.Drain → e.hooks ≡ []) → IsHooked e → (is_drained e.phase ≡ true → All IsSpent e.book)
+    → is_drained p ≡ true → All IsSpent (book_in p e.book)
+spent-passed e p next left hooked spent is = phase-all IsSpent spent-kept p e.book (by (drain-next e.phase p next is))
+  where
+    by : (p ≡ phase.Drain) × (is_late e.phase ≡ false) ⊎ is_drained e.phase ≡ true → All IsSpent e.book
+    by (inl h) = all-spent e hooked h.1 (left h.0)
+    by (inr h) = spent h
+
+none-made : (o : Option Duty) → o ≡ None → is_some o ≡ true → ⊥
+none-made None h is = cc
+none-made (Some d) h is = cc
+
+spent-asked : (e : Environment) (c : Call) (n : ℕ) → is_tearing e.phase ≡ true → All IsSpent e.book → All IsSpent (asked_change e c n).after.book
+spent-asked e c n tearing all =
+    asked-all IsSpent spent-kept e c n (λ made r who why. absurd (none-made (answer e c n).reply.made (torn-makes-none e c n tearing) made)) all
+
+-- nothing of it changes
+orderly-still : (m n : Machine) → StandsStill m n → Orderly m → Orderly n
+orderly-still m n still h =
+    let same : SameHangings m.env n.env = hangings-parts m.env n.env still.hangings in
+    record {
+      stage = still.stage ∙ h.stage ∙ ap stage_of (sym still.phase);
+      hooked = unchanged m.env n.env still.phase still.hangings h.hooked;
+      settled = λ p. subst NoneRegistered (sym same.book) (h.settled (ap is_late (sym still.phase) ∙ p));
+      spent = λ p. subst (λ book. All IsSpent book) (sym same.book) (h.spent (ap is_drained (sym still.phase) ∙ p));
+    }
+
+-- a frame ends, and the hub's stage stays
+orderly-ended : (m n : Machine) (v : Option HandleId) (cut : Option Why) → n.hub.stage ≡ m.hub.stage → n.env ≡ (end_change v cut m.env).after → Orderly m → Orderly n
+orderly-ended m n v cut far same h =
+    let d : Environment = (end_change v cut m.env).after in
+    let course : SameCourse m.env d = course-parts m.env d (ended-keeps v cut m.env).course in
+    let phase : n.env.phase ≡ m.env.phase = ap (λ (e : Environment). e.phase) same ∙ course.phase in
+    record {
+      stage = far ∙ h.stage ∙ ap stage_of (sym phase);
+      hooked = subst IsHooked (sym same) (hooked-ended v cut m.env h.hooked);
+      settled = λ p. subst (λ (e : Environment). NoneRegistered e.book) (sym same) (none-ended m.env v cut (h.settled (ap is_late (sym phase) ∙ p)));
+      spent = λ p. subst (λ (e : Environment). All IsSpent e.book) (sym same) (ended-all IsSpent spent-kept m.env v cut (h.spent (ap is_drained (sym phase) ∙ p)));
+    }
+
+-- each step keeps it
+pub orderly-step : (m : Machine) (s : Step) → Orderly m → StepCase m s → Orderly s.after
+orderly-step m _ h (calls c n may alone) =
+    let d : Environment = (asked_change m.env c n).after in
+    let course : SameCourse m.env d = course-parts m.env d (asked_change-fits m.env c n).course in
+    record {
+      stage = h.stage ∙ ap stage_of (sym course.phase);
+      hooked = hooked-asked m.env c n h.hooked;
+      settled = λ p. let late : is_late m.env.phase ≡ true = ap is_late (sym course.phase) ∙ p in none-asked m.env c n (late-tears m.env.phase late) (h.settled late);
+      spent = λ p. let drained : is_drained m.env.phase ≡ true = ap is_drained (sym course.phase) ∙ p in spent-asked m.env c n (drained-tears m.env.phase drained) (h.spent drained);
+    }
+orderly-step m s h (ends v cut may alone) = orderly-ended m s.after v cut refl refl h
+orderly-step m _ h opens = record { stage = h.stage; hooked = hooked-opened m.env h.hooked; settled = h.settled; spent = h.spent }
+orderly-step m _ h (inits n) = record { stage = h.stage; hooked = hooked-init n m.env h.hooked; settled = h.settled; spent = h.spent }
+orderly-step m _ h (begins n r there next may) = record {
+  stage = h.stage;
+  hooked = hooked-begun n r m.env there may h.hooked;
+  settled = λ p. none-begun m.env.phase n m.env.book (h.settled p);
+  spent = λ p. begun-all IsSpent spent-kept m.env.phase n m.env.book (h.spent p);
+}
+orderly-step m _ h (vanishes last) = record {
+  stage = h.stage ∙ ap stage_of last;
+  hooked = hooked-gone m.env h.hooked;
+  settled = λ p. h.settled (ap is_late last);
+  spent = λ p. h.spent (ap is_drained last);
+}
+orderly-step m s h (shares c o shared) = orderly-still m s.after (shares-still m c o) h
+orderly-step m s h (leaves v cut may ours) =
+    let x : Entry = (end_change v cut m.env).entry in
+    orderly-ended m s.after v cut (end-stage m.hub x (ended-ends v cut m.env).who (ended-ends v cut m.env).is) refl h
+orderly-step m _ h (passes p o q) = record {
+  stage = q.far;
+  hooked = hooked-phase p m.env q.next h.hooked;
+  settled = settled-passed p m.env.book q.never;
+  spent = spent-passed m.env p q.next q.left h.hooked h.spent;
+}
+orderly-step m s h (moves move next moving alone) = orderly-still m s.after (moves-still m move) h
+orderly-step m s h (others x other) = orderly-still m s.after (others-still m x other) h
+
+pub orderly-opens : (s : Setting) → Orderly (opening_of s)
+orderly-opens s = record { stage = refl; hooked = hooked-opening (length s.plans) s.texts; settled = λ p. cc; spent = λ p. cc }

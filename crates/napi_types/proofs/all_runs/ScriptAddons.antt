@@ -1,0 +1,335 @@
+-- In every run the addons of frames, functions, tickets, works and thread-safe functions are those of the script.
+use Rattle.std.proofs.Common.{◌≡◌, ◌≢◌, ◌∙◌, ◌<◌, ℕ, nat_lt, Bool, true, false, cond, List, [], ◌∷◌, length, IsTrue, refl, ap, sym, subst, Option, Some, None, option_map, arith}
+use Rattle.std.specs.Option.{option_or, unwrap_or}
+use Rattle.std.proofs.lemmas.List.Elements.{All-nil, All-cons}
+use Rattle.napi_types.specs.declared.call.Ask.{Ask}
+use Rattle.napi_types.specs.declared.call.Ask.TheVariants as ask
+use Rattle.napi_types.specs.declared.call.Call.{Call}
+use Rattle.napi_types.specs.declared.call.Call.TheVariants as call
+use Rattle.napi_types.specs.declared.entry.Actor.{Actor}
+use Rattle.napi_types.specs.declared.entry.Actor.TheVariants as actor
+use Rattle.napi_types.specs.declared.entry.Entry.{Entry}
+use Rattle.napi_types.specs.declared.entry.HostStep.{HostStep}
+use Rattle.napi_types.specs.declared.entry.HostStep.TheVariants as host
+use Rattle.napi_types.specs.declared.entry.LoopEnd.TheVariants as loop_end
+use Rattle.napi_types.specs.declared.entry.Out.{Out}
+use Rattle.napi_types.specs.declared.entry.Out.TheVariants as out
+use Rattle.napi_types.specs.declared.entry.Phase.{Phase}
+use Rattle.napi_types.specs.declared.entry.Phase.TheVariants as phase
+use Rattle.napi_types.specs.declared.entry.What.{What}
+use Rattle.napi_types.specs.declared.entry.What.TheVariants as what
+use Rattle.napi_types.specs.declared.entry.Why.{Why}
+use Rattle.napi_types.specs.declared.ids.HandleId.{HandleId}
+use Rattle.napi_types.specs.declared.status.Status.{Status}
+use Rattle.napi_types.specs.declared.status.Status.TheVariants as status
+use Rattle.napi_types.specs.plain.Guards.{is_shared}
+use Rattle.napi_types.specs.parts.Bodies.{is_function}
+use Rattle.napi_types.specs.parts.Book.{Registration, registration_at, lowest_due}
+use Rattle.napi_types.specs.parts.ExpectedKinds.{expects_if}
+use Rattle.napi_types.specs.parts.Frames.{Frame, frame_of_duty, caller_of, duty_of, is_hub_duty}
+use Rattle.napi_types.specs.parts.Functions.{is_environment}
+use Rattle.napi_types.specs.parts.Heap.{handle_body}
+use Rattle.napi_types.specs.parts.Hooks.{Hook, last_hook}
+use Rattle.napi_types.specs.environment.Changes.{host_entry, number_of, may_ask, with_noted_status}
+use Rattle.napi_types.specs.environment.Ends.{end_change}
+use Rattle.napi_types.specs.environment.Entering.{asked_change}
+use Rattle.napi_types.specs.environment.Environment.{Environment}
+use Rattle.napi_types.specs.environment.Owners.{IsOwned, IsFunctionOf, IsOwnedHub}
+use Rattle.napi_types.specs.environment.Refusals.{refusal}
+use Rattle.napi_types.specs.environment.SharedCalls.{target_of, target_unless, given_of, shared_entry, with_root}
+use Rattle.napi_types.specs.hub.Hub.{Hub, Stage, Before, Going, Looped, Drained, Final}
+use Rattle.napi_types.specs.hub.HubCalls.{no_target}
+use Rattle.napi_types.specs.hub.HubMoves.{HubMove, Delivers, Closes, Finishes, hub_move}
+use Rattle.napi_types.specs.hub.HubSteps.{HubStep, environment_step, thread_step, worker_step, hub_step, hub_step_of, delivery_entry}
+use Rattle.napi_types.specs.runs.Choice.{local_choice_in, idle_choice, finals_choice, is_idle, is_quiet, is_spent, hub_choice_at, choice}
+use Rattle.napi_types.specs.runs.Loop.{Event, Opens, Inits, Tickets, Moves, Goes, EndsLoop, Drains, FinalsCome, IsGone}
+use Rattle.napi_types.specs.runs.Machine.{Machine}
+use Rattle.napi_types.specs.runs.Run.{IsRunBy, after, final}
+use Rattle.napi_types.specs.runs.Setting.{opening_of}
+use Rattle.napi_types.specs.runs.Step.{Step, by_hub, ticket_step, move_step, event_step, chosen, may_cut, call_step_on, end_step_on, frame_step, env_step, cut_of, has_room, other_step, step_of}
+use Rattle.napi_types.specs.all_runs.HubLaws.{AreOfScript, AddonsAreTheScripts}
+use Rattle.napi_types.proofs.environment.Answers.{course-parts}
+use Rattle.napi_types.proofs.environment.FrameChanges.{ended-keeps, asked_change-fits}
+use Rattle.napi_types.proofs.environment.FrameEnds.{ended-ends}
+use Rattle.napi_types.proofs.environment.Owners.{Below, body-owned, caller-owned, counted-owned, row-unrefused, none-first, not-unless, owned-asked, owned-ended, owned-init, owned-ticket, owned-phase, owned-opening}
+use Rattle.napi_types.proofs.hub.HubOwners.{MoveOwned, GivesOwned, is_creating_call, given-owned, others-owned, event-owned, thread_event-owned, worker-owned, move-owned}
+use Rattle.napi_types.proofs.runs.Runs.{and-right}
+
+-- WHICH EVENT COMES
+-- what is chosen of the hub is its next move
+from-hub : (e : Environment) (p : Phase) (o : Option Event) (move : HubMove) → option_or (local_choice_in e p) o ≡ Some (Moves move) → o ≡ Some (Moves move)
+from-hub e phase.Init o move is = by e.opened (nat_lt e.inits e.addons) is
+  where
+    by : (b c : Bool) → option_or (cond b (cond c (Some (Inits e.inits)) None) (Some Opens)) o ≡ Some (Moves move) → o ≡ Some (Moves move)
+    by false c is = cc
+    by true true is = cc
+    by true false is = is
+from-hub e phase.Live o move is = by e.exit_asked (lowest_due e.book) is
+  where
+    by : (b : Bool) (t : Option ℕ) → option_or (cond b (Some (EndsLoop loop_end.Exit)) (option_map Tickets t)) o ≡ Some (Moves move) → o ≡ Some (Moves move)
+    by true t is = cc
+    by false (Some t) is = cc
+    by false None is = is
+from-hub e phase.Hooks o move is = by (option_map (λ (h : Hook). h.ticket) (last_hook e.hooks)) is
+  where
+    by : (t : Option ℕ) → option_or (option_map Tickets t) o ≡ Some (Moves move) → o ≡ Some (Moves move)
+    by (Some t) is = cc
+    by None is = is
+from-hub e phase.Drain o move is = is
+from-hub e phase.Finals o move is = by (lowest_due e.book) is
+  where
+    by : (t : Option ℕ) → option_or (option_or (option_map Tickets t) (Some IsGone)) o ≡ Some (Moves move) → o ≡ Some (Moves move)
+    by (Some t) is = cc
+    by None is = cc
+from-hub e phase.Gone o move is = is
+
+moves-first : (o : Option HubMove) (later : Option Event) (move : HubMove) → (later ≡ Some (Moves move) → ⊥) → option_or (option_map Moves o) later ≡ Some (Moves move) → o ≡ Some move
+moves-first None later move never is = absurd (never is)
+moves-first (Some m) later move never is = let same : m ≡ move = cc in ap Some same
+
+hub-moves : (h : Hub) (t : Stage) (move : HubMove) → hub_choice_at h t ≡ Some (Moves move) → hub_move h ≡ Some move
+hub-moves h Before move is = cc
+hub-moves h Going move is = moves-first (hub_move h) (idle_choice h) move (by (is_idle h) (is_quiet h)) is
+  where
+    by : (b c : Bool) → cond b (Some (EndsLoop loop_end.Idle)) (cond c (Some (EndsLoop loop_end.Quiet)) None) ≡ Some (Moves move) → ⊥
+    by true c is = cc
+    by false true is = cc
+    by false false is = cc
+hub-moves h Looped move is = cc
+hub-moves h Drained move is = moves-first (hub_move h) (finals_choice h) move (by (is_spent h)) is
+  where
+    by : (b : Bool) → cond b (Some FinalsCome) None ≡ Some (Moves move) → ⊥
+    by true is = cc
+    by false is = cc
+hub-moves h Final move is = cc
+
+pub chosen-move : (m : Machine) (move : HubMove) → choice m ≡ Some (Moves move) → hub_move m.hub ≡ Some move
+chosen-move m move is = hub-moves m.hub m.hub.stage move (from-hub m.env m.env.phase (hub_choice_at m.hub m.hub.stage) move is)
+
+-- the hub begins no init frame
+hub-no-init : (h : Hub) (t : Stage) (k : ℕ) → hub_choice_at h t ≡ Some (Inits k) → ⊥
+hub-no-init h Before k is = cc
+hub-no-init h Going k is = by (hub_move h) (is_idle h) (is_quiet h) is
+  where
+    by : (o : Option HubMove) (b c : Bool)
+        → option_or (option_map Moves o) (cond b (Some (EndsLoop loop_end.Idle)) (cond c (Some (EndsLoop loop_end.Quiet)) None)) ≡ Some (Inits k) → ⊥
+    by (Some m) b c is = cc
+    by None true c is = cc
+    by None false true is = cc
+    by None false false is = cc
+hub-no-init h Looped k is = cc
+hub-no-init h Drained k is = by (hub_move h) (is_spent h) is
+  where
+    by : (o : Option HubMove) (b : Bool) → option_or (option_map Moves o) (cond b (Some FinalsCome) None) ≡ Some (Inits k) → ⊥
+    by (Some m) b is = cc
+    by None true is = cc
+    by None false is = cc
+hub-no-init h Final k is = cc
+
+below : (i a : ℕ) → nat_lt i a ≡ true → i < a
+below i a h = grind arith
+
+-- an init frame is that of an addon that is there
+pub chosen-init : (m : Machine) (k : ℕ) → choice m ≡ Some (Inits k) → k < m.env.addons
+chosen-init m k is = by m.env.phase is
+  where
+    hub : Option Event
+    hub = hub_choice_at m.hub m.hub.stage
+
+    no : (o : Option Event) → o ≡ hub → o ≡ Some (Inits k) → k < m.env.addons
+    no o same is = absurd (hub-no-init m.hub m.hub.stage k (sym same ∙ is))
+
+    init : (b c : Bool) → nat_lt m.env.inits m.env.addons ≡ c → option_or (cond b (cond c (Some (Inits m.env.inits)) None) (Some Opens)) hub ≡ Some (Inits k) → k < m.env.addons
+    init false c here is = cc
+    init true true here is = let same : m.env.inits ≡ k = cc in subst (λ i. i < m.env.addons) same (below m.env.inits m.env.addons here)
+    init true false here is = no hub refl is
+
+    live : (b : Bool) (t : Option ℕ) → option_or (cond b (Some (EndsLoop loop_end.Exit)) (option_map Tickets t)) hub ≡ Some (Inits k) → k < m.env.addons
+    live true t is = cc
+    live false (Some t) is = cc
+    live false None is = no hub refl is
+
+    hooks : (t : Option ℕ) → option_or (option_map Tickets t) hub ≡ Some (Inits k) → k < m.env.addons
+    hooks (Some t) is = cc
+    hooks None is = no hub refl is
+
+    finals : (t : Option ℕ) → option_or (option_or (option_map Tickets t) (Some IsGone)) hub ≡ Some (Inits k) → k < m.env.addons
+    finals (Some t) is = cc
+    finals None is = cc
+
+    by : (p : Phase) → option_or (local_choice_in m.env p) hub ≡ Some (Inits k) → k < m.env.addons
+    by phase.Init is = init m.env.opened (nat_lt m.env.inits m.env.addons) refl is
+    by phase.Live is = live m.env.exit_asked (lowest_due m.env.book) is
+    by phase.Hooks is = hooks (option_map (λ (h : Hook). h.ticket) (last_hook m.env.hooks)) is
+    by phase.Drain is = no hub refl is
+    by phase.Finals is = finals (lowest_due m.env.book) is
+    by phase.Gone is = no hub refl is
+
+-- THE HUB AT AN EVENT
+abbrev step_by : Hub → Entry → Actor → What → HubStep
+step_by h x actor.Env w = environment_step h x w
+step_by h x (actor.Thread t) w = thread_step h t x w
+step_by h x (actor.Worker k) w = worker_step h k x w
+
+host-owned : (n : ℕ) (h : Hub) (x : Entry) (event : HostStep) → x.what ≡ what.Host event → IsOwnedHub n h → IsOwnedHub n (hub_step h x).after
+host-owned n h x event is o = stands x.actor refl
+  where
+    by : (who : Actor) (w : What) → w ≡ what.Host event → IsOwnedHub n (step_by h x who w).after
+    by actor.Env (what.Call c) is = cc
+    by actor.Env (what.Host e) is = event-owned n h x e o
+    by (actor.Thread t) (what.Call c) is = cc
+    by (actor.Thread t) (what.Host e) is = thread_event-owned n h t x e o
+    by (actor.Worker w) it is = worker-owned n h w x it o
+
+    stands : (who : Actor) → x.actor ≡ who → IsOwnedHub n (hub_step_of h x who).after
+    stands actor.Env same = by actor.Env x.what is
+    stands (actor.Thread t) same = by (actor.Thread t) x.what is
+    stands (actor.Worker w) same = by (actor.Worker w) x.what is
+
+-- A SHARED CALL
+-- the environment takes in no addon
+rooted-owned : (n : ℕ) (c : Call) (r : Out) (e : Environment) → IsOwned n e → IsOwned n (with_root c r e)
+rooted-owned n (call.CreateThreadsafeFunction (Some f) entry maximum count finalizer context) (out.Function k) e o =
+    record { frames = o.frames; functions = o.functions; tickets = o.tickets }
+rooted-owned n (call.CreateThreadsafeFunction (Some f) entry maximum count finalizer context) r e o = o
+rooted-owned n c r e o = o
+
+shared-owned : (n : ℕ) (c : Call) (s : Status) (r : Out) (e : Environment) → IsOwned n e → IsOwned n (with_noted_status c s (with_root c r e))
+shared-owned n c s r e o =
+    let k : IsOwned n (with_root c r e) = rooted-owned n c r e o in
+    record { frames = counted-owned n (with_root c r e).frames k.frames; functions = k.functions; tickets = k.tickets }
+
+rooted-addons : (c : Call) (r : Out) (e : Environment) → (with_root c r e).addons ≡ e.addons
+rooted-addons (call.CreateThreadsafeFunction (Some f) entry maximum count finalizer context) (out.Function k) e = refl
+rooted-addons (call.CreateThreadsafeFunction (Some f) entry maximum count finalizer context) r e = refl
+rooted-addons c r e = refl
+
+-- it hands over addons that are there
+above-none : (a n : ℕ) → a < n → 0 < n
+above-none a n h = omega (arith, h)
+
+target-owned : (n : ℕ) (e : Environment) (c : Call) → refusal e c ≡ None → e.frames ≢ [] → IsOwned n e → is_creating_call c ≡ true
+    → (unwrap_or (target_of e c) no_target).addon < n
+target-owned n e (call.CreateAsyncWork job entry payload) free stands o creates = above-none (caller_of e.frames) n (caller-owned n e.frames stands o.frames)
+target-owned n e (call.CreateThreadsafeFunction f (Some entry) maximum count finalizer context) free stands o creates = caller-owned n e.frames stands o.frames
+target-owned n e (call.CreateThreadsafeFunction (Some f) None maximum count finalizer context) free stands o creates =
+    let c : Call = call.CreateThreadsafeFunction (Some f) None maximum count finalizer context in
+    let row : expects_if e.heap (Some f) is_function status.InvalidArg ≡ None = none-first (expects_if e.heap (Some f) is_function status.InvalidArg) _ (row-unrefused e c free) in
+    body-owned n _ e.heap.values o.functions (not-unless (is_function (handle_body e.heap f.0)) status.InvalidArg row)
+target-owned n e (call.CreateThreadsafeFunction None None maximum count finalizer context) free stands o creates =
+    let c : Call = call.CreateThreadsafeFunction None None maximum count finalizer context in
+    let row = row-unrefused e c free in
+    cc
+target-owned n e c free stands o creates = cc
+
+gives-owned : (n : ℕ) (e : Environment) (c : Call) → e.frames ≢ [] → IsOwned n e → (given_of e c).refused ≡ None → is_creating_call c ≡ true → GivesOwned n c (given_of e c)
+gives-owned n e c stands o free creates = record {
+  addon = caller-owned n e.frames stands o.frames;
+  target = subst (λ s. (unwrap_or (target_unless s (target_of e c)) no_target).addon < n) (sym free) (target-owned n e c free stands o creates);
+}
+
+-- EVERY STEP
+abbrev StepOwned : ℕ → Step → Type 0
+StepOwned n s = AreOfScript n s.after
+
+call-step-owned : (n : ℕ) (m : Machine) (c : Call) (o : Out) (b : Bool) → m.env.frames ≢ [] → AreOfScript n m → StepOwned n (call_step_on b m c o)
+call-step-owned n m c o false stands k = record {
+  addons = (course-parts m.env (asked_change m.env c (number_of o)).after (asked_change-fits m.env c (number_of o)).course).addons ∙ k.addons;
+  env = owned-asked n m.env c (number_of o) stands k.env;
+  hub = k.hub;
+}
+call-step-owned n m c o true stands k =
+    let x : Entry = shared_entry m.env c o in
+    let r = (hub_step m.hub x).entry.reply in
+    record {
+      addons = rooted-addons c r.out m.env ∙ k.addons;
+      env = shared-owned n c r.status r.out m.env k.env;
+      hub = given-owned n m.hub x c (given_of m.env c) (gives-owned n m.env c stands k.env) k.hub;
+    }
+
+end-step-owned : (n : ℕ) (m : Machine) (v : Option HandleId) (cut : Option Why) (may b : Bool) → AreOfScript n m → StepOwned n (end_step_on b m (end_change v cut m.env) may)
+end-step-owned n m v cut may b k = by b
+  where
+    addons : (end_change v cut m.env).after.addons ≡ n
+    addons = (course-parts m.env (end_change v cut m.env).after (ended-keeps v cut m.env).course).addons ∙ k.addons
+
+    env : IsOwned n (end_change v cut m.env).after
+    env = owned-ended n m.env v cut k.env
+
+    by : (b : Bool) → StepOwned n (end_step_on b m (end_change v cut m.env) may)
+    by false = record { addons = addons; env = env; hub = k.hub }
+    by true = record { addons = addons; env = env; hub = host-owned n m.hub (end_change v cut m.env).entry host.End (ended-ends v cut m.env).is k.hub }
+
+frame-step-owned : (n : ℕ) (m : Machine) (a : Ask) (o : Out) (cut : Option Why) → m.env.frames ≢ [] → AreOfScript n m → StepOwned n (frame_step m a o cut)
+frame-step-owned n m a o (Some w) stands k = end-step-owned n m None (Some w) (may_cut m a w) (is_hub_duty (duty_of m.env.frames)) k
+frame-step-owned n m (ask.Do c) o None stands k = call-step-owned n m c o (is_shared c) stands k
+frame-step-owned n m (ask.Leave v) o None stands k = end-step-owned n m v None (may_ask m.env) (is_hub_duty (duty_of m.env.frames)) k
+
+-- an event where no frame stands
+great-owned : (n : ℕ) (m : Machine) (event : HostStep) (p : Phase) (o : Out) → AreOfScript n m → StepOwned n (by_hub m event p o)
+great-owned n m event p o k = record { addons = k.addons; env = owned-phase n m.env p k.env; hub = host-owned n m.hub (host_entry event o) event refl k.hub }
+
+ticket-step-owned : (n : ℕ) (m : Machine) (t : ℕ) (r : Option Registration) → registration_at m.env.book t ≡ r → AreOfScript n m → StepOwned n (ticket_step m t r)
+ticket-step-owned n m t None there k = k
+ticket-step-owned n m t (Some r) there k = record { addons = k.addons; env = owned-ticket n m.env t r there k.env; hub = k.hub }
+
+move-step-owned : (n : ℕ) (m : Machine) (move : HubMove) → hub_move m.hub ≡ Some move → AreOfScript n m → StepOwned n (move_step m move)
+move-step-owned n m (Delivers d) next k = record {
+  addons = k.addons;
+  env = record {
+    frames = All-cons (Below n) (frame_of_duty d) m.env.frames (subst (λ o. MoveOwned n o) next (move-owned n m.hub k.hub)) k.env.frames;
+    functions = k.env.functions;
+    tickets = k.env.tickets;
+  };
+  hub = host-owned n m.hub (delivery_entry d) host.Begin refl k.hub;
+}
+move-step-owned n m (Closes f) next k = record { addons = k.addons; env = k.env; hub = host-owned n m.hub (host_entry host.CloseTsfn (out.Function (record { 0 = f }))) host.CloseTsfn refl k.hub }
+move-step-owned n m (Finishes f) next k = record {
+  addons = k.addons;
+  env = record { frames = k.env.frames; functions = k.env.functions; tickets = k.env.tickets };
+  hub = host-owned n m.hub (host_entry host.FinishTsfn (out.Function (record { 0 = f }))) host.FinishTsfn refl k.hub;
+}
+
+event-step-owned : (n : ℕ) (m : Machine) (v : Event) → choice m ≡ Some v → AreOfScript n m → StepOwned n (event_step m v)
+event-step-owned n m Opens is k = record { addons = k.addons; env = record { frames = k.env.frames; functions = k.env.functions; tickets = k.env.tickets }; hub = k.hub }
+event-step-owned n m (Inits i) is k = record { addons = k.addons; env = owned-init n m.env i (subst (λ a. i < a) k.addons (chosen-init m i is)) k.env; hub = k.hub }
+event-step-owned n m (Tickets t) is k = ticket-step-owned n m t (registration_at m.env.book t) refl k
+event-step-owned n m (Moves move) is k = move-step-owned n m move (chosen-move m move is) k
+event-step-owned n m Goes is k = great-owned n m host.Go phase.Live out.Nothing k
+event-step-owned n m (EndsLoop w) is k = great-owned n m host.LoopEnd phase.Hooks (out.Ended w) k
+event-step-owned n m Drains is k = great-owned n m host.Drain phase.Drain (out.Unsigned (length m.hub.pool.queued)) k
+event-step-owned n m FinalsCome is k = great-owned n m host.Finals phase.Finals out.Nothing k
+event-step-owned n m IsGone is k = record { addons = k.addons; env = record { frames = k.env.frames; functions = k.env.functions; tickets = k.env.tickets }; hub = k.hub }
+
+chosen-owned : (n : ℕ) (m : Machine) (o : Option Event) → choice m ≡ o → AreOfScript n m → StepOwned n (chosen m o)
+chosen-owned n m None is k = k
+chosen-owned n m (Some v) is k = event-step-owned n m v is k
+
+some-stand : (f : Frame) (fs gs : List Frame) → gs ≡ f ∷ fs → gs ≢ []
+some-stand f fs gs is = λ none. cc
+
+env-owned : (n : ℕ) (m : Machine) (a : Ask) (o : Out) (fs : List Frame) → m.env.frames ≡ fs → AreOfScript n m → StepOwned n (env_step m a o fs)
+env-owned n m a o [] is k = chosen-owned n m (choice m) refl k
+env-owned n m a o (f ∷ fs) is k = frame-step-owned n m a o (cut_of o) (some-stand f fs m.env.frames is) k
+
+other-owned : (n : ℕ) (m : Machine) (x : Entry) → is_environment x.actor ≡ false → IsTrue (other_step m x).may → AreOfScript n m → StepOwned n (other_step m x)
+other-owned n m x other may k =
+    record { addons = k.addons; env = k.env; hub = others-owned n m.hub x other (and-right (has_room m x.what) (hub_step m.hub x).may may) k.hub }
+
+step-owned : (n : ℕ) (m : Machine) (a : Ask) (x : Entry) (who : Actor) → x.actor ≡ who → IsTrue (step_of m a x who).may → AreOfScript n m → StepOwned n (step_of m a x who)
+step-owned n m a x actor.Env is may k = env-owned n m a x.reply.out m.env.frames refl k
+step-owned n m a x (actor.Thread t) is may k = other-owned n m x (ap is_environment is) may k
+step-owned n m a x (actor.Worker w) is may k = other-owned n m x (ap is_environment is) may k
+
+run-owned : (n : ℕ) (m : Machine) (bs : List Ask) (xs : List Entry) → IsRunBy m bs xs → AreOfScript n m → AreOfScript n (final m bs xs)
+run-owned n m (a ∷ bs) (x ∷ xs) run k = run-owned n (after m a x) bs xs run.1 (step-owned n m a x x.actor refl run.0.1 k)
+run-owned n m [] [] run k = k
+run-owned n m [] (x ∷ xs) run k = absurd run
+run-owned n m (a ∷ bs) [] run k = absurd run
+
+pub addons-are-the-scripts : AddonsAreTheScripts
+addons-are-the-scripts s bs xs run = run-owned (length s.plans) (opening_of s) bs xs run (record {
+  addons = refl;
+  env = record { frames = All-nil (Below (length s.plans)); functions = owned-opening (length s.plans); tickets = All-nil (λ r. r.addon < length s.plans) };
+  hub = record { works = All-nil (λ w. w.addon < length s.plans); functions = All-nil (λ f. IsFunctionOf (length s.plans) f) };
+})

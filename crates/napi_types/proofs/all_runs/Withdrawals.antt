@@ -1,0 +1,201 @@
+-- Only an accepted call of its own withdraws a duty; and what becomes of all duties of a run alone.
+use Rattle.std.proofs.Common.{◌≡◌, ℕ, Bool, true, false, not, ◌&&◌, List, [], ◌∷◌, IsTrue, refl, sym, subst, Option, Some, None, is_some, arith}
+use Rattle.std.specs.List.{All}
+use Rattle.std.proofs.lemmas.List.Elements.{All-nil, All-cons}
+use Rattle.napi_types.specs.declared.call.Args.{Args}
+use Rattle.napi_types.specs.declared.call.Ask.{Ask}
+use Rattle.napi_types.specs.declared.call.Call.{Call}
+use Rattle.napi_types.specs.declared.call.Call.TheVariants as call
+use Rattle.napi_types.specs.declared.entry.Cause.{Cause}
+use Rattle.napi_types.specs.declared.entry.Cause.TheVariants as cause
+use Rattle.napi_types.specs.declared.entry.Duty.{Duty}
+use Rattle.napi_types.specs.declared.entry.Duty.TheVariants as duty
+use Rattle.napi_types.specs.declared.entry.Entry.{Entry}
+use Rattle.napi_types.specs.declared.entry.HostStep.TheVariants as host
+use Rattle.napi_types.specs.declared.entry.Out.TheVariants as out
+use Rattle.napi_types.specs.declared.entry.Reply.{Reply}
+use Rattle.napi_types.specs.declared.entry.What.{What}
+use Rattle.napi_types.specs.declared.entry.What.TheVariants as what
+use Rattle.napi_types.specs.declared.entry.Why.{Why}
+use Rattle.napi_types.specs.declared.ids.HandleId.{HandleId}
+use Rattle.napi_types.specs.declared.status.Status.{Status}
+use Rattle.napi_types.specs.declared.status.Status.TheVariants as status
+use Rattle.napi_types.specs.plain.Replies.{Answer}
+use Rattle.napi_types.specs.plain.Room.{room_of, is_full}
+use Rattle.napi_types.specs.parts.Attachments.{wrap_ticket}
+use Rattle.napi_types.specs.parts.Book.{Registration}
+use Rattle.napi_types.specs.parts.Frames.{caller_of, cause_of}
+use Rattle.napi_types.specs.parts.Heap.{handle_value}
+use Rattle.napi_types.specs.parts.Hooks.{hook_ticket}
+use Rattle.napi_types.specs.parts.InstanceData.{instance_ticket}
+use Rattle.napi_types.specs.parts.References.{referred_value}
+use Rattle.napi_types.specs.environment.Calls.{effect, answer_unless, answer_unless_deep}
+use Rattle.napi_types.specs.environment.Changes.{host_entry, may_call}
+use Rattle.napi_types.specs.environment.Ends.{uncut_call_end, end_change_by, end_change}
+use Rattle.napi_types.specs.environment.Entering.{function_change, asked_change}
+use Rattle.napi_types.specs.environment.Environment.{Environment}
+use Rattle.napi_types.specs.environment.ReferenceCalls.{value_told, counted_up}
+use Rattle.napi_types.specs.environment.Refusals.{refusal, early_refusal, depth_refusal}
+use Rattle.napi_types.specs.environment.Registering.{finalizer_if, registering_if, registered_only, withdrawing}
+use Rattle.napi_types.specs.environment.SharedCalls.{shared_entry}
+use Rattle.napi_types.specs.environment.WrapCalls.{referring_if}
+use Rattle.napi_types.specs.hub.Hub.{Hub}
+use Rattle.napi_types.specs.hub.HubMoves.{HubMove, Delivers, Closes, Finishes}
+use Rattle.napi_types.specs.hub.HubSteps.{hub_step, delivery_entry}
+use Rattle.napi_types.specs.runs.Machine.{Machine}
+use Rattle.napi_types.specs.runs.Run.{IsNext, IsRunBy, after}
+use Rattle.napi_types.specs.runs.Setting.{opening_of}
+use Rattle.napi_types.specs.runs.Step.{Step, move_step, has_room, step}
+use Rattle.napi_types.specs.all_runs.Counts.{made, dropped, begun, IsOnce, may_withdraw, WithdrawsRightly}
+use Rattle.napi_types.specs.all_runs.Laws.{WithdrawnByTheirCalls, EveryDutyIsOnce, is_ticket}
+use Rattle.napi_types.proofs.hub.HubDuties.{hub_step-spares}
+use Rattle.napi_types.proofs.runs.Runs.{and-right}
+use Rattle.napi_types.proofs.runs.StepCases.{StepCase, calls, ends, opens, inits, begins, vanishes, shares, leaves, passes, moves, others, step-case}
+use Rattle.napi_types.proofs.all_runs.Onces.{tickets-are-once}
+use Rattle.napi_types.proofs.all_runs.Orderly.{Orderly, orderly-step, orderly-opens}
+use Rattle.napi_types.proofs.all_runs.QuietRuns.{only-tickets}
+
+-- WHAT A CALL WITHDRAWS
+-- what happened withdraws nothing, or it may withdraw and was accepted
+record Rightly (w : What) (r : Reply) : Type 0 where
+  pub call : is_some r.dropped ≡ true → may_withdraw w ≡ true
+  pub accepted : is_some r.dropped ≡ true → r.status ≡ status.Ok
+
+nothing : (w : What) (r : Reply) → r.dropped ≡ None → Rightly w r
+nothing w r none = record { call = λ some. absurd (no r.dropped none some); accepted = λ some. absurd (no r.dropped none some) }
+  where
+    no : (o : Option Duty) → o ≡ None → is_some o ≡ true → ⊥
+    no None h some = cc
+    no (Some d) h some = cc
+
+counted-rightly : (w : What) (r : ℕ) (e : Environment) (v : Option ℕ) → Rightly w (counted_up r e v).reply
+counted-rightly w r e None = nothing w _ refl
+counted-rightly w r e (Some v) = nothing w _ refl
+
+told-rightly : (w : What) (e : Environment) (v : Option ℕ) → Rightly w (value_told e v).reply
+told-rightly w e None = nothing w _ refl
+told-rightly w e (Some v) = nothing w _ refl
+
+referring-rightly : (w : What) (f : Option Registration) (wanted : Bool) (n v : ℕ) (e : Environment)
+    → Rightly w (registering_if f (referring_if wanted n v e)).reply
+referring-rightly w None true n v e = nothing w _ refl
+referring-rightly w None false n v e = nothing w _ refl
+referring-rightly w (Some r) true n v e = nothing w _ refl
+referring-rightly w (Some r) false n v e = nothing w _ refl
+
+withdrawing-rightly : (w : What) (f : Option Registration) (t : Option ℕ) (a : Answer Environment) → may_withdraw w ≡ true
+    → a.reply.status ≡ status.Ok → a.reply.dropped ≡ None → Rightly w (registering_if f (withdrawing t a)).reply
+withdrawing-rightly w None None a may accepted none = nothing w _ none
+withdrawing-rightly w None (Some n) a may accepted none = record { call = λ some. may; accepted = λ some. accepted }
+withdrawing-rightly w (Some r) None a may accepted none = nothing w _ none
+withdrawing-rightly w (Some r) (Some n) a may accepted none = record { call = λ some. may; accepted = λ some. accepted }
+
+effect-rightly : (e : Environment) (c : Call) (n : ℕ) → Rightly (what.Call c) (effect e c n).reply
+effect-rightly e (call.ReferenceRef r) n = counted-rightly _ r.0 e (referred_value e.references r.0)
+effect-rightly e (call.GetReferenceValue r) n = told-rightly _ e (referred_value e.references r.0)
+effect-rightly e (call.Wrap v payload entry hint wanted) n = referring-rightly _ (finalizer_if e payload entry hint) wanted n _ _
+effect-rightly e (call.RemoveWrap v) n =
+    withdrawing-rightly _ None (registered_only e.book (wrap_ticket e.attachments (handle_value e.heap v.0))) _ refl refl refl
+effect-rightly e (call.AddFinalizer v payload entry hint wanted) n = referring-rightly _ (finalizer_if e payload (Some entry) hint) wanted n _ _
+effect-rightly e (call.CreateExternal payload None hint) n = nothing _ _ refl
+effect-rightly e (call.CreateExternal payload (Some entry) hint) n = nothing _ _ refl
+effect-rightly e (call.SetInstanceData payload entry hint) n =
+    withdrawing-rightly _ (finalizer_if e payload entry hint) (registered_only e.book (instance_ticket e.instances (caller_of e.frames))) _ refl refl refl
+effect-rightly e (call.RemoveEnvCleanupHook entry argument) n =
+    withdrawing-rightly _ None (registered_only e.book (hook_ticket (caller_of e.frames) entry argument e.hooks)) _ refl refl refl
+effect-rightly e c n = nothing (what.Call c) _ refl
+
+given-rightly : (e : Environment) (c : Call) (n : ℕ) (s : Option Status) → Rightly (what.Call c) (answer_unless e c n s).reply
+given-rightly e c n None = effect-rightly e c n
+given-rightly e c n (Some s) = nothing (what.Call c) _ refl
+
+answer-rightly : (e : Environment) (c : Call) (n : ℕ) (early deep : Option Status) → Rightly (what.Call c) (answer_unless_deep e c n early deep).reply
+answer-rightly e c n early None = given-rightly e c n early
+answer-rightly e c n None (Some s) = nothing (what.Call c) _ refl
+answer-rightly e c n (Some r) (Some s) = nothing (what.Call c) _ refl
+
+-- EVERY ENTRY OF A RUN
+abbrev EntryRightly : Entry → Type 0
+EntryRightly x = Rightly x.what x.reply
+
+-- an entry of the hub withdraws nothing
+hub-rightly : (h : Hub) (x : Entry) → IsTrue (hub_step h x).may → EntryRightly (hub_step h x).entry
+hub-rightly h x may = nothing _ _ (hub_step-spares h x may).dropped
+
+move-rightly : (m : Machine) (move : HubMove) → IsTrue (move_step m move).may → EntryRightly (move_step m move).entry
+move-rightly m (Delivers d) may = hub-rightly m.hub (delivery_entry d) may
+move-rightly m (Closes n) may = hub-rightly m.hub (host_entry host.CloseTsfn (out.Function (record { 0 = n }))) may
+move-rightly m (Finishes n) may = hub-rightly m.hub (host_entry host.FinishTsfn (out.Function (record { 0 = n }))) may
+
+left-rightly : (v : Option HandleId) (e : Environment) (p : Option ℕ) → EntryRightly (uncut_call_end v e p).entry
+left-rightly v e None = nothing _ _ refl
+left-rightly v e (Some p) = nothing _ _ refl
+
+end-rightly : (v : Option HandleId) (cut : Option Why) (e : Environment) (c : Cause) → EntryRightly (end_change_by v cut e c).entry
+end-rightly v (Some w) e cause.Call = nothing _ _ refl
+end-rightly v None e cause.Call = left-rightly v e e.pending
+end-rightly v cut e _ = nothing _ _ refl
+
+function-rightly : (receiver : Option HandleId) (f : HandleId) (args : Args) (n : ℕ) (e : Environment) (s : Option Status)
+    → EntryRightly (function_change receiver f args n e s).entry
+function-rightly receiver f args n e (Some s) =
+    let c : Call = call.CallFunction receiver f args in
+    answer-rightly e c n (early_refusal e c) (depth_refusal e.frames c)
+function-rightly receiver f args n e None = nothing _ _ refl
+
+asked-rightly : (e : Environment) (c : Call) (n : ℕ) → EntryRightly (asked_change e c n).entry
+asked-rightly e (call.CallFunction receiver f args) n = function-rightly receiver f args n e (refusal e (call.CallFunction receiver f args))
+asked-rightly e c n = answer-rightly e c n (early_refusal e c) (depth_refusal e.frames c)
+
+step-rightly : (m : Machine) (s : Step) → StepCase m s → IsTrue s.may → EntryRightly s.entry
+step-rightly m _ (calls c n may alone) ok = asked-rightly m.env c n
+step-rightly m _ (ends v cut may alone) ok = end-rightly v cut m.env (cause_of m.env.frames)
+step-rightly m _ opens ok = nothing _ _ refl
+step-rightly m _ (inits n) ok = nothing _ _ refl
+step-rightly m _ (begins n r there next may) ok = nothing _ _ refl
+step-rightly m _ (vanishes last) ok = nothing _ _ refl
+step-rightly m _ (shares c o shared) ok =
+    let x : Entry = shared_entry m.env c o in
+    hub-rightly m.hub x (and-right (may_call m.env && not (is_full (room_of m c) c)) (hub_step m.hub x).may ok)
+step-rightly m _ (leaves v cut may ours) ok =
+    let x : Entry = (end_change v cut m.env).entry in
+    hub-rightly m.hub x (and-right may (hub_step m.hub x).may ok)
+step-rightly m _ (passes p o q) ok = subst EntryRightly (sym q.entry) (nothing _ _ refl)
+step-rightly m _ (moves move next moving alone) ok = move-rightly m move ok
+step-rightly m _ (others x other) ok = hub-rightly m.hub x (and-right (has_room m x.what) (hub_step m.hub x).may ok)
+
+next-rightly : (m : Machine) (a : Ask) (x : Entry) → Orderly m → IsNext m a x → WithdrawsRightly x
+next-rightly m a x h next =
+    let r : EntryRightly x = subst EntryRightly (sym next.0) (step-rightly m (step m a x) (step-case m a x h.stage next.1) next.1) in
+    record { call = r.call; accepted = r.accepted }
+
+run-rightly : (m : Machine) (bs : List Ask) (xs : List Entry) → Orderly m → IsRunBy m bs xs → All WithdrawsRightly xs
+run-rightly m [] [] h run = All-nil WithdrawsRightly
+run-rightly m (a ∷ bs) (x ∷ xs) h run =
+    All-cons WithdrawsRightly x xs (next-rightly m a x h run.0)
+    (run-rightly (after m a x) bs xs (orderly-step m (step m a x) h (step-case m a x h.stage run.0.1)) run.1)
+run-rightly m [] (x ∷ xs) h run = absurd run
+run-rightly m (a ∷ bs) [] h run = absurd run
+
+pub withdrawn-rightly : WithdrawnByTheirCalls
+withdrawn-rightly s bs xs run = run-rightly (opening_of s) bs xs (orderly-opens s) run.steps
+
+-- ALL DUTIES
+-- a duty that is no ticket, where none is made, withdrawn or begun
+spared-once : (d : Duty) (xs : List Entry) → (made d xs ≡ 0) × (dropped d xs ≡ 0) × (begun d xs ≡ 0) → IsOnce d xs
+spared-once d xs none = record {
+  singly = omega (arith, none.0);
+  singly_dropped = omega (arith, none.1);
+  kept = λ once undropped. absurd (omega (arith, none.0, once));
+  withdrawn = λ some. absurd (omega (arith, none.1, some));
+  others = λ unmade. none.2;
+}
+
+-- each duty of a run alone to its end is made and begun once, or withdrawn by its own call
+pub once-holds : EveryDutyIsOnce
+once-holds s bs xs alone whole = record { each = λ d. of d (is_ticket d) refl; withdrawals = withdrawn-rightly s bs xs whole.run }
+  where
+    of : (d : Duty) (b : Bool) → is_ticket d ≡ b → IsOnce d xs
+    of (duty.Ticket t) b is = tickets-are-once s bs xs whole t
+    of d true is = cc
+    of d false is = spared-once d xs (only-tickets s bs xs alone whole.run d is)

@@ -1,0 +1,10 @@
+-- On the environment: what its calls and the ends of its frames keep.
+pub mod Answers
+pub mod FrameChanges
+pub mod FrameEnds
+pub mod HookedBooks
+pub mod HookedSteps
+pub mod Owners
+pub mod Registrations
+pub mod StandingFrames
+pub mod TornBooks

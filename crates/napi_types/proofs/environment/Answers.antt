@@ -1,0 +1,454 @@
+-- What every call of the environment keeps, and by how much it may grow.
+use Rattle.std.proofs.Common.{◌≡◌, ◌≤◌, ℕ, ◌+◌, ◌*◌, nat_lt, Bool, true, false, not, cond, List, [], ◌∷◌, length, refl, sym, ap, ◌∙◌, Option, Some, None, is_some, IfSome, arith}
+use Rattle.std.proofs.lemmas.List.{length-map}
+use Rattle.std.specs.Option.{option_or}
+use Rattle.napi_types.specs.declared.call.Call.{Call}
+use Rattle.napi_types.specs.declared.call.Call.TheVariants as call
+use Rattle.napi_types.specs.declared.body.Body.TheVariants as body
+use Rattle.napi_types.specs.declared.entry.Duty.{Duty}
+use Rattle.napi_types.specs.declared.entry.Out.{Out}
+use Rattle.napi_types.specs.declared.entry.Out.TheVariants as out
+use Rattle.napi_types.specs.declared.entry.Phase.{Phase}
+use Rattle.napi_types.specs.declared.entry.Reply.{Reply}
+use Rattle.napi_types.specs.declared.ids.TextNo.{TextNo}
+use Rattle.napi_types.specs.declared.status.Status.{Status}
+use Rattle.napi_types.specs.declared.status.Status.TheVariants as status
+use Rattle.napi_types.specs.plain.Guards.{is_registering}
+use Rattle.napi_types.specs.plain.Lists.{first_changed, when}
+use Rattle.napi_types.specs.plain.Replies.{Answer, accepts, refuses}
+use Rattle.napi_types.specs.plain.Room.{one_if, need, reserved_journal}
+use Rattle.napi_types.specs.parts.AttachmentRefusals.{attachment_refusal}
+use Rattle.napi_types.specs.parts.Attachments.{Attachments, wrap_ticket}
+use Rattle.napi_types.specs.parts.Book.{Book, is_registered, is_at, owed_tickets}
+use Rattle.napi_types.specs.parts.ExpectedKinds.{kind_refusal}
+use Rattle.napi_types.specs.parts.Frames.{Frame, caller_of, ask_counted, is_hub_duty, local_frames}
+use Rattle.napi_types.specs.parts.Heap.{Heap, handle_value, handle_properties}
+use Rattle.napi_types.specs.parts.HeapChanges.{new_value, with_handle, with_thrown}
+use Rattle.napi_types.specs.parts.HookRefusals.{hook_refusal}
+use Rattle.napi_types.specs.parts.Hooks.{hook_ticket}
+use Rattle.napi_types.specs.parts.InstanceData.{instance_ticket, with_instance}
+use Rattle.napi_types.specs.parts.NamedNumbers.{unknown_refusal}
+use Rattle.napi_types.specs.parts.OwnRefusals.{row_refusal}
+use Rattle.napi_types.specs.parts.PropertyCalls.{names_of}
+use Rattle.napi_types.specs.parts.ReferenceRefusals.{reference_refusal}
+use Rattle.napi_types.specs.parts.References.{ReferenceMap, referred_value}
+use Rattle.napi_types.specs.environment.Calls.{heap_effect, addon_effect, heap_answer_unless, heap_answer, effect, answer_unless, answer_unless_deep, with_depth_error, answer}
+use Rattle.napi_types.specs.environment.Changes.{call_change}
+use Rattle.napi_types.specs.environment.Collection.{collected}
+use Rattle.napi_types.specs.environment.Environment.{Environment, in_heap}
+use Rattle.napi_types.specs.environment.ExternalCalls.{attached_if}
+use Rattle.napi_types.specs.environment.HookCalls.{hooking, unhooked}
+use Rattle.napi_types.specs.environment.InstanceCalls.{setting_instance}
+use Rattle.napi_types.specs.environment.Moments.{is_tearing, guard_refusal, registering_refusal, moment_refusal}
+use Rattle.napi_types.specs.environment.ReferenceCalls.{value_told, counted_up}
+use Rattle.napi_types.specs.environment.Refusals.{refusal_in, attached_refusal, timely_refusal, early_refusal, depth_refusal}
+use Rattle.napi_types.specs.environment.Registering.{finalizer_if, ticket_if, registering_if, registered_only, withdrawing}
+use Rattle.napi_types.specs.environment.Roots.{reach}
+use Rattle.napi_types.specs.environment.WrapCalls.{referring_if, wrapping, finalizing}
+use Rattle.napi_types.proofs.plain.Maps.{length-with_record}
+use Rattle.napi_types.proofs.parts.BookSteps.{BookStep, stays, adds, drops, collects, swaps, step-owed}
+
+length-changed : {A : Type 0} (f : A → A) (xs : List A) → length (first_changed f xs) ≡ length xs
+length-changed f [] = refl
+length-changed f (x ∷ xs) = refl
+
+-- what a call keeps of a heap: how many frames have scopes. It issues one number of each kind at most, and makes as many values as an array of names has, with the array
+pub record HeapKeeps (old new : Heap) : Type 0 where
+  pub depth : length new.scopes ≡ length old.scopes
+  pub handles : new.handles ≤ old.handles + 1
+  pub scopes : length new.scope_numbers ≤ length old.scope_numbers + 1
+  pub made : new.made ≤ old.made + 65537
+
+same : (heap : Heap) → HeapKeeps heap heap
+same heap = record { depth = refl; handles = omega arith; scopes = omega arith; made = omega arith }
+
+-- a handle is given, after so many values were made
+handled : (old heap : Heap) (v : ℕ) → heap.scopes ≡ old.scopes → heap.handles ≡ old.handles → heap.scope_numbers ≡ old.scope_numbers → heap.made ≤ old.made + 65537
+    → HeapKeeps old (with_handle v heap)
+handled old heap v s h n m = record {
+  depth = length-changed _ heap.scopes ∙ ap length s;
+  handles = omega (arith, h);
+  scopes = omega (arith, ap length n);
+  made = m;
+}
+
+in-scopes : (heap : Heap) (new : Heap) → length new.scopes ≡ length heap.scopes → new.handles ≤ heap.handles + 1 → length new.scope_numbers ≤ length heap.scope_numbers + 1 → new.made ≡ heap.made → HeapKeeps heap new
+in-scopes heap new d h n m = record { depth = d; handles = omega (arith, h); scopes = n; made = omega (arith, m) }
+
+in-scopes-made : (heap : Heap) (new : Heap) → length new.scopes ≡ length heap.scopes → new.handles ≤ heap.handles + 1 → length new.scope_numbers ≤ length heap.scope_numbers + 1 → new.made ≤ heap.made + 65537 → HeapKeeps heap new
+in-scopes-made heap new d h n m = record { depth = d; handles = omega (arith, h); scopes = n; made = m }
+
+none-last : (a b c : Option Status) → option_or a (option_or b c) ≡ None → c ≡ None
+none-last None None c h = h
+none-last None (Some s) c h = cc
+none-last (Some s) b c h = cc
+
+not-when : (b : Bool) (s : Status) → when b s ≡ None → b ≡ false
+not-when true s h = cc
+not-when false s h = refl
+
+few : (n : ℕ) → nat_lt 65536 n ≡ false → n ≤ 65536
+few n h = grind arith
+
+named : (old : Heap) (n k : ℕ) → n ≡ k → k ≤ 65536 → old.made + n + 1 ≤ old.made + 65537
+named old n k e h = omega arith
+
+heap_effect-keeps : (texts : ℕ) (heap : Heap) (c : Call) (n : ℕ) → refusal_in texts heap c ≡ None → HeapKeeps heap (heap_effect heap c n).after
+heap_effect-keeps texts heap call.GetUndefined n h = handled heap heap _ refl refl refl (omega arith)
+heap_effect-keeps texts heap call.GetNull n h = handled heap heap _ refl refl refl (omega arith)
+heap_effect-keeps texts heap call.GetGlobal n h = handled heap heap _ refl refl refl (omega arith)
+heap_effect-keeps texts heap (call.GetBoolean b) n h = handled heap heap _ refl refl refl (omega arith)
+heap_effect-keeps texts heap (call.CreateInt64 i) n h = handled heap _ _ refl refl refl (omega arith)
+heap_effect-keeps texts heap (call.CreateBigintInt64 i) n h = handled heap _ _ refl refl refl (omega arith)
+heap_effect-keeps texts heap (call.CreateStringUtf8 t) n h = handled heap _ _ refl refl refl (omega arith)
+heap_effect-keeps texts heap (call.CreateSymbol d) n h = handled heap _ _ refl refl refl (omega arith)
+heap_effect-keeps texts heap call.CreateObject n h = handled heap _ _ refl refl refl (omega arith)
+heap_effect-keeps texts heap call.CreateArray n h = handled heap _ _ refl refl refl (omega arith)
+heap_effect-keeps texts heap (call.CreateError code message) n h = handled heap _ _ refl refl refl (omega arith)
+heap_effect-keeps texts heap (call.GetNamedProperty o name) n h = handled heap heap _ refl refl refl (omega arith)
+heap_effect-keeps texts heap (call.GetElement o at) n h = handled heap heap _ refl refl refl (omega arith)
+heap_effect-keeps texts heap (call.GetPropertyNames o) n h =
+    let ps = handle_properties heap o.0 in
+    let c : Call = call.GetPropertyNames o in
+    let row : row_refusal heap c ≡ None = none-last (unknown_refusal texts heap c) (kind_refusal heap c) (row_refusal heap c) h in
+    handled heap _ _ refl refl refl (named heap (length (names_of ps)) (length ps) (length-map ps _) (few (length ps) (not-when (nat_lt 65536 (length ps)) status.InvalidArg row)))
+heap_effect-keeps texts heap call.OpenHandleScope n h = in-scopes heap _ (length-changed _ heap.scopes) (omega arith) (length-with_record (λ m. m) n heap.scope_numbers) refl
+heap_effect-keeps texts heap call.OpenEscapableHandleScope n h = in-scopes heap _ (length-changed _ heap.scopes) (omega arith) (length-with_record (λ m. m) n heap.scope_numbers) refl
+heap_effect-keeps texts heap (call.CloseHandleScope s) n h = in-scopes heap _ (length-changed _ heap.scopes) (omega arith) (omega arith) refl
+heap_effect-keeps texts heap (call.CloseEscapableHandleScope s) n h = in-scopes heap _ (length-changed _ heap.scopes) (omega arith) (omega arith) refl
+heap_effect-keeps texts heap (call.EscapeHandle s v) n h = in-scopes heap _ (length-changed _ heap.scopes) (omega arith) (omega arith) refl
+heap_effect-keeps texts heap (call.SetNamedProperty o name v) n h = in-scopes heap _ refl (omega arith) (omega arith) refl
+heap_effect-keeps texts heap (call.DeleteProperty o name) n h = in-scopes heap _ refl (omega arith) (omega arith) refl
+heap_effect-keeps texts heap (call.SetElement o at v) n h = in-scopes heap _ refl (omega arith) (omega arith) refl
+heap_effect-keeps texts heap _ n h = same heap
+
+addon_effect-keeps : (texts addon : ℕ) (heap : Heap) (c : Call) (n : ℕ) → refusal_in texts heap c ≡ None → HeapKeeps heap (addon_effect addon heap c n).after
+addon_effect-keeps texts addon heap (call.CreateFunction entry payload) n h = handled heap _ _ refl refl refl (omega arith)
+addon_effect-keeps texts addon heap c n h = heap_effect-keeps texts heap c n h
+
+by-refusal : (texts addon : ℕ) (heap : Heap) (c : Call) (n : ℕ) (s : Option Status) → refusal_in texts heap c ≡ s → HeapKeeps heap (heap_answer_unless addon heap c n s).after
+by-refusal texts addon heap c n None h = addon_effect-keeps texts addon heap c n h
+by-refusal texts addon heap c n (Some s) h = same heap
+
+pub heap_answer-keeps : (texts addon : ℕ) (heap : Heap) (c : Call) (n : ℕ) → HeapKeeps heap (heap_answer texts addon heap c n).after
+heap_answer-keeps texts addon heap c n = by-refusal texts addon heap c n (refusal_in texts heap c) refl
+
+-- what no call and no frame changes: how many addons there are, whether the opening stands, the init frames that began, and the phase. A field more of the
+-- environment that none of them changes is one line more in each of these
+pub record Course : Type 0 where
+  pub addons : ℕ
+  pub opened : Bool
+  pub inits : ℕ
+  pub phase : Phase
+
+abbrev pub course_of : Environment → Course
+course_of e = record { addons = e.addons; opened = e.opened; inits = e.inits; phase = e.phase }
+
+pub record SameCourse (old new : Environment) : Type 0 where
+  pub addons : new.addons ≡ old.addons
+  pub opened : new.opened ≡ old.opened
+  pub inits : new.inits ≡ old.inits
+  pub phase : new.phase ≡ old.phase
+
+pub course-parts : (old new : Environment) → course_of new ≡ course_of old → SameCourse old new
+course-parts old new same = record {
+  addons = ap (λ (c : Course). c.addons) same;
+  opened = ap (λ (c : Course). c.opened) same;
+  inits = ap (λ (c : Course). c.inits) same;
+  phase = ap (λ (c : Course). c.phase) same;
+}
+
+-- what an answer keeps of the environment: all but the heap, the references, what is attached to values, the book and the pending exception. It issues one
+-- reference number at most, and changes the book in one of the ways of a call
+pub record Keeps (old : Environment) (a : Answer Environment) : Type 0 where
+  pub course : course_of a.after ≡ course_of old
+  pub frames : a.after.frames ≡ old.frames
+  pub heap : HeapKeeps old.heap a.after.heap
+  pub references : length a.after.references.issued ≤ length old.references.issued + 1
+  pub book : BookStep (caller_of old.frames) old.book a.reply.made a.reply.dropped a.after.book
+
+accepts-all : (e : Environment) (o : Out) → Keeps e (accepts o e)
+accepts-all e o = record { course = refl; frames = refl; heap = same e.heap; references = omega arith; book = stays e.book refl }
+
+refuses-all : (e : Environment) (s : Status) → Keeps e (refuses s e)
+refuses-all e s = record { course = refl; frames = refl; heap = same e.heap; references = omega arith; book = stays e.book refl }
+
+-- a call that is told of the heap neither makes nor withdraws a duty
+heap-made : (addon : ℕ) (heap : Heap) (c : Call) (n : ℕ) → (addon_effect addon heap c n).reply.made ≡ None
+heap-made addon heap call.OpenHandleScope n = refl
+heap-made addon heap _ n = refl
+
+heap-dropped : (addon : ℕ) (heap : Heap) (c : Call) (n : ℕ) → (addon_effect addon heap c n).reply.dropped ≡ None
+heap-dropped addon heap call.OpenHandleScope n = refl
+heap-dropped addon heap _ n = refl
+
+stays-so : (addon : ℕ) (b : Book) (made dropped : Option Duty) → made ≡ None → dropped ≡ None → BookStep addon b made dropped b
+stays-so addon b made dropped m d = rw (m, d) (stays b refl)
+
+keeps-heap : (e : Environment) (c : Call) (n : ℕ) → refusal_in e.texts e.heap c ≡ None → Keeps e (in_heap e (addon_effect (caller_of e.frames) e.heap c n))
+keeps-heap e c n h =
+    record { course = refl; frames = refl; heap = addon_effect-keeps e.texts (caller_of e.frames) e.heap c n h; references = omega arith; book = stays-so (caller_of e.frames) e.book _ _ (heap-made (caller_of e.frames) e.heap c n) (heap-dropped (caller_of e.frames) e.heap c n) }
+
+thrown-keeps : (heap : Heap) (code : Option TextNo) (message : TextNo) → HeapKeeps heap (with_thrown code message heap)
+thrown-keeps heap None message = in-scopes-made heap _ refl (omega arith) (omega arith) (omega arith)
+thrown-keeps heap (Some code) message = in-scopes-made heap _ refl (omega arith) (omega arith) (omega arith)
+
+-- the references, or what is attached, are others, and nothing is issued
+keeps-references : (e : Environment) (m : ReferenceMap) (o : Out) → length m.issued ≤ length e.references.issued + 1 → Keeps e (accepts o (record e { references = m }))
+keeps-references e m o h = record { course = refl; frames = refl; heap = same e.heap; references = h; book = stays e.book refl }
+
+keeps-attachments : (e : Environment) (a : Attachments) (o : Out) → Keeps e (accepts o (record e { attachments = a }))
+keeps-attachments e a o = record { course = refl; frames = refl; heap = same e.heap; references = omega arith; book = stays e.book refl }
+
+counted-keeps : (r : ℕ) (e : Environment) (v : Option ℕ) → Keeps e (counted_up r e v)
+counted-keeps r e None = accepts-all e _
+counted-keeps r e (Some v) = keeps-references e _ _ (omega arith)
+
+told-keeps : (e : Environment) (v : Option ℕ) → Keeps e (value_told e v)
+told-keeps e None = accepts-all e _
+told-keeps e (Some v) = record { course = refl; frames = refl; heap = handled e.heap e.heap _ refl refl refl (omega arith); references = omega arith; book = stays e.book refl }
+
+collected-keeps : (e : Environment) (alive : List ℕ) (o : Out) → Keeps e (accepts o (collected alive e))
+collected-keeps e alive o = record { course = refl; frames = refl; heap = in-scopes e.heap _ refl (omega arith) (omega arith) refl; references = omega arith; book = collects _ _ refl }
+
+-- a call that registers
+wrapping-keeps : (e : Environment) (v payload : ℕ) (entry : Option ℕ) (hint : ℕ) (wanted : Bool) (n : ℕ) → Keeps e (wrapping e v payload entry hint wanted n)
+wrapping-keeps e v payload None hint false n = keeps-attachments e _ _
+wrapping-keeps e v payload None hint true n =
+    record { course = refl; frames = refl; heap = same e.heap; references = length-with_record (λ m. m) n e.references.issued; book = stays e.book refl }
+wrapping-keeps e v payload (Some entry) hint false n = record { course = refl; frames = refl; heap = same e.heap; references = omega arith; book = adds _ _ refl refl (λ h. cc) refl }
+wrapping-keeps e v payload (Some entry) hint true n =
+    record { course = refl; frames = refl; heap = same e.heap; references = length-with_record (λ m. m) n e.references.issued; book = adds _ _ refl refl (λ h. cc) refl }
+
+finalizing-keeps : (e : Environment) (v payload entry hint : ℕ) (wanted : Bool) (n : ℕ) → Keeps e (finalizing e v payload entry hint wanted n)
+finalizing-keeps e v payload entry hint false n = record { course = refl; frames = refl; heap = same e.heap; references = omega arith; book = adds _ _ refl refl (λ h. cc) refl }
+finalizing-keeps e v payload entry hint true n =
+    record { course = refl; frames = refl; heap = same e.heap; references = length-with_record (λ m. m) n e.references.issued; book = adds _ _ refl refl (λ h. cc) refl }
+
+external-keeps : (e : Environment) (payload : ℕ) (entry : Option ℕ) (hint : ℕ)
+    → Keeps e (registering_if (finalizer_if e payload entry hint)
+    (in_heap (record e { attachments = attached_if (e.heap.made + 1) (ticket_if e.book entry) e.attachments }) (new_value (body.External payload) e.heap)))
+external-keeps e payload None hint = record { course = refl; frames = refl; heap = handled e.heap _ _ refl refl refl (omega arith); references = omega arith; book = stays e.book refl }
+external-keeps e payload (Some entry) hint =
+    record { course = refl; frames = refl; heap = handled e.heap _ _ refl refl refl (omega arith); references = omega arith; book = adds _ _ refl refl (λ h. cc) refl }
+
+-- a call that withdraws: what it withdraws is registered
+pub registered-only : (book : Book) (o : Option ℕ) → IfSome (registered_only book o) (λ n. is_at is_registered book n ≡ true)
+registered-only book None = tt
+registered-only book (Some n) = by (is_at is_registered book n) refl
+  where
+    by : (b : Bool) → is_at is_registered book n ≡ b → IfSome (cond b (Some n) None) (λ m. is_at is_registered book m ≡ true)
+    by true h = h
+    by false h = tt
+
+withdrawing-keeps : (e : Environment) (a : Attachments) (o : Out) (t : Option ℕ) → IfSome t (λ n. is_at is_registered e.book n ≡ true)
+    → Keeps e (withdrawing t (accepts o (record e { attachments = a })))
+withdrawing-keeps e a o None h = keeps-attachments e a o
+withdrawing-keeps e a o (Some n) h = record { course = refl; frames = refl; heap = same e.heap; references = omega arith; book = drops n _ h refl }
+
+-- a call that may do both
+setting-keeps : (e : Environment) (addon payload : ℕ) (entry : Option ℕ) (hint : ℕ) → Keeps e (setting_instance e addon payload entry hint)
+setting-keeps e addon payload entry hint =
+    by (registered_only e.book (instance_ticket e.instances addon)) entry (registered-only e.book (instance_ticket e.instances addon))
+  where
+    by : (t entry : Option ℕ) → IfSome t (λ n. is_at is_registered e.book n ≡ true)
+        → Keeps e (registering_if (finalizer_if e payload entry hint) (withdrawing t
+        (accepts out.Nothing (record e { instances = with_instance addon (record { payload = payload; ticket = ticket_if e.book entry }) e.instances }))))
+    by None None h = record { course = refl; frames = refl; heap = same e.heap; references = omega arith; book = stays e.book refl }
+    by None (Some n) h = record { course = refl; frames = refl; heap = same e.heap; references = omega arith; book = adds _ _ refl refl (λ h. cc) refl }
+    by (Some t) None h = record { course = refl; frames = refl; heap = same e.heap; references = omega arith; book = drops t _ h refl }
+    by (Some t) (Some n) h = record { course = refl; frames = refl; heap = same e.heap; references = omega arith; book = swaps t _ _ h refl refl (λ h. cc) refl }
+
+hooking-keeps : (e : Environment) (entry argument : ℕ) → Keeps e (hooking e (caller_of e.frames) entry argument)
+hooking-keeps e entry argument = record { course = refl; frames = refl; heap = same e.heap; references = omega arith; book = adds _ _ refl refl (λ h. cc) refl }
+
+unhooking-keeps : (e : Environment) (hook t : Option ℕ) → IfSome t (λ n. is_at is_registered e.book n ≡ true)
+    → Keeps e (withdrawing t (accepts out.Nothing (record e { hooks = unhooked hook e.hooks })))
+unhooking-keeps e hook None h = record { course = refl; frames = refl; heap = same e.heap; references = omega arith; book = stays e.book refl }
+unhooking-keeps e hook (Some n) h = record { course = refl; frames = refl; heap = same e.heap; references = omega arith; book = drops n _ h refl }
+
+effect-keeps : (e : Environment) (c : Call) (n : ℕ) → refusal_in e.texts e.heap c ≡ None → Keeps e (effect e c n)
+effect-keeps e (call.Throw v) n h = record { course = refl; frames = refl; heap = same e.heap; references = omega arith; book = stays e.book refl }
+effect-keeps e (call.ThrowError code message) n h = record { course = refl; frames = refl; heap = thrown-keeps e.heap code message; references = omega arith; book = stays e.book refl }
+effect-keeps e call.IsExceptionPending n h = accepts-all e _
+effect-keeps e call.GetLastErrorInfo n h = accepts-all e _
+effect-keeps e call.GetAndClearLastException n h =
+    record { course = refl; frames = refl; heap = handled e.heap e.heap _ refl refl refl (omega arith); references = omega arith; book = stays e.book refl }
+effect-keeps e (call.CreateReference v count) n h = keeps-references e _ _ (length-with_record (λ m. m) n e.references.issued)
+effect-keeps e (call.DeleteReference r) n h = keeps-references e _ _ (omega arith)
+effect-keeps e (call.ReferenceRef r) n h = counted-keeps r.0 e (referred_value e.references r.0)
+effect-keeps e (call.ReferenceUnref r) n h = keeps-references e _ _ (omega arith)
+effect-keeps e (call.GetReferenceValue r) n h = told-keeps e (referred_value e.references r.0)
+effect-keeps e (call.Wrap v payload entry hint wanted) n h = wrapping-keeps e (handle_value e.heap v.0) payload entry hint wanted n
+effect-keeps e (call.Unwrap v) n h = accepts-all e _
+effect-keeps e (call.RemoveWrap v) n h =
+    let t : Option ℕ = wrap_ticket e.attachments (handle_value e.heap v.0) in
+    withdrawing-keeps e _ _ (registered_only e.book t) (registered-only e.book t)
+effect-keeps e (call.TypeTagObject v lower upper) n h = keeps-attachments e _ _
+effect-keeps e (call.CheckObjectTypeTag v lower upper) n h = accepts-all e _
+effect-keeps e (call.AddFinalizer v payload entry hint wanted) n h = finalizing-keeps e (handle_value e.heap v.0) payload entry hint wanted n
+effect-keeps e (call.CreateExternal payload entry hint) n h = external-keeps e payload entry hint
+effect-keeps e (call.SetInstanceData payload entry hint) n h = setting-keeps e (caller_of e.frames) payload entry hint
+effect-keeps e call.GetInstanceData n h = accepts-all e _
+effect-keeps e (call.AddEnvCleanupHook entry argument) n h = hooking-keeps e entry argument
+effect-keeps e (call.RemoveEnvCleanupHook entry argument) n h =
+    let t : Option ℕ = hook_ticket (caller_of e.frames) entry argument e.hooks in
+    unhooking-keeps e t (registered_only e.book t) (registered-only e.book t)
+effect-keeps e call.Collect n h = collected-keeps e (reach e) _
+effect-keeps e call.Exit n h = record { course = refl; frames = refl; heap = same e.heap; references = omega arith; book = stays e.book refl }
+effect-keeps e c n h = keeps-heap e c n h
+
+none-left : (a b : Option Status) → option_or a b ≡ None → a ≡ None
+none-left None b h = refl
+none-left (Some s) b h = cc
+
+none-right : (a b : Option Status) → option_or a b ≡ None → b ≡ None
+none-right None b h = h
+none-right (Some s) b h = cc
+
+given-keeps : (e : Environment) (c : Call) (n : ℕ) (s : Option Status) → early_refusal e c ≡ s → Keeps e (answer_unless e c n s)
+given-keeps e c n None h =
+    let timely : timely_refusal e c ≡ None = none-right (moment_refusal e c) (timely_refusal e c) h in
+    let named : option_or (reference_refusal e.references c) (attached_refusal e c) ≡ None = none-right (hook_refusal (caller_of e.frames) e.hooks c) _ timely in
+    let later : attached_refusal e c ≡ None = none-right (reference_refusal e.references c) _ named in
+    effect-keeps e c n (none-left (refusal_in e.texts e.heap c) (attachment_refusal e.attachments e.heap c) later)
+given-keeps e c n (Some s) h = refuses-all e s
+
+limit-keeps : (e : Environment) (s : Status) → Keeps e (refuses s (with_depth_error e))
+limit-keeps e s = record { course = refl; frames = refl; heap = thrown-keeps e.heap None _; references = omega arith; book = stays e.book refl }
+
+at-keeps : (e : Environment) (c : Call) (n : ℕ) (early deep : Option Status) → early_refusal e c ≡ early → Keeps e (answer_unless_deep e c n early deep)
+at-keeps e c n early None h = given-keeps e c n early h
+at-keeps e c n None (Some s) h = limit-keeps e s
+at-keeps e c n (Some r) (Some s) h = refuses-all e r
+
+pub answer-keeps : (e : Environment) (c : Call) (n : ℕ) → Keeps e (answer e c n)
+answer-keeps e c n = at-keeps e c n (early_refusal e c) (depth_refusal e.frames c) refl
+
+-- WHAT IS MADE
+-- a call that makes a duty has places for its frame, and is one that registers
+pub record MakesFor (c : Call) (made : Option Duty) : Type 0 where
+  pub places : 1 + 2 * one_if (is_some made) ≤ need c
+  pub registers : is_some made ≡ true → is_registering c ≡ true
+
+no-cut : (b : Bool) → b ≡ false → b ≡ true → ⊥
+no-cut true h k = cc
+no-cut false h k = cc
+
+makes-none : (c : Call) (made : Option Duty) → 1 ≤ need c → made ≡ None → MakesFor c made
+makes-none c made one none = rw none (record { places = omega (arith, one); registers = λ h. cc })
+
+-- each call needs a place for its entry
+pub needs-place : (c : Call) → 1 ≤ need c
+needs-place (call.CallFunction receiver f args) = omega arith
+needs-place c = omega arith
+
+dropping-none : (t : Option ℕ) (a : Answer Environment) → a.reply.made ≡ None → (withdrawing t a).reply.made ≡ None
+dropping-none None a h = h
+dropping-none (Some n) a h = h
+
+counted-none : (r : ℕ) (e : Environment) (v : Option ℕ) → (counted_up r e v).reply.made ≡ None
+counted-none r e None = refl
+counted-none r e (Some v) = refl
+
+value-none : (e : Environment) (v : Option ℕ) → (value_told e v).reply.made ≡ None
+value-none e None = refl
+value-none e (Some v) = refl
+
+referring-none : (wanted : Bool) (n v : ℕ) (e : Environment) → (referring_if wanted n v e).reply.made ≡ None
+referring-none true n v e = refl
+referring-none false n v e = refl
+
+effect-makes : (e : Environment) (c : Call) (n : ℕ) → MakesFor c (effect e c n).reply.made
+effect-makes e (call.ReferenceRef r) n = makes-none (call.ReferenceRef r) _ (omega arith) (counted-none r.0 e (referred_value e.references r.0))
+effect-makes e (call.GetReferenceValue r) n = makes-none (call.GetReferenceValue r) _ (omega arith) (value-none e (referred_value e.references r.0))
+effect-makes e (call.Wrap v payload None hint wanted) n = makes-none (call.Wrap v payload None hint wanted) _ (omega arith) (referring-none wanted n _ _)
+effect-makes e (call.Wrap v payload (Some entry) hint wanted) n = record { places = omega arith; registers = λ h. refl }
+effect-makes e (call.RemoveWrap v) n = makes-none (call.RemoveWrap v) _ (omega arith) (dropping-none (registered_only e.book (wrap_ticket e.attachments (handle_value e.heap v.0))) _ refl)
+effect-makes e (call.AddFinalizer v payload entry hint wanted) n = record { places = omega arith; registers = λ h. refl }
+effect-makes e (call.CreateExternal payload None hint) n = makes-none (call.CreateExternal payload None hint) _ (omega arith) refl
+effect-makes e (call.CreateExternal payload (Some entry) hint) n = record { places = omega arith; registers = λ h. refl }
+effect-makes e (call.SetInstanceData payload None hint) n =
+    makes-none (call.SetInstanceData payload None hint) _ (omega arith) (dropping-none (registered_only e.book (instance_ticket e.instances (caller_of e.frames))) _ refl)
+effect-makes e (call.SetInstanceData payload (Some entry) hint) n = record { places = omega arith; registers = λ h. refl }
+effect-makes e (call.AddEnvCleanupHook entry argument) n = record { places = omega arith; registers = λ h. refl }
+effect-makes e (call.RemoveEnvCleanupHook entry argument) n =
+    makes-none (call.RemoveEnvCleanupHook entry argument) _ (omega arith) (dropping-none (registered_only e.book (hook_ticket (caller_of e.frames) entry argument e.hooks)) _ refl)
+effect-makes e c n = makes-none c _ (needs-place c) refl
+
+given-makes : (e : Environment) (c : Call) (n : ℕ) (s : Option Status) → MakesFor c (answer_unless e c n s).reply.made
+given-makes e c n None = effect-makes e c n
+given-makes e c n (Some s) = makes-none c _ (needs-place c) refl
+
+at-makes : (e : Environment) (c : Call) (n : ℕ) (early deep : Option Status) → MakesFor c (answer_unless_deep e c n early deep).reply.made
+at-makes e c n early None = given-makes e c n early
+at-makes e c n None (Some s) = makes-none c _ (needs-place c) refl
+at-makes e c n (Some r) (Some s) = makes-none c _ (needs-place c) refl
+
+pub answer-makes : (e : Environment) (c : Call) (n : ℕ) → MakesFor c (answer e c n).reply.made
+answer-makes e c n = at-makes e c n (early_refusal e c) (depth_refusal e.frames c)
+
+-- in the teardown a call that registers is refused, so no duty is made
+torn : (e : Environment) (c : Call) → is_tearing e.phase ≡ true → is_registering c ≡ true → moment_refusal e c ≡ None → ⊥
+torn e c tearing registers none =
+    let late : registering_refusal e c ≡ None = none-right (guard_refusal e c) (registering_refusal e c) none in
+    let is : registering_refusal e c ≡ Some status.GenericFailure = rw (registers, tearing) refl in
+    let no : Some status.GenericFailure ≡ None = sym is ∙ late in
+    cc
+
+not-some : (o : Option Duty) → (is_some o ≡ true → ⊥) → o ≡ None
+not-some None h = refl
+not-some (Some d) h = absurd (h refl)
+
+torn-given : (e : Environment) (c : Call) (n : ℕ) (s : Option Status) → is_tearing e.phase ≡ true → early_refusal e c ≡ s → (answer_unless e c n s).reply.made ≡ None
+torn-given e c n (Some s) tearing is = refl
+torn-given e c n None tearing is =
+    not-some (effect e c n).reply.made (λ some. torn e c tearing ((effect-makes e c n).registers some) (none-left (moment_refusal e c) (timely_refusal e c) is))
+
+torn-at : (e : Environment) (c : Call) (n : ℕ) (early deep : Option Status) → is_tearing e.phase ≡ true → early_refusal e c ≡ early → (answer_unless_deep e c n early deep).reply.made ≡ None
+torn-at e c n early None tearing is = torn-given e c n early tearing is
+torn-at e c n None (Some s) tearing is = refl
+torn-at e c n (Some r) (Some s) tearing is = refl
+
+pub torn-makes-none : (e : Environment) (c : Call) (n : ℕ) → is_tearing e.phase ≡ true → (answer e c n).reply.made ≡ None
+torn-makes-none e c n tearing = torn-at e c n (early_refusal e c) (depth_refusal e.frames c) tearing refl
+
+-- A CALL'S ENTRY
+-- what a call of this entry keeps: the addons, the opening, the init frames that began, the phase, and how many frames stand; one of them has made one ask more. The
+-- book changes in one of the ways of a call, and there are places for the duty that is made
+pub record KeepsButAsk (c : Call) (old : Environment) (r : Reply) (new : Environment) : Type 0 where
+  pub course : course_of new ≡ course_of old
+  pub depth : length new.frames ≡ length old.frames
+  pub local : length (local_frames new.frames) ≡ length (local_frames old.frames)
+  pub heap : HeapKeeps old.heap new.heap
+  pub references : length new.references.issued ≤ length old.references.issued + 1
+  pub book : BookStep (caller_of old.frames) old.book r.made r.dropped new.book
+  pub makes : MakesFor c r.made
+
+-- an ask that is counted is none of a frame more
+pub local-counted : (fs : List Frame) → length (local_frames (ask_counted fs)) ≡ length (local_frames fs)
+local-counted [] = refl
+local-counted (f ∷ fs) = by (is_hub_duty f.duty)
+  where
+    by : (b : Bool) → length (cond (not b) (record f { asks = f.asks + 1 } ∷ local_frames fs) (local_frames fs)) ≡ length (cond (not b) (f ∷ local_frames fs) (local_frames fs))
+    by true = refl
+    by false = refl
+
+pub call_change-keeps : (e : Environment) (c : Call) (n : ℕ) → KeepsButAsk c e (call_change e c n).entry.reply (call_change e c n).after
+call_change-keeps e c n = record {
+  course = (answer-keeps e c n).course;
+  depth = length-changed _ (answer e c n).after.frames ∙ ap length (answer-keeps e c n).frames;
+  local = local-counted (answer e c n).after.frames ∙ ap (λ fs. length (local_frames fs)) (answer-keeps e c n).frames;
+  heap = (answer-keeps e c n).heap;
+  references = (answer-keeps e c n).references;
+  book = (answer-keeps e c n).book;
+  makes = answer-makes e c n;
+}
+
+-- the law of room: the places that are reserved after a call, and two for a duty that it withdrew, are those before it and two for a duty that it made
+pub call-reserved : (e : Environment) (c : Call) (r : Reply) (new : Environment) → KeepsButAsk c e r new
+    → reserved_journal new + 2 * one_if (is_some r.dropped) ≡ reserved_journal e + 2 * one_if (is_some r.made)
+call-reserved e c r new k =
+    let course = course-parts e new k.course in
+    let waits : owed_tickets new.book + one_if (is_some r.dropped) ≡ owed_tickets e.book + one_if (is_some r.made) = step-owed (caller_of e.frames) e.book r.made r.dropped new.book k.book in
+    rw (course.opened, course.phase, course.addons, course.inits, k.local) (omega (arith, waits))

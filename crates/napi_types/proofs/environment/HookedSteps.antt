@@ -1,0 +1,383 @@
+-- What hooks, the book and what else has tickets say of each other: every event of the environment keeps it.
+use Rattle.std.proofs.Common.{◌≡◌, ◌<◌, ◌∙◌, ℕ, zero, suc, ◌+◌, ◌==◌, Bool, true, false, cond, List, [], ◌∷◌, filter, find, Option, Some, None, option_map, IfSome, refl, ap, sym, subst}
+use Rattle.std.specs.List.{All}
+use Rattle.std.specs.Option.{option_and_then}
+use Rattle.std.proofs.lemmas.Bool.{eqb-true}
+use Rattle.std.proofs.lemmas.List.Elements.{All-nil, All-head, All-tail, All-set, All-replicate, All-weaker}
+use Rattle.std.proofs.lemmas.Option.{IfSome_then, same_Some}
+use Rattle.napi_types.specs.declared.call.Args.{Args}
+use Rattle.napi_types.specs.declared.call.Call.{Call}
+use Rattle.napi_types.specs.declared.call.Call.TheVariants as call
+use Rattle.napi_types.specs.declared.entry.Cause.{Cause}
+use Rattle.napi_types.specs.declared.entry.Cause.TheVariants as cause
+use Rattle.napi_types.specs.declared.entry.Out.TheVariants as out
+use Rattle.napi_types.specs.declared.entry.Phase.{Phase}
+use Rattle.napi_types.specs.declared.entry.Phase.TheVariants as phase
+use Rattle.napi_types.specs.declared.entry.Why.{Why}
+use Rattle.napi_types.specs.declared.ids.HandleId.{HandleId}
+use Rattle.napi_types.specs.declared.status.Status.{Status}
+use Rattle.napi_types.specs.plain.Phases.{next_phase}
+use Rattle.napi_types.specs.plain.Replies.{accepts}
+use Rattle.napi_types.specs.parts.Attachments.{Attachments, hangs_on, left_on, wrap_payload, wrap_ticket, with_wrap, without_wrap, with_attached}
+use Rattle.napi_types.specs.parts.Book.{Book, Registration, registration_at, is_at, is_registered, is_owed, made_due, made_withdrawn, moved_at, due_where, new_ticket, with_registration}
+use Rattle.napi_types.specs.parts.Frames.{caller_of, cause_of, duty_of}
+use Rattle.napi_types.specs.parts.Heap.{handle_value}
+use Rattle.napi_types.specs.parts.Hooks.{Hook, is_hook, hook_ticket, last_hook, without_hook}
+use Rattle.napi_types.specs.parts.InstanceData.{InstanceData, Instances, instance_ticket, with_instance}
+use Rattle.napi_types.specs.parts.References.{referred_value}
+use Rattle.napi_types.specs.environment.Calls.{effect, answer_unless, answer_unless_deep}
+use Rattle.napi_types.specs.environment.Changes.{opening_change, init_change, call_change, book_in, in_phase, gone_change}
+use Rattle.napi_types.specs.environment.Collection.{collected, is_freed}
+use Rattle.napi_types.specs.environment.Ends.{end_change}
+use Rattle.napi_types.specs.environment.Entering.{enter_change, function_change, asked_change}
+use Rattle.napi_types.specs.environment.Environment.{Environment, new_environment}
+use Rattle.napi_types.specs.environment.HookCalls.{hook_registration, hooking, unhooking}
+use Rattle.napi_types.specs.environment.Hooked.{cause_at, is_late, StandsIn, HasFinalizer, IsHooked}
+use Rattle.napi_types.specs.environment.InstanceCalls.{setting_instance}
+use Rattle.napi_types.specs.environment.ReferenceCalls.{counted_up, value_told}
+use Rattle.napi_types.specs.environment.Refusals.{early_refusal, depth_refusal, refusal}
+use Rattle.napi_types.specs.environment.Registering.{finalizer_of, finalizer_if, ticket_if, registering_if, registered_only, withdrawing}
+use Rattle.napi_types.specs.environment.Roots.{reach}
+use Rattle.napi_types.specs.environment.Tickets.{begun_in, may_begin_in, hooks_left, ticket_change}
+use Rattle.napi_types.specs.environment.WrapCalls.{with_attachments, wrapping, finalizing, unwrapping}
+use Rattle.napi_types.proofs.plain.Maps.{filter_all}
+use Rattle.napi_types.proofs.parts.AttachedTickets.{HoldsAttached, HoldsAttached-from, tickets_where-holds, wrap_ticket-holds, HoldsAttached-with_wrap, HoldsAttached-without_wrap, HoldsAttached-with_attached, HoldsAttached-left_on, HoldsAttached-weaker}
+use Rattle.napi_types.proofs.parts.Books.{withdrawn-leaves, leaves-in, length-moved}
+use Rattle.napi_types.proofs.parts.Moved.{at-state}
+use Rattle.napi_types.proofs.environment.Answers.{course-parts}
+use Rattle.napi_types.proofs.environment.FrameChanges.{hangings_of, hangings-parts, SameHangings, book_left, KeepsButFrame, ended-keeps, KeepsAndEnters, enter_change-keeps}
+use Rattle.napi_types.proofs.environment.HookedBooks.{KeepsCauses, BookGoes, every, all_but_ticket, Listed, goes-nowhere, late-goes, push-goes, push-causes, new-cause, moved-causes, finalizers-go, begun-goes, left-goes, ticket-goes, listed-goes, listed-push, listed-within}
+
+-- FINALIZERS
+-- a ticket is that of a finalizer
+abbrev Finalizes : Book → ℕ → Type 0
+Finalizes book n = cause_at book n ≡ Some cause.Finalize
+
+attached-goes : (old new : Book) (a : Attachments) → KeepsCauses old new → HoldsAttached (Finalizes old) a → HoldsAttached (Finalizes new) a
+attached-goes old new a causes h = HoldsAttached-weaker (Finalizes old) (Finalizes new) (λ n is. causes n cause.Finalize is) a h
+
+instances-go : (old new : Book) (is : Instances) → KeepsCauses old new → All (HasFinalizer old) is → All (HasFinalizer new) is
+instances-go old new is causes all =
+    All-weaker (HasFinalizer old) (HasFinalizer new) (λ i h. IfSome_then (option_and_then (λ (d : InstanceData). d.ticket) i) h (λ n here. causes n cause.Finalize here)) is all
+
+-- that of instance data
+instance-finalizes : (book : Book) (is : Instances) (addon : ℕ) → All (HasFinalizer book) is → IfSome (instance_ticket is addon) (Finalizes book)
+instance-finalizes book [] addon all = tt
+instance-finalizes book (i ∷ is) zero all = All-head (HasFinalizer book) i is all
+instance-finalizes book (i ∷ is) (suc addon) all = instance-finalizes book is addon (All-tail (HasFinalizer book) i is all)
+
+-- and that of what a call withdraws
+only-finalizes : (book : Book) (t : Option ℕ) → IfSome t (Finalizes book) → IfSome (registered_only book t) (Finalizes book)
+only-finalizes book None is = tt
+only-finalizes book (Some n) is = by (is_at is_registered book n)
+  where
+    by : (b : Bool) → IfSome (cond b (Some n) None) (Finalizes book)
+    by true = is
+    by false = tt
+
+-- THE ENVIRONMENT CHANGES
+listed : (e : Environment) → IsHooked e → Listed e.phase e.book e.hooks
+listed e h = record { rise = h.rise; stand = h.hooks; others = h.others }
+
+attached : (e : Environment) → IsHooked e → HoldsAttached (Finalizes e.book) e.attachments
+attached e h = HoldsAttached-from (Finalizes e.book) e.attachments h.attached
+
+hooked-by : (e : Environment) → Listed e.phase e.book e.hooks → HoldsAttached (Finalizes e.book) e.attachments → All (HasFinalizer e.book) e.instances → IsHooked e
+hooked-by e l on is = record { rise = l.rise; hooks = l.stand; others = l.others; attached = tickets_where-holds (Finalizes e.book) e.attachments on (λ v. true); instances = is }
+
+-- the book goes a step, and the hooks stay whose tickets pass
+hooked-goes : (old new : Environment) (stays : ℕ → Bool) → (is_late new.phase ≡ false → is_late old.phase ≡ false) → BookGoes new.phase stays old.book new.book
+    → new.hooks ≡ filter (λ h. stays h.ticket) old.hooks → new.attachments ≡ old.attachments → new.instances ≡ old.instances → IsHooked old → IsHooked new
+hooked-goes old new stays sooner goes hooks attachments instances h =
+    hooked-by new
+    (subst (λ hs. Listed new.phase new.book hs) (sym hooks) (listed-goes old.phase new.phase stays old.book new.book old.hooks sooner goes (listed old h)))
+    (subst (λ a. HoldsAttached (Finalizes new.book) a) (sym attachments) (attached-goes old.book new.book old.attachments goes.causes (attached old h)))
+    (subst (λ is. All (HasFinalizer new.book) is) (sym instances) (instances-go old.book new.book old.instances goes.causes h.instances))
+
+all-stay : (hooks : List Hook) → hooks ≡ filter (λ h. every h.ticket) hooks
+all-stay hooks = sym (filter_all (λ (h : Hook). every h.ticket) hooks (λ k d inside. refl))
+
+-- nothing of it changes
+hooked-same : (old new : Environment) → new.phase ≡ old.phase → SameHangings old new → IsHooked old → IsHooked new
+hooked-same old new phase same h =
+    let goes : BookGoes new.phase every old.book new.book = subst (λ b. BookGoes new.phase every old.book b) (sym same.book) (goes-nowhere new.phase old.book) in
+    hooked-goes old new every (λ early. ap is_late (sym phase) ∙ early) goes (same.hooks ∙ all-stay old.hooks) same.attachments same.instances h
+
+pub unchanged : (old new : Environment) → new.phase ≡ old.phase → hangings_of new ≡ hangings_of old → IsHooked old → IsHooked new
+unchanged old new phase same h = hooked-same old new phase (hangings-parts old new same) h
+
+-- one thing changes alone
+hooked-book : (e : Environment) (book : Book) → BookGoes e.phase every e.book book → IsHooked e → IsHooked (record e { book = book })
+hooked-book e book goes h = hooked-goes e (record e { book = book }) every (λ early. early) goes (all-stay e.hooks) refl refl h
+
+hooked-attachments : (e : Environment) (a : Attachments) → HoldsAttached (Finalizes e.book) a → IsHooked e → IsHooked (record e { attachments = a })
+hooked-attachments e a on h = hooked-by (record e { attachments = a }) (listed e h) on h.instances
+
+hooked-instances : (e : Environment) (is : Instances) → All (HasFinalizer e.book) is → IsHooked e → IsHooked (record e { instances = is })
+hooked-instances e is all h = hooked-by (record e { instances = is }) (listed e h) (attached e h) all
+
+-- CALLS THAT REGISTER
+-- a finalizer is registered
+abbrev with_finalizer : Environment → ℕ → ℕ → ℕ → Environment
+with_finalizer e payload entry hint = record e { book = with_registration (finalizer_of e payload entry hint) e.book }
+
+hooked-finalizer : (e : Environment) (payload entry hint : ℕ) → IsHooked e → IsHooked (with_finalizer e payload entry hint)
+hooked-finalizer e payload entry hint h = hooked-book e _ (push-goes e.phase (finalizer_of e payload entry hint) e.book (λ is. cc)) h
+
+new-finalizes : (e : Environment) (payload entry hint : ℕ) → Finalizes (with_finalizer e payload entry hint).book (new_ticket e.book)
+new-finalizes e payload entry hint = new-cause (finalizer_of e payload entry hint) e.book
+
+hooked-wrapped : (e : Environment) (v payload : ℕ) (t : Option ℕ) → IfSome t (Finalizes e.book) → IsHooked e → IsHooked (with_attachments (with_wrap v payload t e.attachments) e)
+hooked-wrapped e v payload t here h = hooked-attachments e _ (HoldsAttached-with_wrap (Finalizes e.book) v payload t e.attachments here (attached e h)) h
+
+hooked-attached : (e : Environment) (v t : ℕ) → Finalizes e.book t → IsHooked e → IsHooked (with_attachments (with_attached v t e.attachments) e)
+hooked-attached e v t here h = hooked-attachments e _ (HoldsAttached-with_attached (Finalizes e.book) v t e.attachments here (attached e h)) h
+
+wrapping-hooked : (e : Environment) (v payload : ℕ) (entry : Option ℕ) (hint : ℕ) (wanted : Bool) (n : ℕ) → IsHooked e → IsHooked (wrapping e v payload entry hint wanted n).after
+wrapping-hooked e v payload None hint false n h = hooked-wrapped e v payload None tt h
+wrapping-hooked e v payload None hint true n h = unchanged _ _ refl refl (hooked-wrapped e v payload None tt h)
+wrapping-hooked e v payload (Some entry) hint wanted n h = by wanted
+  where
+    after : IsHooked (with_attachments (with_wrap v payload (Some (new_ticket e.book)) e.attachments) (with_finalizer e payload entry hint))
+    after = hooked-wrapped (with_finalizer e payload entry hint) v payload (Some (new_ticket e.book)) (new-finalizes e payload entry hint) (hooked-finalizer e payload entry hint h)
+
+    by : (wanted : Bool) → IsHooked (wrapping e v payload (Some entry) hint wanted n).after
+    by false = after
+    by true = unchanged _ _ refl refl after
+
+finalizing-hooked : (e : Environment) (v payload entry hint : ℕ) (wanted : Bool) (n : ℕ) → IsHooked e → IsHooked (finalizing e v payload entry hint wanted n).after
+finalizing-hooked e v payload entry hint wanted n h = by wanted
+  where
+    after : IsHooked (with_attachments (with_attached v (new_ticket e.book) e.attachments) (with_finalizer e payload entry hint))
+    after = hooked-attached (with_finalizer e payload entry hint) v (new_ticket e.book) (new-finalizes e payload entry hint) (hooked-finalizer e payload entry hint h)
+
+    by : (wanted : Bool) → IsHooked (finalizing e v payload entry hint wanted n).after
+    by false = after
+    by true = unchanged _ _ refl refl after
+
+external-hooked : (e : Environment) (payload : ℕ) (entry : Option ℕ) (hint n : ℕ) → IsHooked e → IsHooked (effect e (call.CreateExternal payload entry hint) n).after
+external-hooked e payload None hint n h = unchanged e _ refl refl h
+external-hooked e payload (Some entry) hint n h =
+    unchanged _ _ refl refl
+    (hooked-attached (with_finalizer e payload entry hint) (e.heap.made + 1) (new_ticket e.book) (new-finalizes e payload entry hint) (hooked-finalizer e payload entry hint h))
+
+-- CALLS THAT WITHDRAW
+-- a finalizer is withdrawn
+abbrev withdrawn : Environment → ℕ → Environment
+withdrawn e t = record e { book = moved_at made_withdrawn t e.book }
+
+hooked-withdrawn : (e : Environment) (t : ℕ) → Finalizes e.book t → IsHooked e → IsHooked (withdrawn e t)
+hooked-withdrawn e t is h =
+    hooked-book e _ (finalizers-go e.phase made_withdrawn (λ m. m == t) e.book (λ n same. subst (Finalizes e.book) (sym (eqb-true n t same)) is)) h
+
+unwrapping-hooked : (e : Environment) (v : ℕ) → IsHooked e → IsHooked (unwrapping e v).after
+unwrapping-hooked e v h =
+    by (registered_only e.book (wrap_ticket e.attachments v)) (only-finalizes e.book (wrap_ticket e.attachments v) (wrap_ticket-holds (Finalizes e.book) e.attachments v (attached e h)))
+  where
+    left : Environment
+    left = with_attachments (without_wrap v e.attachments) e
+
+    after : IsHooked left
+    after = hooked-attachments e _ (HoldsAttached-without_wrap (Finalizes e.book) v e.attachments (attached e h)) h
+
+    by : (t : Option ℕ) → IfSome t (Finalizes e.book) → IsHooked (withdrawing t (accepts (out.Unsigned (wrap_payload e.attachments v)) left)).after
+    by None is = after
+    by (Some t) is = hooked-withdrawn left t is after
+
+hooked-set : (e : Environment) (addon payload : ℕ) (t : Option ℕ) → IfSome t (Finalizes e.book) → IsHooked e
+    → IsHooked (record e { instances = with_instance addon (record { payload = payload; ticket = t }) e.instances })
+hooked-set e addon payload t here h =
+    let i : InstanceData = record { payload = payload; ticket = t } in
+    hooked-instances e _ (All-set (HasFinalizer e.book) e.instances addon (Some i) here h.instances) h
+
+setting-hooked : (e : Environment) (addon payload : ℕ) (entry : Option ℕ) (hint : ℕ) → IsHooked e → IsHooked (setting_instance e addon payload entry hint).after
+setting-hooked e addon payload entry hint h =
+    by (registered_only e.book (instance_ticket e.instances addon)) entry (only-finalizes e.book (instance_ticket e.instances addon) (instance-finalizes e.book e.instances addon h.instances))
+  where
+    by : (t entry : Option ℕ) → IfSome t (Finalizes e.book)
+        → IsHooked (registering_if (finalizer_if e payload entry hint) (withdrawing t
+        (accepts out.Nothing (record e { instances = with_instance addon (record { payload = payload; ticket = ticket_if e.book entry }) e.instances })))).after
+    by None None is = hooked-set e addon payload None tt h
+    by None (Some n) is = hooked-set (with_finalizer e payload n hint) addon payload (Some (new_ticket e.book)) (new-finalizes e payload n hint) (hooked-finalizer e payload n hint h)
+    by (Some t) None is = hooked-set (withdrawn e t) addon payload None tt (hooked-withdrawn e t is h)
+    by (Some t) (Some n) is =
+        let left : Environment = withdrawn e t in
+        let same : new_ticket left.book ≡ new_ticket e.book = ap (λ m. m + 1) (length-moved made_withdrawn (λ m. m == t) e.book) in
+        hooked-set (with_finalizer left payload n hint) addon payload (Some (new_ticket e.book))
+        (subst (Finalizes (with_finalizer left payload n hint).book) same (new-finalizes left payload n hint))
+        (hooked-finalizer left payload n hint (hooked-withdrawn e t is h))
+
+-- THE CALLS ON HOOKS
+hooking-hooked : (e : Environment) (addon entry argument : ℕ) → IsHooked e → IsHooked (hooking e addon entry argument).after
+hooking-hooked e addon entry argument h =
+    let r : Registration = hook_registration addon entry argument in
+    hooked-by (hooking e addon entry argument).after (listed-push e.phase e.book e.hooks _ r refl refl refl (listed e h))
+    (attached-goes e.book (with_registration r e.book) e.attachments (push-causes r e.book) (attached e h))
+    (instances-go e.book (with_registration r e.book) e.instances (push-causes r e.book) h.instances)
+
+found-holds : {A : Type 0} (P : A → Type 0) (test : A → Bool) (xs : List A) → All P xs → IfSome (find test xs) P
+found-holds P test [] all = tt
+found-holds P test (x ∷ xs) all = by (test x) (found-holds P test xs (All-tail P x xs all))
+  where
+    by : (b : Bool) → IfSome (find test xs) P → IfSome (cond b (Some x) (find test xs)) P
+    by true later = All-head P x xs all
+    by false later = later
+
+-- the ticket of a hook is registered up to `finals`
+abbrev Waits : Environment → ℕ → Type 0
+Waits e t = is_late e.phase ≡ false → is_at is_registered e.book t ≡ true
+
+hook-waits : (e : Environment) (addon entry argument : ℕ) → IsHooked e → IfSome (hook_ticket addon entry argument e.hooks) (Waits e)
+hook-waits e addon entry argument h =
+    by (find (is_hook addon entry argument) e.hooks) (found-holds (StandsIn e.phase e.book) (is_hook addon entry argument) e.hooks h.hooks)
+  where
+    by : (o : Option Hook) → IfSome o (StandsIn e.phase e.book) → IfSome (option_map (λ (x : Hook). x.ticket) o) (Waits e)
+    by None s = tt
+    by (Some x) s = s.registered
+
+unhooking-hooked : (e : Environment) (t : Option ℕ) → IfSome t (Waits e) → IsHooked e → IsHooked (unhooking e t).after
+unhooking-hooked e None waits h = unchanged e _ refl refl h
+unhooking-hooked e (Some t) waits h = by (is_at is_registered e.book t) refl
+  where
+    left : Environment
+    left = record e { hooks = without_hook t e.hooks }
+
+    by : (b : Bool) → is_at is_registered e.book t ≡ b → IsHooked (withdrawing (cond b (Some t) None) (accepts out.Nothing left)).after
+    by true is =
+        let gone : (r : Registration) → registration_at e.book t ≡ Some r → is_owed (made_withdrawn r.state) ≡ false =
+        λ r there. withdrawn-leaves.after r.state (sym (at-state is_registered e.book t r there) ∙ is) in
+        hooked-goes e (withdrawn left t) (all_but_ticket t) (λ early. early) (ticket-goes e.phase made_withdrawn t e.book gone) refl refl refl h
+    by false is =
+        let late : is_late e.phase ≡ false → ⊥ = λ early. let no : true ≡ false = sym (waits early) ∙ is in cc in
+        hooked-goes e left (all_but_ticket t) (λ early. early) (late-goes e.phase (all_but_ticket t) e.book e.book late (λ n why was. was)) refl refl refl h
+
+-- A COLLECTION
+-- what is attached to the freed falls due, and is taken off them
+collected-hooked : (e : Environment) (alive : List ℕ) → IsHooked e → IsHooked (collected alive e)
+collected-hooked e alive h =
+    let freed : ℕ → Bool = is_freed alive in
+    let due : Environment = record e { book = due_where (hangs_on freed e.attachments) e.book } in
+    let finalizers : (n : ℕ) → hangs_on freed e.attachments n ≡ true → Finalizes e.book n = tickets_where-holds (Finalizes e.book) e.attachments (attached e h) freed in
+    let fallen : IsHooked due = hooked-book e _ (finalizers-go e.phase made_due (hangs_on freed e.attachments) e.book finalizers) h in
+    unchanged _ (collected alive e) refl refl
+    (hooked-attachments due (left_on freed e.attachments) (HoldsAttached-left_on (Finalizes due.book) freed e.attachments (attached due fallen)) fallen)
+
+-- EVERY CALL
+counted-hooked : (r : ℕ) (e : Environment) (v : Option ℕ) → IsHooked e → IsHooked (counted_up r e v).after
+counted-hooked r e None h = h
+counted-hooked r e (Some v) h = unchanged e _ refl refl h
+
+told-hooked : (e : Environment) (v : Option ℕ) → IsHooked e → IsHooked (value_told e v).after
+told-hooked e None h = h
+told-hooked e (Some v) h = unchanged e _ refl refl h
+
+-- most calls change nothing of it
+effect-hooked : (e : Environment) (c : Call) (n : ℕ) → IsHooked e → IsHooked (effect e c n).after
+effect-hooked e (call.ReferenceRef r) n h = counted-hooked r.0 e (referred_value e.references r.0) h
+effect-hooked e (call.GetReferenceValue r) n h = told-hooked e (referred_value e.references r.0) h
+effect-hooked e (call.Wrap v payload entry hint wanted) n h = wrapping-hooked e (handle_value e.heap v.0) payload entry hint wanted n h
+effect-hooked e (call.RemoveWrap v) n h = unwrapping-hooked e (handle_value e.heap v.0) h
+effect-hooked e (call.TypeTagObject v lower upper) n h = record { rise = h.rise; hooks = h.hooks; others = h.others; attached = h.attached; instances = h.instances }
+effect-hooked e (call.AddFinalizer v payload entry hint wanted) n h = finalizing-hooked e (handle_value e.heap v.0) payload entry hint wanted n h
+effect-hooked e (call.CreateExternal payload entry hint) n h = external-hooked e payload entry hint n h
+effect-hooked e (call.SetInstanceData payload entry hint) n h = setting-hooked e (caller_of e.frames) payload entry hint h
+effect-hooked e (call.AddEnvCleanupHook entry argument) n h = hooking-hooked e (caller_of e.frames) entry argument h
+effect-hooked e (call.RemoveEnvCleanupHook entry argument) n h =
+    unhooking-hooked e (hook_ticket (caller_of e.frames) entry argument e.hooks) (hook-waits e (caller_of e.frames) entry argument h) h
+effect-hooked e call.Collect n h = collected-hooked e (reach e) h
+effect-hooked e c n h = unchanged e _ refl refl h
+
+given-hooked : (e : Environment) (c : Call) (n : ℕ) (s : Option Status) → IsHooked e → IsHooked (answer_unless e c n s).after
+given-hooked e c n None h = effect-hooked e c n h
+given-hooked e c n (Some s) h = h
+
+at-hooked : (e : Environment) (c : Call) (n : ℕ) (early deep : Option Status) → IsHooked e → IsHooked (answer_unless_deep e c n early deep).after
+at-hooked e c n early None h = given-hooked e c n early h
+at-hooked e c n (Some r) (Some s) h = h
+at-hooked e c n None (Some s) h = unchanged e _ refl refl h
+
+pub hooked-called : (e : Environment) (c : Call) (n : ℕ) → IsHooked e → IsHooked (call_change e c n).after
+hooked-called e c n h = unchanged _ (call_change e c n).after refl refl (at-hooked e c n (early_refusal e c) (depth_refusal e.frames c) h)
+
+pub hooked-entered : (receiver : Option HandleId) (f : HandleId) (args : Args) (e : Environment) → IsHooked e → IsHooked (enter_change receiver f args e).after
+hooked-entered receiver f args e h =
+    let new : Environment = (enter_change receiver f args e).after in
+    let k : KeepsAndEnters e new f = enter_change-keeps receiver f args e in
+    unchanged e new (course-parts e new k.course).phase k.hangings h
+
+function-hooked : (receiver : Option HandleId) (f : HandleId) (args : Args) (n : ℕ) (e : Environment) (s : Option Status) → IsHooked e → IsHooked (function_change receiver f args n e s).after
+function-hooked receiver f args n e (Some s) h = hooked-called e (call.CallFunction receiver f args) n h
+function-hooked receiver f args n e None h = hooked-entered receiver f args e h
+
+pub hooked-asked : (e : Environment) (c : Call) (n : ℕ) → IsHooked e → IsHooked (asked_change e c n).after
+hooked-asked e (call.CallFunction receiver f args) n h = function-hooked receiver f args n e (refusal e (call.CallFunction receiver f args)) h
+hooked-asked e c n h = hooked-called e c n h
+
+-- EVERY OTHER EVENT
+none-given : (n : ℕ) (why : Cause) → cause_at [] n ≡ Some why → ⊥
+none-given zero why is = cc
+none-given (suc n) why is = cc
+
+pub hooked-opening : (addons texts : ℕ) → IsHooked (new_environment addons texts)
+hooked-opening addons texts = record {
+  rise = tt;
+  hooks = All-nil (StandsIn phase.Init []);
+  others = λ early n hook is. absurd (none-given n cause.Hook hook);
+  attached = λ n here. cc;
+  instances = All-replicate (HasFinalizer []) addons None tt;
+}
+
+pub hooked-opened : (e : Environment) → IsHooked e → IsHooked (opening_change e).after
+hooked-opened e h = unchanged e (opening_change e).after refl refl h
+
+pub hooked-init : (n : ℕ) (e : Environment) → IsHooked e → IsHooked (init_change n e).after
+hooked-init n e h = unchanged e (init_change n e).after refl refl h
+
+pub hooked-ended : (v : Option HandleId) (cut : Option Why) (e : Environment) → IsHooked e → IsHooked (end_change v cut e).after
+hooked-ended v cut e h =
+    let new : Environment = (end_change v cut e).after in
+    let k : KeepsButFrame e new = ended-keeps v cut e in
+    let same : SameHangings (record e { book = book_left (cause_of e.frames) (duty_of e.frames) e.book }) new =
+    record { attachments = k.attachments; book = k.book; hooks = k.hooks; instances = k.instances } in
+    hooked-same _ new (course-parts e new k.course).phase same (hooked-book e _ (left-goes e.phase (cause_of e.frames) (duty_of e.frames) e.book) h)
+
+-- in Hooks what begins is taken off the list; in every other phase it was due, and is no hook that is registered
+begun-hooked : (p : Phase) (n : ℕ) (r : Registration) (e : Environment) → registration_at e.book n ≡ Some r → may_begin_in p r.state ≡ true → IsHooked e
+    → IsHooked (record e { book = moved_at (begun_in p) n e.book; hooks = hooks_left p n e.hooks })
+begun-hooked phase.Hooks n r e there may h =
+    let left : Registration → Type 0 = λ q. is_owed (begun_in phase.Hooks q.state) ≡ false in
+    let gone : (q : Registration) → registration_at e.book n ≡ Some q → left q = λ q is. subst left (same_Some r q (sym there ∙ is)) ((leaves-in phase.Hooks).after r.state may) in
+    hooked-goes e _ (all_but_ticket n) (λ early. early) (ticket-goes e.phase (begun_in phase.Hooks) n e.book gone) refl refl refl h
+begun-hooked _ n r e there may h = hooked-book e _ (begun-goes e.phase n e.book) h
+
+pub hooked-begun : (n : ℕ) (r : Registration) (e : Environment) → registration_at e.book n ≡ Some r → may_begin_in e.phase r.state ≡ true → IsHooked e → IsHooked (ticket_change n r e).after
+hooked-begun n r e there may h = unchanged _ (ticket_change n r e).after refl refl (begun-hooked e.phase n r e there may h)
+
+phase-goes : (p : Phase) (book : Book) → BookGoes p every book (book_in p book)
+phase-goes phase.Finals book = late-goes phase.Finals every book (book_in phase.Finals book) (λ early. cc) (moved-causes made_due (λ n. true) book)
+phase-goes p book = goes-nowhere p book
+
+sooner : (q p : Phase) → next_phase q ≡ Some p → is_late p ≡ false → is_late q ≡ false
+sooner phase.Finals p next early = let no : true ≡ false = ap is_late (same_Some phase.Gone p next) ∙ early in cc
+sooner phase.Gone p next early = let no : ⊥ = cc in absurd no
+sooner _ p next early = refl
+
+pub hooked-phase : (p : Phase) (e : Environment) → next_phase e.phase ≡ Some p → IsHooked e → IsHooked (in_phase p e)
+hooked-phase p e next h = hooked-goes e (in_phase p e) every (sooner e.phase p next) (phase-goes p e.book) (all-stay e.hooks) refl refl h
+
+pub hooked-gone : (e : Environment) → IsHooked e → IsHooked (gone_change e).after
+hooked-gone e h = hooked-goes e (gone_change e).after every (λ early. cc) (goes-nowhere phase.Gone e.book) (all-stay e.hooks) refl refl h
+
+-- WHAT IT TELLS
+pub last-holds : (P : Hook → Type 0) (hooks : List Hook) (h : Hook) → All P hooks → last_hook hooks ≡ Some h → P h
+last-holds P [] h all last = let no : ⊥ = cc in absurd no
+last-holds P (x ∷ []) h all last = subst P (same_Some x h last) (All-head P x [] all)
+last-holds P (x ∷ y ∷ hooks) h all last = last-holds P (y ∷ hooks) h (All-tail P x (y ∷ hooks) all) last
+
+-- the hook that was added last is registered
+pub hook-registered : (e : Environment) (h : Hook) → IsHooked e → is_late e.phase ≡ false → last_hook e.hooks ≡ Some h → is_at is_registered e.book h.ticket ≡ true
+hook-registered e h hooked early last = (last-holds (StandsIn e.phase e.book) e.hooks h hooked.hooks last).registered early
+
+-- the tickets of hooks were given
+pub hooks-within : (e : Environment) → IsHooked e → All (λ h. h.ticket < new_ticket e.book) e.hooks
+hooks-within e hooked = listed-within e.phase e.book e.hooks hooked.hooks

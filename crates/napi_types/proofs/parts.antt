@@ -1,0 +1,6 @@
+-- On the parts: the book and its tickets, attachments, what is reached.
+pub mod AttachedTickets
+pub mod BookSteps
+pub mod Books
+pub mod Moved
+pub mod Reaching

@@ -1,0 +1,277 @@
+-- How many tickets have their frame still to come, as the book changes.
+use Rattle.std.proofs.Common.{◌≡◌, ◌∙◌, ℕ, zero, suc, ◌+◌, ◌<◌, ◌≤◌, ◌==◌, ◌||◌, Bool, true, false, cond, List, [], ◌∷◌, length, filter, slice_get, Option, Some, None, option_map, refl, ap, sym, arith}
+use Rattle.std.specs.List.{All, find}
+use Rattle.std.specs.Option.{unwrap_or}
+use Rattle.std.proofs.lemmas.Bool.{eqb-true}
+use Rattle.std.proofs.lemmas.List.Elements.{All-head, All-tail, All-cons, All-nil}
+use Rattle.std.proofs.lemmas.Option.{slice_get-get_or}
+use Rattle.napi_types.specs.declared.entry.Phase.{Phase}
+use Rattle.napi_types.specs.declared.entry.Phase.TheVariants as phase
+use Rattle.napi_types.specs.plain.Lists.{has_number, up_to}
+use Rattle.napi_types.specs.plain.Room.{one_if}
+use Rattle.napi_types.specs.parts.Book.{Book, Registration, TicketState, Registered, Due, Begun, Ended, Withdrawn, is_registered, is_due, is_owed, is_at, made_due, made_withdrawn, made_begun, made_due_and_begun, made_ended, moved, moved_from, moved_where, moved_at, due_where, all_due, registration_at, lowest_due, owed_tickets, with_registration}
+use Rattle.napi_types.specs.environment.Tickets.{begun_in, may_begin_in}
+use Rattle.napi_types.proofs.plain.Issued.{has-up_to}
+
+-- ONE MORE
+pub owed-cons : (r : Registration) (rs : Book) → owed_tickets (r ∷ rs) ≡ one_if (is_owed r.state) + owed_tickets rs
+owed-cons r rs = by (is_owed r.state)
+  where
+    by : (b : Bool) → length (cond b (r ∷ filter (λ (q : Registration). is_owed q.state) rs) (filter (λ (q : Registration). is_owed q.state) rs)) ≡ one_if b + owed_tickets rs
+    by true = omega arith
+    by false = omega arith
+
+pub owed-registered : (r : Registration) (book : Book) → r.state ≡ Registered → owed_tickets (with_registration r book) ≡ owed_tickets book + 1
+owed-registered r [] new = owed-cons r [] ∙ ap (λ s. one_if (is_owed s) + 0) new
+owed-registered r (q ∷ book) new =
+    let later : owed_tickets (with_registration r book) ≡ owed_tickets book + 1 = owed-registered r book new in
+    let before : owed_tickets (q ∷ with_registration r book) ≡ one_if (is_owed q.state) + owed_tickets (with_registration r book) = owed-cons q (with_registration r book) in
+    let now : owed_tickets (q ∷ book) ≡ one_if (is_owed q.state) + owed_tickets book = owed-cons q book in
+    omega (arith, later, before, now)
+
+-- MOVES THAT KEEP IT
+abbrev Keeps : (TicketState → TicketState) → Type 0
+Keeps move = (s : TicketState) → is_owed (move s) ≡ is_owed s
+
+pub due-keeps : (s : TicketState) → is_owed (made_due s) ≡ is_owed s
+due-keeps Registered = refl
+due-keeps Due = refl
+due-keeps Begun = refl
+due-keeps Ended = refl
+due-keeps Withdrawn = refl
+
+pub ended-keeps : (s : TicketState) → is_owed (made_ended s) ≡ is_owed s
+ended-keeps Registered = refl
+ended-keeps Due = refl
+ended-keeps Begun = refl
+ended-keeps Ended = refl
+ended-keeps Withdrawn = refl
+
+moved-state : (move : TicketState → TicketState) → Keeps move → (b : Bool) (r : Registration) → is_owed (cond b (moved move r) r).state ≡ is_owed r.state
+moved-state move keeps true r = keeps r.state
+moved-state move keeps false r = refl
+
+moved_from-keeps : (move : TicketState → TicketState) → Keeps move → (test : ℕ → Bool) (k : ℕ) (rs : Book) → owed_tickets (moved_from k move test rs) ≡ owed_tickets rs
+moved_from-keeps move keeps test k [] = refl
+moved_from-keeps move keeps test k (r ∷ rs) =
+    let first : Registration = cond (test k) (moved move r) r in
+    owed-cons first (moved_from (suc k) move test rs)
+    ∙ ap (λ b. one_if b + owed_tickets (moved_from (suc k) move test rs)) (moved-state move keeps (test k) r)
+    ∙ ap (λ n. one_if (is_owed r.state) + n) (moved_from-keeps move keeps test (suc k) rs)
+    ∙ sym (owed-cons r rs)
+
+pub owed-due_where : (test : ℕ → Bool) (book : Book) → owed_tickets (due_where test book) ≡ owed_tickets book
+owed-due_where test book = moved_from-keeps made_due due-keeps test 1 book
+
+pub owed-ended : (n : ℕ) (book : Book) → owed_tickets (moved_at made_ended n book) ≡ owed_tickets book
+owed-ended n book = moved_from-keeps made_ended ended-keeps (λ m. m == n) 1 book
+
+-- MOVES THAT TAKE ONE AWAY
+same-number : (a n : ℕ) → a ≡ n → (a == n) ≡ true
+same-number a n h = grind arith
+
+apart-above : (a n : ℕ) → n < a → (a == n) ≡ false
+apart-above a n h = grind arith
+
+apart-below : (a n : ℕ) → a < n → (a == n) ≡ false
+apart-below a n h = grind arith
+
+moved_from-below : (move : TicketState → TicketState) (k n : ℕ) (rs : Book) → n < k → moved_from k move (λ m. m == n) rs ≡ rs
+moved_from-below move k n [] h = refl
+moved_from-below move k n (r ∷ rs) h = rw (apart-above k n h) (ap (λ qs. r ∷ qs) (moved_from-below move (suc k) n rs (omega arith)))
+
+-- a state that passes the test is one before whose frame it stands, and the move takes it from there
+pub record Leaves (test : TicketState → Bool) (move : TicketState → TicketState) : Type 0 where
+  pub before : (s : TicketState) → test s ≡ true → is_owed s ≡ true
+  pub after : (s : TicketState) → test s ≡ true → is_owed (move s) ≡ false
+
+moved_from-leaves : (test : TicketState → Bool) (move : TicketState → TicketState) → Leaves test move → (k p n : ℕ) (rs : Book) (r : Registration)
+    → n ≡ k + p → slice_get rs p ≡ Some r → test r.state ≡ true → owed_tickets (moved_from k move (λ m. m == n) rs) + 1 ≡ owed_tickets rs
+moved_from-leaves test move leaves k p n [] r at here is = let no : ⊥ = cc in absurd no
+moved_from-leaves test move leaves k zero n (q ∷ rs) r at here is =
+    let same : q ≡ r = cc in
+    let here_is : test q.state ≡ true = ap (λ (x : Registration). test x.state) same ∙ is in
+    let stands : owed_tickets (q ∷ rs) ≡ 1 + owed_tickets rs = owed-cons q rs ∙ ap (λ b. one_if b + owed_tickets rs) (leaves.before q.state here_is) in
+    let gone : owed_tickets (moved move q ∷ rs) ≡ 0 + owed_tickets rs = owed-cons (moved move q) rs ∙ ap (λ b. one_if b + owed_tickets rs) (leaves.after q.state here_is) in
+    rw (same-number k n (omega arith), moved_from-below move (suc k) n rs (omega arith)) (omega (arith, stands, gone))
+moved_from-leaves test move leaves k (suc p) n (q ∷ rs) r at here is =
+    let later : owed_tickets (moved_from (suc k) move (λ m. m == n) rs) + 1 ≡ owed_tickets rs = moved_from-leaves test move leaves (suc k) p n rs r (omega arith) here is in
+    let now : owed_tickets (q ∷ rs) ≡ one_if (is_owed q.state) + owed_tickets rs = owed-cons q rs in
+    let then : owed_tickets (q ∷ moved_from (suc k) move (λ m. m == n) rs) ≡ one_if (is_owed q.state) + owed_tickets (moved_from (suc k) move (λ m. m == n) rs) =
+    owed-cons q (moved_from (suc k) move (λ m. m == n) rs) in
+    rw (apart-below k n (omega arith)) (omega (arith, later, now, then))
+
+moved_at-leaves : (test : TicketState → Bool) (move : TicketState → TicketState) → Leaves test move → (n : ℕ) (book : Book) (o : Option Registration)
+    → registration_at book n ≡ o → unwrap_or (option_map (λ (r : Registration). test r.state) o) false ≡ true → owed_tickets (moved_at move n book) + 1 ≡ owed_tickets book
+moved_at-leaves test move leaves n book None there is = let no : ⊥ = cc in absurd no
+moved_at-leaves test move leaves zero book (Some r) there is = let no : ⊥ = cc in absurd no
+moved_at-leaves test move leaves (suc p) book (Some r) there is = moved_from-leaves test move leaves 1 p (suc p) book r (omega arith) there is
+
+pub withdrawn-leaves : Leaves is_registered made_withdrawn
+withdrawn-leaves = record { before = before; after = after }
+  where
+    before : (s : TicketState) → is_registered s ≡ true → is_owed s ≡ true
+    before Registered is = refl
+    before Due is = refl
+    before Begun is = cc
+    before Ended is = cc
+    before Withdrawn is = cc
+
+    after : (s : TicketState) → is_registered s ≡ true → is_owed (made_withdrawn s) ≡ false
+    after Registered is = refl
+    after Due is = cc
+    after Begun is = cc
+    after Ended is = cc
+    after Withdrawn is = cc
+
+begun-leaves : Leaves is_due made_begun
+begun-leaves = record { before = before; after = after }
+  where
+    before : (s : TicketState) → is_due s ≡ true → is_owed s ≡ true
+    before Registered is = cc
+    before Due is = refl
+    before Begun is = cc
+    before Ended is = cc
+    before Withdrawn is = cc
+
+    after : (s : TicketState) → is_due s ≡ true → is_owed (made_begun s) ≡ false
+    after Registered is = cc
+    after Due is = refl
+    after Begun is = cc
+    after Ended is = cc
+    after Withdrawn is = cc
+
+hook-leaves : Leaves is_registered made_due_and_begun
+hook-leaves = record { before = withdrawn-leaves.before; after = after }
+  where
+    after : (s : TicketState) → is_registered s ≡ true → is_owed (made_due_and_begun s) ≡ false
+    after Registered is = refl
+    after Due is = cc
+    after Begun is = cc
+    after Ended is = cc
+    after Withdrawn is = cc
+
+pub leaves-in : (p : Phase) → Leaves (may_begin_in p) (begun_in p)
+leaves-in phase.Init = begun-leaves
+leaves-in phase.Live = begun-leaves
+leaves-in phase.Hooks = hook-leaves
+leaves-in phase.Drain = begun-leaves
+leaves-in phase.Finals = begun-leaves
+leaves-in phase.Gone = begun-leaves
+
+-- a registered ticket that is withdrawn, and a ticket that begins as it may in its phase, is one less
+pub owed-withdrawn : (n : ℕ) (book : Book) → is_at is_registered book n ≡ true → owed_tickets (moved_at made_withdrawn n book) + 1 ≡ owed_tickets book
+owed-withdrawn n book is = moved_at-leaves is_registered made_withdrawn withdrawn-leaves n book (registration_at book n) refl is
+
+pub owed-begun : (p : Phase) (n : ℕ) (book : Book) (r : Registration) → registration_at book n ≡ Some r → may_begin_in p r.state ≡ true
+    → owed_tickets (moved_at (begun_in p) n book) + 1 ≡ owed_tickets book
+owed-begun p n book r there is = moved_at-leaves (may_begin_in p) (begun_in p) (leaves-in p) n book (Some r) there is
+
+-- THE LOWEST
+find-passes : (test : ℕ → Bool) (xs : List ℕ) (n : ℕ) → find test xs ≡ Some n → test n ≡ true
+find-passes test [] n is = let no : ⊥ = cc in absurd no
+find-passes test (x ∷ xs) n is = by (test x) refl is (find-passes test xs n)
+  where
+    by : (b : Bool) → test x ≡ b → cond b (Some x) (find test xs) ≡ Some n → (find test xs ≡ Some n → test n ≡ true) → test n ≡ true
+    by true here is rest = let same : x ≡ n = cc in ap test (sym same) ∙ here
+    by false here is rest = rest is
+
+-- what is under a ticket that is due
+pub record IsDueAt (book : Book) (n : ℕ) : Type 0 where
+  pub registration : Registration
+  pub there : registration_at book n ≡ Some registration
+  pub due : is_due registration.state ≡ true
+
+-- the lowest due ticket was given, and is due
+pub lowest-due : (book : Book) (n : ℕ) → lowest_due book ≡ Some n → IsDueAt book n
+lowest-due book n lowest = by (registration_at book n) refl (find-passes (is_at is_due book) (up_to (length book)) n lowest)
+  where
+    by : (o : Option Registration) → registration_at book n ≡ o → unwrap_or (option_map (λ (r : Registration). is_due r.state) o) false ≡ true → IsDueAt book n
+    by None there is = let no : ⊥ = cc in absurd no
+    by (Some r) there is = record { registration = r; there = there; due = is }
+
+-- ALL OF THEM
+-- what holds of every registration, and is kept by a move
+All-moved_from : (P : Registration → Type 0) (move : TicketState → TicketState) → ((r : Registration) → P r → P (moved move r)) → (test : ℕ → Bool) (k : ℕ) (rs : Book)
+    → All P rs → All P (moved_from k move test rs)
+All-moved_from P move keeps test k [] all = All-nil P
+All-moved_from P move keeps test k (r ∷ rs) all =
+    All-cons P (cond (test k) (moved move r) r) (moved_from (suc k) move test rs) (first (test k)) (All-moved_from P move keeps test (suc k) rs (All-tail P r rs all))
+  where
+    first : (b : Bool) → P (cond b (moved move r) r)
+    first true = keeps r (All-head P r rs all)
+    first false = All-head P r rs all
+
+pub All-moved : (P : Registration → Type 0) (move : TicketState → TicketState) → ((r : Registration) → P r → P (moved move r)) → (test : ℕ → Bool) (book : Book)
+    → All P book → All P (moved_where move test book)
+All-moved P move keeps test book all = All-moved_from P move keeps test 1 book all
+
+-- NOTHING LEFT TO BEGIN
+abbrev pub NoneRegistered : Book → Type 0
+NoneRegistered book = All (λ r. is_registered r.state ≡ false) book
+
+-- where all fall due none is registered
+due-registers-none : (s : TicketState) → is_registered (made_due s) ≡ false
+due-registers-none Registered = refl
+due-registers-none Due = refl
+due-registers-none Begun = refl
+due-registers-none Ended = refl
+due-registers-none Withdrawn = refl
+
+due_from-none : (k : ℕ) (rs : Book) → NoneRegistered (moved_from k made_due (λ n. true) rs)
+due_from-none k [] = All-nil (λ (r : Registration). is_registered r.state ≡ false)
+due_from-none k (r ∷ rs) =
+    All-cons (λ (q : Registration). is_registered q.state ≡ false) (moved made_due r) (moved_from (suc k) made_due (λ n. true) rs) (due-registers-none r.state) (due_from-none (suc k) rs)
+
+pub all_due-none : (book : Book) → NoneRegistered (all_due book)
+all_due-none book = due_from-none 1 book
+
+find-none : (test : ℕ → Bool) (xs : List ℕ) (n : ℕ) → find test xs ≡ None → has_number n xs ≡ true → test n ≡ false
+find-none test [] n is there = cc
+find-none test (x ∷ xs) n is there = by (test x) refl is (find-none test xs n)
+  where
+    at_x : (b : Bool) → test x ≡ false → (x == n) ≡ b → (b || has_number n xs) ≡ true → (has_number n xs ≡ true → test n ≡ false) → test n ≡ false
+    at_x true fails same among later = ap test (sym (eqb-true x n same)) ∙ fails
+    at_x false fails apart among later = later among
+
+    by : (b : Bool) → test x ≡ b → cond b (Some x) (find test xs) ≡ None → (find test xs ≡ None → has_number n xs ≡ true → test n ≡ false) → test n ≡ false
+    by true here none later = cc
+    by false here none later = at_x (x == n) here refl there (later none)
+
+within-up_to : (n m : ℕ) → 1 ≤ m → m ≤ n → has_number m (up_to n) ≡ true
+within-up_to zero m above within = absurd (omega (arith, above, within))
+within-up_to (suc n) m above within = has-up_to m n ∙ by (suc n == m) refl (within-up_to n m above)
+  where
+    below : (n m : ℕ) → (suc n == m) ≡ false → m ≤ suc n → m ≤ n
+    below n m apart within = grind arith
+
+    by : (b : Bool) → (suc n == m) ≡ b → (m ≤ n → has_number m (up_to n) ≡ true) → (b || has_number m (up_to n)) ≡ true
+    by true same later = refl
+    by false apart later = later (below n m apart within)
+
+-- where none is due, none is
+none-due : (book : Book) → lowest_due book ≡ None → All (λ r. is_due r.state ≡ false) book
+none-due book none k d inside =
+    let no : is_at is_due book (suc k) ≡ false = find-none (is_at is_due book) (up_to (length book)) (suc k) none (within-up_to (length book) (suc k) (omega arith) (omega (arith, inside))) in
+    sym (ap (λ o. unwrap_or (option_map (λ (r : Registration). is_due r.state) o) false) (slice_get-get_or book k d inside)) ∙ no
+
+none-waits : (book : Book) → NoneRegistered book → All (λ r. is_due r.state ≡ false) book → owed_tickets book ≡ 0
+none-waits [] registered due = refl
+none-waits (r ∷ book) registered due =
+    let P : Registration → Type 0 = λ q. is_registered q.state ≡ false in
+    let Q : Registration → Type 0 = λ q. is_due q.state ≡ false in
+    let first : is_owed r.state ≡ false = rw (All-head P r book registered, All-head Q r book due) refl in
+    let later : owed_tickets book ≡ 0 = none-waits book (All-tail P r book registered) (All-tail Q r book due) in
+    let now : owed_tickets (r ∷ book) ≡ 0 + owed_tickets book = owed-cons r book ∙ ap (λ b. one_if b + owed_tickets book) first in
+    omega (arith, later, now)
+
+-- no ticket has its frame still to come where none is registered and none is due
+pub none-owed_tickets : (book : Book) → NoneRegistered book → lowest_due book ≡ None → owed_tickets book ≡ 0
+none-owed_tickets book registered none = none-waits book registered (none-due book none)
+
+length-moved_from : (move : TicketState → TicketState) (test : ℕ → Bool) (k : ℕ) (rs : Book) → length (moved_from k move test rs) ≡ length rs
+length-moved_from move test k [] = refl
+length-moved_from move test k (r ∷ rs) = ap suc (length-moved_from move test (suc k) rs)
+
+pub length-moved : (move : TicketState → TicketState) (test : ℕ → Bool) (book : Book) → length (moved_where move test book) ≡ length book
+length-moved move test book = length-moved_from move test 1 book

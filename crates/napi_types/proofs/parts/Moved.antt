@@ -1,0 +1,121 @@
+-- What is under a ticket, and what after the book has changed.
+use Rattle.std.proofs.Common.{◌≡◌, ◌∙◌, ℕ, zero, suc, ◌+◌, ◌<◌, ◌==◌, ◌⊎◌, ◌∷◌, ◌++◌, Bool, true, false, cond, List, [], length, slice_get, Option, Some, None, option_map, inl, inr, refl, sym, ap, arith}
+use Rattle.std.specs.Option.{unwrap_or}
+use Rattle.std.proofs.lemmas.Bool.{eqb-true}
+use Rattle.std.proofs.lemmas.Option.{same_Some, slice_get_within}
+use Rattle.napi_types.specs.declared.entry.Cause.{Cause}
+use Rattle.napi_types.specs.parts.Book.{Book, Registration, TicketState, is_at, moved, moved_from, moved_where, registration_at, new_ticket, with_registration}
+use Rattle.napi_types.specs.environment.Hooked.{cause_at}
+use Rattle.napi_types.proofs.plain.Found.{apart-below}
+
+-- A TICKET THAT WAS GIVEN
+pub at-state : (test : TicketState → Bool) (book : Book) (n : ℕ) (r : Registration) → registration_at book n ≡ Some r → is_at test book n ≡ test r.state
+at-state test book n r there = ap (λ o. unwrap_or (option_map (λ (q : Registration). test q.state) o) false) there
+
+pub at-cause : (book : Book) (n : ℕ) (r : Registration) → registration_at book n ≡ Some r → cause_at book n ≡ Some r.cause
+at-cause book n r there = ap (λ o. option_map (λ (q : Registration). q.cause) o) there
+
+-- what was registered under a ticket, where this is why its frame begins
+pub record IsUnder (book : Book) (n : ℕ) (why : Cause) : Type 0 where
+  pub registration : Registration
+  pub there : registration_at book n ≡ Some registration
+  pub cause : registration.cause ≡ why
+
+pub under : (book : Book) (n : ℕ) (why : Cause) → cause_at book n ≡ Some why → IsUnder book n why
+under book n why is = by (registration_at book n) refl is
+  where
+    by : (o : Option Registration) → registration_at book n ≡ o → option_map (λ (r : Registration). r.cause) o ≡ Some why → IsUnder book n why
+    by None there told = let no : ⊥ = cc in absurd no
+    by (Some r) there told = record { registration = r; there = there; cause = same_Some r.cause why told }
+
+-- its ticket is below the one that the next registration gets
+pub registration-within : (book : Book) (n : ℕ) (r : Registration) → registration_at book n ≡ Some r → n < new_ticket book
+registration-within book zero r there = let no : ⊥ = cc in absurd no
+registration-within book (suc p) r there = omega (arith, slice_get_within book p r there)
+
+-- A MOVE
+slice_get-moved_from : (move : TicketState → TicketState) (test : ℕ → Bool) (k : ℕ) (rs : List Registration) (p : ℕ)
+    → slice_get (moved_from k move test rs) p ≡ option_map (λ r. cond (test (k + p)) (moved move r) r) (slice_get rs p)
+slice_get-moved_from move test k [] p = refl
+slice_get-moved_from move test k (r ∷ rs) zero = ap (λ n. Some (cond (test n) (moved move r) r)) (last k)
+  where
+    last : (k : ℕ) → k ≡ k + 0
+    last k = omega arith
+slice_get-moved_from move test k (r ∷ rs) (suc p) =
+    slice_get-moved_from move test (suc k) rs p ∙ ap (λ n. option_map (λ (q : Registration). cond (test n) (moved move q) q) (slice_get rs p)) (next k p)
+  where
+    next : (k p : ℕ) → suc k + p ≡ k + suc p
+    next k p = omega arith
+
+pub registration_at-moved_where : (move : TicketState → TicketState) (test : ℕ → Bool) (book : Book) (n : ℕ)
+    → registration_at (moved_where move test book) n ≡ option_map (λ r. cond (test n) (moved move r) r) (registration_at book n)
+registration_at-moved_where move test book zero = refl
+registration_at-moved_where move test book (suc p) =
+    slice_get-moved_from move test 1 book p ∙ ap (λ n. option_map (λ (q : Registration). cond (test n) (moved move q) q) (slice_get book p)) (next p)
+  where
+    next : (p : ℕ) → 1 + p ≡ suc p
+    next p = omega arith
+
+-- its frame begins for what it was to begin for
+pub cause_at-moved_where : (move : TicketState → TicketState) (test : ℕ → Bool) (book : Book) (n : ℕ) → cause_at (moved_where move test book) n ≡ cause_at book n
+cause_at-moved_where move test book n = ap (λ o. option_map (λ (r : Registration). r.cause) o) (registration_at-moved_where move test book n) ∙ by (test n) (registration_at book n)
+  where
+    by : (b : Bool) (o : Option Registration) → option_map (λ (r : Registration). r.cause) (option_map (λ (r : Registration). cond b (moved move r) r) o) ≡ option_map (λ (r : Registration). r.cause) o
+    by b None = refl
+    by true (Some r) = refl
+    by false (Some r) = refl
+
+-- and it is in the state that it was moved to
+pub is_at-moved_where : (passes : TicketState → Bool) (move : TicketState → TicketState) (test : ℕ → Bool) (book : Book) (n : ℕ) (r : Registration) → registration_at book n ≡ Some r
+    → is_at passes (moved_where move test book) n ≡ passes (cond (test n) (move r.state) r.state)
+is_at-moved_where passes move test book n r there =
+    let now : registration_at (moved_where move test book) n ≡ Some (cond (test n) (moved move r) r) =
+    registration_at-moved_where move test book n ∙ ap (λ o. option_map (λ (q : Registration). cond (test n) (moved move q) q) o) there in
+    at-state passes (moved_where move test book) n (cond (test n) (moved move r) r) now ∙ by (test n)
+  where
+    by : (b : Bool) → passes (cond b (moved move r) r).state ≡ passes (cond b (move r.state) r.state)
+    by true = refl
+    by false = refl
+
+-- A REGISTRATION MORE
+slice_get-pushed : (rs : List Registration) (r : Registration) → slice_get (rs ++ r ∷ []) (length rs) ≡ Some r
+slice_get-pushed [] r = refl
+slice_get-pushed (q ∷ rs) r = slice_get-pushed rs r
+
+slice_get-before : (rs : List Registration) (r : Registration) (p : ℕ) → (p == length rs) ≡ false → slice_get (rs ++ r ∷ []) p ≡ slice_get rs p
+slice_get-before [] r zero apart = cc
+slice_get-before [] r (suc p) apart = refl
+slice_get-before (q ∷ rs) r zero apart = refl
+slice_get-before (q ∷ rs) r (suc p) apart = slice_get-before rs r p (next p (length rs) apart)
+  where
+    next : (p n : ℕ) → (suc p == suc n) ≡ false → (p == n) ≡ false
+    next p n h = grind arith
+
+-- the new ticket has it
+pub registration_at-new : (book : Book) (r : Registration) → registration_at (with_registration r book) (new_ticket book) ≡ Some r
+registration_at-new book r = ap (λ n. registration_at (book ++ r ∷ []) n) (next (length book)) ∙ slice_get-pushed book r
+  where
+    next : (n : ℕ) → n + 1 ≡ suc n
+    next n = omega arith
+
+-- and every other ticket what it had
+pub registration_at-old : (book : Book) (r : Registration) (n : ℕ) → (n == new_ticket book) ≡ false → registration_at (with_registration r book) n ≡ registration_at book n
+registration_at-old book r zero apart = refl
+registration_at-old book r (suc p) apart = slice_get-before book r p (next p (length book) apart)
+  where
+    next : (p n : ℕ) → (suc p == n + 1) ≡ false → (p == n) ≡ false
+    next p n h = grind arith
+
+pub registration_at-before : (book : Book) (r : Registration) (n : ℕ) (q : Registration) → registration_at book n ≡ Some q → registration_at (with_registration r book) n ≡ Some q
+registration_at-before book r n q there = registration_at-old book r n (apart-below n (new_ticket book) (registration-within book n q there)) ∙ there
+
+-- so what is under a ticket was there before, or is new
+pub registration_at-either : (book : Book) (r : Registration) (n : ℕ) (q : Registration) → registration_at (with_registration r book) n ≡ Some q
+    → (registration_at book n ≡ Some q) ⊎ ((n ≡ new_ticket book) × (r ≡ q))
+registration_at-either book r n q there = by (n == new_ticket book) refl
+  where
+    by : (b : Bool) → (n == new_ticket book) ≡ b → (registration_at book n ≡ Some q) ⊎ ((n ≡ new_ticket book) × (r ≡ q))
+    by false apart = inl (sym (registration_at-old book r n apart) ∙ there)
+    by true same =
+        let here : n ≡ new_ticket book = eqb-true n (new_ticket book) same in
+        inr (here, same_Some r q (sym (registration_at-new book r) ∙ ap (registration_at (with_registration r book)) (sym here) ∙ there))

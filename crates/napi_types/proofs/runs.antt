@@ -1,0 +1,5 @@
+-- On steps and runs: the cases of a step, and a run that is longer by one entry.
+pub mod CallRooms
+pub mod Runs
+pub mod SharedSteps
+pub mod StepCases

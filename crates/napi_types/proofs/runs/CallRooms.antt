@@ -1,0 +1,39 @@
+-- In which list the entry of a call stands: a shared call has it in the history, and every other in the journal.
+use Rattle.std.proofs.Common.{◌≡◌, Bool, true, false, not, IsTrue, refl}
+use Rattle.napi_types.specs.declared.call.Call.{Call}
+use Rattle.napi_types.specs.declared.call.Call.TheVariants as call
+use Rattle.napi_types.specs.plain.Built.{is_built}
+use Rattle.napi_types.specs.plain.Guards.{is_shared}
+use Rattle.napi_types.specs.plain.Room.{journal_room, history_room, room_of}
+use Rattle.napi_types.specs.runs.Machine.{Machine}
+
+-- no shared call is built, ..
+pub built-local : (c : Call) → is_built c ≡ true → is_shared c ≡ false
+built-local (call.CreateAsyncWork job completion payload) h = cc
+built-local (call.DeleteAsyncWork w) h = cc
+built-local (call.CancelAsyncWork w) h = cc
+built-local (call.QueueAsyncWork w) h = cc
+built-local (call.CreateThreadsafeFunction f entry most initial finalizer context) h = cc
+built-local (call.CallThreadsafeFunction f payload mode) h = cc
+built-local (call.AcquireThreadsafeFunction f) h = cc
+built-local (call.ReleaseThreadsafeFunction f how) h = cc
+built-local (call.RefThreadsafeFunction f) h = cc
+built-local (call.UnrefThreadsafeFunction f) h = cc
+built-local (call.GetThreadsafeFunctionContext f) h = cc
+built-local _ h = refl
+
+-- .. every call that is not shared has its entry in the journal, ..
+pub local-room : (m : Machine) (c : Call) → is_shared c ≡ false → room_of m c ≡ journal_room m.env m.journal_length m.limits.journal
+local-room m c local = rw local refl
+
+-- .. and so has a call that is built
+pub built-room : (m : Machine) (c : Call) → is_built c ≡ true → room_of m c ≡ journal_room m.env m.journal_length m.limits.journal
+built-room m c built = local-room m c (built-local c built)
+
+-- a shared call has its entry in the history
+pub shared-room : (m : Machine) (c : Call) → is_shared c ≡ true → room_of m c ≡ history_room m.hub m.history_length m.limits.history
+shared-room m c is = rw is refl
+
+pub not-full : (b : Bool) → IsTrue (not b) → b ≡ false
+not-full true h = cc
+not-full false h = refl

@@ -1,0 +1,80 @@
+-- Laws of runs: they grow at their end.
+use Rattle.std.proofs.Common.{◌≡◌, ◌∙◌, ◌==◌, ℕ, Bool, true, false, ◌&&◌, List, [], ◌∷◌, ◌++◌, IsTrue, refl, sym, ap, append_assoc}
+use Rattle.std.proofs.lemmas.List.{append-nil}
+use Rattle.std.proofs.lemmas.List.Elements.{filter-append}
+use Rattle.std.specs.Option.{option_to_list}
+use Rattle.napi_types.specs.declared.duties.DueInfo.{DueInfo}
+use Rattle.napi_types.specs.declared.entry.Entry.{Entry}
+use Rattle.napi_types.specs.declared.call.Ask.{Ask}
+use Rattle.napi_types.specs.declared.call.Call.{Call}
+use Rattle.napi_types.specs.runs.Begins.{begun_info, begun_along, of_addon}
+use Rattle.napi_types.specs.runs.Machine.{Machine}
+use Rattle.napi_types.specs.runs.Parting.{sides_along}
+use Rattle.napi_types.specs.runs.Plan.{Plan, Registers, asked, asked_along, registers_along, registers_after}
+use Rattle.napi_types.specs.runs.Run.{after, IsNext, IsRunBy, final}
+use Rattle.napi_types.specs.runs.Step.{step}
+
+pub and-left : (a b : Bool) → IsTrue (a && b) → IsTrue a
+and-left true b h = refl
+and-left false b h = h
+
+pub and-right : (a b : Bool) → IsTrue (a && b) → IsTrue b
+and-right true b h = h
+and-right false b h = cc
+
+pub and-both : (a b : Bool) → IsTrue a → IsTrue b → IsTrue (a && b)
+and-both true b h k = k
+and-both false b h k = h
+
+-- a run has one entry more at its end
+pub run-more : (m : Machine) (bs : List Ask) (xs : List Entry) (a : Ask) (x : Entry)
+    → IsRunBy m bs xs → IsNext (final m bs xs) a x → IsRunBy m (bs ++ a ∷ []) (xs ++ x ∷ [])
+run-more m [] [] a x r n = (n, tt)
+run-more m (b ∷ bs) (y ∷ ys) a x r n = (r.0, run-more (after m b y) bs ys a x r.1 n)
+run-more m [] (y ∷ ys) a x r n = absurd r
+run-more m (b ∷ bs) [] a x r n = absurd r
+
+pub final-more : (m : Machine) (bs : List Ask) (xs : List Entry) (a : Ask) (x : Entry)
+    → IsRunBy m bs xs → final m (bs ++ a ∷ []) (xs ++ x ∷ []) ≡ after (final m bs xs) a x
+final-more m [] [] a x r = refl
+final-more m (b ∷ bs) (y ∷ ys) a x r = final-more (after m b y) bs ys a x r.1
+final-more m [] (y ∷ ys) a x r = absurd r
+final-more m (b ∷ bs) [] a x r = absurd r
+
+-- and so have its asks and its registers
+pub asked-more : (built : Call → Bool) (ps : List Plan) (rss : Registers) (m : Machine) (bs : List Ask) (xs : List Entry) (a : Ask) (x : Entry)
+    → IsRunBy m bs xs
+    → asked_along built ps rss m (bs ++ a ∷ []) (xs ++ x ∷ []) ≡ asked_along built ps rss m bs xs ++ asked built ps (registers_along ps rss m bs xs) (final m bs xs) a x.actor ∷ []
+asked-more built ps rss m [] [] a x r = refl
+asked-more built ps rss m (b ∷ bs) (y ∷ ys) a x r = ap (λ l. asked built ps rss m b y.actor ∷ l) (asked-more built ps (registers_after ps rss m b y) (after m b y) bs ys a x r.1)
+asked-more built ps rss m [] (y ∷ ys) a x r = absurd r
+asked-more built ps rss m (b ∷ bs) [] a x r = absurd r
+
+pub registers-more : (ps : List Plan) (rss : Registers) (m : Machine) (bs : List Ask) (xs : List Entry) (a : Ask) (x : Entry)
+    → IsRunBy m bs xs
+    → registers_along ps rss m (bs ++ a ∷ []) (xs ++ x ∷ []) ≡ registers_after ps (registers_along ps rss m bs xs) (final m bs xs) a x
+registers-more ps rss m [] [] a x r = refl
+registers-more ps rss m (b ∷ bs) (y ∷ ys) a x r = registers-more ps (registers_after ps rss m b y) (after m b y) bs ys a x r.1
+registers-more ps rss m [] (y ∷ ys) a x r = absurd r
+registers-more ps rss m (b ∷ bs) [] a x r = absurd r
+
+-- and so have the lists on which its entries stand
+pub sides-more : (m : Machine) (bs : List Ask) (xs : List Entry) (a : Ask) (x : Entry)
+    → IsRunBy m bs xs → sides_along m (bs ++ a ∷ []) (xs ++ x ∷ []) ≡ sides_along m bs xs ++ (step (final m bs xs) a x).side ∷ []
+sides-more m [] [] a x r = refl
+sides-more m (b ∷ bs) (y ∷ ys) a x r = ap (λ l. (step m b y).side ∷ l) (sides-more (after m b y) bs ys a x r.1)
+sides-more m [] (y ∷ ys) a x r = absurd r
+sides-more m (b ∷ bs) [] a x r = absurd r
+
+-- and so have the duties whose frames begin along it
+pub begun-more : (m : Machine) (bs : List Ask) (xs : List Entry) (a : Ask) (x : Entry)
+    → IsRunBy m bs xs → begun_along m (bs ++ a ∷ []) (xs ++ x ∷ []) ≡ begun_along m bs xs ++ option_to_list (begun_info (final m bs xs) x)
+begun-more m [] [] a x r = append-nil (option_to_list (begun_info m x))
+begun-more m (b ∷ bs) (y ∷ ys) a x r =
+    ap (λ l. option_to_list (begun_info m y) ++ l) (begun-more (after m b y) bs ys a x r.1)
+    ∙ sym (append_assoc (option_to_list (begun_info m y)) (begun_along (after m b y) bs ys) (option_to_list (begun_info (final (after m b y) bs ys) x)))
+begun-more m [] (y ∷ ys) a x r = absurd r
+begun-more m (b ∷ bs) [] a x r = absurd r
+
+pub of_addon-append : (addon : ℕ) (xs ys : List DueInfo) → of_addon addon (xs ++ ys) ≡ of_addon addon xs ++ of_addon addon ys
+of_addon-append addon xs ys = filter-append (λ (d : DueInfo). d.addon == addon) xs ys

@@ -1,0 +1,211 @@
+-- What the entries of the history keep of the environment and of how far the hub is, and what they tell.
+use Rattle.std.proofs.Common.{◌≡◌, ◌≢◌, ℕ, ◌==◌, Bool, true, false, cond, List, [], ◌∷◌, IsTrue, refl, ap, ◌∙◌, subst, Option, Some, None, IfSome, option_map}
+use Rattle.std.specs.Option.{option_or, option_and_then}
+use Rattle.napi_types.specs.declared.call.Call.{Call}
+use Rattle.napi_types.specs.declared.call.Call.TheVariants as call
+use Rattle.napi_types.specs.declared.duties.DueInfo.{DueInfo}
+use Rattle.napi_types.specs.declared.entry.Actor.{Actor}
+use Rattle.napi_types.specs.declared.entry.Actor.TheVariants as actor
+use Rattle.napi_types.specs.declared.entry.Cause.TheVariants as cause
+use Rattle.napi_types.specs.declared.entry.Duty.{Duty}
+use Rattle.napi_types.specs.declared.entry.Duty.TheVariants as duty
+use Rattle.napi_types.specs.declared.entry.Entry.{Entry}
+use Rattle.napi_types.specs.declared.entry.HostStep.{HostStep}
+use Rattle.napi_types.specs.declared.entry.HostStep.TheVariants as host
+use Rattle.napi_types.specs.declared.entry.Out.{Out}
+use Rattle.napi_types.specs.declared.entry.Out.TheVariants as out
+use Rattle.napi_types.specs.declared.entry.Reply.{Reply}
+use Rattle.napi_types.specs.declared.entry.TsfnState.{TsfnState}
+use Rattle.napi_types.specs.declared.entry.TsfnState.TheVariants.{Open, Closing, Finished, Done}
+use Rattle.napi_types.specs.declared.entry.What.{What}
+use Rattle.napi_types.specs.declared.entry.What.TheVariants as what
+use Rattle.napi_types.specs.plain.Lists.{head}
+use Rattle.napi_types.specs.parts.Frames.{is_hub_duty}
+use Rattle.napi_types.specs.parts.Functions.{FunctionState, is_environment}
+use Rattle.napi_types.specs.parts.Pool.{WorkPool, completion_info, first_completion, work_numbered}
+use Rattle.napi_types.specs.parts.Works.{Work, Outcome}
+use Rattle.napi_types.specs.environment.Changes.{host_entry, with_noted_status}
+use Rattle.napi_types.specs.environment.Environment.{Environment}
+use Rattle.napi_types.specs.environment.SharedCalls.{shared_entry, with_root, after_shared}
+use Rattle.napi_types.specs.hub.Hub.{Hub}
+use Rattle.napi_types.specs.hub.HubCalls.{is_thread_call}
+use Rattle.napi_types.specs.hub.HubMoves.{HubMove, Delivers, Closes, Finishes, function_move, function_move_in, first_move, hub_move, without_duty}
+use Rattle.napi_types.specs.hub.HubSteps.{HubStep, hub_step, hub_step_of, environment_step, begin_step, close_step, finish_step, frame_end_step, delivery_entry, thread_step, thread_event, worker_step, worker_event}
+use Rattle.napi_types.specs.runs.Machine.{Machine}
+use Rattle.napi_types.specs.runs.Step.{answered_by, move_step, other_step}
+use Rattle.napi_types.specs.all_runs.Order.{is_begin, is_finals}
+use Rattle.napi_types.proofs.environment.FrameChanges.{hangings_of}
+use Rattle.napi_types.proofs.hub.HubKeeps.{given-keeps, other-keeps, thread-calls}
+
+-- THE ENVIRONMENT AFTER A SHARED CALL
+-- a new thread-safe function may keep a value alive, and nothing else changes with it
+pub with_root-alone : (c : Call) (o : Out) (e : Environment) → with_root c o e ≡ record e { function_roots = (with_root c o e).function_roots }
+with_root-alone (call.CreateThreadsafeFunction (Some f) entry maximum count finalizer context) (out.Function n) e = refl
+with_root-alone _ _ e = refl
+
+-- besides, the status is noted and the ask is counted
+pub after_shared-alone : (c : Call) (r : Reply) (e : Environment)
+    → after_shared c r e ≡ record (with_noted_status c r.status e) { function_roots = (with_root c r.out e).function_roots }
+after_shared-alone c r e = ap (with_noted_status c r.status) (with_root-alone c r.out e)
+
+-- THE STAGE OF THE HUB
+-- the end of a frame is that of the hub's duty
+pub hub_step-end : (h : Hub) (x : Entry) → x.actor ≡ actor.Env → x.what ≡ what.Host host.End → hub_step h x ≡ frame_end_step h x h.standing
+hub_step-end h x who is = ap (hub_step_of h x) who ∙ ap (environment_step h x) is
+
+frame_end-stage : (h : Hub) (x : Entry) (d : Option DueInfo) → (frame_end_step h x d).after.stage ≡ h.stage
+frame_end-stage h x None = refl
+frame_end-stage h x (Some d) = refl
+
+pub end-stage : (h : Hub) (x : Entry) → x.actor ≡ actor.Env → x.what ≡ what.Host host.End → (hub_step h x).after.stage ≡ h.stage
+end-stage h x who is = ap (λ (s : HubStep). s.after.stage) (hub_step-end h x who is) ∙ frame_end-stage h x h.standing
+
+-- a move leaves it
+without-stage : (d : Duty) (h : Hub) → (without_duty d h).stage ≡ h.stage
+without-stage (duty.Ticket t) h = refl
+without-stage (duty.Work n) h = refl
+without-stage (duty.Item f n) h = refl
+without-stage (duty.Function f) h = refl
+
+begin-stage : (h : Hub) (x : Entry) (o : Option HubMove) → (begin_step h x o).after.stage ≡ h.stage
+begin-stage h x None = refl
+begin-stage h x (Some (Delivers d)) = without-stage d.duty h
+begin-stage h x (Some (Closes n)) = refl
+begin-stage h x (Some (Finishes n)) = refl
+
+close-stage : (h : Hub) (x : Entry) (o : Option HubMove) → (close_step h x o).after.stage ≡ h.stage
+close-stage h x None = refl
+close-stage h x (Some (Delivers d)) = refl
+close-stage h x (Some (Closes n)) = refl
+close-stage h x (Some (Finishes n)) = refl
+
+finish-stage : (h : Hub) (x : Entry) (o : Option HubMove) → (finish_step h x o).after.stage ≡ h.stage
+finish-stage h x None = refl
+finish-stage h x (Some (Delivers d)) = refl
+finish-stage h x (Some (Closes n)) = refl
+finish-stage h x (Some (Finishes n)) = refl
+
+-- WHAT STANDS STILL
+-- the hub's stage and the phase stay, and so does what is registered and what it hangs on
+pub record StandsStill (m n : Machine) : Type 0 where
+  pub stage : n.hub.stage ≡ m.hub.stage
+  pub phase : n.env.phase ≡ m.env.phase
+  pub hangings : hangings_of n.env ≡ hangings_of m.env
+
+pub shares-still : (m : Machine) (c : Call) (o : Out) → StandsStill m (answered_by m c (hub_step m.hub (shared_entry m.env c o))).after
+shares-still m c o =
+    let x : Entry = shared_entry m.env c o in
+    let r : Reply = (hub_step m.hub x).entry.reply in
+    record {
+      stage = (given-keeps m.hub x c x.given).stage;
+      phase = ap (λ (e : Environment). e.phase) (after_shared-alone c r m.env);
+      hangings = ap hangings_of (after_shared-alone c r m.env);
+    }
+
+pub moves-still : (m : Machine) (move : HubMove) → StandsStill m (move_step m move).after
+moves-still m (Delivers d) = record { stage = begin-stage m.hub (delivery_entry d) (hub_move m.hub); phase = refl; hangings = refl }
+moves-still m (Closes n) =
+    record { stage = close-stage m.hub (host_entry host.CloseTsfn (out.Function (record { 0 = n }))) (hub_move m.hub); phase = refl; hangings = refl }
+moves-still m (Finishes n) =
+    record { stage = finish-stage m.hub (host_entry host.FinishTsfn (out.Function (record { 0 = n }))) (hub_move m.hub); phase = refl; hangings = refl }
+
+pub others-still : (m : Machine) (x : Entry) → is_environment x.actor ≡ false → StandsStill m (other_step m x).after
+others-still m x other = record { stage = (other-keeps m.hub x other).stage; phase = refl; hangings = refl }
+
+-- WHAT A MOVE DELIVERS
+-- a duty of the hub, and never a ticket: neither a call nor a hook begins its frame
+pub record IsOfHub (d : DueInfo) : Type 0 where
+  pub ours : is_hub_duty (Some d.duty) ≡ true
+  pub uncalled : d.cause ≢ cause.Call
+  pub no_hook : d.cause ≢ cause.Hook
+
+abbrev DeliversOfHub : HubMove → Type 0
+DeliversOfHub (Delivers d) = IsOfHub d
+DeliversOfHub _ = Unit {0}
+
+completion-of_hub : (p : WorkPool) → IfSome (first_completion p) IsOfHub
+completion-of_hub p = by (head p.finished)
+  where
+    told : (o : Outcome) (w : Option Work) → IfSome (option_map (λ w. completion_info w o) w) IsOfHub
+    told o None = tt
+    told o (Some w) = record { ours = refl; uncalled = λ z. cc; no_hook = λ z. cc }
+
+    by : (o : Option Outcome) → IfSome (option_and_then (λ (o : Outcome). option_map (λ w. completion_info w o) (work_numbered p o.work)) o) IsOfHub
+    by None = tt
+    by (Some o) = told o (work_numbered p o.work)
+
+function-of_hub : (f : FunctionState) (s : TsfnState) (items : List ℕ) → IfSome (function_move_in f s items) DeliversOfHub
+function-of_hub f Open [] = by (f.count == 0)
+  where
+    by : (b : Bool) → IfSome (cond b (Some (Closes f.id)) None) DeliversOfHub
+    by true = tt
+    by false = tt
+function-of_hub f Open (payload ∷ later) = record { ours = refl; uncalled = λ z. cc; no_hook = λ z. cc }
+function-of_hub f Closing [] = tt
+function-of_hub f Closing (payload ∷ later) = record { ours = refl; uncalled = λ z. cc; no_hook = λ z. cc }
+function-of_hub f Finished items = record { ours = refl; uncalled = λ z. cc; no_hook = λ z. cc }
+function-of_hub f Done items = tt
+
+first-of_hub : (fs : List FunctionState) → IfSome (first_move fs) DeliversOfHub
+first-of_hub [] = tt
+first-of_hub (f ∷ fs) = by (function_move f) (function-of_hub f f.state f.items) (first-of_hub fs)
+  where
+    by : (o : Option HubMove) → IfSome o DeliversOfHub → IfSome (first_move fs) DeliversOfHub → IfSome (option_or o (first_move fs)) DeliversOfHub
+    by None here later = later
+    by (Some move) here later = here
+
+pub move-of_hub : (h : Hub) → IfSome (hub_move h) DeliversOfHub
+move-of_hub h = by (first_completion h.pool) (completion-of_hub h.pool)
+  where
+    by : (o : Option DueInfo) → IfSome o IsOfHub → IfSome (option_or (option_map Delivers o) (first_move h.functions)) DeliversOfHub
+    by None here = first-of_hub h.functions
+    by (Some d) here = here
+
+pub delivery-of_hub : (h : Hub) (d : DueInfo) → hub_move h ≡ Some (Delivers d) → IsOfHub d
+delivery-of_hub h d next = subst (λ o. IfSome o DeliversOfHub) next (move-of_hub h)
+
+-- WHAT OTHERS TELL
+-- what a thread or a worker does: a thread calls, acquires and releases thread-safe functions, a worker starts and finishes a work, and each ends
+abbrev pub is_of_others : What → Bool
+is_of_others (what.Call c) = is_thread_call c
+is_of_others (what.Host host.Start) = true
+is_of_others (what.Host host.Finish) = true
+is_of_others (what.Host host.ActorEnd) = true
+is_of_others _ = false
+
+thread_event-told : (h : Hub) (t : ℕ) (x : Entry) (event : HostStep) → IsTrue (thread_event h t x event).may → is_of_others (what.Host event) ≡ true
+thread_event-told h t x host.ActorEnd may = refl
+thread_event-told h t x _ may = cc
+
+thread-told : (h : Hub) (t : ℕ) (x : Entry) (w : What) → IsTrue (thread_step h t x w).may → is_of_others w ≡ true
+thread-told h t x (what.Call c) may = thread-calls h t x (what.Call c) c refl may
+thread-told h t x (what.Host event) may = thread_event-told h t x event may
+
+worker_event-told : (h : Hub) (w : ℕ) (x : Entry) (event : HostStep) → IsTrue (worker_event h w x event).may → is_of_others (what.Host event) ≡ true
+worker_event-told h w x host.Start may = refl
+worker_event-told h w x host.Finish may = refl
+worker_event-told h w x host.ActorEnd may = refl
+worker_event-told h w x _ may = cc
+
+worker-told : (h : Hub) (w : ℕ) (x : Entry) (it : What) → IsTrue (worker_step h w x it).may → is_of_others it ≡ true
+worker-told h w x (what.Call c) may = cc
+worker-told h w x (what.Host event) may = worker_event-told h w x event may
+
+pub others-told : (h : Hub) (x : Entry) → is_environment x.actor ≡ false → IsTrue (hub_step h x).may → is_of_others x.what ≡ true
+others-told h x = by x.actor
+  where
+    by : (who : Actor) → is_environment who ≡ false → IsTrue (hub_step_of h x who).may → is_of_others x.what ≡ true
+    by actor.Env other may = cc
+    by (actor.Thread t) other may = thread-told h t x x.what may
+    by (actor.Worker w) other may = worker-told h w x x.what may
+
+-- so no frame begins there, and it is not `finals`
+pub record IsNoEvent (w : What) : Type 0 where
+  pub begins : is_begin w ≡ false
+  pub finals : is_finals w ≡ false
+
+pub others-none : (w : What) → is_of_others w ≡ true → IsNoEvent w
+others-none (what.Call c) others = record { begins = refl; finals = refl }
+others-none (what.Host host.Begin) others = cc
+others-none (what.Host host.Finals) others = cc
+others-none (what.Host _) others = record { begins = refl; finals = refl }

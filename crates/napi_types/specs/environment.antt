@@ -1,0 +1,23 @@
+-- The environment: its state, its calls with their refusals, and what each of its events changes.
+pub mod Asks
+pub mod Calls
+pub mod Changes
+pub mod Collection
+pub mod Ends
+pub mod Entering
+pub mod Environment
+pub mod ExceptionCalls
+pub mod ExternalCalls
+pub mod HookCalls
+pub mod Hooked
+pub mod InstanceCalls
+pub mod Moments
+pub mod Owners
+pub mod ReferenceCalls
+pub mod Refusals
+pub mod Registering
+pub mod Roots
+pub mod RunCalls
+pub mod SharedCalls
+pub mod Tickets
+pub mod WrapCalls

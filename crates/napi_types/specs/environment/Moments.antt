@@ -1,0 +1,32 @@
+-- A call at a wrong moment: while an exception is pending, or in the teardown.
+use Rattle.std.specs.Prelude.{Bool, true, false, ◌&&◌, ◌||◌, Option, is_some}
+use Rattle.std.specs.Option.{option_or}
+use Rattle.napi_types.specs.declared.call.Call.{Call}
+use Rattle.napi_types.specs.declared.entry.Phase.{Phase}
+use Rattle.napi_types.specs.declared.status.Status.{Status}
+use Rattle.napi_types.specs.declared.entry.Phase.TheVariants as phase
+use Rattle.napi_types.specs.declared.status.Status.TheVariants as status
+use Rattle.napi_types.specs.plain.Guards.{is_guarded, is_registering}
+use Rattle.napi_types.specs.plain.Lists.{when}
+use Rattle.napi_types.specs.environment.Environment.{Environment}
+
+-- A CALL AT A WRONG MOMENT
+-- from the start of the teardown on
+abbrev pub is_tearing : Phase → Bool
+is_tearing phase.Hooks = true
+is_tearing phase.Drain = true
+is_tearing phase.Finals = true
+is_tearing phase.Gone = true
+is_tearing _ = false
+
+-- a guarded call is refused while an exception is pending, and in the teardown
+abbrev pub guard_refusal : Environment → Call → Option Status
+guard_refusal e c = when (is_guarded c && (is_some e.pending || is_tearing e.phase)) status.PendingException
+
+-- a call that registers is refused in the teardown
+abbrev pub registering_refusal : Environment → Call → Option Status
+registering_refusal e c = when (is_registering c && is_tearing e.phase) status.GenericFailure
+
+-- the first of both that applies
+abbrev pub moment_refusal : Environment → Call → Option Status
+moment_refusal e c = option_or (guard_refusal e c) (registering_refusal e c)

@@ -1,0 +1,73 @@
+-- The hub: the works, the thread-safe functions, which threads and workers have ended, and how far the run has come.
+use Rattle.std.specs.Prelude.{ℕ, Bool, true, false, not, List, [], filter, Option, Some, None}
+use Rattle.std.specs.List.{range_with_len}
+use Rattle.napi_types.specs.declared.duties.DueInfo.{DueInfo}
+use Rattle.napi_types.specs.declared.entry.HostStep.{HostStep}
+use Rattle.napi_types.specs.declared.entry.HostStep.TheVariants as host
+use Rattle.napi_types.specs.plain.Lists.{has_number}
+use Rattle.napi_types.specs.parts.Functions.{FunctionState}
+use Rattle.napi_types.specs.parts.Pool.{WorkPool, new_pool}
+
+-- which of the hub's four great events was the last: none, `go`, `loop_end`, `drain`, `finals`
+pub data Stage : Type 0 where
+  Before : Stage
+  Going : Stage
+  Looped : Stage
+  Drained : Stage
+  Final : Stage
+
+-- the state of the hub
+pub record Hub : Type 0 where
+  -- how many threads and how many workers there are, and which of them have ended
+  pub threads : ℕ
+  pub workers : ℕ
+  pub ended_threads : List ℕ
+  pub ended_workers : List ℕ
+  pub stage : Stage
+  pub pool : WorkPool
+  -- the thread-safe functions, that of number 1 first
+  pub functions : List FunctionState
+  -- what the duty of the hub told whose frame stands, where one does
+  pub standing : Option DueInfo
+
+-- a hub as it opens, for so many threads and workers
+abbrev pub new_hub : ℕ → ℕ → Hub
+new_hub threads workers = record {
+  threads = threads;
+  workers = workers;
+  ended_threads = [];
+  ended_workers = [];
+  stage = Before;
+  pool = new_pool;
+  functions = [];
+  standing = None;
+}
+
+-- the drain has come
+abbrev pub is_past_drain : Stage → Bool
+is_past_drain Drained = true
+is_past_drain Final = true
+is_past_drain _ = false
+
+-- a hub without other actors, of which no call was asked, is its stage alone; from the drain on its pool is closing
+abbrev pub quiet_hub : Stage → Hub
+quiet_hub s = record (new_hub 0 0) { stage = s; pool = record new_pool { closing = is_past_drain s } }
+
+-- `go`, `loop_end`, `drain` and `finals` happen once each and in this order
+abbrev pub stage_after : Stage → HostStep → Option Stage
+stage_after Before host.Go = Some Going
+stage_after Going host.LoopEnd = Some Looped
+stage_after Looped host.Drain = Some Drained
+stage_after Drained host.Finals = Some Final
+stage_after _ _ = None
+
+-- those of so many, counted from 0, that have not ended
+abbrev pub left_of : ℕ → List ℕ → List ℕ
+left_of count ended = filter (λ n. not (has_number n ended)) (range_with_len 0 count)
+
+-- the threads and the workers that have not ended
+abbrev pub threads_left : Hub → List ℕ
+threads_left h = left_of h.threads h.ended_threads
+
+abbrev pub workers_left : Hub → List ℕ
+workers_left h = left_of h.workers h.ended_workers

@@ -1,0 +1,47 @@
+-- Functions: what makes one, and what a call of one gives the frame that it enters, and its caller.
+use Rattle.std.specs.Prelude.{ℕ, ◌+◌, List, [], ◌∷◌, length, map, take, replicate, min, ◌++◌, Option, Some, None}
+use Rattle.napi_types.specs.declared.body.Body.TheVariants as body
+use Rattle.napi_types.specs.declared.call.Args.{Args}
+use Rattle.napi_types.specs.declared.call.Call.{Call}
+use Rattle.napi_types.specs.declared.call.Call.TheVariants as call
+use Rattle.napi_types.specs.declared.entry.Cause.TheVariants as cause
+use Rattle.napi_types.specs.declared.ids.HandleId.{HandleId}
+use Rattle.napi_types.specs.plain.Replies.{Answer}
+use Rattle.napi_types.specs.parts.Bodies.{function_addon, function_entry, function_payload}
+use Rattle.napi_types.specs.parts.Frames.{Frame, frame_of}
+use Rattle.napi_types.specs.parts.Heap.{Heap, handle_value, handle_body}
+use Rattle.napi_types.specs.parts.HeapChanges.{new_value, with_handle}
+use Rattle.napi_types.specs.parts.Values.{undefined_value}
+
+-- `create_function` makes a function: an entry of the calling addon, with a payload that its frames are given
+abbrev pub on_functions : ℕ → Heap → Call → Option (Answer Heap)
+on_functions addon heap (call.CreateFunction entry payload) = Some (new_value (body.Function addon entry payload) heap)
+on_functions addon heap _ = None
+
+-- the handles of a call's arguments: as many as it counts, at most four
+abbrev pub argument_handles : Args → List ℕ
+argument_handles args = map (λ h. h.0) (take (min args.count 4) args.handles)
+
+-- the frame that a call of a function enters
+abbrev pub callee_of : Heap → HandleId → Frame
+callee_of heap f = frame_of cause.Call (function_addon (handle_body heap f.0)) (function_entry (handle_body heap f.0))
+
+-- the receiver's handle: where a call names none, its frame has a new one of undefined
+abbrev pub receiver_handle : Heap → Option HandleId → ℕ
+receiver_handle heap None = heap.handles + 1
+receiver_handle heap (Some h) = h.0
+
+abbrev pub with_receiver : Option HandleId → Heap → Heap
+with_receiver None heap = with_handle undefined_value heap
+with_receiver (Some h) heap = heap
+
+-- the gifts of the frame: how many arguments there are, four of them, the receiver, and the function's payload; places that are not used are 0
+abbrev pub call_gifts : Heap → Option HandleId → HandleId → Args → List ℕ
+call_gifts heap receiver f args =
+    length (argument_handles args) ∷ take 4 (argument_handles args ++ replicate 4 0)
+    ++ receiver_handle heap receiver ∷ function_payload (handle_body heap f.0) ∷ 0 ∷ []
+
+-- the value that a frame leaves to its caller: undefined where it leaves nothing, or a number that no open scope holds
+abbrev pub left_value : Heap → Option HandleId → ℕ
+left_value heap None = undefined_value
+left_value heap (Some h) = handle_value heap h.0

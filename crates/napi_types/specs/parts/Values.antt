@@ -1,0 +1,74 @@
+-- The value graph: a finite map from creation numbers to values.
+use Rattle.std.specs.Prelude.{ℕ, ◌==◌, true, false, cond, List, [], ◌∷◌, ◌++◌, map, filter_map, Option, option_map}
+use Rattle.std.specs.Option.{unwrap_or}
+use Rattle.napi_types.specs.declared.body.Body.{Body}
+use Rattle.napi_types.specs.declared.body.Body.TheVariants as body
+use Rattle.napi_types.specs.plain.Lists.{found}
+use Rattle.napi_types.specs.parts.Properties.{Property, property_set, property_removed, element_set}
+
+-- a value: its creation number, what it is, its properties in the order in which their names were first set, and its elements, each a value's number or a hole
+pub record Value : Type 0 where
+  pub number : ℕ
+  pub body : Body
+  pub properties : List Property
+  pub elements : List (Option ℕ)
+
+-- a value as it is made: its number and what it is, with no properties and no elements
+abbrev pub fresh_value : ℕ → Body → Value
+fresh_value n b = record { number = n; body = b; properties = []; elements = [] }
+
+-- undefined, null, true, false and the global object have the numbers 1 to 5
+abbrev pub undefined_value : ℕ
+undefined_value = 1
+
+abbrev pub null_value : ℕ
+null_value = 2
+
+abbrev pub true_value : ℕ
+true_value = 3
+
+abbrev pub false_value : ℕ
+false_value = 4
+
+abbrev pub global_value : ℕ
+global_value = 5
+
+abbrev pub starting_values : List Value
+starting_values =
+    fresh_value undefined_value body.Undefined ∷ fresh_value null_value body.Null ∷ fresh_value true_value (body.Boolean true) ∷ fresh_value false_value (body.Boolean false)
+    ∷ fresh_value global_value (body.Object false false) ∷ []
+
+-- the value of a number
+abbrev pub value_at : List Value → ℕ → Option Value
+value_at vs n = found (λ v. v.number) n vs
+
+-- what the value of a number is; a number that no value has reads as undefined
+abbrev pub body_of : List Value → ℕ → Body
+body_of vs n = unwrap_or (option_map (λ v. v.body) (value_at vs n)) body.Undefined
+
+-- its properties and its elements; a number that no value has has none
+abbrev pub properties_of : List Value → ℕ → List Property
+properties_of vs n = unwrap_or (option_map (λ v. v.properties) (value_at vs n)) []
+
+abbrev pub elements_of : List Value → ℕ → List (Option ℕ)
+elements_of vs n = unwrap_or (option_map (λ v. v.elements) (value_at vs n)) []
+
+-- the values that a value's properties and elements name: what it reaches in one step
+abbrev pub children : Value → List ℕ
+children v = map (λ p. p.value) v.properties ++ filter_map (λ e. e) v.elements
+
+-- the value with a property set
+abbrev pub with_property : ℕ → ℕ → Value → Value
+with_property name to v = record v { properties = property_set name to v.properties }
+
+-- the value without a property
+abbrev pub without_property : ℕ → Value → Value
+without_property name v = record v { properties = property_removed name v.properties }
+
+-- the value with an element set
+abbrev pub with_element : ℕ → ℕ → Value → Value
+with_element at to v = record v { elements = element_set at to v.elements }
+
+-- the values with the one of a number changed so
+abbrev pub value_changed : ℕ → (Value → Value) → List Value → List Value
+value_changed n change vs = map (λ v. cond (v.number == n) (change v) v) vs

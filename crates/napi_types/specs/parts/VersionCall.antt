@@ -1,0 +1,13 @@
+-- What the calls of no group answer where nothing refuses them.
+use Rattle.std.specs.Prelude.{Option, Some, None}
+use Rattle.napi_types.specs.declared.call.Call.{Call}
+use Rattle.napi_types.specs.declared.call.Call.TheVariants as call
+use Rattle.napi_types.specs.declared.entry.Out.TheVariants as out
+use Rattle.napi_types.specs.plain.Numbers.{napi_version}
+use Rattle.napi_types.specs.plain.Replies.{Answer, accepts}
+use Rattle.napi_types.specs.parts.Heap.{Heap}
+
+-- `get_version` tells the version of Node-API
+abbrev pub on_version : Heap → Call → Option (Answer Heap)
+on_version heap call.GetVersion = Some (accepts (out.Unsigned napi_version) heap)
+on_version heap _ = None

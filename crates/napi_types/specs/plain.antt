@@ -1,0 +1,13 @@
+-- Plain data: lists and numbers, entries and replies, what is known of a call by itself, the ends of the outside.
+pub mod Built
+pub mod CallFacts
+pub mod Edge
+pub mod Guards
+pub mod Lists
+pub mod Numbers
+pub mod Phases
+pub mod Replies
+pub mod Room
+pub mod SeenLines
+pub mod Texts
+pub mod Weave

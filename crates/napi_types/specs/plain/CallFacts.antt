@@ -1,0 +1,117 @@
+-- The table of calls: what is known of each before it is made, a row for each.
+use Rattle.std.specs.Prelude.{ℕ, ◌+◌, Bool, true, false, List, [], ◌∷◌, ◌++◌, Option, Some, None, is_some}
+use Rattle.napi_types.specs.declared.call.Call.{Call}
+use Rattle.napi_types.specs.declared.call.Call.TheVariants as call
+use Rattle.napi_types.specs.declared.ids.HandleId.{HandleId}
+use Rattle.napi_types.specs.declared.ids.TextNo.{TextNo}
+use Rattle.napi_types.specs.plain.Lists.{one}
+use Rattle.napi_types.specs.parts.FunctionCalls.{argument_handles}
+
+-- whether the call is guarded, whether it registers something, whether its entry stands in the history, and whether it takes memory beside that of its places; how
+-- many places it needs; and the handles, the texts and the references that it names
+pub record CallFacts : Type 0 where
+  pub guarded : Bool
+  pub registers : Bool
+  pub shared : Bool
+  pub grows : Bool
+  pub need : ℕ
+  pub handles : List ℕ
+  pub texts : List ℕ
+  pub references : List ℕ
+
+-- a call of which none of this holds: it needs the place of its entry alone
+abbrev pub no_facts : CallFacts
+no_facts = record { guarded = false; registers = false; shared = false; grows = false; need = 1; handles = []; texts = []; references = [] }
+
+-- the handle of an argument that may be left out
+abbrev pub handle_if : Option HandleId → List ℕ
+handle_if None = []
+handle_if (Some h) = one h.0
+
+-- the text of an argument that may be left out
+abbrev pub text_if : Option TextNo → List ℕ
+text_if None = []
+text_if (Some t) = one t.0
+
+-- the places of a duty's frame, its begin and its end
+abbrev pub duty_places : ℕ
+duty_places = 2
+
+-- the same where there is a finalizer
+abbrev pub finalizer_places : Option ℕ → ℕ
+finalizer_places None = 0
+finalizer_places (Some entry) = duty_places
+
+-- the table
+abbrev pub facts_of : Call → CallFacts
+facts_of call.GetUndefined = record no_facts { grows = true }
+facts_of call.GetNull = record no_facts { grows = true }
+facts_of call.GetGlobal = record no_facts { grows = true }
+facts_of (call.GetBoolean _) = record no_facts { grows = true }
+facts_of (call.CreateInt64 _) = record no_facts { grows = true }
+facts_of (call.CreateBigintInt64 _) = record no_facts { grows = true }
+facts_of (call.CreateStringUtf8 t) = record no_facts { grows = true; texts = one t.0 }
+facts_of (call.CreateSymbol h) = record no_facts { grows = true; handles = handle_if h }
+facts_of call.CreateObject = record no_facts { grows = true }
+facts_of call.CreateArray = record no_facts { grows = true }
+facts_of (call.CreateFunction _ _) = record no_facts { guarded = true; grows = true }
+facts_of (call.CreateExternal _ finalizer _) = record no_facts { registers = is_some finalizer; grows = true; need = 1 + finalizer_places finalizer }
+facts_of (call.CreateError code message) = record no_facts { grows = true; handles = handle_if code ++ one message.0 }
+facts_of (call.Typeof h) = record no_facts { handles = one h.0 }
+facts_of (call.IsArray h) = record no_facts { handles = one h.0 }
+facts_of (call.IsError h) = record no_facts { handles = one h.0 }
+facts_of (call.GetValueInt64 h) = record no_facts { handles = one h.0 }
+facts_of (call.GetValueBigintInt64 h) = record no_facts { handles = one h.0 }
+facts_of (call.GetValueBool h) = record no_facts { handles = one h.0 }
+facts_of (call.GetValueStringUtf8 h) = record no_facts { handles = one h.0 }
+facts_of (call.GetValueExternal h) = record no_facts { handles = one h.0 }
+facts_of (call.GetArrayLength h) = record no_facts { handles = one h.0 }
+facts_of (call.StrictEquals g h) = record no_facts { guarded = true; handles = g.0 ∷ one h.0 }
+facts_of (call.SetNamedProperty h name v) = record no_facts { guarded = true; grows = true; handles = h.0 ∷ one v.0; texts = one name.0 }
+facts_of (call.GetNamedProperty h name) = record no_facts { guarded = true; grows = true; handles = one h.0; texts = one name.0 }
+facts_of (call.HasNamedProperty h name) = record no_facts { guarded = true; handles = one h.0; texts = one name.0 }
+facts_of (call.DeleteProperty h name) = record no_facts { guarded = true; handles = one h.0; texts = one name.0 }
+facts_of (call.GetPropertyNames h) = record no_facts { guarded = true; grows = true; handles = one h.0 }
+facts_of (call.SetElement h _ v) = record no_facts { guarded = true; grows = true; handles = h.0 ∷ one v.0 }
+facts_of (call.GetElement h _) = record no_facts { guarded = true; grows = true; handles = one h.0 }
+facts_of (call.HasElement h _) = record no_facts { guarded = true; handles = one h.0 }
+facts_of call.OpenHandleScope = record no_facts { grows = true }
+facts_of call.OpenEscapableHandleScope = record no_facts { grows = true }
+facts_of (call.CloseHandleScope _) = no_facts
+facts_of (call.CloseEscapableHandleScope _) = no_facts
+facts_of (call.EscapeHandle _ h) = record no_facts { handles = one h.0 }
+facts_of (call.CreateReference h _) = record no_facts { grows = true; handles = one h.0 }
+facts_of (call.DeleteReference r) = record no_facts { references = one r.0 }
+facts_of (call.ReferenceRef r) = record no_facts { references = one r.0 }
+facts_of (call.ReferenceUnref r) = record no_facts { references = one r.0 }
+facts_of (call.GetReferenceValue r) = record no_facts { grows = true; references = one r.0 }
+facts_of (call.Wrap h _ finalizer _ _) = record no_facts { guarded = true; registers = is_some finalizer; grows = true; need = 1 + finalizer_places finalizer; handles = one h.0 }
+facts_of (call.Unwrap h) = record no_facts { guarded = true; handles = one h.0 }
+facts_of (call.RemoveWrap h) = record no_facts { guarded = true; handles = one h.0 }
+facts_of (call.TypeTagObject h _ _) = record no_facts { guarded = true; grows = true; handles = one h.0 }
+facts_of (call.CheckObjectTypeTag h _ _) = record no_facts { guarded = true; handles = one h.0 }
+facts_of (call.AddFinalizer h _ _ _ _) = record no_facts { registers = true; grows = true; need = 1 + duty_places; handles = one h.0 }
+facts_of (call.CallFunction receiver f args) = record no_facts { guarded = true; grows = true; need = 2; handles = handle_if receiver ++ f.0 ∷ argument_handles args }
+facts_of (call.Throw h) = record no_facts { guarded = true; handles = one h.0 }
+facts_of (call.ThrowError code message) = record no_facts { guarded = true; grows = true; texts = text_if code ++ one message.0 }
+facts_of call.IsExceptionPending = no_facts
+facts_of call.GetAndClearLastException = record no_facts { grows = true }
+facts_of call.GetLastErrorInfo = no_facts
+facts_of (call.SetInstanceData _ finalizer _) = record no_facts { registers = is_some finalizer; grows = is_some finalizer; need = 1 + finalizer_places finalizer }
+facts_of call.GetInstanceData = no_facts
+facts_of (call.AddEnvCleanupHook _ _) = record no_facts { registers = true; grows = true; need = 1 + duty_places }
+facts_of (call.RemoveEnvCleanupHook _ _) = no_facts
+facts_of (call.CreateAsyncWork _ _ _) = record no_facts { registers = true; shared = true; grows = true }
+facts_of (call.DeleteAsyncWork _) = record no_facts { shared = true }
+facts_of (call.CancelAsyncWork _) = record no_facts { shared = true }
+facts_of (call.QueueAsyncWork _) = record no_facts { registers = true; shared = true; need = 3 + duty_places }
+facts_of (call.CreateThreadsafeFunction f _ _ _ finalizer _) = record no_facts { registers = true; shared = true; grows = true; need = 3 + finalizer_places finalizer; handles = handle_if f }
+facts_of (call.CallThreadsafeFunction _ _ _) = record no_facts { registers = true; shared = true; grows = true; need = 1 + duty_places }
+facts_of (call.AcquireThreadsafeFunction _) = record no_facts { shared = true }
+facts_of (call.ReleaseThreadsafeFunction _ _) = record no_facts { shared = true }
+facts_of (call.RefThreadsafeFunction _) = record no_facts { shared = true }
+facts_of (call.UnrefThreadsafeFunction _) = record no_facts { shared = true }
+facts_of (call.GetThreadsafeFunctionContext _) = record no_facts { shared = true }
+facts_of call.GetVersion = no_facts
+facts_of call.Collect = record no_facts { grows = true }
+facts_of call.Exit = no_facts

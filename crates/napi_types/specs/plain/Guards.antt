@@ -1,0 +1,17 @@
+-- Which calls are guarded, which register something that the environment has to do later, and which are shared.
+use Rattle.std.specs.Prelude.{Bool}
+use Rattle.napi_types.specs.declared.call.Call.{Call}
+use Rattle.napi_types.specs.plain.CallFacts.{facts_of}
+
+-- a call that could run code of the runtime, and is refused while an exception is pending and in the teardown
+abbrev pub is_guarded : Call → Bool
+is_guarded c = (facts_of c).guarded
+
+-- a call that registers a finalizer, a hook, a work, a thread-safe function or an item of one, and is refused in the teardown; where a finalizer may be
+-- left out, only with one
+abbrev pub is_registering : Call → Bool
+is_registering c = (facts_of c).registers
+
+-- the calls on works and on thread-safe functions, whose entries stand in the history
+abbrev pub is_shared : Call → Bool
+is_shared c = (facts_of c).shared

@@ -1,0 +1,11 @@
+-- Environment and hub together: the next event, a step, and runs.
+pub mod Begins
+pub mod Choice
+pub mod Loop
+pub mod Machine
+pub mod Parting
+pub mod Plan
+pub mod Run
+pub mod Setting
+pub mod Step
+pub mod Teardown

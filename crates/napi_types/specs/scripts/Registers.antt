@@ -1,0 +1,229 @@
+-- The registers of an addon, and what its plan asks: a plan has a list of operations for each entry, and an addon has 32 registers.
+use Rattle.std.specs.Prelude.{ℕ, ◌++◌, Bool, true, false, cond, min, nat_lt, List, [], ◌∷◌, take, set, replicate, slice_get, slice_index, Option, Some, None, option_and_then, option_map, is_some}
+use Rattle.std.specs.Int.{cast_unsigned, w64}
+use Rattle.napi_types.specs.declared.call.Args.{Args}
+use Rattle.napi_types.specs.declared.call.Ask.{Ask}
+use Rattle.napi_types.specs.declared.call.Ask.TheVariants as ask
+use Rattle.napi_types.specs.declared.call.Call.TheVariants as call
+use Rattle.napi_types.specs.declared.ids.HandleId.{HandleId}
+use Rattle.napi_types.specs.declared.op.Regs.{Regs}
+use Rattle.napi_types.specs.declared.op.Op.{Op}
+use Rattle.napi_types.specs.declared.op.Op.TheVariants as op
+use Rattle.napi_types.specs.declared.entry.Out.{Out}
+use Rattle.napi_types.specs.declared.entry.Out.TheVariants as out
+use Rattle.napi_types.specs.declared.entry.Reply.{Reply}
+use Rattle.napi_types.specs.declared.status.Status.{Status}
+use Rattle.napi_types.specs.declared.status.Status.TheVariants as status
+use Rattle.napi_types.specs.plain.Numbers.{kind_number}
+
+-- the number in a register, 0 past the last one
+abbrev pub register_at : List ℕ → ℕ → ℕ
+register_at rs r = slice_index rs r
+
+-- the handle whose number is in a register
+abbrev pub handle_in : List ℕ → ℕ → HandleId
+handle_in rs r = record { 0 = register_at rs r }
+
+-- the handle of the place among the arguments of a call, 0 from the count on
+abbrev pub argument_in : List ℕ → Regs → ℕ → HandleId
+argument_in rs list place = cond (nat_lt place (min list.count 4)) (handle_in rs (slice_index list.regs place)) (record { 0 = 0 })
+
+-- the arguments of a call of a function, whose handles are in registers: at most four
+abbrev pub arguments_in : List ℕ → Regs → Args
+arguments_in rs list = record {
+  count = min list.count 4;
+  handles = argument_in rs list 0 ∷ argument_in rs list 1 ∷ argument_in rs list 2 ∷ argument_in rs list 3 ∷ [];
+}
+
+-- an operation filled from registers
+abbrev pub operation_ask : Op → List ℕ → Ask
+operation_ask (op.GetUndefined w) rs = ask.Do call.GetUndefined
+operation_ask (op.GetNull w) rs = ask.Do call.GetNull
+operation_ask (op.GetGlobal w) rs = ask.Do call.GetGlobal
+operation_ask (op.GetBoolean flag w) rs = ask.Do (call.GetBoolean flag)
+operation_ask (op.CreateInt64 number w) rs = ask.Do (call.CreateInt64 number)
+operation_ask (op.CreateBigintInt64 number w) rs = ask.Do (call.CreateBigintInt64 number)
+operation_ask (op.CreateStringUtf8 text w) rs = ask.Do (call.CreateStringUtf8 text)
+operation_ask (op.CreateSymbol description w) rs = ask.Do (call.CreateSymbol (option_map (handle_in rs) description))
+operation_ask (op.CreateObject w) rs = ask.Do call.CreateObject
+operation_ask (op.CreateArray w) rs = ask.Do call.CreateArray
+operation_ask (op.CreateFunction entry payload w) rs = ask.Do (call.CreateFunction entry payload)
+operation_ask (op.CreateExternal payload entry hint w) rs = ask.Do (call.CreateExternal payload entry hint)
+operation_ask (op.CreateError code message w) rs = ask.Do (call.CreateError (option_map (handle_in rs) code) (handle_in rs message))
+operation_ask (op.Typeof value w) rs = ask.Do (call.Typeof (handle_in rs value))
+operation_ask (op.IsArray value w) rs = ask.Do (call.IsArray (handle_in rs value))
+operation_ask (op.IsError value w) rs = ask.Do (call.IsError (handle_in rs value))
+operation_ask (op.GetValueInt64 value w) rs = ask.Do (call.GetValueInt64 (handle_in rs value))
+operation_ask (op.GetValueBigintInt64 value w) rs = ask.Do (call.GetValueBigintInt64 (handle_in rs value))
+operation_ask (op.GetValueBool value w) rs = ask.Do (call.GetValueBool (handle_in rs value))
+operation_ask (op.GetValueStringUtf8 value w) rs = ask.Do (call.GetValueStringUtf8 (handle_in rs value))
+operation_ask (op.GetValueExternal value w) rs = ask.Do (call.GetValueExternal (handle_in rs value))
+operation_ask (op.GetArrayLength value w) rs = ask.Do (call.GetArrayLength (handle_in rs value))
+operation_ask (op.StrictEquals left right w) rs = ask.Do (call.StrictEquals (handle_in rs left) (handle_in rs right))
+operation_ask (op.SetNamedProperty object name value) rs = ask.Do (call.SetNamedProperty (handle_in rs object) name (handle_in rs value))
+operation_ask (op.GetNamedProperty object name w) rs = ask.Do (call.GetNamedProperty (handle_in rs object) name)
+operation_ask (op.HasNamedProperty object name w) rs = ask.Do (call.HasNamedProperty (handle_in rs object) name)
+operation_ask (op.DeleteProperty object name w) rs = ask.Do (call.DeleteProperty (handle_in rs object) name)
+operation_ask (op.GetPropertyNames object w) rs = ask.Do (call.GetPropertyNames (handle_in rs object))
+operation_ask (op.SetElement object index value) rs = ask.Do (call.SetElement (handle_in rs object) index (handle_in rs value))
+operation_ask (op.GetElement object index w) rs = ask.Do (call.GetElement (handle_in rs object) index)
+operation_ask (op.HasElement object index w) rs = ask.Do (call.HasElement (handle_in rs object) index)
+operation_ask (op.OpenHandleScope w) rs = ask.Do call.OpenHandleScope
+operation_ask (op.OpenEscapableHandleScope w) rs = ask.Do call.OpenEscapableHandleScope
+operation_ask (op.CloseHandleScope scope) rs = ask.Do (call.CloseHandleScope (record { 0 = register_at rs scope }))
+operation_ask (op.CloseEscapableHandleScope scope) rs = ask.Do (call.CloseEscapableHandleScope (record { 0 = register_at rs scope }))
+operation_ask (op.EscapeHandle scope value w) rs = ask.Do (call.EscapeHandle (record { 0 = register_at rs scope }) (handle_in rs value))
+operation_ask (op.CreateReference value count w) rs = ask.Do (call.CreateReference (handle_in rs value) count)
+operation_ask (op.DeleteReference reference) rs = ask.Do (call.DeleteReference (record { 0 = register_at rs reference }))
+operation_ask (op.ReferenceRef reference w) rs = ask.Do (call.ReferenceRef (record { 0 = register_at rs reference }))
+operation_ask (op.ReferenceUnref reference w) rs = ask.Do (call.ReferenceUnref (record { 0 = register_at rs reference }))
+operation_ask (op.GetReferenceValue reference w) rs = ask.Do (call.GetReferenceValue (record { 0 = register_at rs reference }))
+operation_ask (op.Wrap object payload entry hint w) rs = ask.Do (call.Wrap (handle_in rs object) payload entry hint (is_some w))
+operation_ask (op.Unwrap object w) rs = ask.Do (call.Unwrap (handle_in rs object))
+operation_ask (op.RemoveWrap object w) rs = ask.Do (call.RemoveWrap (handle_in rs object))
+operation_ask (op.TypeTagObject object lower upper) rs = ask.Do (call.TypeTagObject (handle_in rs object) lower upper)
+operation_ask (op.CheckObjectTypeTag object lower upper w) rs = ask.Do (call.CheckObjectTypeTag (handle_in rs object) lower upper)
+operation_ask (op.AddFinalizer object payload entry hint w) rs = ask.Do (call.AddFinalizer (handle_in rs object) payload entry hint (is_some w))
+operation_ask (op.CallFunction receiver function arguments w) rs = ask.Do (call.CallFunction (option_map (handle_in rs) receiver) (handle_in rs function) (arguments_in rs arguments))
+operation_ask (op.Throw error) rs = ask.Do (call.Throw (handle_in rs error))
+operation_ask (op.ThrowError code message) rs = ask.Do (call.ThrowError code message)
+operation_ask (op.IsExceptionPending w) rs = ask.Do call.IsExceptionPending
+operation_ask (op.GetAndClearLastException w) rs = ask.Do call.GetAndClearLastException
+operation_ask (op.GetLastErrorInfo w) rs = ask.Do call.GetLastErrorInfo
+operation_ask (op.SetInstanceData payload entry hint) rs = ask.Do (call.SetInstanceData payload entry hint)
+operation_ask (op.GetInstanceData w) rs = ask.Do call.GetInstanceData
+operation_ask (op.AddEnvCleanupHook entry argument) rs = ask.Do (call.AddEnvCleanupHook entry argument)
+operation_ask (op.RemoveEnvCleanupHook entry argument) rs = ask.Do (call.RemoveEnvCleanupHook entry argument)
+operation_ask (op.CreateAsyncWork job entry payload w) rs = ask.Do (call.CreateAsyncWork job entry payload)
+operation_ask (op.DeleteAsyncWork work) rs = ask.Do (call.DeleteAsyncWork (record { 0 = register_at rs work }))
+operation_ask (op.CancelAsyncWork work) rs = ask.Do (call.CancelAsyncWork (record { 0 = register_at rs work }))
+operation_ask (op.QueueAsyncWork work) rs = ask.Do (call.QueueAsyncWork (record { 0 = register_at rs work }))
+operation_ask (op.CreateThreadsafeFunction function entry maximum count finalizer context w) rs = ask.Do (call.CreateThreadsafeFunction (option_map (handle_in rs) function) entry maximum count finalizer context)
+operation_ask (op.CallThreadsafeFunction function payload mode) rs = ask.Do (call.CallThreadsafeFunction (record { 0 = register_at rs function }) payload mode)
+operation_ask (op.AcquireThreadsafeFunction function) rs = ask.Do (call.AcquireThreadsafeFunction (record { 0 = register_at rs function }))
+operation_ask (op.ReleaseThreadsafeFunction function mode) rs = ask.Do (call.ReleaseThreadsafeFunction (record { 0 = register_at rs function }) mode)
+operation_ask (op.RefThreadsafeFunction function) rs = ask.Do (call.RefThreadsafeFunction (record { 0 = register_at rs function }))
+operation_ask (op.UnrefThreadsafeFunction function) rs = ask.Do (call.UnrefThreadsafeFunction (record { 0 = register_at rs function }))
+operation_ask (op.GetThreadsafeFunctionContext function w) rs = ask.Do (call.GetThreadsafeFunctionContext (record { 0 = register_at rs function }))
+operation_ask (op.GetVersion w) rs = ask.Do call.GetVersion
+operation_ask (op.Collect w) rs = ask.Do call.Collect
+operation_ask op.Exit rs = ask.Do call.Exit
+operation_ask (op.Return r) rs = ask.Leave (option_map (handle_in rs) r)
+operation_ask (op.ThreadCall f n m) rs = ask.Do (call.CallThreadsafeFunction (record { 0 = f }) n m)
+operation_ask (op.ThreadAcquire f) rs = ask.Do (call.AcquireThreadsafeFunction (record { 0 = f }))
+operation_ask (op.ThreadRelease f m) rs = ask.Do (call.ReleaseThreadsafeFunction (record { 0 = f }) m)
+
+-- the register that keeps an operation's result
+abbrev pub result_register : Op → Option ℕ
+result_register (op.GetUndefined w) = Some w
+result_register (op.GetNull w) = Some w
+result_register (op.GetGlobal w) = Some w
+result_register (op.GetBoolean _ w) = Some w
+result_register (op.CreateInt64 _ w) = Some w
+result_register (op.CreateBigintInt64 _ w) = Some w
+result_register (op.CreateStringUtf8 _ w) = Some w
+result_register (op.CreateSymbol _ w) = Some w
+result_register (op.CreateObject w) = Some w
+result_register (op.CreateArray w) = Some w
+result_register (op.CreateFunction _ _ w) = Some w
+result_register (op.CreateExternal _ _ _ w) = Some w
+result_register (op.CreateError _ _ w) = Some w
+result_register (op.Typeof _ w) = Some w
+result_register (op.IsArray _ w) = Some w
+result_register (op.IsError _ w) = Some w
+result_register (op.GetValueInt64 _ w) = Some w
+result_register (op.GetValueBigintInt64 _ w) = Some w
+result_register (op.GetValueBool _ w) = Some w
+result_register (op.GetValueStringUtf8 _ w) = Some w
+result_register (op.GetValueExternal _ w) = Some w
+result_register (op.GetArrayLength _ w) = Some w
+result_register (op.StrictEquals _ _ w) = Some w
+result_register (op.GetNamedProperty _ _ w) = Some w
+result_register (op.HasNamedProperty _ _ w) = Some w
+result_register (op.DeleteProperty _ _ w) = Some w
+result_register (op.GetPropertyNames _ w) = Some w
+result_register (op.GetElement _ _ w) = Some w
+result_register (op.HasElement _ _ w) = Some w
+result_register (op.OpenHandleScope w) = Some w
+result_register (op.OpenEscapableHandleScope w) = Some w
+result_register (op.EscapeHandle _ _ w) = Some w
+result_register (op.CreateReference _ _ w) = Some w
+result_register (op.ReferenceRef _ w) = Some w
+result_register (op.ReferenceUnref _ w) = Some w
+result_register (op.GetReferenceValue _ w) = Some w
+result_register (op.Wrap _ _ _ _ w) = w
+result_register (op.Unwrap _ w) = Some w
+result_register (op.RemoveWrap _ w) = Some w
+result_register (op.CheckObjectTypeTag _ _ _ w) = Some w
+result_register (op.AddFinalizer _ _ _ _ w) = w
+result_register (op.CallFunction _ _ _ w) = Some w
+result_register (op.IsExceptionPending w) = Some w
+result_register (op.GetAndClearLastException w) = Some w
+result_register (op.GetLastErrorInfo w) = Some w
+result_register (op.GetInstanceData w) = Some w
+result_register (op.CreateAsyncWork _ _ _ w) = Some w
+result_register (op.CreateThreadsafeFunction _ _ _ _ _ _ w) = Some w
+result_register (op.GetThreadsafeFunctionContext _ w) = Some w
+result_register (op.GetVersion w) = Some w
+result_register (op.Collect w) = Some w
+result_register _ = None
+
+-- a flag as a number
+abbrev pub flag_number : Bool → ℕ
+flag_number true = 1
+flag_number false = 0
+
+-- the number that a register keeps of a result: a signed one modulo 2 ^ 64, and 0 where there is no handle
+abbrev pub register_value : Out → Option ℕ
+register_value (out.Handle h) = Some h.0
+register_value out.NoHandle = Some 0
+register_value (out.Scope s) = Some s.0
+register_value (out.Ref r) = Some r.0
+register_value (out.Work w) = Some w.0
+register_value (out.Function f) = Some f.0
+register_value (out.Signed i) = Some (cast_unsigned w64 i)
+register_value (out.Unsigned n) = Some n
+register_value (out.Flag b) = Some (flag_number b)
+register_value (out.Text t) = Some t.0
+register_value (out.Kind k) = Some (kind_number k)
+register_value _ = None
+
+-- the operation of an entry at a step, both counted from 0
+abbrev pub operation : List (List Op) → ℕ → ℕ → Option Op
+operation plan entry step = option_and_then (λ ops. slice_get ops step) (slice_get plan entry)
+
+-- what is asked at an operation: after the last one a frame leaves without a handle
+abbrev pub next_ask : Option Op → List ℕ → Ask
+next_ask None rs = ask.Leave None
+next_ask (Some o) rs = operation_ask o rs
+
+-- what an addon of this plan and these registers asks in a frame of that entry at that step
+abbrev pub plan_ask : List (List Op) → List ℕ → ℕ → ℕ → Ask
+plan_ask plan rs entry step = next_ask (operation plan entry step) rs
+
+-- the registers with a number in one of them; they stay where there is no number, and where there is no such register
+abbrev pub put_number : List ℕ → ℕ → Option ℕ → List ℕ
+put_number rs r None = rs
+put_number rs r (Some n) = set rs r n
+
+-- the registers with a result in the register that keeps it, if there is one
+abbrev pub put_result : List ℕ → Out → Option ℕ → List ℕ
+put_result rs o None = rs
+put_result rs o (Some r) = put_number rs r (register_value o)
+
+-- the registers with the result of a call in the register that keeps it; they stay where the call was refused
+abbrev pub put_accepted_result : List ℕ → Option ℕ → Out → Status → List ℕ
+put_accepted_result rs w o status.Ok = put_result rs o w
+put_accepted_result rs w o _ = rs
+
+-- the registers after the reply to what the plan asked in a frame of that entry at that step
+abbrev pub registers_after_reply : List (List Op) → List ℕ → ℕ → ℕ → Reply → List ℕ
+registers_after_reply plan rs entry step reply = put_accepted_result rs (option_and_then result_register (operation plan entry step)) reply.out reply.status
+
+-- the registers of an addon that was loaded
+abbrev pub blank_registers : List ℕ
+blank_registers = replicate 32 0
+
+-- the registers with a frame's eight gifts in registers 24 to 31
+abbrev pub with_gifts : List ℕ → List ℕ → List ℕ
+with_gifts gifts rs = take 24 rs ++ gifts
