@@ -2,7 +2,7 @@
 use Rattle.std.specs.Prelude.{◌≡◌, ℕ, List, [], set, option_map, slice_index_or}
 use Rattle.napi_types.specs.declared.duties.DueInfo.{DueInfo}
 use Rattle.napi_types.specs.declared.op.Op.{Op}
-use Rattle.napi_types.specs.runs.Plan.{Plan, plan_of, Registers, registers_of}
+use Rattle.napi_types.specs.scripts.Plans.{Plan, plan_of, Registers, registers_of}
 
 -- the plans once an addon was given these entries: one that did not tell its plan does not tell it now
 abbrev pub loaded_at : List Plan → ℕ → List (List Op) → List Plan

@@ -1,8 +1,8 @@
 //! Calls of one addon of a list. Contracts see the list as the list of its addons' plans, the list of their registers and
 //! the list of what each has seen. An addon is named by its place in the list, from 0.
 ghost use Rattle.std.specs.Prelude.{◌≡◌, ◌<◌, [], ◌∷◌, ◌++◌, IfSome, length, map, set, option_map};
+ghost use Rattle.napi_types.specs.scripts.Plans.{plan_of, registers_of};
 ghost use Rattle.napi_types.specs.scripts.Registers.{plan_ask, registers_after_reply, blank_registers, with_gifts};
-ghost use Rattle.napi_types.specs.runs.Plan.{plan_of, registers_of};
 ghost use Rattle.addon_trait.specs.Addons.{loaded_at, OthersStay, seen_of};
 
 use crate::Addon;

@@ -14,7 +14,7 @@ use Rattle.napi_types.specs.declared.entry.Phase.TheVariants as phase
 use Rattle.napi_types.specs.declared.entry.Why.{Why}
 use Rattle.napi_types.specs.plain.Lists.{tail}
 use Rattle.napi_types.specs.parts.Attachments.{Wrapped, Attached, Attachments}
-use Rattle.napi_types.specs.parts.Book.{Book, Registration, TicketState, Registered, Due, Begun, Ended, Withdrawn, is_registered, is_begun, is_at, registration_at, due_info, made_due, made_withdrawn, made_due_and_begun, made_ended, moved, moved_at, moved_where, due_where, with_registration}
+use Rattle.napi_types.specs.parts.Book.{Book, Registration, TicketState, Registered, Due, Begun, Ended, Withdrawn, is_registered, is_begun, is_at, registration_at, due_info, made_due, made_withdrawn, made_due_and_begun, made_ended, moved, moved_at, moved_where, due_where, with_registration, begun_in}
 use Rattle.napi_types.specs.parts.Duties.{duties_of}
 use Rattle.napi_types.specs.parts.Frames.{Frame, duty_of, frame_of_duty, ask_counted, is_hub_duty}
 use Rattle.napi_types.specs.parts.Graph.{StoreState, IsLive}
@@ -26,7 +26,7 @@ use Rattle.napi_types.specs.parts.Scopes.{Held, held_by_frames}
 use Rattle.napi_types.specs.environment.Ends.{duty_ended, without_innermost_frame, outermost_end_change}
 use Rattle.napi_types.specs.environment.Environment.{Environment}
 use Rattle.napi_types.specs.environment.Hooked.{is_late, IsHooked}
-use Rattle.napi_types.specs.environment.Tickets.{begun_in, hooks_left, ticket_change}
+use Rattle.napi_types.specs.environment.Tickets.{hooks_left, ticket_change}
 use Rattle.napi_types.proofs.plain.Found.{same-self}
 use Rattle.napi_types.proofs.parts.Books.{length-moved, All-moved}
 use Rattle.napi_types.proofs.parts.Moved.{registration_at-moved_where}

@@ -16,8 +16,8 @@ use Rattle.napi_types.specs.parts.Heap.{Heap}
 use Rattle.napi_types.specs.parts.Reach.{reach_from}
 use Rattle.napi_types.specs.parts.References.{Reference, ReferenceMap, strong_values, value_left, emptied}
 use Rattle.napi_types.specs.parts.Scopes.{Held, held_by_frames}
-use Rattle.napi_types.specs.parts.Values.{Value}
-use Rattle.napi_types.specs.environment.Collection.{those_of, all_but, is_freed, collected}
+use Rattle.napi_types.specs.parts.Values.{Value, those_of, all_but}
+use Rattle.napi_types.specs.environment.Collection.{is_freed, collected}
 use Rattle.napi_types.specs.environment.Environment.{Environment}
 use Rattle.napi_types.specs.environment.Roots.{roots, reach}
 use Rattle.napi_types.proofs.parts.Reaching.{reach_from-same}

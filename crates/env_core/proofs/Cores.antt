@@ -18,8 +18,8 @@ use Rattle.napi_types.specs.declared.status.Status.{Status}
 use Rattle.napi_types.specs.plain.Built.{is_calling}
 use Rattle.napi_types.specs.plain.Lists.{tail}
 use Rattle.napi_types.specs.plain.Phases.{next_phase}
-use Rattle.napi_types.specs.plain.Room.{one_if, gone_place, reserved_journal, need, is_full}
-use Rattle.napi_types.specs.parts.Book.{Book, Registration, is_registered, is_due, registration_at, lowest_due, owed_tickets, made_due, made_ended, moved_at}
+use Rattle.napi_types.specs.plain.Room.{one_if, need, is_full}
+use Rattle.napi_types.specs.parts.Book.{Book, Registration, is_registered, is_due, registration_at, lowest_due, owed_tickets, made_due, made_ended, moved_at, begun_in, may_begin_in}
 use Rattle.napi_types.specs.parts.Frames.{Frame, caller_of, cause_of, duty_of, is_hub_duty, local_frames}
 use Rattle.napi_types.specs.parts.Hooks.{last_hook}
 use Rattle.napi_types.specs.environment.Calls.{answer_unless_deep}
@@ -28,9 +28,9 @@ use Rattle.napi_types.specs.environment.Ends.{duty_ended, end_change_by, outermo
 use Rattle.napi_types.specs.environment.Entering.{is_entering}
 use Rattle.napi_types.specs.environment.Environment.{Environment}
 use Rattle.napi_types.specs.environment.Hooked.{is_late, IsHooked}
+use Rattle.napi_types.specs.environment.JournalRoom.{gone_place, reserved_journal}
 use Rattle.napi_types.specs.environment.Refusals.{refusal, early_refusal, depth_refusal}
-use Rattle.napi_types.specs.environment.Tickets.{begun_in, may_begin_in, ticket_change}
-use Rattle.napi_types.specs.runs.Loop.{ticket_in, next_ticket}
+use Rattle.napi_types.specs.environment.Tickets.{ticket_change, ticket_in, next_ticket}
 use Rattle.napi_types.proofs.parts.BookSteps.{step-length}
 use Rattle.napi_types.proofs.parts.Books.{owed-due_where, owed-begun, IsDueAt, lowest-due, length-moved}
 use Rattle.napi_types.proofs.environment.Answers.{course-parts, KeepsButAsk, call_change-keeps, call-reserved}

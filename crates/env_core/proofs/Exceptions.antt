@@ -17,6 +17,7 @@ use Rattle.napi_types.specs.parts.Frames.{Frame}
 use Rattle.napi_types.specs.parts.Graph.{StoreState, IsLive, number_in}
 use Rattle.napi_types.specs.parts.Heap.{Heap, handle_value}
 use Rattle.napi_types.specs.parts.HeapChanges.{with_handle, with_thrown, thrown_number}
+use Rattle.napi_types.specs.parts.HeapRefusals.{refusal_in}
 use Rattle.napi_types.specs.parts.NamedNumbers.{is_known}
 use Rattle.napi_types.specs.parts.References.{ReferenceMap}
 use Rattle.napi_types.specs.parts.ScopeChanges.{hold_in}
@@ -27,7 +28,7 @@ use Rattle.napi_types.specs.environment.Changes.{number_of}
 use Rattle.napi_types.specs.environment.Environment.{Environment, with_heap}
 use Rattle.napi_types.specs.environment.ExceptionCalls.{with_pending, with_thrown_error}
 use Rattle.napi_types.specs.environment.Moments.{moment_refusal}
-use Rattle.napi_types.specs.environment.Refusals.{refusal_in, timely_refusal, early_refusal, depth_refusal}
+use Rattle.napi_types.specs.environment.Refusals.{timely_refusal, early_refusal, depth_refusal}
 use Rattle.handle_scope.specs.HandleScopes.{HandleScopes, with_issued_handle}
 use Rattle.env_values.specs.Seen.{heap_of}
 use Rattle.env_values.proofs.Giving.{issued-live}

@@ -17,13 +17,14 @@ use Rattle.napi_types.specs.plain.Replies.{Answer, accepts, plain}
 use Rattle.napi_types.specs.parts.Graph.{StoreState, IsLive, number_in}
 use Rattle.napi_types.specs.parts.Heap.{Heap, handle_value}
 use Rattle.napi_types.specs.parts.HeapChanges.{with_handle, handle_of}
+use Rattle.napi_types.specs.parts.HeapRefusals.{refusal_in}
 use Rattle.napi_types.specs.parts.ReferenceRefusals.{references_of, count_refusal, reference_refusal}
 use Rattle.napi_types.specs.parts.References.{Reference, ReferenceMap, has_reference, reference_at, referred_value, reference_count, with_reference, without_reference, with_count}
 use Rattle.napi_types.specs.environment.Calls.{effect, answer_unless}
 use Rattle.napi_types.specs.environment.Changes.{number_of, is_fresh_result}
 use Rattle.napi_types.specs.environment.Environment.{Environment, in_heap}
 use Rattle.napi_types.specs.environment.ReferenceCalls.{counted_up, value_told}
-use Rattle.napi_types.specs.environment.Refusals.{refusal_in, timely_refusal}
+use Rattle.napi_types.specs.environment.Refusals.{timely_refusal}
 use Rattle.napi_types.proofs.plain.Maps.{map-filter, map-with_record}
 use Rattle.handle_scope.specs.HandleScopes.{HandleScopes}
 use Rattle.env_values.specs.Seen.{heap_of}

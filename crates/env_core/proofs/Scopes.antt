@@ -17,6 +17,7 @@ use Rattle.napi_types.specs.parts.Frames.{Frame}
 use Rattle.napi_types.specs.parts.Graph.{StoreState, IsLive, number_in}
 use Rattle.napi_types.specs.parts.Heap.{Heap, handle_value}
 use Rattle.napi_types.specs.parts.HeapChanges.{in_scopes}
+use Rattle.napi_types.specs.parts.HeapRefusals.{refusal_in}
 use Rattle.napi_types.specs.parts.References.{ReferenceMap}
 use Rattle.napi_types.specs.parts.ScopeCalls.{with_escaped}
 use Rattle.napi_types.specs.parts.ScopeChanges.{open_in, close_in, escape_in}
@@ -25,7 +26,7 @@ use Rattle.napi_types.specs.parts.Scopes.{Held, FrameScopes, gives, opened_scope
 use Rattle.napi_types.specs.parts.Values.{undefined_value}
 use Rattle.napi_types.specs.environment.Calls.{effect, answer_unless}
 use Rattle.napi_types.specs.environment.Environment.{Environment, with_heap, in_heap}
-use Rattle.napi_types.specs.environment.Refusals.{refusal_in, attached_refusal, timely_refusal}
+use Rattle.napi_types.specs.environment.Refusals.{attached_refusal, timely_refusal}
 use Rattle.handle_scope.specs.HandleScopes.{HandleScopes, is_fresh_scope, with_open_scope, without_innermost_scope, with_escaped_handle}
 use Rattle.env_values.specs.Seen.{heap_of}
 use Rattle.env_values.proofs.Held.{escaped-holds}

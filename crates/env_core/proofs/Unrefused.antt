@@ -8,12 +8,13 @@ use Rattle.napi_types.specs.declared.ids.ScopeKind.TheVariants as scope_kind
 use Rattle.napi_types.specs.declared.ids.TextNo.{TextNo}
 use Rattle.napi_types.specs.plain.Built.{is_value_call}
 use Rattle.napi_types.specs.parts.Graph.{StoreState}
+use Rattle.napi_types.specs.parts.HeapRefusals.{refusal_in}
 use Rattle.napi_types.specs.parts.NamedNumbers.{is_known}
 use Rattle.napi_types.specs.parts.ReferenceRefusals.{reference_refusal}
 use Rattle.napi_types.specs.parts.References.{ReferenceMap}
 use Rattle.napi_types.specs.environment.Environment.{Environment}
 use Rattle.napi_types.specs.environment.Moments.{moment_refusal}
-use Rattle.napi_types.specs.environment.Refusals.{refusal_in, timely_refusal, early_refusal}
+use Rattle.napi_types.specs.environment.Refusals.{timely_refusal, early_refusal}
 use Rattle.env_core.specs.State.{opening_call}
 use Rattle.env_core.proofs.Exceptions.{thrown-refusal}
 use Rattle.env_core.proofs.Referring.{referring, NamesReference, by-reference, seen-refusal}

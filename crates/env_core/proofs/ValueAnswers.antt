@@ -15,14 +15,16 @@ use Rattle.napi_types.specs.parts.Book.{Book}
 use Rattle.napi_types.specs.parts.Frames.{caller_of}
 use Rattle.napi_types.specs.parts.Graph.{StoreState, IsLive}
 use Rattle.napi_types.specs.parts.Heap.{Heap}
+use Rattle.napi_types.specs.parts.HeapCalls.{addon_effect, heap_answer_unless, heap_answer}
+use Rattle.napi_types.specs.parts.HeapRefusals.{refusal_in}
 use Rattle.napi_types.specs.parts.HookRefusals.{hook_refusal}
 use Rattle.napi_types.specs.parts.Hooks.{Hook}
 use Rattle.napi_types.specs.parts.ReferenceRefusals.{reference_refusal}
 use Rattle.napi_types.specs.parts.References.{Reference, ReferenceMap}
-use Rattle.napi_types.specs.environment.Calls.{addon_effect, heap_answer_unless, heap_answer, effect, answer_unless}
+use Rattle.napi_types.specs.environment.Calls.{effect, answer_unless}
 use Rattle.napi_types.specs.environment.Changes.{is_fresh_result, number_of}
 use Rattle.napi_types.specs.environment.Environment.{Environment, with_heap, in_heap}
-use Rattle.napi_types.specs.environment.Refusals.{refusal_in, attached_refusal, timely_refusal}
+use Rattle.napi_types.specs.environment.Refusals.{attached_refusal, timely_refusal}
 use Rattle.napi_types.proofs.environment.Answers.{heap_answer-keeps}
 use Rattle.std.specs.Option.{option_or}
 use Rattle.handle_scope.specs.HandleScopes.{HandleScopes}

@@ -3,10 +3,11 @@ use Rattle.std.specs.Prelude.{◌≡◌, ℕ, ◌+◌, ◌*◌, ◌≤◌, List,
 use Rattle.napi_types.specs.declared.entry.Local.{Local}
 use Rattle.napi_types.specs.declared.entry.Phase.{Phase}
 use Rattle.napi_types.specs.declared.entry.Phase.TheVariants as phase
-use Rattle.napi_types.specs.plain.Room.{Room, journal_room, reserved_journal, most_entries}
+use Rattle.napi_types.specs.plain.Room.{Room, most_entries}
 use Rattle.napi_types.specs.environment.Changes.{Change, opening_change, gone_change, in_phase}
 use Rattle.napi_types.specs.environment.Environment.{Environment, new_environment}
 use Rattle.napi_types.specs.environment.Hooked.{IsHooked}
+use Rattle.napi_types.specs.environment.JournalRoom.{journal_room, reserved_journal}
 use Rattle.env_core.specs.Journal.{Pages}
 
 -- the environment, its journal, the journal's limit, and the length of the history as it was noted last

@@ -10,15 +10,15 @@ use Rattle.napi_types.specs.declared.entry.Target.{Target}
 use Rattle.napi_types.specs.declared.ids.HandleId.{HandleId}
 use Rattle.napi_types.specs.declared.status.Status.{Status}
 use Rattle.napi_types.specs.declared.status.Status.TheVariants as status
+use Rattle.napi_types.specs.plain.Guards.{is_growing}
 use Rattle.napi_types.specs.plain.Replies.{plain}
-use Rattle.napi_types.specs.plain.Room.{Room, is_full, is_growing, need, first_places}
+use Rattle.napi_types.specs.plain.Room.{Room, is_full, need, first_places}
 use Rattle.napi_types.specs.parts.Book.{Registration, registration_at, due_info}
 use Rattle.napi_types.specs.environment.Changes.{Change, call_change, call_entry, with_noted_status, number_of, is_fresh_result}
 use Rattle.napi_types.specs.environment.Entering.{is_entering, enter_change}
 use Rattle.napi_types.specs.environment.Environment.{Environment}
 use Rattle.napi_types.specs.environment.Refusals.{early_refusal}
-use Rattle.napi_types.specs.environment.Tickets.{ticket_change}
-use Rattle.napi_types.specs.runs.Loop.{next_ticket}
+use Rattle.napi_types.specs.environment.Tickets.{ticket_change, next_ticket}
 use Rattle.env_core.specs.declared.env.Stepped.{Stepped}
 use Rattle.env_core.specs.declared.env.Stepped.TheVariants as stepped
 use Rattle.env_core.specs.Core.{Core, after_change, room_in}

@@ -12,7 +12,7 @@ ghost use Rattle.napi_types.specs.environment.Calls.{with_depth_error};
 ghost use Rattle.napi_types.specs.environment.Changes.{call_change, init_change};
 ghost use Rattle.napi_types.specs.environment.Ends.{end_change};
 ghost use Rattle.napi_types.specs.environment.Refusals.{early_refusal, depth_refusal};
-ghost use Rattle.napi_types.specs.runs.Loop.{next_ticket};
+ghost use Rattle.napi_types.specs.environment.Tickets.{next_ticket};
 ghost use Rattle.env_core.specs.Standing.{machine_frame};
 ghost use Rattle.env_core.specs.Core.{opened_core, after_change, after_phase, at_position, next_init, room_in};
 ghost use Rattle.env_core.specs.Steps.{IfReply, IfEnter, IfStop, Replies, Enters, EntersBy, RefusedAs, StopsBy, IsAtOnce, IsLocal, BeginsTicket};

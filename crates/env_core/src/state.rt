@@ -2,13 +2,14 @@
 ghost use Rattle.std.specs.Prelude.{◌≡◌, ◌≢◌, ◌+◌, ◌<◌, ◌^◌, [], length, true, false, option_map, Some, None, IfOk, OnErr, IsTrue};
 ghost use Rattle.napi_types.specs.declared.call.Call.TheVariants as call_of;
 ghost use Rattle.napi_types.specs.plain.Built.{is_built, is_calling, is_value_call};
+ghost use Rattle.napi_types.specs.plain.Entries.{host_entry as entry_of, host_told as told_of};
+ghost use Rattle.napi_types.specs.plain.Guards.{is_growing};
 ghost use Rattle.napi_types.specs.plain.Lists.{head};
 ghost use Rattle.napi_types.specs.plain.Numbers.{napi_version};
-ghost use Rattle.napi_types.specs.plain.Room.{is_growing};
 ghost use Rattle.napi_types.specs.parts.Frames.{caller_of, asks_made, most_asks};
 ghost use Rattle.napi_types.specs.parts.NamedNumbers.{is_known};
 ghost use Rattle.napi_types.specs.parts.Properties.{most_names};
-ghost use Rattle.napi_types.specs.environment.Changes.{opening_change, init_change, gone_change, in_phase, with_noted_status, call_entry, host_entry as entry_of, host_told as told_of};
+ghost use Rattle.napi_types.specs.environment.Changes.{opening_change, init_change, gone_change, in_phase, with_noted_status, call_entry};
 ghost use Rattle.napi_types.specs.environment.Environment.{new_environment};
 ghost use Rattle.napi_types.specs.environment.Hooked.{IsHooked};
 ghost use Rattle.napi_types.specs.environment.Moments.{is_tearing, moment_refusal};

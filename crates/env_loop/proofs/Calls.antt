@@ -13,17 +13,19 @@ use Rattle.napi_types.specs.declared.entry.Out.{Out}
 use Rattle.napi_types.specs.declared.ids.HandleId.{HandleId}
 use Rattle.napi_types.specs.plain.Built.{is_built, built_ask}
 use Rattle.napi_types.specs.plain.Lists.{tail}
-use Rattle.napi_types.specs.plain.Phases.{stage_of}
-use Rattle.napi_types.specs.plain.Room.{room_of, is_full, need}
+use Rattle.napi_types.specs.plain.Room.{is_full, need}
 use Rattle.napi_types.specs.parts.Duties.{duties_of}
 use Rattle.napi_types.specs.parts.Frames.{Frame, ask_counted, most_asks}
 use Rattle.napi_types.specs.parts.FunctionCalls.{callee_of, call_gifts}
+use Rattle.napi_types.specs.scripts.Plans.{Plan, plan_of, registers_of}
 use Rattle.napi_types.specs.scripts.Registers.{registers_after_reply}
 use Rattle.napi_types.specs.environment.Changes.{Change, number_of, is_fresh_result, call_change}
 use Rattle.napi_types.specs.environment.Entering.{enter_change, asked_change}
 use Rattle.napi_types.specs.environment.Refusals.{early_refusal, depth_refusal}
+use Rattle.napi_types.specs.hub.Hub.{stage_of}
+use Rattle.napi_types.specs.runs.CallRoom.{room_of}
 use Rattle.napi_types.specs.runs.Machine.{Machine}
-use Rattle.napi_types.specs.runs.Plan.{Plan, plan_of, caller_after_reply, with_addon_gifts, with_callee_gifts, registers_of}
+use Rattle.napi_types.specs.runs.Plan.{caller_after_reply, with_addon_gifts, with_callee_gifts}
 use Rattle.napi_types.specs.runs.Step.{locally}
 use Rattle.napi_types.proofs.environment.Answers.{course-parts, answer-keeps}
 use Rattle.napi_types.proofs.environment.FrameChanges.{enter_change-keeps, asked_change-call_change, asked_change-enter_change, KeepsButFrames, asked_change-fits}

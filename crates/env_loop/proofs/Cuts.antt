@@ -9,15 +9,17 @@ use Rattle.napi_types.specs.declared.entry.Why.TheVariants as why
 use Rattle.napi_types.specs.declared.status.Status.{Status}
 use Rattle.napi_types.specs.declared.status.Status.TheVariants as status
 use Rattle.napi_types.specs.plain.Built.{is_built, built_ask}
+use Rattle.napi_types.specs.plain.Guards.{is_growing}
 use Rattle.napi_types.specs.plain.Lists.{head, tail}
-use Rattle.napi_types.specs.plain.Room.{Room, room_of, is_full, is_growing, need, first_places, may_want_memory}
+use Rattle.napi_types.specs.plain.Room.{Room, is_full, need, first_places, may_want_memory}
 use Rattle.napi_types.specs.parts.Frames.{Frame, asks_made, duty_of, is_hub_duty, most_asks}
+use Rattle.napi_types.specs.scripts.Plans.{Plan, plan_of, Registers, registers_of}
 use Rattle.napi_types.specs.scripts.Registers.{plan_ask}
 use Rattle.napi_types.specs.environment.Changes.{may_call}
 use Rattle.napi_types.specs.environment.Ends.{end_change}
 use Rattle.napi_types.specs.environment.Environment.{Environment}
 use Rattle.napi_types.specs.hub.Hub.{Hub}
-use Rattle.napi_types.specs.runs.Plan.{Plan, plan_of, Registers, registers_of}
+use Rattle.napi_types.specs.runs.CallRoom.{room_of}
 use Rattle.napi_types.specs.runs.Setting.{Setting}
 use Rattle.napi_types.specs.runs.Step.{may_cut}
 use Rattle.napi_types.proofs.environment.FrameEnds.{ended-ends}

@@ -12,16 +12,16 @@ use Rattle.napi_types.specs.declared.entry.Why.{Why}
 use Rattle.napi_types.specs.declared.ids.HandleId.{HandleId}
 use Rattle.napi_types.specs.plain.Built.{is_built, built_ask}
 use Rattle.napi_types.specs.plain.Lists.{head, tail}
-use Rattle.napi_types.specs.plain.Phases.{stage_of}
 use Rattle.napi_types.specs.parts.Duties.{duties_of}
 use Rattle.napi_types.specs.parts.Frames.{Frame, duty_of, is_hub_duty, at_last_ask, most_asks}
+use Rattle.napi_types.specs.scripts.Plans.{Plan, plan_of, Registers, registers_of}
 use Rattle.napi_types.specs.scripts.Registers.{registers_after_reply}
 use Rattle.napi_types.specs.environment.Changes.{Change}
 use Rattle.napi_types.specs.environment.Ends.{end_change}
 use Rattle.napi_types.specs.environment.Environment.{Environment}
-use Rattle.napi_types.specs.hub.Hub.{Hub}
+use Rattle.napi_types.specs.hub.Hub.{stage_of, Hub}
 use Rattle.napi_types.specs.runs.Machine.{Machine}
-use Rattle.napi_types.specs.runs.Plan.{Plan, plan_of, caller_after_reply, after_event, Registers, registers_of}
+use Rattle.napi_types.specs.runs.Plan.{caller_after_reply, after_event}
 use Rattle.napi_types.specs.runs.Setting.{Setting}
 use Rattle.napi_types.specs.runs.Step.{locally, env_step}
 use Rattle.napi_types.proofs.environment.Answers.{course-parts}

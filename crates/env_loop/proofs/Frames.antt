@@ -10,13 +10,13 @@ use Rattle.napi_types.specs.plain.Lists.{head, tail}
 use Rattle.napi_types.specs.plain.Room.{need}
 use Rattle.napi_types.specs.parts.Duties.{AreNested}
 use Rattle.napi_types.specs.parts.Frames.{Frame, at_last_ask, is_asking, asks_made, most_asks}
+use Rattle.napi_types.specs.scripts.Plans.{Plan, Registers}
 use Rattle.napi_types.specs.environment.Changes.{may_ask, may_call}
 use Rattle.napi_types.specs.environment.Ends.{end_change}
 use Rattle.napi_types.specs.environment.Entering.{asked_change}
 use Rattle.napi_types.specs.environment.Environment.{Environment}
 use Rattle.napi_types.specs.environment.Hooked.{IsHooked}
 use Rattle.napi_types.specs.environment.Owners.{IsOwned}
-use Rattle.napi_types.specs.runs.Plan.{Plan, Registers}
 use Rattle.napi_types.proofs.environment.Answers.{course-parts}
 use Rattle.napi_types.proofs.environment.FrameChanges.{KeepsButFrame, ended-keeps, KeepsButFrames, asked_change-fits}
 use Rattle.napi_types.proofs.environment.HookedSteps.{hooked-asked, hooked-ended}

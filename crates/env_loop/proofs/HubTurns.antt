@@ -11,17 +11,18 @@ use Rattle.napi_types.specs.declared.entry.Out.{Out}
 use Rattle.napi_types.specs.declared.entry.Out.TheVariants as out
 use Rattle.napi_types.specs.declared.entry.Phase.{Phase}
 use Rattle.napi_types.specs.declared.entry.Phase.TheVariants as phase
-use Rattle.napi_types.specs.plain.Phases.{next_phase, stage_of}
-use Rattle.napi_types.specs.plain.Room.{stage_places}
+use Rattle.napi_types.specs.plain.Entries.{host_entry}
+use Rattle.napi_types.specs.plain.Phases.{next_phase}
 use Rattle.napi_types.specs.plain.Weave.{Side}
 use Rattle.napi_types.specs.parts.Book.{lowest_due}
 use Rattle.napi_types.specs.parts.Duties.{duties_of}
 use Rattle.napi_types.specs.parts.Frames.{Frame}
-use Rattle.napi_types.specs.environment.Changes.{host_entry, in_phase}
+use Rattle.napi_types.specs.environment.Changes.{in_phase}
 use Rattle.napi_types.specs.environment.Environment.{Environment}
-use Rattle.napi_types.specs.hub.Hub.{Stage, stage_after, quiet_hub}
+use Rattle.napi_types.specs.environment.Tickets.{ticket_in, next_ticket}
+use Rattle.napi_types.specs.hub.Hub.{stage_of, stage_places, Stage, stage_after, quiet_hub}
 use Rattle.napi_types.specs.runs.Choice.{local_choice_in, hub_choice, choice}
-use Rattle.napi_types.specs.runs.Loop.{Opens, Inits, Tickets, Goes, IsGone, ticket_in, next_ticket}
+use Rattle.napi_types.specs.runs.Loop.{Opens, Inits, Tickets, Goes, IsGone}
 use Rattle.napi_types.specs.runs.Machine.{Machine}
 use Rattle.napi_types.specs.runs.Setting.{Setting}
 use Rattle.napi_types.proofs.environment.HookedSteps.{hooked-phase}

@@ -16,17 +16,19 @@ use Rattle.napi_types.specs.declared.entry.Phase.TheVariants as phase
 use Rattle.napi_types.specs.declared.call.Ask.TheVariants as ask
 use Rattle.std.specs.Option.{option_or, option_to_list}
 use Rattle.napi_types.specs.declared.entry.Reply.{Reply}
+use Rattle.napi_types.specs.plain.Entries.{host_entry}
 use Rattle.napi_types.specs.plain.Weave.{Side, Journal, History, weave, sides, RisesBetween}
 use Rattle.napi_types.specs.parts.Book.{lowest_due}
 use Rattle.napi_types.specs.parts.Hooks.{last_hook}
+use Rattle.napi_types.specs.scripts.Plans.{Plan, plan_of, registers_of, Registers, loaded_registers}
 use Rattle.napi_types.specs.scripts.Registers.{blank_registers}
-use Rattle.napi_types.specs.environment.Changes.{Change, host_entry, in_phase, gone_change, init_change}
+use Rattle.napi_types.specs.environment.Changes.{Change, in_phase, gone_change, init_change}
 use Rattle.napi_types.specs.hub.Hub.{Hub, Before, Going, Looped, Drained, Final, new_hub, quiet_hub}
 use Rattle.napi_types.specs.runs.Begins.{told_at, begun_info, begun_along}
 use Rattle.napi_types.specs.runs.Loop.{Tickets, EndsLoop}
 use Rattle.napi_types.specs.runs.Machine.{Machine}
 use Rattle.napi_types.specs.runs.Parting.{sides_along}
-use Rattle.napi_types.specs.runs.Plan.{Plan, after_host_event, after_event, after_entry, plan_of, registers_of, frames_ask, asked, registers_after, Registers, loaded_registers}
+use Rattle.napi_types.specs.runs.Plan.{after_host_event, after_event, after_entry, frames_ask, asked, registers_after}
 use Rattle.napi_types.specs.runs.Run.{after, IsNext}
 use Rattle.napi_types.specs.runs.Setting.{Setting, opening_of, RunsBy, final_of, final_registers, planned_asks}
 use Rattle.napi_types.specs.runs.Step.{Step, step, locally}

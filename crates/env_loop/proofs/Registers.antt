@@ -12,9 +12,10 @@ use Rattle.napi_types.specs.declared.entry.Entry.{Entry}
 use Rattle.napi_types.specs.declared.entry.Reply.{Reply}
 use Rattle.napi_types.specs.plain.Built.{is_built, built_ask}
 use Rattle.napi_types.specs.parts.Frames.{Frame, duty_of, ask_counted, at_last_ask}
+use Rattle.napi_types.specs.scripts.Plans.{Plan, plan_of, Registers, registers_of}
 use Rattle.napi_types.specs.scripts.Registers.{plan_ask, registers_after_reply, with_gifts}
 use Rattle.napi_types.specs.hub.Hub.{Hub}
-use Rattle.napi_types.specs.runs.Plan.{Plan, plan_of, frame_ask, taken_ask, frames_ask, addon_after_reply, caller_after_reply, with_addon_gifts, Registers, registers_of}
+use Rattle.napi_types.specs.runs.Plan.{frame_ask, taken_ask, frames_ask, addon_after_reply, caller_after_reply, with_addon_gifts}
 use Rattle.napi_types.specs.runs.Setting.{Setting}
 use Rattle.addon_trait.specs.Addons.{OthersStay}
 use Rattle.env_core.specs.Core.{Core}

@@ -1,10 +1,9 @@
 -- A run: its turns in a row, and how many are left.
 use Rattle.std.proofs.Common.{◌≡◌, ◌<◌, ℕ, ◌+◌, ◌-◌, List, [], ◌∷◌, ◌++◌, length, drop, ap, subst, sym, ◌∙◌, arith, length-append, append_assoc, append-nil}
 use Rattle.napi_types.specs.declared.entry.Local.{Local}
-use Rattle.napi_types.specs.plain.Phases.{stage_of}
-use Rattle.napi_types.specs.plain.Room.{stage_places}
 use Rattle.napi_types.specs.plain.Weave.{weave}
-use Rattle.napi_types.specs.runs.Plan.{Plan, Registers}
+use Rattle.napi_types.specs.scripts.Plans.{Plan, Registers}
+use Rattle.napi_types.specs.hub.Hub.{stage_of, stage_places}
 use Rattle.napi_types.specs.runs.Setting.{Setting}
 use Rattle.napi_types.proofs.all_runs.Orders.{order-holds}
 use Rattle.env_core.specs.Core.{Core}

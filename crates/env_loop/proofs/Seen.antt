@@ -11,9 +11,10 @@ use Rattle.napi_types.specs.parts.Book.{lowest_due, ticket_duty}
 use Rattle.napi_types.specs.parts.Frames.{Frame}
 use Rattle.napi_types.specs.parts.Hooks.{last_hook}
 use Rattle.napi_types.specs.environment.Environment.{Environment}
+use Rattle.napi_types.specs.environment.Tickets.{ticket_in, next_ticket}
 use Rattle.napi_types.specs.runs.Begins.{duty_info, of_addon}
 use Rattle.napi_types.specs.runs.Choice.{local_choice_in}
-use Rattle.napi_types.specs.runs.Loop.{Opens, Inits, Tickets, EndsLoop, IsGone, ticket_in, next_ticket}
+use Rattle.napi_types.specs.runs.Loop.{Opens, Inits, Tickets, EndsLoop, IsGone}
 use Rattle.napi_types.proofs.runs.Runs.{of_addon-append}
 use Rattle.addon_trait.specs.Addons.{seen_of}
 use Rattle.env_loop.specs.Recording.{HasSeen}

@@ -14,31 +14,35 @@ use Rattle.napi_types.specs.declared.entry.Why.{Why}
 use Rattle.napi_types.specs.declared.status.Status.{Status}
 use Rattle.napi_types.specs.declared.ids.HandleId.{HandleId}
 use Rattle.napi_types.specs.plain.Built.{is_built, built_ask}
+use Rattle.napi_types.specs.plain.Entries.{cut_of}
 use Rattle.napi_types.specs.plain.Guards.{is_shared}
 use Rattle.napi_types.specs.plain.Replies.{Answer, accepts}
-use Rattle.napi_types.specs.plain.Room.{journal_room, room_of, is_full}
+use Rattle.napi_types.specs.plain.Room.{is_full}
 use Rattle.napi_types.specs.parts.Attachments.{wrap_payload, wrap_ticket, with_wrap, without_wrap}
 use Rattle.napi_types.specs.parts.Book.{Registration}
 use Rattle.napi_types.specs.parts.Frames.{Frame, caller_of, cause_of, duty_of, is_hub_duty}
 use Rattle.napi_types.specs.parts.Heap.{Heap, handle_value}
+use Rattle.napi_types.specs.parts.HeapCalls.{addon_effect}
 use Rattle.napi_types.specs.parts.Hooks.{hook_ticket}
 use Rattle.napi_types.specs.parts.InstanceData.{instance_ticket, with_instance}
 use Rattle.napi_types.specs.parts.References.{referred_value}
-use Rattle.napi_types.specs.environment.Calls.{addon_effect, effect, answer_unless, answer_unless_deep}
+use Rattle.napi_types.specs.environment.Calls.{effect, answer_unless, answer_unless_deep}
 use Rattle.napi_types.specs.environment.Changes.{number_of, is_fresh_result, may_ask, may_call}
 use Rattle.napi_types.specs.environment.Ends.{end_out, uncut_call_end, end_change_by, end_change}
 use Rattle.napi_types.specs.environment.Entering.{asked_change}
 use Rattle.napi_types.specs.environment.Environment.{Environment}
 use Rattle.napi_types.specs.environment.HookCalls.{unhooked, unhooking}
 use Rattle.napi_types.specs.environment.InstanceCalls.{setting_instance}
+use Rattle.napi_types.specs.environment.JournalRoom.{journal_room}
 use Rattle.napi_types.specs.environment.ReferenceCalls.{counted_up, value_told}
 use Rattle.napi_types.specs.environment.Registering.{finalizer_if, ticket_if, registering_if, registered_only, withdrawing}
 use Rattle.napi_types.specs.environment.WrapCalls.{with_attachments, referring_if, wrapping, finalizing, unwrapping}
 use Rattle.napi_types.specs.hub.Hub.{Hub}
 use Rattle.napi_types.specs.runs.Begins.{told_at}
+use Rattle.napi_types.specs.runs.CallRoom.{room_of}
 use Rattle.napi_types.specs.runs.Machine.{Machine}
 use Rattle.napi_types.specs.runs.Setting.{Setting}
-use Rattle.napi_types.specs.runs.Step.{Step, step, step_of, locally, env_step, frame_step, call_step_on, end_step_on, cut_of, may_cut}
+use Rattle.napi_types.specs.runs.Step.{Step, step, step_of, locally, env_step, frame_step, call_step_on, end_step_on, may_cut}
 use Rattle.napi_types.proofs.all_runs.Rooms.{built-room}
 use Rattle.env_core.specs.Core.{Core, room_in}
 use Rattle.env_loop.specs.Recording.{machine_of}

@@ -9,19 +9,20 @@ use Rattle.napi_types.specs.declared.entry.LoopEnd.TheVariants as loop_end
 use Rattle.napi_types.specs.declared.entry.Phase.{Phase}
 use Rattle.napi_types.specs.declared.entry.Phase.TheVariants as phase
 use Rattle.napi_types.specs.plain.Weave.{Side, Journal}
-use Rattle.napi_types.specs.parts.Book.{Book, Registration, registration_at, is_registered, is_due, is_at, lowest_due, due_info}
+use Rattle.napi_types.specs.parts.Book.{Book, Registration, registration_at, is_registered, is_due, is_at, lowest_due, due_info, may_begin_in}
 use Rattle.napi_types.specs.parts.Frames.{Frame, frame_of_duty}
 use Rattle.napi_types.specs.parts.Hooks.{Hook, last_hook}
+use Rattle.napi_types.specs.scripts.Plans.{Plan}
 use Rattle.napi_types.specs.environment.Environment.{Environment}
 use Rattle.napi_types.specs.environment.Hooked.{IsHooked, is_late}
 use Rattle.napi_types.specs.environment.Owners.{IsOwned}
-use Rattle.napi_types.specs.environment.Tickets.{may_begin_in, ticket_change}
+use Rattle.napi_types.specs.environment.Tickets.{ticket_change, ticket_in, next_ticket}
 use Rattle.napi_types.specs.hub.Hub.{Hub}
 use Rattle.napi_types.specs.runs.Begins.{duty_info}
 use Rattle.napi_types.specs.runs.Choice.{choice, hub_choice, local_choice_in}
-use Rattle.napi_types.specs.runs.Loop.{Tickets, EndsLoop, IsGone, ticket_in, next_ticket}
+use Rattle.napi_types.specs.runs.Loop.{Tickets, EndsLoop, IsGone}
 use Rattle.napi_types.specs.runs.Machine.{Machine}
-use Rattle.napi_types.specs.runs.Plan.{Plan, with_addon_gifts, with_begun_gifts}
+use Rattle.napi_types.specs.runs.Plan.{with_addon_gifts, with_begun_gifts}
 use Rattle.napi_types.specs.runs.Setting.{Setting}
 use Rattle.napi_types.specs.runs.Step.{step, event_step, chosen, env_step, locally, ticket_step}
 use Rattle.napi_types.proofs.parts.Books.{IsDueAt, lowest-due}

@@ -3,12 +3,12 @@ use Rattle.std.proofs.Common.{◌≡◌, ◌<◌, ℕ, nat_lt, Bool, true, false
 use Rattle.std.specs.Option.{option_to_list}
 use Rattle.napi_types.specs.declared.duties.DueInfo.{DueInfo}
 use Rattle.napi_types.specs.declared.entry.Phase.TheVariants as phase
-use Rattle.napi_types.specs.plain.Phases.{stage_of}
 use Rattle.napi_types.specs.parts.Frames.{duty_of}
+use Rattle.napi_types.specs.scripts.Plans.{Plan}
 use Rattle.napi_types.specs.environment.Changes.{Change, init_change, gone_change}
 use Rattle.napi_types.specs.environment.Environment.{Environment}
-use Rattle.napi_types.specs.runs.Loop.{ticket_in, next_ticket}
-use Rattle.napi_types.specs.runs.Plan.{Plan}
+use Rattle.napi_types.specs.environment.Tickets.{ticket_in, next_ticket}
+use Rattle.napi_types.specs.hub.Hub.{stage_of}
 use Rattle.napi_types.proofs.environment.HookedSteps.{hooked-init, hooked-gone}
 use Rattle.napi_types.proofs.environment.Owners.{owned-init, within-init}
 use Rattle.napi_types.proofs.environment.StandingFrames.{nested-init}

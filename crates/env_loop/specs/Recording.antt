@@ -11,11 +11,11 @@ use Rattle.napi_types.specs.declared.status.Status.{Status}
 use Rattle.napi_types.specs.declared.status.Status.TheVariants as status
 use Rattle.napi_types.specs.plain.Built.{is_built}
 use Rattle.napi_types.specs.plain.Weave.{weave, RisesBetween}
+use Rattle.napi_types.specs.scripts.Plans.{Plan, plan_of, Registers, registers_of}
 use Rattle.napi_types.specs.hub.Hub.{Hub}
 use Rattle.napi_types.specs.runs.Begins.{begun_along, of_addon}
 use Rattle.napi_types.specs.runs.Machine.{Machine}
 use Rattle.napi_types.specs.runs.Parting.{IsParted}
-use Rattle.napi_types.specs.runs.Plan.{Plan, plan_of, Registers, registers_of}
 use Rattle.napi_types.specs.runs.Setting.{Setting, RunsBy, EndsBy, opening_of, final_of, final_registers}
 use Rattle.addon_trait.specs.Addons.{seen_of}
 use Rattle.env_core.specs.Core.{Core}

@@ -7,17 +7,15 @@ use Rattle.napi_types.specs.declared.entry.Cause.TheVariants as cause
 use Rattle.napi_types.specs.declared.entry.Entry.{Entry}
 use Rattle.napi_types.specs.declared.entry.Local.{Local}
 use Rattle.napi_types.specs.declared.entry.Phase.TheVariants as phase
-use Rattle.napi_types.specs.plain.Phases.{stage_of}
-use Rattle.napi_types.specs.plain.Room.{stage_places}
 use Rattle.napi_types.specs.plain.Weave.{weave}
 use Rattle.napi_types.specs.parts.Duties.{duties_of, AreNested}
 use Rattle.napi_types.specs.parts.Frames.{Frame}
+use Rattle.napi_types.specs.scripts.Plans.{Plan}
 use Rattle.napi_types.specs.environment.Asks.{AsksWithin}
 use Rattle.napi_types.specs.environment.Environment.{Environment}
 use Rattle.napi_types.specs.environment.Hooked.{IsHooked}
 use Rattle.napi_types.specs.environment.Owners.{IsOwned}
-use Rattle.napi_types.specs.hub.Hub.{Hub, Before, quiet_hub}
-use Rattle.napi_types.specs.runs.Plan.{Plan}
+use Rattle.napi_types.specs.hub.Hub.{stage_of, stage_places, Hub, Before, quiet_hub}
 use Rattle.napi_types.specs.runs.Setting.{Setting}
 use Rattle.napi_types.specs.all_runs.Order.{HooksFall, FinalsRise}
 use Rattle.env_core.specs.Core.{Core, opened_core}

@@ -5,19 +5,17 @@ use Rattle.napi_types.specs.declared.call.Ask.{Ask}
 use Rattle.napi_types.specs.declared.duties.DueInfo.{DueInfo}
 use Rattle.napi_types.specs.declared.entry.Duty.{Duty}
 use Rattle.napi_types.specs.declared.entry.Reply.{Reply}
-use Rattle.napi_types.specs.plain.Phases.{stage_of}
-use Rattle.napi_types.specs.plain.Room.{stage_places}
 use Rattle.napi_types.specs.plain.Weave.{Side, Journal, History}
 use Rattle.napi_types.specs.parts.Book.{ticket_duty}
 use Rattle.napi_types.specs.parts.Frames.{Frame}
+use Rattle.napi_types.specs.scripts.Plans.{Plan, plan_of, Registers, registers_of}
 use Rattle.napi_types.specs.scripts.Registers.{plan_ask, registers_after_reply}
 use Rattle.napi_types.specs.environment.Environment.{Environment}
-use Rattle.napi_types.specs.hub.Hub.{quiet_hub}
+use Rattle.napi_types.specs.hub.Hub.{stage_of, stage_places, quiet_hub}
 use Rattle.napi_types.specs.runs.Begins.{duty_info}
 use Rattle.napi_types.specs.runs.Choice.{local_choice, choice}
 use Rattle.napi_types.specs.runs.Loop.{Event, Tickets}
 use Rattle.napi_types.specs.runs.Machine.{Machine}
-use Rattle.napi_types.specs.runs.Plan.{Plan, plan_of, Registers, registers_of}
 use Rattle.napi_types.specs.runs.Step.{event_step}
 use Rattle.addon_trait.specs.Addons.{OthersStay}
 use Rattle.env_core.specs.Core.{Core}

@@ -1,8 +1,8 @@
 //! A running environment, and a run without other actors.
 ghost use Rattle.std.specs.Prelude.{◌≡◌, ◌≢◌, ℕ, ◌<◌, ◌≤◌, ◌↔◌, [], ◌++◌, length, map, drop, IfOk, None};
 ghost use Rattle.std.specs.Option.{option_to_list};
-ghost use Rattle.napi_types.specs.plain.Phases.{stage_of};
 ghost use Rattle.napi_types.specs.plain.Room.{most_entries};
+ghost use Rattle.napi_types.specs.hub.Hub.{stage_of};
 ghost use Rattle.napi_types.specs.runs.Begins.{of_addon};
 ghost use Rattle.addon_trait.specs.Addons.{seen_of};
 ghost use Rattle.env_loop.specs.Recording.{AddonStates};

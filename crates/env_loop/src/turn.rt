@@ -4,7 +4,7 @@ ghost use Rattle.napi_types.specs.plain.Built.{is_built, built_ask};
 ghost use Rattle.napi_types.specs.plain.Lists.{head, tail};
 ghost use Rattle.napi_types.specs.parts.Frames.{at_last_ask, asks_made, duty_of, is_hub_duty, most_asks};
 ghost use Rattle.napi_types.specs.environment.Ends.{end_change};
-ghost use Rattle.napi_types.specs.runs.Loop.{next_ticket};
+ghost use Rattle.napi_types.specs.environment.Tickets.{next_ticket};
 ghost use Rattle.env_core.specs.Standing.{machine_frame};
 ghost use Rattle.env_loop.specs.Recording.{AddonStates, why_stopped};
 ghost use Rattle.env_loop.specs.Runs.{IsSoundEnvironment, Holds};

@@ -2,9 +2,9 @@
 ghost use Rattle.std.specs.Prelude.{◌≡◌, ◌+◌, ◌<◌, ◌≤◌, [], ◌∷◌, ◌++◌, length, true, IfOk, vec_capacity};
 ghost use Rattle.napi_types.specs.declared.entry.HostStep.TheVariants as host;
 ghost use Rattle.napi_types.specs.declared.entry.Out.TheVariants as result_of;
-ghost use Rattle.napi_types.specs.plain.Room.{most_entries, stage_places};
-ghost use Rattle.napi_types.specs.environment.Changes.{host_entry};
-ghost use Rattle.napi_types.specs.hub.Hub.{Before, Going, Looped, Drained};
+ghost use Rattle.napi_types.specs.plain.Entries.{host_entry};
+ghost use Rattle.napi_types.specs.plain.Room.{most_entries};
+ghost use Rattle.napi_types.specs.hub.Hub.{stage_places, Before, Going, Looped, Drained};
 ghost use Rattle.env_teardown.specs.Hubs.{new_quiet_hub, happened, quiet_end, after_loop};
 
 use napi_types::{

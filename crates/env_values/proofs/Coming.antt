@@ -5,12 +5,12 @@ use Rattle.std.specs.declared.result.Result.{Result}
 use Rattle.std.specs.declared.result.Result.TheVariants.{Ok, Err}
 use Rattle.napi_types.specs.declared.call.Call.{Call}
 use Rattle.napi_types.specs.declared.entry.Out.{Out}
+use Rattle.napi_types.specs.plain.Guards.{is_growing}
 use Rattle.napi_types.specs.plain.Replies.{Answer}
-use Rattle.napi_types.specs.plain.Room.{is_growing}
 use Rattle.napi_types.specs.parts.FunctionCalls.{on_functions}
 use Rattle.napi_types.specs.parts.Heap.{Heap}
-use Rattle.napi_types.specs.environment.Calls.{heap_effect}
-use Rattle.napi_types.specs.environment.Refusals.{refusal_in}
+use Rattle.napi_types.specs.parts.HeapCalls.{heap_effect}
+use Rattle.napi_types.specs.parts.HeapRefusals.{refusal_in}
 use Rattle.env_values.specs.declared.stop.Stop.{Stop}
 use Rattle.env_values.specs.declared.stop.Stop.TheVariants as stop
 use Rattle.env_values.specs.Steps.{Comes, ComesOf}

@@ -7,8 +7,8 @@ use Rattle.napi_types.specs.declared.ids.TextNo.{TextNo}
 use Rattle.napi_types.specs.parts.Bodies.{is_object_like}
 use Rattle.napi_types.specs.parts.Graph.{StoreState}
 use Rattle.napi_types.specs.parts.Heap.{handle_body, handle_properties}
+use Rattle.napi_types.specs.parts.HeapRefusals.{refusal_in}
 use Rattle.napi_types.specs.parts.Properties.{most_names, most_index}
-use Rattle.napi_types.specs.environment.Refusals.{refusal_in}
 use Rattle.handle_scope.specs.HandleScopes.{HandleScopes}
 use Rattle.value_store.specs.Changes.{properties_in}
 use Rattle.env_values.specs.declared.known.HandleValue.{HandleValue}

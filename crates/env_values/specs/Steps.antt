@@ -5,14 +5,14 @@ use Rattle.std.specs.declared.result.Result.TheVariants.{Ok, Err}
 use Rattle.napi_types.specs.declared.call.Call.{Call}
 use Rattle.napi_types.specs.declared.entry.NoMemory.{NoMemory}
 use Rattle.napi_types.specs.declared.entry.Out.{Out}
+use Rattle.napi_types.specs.plain.Guards.{is_growing}
 use Rattle.napi_types.specs.plain.Replies.{Answer, accepts}
-use Rattle.napi_types.specs.plain.Room.{is_growing}
 use Rattle.napi_types.specs.parts.Graph.{StoreState, value_of, number_in, renamed}
 use Rattle.napi_types.specs.parts.Heap.{Heap, handle_value}
+use Rattle.napi_types.specs.parts.HeapCalls.{heap_effect, addon_effect}
+use Rattle.napi_types.specs.parts.HeapRefusals.{refusal_in}
 use Rattle.napi_types.specs.parts.Scopes.{gives}
 use Rattle.napi_types.specs.parts.Values.{value_at}
-use Rattle.napi_types.specs.environment.Calls.{heap_effect, addon_effect}
-use Rattle.napi_types.specs.environment.Refusals.{refusal_in}
 use Rattle.handle_scope.specs.HandleScopes.{HandleScopes}
 use Rattle.env_values.specs.declared.known.HandleValue.{HandleValue}
 use Rattle.env_values.specs.declared.stop.Stop.{Stop}

@@ -1,10 +1,10 @@
 //! One call on values, properties or elements.
 ghost use Rattle.std.specs.Prelude.{◌≡◌, ◌≢◌, ◌+◌, ◌<◌, ◌^◌, true, cond, [], None, IsTrue, IfOk, OnOk, OnErr};
 ghost use Rattle.napi_types.specs.plain.Built.{is_creating, is_value_call};
-ghost use Rattle.napi_types.specs.plain.Room.{is_growing};
+ghost use Rattle.napi_types.specs.plain.Guards.{is_growing};
+ghost use Rattle.napi_types.specs.parts.HeapCalls.{heap_answer};
+ghost use Rattle.napi_types.specs.parts.HeapRefusals.{refusal_in};
 ghost use Rattle.napi_types.specs.parts.Values.{true_value, false_value};
-ghost use Rattle.napi_types.specs.environment.Calls.{heap_answer};
-ghost use Rattle.napi_types.specs.environment.Refusals.{refusal_in};
 ghost use Rattle.env_values.specs.Numbering.{HasNumbersLeft};
 ghost use Rattle.env_values.specs.Keeping.{CanGive, KeepsHeap};
 ghost use Rattle.env_values.specs.Seen.{heap_of, HoldsLive, KeepsValues};

@@ -17,19 +17,21 @@ use Rattle.napi_types.specs.declared.entry.Why.{Why}
 use Rattle.napi_types.specs.declared.ids.HandleId.{HandleId}
 use Rattle.napi_types.specs.declared.status.Status.{Status}
 use Rattle.napi_types.specs.plain.Built.{built_ask}
+use Rattle.napi_types.specs.plain.Entries.{cut_of}
 use Rattle.napi_types.specs.plain.Guards.{is_shared}
 use Rattle.napi_types.specs.plain.Lists.{head, tail}
 use Rattle.napi_types.specs.parts.Frames.{Frame, duty_of, is_hub_duty}
+use Rattle.napi_types.specs.scripts.Plans.{Plan, plan_of, Registers, registers_of, loaded_registers}
 use Rattle.napi_types.specs.environment.Changes.{number_of, may_ask}
 use Rattle.napi_types.specs.environment.Ends.{end_change}
 use Rattle.napi_types.specs.environment.Entering.{function_change, asked_change}
 use Rattle.napi_types.specs.environment.Environment.{Environment}
 use Rattle.napi_types.specs.environment.Refusals.{refusal}
 use Rattle.napi_types.specs.runs.Machine.{Machine}
-use Rattle.napi_types.specs.runs.Plan.{Plan, plan_of, Registers, registers_of, frame_ask, frames_ask, asked, asked_along, registers_after, loaded_registers}
+use Rattle.napi_types.specs.runs.Plan.{frame_ask, frames_ask, asked, asked_along, registers_after}
 use Rattle.napi_types.specs.runs.Run.{after, IsNext, IsRunBy}
 use Rattle.napi_types.specs.runs.Setting.{opening_of}
-use Rattle.napi_types.specs.runs.Step.{Step, may_cut, call_step_on, end_step_on, frame_step, step, cut_of}
+use Rattle.napi_types.specs.runs.Step.{Step, may_cut, call_step_on, end_step_on, frame_step, step}
 use Rattle.machine_laws.specs.Cuts.{CallsBuilt, UnbuiltCallsAreNeverMade}
 use Rattle.machine_laws.proofs.Choosing.{Happens, happens-alone}
 use Rattle.machine_laws.proofs.Forms.{shared-what, ended-what, event_what, event-what, frame-next}

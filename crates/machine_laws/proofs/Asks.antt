@@ -11,11 +11,12 @@ use Rattle.napi_types.specs.declared.call.Call.{Call}
 use Rattle.napi_types.specs.plain.Built.{built_ask}
 use Rattle.napi_types.specs.plain.Lists.{head, tail}
 use Rattle.napi_types.specs.parts.Frames.{Frame}
+use Rattle.napi_types.specs.scripts.Plans.{Plan, plan_of, Registers, registers_of, loaded_registers}
 use Rattle.napi_types.specs.runs.Machine.{Machine}
-use Rattle.napi_types.specs.runs.Plan.{Plan, plan_of, Registers, registers_of, frame_ask, frames_ask, asked, asked_along, registers_after, loaded_registers}
+use Rattle.napi_types.specs.runs.Plan.{frame_ask, frames_ask, asked, asked_along, registers_after}
 use Rattle.napi_types.specs.runs.Run.{after, IsRunBy}
 use Rattle.napi_types.specs.runs.Setting.{Setting, opening_of}
-use Rattle.napi_types.proofs.runs.Runs.{and-left, and-right}
+use Rattle.napi_types.proofs.plain.Conditions.{and-left, and-right}
 use Rattle.machine_laws.specs.Computing.{steps, entries_of}
 use Rattle.machine_laws.specs.Told.{told_asks_along}
 use Rattle.machine_laws.specs.Told.{IsRun, all_told, told_asks}

@@ -16,15 +16,15 @@ use Rattle.napi_types.specs.declared.entry.What.{What}
 use Rattle.napi_types.specs.declared.entry.What.TheVariants as what
 use Rattle.napi_types.specs.declared.ids.HandleId.{HandleId}
 use Rattle.napi_types.specs.declared.status.Status.{Status}
+use Rattle.napi_types.specs.plain.Entries.{is_begin, told_duty}
 use Rattle.napi_types.specs.plain.Lists.{up_to}
-use Rattle.napi_types.specs.parts.Book.{Registration, is_due, is_at, registration_at, lowest_due, ticket_duty}
+use Rattle.napi_types.specs.parts.Book.{Registration, is_due, is_at, registration_at, lowest_due, ticket_duty, may_begin_in}
 use Rattle.napi_types.specs.parts.Frames.{is_hub_duty}
 use Rattle.napi_types.specs.parts.Hooks.{Hook, last_hook}
 use Rattle.napi_types.specs.environment.Changes.{number_of}
 use Rattle.napi_types.specs.environment.Entering.{function_change, asked_change}
 use Rattle.napi_types.specs.environment.Environment.{Environment}
 use Rattle.napi_types.specs.environment.Refusals.{refusal}
-use Rattle.napi_types.specs.environment.Tickets.{may_begin_in}
 use Rattle.napi_types.specs.hub.Hub.{Stage, Going, Drained}
 use Rattle.napi_types.specs.hub.HubMoves.{HubMove, Delivers, Closes, Finishes, hub_move}
 use Rattle.napi_types.specs.hub.HubSteps.{begin_step, delivery_entry}
@@ -32,10 +32,9 @@ use Rattle.napi_types.specs.runs.Choice.{local_choice, local_choice_in, hub_choi
 use Rattle.napi_types.specs.runs.Loop.{Event, Tickets, Moves, Goes, EndsLoop, Drains, FinalsCome}
 use Rattle.napi_types.specs.runs.Machine.{Machine}
 use Rattle.napi_types.specs.runs.Step.{Step, ticket_step, move_step, event_step, chosen, step}
-use Rattle.napi_types.specs.all_runs.Counts.{told_duty}
-use Rattle.napi_types.specs.all_runs.Order.{is_begin}
 use Rattle.napi_types.proofs.parts.Books.{IsDueAt, lowest-due}
-use Rattle.napi_types.proofs.runs.SharedSteps.{delivery-of_hub, others-none}
+use Rattle.napi_types.proofs.hub.HubDuties.{delivery-of_hub}
+use Rattle.napi_types.proofs.runs.SharedSteps.{others-none}
 use Rattle.machine_laws.specs.Choices.{begins_due_tickets_in, LowestDueTicketComesFirst, IsOfHook, LastHookComesFirst, BeginsLowest, BeginsLastHook, BeginsOfHub, TicketsBeginAtTheirMoments, LowestDueIsLowest}
 use Rattle.machine_laws.proofs.Choosing.{Happens}
 use Rattle.machine_laws.proofs.Chosen.{OwnChoice, opens, inits, exits, due_in_loop, hooks, due_at_end, ends, own-choice, HubChoice, goes, idles, quiets, drains, finals, moves_in_loop, moves_at_end, hub-choice, chosen-by}

@@ -13,19 +13,20 @@ use Rattle.napi_types.specs.declared.entry.HostStep.TheVariants as host
 use Rattle.napi_types.specs.declared.entry.Phase.{Phase}
 use Rattle.napi_types.specs.declared.entry.Phase.TheVariants as phase
 use Rattle.napi_types.specs.declared.entry.What.TheVariants as what
-use Rattle.napi_types.specs.parts.Book.{Registration, is_registered, is_due, is_owed, registration_at, due_info}
+use Rattle.napi_types.specs.plain.Entries.{host_entry}
+use Rattle.napi_types.specs.parts.Book.{Registration, is_registered, is_due, is_owed, registration_at, due_info, cause_at}
 use Rattle.napi_types.specs.parts.Frames.{frame_of_duty, begin_told}
 use Rattle.napi_types.specs.parts.Hooks.{Hook, last_hook}
-use Rattle.napi_types.specs.environment.Changes.{host_entry}
 use Rattle.napi_types.specs.environment.Environment.{Environment}
-use Rattle.napi_types.specs.environment.Hooked.{cause_at, is_late, StandsIn, IsHooked}
+use Rattle.napi_types.specs.environment.Hooked.{is_late, StandsIn, IsHooked}
 use Rattle.napi_types.specs.runs.Machine.{Machine}
 use Rattle.napi_types.specs.runs.Run.{IsNext}
 use Rattle.napi_types.specs.runs.Setting.{final_of}
 use Rattle.napi_types.proofs.parts.Moved.{at-cause}
 use Rattle.napi_types.proofs.environment.HookedSteps.{last-holds}
 use Rattle.napi_types.proofs.environment.Registrations.{registered-holds}
-use Rattle.napi_types.proofs.runs.SharedSteps.{is_of_others, delivery-of_hub}
+use Rattle.napi_types.proofs.hub.HubDuties.{delivery-of_hub}
+use Rattle.napi_types.proofs.runs.SharedSteps.{is_of_others}
 use Rattle.napi_types.proofs.all_runs.Orderly.{is_drained, IsSpent, Orderly}
 use Rattle.napi_types.proofs.all_runs.Orders.{none-due}
 use Rattle.machine_laws.specs.Choices.{begins_due_tickets_in, IsOfTicket, IsOfHook, BeginsLowest, BeginsLastHook, BeginsOfHub}

@@ -18,8 +18,8 @@ use Rattle.napi_types.specs.declared.entry.What.TheVariants as what
 use Rattle.napi_types.specs.declared.entry.Why.{Why}
 use Rattle.napi_types.specs.declared.ids.HandleId.{HandleId}
 use Rattle.napi_types.specs.declared.status.Status.{Status}
+use Rattle.napi_types.specs.plain.Entries.{cut_of, is_begin}
 use Rattle.napi_types.specs.plain.Guards.{is_shared}
-use Rattle.napi_types.specs.plain.Phases.{stage_of}
 use Rattle.napi_types.specs.parts.Book.{Registration, registration_at}
 use Rattle.napi_types.specs.parts.Frames.{Frame, duty_of, is_hub_duty}
 use Rattle.napi_types.specs.environment.Changes.{number_of, may_ask}
@@ -27,16 +27,15 @@ use Rattle.napi_types.specs.environment.Ends.{end_change}
 use Rattle.napi_types.specs.environment.Entering.{function_change, asked_change}
 use Rattle.napi_types.specs.environment.Environment.{Environment}
 use Rattle.napi_types.specs.environment.Refusals.{refusal}
-use Rattle.napi_types.specs.hub.Hub.{Hub, Stage, Before, Looped, Drained}
+use Rattle.napi_types.specs.hub.Hub.{stage_of, Hub, Stage, Before, Looped, Drained, is_spent}
 use Rattle.napi_types.specs.hub.HubMoves.{Delivers, Closes, Finishes, hub_move}
 use Rattle.napi_types.specs.hub.HubSteps.{begin_step, delivery_entry}
-use Rattle.napi_types.specs.runs.Choice.{local_choice, hub_choice, choice, is_spent}
+use Rattle.napi_types.specs.runs.Choice.{local_choice, hub_choice, choice}
 use Rattle.napi_types.specs.runs.Loop.{Event, Opens, Inits, Tickets, Moves, Goes, EndsLoop, Drains, FinalsCome, IsGone}
 use Rattle.napi_types.specs.runs.Machine.{Machine}
 use Rattle.napi_types.specs.runs.Run.{IsNext, after}
 use Rattle.napi_types.specs.runs.Setting.{final_of}
-use Rattle.napi_types.specs.runs.Step.{Step, locally, ticket_step, event_step, chosen, may_cut, call_step_on, end_step_on, frame_step, step, cut_of}
-use Rattle.napi_types.specs.all_runs.Order.{is_begin}
+use Rattle.napi_types.specs.runs.Step.{Step, locally, ticket_step, event_step, chosen, may_cut, call_step_on, end_step_on, frame_step, step}
 use Rattle.napi_types.proofs.runs.SharedSteps.{is_of_others, others-none}
 use Rattle.machine_laws.specs.Choices.{is_of_frames, NoneIsChosenInFrames, TellsFrame, BeginsTellTheirFrames, may_come_to, OwnEventsComeFirst, HubEventsComeLast, MayGo, GoComesAfterInitFrames, GoneComesAfterFinals, HubIsInPhase, GoComesOnlyAfterInitFrames, DrainComesOnlyAfterHooks, FinalsComeOnlyOnceAllEnded}
 use Rattle.machine_laws.proofs.Chosen.{OwnChoice, opens, inits, exits, due_in_loop, hooks, due_at_end, ends, own-choice, NoChoice, begun, unhooked, no-choice, HubChoice, goes, drains, finals, hub-choice, chosen-by, chosen-move}

@@ -7,9 +7,9 @@ use Rattle.napi_types.specs.declared.entry.Phase.TheVariants as phase
 use Rattle.napi_types.specs.parts.Book.{lowest_due}
 use Rattle.napi_types.specs.parts.Hooks.{Hook, last_hook}
 use Rattle.napi_types.specs.environment.Environment.{Environment}
-use Rattle.napi_types.specs.hub.Hub.{Hub, Stage, Before, Going, Looped, Drained, Final}
+use Rattle.napi_types.specs.hub.Hub.{Hub, Stage, Before, Going, Looped, Drained, Final, is_spent}
 use Rattle.napi_types.specs.hub.HubMoves.{HubMove, hub_move}
-use Rattle.napi_types.specs.runs.Choice.{local_choice, local_choice_in, hub_choice, hub_choice_at, choice, is_idle, is_quiet, is_spent, idle_choice, finals_choice}
+use Rattle.napi_types.specs.runs.Choice.{local_choice, local_choice_in, hub_choice, hub_choice_at, choice, is_idle, is_quiet, idle_choice, finals_choice}
 use Rattle.napi_types.specs.runs.Loop.{Event, Opens, Inits, Tickets, Moves, Goes, EndsLoop, Drains, FinalsCome, IsGone}
 use Rattle.napi_types.specs.runs.Machine.{Machine}
 

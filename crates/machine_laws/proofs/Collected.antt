@@ -9,8 +9,8 @@ use Rattle.std.proofs.lemmas.Map.Keys.{IsDistinct-head, IsDistinct-tail}
 use Rattle.napi_types.specs.plain.Lists.{has_number}
 use Rattle.napi_types.specs.parts.Reach.{numbers, children_at}
 use Rattle.napi_types.specs.parts.References.{Reference, strong_values, value_left}
-use Rattle.napi_types.specs.parts.Values.{Value, children, value_at, starting_values}
-use Rattle.napi_types.specs.environment.Collection.{those_of, collected}
+use Rattle.napi_types.specs.parts.Values.{Value, children, value_at, starting_values, those_of}
+use Rattle.napi_types.specs.environment.Collection.{collected}
 use Rattle.napi_types.specs.environment.Environment.{Environment, FunctionRoot}
 use Rattle.napi_types.specs.environment.Roots.{roots, reach}
 use Rattle.napi_types.proofs.parts.Reaching.{reach-roots, reach-closed, numbers-kept}

@@ -7,7 +7,7 @@ use Rattle.napi_types.specs.plain.Lists.{head, tail}
 use Rattle.napi_types.specs.runs.Machine.{Machine}
 use Rattle.napi_types.specs.runs.Run.{after, IsRunBy}
 use Rattle.napi_types.specs.runs.Step.{Step, step}
-use Rattle.napi_types.proofs.runs.Runs.{and-left, and-right, and-both}
+use Rattle.napi_types.proofs.plain.Conditions.{and-left, and-right, and-both}
 use Rattle.machine_laws.specs.Computing.{ComputesBy, steps, all_may, entries_of, is_paired}
 
 -- two facts on whole lists make a run

@@ -8,6 +8,7 @@ use Rattle.napi_types.specs.declared.ids.ScopeKind.{ScopeKind}
 use Rattle.napi_types.specs.declared.ids.ScopeKind.TheVariants as scope_kind
 use Rattle.napi_types.specs.plain.Lists.{first_changed, one}
 use Rattle.napi_types.specs.parts.Heap.{Heap, handle_value, handle_properties, handle_elements}
+use Rattle.napi_types.specs.parts.HeapCalls.{addon_effect}
 use Rattle.napi_types.specs.parts.HeapChanges.{in_scopes}
 use Rattle.napi_types.specs.parts.Properties.{property_at, element_at}
 use Rattle.napi_types.specs.parts.PropertyCalls.{names_of}
@@ -15,7 +16,6 @@ use Rattle.napi_types.specs.parts.ScopeCalls.{with_scope, with_escaped}
 use Rattle.napi_types.specs.parts.ScopeChanges.{open_in, close_in, escape_in}
 use Rattle.napi_types.specs.parts.Scopes.{Held, gives, held_by_frames}
 use Rattle.napi_types.specs.parts.Values.{undefined_value, true_value, false_value}
-use Rattle.napi_types.specs.environment.Calls.{addon_effect}
 use Rattle.machine_laws.specs.Consistency.{IsLiveAmong}
 use Rattle.machine_laws.proofs.Children.{of-property, of-element, properties-at, elements-at, keeps-property, keeps-removal, keeps-element}
 use Rattle.machine_laws.proofs.ConsistentHeaps.{IsConsistentHeap, ComesTo, unchanged, with-scopes, with-held, with-handle}

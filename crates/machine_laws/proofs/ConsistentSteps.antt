@@ -23,9 +23,10 @@ use Rattle.napi_types.specs.declared.entry.Why.{Why}
 use Rattle.napi_types.specs.declared.ids.HandleId.{HandleId}
 use Rattle.napi_types.specs.declared.status.Status.{Status}
 use Rattle.napi_types.specs.declared.status.Status.TheVariants as status
+use Rattle.napi_types.specs.plain.Entries.{cut_of}
 use Rattle.napi_types.specs.plain.Guards.{is_shared}
 use Rattle.napi_types.specs.plain.Lists.{first_changed, tail, when}
-use Rattle.napi_types.specs.parts.Book.{Book, Registration, due_info, moved_at, registration_at}
+use Rattle.napi_types.specs.parts.Book.{Book, Registration, due_info, moved_at, registration_at, begun_in}
 use Rattle.napi_types.specs.parts.Frames.{Frame, frame_of, frame_of_duty, cause_of, duty_of, is_hub_duty, most_frames, ask_counted}
 use Rattle.napi_types.specs.parts.FunctionCalls.{left_value, with_receiver}
 use Rattle.napi_types.specs.parts.Heap.{Heap, handle_value}
@@ -38,12 +39,12 @@ use Rattle.napi_types.specs.environment.Entering.{enter_change, function_change,
 use Rattle.napi_types.specs.environment.Environment.{Environment, FunctionRoot}
 use Rattle.napi_types.specs.environment.Refusals.{refusal, early_refusal, depth_refusal}
 use Rattle.napi_types.specs.environment.SharedCalls.{with_root, without_root, after_shared}
-use Rattle.napi_types.specs.environment.Tickets.{begun_in, hooks_left}
+use Rattle.napi_types.specs.environment.Tickets.{hooks_left}
 use Rattle.napi_types.specs.hub.HubMoves.{HubMove, Delivers, Closes, Finishes}
 use Rattle.napi_types.specs.runs.Loop.{Event, Opens, Inits, Tickets, Moves, Goes, EndsLoop, Drains, FinalsCome, IsGone}
 use Rattle.napi_types.specs.runs.Machine.{Machine}
 use Rattle.napi_types.specs.runs.Run.{after, final}
-use Rattle.napi_types.specs.runs.Step.{Step, ticket_step, move_step, event_step, chosen, may_cut, call_step_on, end_step_on, asked_step, frame_step, env_step, step_of, cut_of}
+use Rattle.napi_types.specs.runs.Step.{Step, ticket_step, move_step, event_step, chosen, may_cut, call_step_on, end_step_on, asked_step, frame_step, env_step, step_of}
 use Rattle.napi_types.proofs.runs.SharedSteps.{after_shared-alone}
 use Rattle.machine_laws.specs.Consistency.{IsConsistent, IsLiveAmong}
 use Rattle.machine_laws.proofs.ConsistentAnswers.{IsConsistentButFrames, Follows, parts-of, whole-of, in-heap, call_change-follows}

@@ -14,21 +14,25 @@ use Rattle.napi_types.specs.declared.entry.Out.{Out}
 use Rattle.napi_types.specs.declared.entry.Why.{Why}
 use Rattle.napi_types.specs.declared.entry.Why.TheVariants as why
 use Rattle.napi_types.specs.declared.ids.HandleId.{HandleId}
-use Rattle.napi_types.specs.plain.Guards.{is_registering, is_shared}
-use Rattle.napi_types.specs.plain.Room.{Room, room_of, may_want_memory, need, is_full, is_growing, journal_room, history_room}
+use Rattle.napi_types.specs.plain.Entries.{host_entry, cut_of}
+use Rattle.napi_types.specs.plain.Guards.{is_registering, is_shared, is_growing}
+use Rattle.napi_types.specs.plain.Room.{Room, may_want_memory, need, is_full}
 use Rattle.napi_types.specs.parts.Frames.{Frame, cause_of, duty_of, is_asking, is_hub_duty, asks_made}
-use Rattle.napi_types.specs.environment.Changes.{Change, host_entry, is_fresh_result, may_ask, may_call}
+use Rattle.napi_types.specs.environment.Changes.{Change, is_fresh_result, may_ask, may_call}
 use Rattle.napi_types.specs.environment.Ends.{end_out, end_change_by, end_change}
 use Rattle.napi_types.specs.environment.Environment.{Environment}
+use Rattle.napi_types.specs.environment.JournalRoom.{journal_room}
 use Rattle.napi_types.specs.environment.SharedCalls.{shared_entry}
+use Rattle.napi_types.specs.hub.HistoryRoom.{history_room}
 use Rattle.napi_types.specs.hub.Hub.{Hub}
 use Rattle.napi_types.specs.hub.HubSteps.{HubStep, hub_step, is_frame_end, frame_end_step}
+use Rattle.napi_types.specs.runs.CallRoom.{room_of}
 use Rattle.napi_types.specs.runs.Machine.{Machine}
 use Rattle.napi_types.specs.runs.Run.{IsNext}
-use Rattle.napi_types.specs.runs.Step.{Step, may_cut, call_step_on, end_step_on, frame_step, step, cut_of}
+use Rattle.napi_types.specs.runs.Step.{Step, may_cut, call_step_on, end_step_on, frame_step, step}
+use Rattle.napi_types.proofs.plain.Conditions.{and-left, and-right, and-both}
 use Rattle.napi_types.proofs.environment.Answers.{needs-place}
 use Rattle.napi_types.proofs.environment.FrameEnds.{Ends, ended-ends}
-use Rattle.napi_types.proofs.runs.Runs.{and-left, and-right, and-both}
 use Rattle.napi_types.proofs.runs.SharedSteps.{hub_step-end}
 use Rattle.machine_laws.specs.Cuts.{cut_by, StandsInHub, IsCutFull, first_called, two_left}
 use Rattle.std.proofs.lemmas.Bool.{or_left, or_right}

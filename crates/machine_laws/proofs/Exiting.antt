@@ -21,8 +21,8 @@ use Rattle.napi_types.specs.declared.entry.Why.{Why}
 use Rattle.napi_types.specs.declared.ids.HandleId.{HandleId}
 use Rattle.napi_types.specs.declared.status.Status.{Status}
 use Rattle.napi_types.specs.plain.Built.{is_exiting}
+use Rattle.napi_types.specs.plain.Entries.{host_entry}
 use Rattle.napi_types.specs.plain.Guards.{is_shared}
-use Rattle.napi_types.specs.plain.Phases.{stage_of}
 use Rattle.napi_types.specs.plain.Replies.{Answer}
 use Rattle.napi_types.specs.parts.Attachments.{wrap_ticket}
 use Rattle.napi_types.specs.parts.Book.{Registration, lowest_due}
@@ -32,7 +32,6 @@ use Rattle.napi_types.specs.parts.Hooks.{hook_ticket}
 use Rattle.napi_types.specs.parts.InstanceData.{instance_ticket}
 use Rattle.napi_types.specs.parts.References.{referred_value}
 use Rattle.napi_types.specs.environment.Calls.{effect, answer_unless, answer_unless_deep, answer}
-use Rattle.napi_types.specs.environment.Changes.{host_entry}
 use Rattle.napi_types.specs.environment.Ends.{end_change_by, uncut_call_end, end_change}
 use Rattle.napi_types.specs.environment.Entering.{function_change, asked_change}
 use Rattle.napi_types.specs.environment.Environment.{Environment}
@@ -41,7 +40,7 @@ use Rattle.napi_types.specs.environment.Refusals.{early_refusal, depth_refusal, 
 use Rattle.napi_types.specs.environment.Registering.{finalizer_if, registering_if, registered_only, withdrawing}
 use Rattle.napi_types.specs.environment.SharedCalls.{shared_entry}
 use Rattle.napi_types.specs.environment.WrapCalls.{referring_if}
-use Rattle.napi_types.specs.hub.Hub.{Stage, Before, Going, Looped, Drained, Final}
+use Rattle.napi_types.specs.hub.Hub.{stage_of, Stage, Before, Going, Looped, Drained, Final}
 use Rattle.napi_types.specs.hub.HubMoves.{HubMove, Delivers, Closes, Finishes, hub_move}
 use Rattle.napi_types.specs.hub.HubSteps.{hub_step, delivery_entry}
 use Rattle.napi_types.specs.runs.Choice.{local_choice, hub_choice, choice, is_idle, is_quiet}
@@ -50,9 +49,9 @@ use Rattle.napi_types.specs.runs.Machine.{Machine}
 use Rattle.napi_types.specs.runs.Run.{IsRunBy, after, final}
 use Rattle.napi_types.specs.runs.Setting.{opening_of, final_of}
 use Rattle.napi_types.specs.runs.Step.{Step, locally, shared, move_step, event_step, answered_by, has_room, step}
+use Rattle.napi_types.proofs.plain.Conditions.{and-right}
 use Rattle.napi_types.proofs.environment.FrameEnds.{ended-ends}
 use Rattle.napi_types.proofs.hub.HubKeeps.{hub_step-what}
-use Rattle.napi_types.proofs.runs.Runs.{and-right}
 use Rattle.napi_types.proofs.runs.SharedSteps.{is_of_others, others-told, after_shared-alone}
 use Rattle.napi_types.proofs.runs.StepCases.{StepCase, calls, ends, opens, inits, begins, vanishes, shares, leaves, passes, moves, others, event_before, InPhase, step-case}
 use Rattle.napi_types.proofs.all_runs.Orderly.{Orderly, orderly-step, orderly-opens}

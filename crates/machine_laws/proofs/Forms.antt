@@ -15,11 +15,11 @@ use Rattle.napi_types.specs.declared.entry.Phase.TheVariants as phase
 use Rattle.napi_types.specs.declared.entry.What.TheVariants as what
 use Rattle.napi_types.specs.declared.entry.Why.{Why}
 use Rattle.napi_types.specs.declared.ids.HandleId.{HandleId}
+use Rattle.napi_types.specs.plain.Entries.{host_entry, is_environment, cut_of}
 use Rattle.napi_types.specs.plain.Guards.{is_shared}
 use Rattle.napi_types.specs.parts.Book.{Registration, registration_at}
 use Rattle.napi_types.specs.parts.Frames.{Frame, duty_of, is_hub_duty}
-use Rattle.napi_types.specs.parts.Functions.{is_environment}
-use Rattle.napi_types.specs.environment.Changes.{may_ask, host_entry}
+use Rattle.napi_types.specs.environment.Changes.{may_ask}
 use Rattle.napi_types.specs.environment.Ends.{end_change}
 use Rattle.napi_types.specs.environment.SharedCalls.{shared_entry}
 use Rattle.napi_types.specs.hub.HubMoves.{HubMove, Delivers, Closes, Finishes}
@@ -28,10 +28,10 @@ use Rattle.napi_types.specs.runs.Choice.{choice}
 use Rattle.napi_types.specs.runs.Loop.{Event, Opens, Inits, Tickets, Moves, Goes, EndsLoop, Drains, FinalsCome, IsGone}
 use Rattle.napi_types.specs.runs.Machine.{Machine}
 use Rattle.napi_types.specs.runs.Run.{IsNext}
-use Rattle.napi_types.specs.runs.Step.{Step, by_hub, ticket_step, event_step, chosen, may_cut, local_call_step, shared_call_step, call_step_on, end_step_on, asked_step, frame_step, env_step, has_room, other_step, step_of, step, cut_of}
+use Rattle.napi_types.specs.runs.Step.{Step, by_hub, ticket_step, event_step, chosen, may_cut, local_call_step, shared_call_step, call_step_on, end_step_on, asked_step, frame_step, env_step, has_room, other_step, step_of, step}
+use Rattle.napi_types.proofs.plain.Conditions.{and-right}
 use Rattle.napi_types.proofs.environment.FrameEnds.{ended-ends}
 use Rattle.napi_types.proofs.hub.HubKeeps.{hub_step-what}
-use Rattle.napi_types.proofs.runs.Runs.{and-right}
 use Rattle.napi_types.proofs.runs.SharedSteps.{is_of_others, others-told}
 
 -- a step that may come

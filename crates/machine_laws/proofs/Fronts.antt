@@ -4,8 +4,9 @@ use Rattle.napi_types.specs.declared.call.Ask.{Ask}
 use Rattle.napi_types.specs.declared.call.Call.{Call}
 use Rattle.napi_types.specs.declared.entry.Entry.{Entry}
 use Rattle.machine_laws.specs.RunLaws.{FrontsAreRuns}
+use Rattle.napi_types.specs.scripts.Plans.{Plan, Registers, loaded_registers}
 use Rattle.napi_types.specs.runs.Machine.{Machine}
-use Rattle.napi_types.specs.runs.Plan.{Plan, Registers, asked, asked_along, registers_after, loaded_registers}
+use Rattle.napi_types.specs.runs.Plan.{asked, asked_along, registers_after}
 use Rattle.napi_types.specs.runs.Run.{IsRunBy, after}
 use Rattle.napi_types.specs.runs.Setting.{opening_of}
 

@@ -11,12 +11,14 @@ use Rattle.napi_types.specs.declared.entry.What.TheVariants as what
 use Rattle.napi_types.specs.declared.entry.Why.TheVariants as why
 use Rattle.napi_types.specs.declared.op.Op.{Op}
 use Rattle.napi_types.specs.plain.Lists.{head, tail}
-use Rattle.napi_types.specs.plain.Room.{Room, history_room, is_full, may_want_memory}
-use Rattle.napi_types.specs.hub.Actors.{is_thread, thread_calls, left_after, IsNextOfThread, KeepsScriptFrom, KeepsScript}
+use Rattle.napi_types.specs.plain.Room.{Room, is_full, may_want_memory}
+use Rattle.napi_types.specs.hub.Actors.{is_thread, thread_calls, left_after, IsNextOfThread, KeepsScriptFrom}
+use Rattle.napi_types.specs.hub.HistoryRoom.{history_room}
 use Rattle.napi_types.specs.hub.Hub.{Hub}
 use Rattle.napi_types.specs.hub.HubSteps.{hub_step}
 use Rattle.napi_types.specs.runs.Setting.{Setting, opening_of}
-use Rattle.napi_types.proofs.runs.Runs.{and-left, and-right}
+use Rattle.napi_types.specs.all_runs.HubLaws.{KeepsScript}
+use Rattle.napi_types.proofs.plain.Conditions.{and-left, and-right}
 
 -- the entry that must stand as the next one of a thread, and whether it may
 abbrev next_of_thread : Room → ℕ → Option (List Call) → Entry → What → Entry × Bool

@@ -19,6 +19,7 @@ use Rattle.napi_types.specs.declared.entry.Why.{Why}
 use Rattle.napi_types.specs.declared.ids.HandleId.{HandleId}
 use Rattle.napi_types.specs.declared.ids.TsfnId.{TsfnId}
 use Rattle.napi_types.specs.declared.status.Status.{Status}
+use Rattle.napi_types.specs.plain.Entries.{host_entry}
 use Rattle.napi_types.specs.plain.Guards.{is_shared}
 use Rattle.napi_types.specs.plain.Lists.{one}
 use Rattle.napi_types.specs.plain.Replies.{Answer}
@@ -28,7 +29,7 @@ use Rattle.napi_types.specs.parts.Heap.{handle_value}
 use Rattle.napi_types.specs.parts.InstanceData.{instance_ticket}
 use Rattle.napi_types.specs.parts.References.{referred_value}
 use Rattle.napi_types.specs.environment.Calls.{effect, answer_unless, answer_unless_deep}
-use Rattle.napi_types.specs.environment.Changes.{call_change, host_entry, number_of}
+use Rattle.napi_types.specs.environment.Changes.{call_change, number_of}
 use Rattle.napi_types.specs.environment.Ends.{uncut_call_end, end_change_by, end_change}
 use Rattle.napi_types.specs.environment.Entering.{function_change, asked_change}
 use Rattle.napi_types.specs.environment.Environment.{Environment, FunctionRoot}

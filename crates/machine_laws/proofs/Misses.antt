@@ -18,19 +18,19 @@ use Rattle.napi_types.specs.declared.entry.What.{What}
 use Rattle.napi_types.specs.declared.entry.What.TheVariants as what
 use Rattle.napi_types.specs.declared.status.Kind.{Kind}
 use Rattle.napi_types.specs.declared.status.Status.{Status}
+use Rattle.napi_types.specs.plain.Entries.{host_entry}
 use Rattle.napi_types.specs.plain.Lists.{has_number}
 use Rattle.napi_types.specs.plain.Replies.{Answer}
 use Rattle.napi_types.specs.parts.Pool.{executed_by}
-use Rattle.napi_types.specs.environment.Changes.{host_entry}
+use Rattle.napi_types.specs.scripts.Plans.{loaded_registers}
 use Rattle.napi_types.specs.hub.Hub.{Hub, Final, threads_left, workers_left}
 use Rattle.napi_types.specs.hub.HubCalls.{hub_answer, is_thread_call}
 use Rattle.napi_types.specs.hub.HubSteps.{hub_step, hub_step_of, answered_step, is_gone_on, is_thread_there, is_thread_end, nothing_given, thread_step, is_worker_there, start_step, work_end_step, worker_step}
 use Rattle.napi_types.specs.runs.Machine.{Machine}
-use Rattle.napi_types.specs.runs.Plan.{loaded_registers}
 use Rattle.napi_types.specs.runs.Run.{IsNext, IsRunBy}
 use Rattle.napi_types.specs.runs.Setting.{Setting, opening_of}
 use Rattle.napi_types.specs.runs.Step.{step_of, has_room}
-use Rattle.napi_types.proofs.runs.Runs.{and-left, and-right}
+use Rattle.napi_types.proofs.plain.Conditions.{and-left, and-right}
 use Rattle.machine_laws.specs.Computing.{ComputesBy, steps, entries_of, all_may, is_paired}
 use Rattle.machine_laws.specs.Told.{IsRun, all_told, told_asks}
 use Rattle.machine_laws.proofs.Asks.{asks-unique, told-run}

@@ -8,9 +8,10 @@ use Rattle.napi_types.specs.declared.call.Call.TheVariants as call
 use Rattle.napi_types.specs.declared.status.Status.{Status}
 use Rattle.napi_types.specs.plain.Lists.{has_number}
 use Rattle.napi_types.specs.parts.Frames.{caller_of}
+use Rattle.napi_types.specs.parts.HeapRefusals.{refusal_in}
 use Rattle.napi_types.specs.parts.HookRefusals.{hook_refusal}
 use Rattle.napi_types.specs.parts.ReferenceRefusals.{reference_refusal}
-use Rattle.napi_types.specs.environment.Refusals.{refusal_in, attached_refusal}
+use Rattle.napi_types.specs.environment.Refusals.{attached_refusal}
 use Rattle.machine_laws.specs.CallLaws.{ReferencesAreNamedAlone, HooksAreNamedAlone}
 
 option_or-none : (s : Option Status) → option_or s None ≡ s

@@ -16,8 +16,8 @@ use Rattle.napi_types.specs.hub.HubSteps.{hub_step, hub_step_of, is_gone_on, is_
 use Rattle.napi_types.specs.runs.Machine.{Machine}
 use Rattle.napi_types.specs.runs.Run.{IsNext}
 use Rattle.napi_types.specs.runs.Step.{has_room, step_of}
+use Rattle.napi_types.proofs.plain.Conditions.{and-left, and-right}
 use Rattle.napi_types.proofs.hub.HubKeeps.{answered-may}
-use Rattle.napi_types.proofs.runs.Runs.{and-left, and-right}
 use Rattle.machine_laws.specs.Choices.{is_of_threads, is_of_workers, IsOfOther, OthersComeWhereTheyAre}
 use Rattle.machine_laws.specs.Cuts.{IsOnlyNext, IsOnlyOfEnvironment}
 

@@ -14,7 +14,6 @@ use Rattle.napi_types.specs.declared.entry.Reply.{Reply}
 use Rattle.napi_types.specs.declared.entry.What.TheVariants as what
 use Rattle.napi_types.specs.declared.entry.Why.{Why}
 use Rattle.napi_types.specs.declared.ids.HandleId.{HandleId}
-use Rattle.napi_types.specs.plain.Phases.{stage_of}
 use Rattle.napi_types.specs.parts.Book.{Book, Registration, is_registered, is_at, registration_at, lowest_due}
 use Rattle.napi_types.specs.parts.Duties.{AreNested}
 use Rattle.napi_types.specs.parts.Frames.{Frame, frame_of_duty}
@@ -23,6 +22,7 @@ use Rattle.napi_types.specs.environment.Ends.{end_change}
 use Rattle.napi_types.specs.environment.Entering.{asked_change}
 use Rattle.napi_types.specs.environment.Environment.{Environment}
 use Rattle.napi_types.specs.environment.Hooked.{is_late}
+use Rattle.napi_types.specs.hub.Hub.{stage_of}
 use Rattle.napi_types.specs.hub.HubMoves.{HubMove, Delivers, Closes, Finishes, hub_move}
 use Rattle.napi_types.specs.runs.Choice.{choice}
 use Rattle.napi_types.specs.runs.Loop.{Event, Opens, Inits, Tickets, Moves, Goes, EndsLoop, Drains, FinalsCome, IsGone}
@@ -33,7 +33,8 @@ use Rattle.napi_types.specs.runs.Step.{Step, ticket_step, event_step, shared_cal
 use Rattle.napi_types.proofs.parts.Books.{NoneRegistered, none-owed_tickets}
 use Rattle.napi_types.proofs.environment.Registrations.{registered-holds, AreUncalled, uncalled-asked, uncalled-ended, uncalled-begun, uncalled-phase}
 use Rattle.napi_types.proofs.environment.StandingFrames.{counted-nested, nested-asked, nested-ended, nested-first, nested-ticket, nested-init}
-use Rattle.napi_types.proofs.runs.SharedSteps.{is_of_others, after_shared-alone, delivery-of_hub}
+use Rattle.napi_types.proofs.hub.HubDuties.{delivery-of_hub}
+use Rattle.napi_types.proofs.runs.SharedSteps.{is_of_others, after_shared-alone}
 use Rattle.machine_laws.specs.Choices.{begins_due_tickets_in, IsOfTicket, GoneComesOnlyAfterFinals}
 use Rattle.machine_laws.specs.FinalizerLaws.{OnlyTheOutermostFrameHasADuty, NoneIsRegisteredFromFinalsOn}
 use Rattle.machine_laws.proofs.Beginning.{lowest-first}

@@ -14,11 +14,12 @@ use Rattle.napi_types.specs.declared.entry.Out.{Out}
 use Rattle.napi_types.specs.declared.entry.Out.TheVariants as out
 use Rattle.napi_types.specs.declared.entry.Why.{Why}
 use Rattle.napi_types.specs.declared.ids.HandleId.{HandleId}
+use Rattle.napi_types.specs.plain.Entries.{host_entry}
 use Rattle.napi_types.specs.plain.Lists.{tail}
 use Rattle.napi_types.specs.parts.Book.{Registration, registration_at}
 use Rattle.napi_types.specs.parts.Duties.{duties_of, AreNested}
 use Rattle.napi_types.specs.parts.Frames.{Frame, duty_of, is_hub_duty}
-use Rattle.napi_types.specs.environment.Changes.{host_entry, number_of}
+use Rattle.napi_types.specs.environment.Changes.{number_of}
 use Rattle.napi_types.specs.environment.Ends.{end_change}
 use Rattle.napi_types.specs.environment.Environment.{Environment}
 use Rattle.napi_types.specs.environment.SharedCalls.{shared_entry}
@@ -31,12 +32,13 @@ use Rattle.napi_types.specs.runs.Machine.{Machine}
 use Rattle.napi_types.specs.runs.Run.{IsRunBy, after, final}
 use Rattle.napi_types.specs.runs.Setting.{Setting, opening_of, final_of}
 use Rattle.napi_types.specs.runs.Step.{Step, ticket_step, event_step, shared_call_step, end_step_on, step}
+use Rattle.napi_types.proofs.plain.Conditions.{and-right}
 use Rattle.napi_types.proofs.environment.FrameChanges.{ended-keeps}
 use Rattle.napi_types.proofs.environment.FrameEnds.{ended-ends}
 use Rattle.napi_types.proofs.environment.StandingFrames.{counted-duties, duties-asked, duty-alone}
+use Rattle.napi_types.proofs.hub.HubDuties.{delivery-of_hub}
 use Rattle.napi_types.proofs.hub.HubKeeps.{given-keeps, other-keeps}
-use Rattle.napi_types.proofs.runs.Runs.{and-right}
-use Rattle.napi_types.proofs.runs.SharedSteps.{hub_step-end, after_shared-alone, delivery-of_hub}
+use Rattle.napi_types.proofs.runs.SharedSteps.{hub_step-end, after_shared-alone}
 use Rattle.machine_laws.specs.Cuts.{StandsInHub, hub_duties, standing_duties, FramesStandInTheHub, HubDutiesStandInTheHub}
 use Rattle.machine_laws.proofs.Chosen.{chosen-move}
 use Rattle.machine_laws.proofs.Forms as form

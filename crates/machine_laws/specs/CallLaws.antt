@@ -14,14 +14,15 @@ use Rattle.napi_types.specs.declared.ids.WorkId.{WorkId}
 use Rattle.napi_types.specs.declared.status.Status.{Status}
 use Rattle.napi_types.specs.declared.status.Status.TheVariants as status
 use Rattle.napi_types.specs.plain.Built.{is_built, is_calling}
-use Rattle.napi_types.specs.plain.Guards.{is_registering, is_shared}
+use Rattle.napi_types.specs.plain.Guards.{is_registering, is_shared, is_growing}
 use Rattle.napi_types.specs.plain.Lists.{has_number}
 use Rattle.napi_types.specs.plain.Replies.{plain}
-use Rattle.napi_types.specs.plain.Room.{one_if, need, is_growing}
+use Rattle.napi_types.specs.plain.Room.{one_if, need}
 use Rattle.napi_types.specs.plain.Texts.{fixed_texts, message_text, code_text}
 use Rattle.napi_types.specs.parts.ExpectedKinds.{kind_refusal}
 use Rattle.napi_types.specs.parts.Frames.{caller_of, ask_counted}
 use Rattle.napi_types.specs.parts.Heap.{Heap, handle_body}
+use Rattle.napi_types.specs.parts.HeapRefusals.{refusal_in}
 use Rattle.napi_types.specs.parts.HookRefusals.{hook_refusal}
 use Rattle.napi_types.specs.parts.NamedNumbers.{handles_of, texts_of, unknown_refusal}
 use Rattle.napi_types.specs.parts.OwnRefusals.{row_refusal}
@@ -31,7 +32,7 @@ use Rattle.napi_types.specs.environment.Calls.{answer, with_depth_error, groups}
 use Rattle.napi_types.specs.environment.Changes.{call_change}
 use Rattle.napi_types.specs.environment.Environment.{Environment}
 use Rattle.napi_types.specs.environment.Moments.{moment_refusal}
-use Rattle.napi_types.specs.environment.Refusals.{refusal_in, attached_refusal, timely_refusal, early_refusal, depth_refusal, refusal}
+use Rattle.napi_types.specs.environment.Refusals.{attached_refusal, timely_refusal, early_refusal, depth_refusal, refusal}
 
 -- the call is refused as one at a wrong moment, or else as an invalid argument; it tells nothing, and leaves the environment as it was
 pub record RefusesArgument (e : Environment) (c : Call) : Type 0 where

@@ -11,8 +11,8 @@ use Rattle.napi_types.specs.declared.status.Status.{Status}
 use Rattle.napi_types.specs.declared.status.Status.TheVariants as status
 use Rattle.napi_types.specs.plain.Texts.{fixed_texts}
 use Rattle.napi_types.specs.plain.Weave.{weave}
+use Rattle.napi_types.specs.scripts.Plans.{registers_of}
 use Rattle.napi_types.specs.scripts.Text.{text}
-use Rattle.napi_types.specs.runs.Plan.{registers_of}
 use Rattle.napi_types.specs.runs.Setting.{Setting, final_registers}
 use Rattle.machine_laws.specs.HubWords.{work_lines, shared_journal, script_for, next_after, work_duty, work, shared_at, shared_making, work_created, completion_begins, drains, finals, worker_starts, worker_ends}
 use Rattle.machine_laws.specs.RunWords.{frame_end, loop_ended, go_entry}

@@ -15,17 +15,16 @@ use Rattle.napi_types.specs.declared.entry.Phase.{Phase}
 use Rattle.napi_types.specs.declared.entry.Phase.TheVariants as phase
 use Rattle.napi_types.specs.declared.entry.What.{What}
 use Rattle.napi_types.specs.declared.entry.What.TheVariants as what
-use Rattle.napi_types.specs.plain.Phases.{stage_of}
+use Rattle.napi_types.specs.plain.Entries.{host_entry}
 use Rattle.napi_types.specs.parts.Book.{Book, Registration, is_registered, is_due, is_at, due_info, lowest_due, registration_at, owed_tickets, ticket_duty}
 use Rattle.napi_types.specs.parts.Frames.{Frame, frame_of_duty, begin_told, is_hub_duty}
 use Rattle.napi_types.specs.parts.Hooks.{Hook, last_hook}
-use Rattle.napi_types.specs.environment.Changes.{host_entry}
 use Rattle.napi_types.specs.environment.Environment.{Environment}
-use Rattle.napi_types.specs.hub.Hub.{Hub, Going, Drained, Final, stage_after}
+use Rattle.napi_types.specs.hub.Hub.{stage_of, Hub, Going, Drained, Final, stage_after, is_spent}
 use Rattle.napi_types.specs.hub.HubCalls.{is_thread_call}
 use Rattle.napi_types.specs.hub.HubMoves.{Delivers, hub_move}
 use Rattle.napi_types.specs.hub.HubSteps.{delivery_entry, is_thread_there, is_worker_there}
-use Rattle.napi_types.specs.runs.Choice.{local_choice, hub_choice, is_spent}
+use Rattle.napi_types.specs.runs.Choice.{local_choice, hub_choice}
 use Rattle.napi_types.specs.runs.Loop.{Event, EndsLoop}
 use Rattle.napi_types.specs.runs.Machine.{Machine}
 use Rattle.napi_types.specs.runs.Run.{after, IsNext, IsRunBy}

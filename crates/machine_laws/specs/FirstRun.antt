@@ -14,9 +14,9 @@ use Rattle.napi_types.specs.declared.status.Kind.TheVariants as kind
 use Rattle.napi_types.specs.declared.status.Status.TheVariants as status
 use Rattle.napi_types.specs.plain.Texts.{fixed_texts}
 use Rattle.napi_types.specs.plain.Weave.{weave}
+use Rattle.napi_types.specs.scripts.Plans.{registers_of}
 use Rattle.napi_types.specs.scripts.Text.{text}
 use Rattle.napi_types.specs.runs.Parting.{IsParted}
-use Rattle.napi_types.specs.runs.Plan.{registers_of}
 use Rattle.napi_types.specs.runs.Setting.{Setting, opening_of, final_registers}
 use Rattle.machine_laws.specs.RunWords.{script_of, call_at, opening_entries, frame_end, great_events, gone_entry, loop_ended, left_out, opening_lines}
 use Rattle.machine_laws.specs.Told.{IsRun, told_asks}

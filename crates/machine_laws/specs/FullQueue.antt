@@ -17,8 +17,8 @@ use Rattle.napi_types.specs.declared.status.Status.TheVariants as status
 use Rattle.napi_types.specs.plain.Texts.{fixed_texts}
 use Rattle.napi_types.specs.plain.Weave.{weave}
 use Rattle.napi_types.specs.scripts.Text.{text}
-use Rattle.napi_types.specs.hub.Actors.{KeepsScript}
 use Rattle.napi_types.specs.runs.Setting.{Setting}
+use Rattle.napi_types.specs.all_runs.HubLaws.{KeepsScript}
 use Rattle.machine_laws.specs.HubWords.{function_lines, shared_journal, script_for, next_after, item, target_of, shared_making, function_created, calls_function, releases, item_begins, function_closes, function_finishes, drains, finals, by_thread, thread_ends}
 use Rattle.machine_laws.specs.RunWords.{frame_end, go_entry, loop_ended}
 use Rattle.machine_laws.specs.Told.{IsRun}

@@ -25,8 +25,8 @@ use Rattle.napi_types.specs.declared.ids.WorkId.{WorkId}
 use Rattle.napi_types.specs.declared.op.Op.{Op}
 use Rattle.napi_types.specs.declared.status.Status.{Status}
 use Rattle.napi_types.specs.declared.status.Status.TheVariants as status
+use Rattle.napi_types.specs.plain.Entries.{host_told, host_entry}
 use Rattle.napi_types.specs.plain.Replies.{plain}
-use Rattle.napi_types.specs.environment.Changes.{host_told, host_entry}
 use Rattle.napi_types.specs.runs.Setting.{Setting}
 use Rattle.machine_laws.specs.RunWords.{script_of_entries, opening_entries, opening_lines, call_replied, frame_end, gone_entry}
 

@@ -10,9 +10,9 @@ use Rattle.napi_types.specs.declared.status.Kind.{Kind}
 use Rattle.napi_types.specs.declared.status.Kind.TheVariants as kind
 use Rattle.napi_types.specs.declared.status.Status.{Status}
 use Rattle.napi_types.specs.declared.status.Status.TheVariants as status
+use Rattle.napi_types.specs.plain.Entries.{host_entry}
 use Rattle.napi_types.specs.plain.Texts.{fixed_texts}
 use Rattle.napi_types.specs.scripts.Text.{text}
-use Rattle.napi_types.specs.environment.Changes.{host_entry}
 use Rattle.napi_types.specs.runs.Setting.{Setting, EndsBy}
 use Rattle.machine_laws.specs.RunWords.{script_of, call_at, opening_entries, great_events, gone_entry, run_of_calls, opening_lines, handle}
 use Rattle.machine_laws.specs.Told.{IsRun, told_asks}

@@ -10,8 +10,9 @@ use Rattle.napi_types.specs.plain.Lists.{has_number}
 use Rattle.napi_types.specs.plain.Weave.{Side, Journal, History}
 use Rattle.napi_types.specs.parts.Reach.{numbers, children_at, reach_from}
 use Rattle.napi_types.specs.parts.Values.{Value}
+use Rattle.napi_types.specs.scripts.Plans.{Plan, Registers}
 use Rattle.napi_types.specs.runs.Machine.{Machine}
-use Rattle.napi_types.specs.runs.Plan.{Plan, Registers, asked, registers_after}
+use Rattle.napi_types.specs.runs.Plan.{asked, registers_after}
 use Rattle.napi_types.specs.runs.Run.{after, IsNext, IsRunBy}
 use Rattle.napi_types.specs.runs.Setting.{Setting, RunsBy}
 use Rattle.napi_types.specs.runs.Step.{step}

@@ -16,11 +16,11 @@ use Rattle.napi_types.specs.declared.entry.Duty.{Duty}
 use Rattle.napi_types.specs.declared.entry.Reply.{Reply}
 use Rattle.napi_types.specs.declared.ids.HandleId.{HandleId}
 use Rattle.napi_types.specs.declared.ids.RefId.{RefId}
+use Rattle.napi_types.specs.plain.Entries.{host_told, host_entry}
 use Rattle.napi_types.specs.plain.Replies.{plain}
 use Rattle.napi_types.specs.plain.Room.{most_entries}
 use Rattle.napi_types.specs.parts.Book.{ticket_duty}
-use Rattle.napi_types.specs.environment.Changes.{host_told, host_entry}
-use Rattle.napi_types.specs.runs.Plan.{Plan}
+use Rattle.napi_types.specs.scripts.Plans.{Plan}
 use Rattle.napi_types.specs.runs.Setting.{Setting}
 
 -- a script of addons with these plans, without threads and workers, with the three texts that every script has, room for the most entries in each list, and all

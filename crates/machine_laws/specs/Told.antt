@@ -7,9 +7,10 @@ use Rattle.napi_types.specs.declared.call.Call.{Call}
 use Rattle.napi_types.specs.declared.entry.Entry.{Entry}
 use Rattle.napi_types.specs.declared.entry.Local.{Local}
 use Rattle.napi_types.specs.plain.Weave.{weave}
+use Rattle.napi_types.specs.scripts.Plans.{Plan, Registers, loaded_registers}
 use Rattle.napi_types.specs.runs.Machine.{Machine}
 use Rattle.napi_types.specs.runs.Parting.{IsParted}
-use Rattle.napi_types.specs.runs.Plan.{Plan, Registers, asked, registers_after, loaded_registers}
+use Rattle.napi_types.specs.runs.Plan.{asked, registers_after}
 use Rattle.napi_types.specs.runs.Run.{after}
 use Rattle.napi_types.specs.runs.Setting.{Setting, RunsBy, opening_of, EndsBy}
 

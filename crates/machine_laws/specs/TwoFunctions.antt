@@ -17,12 +17,12 @@ use Rattle.napi_types.specs.declared.entry.HostStep.{HostStep}
 use Rattle.napi_types.specs.declared.entry.HostStep.TheVariants as host
 use Rattle.napi_types.specs.declared.ids.TsfnId.{TsfnId}
 use Rattle.napi_types.specs.declared.op.Op.{Op}
+use Rattle.napi_types.specs.plain.Entries.{host_entry}
 use Rattle.napi_types.specs.plain.Replies.{plain}
 use Rattle.napi_types.specs.plain.Texts.{fixed_texts}
 use Rattle.napi_types.specs.plain.Weave.{weave}
+use Rattle.napi_types.specs.scripts.Plans.{registers_of}
 use Rattle.napi_types.specs.scripts.Text.{text}
-use Rattle.napi_types.specs.environment.Changes.{host_entry}
-use Rattle.napi_types.specs.runs.Plan.{registers_of}
 use Rattle.napi_types.specs.runs.Setting.{Setting, final_registers}
 use Rattle.machine_laws.specs.HubWords.{shared_journal, script_for, next_after, shared_replied, shared_at, shared_making, shared_refused, target_of, begins, runs_empty, drains, finals, by_thread, thread_ends}
 use Rattle.machine_laws.specs.RunWords.{loop_ended, go_entry, opening_lines}

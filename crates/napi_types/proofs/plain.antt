@@ -1,4 +1,5 @@
 -- On plain data: finite maps and their records, conditions, the weave of two lists.
+pub mod Conditions
 pub mod Found
 pub mod Issued
 pub mod Maps

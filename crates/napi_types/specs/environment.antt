@@ -11,6 +11,7 @@ pub mod ExternalCalls
 pub mod HookCalls
 pub mod Hooked
 pub mod InstanceCalls
+pub mod JournalRoom
 pub mod Moments
 pub mod Owners
 pub mod ReferenceCalls

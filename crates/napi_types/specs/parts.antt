@@ -10,7 +10,9 @@ pub mod FunctionCalls
 pub mod Functions
 pub mod Graph
 pub mod Heap
+pub mod HeapCalls
 pub mod HeapChanges
+pub mod HeapRefusals
 pub mod HookRefusals
 pub mod Hooks
 pub mod InstanceData

@@ -1,7 +1,9 @@
 -- Plain data: lists and numbers, entries and replies, what is known of a call by itself, the ends of the outside.
+pub mod Arguments
 pub mod Built
 pub mod CallFacts
 pub mod Edge
+pub mod Entries
 pub mod Guards
 pub mod Lists
 pub mod Numbers

@@ -1,5 +1,6 @@
 -- Environment and hub together: the next event, a step, and runs.
 pub mod Begins
+pub mod CallRoom
 pub mod Choice
 pub mod Loop
 pub mod Machine

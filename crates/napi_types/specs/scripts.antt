@@ -1,5 +1,6 @@
 -- Scripts and texts: which bytes are a script, how an operation is filled from registers, the text of a trace.
 pub mod Names
+pub mod Plans
 pub mod Registers
 pub mod Script
 pub mod ScriptAddons

@@ -1,17 +1,7 @@
 //! What the machine's definitions come to over all runs in which threads and workers take part, as laws: each function does nothing, and its
 //! contract states a law.
-ghost use Rattle.napi_types.specs.all_runs.HubLaws.{
-  OthersJoin,
-  AddonsAreTheScripts,
-  ScriptsStayAsOthersGoOn,
-  FrontsKeepScripts,
-  OthersKeepTheHub,
-  OthersLowerNothing,
-  FullStaysFull,
-  FullStaysFullAsOthersGoOn,
-  WorkersTakeTurns,
-  RunningStaysRunning,
-};
+ghost use Rattle.napi_types.specs.hub.HistoryLaws.{OthersKeepTheHub, OthersLowerNothing, FullStaysFull, FullStaysFullAsOthersGoOn, WorkersTakeTurns, RunningStaysRunning};
+ghost use Rattle.napi_types.specs.all_runs.HubLaws.{OthersJoin, AddonsAreTheScripts, ScriptsStayAsOthersGoOn, FrontsKeepScripts};
 
 /// The environment sees a front of the history. Where its journal and that front are a run, and other actors went on behind it, the journal
 /// and the whole history are a run, which leaves the environment and the registers as they were.

@@ -11,9 +11,9 @@ use Rattle.napi_types.specs.declared.script.Wrong.{Wrong}
 use Rattle.napi_types.specs.declared.script.Wrong.TheVariants as wrong
 use Rattle.napi_types.specs.plain.Room.{most_entries}
 use Rattle.napi_types.specs.plain.Weave.{weave}
+use Rattle.napi_types.specs.scripts.Plans.{Plan}
 use Rattle.napi_types.specs.scripts.Script.{IsWrong}
 use Rattle.napi_types.specs.scripts.ScriptReading.{IsNoJson}
-use Rattle.napi_types.specs.runs.Plan.{Plan}
 use Rattle.napi_types.specs.runs.Setting.{opening_of, final_of}
 use Rattle.napi_types.specs.all_runs.Alone.{IsAlone}
 use Rattle.napi_types.specs.all_runs.Laws.{HasRoom}

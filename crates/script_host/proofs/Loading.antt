@@ -7,9 +7,9 @@ use Rattle.napi_types.specs.declared.entry.Local.{Local}
 use Rattle.napi_types.specs.declared.lists.AddonPlan.{AddonPlan}
 use Rattle.napi_types.specs.declared.entry.Phase.TheVariants as phase
 use Rattle.napi_types.specs.plain.Room.{most_entries}
+use Rattle.napi_types.specs.scripts.Plans.{Plan, plan_of, Registers, registers_of}
 use Rattle.napi_types.specs.scripts.Registers.{blank_registers}
 use Rattle.napi_types.specs.hub.Hub.{Before, quiet_hub}
-use Rattle.napi_types.specs.runs.Plan.{Plan, plan_of, Registers, registers_of}
 use Rattle.napi_types.specs.runs.Setting.{Setting}
 use Rattle.env_core.specs.Core.{Core, opened_core}
 use Rattle.addon_trait.specs.Addons.{loaded_at}

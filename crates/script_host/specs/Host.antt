@@ -10,12 +10,12 @@ use Rattle.napi_types.specs.declared.script.Wrong.{Wrong}
 use Rattle.napi_types.specs.declared.script.Wrong.TheVariants as wrong
 use Rattle.napi_types.specs.plain.Edge.{HasRisen, TookFront}
 use Rattle.napi_types.specs.plain.Weave.{weave, RisesBetween}
+use Rattle.napi_types.specs.scripts.Plans.{Plan, plan_of, registers_of}
 use Rattle.napi_types.specs.scripts.Script.{IsScript, IsWrong, HasWrongShape}
 use Rattle.napi_types.specs.scripts.ScriptReading.{IsNoJson}
 use Rattle.napi_types.specs.scripts.Text.{text}
 use Rattle.napi_types.specs.runs.Begins.{begun_along, of_addon}
 use Rattle.napi_types.specs.runs.Parting.{IsParted}
-use Rattle.napi_types.specs.runs.Plan.{Plan, plan_of, registers_of}
 use Rattle.napi_types.specs.runs.Setting.{Setting, EndsBy, opening_of, final_registers}
 use Rattle.napi_types.specs.all_runs.CollectionLaw.{KeepsReached}
 use Rattle.napi_types.specs.all_runs.Counts.{Once}

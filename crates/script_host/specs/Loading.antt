@@ -3,7 +3,7 @@ use Rattle.std.specs.Prelude.{ℕ, List, [], ◌∷◌, option_map}
 use Rattle.napi_types.specs.declared.lists.AddonPlan.{AddonPlan}
 use Rattle.napi_types.specs.plain.Built.{is_built}
 use Rattle.napi_types.specs.plain.Room.{most_entries}
-use Rattle.napi_types.specs.runs.Plan.{Plan}
+use Rattle.napi_types.specs.scripts.Plans.{Plan}
 use Rattle.napi_types.specs.runs.Setting.{Setting}
 
 -- what the script's addons tell of their plans: the entries that the script gives them, or nothing where they told nothing before

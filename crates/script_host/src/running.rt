@@ -1,7 +1,7 @@
 //! A run of a script: its addons are given their plans, and the environment runs to its end.
 ghost use Rattle.std.specs.Prelude.{◌≡◌, ℕ, ◌<◌, ◌≤◌, ◌++◌, length, map, drop, IfOk, OnOk, OnErr};
+ghost use Rattle.napi_types.specs.scripts.Plans.{registers_of};
 ghost use Rattle.napi_types.specs.scripts.Registers.{blank_registers};
-ghost use Rattle.napi_types.specs.runs.Plan.{registers_of};
 ghost use Rattle.env_loop.specs.Recording.{AddonStates, IsEnded};
 ghost use Rattle.script_host.specs.Loading.{told_plans, setting_with};
 

@@ -11,8 +11,7 @@ use Rattle.napi_types.specs.declared.ids.ValueId.{ValueId}
 use Rattle.napi_types.specs.plain.Lists.{has_number}
 use Rattle.napi_types.specs.parts.Graph.{Stored, StoreState, IsLive, IsSoundStore, value_of, creation_number, number_in, graph_of}
 use Rattle.napi_types.specs.parts.Reach.{numbers, children_at}
-use Rattle.napi_types.specs.parts.Values.{Value, children}
-use Rattle.napi_types.specs.environment.Collection.{those_of, all_but}
+use Rattle.napi_types.specs.parts.Values.{Value, children, those_of, all_but}
 use Rattle.napi_types.proofs.parts.Reaching.{reach-roots, reach-closed, has_number-filter}
 use Rattle.value_store.specs.Changes.{id_at, numbers_of, EachStandsOnce, CanFree}
 use Rattle.value_store.proofs.LiveValues.{in-range, place-live, live-place, graph-live, live-graph, number-apart, number-value, graph-children, graph-distinct}

@@ -2,11 +2,11 @@
 ghost use Rattle.std.specs.Prelude.{◌≡◌, ◌≢◌, ◌+◌, ◌<◌, ◌≤◌, ◌^◌, ◌&&◌, [], ◌∷◌, ◌++◌, length, take, replicate, Some, None, is_some, IfOk, OnOk, OnErr, IfErr};
 ghost use Rattle.std.specs.List.{list_all};
 ghost use Rattle.napi_types.specs.declared.call.Call.TheVariants as call_of;
+ghost use Rattle.napi_types.specs.plain.Arguments.{argument_handles};
 ghost use Rattle.napi_types.specs.plain.CallFacts.{handle_if};
 ghost use Rattle.napi_types.specs.plain.Replies.{plain as plain_reply};
 ghost use Rattle.napi_types.specs.parts.Bodies.{is_function as is_function_body};
 ghost use Rattle.napi_types.specs.parts.Frames.{most_frames, asks_made, most_asks};
-ghost use Rattle.napi_types.specs.parts.FunctionCalls.{argument_handles};
 ghost use Rattle.napi_types.specs.parts.Heap.{handle_body};
 ghost use Rattle.napi_types.specs.parts.NamedNumbers.{is_known};
 ghost use Rattle.napi_types.specs.parts.Properties.{most_names};

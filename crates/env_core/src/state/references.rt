@@ -5,7 +5,8 @@ ghost use Rattle.napi_types.specs.plain.Lists.{unless};
 ghost use Rattle.napi_types.specs.plain.Replies.{plain};
 ghost use Rattle.napi_types.specs.parts.Bodies.{is_referable as is_referable_body};
 ghost use Rattle.napi_types.specs.parts.Heap.{handle_body};
-ghost use Rattle.napi_types.specs.environment.Refusals.{refusal_in, timely_refusal};
+ghost use Rattle.napi_types.specs.parts.HeapRefusals.{refusal_in};
+ghost use Rattle.napi_types.specs.environment.Refusals.{timely_refusal};
 ghost use Rattle.env_core.specs.State.{AnswersInTime};
 
 use super::State;

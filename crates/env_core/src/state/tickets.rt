@@ -2,13 +2,13 @@
 ghost use Rattle.std.specs.Prelude.{◌≡◌, ◌≢◌, ◌<◌, [], ◌∷◌, length, true, false, Some, None, IfSome, ◌↔◌};
 ghost use Rattle.std.specs.Option.{is_some};
 ghost use Rattle.napi_types.specs.declared.entry.HostStep.TheVariants as host;
+ghost use Rattle.napi_types.specs.plain.Entries.{host_entry as entry_of};
 ghost use Rattle.napi_types.specs.plain.Lists.{tail};
 ghost use Rattle.napi_types.specs.parts.Book.{is_begun, is_at, lowest_due};
 ghost use Rattle.napi_types.specs.parts.Frames.{most_frames, duty_of, frame_of_duty, begin_told, is_hub_duty};
-ghost use Rattle.napi_types.specs.environment.Changes.{host_entry as entry_of};
 ghost use Rattle.napi_types.specs.environment.Ends.{duty_ended, outermost_end_change};
 ghost use Rattle.napi_types.specs.environment.Hooked.{IsHooked};
-ghost use Rattle.napi_types.specs.runs.Loop.{next_ticket};
+ghost use Rattle.napi_types.specs.environment.Tickets.{next_ticket};
 ghost use Rattle.finalizer_queue.specs.Kept.{ticket_number};
 ghost use Rattle.handle_scope.specs.HandleScopes.{with_frame_scopes};
 ghost use Rattle.env_core.specs.Beginning.{BeginsFrame};

@@ -21,27 +21,30 @@ use Rattle.napi_types.specs.declared.entry.What.{What}
 use Rattle.napi_types.specs.declared.entry.What.TheVariants as what
 use Rattle.napi_types.specs.declared.entry.Why.{Why}
 use Rattle.napi_types.specs.declared.ids.HandleId.{HandleId}
+use Rattle.napi_types.specs.plain.Entries.{host_entry, is_environment, cut_of}
 use Rattle.napi_types.specs.plain.Guards.{is_shared}
 use Rattle.napi_types.specs.plain.Lists.{has_number}
-use Rattle.napi_types.specs.plain.Room.{Room, history_room, reserved_history, room_of, is_full, need}
+use Rattle.napi_types.specs.plain.Room.{Room, is_full, need}
 use Rattle.napi_types.specs.parts.Book.{Registration, registration_at, lowest_due}
 use Rattle.napi_types.specs.parts.Frames.{Frame, duty_of, is_hub_duty}
-use Rattle.napi_types.specs.parts.Functions.{is_environment}
 use Rattle.napi_types.specs.parts.Hooks.{last_hook}
-use Rattle.napi_types.specs.environment.Changes.{host_entry, may_ask, may_call}
+use Rattle.napi_types.specs.environment.Changes.{may_ask, may_call}
 use Rattle.napi_types.specs.environment.Ends.{end_change}
 use Rattle.napi_types.specs.environment.Environment.{Environment}
 use Rattle.napi_types.specs.environment.SharedCalls.{shared_entry}
-use Rattle.napi_types.specs.hub.Hub.{Hub, is_past_drain, Stage, Before, Going, Looped, Drained, Final, left_of}
+use Rattle.napi_types.specs.hub.HistoryRoom.{history_room, reserved_history}
+use Rattle.napi_types.specs.hub.Hub.{Hub, is_past_drain, Stage, Before, Going, Looped, Drained, Final, left_of, is_spent}
 use Rattle.napi_types.specs.hub.HubCalls.{is_thread_call}
 use Rattle.napi_types.specs.hub.HubMoves.{HubMove, Delivers, Closes, Finishes, hub_move}
 use Rattle.napi_types.specs.hub.HubSteps.{hub_step, hub_step_of, thread_step, worker_step, delivery_entry}
-use Rattle.napi_types.specs.runs.Choice.{local_choice, local_choice_in, hub_choice_at, hub_choice, choice, is_idle, is_quiet, is_spent}
+use Rattle.napi_types.specs.runs.CallRoom.{room_of}
+use Rattle.napi_types.specs.runs.Choice.{local_choice, local_choice_in, hub_choice_at, hub_choice, choice, is_idle, is_quiet}
 use Rattle.napi_types.specs.runs.Loop.{Event, Inits, Opens, Tickets, Moves, Goes, EndsLoop, Drains, FinalsCome, IsGone}
 use Rattle.napi_types.specs.runs.Machine.{Machine}
 use Rattle.napi_types.specs.runs.Run.{IsRunBy, after, final}
 use Rattle.napi_types.specs.runs.Setting.{Setting, opening_of}
-use Rattle.napi_types.specs.runs.Step.{ticket_step, move_step, event_step, chosen, call_step_on, end_step_on, may_cut, asked_step, cut_of, frame_step, env_step, has_room, other_step, step_of}
+use Rattle.napi_types.specs.runs.Step.{ticket_step, move_step, event_step, chosen, call_step_on, end_step_on, may_cut, asked_step, frame_step, env_step, has_room, other_step, step_of}
+use Rattle.napi_types.proofs.plain.Conditions.{and-left, and-right}
 use Rattle.napi_types.proofs.plain.Maps.{filter_all}
 use Rattle.napi_types.proofs.environment.FrameEnds.{ended-ends}
 use Rattle.napi_types.proofs.hub.HubCases.{HubCase, hub-case}
@@ -49,7 +52,6 @@ use Rattle.napi_types.proofs.hub.HubHolds.{HubSound, hub-sound, spent-holds, ope
 use Rattle.napi_types.proofs.hub.HubKeeps.{other-calls}
 use Rattle.napi_types.proofs.hub.HubRooms.{places_of, hub-room}
 use Rattle.napi_types.proofs.runs.CallRooms.{shared-room, not-full}
-use Rattle.napi_types.proofs.runs.Runs.{and-left, and-right}
 
 -- THE HISTORY
 -- the hub holds what holds of it, and the history is within its limit, where the limits suffice; once `finals` has come it owes nothing

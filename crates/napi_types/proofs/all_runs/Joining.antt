@@ -9,20 +9,23 @@ use Rattle.napi_types.specs.declared.entry.Actor.{Actor}
 use Rattle.napi_types.specs.declared.entry.Actor.TheVariants as actor
 use Rattle.napi_types.specs.declared.entry.Entry.{Entry}
 use Rattle.napi_types.specs.declared.entry.Local.{Local}
-use Rattle.napi_types.specs.plain.Room.{history_room, fits_in}
+use Rattle.napi_types.specs.plain.Entries.{is_environment}
+use Rattle.napi_types.specs.plain.Room.{fits_in}
 use Rattle.napi_types.specs.plain.Weave.{History, weave, sides, RisesBetween}
-use Rattle.napi_types.specs.parts.Functions.{is_environment}
+use Rattle.napi_types.specs.scripts.Plans.{Plan, Registers, loaded_registers}
+use Rattle.napi_types.specs.hub.HistoryRoom.{history_room}
 use Rattle.napi_types.specs.hub.HubSteps.{IsHubNext, hub_step, hub_along}
 use Rattle.napi_types.specs.runs.Machine.{Machine}
 use Rattle.napi_types.specs.runs.Parting.{IsParted, sides_along}
-use Rattle.napi_types.specs.runs.Plan.{Plan, Registers, after_entry, asked, registers_after, loaded_registers}
+use Rattle.napi_types.specs.runs.Plan.{after_entry, asked, registers_after}
 use Rattle.napi_types.specs.runs.Run.{IsNext, IsRunBy, after}
 use Rattle.napi_types.specs.runs.Setting.{Setting, RunsBy, opening_of, final_of, final_registers, planned_asks}
 use Rattle.napi_types.specs.runs.Step.{Step, has_room, other_step, step_of, step}
 use Rattle.napi_types.specs.all_runs.HubLaws.{OthersJoin}
 use Rattle.napi_types.specs.all_runs.Joined.{OthersGoOn, AreJoined, with_others, GoesOnJoined}
+use Rattle.napi_types.proofs.plain.Conditions.{and-both}
 use Rattle.napi_types.proofs.plain.Weaves.{rises-more, weave-shared, sides-shared}
-use Rattle.napi_types.proofs.runs.Runs.{and-both, run-more, final-more, asked-more, registers-more, sides-more}
+use Rattle.napi_types.proofs.runs.Runs.{run-more, final-more, asked-more, registers-more, sides-more}
 
 -- WHAT OTHERS COME TO
 -- the step of another actor is the hub's

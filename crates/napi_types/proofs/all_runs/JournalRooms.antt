@@ -19,38 +19,39 @@ use Rattle.napi_types.specs.declared.entry.Phase.TheVariants as phase
 use Rattle.napi_types.specs.declared.entry.Reply.{Reply}
 use Rattle.napi_types.specs.declared.entry.Why.{Why}
 use Rattle.napi_types.specs.declared.ids.HandleId.{HandleId}
+use Rattle.napi_types.specs.plain.Entries.{is_environment, cut_of}
 use Rattle.napi_types.specs.plain.Guards.{is_shared}
 use Rattle.napi_types.specs.plain.Lists.{tail}
-use Rattle.napi_types.specs.plain.Phases.{stage_of}
-use Rattle.napi_types.specs.plain.Room.{one_if, gone_place, reserved_journal, journal_room, room_of, is_full, need}
-use Rattle.napi_types.specs.parts.Book.{Book, Registration, moved_at, registration_at, lowest_due, owed_tickets}
+use Rattle.napi_types.specs.plain.Room.{one_if, is_full, need}
+use Rattle.napi_types.specs.parts.Book.{Book, Registration, moved_at, registration_at, lowest_due, owed_tickets, begun_in}
 use Rattle.napi_types.specs.parts.Frames.{Frame, frame_of_duty, cause_of, duty_of, is_hub_duty, local_frames}
-use Rattle.napi_types.specs.parts.Functions.{is_environment}
 use Rattle.napi_types.specs.parts.Hooks.{last_hook}
 use Rattle.napi_types.specs.environment.Changes.{may_ask, may_call, is_fresh_result, number_of, book_in}
 use Rattle.napi_types.specs.environment.Ends.{end_change}
 use Rattle.napi_types.specs.environment.Entering.{asked_change}
 use Rattle.napi_types.specs.environment.Environment.{Environment}
+use Rattle.napi_types.specs.environment.JournalRoom.{gone_place, reserved_journal, journal_room}
 use Rattle.napi_types.specs.environment.Moments.{is_tearing}
 use Rattle.napi_types.specs.environment.SharedCalls.{shared_entry, after_shared}
-use Rattle.napi_types.specs.environment.Tickets.{begun_in}
-use Rattle.napi_types.specs.hub.Hub.{Stage, Before, Going, Looped, Drained, Final}
+use Rattle.napi_types.specs.hub.Hub.{stage_of, Stage, Before, Going, Looped, Drained, Final, is_spent}
 use Rattle.napi_types.specs.hub.HubMoves.{HubMove, Delivers, Closes, Finishes, hub_move}
 use Rattle.napi_types.specs.hub.HubSteps.{hub_step}
-use Rattle.napi_types.specs.runs.Choice.{local_choice, local_choice_in, hub_choice_at, idle_choice, is_idle, is_quiet, finals_choice, is_spent}
+use Rattle.napi_types.specs.runs.CallRoom.{room_of}
+use Rattle.napi_types.specs.runs.Choice.{local_choice, local_choice_in, hub_choice_at, idle_choice, is_idle, is_quiet, finals_choice}
 use Rattle.napi_types.specs.runs.Loop.{Inits, Opens, Tickets, Moves, Goes, EndsLoop, FinalsCome, IsGone}
 use Rattle.napi_types.specs.runs.Machine.{Machine}
 use Rattle.napi_types.specs.runs.Run.{IsRunBy, after, final}
 use Rattle.napi_types.specs.runs.Setting.{Setting, final_of, opening_of}
-use Rattle.napi_types.specs.runs.Step.{Step, by_hub, ticket_step, move_step, event_step, chosen, call_step_on, end_step_on, asked_step, cut_of, frame_step, env_step, other_step, step_of, step}
+use Rattle.napi_types.specs.runs.Step.{Step, by_hub, ticket_step, move_step, event_step, chosen, call_step_on, end_step_on, asked_step, frame_step, env_step, other_step, step_of, step}
+use Rattle.napi_types.proofs.plain.Conditions.{and-right}
 use Rattle.napi_types.proofs.parts.Books.{owed-due_where, owed-begun, NoneRegistered, all_due-none, none-owed_tickets}
 use Rattle.napi_types.proofs.environment.Answers.{SameCourse, course_of, course-parts, local-counted}
 use Rattle.napi_types.proofs.environment.FrameChanges.{KeepsButFrame, ended-keeps, owed-left, KeepsButFrames, asked_change-fits}
 use Rattle.napi_types.proofs.environment.FrameEnds.{Ends, ended-ends}
 use Rattle.napi_types.proofs.environment.Registrations.{none-asked, none-ended, none-begun}
+use Rattle.napi_types.proofs.hub.HubDuties.{delivery-of_hub}
 use Rattle.napi_types.proofs.runs.CallRooms.{local-room, not-full}
-use Rattle.napi_types.proofs.runs.Runs.{and-right}
-use Rattle.napi_types.proofs.runs.SharedSteps.{after_shared-alone, shares-still, moves-still, others-still, end-stage, delivery-of_hub}
+use Rattle.napi_types.proofs.runs.SharedSteps.{after_shared-alone, shares-still, moves-still, others-still, end-stage}
 use Rattle.napi_types.proofs.runs.StepCases.{StepCase, calls, ends, opens, inits, begins, vanishes, shares, leaves, passes, moves, others, stage-moved, step-case}
 
 abbrev pub is_init : Phase → Bool

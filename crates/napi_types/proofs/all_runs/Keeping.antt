@@ -20,11 +20,11 @@ use Rattle.napi_types.specs.declared.entry.What.TheVariants as what
 use Rattle.napi_types.specs.declared.entry.Why.{Why}
 use Rattle.napi_types.specs.declared.ids.HandleId.{HandleId}
 use Rattle.napi_types.specs.declared.status.Status.{Status}
+use Rattle.napi_types.specs.plain.Entries.{host_entry, is_environment, cut_of}
 use Rattle.napi_types.specs.plain.Guards.{is_shared}
 use Rattle.napi_types.specs.parts.Book.{Registration, registration_at}
 use Rattle.napi_types.specs.parts.Frames.{Frame, cause_of, duty_of, is_hub_duty}
-use Rattle.napi_types.specs.parts.Functions.{is_environment}
-use Rattle.napi_types.specs.environment.Changes.{host_entry, number_of, may_ask}
+use Rattle.napi_types.specs.environment.Changes.{number_of, may_ask}
 use Rattle.napi_types.specs.environment.Ends.{uncut_call_end, call_end_change, end_change_by, end_change}
 use Rattle.napi_types.specs.environment.Entering.{function_change, asked_change}
 use Rattle.napi_types.specs.environment.Environment.{Environment}
@@ -38,11 +38,11 @@ use Rattle.napi_types.specs.runs.Choice.{choice}
 use Rattle.napi_types.specs.runs.Loop.{Event, Opens, Inits, Tickets, Moves, Goes, EndsLoop, Drains, FinalsCome, IsGone}
 use Rattle.napi_types.specs.runs.Machine.{Machine}
 use Rattle.napi_types.specs.runs.Run.{after, IsNext, IsRunBy}
-use Rattle.napi_types.specs.runs.Step.{Step, by_hub, ticket_step, move_step, event_step, chosen, may_cut, shared_call_step, call_step_on, end_step_on, asked_step, frame_step, env_step, has_room, other_step, step_of, step, cut_of}
+use Rattle.napi_types.specs.runs.Step.{Step, by_hub, ticket_step, move_step, event_step, chosen, may_cut, shared_call_step, call_step_on, end_step_on, asked_step, frame_step, env_step, has_room, other_step, step_of, step}
 use Rattle.napi_types.specs.all_runs.CollectionLaw.{Collects, KeepsReached}
+use Rattle.napi_types.proofs.plain.Conditions.{and-right}
 use Rattle.napi_types.proofs.parts.Reaching.{numbers-kept}
 use Rattle.napi_types.proofs.hub.HubKeeps.{hub_step-what, other-calls}
-use Rattle.napi_types.proofs.runs.Runs.{and-right}
 
 -- an entry of a collection
 abbrev IsCollection : Entry → Type 0

@@ -22,33 +22,34 @@ use Rattle.napi_types.specs.declared.entry.Phase.TheVariants as phase
 use Rattle.napi_types.specs.declared.entry.Why.{Why}
 use Rattle.napi_types.specs.declared.ids.HandleId.{HandleId}
 use Rattle.napi_types.specs.declared.status.Status.{Status}
-use Rattle.napi_types.specs.plain.Room.{one_if, room_of, is_full}
-use Rattle.napi_types.specs.parts.Book.{Book, Registration, TicketState, Registered, is_registered, is_owed, is_at, made_due, made_withdrawn, made_ended, moved, moved_where, moved_at, due_where, registration_at, owed_tickets, ticket_duty, new_ticket, with_registration}
+use Rattle.napi_types.specs.plain.Entries.{host_entry, begun_duty}
+use Rattle.napi_types.specs.plain.Room.{one_if, is_full}
+use Rattle.napi_types.specs.parts.Book.{Book, Registration, TicketState, Registered, is_registered, is_owed, is_at, made_due, made_withdrawn, made_ended, moved, moved_where, moved_at, due_where, registration_at, owed_tickets, ticket_duty, new_ticket, with_registration, begun_in, may_begin_in}
 use Rattle.napi_types.specs.parts.Frames.{caller_of, cause_of, duty_of, is_hub_duty}
-use Rattle.napi_types.specs.environment.Changes.{Change, host_entry, may_call, book_in}
+use Rattle.napi_types.specs.environment.Changes.{Change, may_call, book_in}
 use Rattle.napi_types.specs.environment.Ends.{duty_ended, uncut_call_end, end_change_by, end_change}
 use Rattle.napi_types.specs.environment.Entering.{enter_change, function_change, asked_change}
 use Rattle.napi_types.specs.environment.Environment.{Environment}
 use Rattle.napi_types.specs.environment.Refusals.{refusal}
 use Rattle.napi_types.specs.environment.SharedCalls.{shared_entry}
-use Rattle.napi_types.specs.environment.Tickets.{begun_in, may_begin_in}
 use Rattle.napi_types.specs.hub.Hub.{Hub}
 use Rattle.napi_types.specs.hub.HubMoves.{HubMove, Delivers, Closes, Finishes}
 use Rattle.napi_types.specs.hub.HubSteps.{hub_step, delivery_entry}
+use Rattle.napi_types.specs.runs.CallRoom.{room_of}
 use Rattle.napi_types.specs.runs.Machine.{Machine}
 use Rattle.napi_types.specs.runs.Run.{IsNext, IsRunBy, after, final}
 use Rattle.napi_types.specs.runs.Setting.{final_of, opening_of}
 use Rattle.napi_types.specs.runs.Step.{Step, move_step, has_room, step}
-use Rattle.napi_types.specs.all_runs.Counts.{is_duty, begun_duty, made, dropped, begun, IsOnce}
+use Rattle.napi_types.specs.all_runs.Counts.{is_duty, made, dropped, begun, IsOnce}
 use Rattle.napi_types.specs.all_runs.Laws.{TicketsAreOnce, TicketsAreCounted}
 use Rattle.napi_types.specs.all_runs.Order.{made_ticket, tickets_made}
+use Rattle.napi_types.proofs.plain.Conditions.{and-right}
 use Rattle.napi_types.proofs.parts.BookSteps.{BookStep, stays, adds, drops, collects, swaps}
 use Rattle.napi_types.proofs.parts.Books.{owed-cons, Leaves, withdrawn-leaves, leaves-in, due-keeps, ended-keeps, length-moved}
 use Rattle.napi_types.proofs.parts.Moved.{registration_at-moved_where, registration_at-new, registration_at-old}
 use Rattle.napi_types.proofs.environment.Answers.{call_change-keeps}
 use Rattle.napi_types.proofs.environment.FrameChanges.{book_left, ended-keeps as end_change-keeps, enter_change-keeps, hangings-parts}
 use Rattle.napi_types.proofs.hub.HubDuties.{OfHub, SparesTickets, hub_step-spares}
-use Rattle.napi_types.proofs.runs.Runs.{and-right}
 use Rattle.napi_types.proofs.runs.SharedSteps.{StandsStill, shares-still}
 use Rattle.napi_types.proofs.runs.StepCases.{StepCase, calls, ends, opens, inits, begins, vanishes, shares, leaves, passes, moves, others, event_before, step-case}
 use Rattle.napi_types.proofs.all_runs.Orderly.{Orderly, orderly-step, orderly-opens}

@@ -11,7 +11,7 @@ use Rattle.napi_types.specs.declared.entry.Phase.TheVariants as phase
 use Rattle.napi_types.specs.declared.entry.Why.{Why}
 use Rattle.napi_types.specs.declared.ids.HandleId.{HandleId}
 use Rattle.napi_types.specs.plain.Lists.{has}
-use Rattle.napi_types.specs.plain.Phases.{next_phase, stage_of}
+use Rattle.napi_types.specs.plain.Phases.{next_phase}
 use Rattle.napi_types.specs.parts.Book.{Book, Registration, TicketState, Registered, Due, is_owed, made_withdrawn, made_begun, registration_at}
 use Rattle.napi_types.specs.parts.Hooks.{Hook}
 use Rattle.napi_types.specs.environment.Calls.{answer}
@@ -21,6 +21,7 @@ use Rattle.napi_types.specs.environment.Entering.{asked_change}
 use Rattle.napi_types.specs.environment.Environment.{Environment}
 use Rattle.napi_types.specs.environment.Hooked.{is_late, IsHooked}
 use Rattle.napi_types.specs.environment.Moments.{is_tearing}
+use Rattle.napi_types.specs.hub.Hub.{stage_of}
 use Rattle.napi_types.specs.runs.Machine.{Machine}
 use Rattle.napi_types.specs.runs.Setting.{Setting, opening_of}
 use Rattle.napi_types.specs.runs.Step.{Step}

@@ -25,30 +25,29 @@ use Rattle.napi_types.specs.declared.entry.What.TheVariants as what
 use Rattle.napi_types.specs.declared.entry.Why.{Why}
 use Rattle.napi_types.specs.declared.ids.HandleId.{HandleId}
 use Rattle.napi_types.specs.declared.status.Status.{Status}
+use Rattle.napi_types.specs.plain.Entries.{host_entry, is_environment, is_begin, is_finals}
 use Rattle.napi_types.specs.plain.Lists.{found, has}
 use Rattle.napi_types.specs.plain.Phases.{next_phase}
-use Rattle.napi_types.specs.parts.Book.{Book, Registration, TicketState, Registered, Due, Begun, Ended, Withdrawn, is_registered, is_due, is_owed, is_at, made_begun, moved_at, registration_at}
+use Rattle.napi_types.specs.parts.Book.{Book, Registration, TicketState, Registered, Due, Begun, Ended, Withdrawn, is_registered, is_due, is_owed, is_at, made_begun, moved_at, registration_at, TicketsRise, TicketsFall, begun_in, may_begin_in, cause_at}
 use Rattle.napi_types.specs.parts.Frames.{cause_of, duty_of, is_hub_duty}
-use Rattle.napi_types.specs.parts.Functions.{is_environment}
 use Rattle.napi_types.specs.parts.Hooks.{Hook, last_hook, without_hook}
-use Rattle.napi_types.specs.environment.Changes.{host_entry}
 use Rattle.napi_types.specs.environment.Ends.{end_change}
 use Rattle.napi_types.specs.environment.Entering.{function_change, asked_change}
 use Rattle.napi_types.specs.environment.Environment.{Environment}
-use Rattle.napi_types.specs.environment.Hooked.{cause_at, is_late, StandsIn, IsHooked}
+use Rattle.napi_types.specs.environment.Hooked.{is_late, StandsIn, IsHooked}
 use Rattle.napi_types.specs.environment.Moments.{is_tearing}
 use Rattle.napi_types.specs.environment.Refusals.{refusal}
 use Rattle.napi_types.specs.environment.SharedCalls.{shared_entry}
-use Rattle.napi_types.specs.environment.Tickets.{begun_in, may_begin_in, hooks_left}
+use Rattle.napi_types.specs.environment.Tickets.{hooks_left, ticket_in}
 use Rattle.napi_types.specs.hub.Hub.{Hub}
 use Rattle.napi_types.specs.hub.HubMoves.{HubMove, Delivers, Closes, Finishes, hub_move}
 use Rattle.napi_types.specs.hub.HubSteps.{hub_step, begin_step, delivery_entry}
-use Rattle.napi_types.specs.runs.Loop.{ticket_in}
 use Rattle.napi_types.specs.runs.Machine.{Machine}
 use Rattle.napi_types.specs.runs.Run.{IsNext, IsRunBy, after}
 use Rattle.napi_types.specs.runs.Setting.{Setting, opening_of}
 use Rattle.napi_types.specs.runs.Step.{Step, move_step, has_room, other_step, step}
-use Rattle.napi_types.specs.all_runs.Order.{is_hook_cause, told_ticket, told_hook, is_begin, is_finals, tickets_begun, hooks_begun, finals_begun, TicketsRise, TicketsFall, HooksFall, FinalsRise}
+use Rattle.napi_types.specs.all_runs.Order.{is_hook_cause, told_ticket, told_hook, tickets_begun, hooks_begun, finals_begun, HooksFall, FinalsRise}
+use Rattle.napi_types.proofs.plain.Conditions.{and-right}
 use Rattle.napi_types.proofs.plain.Found.{has-found, found-filter}
 use Rattle.napi_types.proofs.parts.Books.{NoneRegistered, withdrawn-leaves, leaves-in}
 use Rattle.napi_types.proofs.parts.Moved.{at-state, at-cause}
@@ -57,9 +56,9 @@ use Rattle.napi_types.proofs.environment.FrameChanges.{SameHangings, hangings-pa
 use Rattle.napi_types.proofs.environment.FrameEnds.{ended-ends}
 use Rattle.napi_types.proofs.environment.Registrations.{registered-holds}
 use Rattle.napi_types.proofs.environment.TornBooks.{NoneMore, asked-more, left-more, begun-more, left-above}
+use Rattle.napi_types.proofs.hub.HubDuties.{IsOfHub, delivery-of_hub}
 use Rattle.napi_types.proofs.hub.HubKeeps.{hub_step-what}
-use Rattle.napi_types.proofs.runs.Runs.{and-right}
-use Rattle.napi_types.proofs.runs.SharedSteps.{StandsStill, shares-still, moves-still, others-still, IsOfHub, delivery-of_hub, IsNoEvent, others-told, others-none}
+use Rattle.napi_types.proofs.runs.SharedSteps.{StandsStill, shares-still, moves-still, others-still, IsNoEvent, others-told, others-none}
 use Rattle.napi_types.proofs.runs.StepCases.{StepCase, calls, ends, opens, inits, begins, vanishes, shares, leaves, passes, moves, others, event_before, step-case}
 use Rattle.napi_types.proofs.all_runs.Orderly.{IsSpent, Orderly, late-tears, is_drained, orderly-step, orderly-opens}
 

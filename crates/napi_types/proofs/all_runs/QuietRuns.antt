@@ -26,20 +26,21 @@ use Rattle.napi_types.specs.declared.entry.Why.{Why}
 use Rattle.napi_types.specs.declared.ids.HandleId.{HandleId}
 use Rattle.napi_types.specs.declared.status.Status.{Status}
 use Rattle.napi_types.specs.plain.Built.{built_ask, is_built}
+use Rattle.napi_types.specs.plain.Entries.{is_environment, cut_of, begun_duty}
 use Rattle.napi_types.specs.plain.Guards.{is_shared}
 use Rattle.napi_types.specs.plain.Lists.{tail}
-use Rattle.napi_types.specs.parts.Book.{Book, Registration, registration_at, lowest_due}
+use Rattle.napi_types.specs.parts.Book.{Book, Registration, registration_at, lowest_due, may_begin_in}
 use Rattle.napi_types.specs.parts.Frames.{Frame, duty_of, is_hub_duty, ask_counted}
-use Rattle.napi_types.specs.parts.Functions.{is_environment}
 use Rattle.napi_types.specs.parts.Hooks.{last_hook}
 use Rattle.napi_types.specs.parts.Pool.{executed_by}
+use Rattle.napi_types.specs.scripts.Plans.{Plan, Registers, loaded_registers, plan_of, registers_of}
 use Rattle.napi_types.specs.environment.Calls.{answer}
 use Rattle.napi_types.specs.environment.Changes.{Change, call_change, opening_change, init_change, gone_change, number_of, may_ask}
 use Rattle.napi_types.specs.environment.Ends.{end_change}
 use Rattle.napi_types.specs.environment.Entering.{enter_change, function_change, asked_change}
 use Rattle.napi_types.specs.environment.Environment.{Environment}
 use Rattle.napi_types.specs.environment.Refusals.{refusal}
-use Rattle.napi_types.specs.environment.Tickets.{may_begin_in, ticket_change}
+use Rattle.napi_types.specs.environment.Tickets.{ticket_change}
 use Rattle.napi_types.specs.hub.Hub.{Hub, Stage, Before, Going, Looped, Drained, Final, stage_after, quiet_hub}
 use Rattle.napi_types.specs.hub.HubCalls.{is_thread_call, hub_answer}
 use Rattle.napi_types.specs.hub.HubMoves.{hub_move}
@@ -47,19 +48,19 @@ use Rattle.napi_types.specs.hub.HubSteps.{hub_step, hub_step_of, staged, drained
 use Rattle.napi_types.specs.runs.Choice.{local_choice_in, local_choice, hub_choice_at, hub_choice, choice}
 use Rattle.napi_types.specs.runs.Loop.{Event, Opens, Inits, Tickets, Moves, Goes, EndsLoop, Drains, FinalsCome, IsGone}
 use Rattle.napi_types.specs.runs.Machine.{Machine}
-use Rattle.napi_types.specs.runs.Plan.{Plan, Registers, loaded_registers, plan_of, registers_of, frame_ask, asked, frames_ask, registers_after, asked_along}
+use Rattle.napi_types.specs.runs.Plan.{frame_ask, asked, frames_ask, registers_after, asked_along}
 use Rattle.napi_types.specs.runs.Run.{after, IsNext, IsRunBy, final}
 use Rattle.napi_types.specs.runs.Setting.{Setting, opening_of, final_of}
-use Rattle.napi_types.specs.runs.Step.{Step, locally, ticket_step, event_step, chosen, may_cut, call_step_on, end_step_on, frame_step, env_step, has_room, other_step, step_of, step, cut_of}
+use Rattle.napi_types.specs.runs.Step.{Step, locally, ticket_step, event_step, chosen, may_cut, call_step_on, end_step_on, frame_step, env_step, has_room, other_step, step_of, step}
 use Rattle.napi_types.specs.all_runs.Alone.{IsAlone, is_shared_ask, IsQuiet, IsQuietEntry}
-use Rattle.napi_types.specs.all_runs.Counts.{is_duty, begun_duty, made, dropped, begun}
+use Rattle.napi_types.specs.all_runs.Counts.{is_duty, made, dropped, begun}
 use Rattle.napi_types.specs.all_runs.Laws.{RunsAloneAreQuiet, OnlyTicketsAreMade, is_ticket}
+use Rattle.napi_types.proofs.plain.Conditions.{and-left, and-right}
 use Rattle.napi_types.proofs.parts.BookSteps.{BookStep, stays, adds, drops, collects, swaps}
 use Rattle.napi_types.proofs.environment.Answers.{answer-keeps}
 use Rattle.napi_types.proofs.environment.FrameChanges.{ended-keeps, KeepsAndEnters, enter_change-keeps}
 use Rattle.napi_types.proofs.environment.FrameEnds.{Ends, ended-ends}
 use Rattle.napi_types.proofs.hub.HubKeeps.{answered-may}
-use Rattle.napi_types.proofs.runs.Runs.{and-left, and-right}
 use Rattle.napi_types.proofs.all_runs.Onces.{TicketStep, called, began, ended, EntryTickets, nothing, phase-is, end-is, asked-is, made-cons, dropped-cons, begun-cons}
 
 -- THE HUB

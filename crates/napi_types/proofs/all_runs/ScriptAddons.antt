@@ -22,38 +22,39 @@ use Rattle.napi_types.specs.declared.entry.Why.{Why}
 use Rattle.napi_types.specs.declared.ids.HandleId.{HandleId}
 use Rattle.napi_types.specs.declared.status.Status.{Status}
 use Rattle.napi_types.specs.declared.status.Status.TheVariants as status
+use Rattle.napi_types.specs.plain.Entries.{host_entry, is_environment, cut_of}
 use Rattle.napi_types.specs.plain.Guards.{is_shared}
 use Rattle.napi_types.specs.parts.Bodies.{is_function}
 use Rattle.napi_types.specs.parts.Book.{Registration, registration_at, lowest_due}
 use Rattle.napi_types.specs.parts.ExpectedKinds.{expects_if}
 use Rattle.napi_types.specs.parts.Frames.{Frame, frame_of_duty, caller_of, duty_of, is_hub_duty}
-use Rattle.napi_types.specs.parts.Functions.{is_environment}
 use Rattle.napi_types.specs.parts.Heap.{handle_body}
 use Rattle.napi_types.specs.parts.Hooks.{Hook, last_hook}
-use Rattle.napi_types.specs.environment.Changes.{host_entry, number_of, may_ask, with_noted_status}
+use Rattle.napi_types.specs.environment.Changes.{number_of, may_ask, with_noted_status}
 use Rattle.napi_types.specs.environment.Ends.{end_change}
 use Rattle.napi_types.specs.environment.Entering.{asked_change}
 use Rattle.napi_types.specs.environment.Environment.{Environment}
-use Rattle.napi_types.specs.environment.Owners.{IsOwned, IsFunctionOf, IsOwnedHub}
+use Rattle.napi_types.specs.environment.Owners.{IsOwned}
 use Rattle.napi_types.specs.environment.Refusals.{refusal}
 use Rattle.napi_types.specs.environment.SharedCalls.{target_of, target_unless, given_of, shared_entry, with_root}
-use Rattle.napi_types.specs.hub.Hub.{Hub, Stage, Before, Going, Looped, Drained, Final}
+use Rattle.napi_types.specs.hub.Hub.{Hub, Stage, Before, Going, Looped, Drained, Final, is_spent}
 use Rattle.napi_types.specs.hub.HubCalls.{no_target}
 use Rattle.napi_types.specs.hub.HubMoves.{HubMove, Delivers, Closes, Finishes, hub_move}
+use Rattle.napi_types.specs.hub.HubOwners.{IsFunctionOf, IsOwnedHub}
 use Rattle.napi_types.specs.hub.HubSteps.{HubStep, environment_step, thread_step, worker_step, hub_step, hub_step_of, delivery_entry}
-use Rattle.napi_types.specs.runs.Choice.{local_choice_in, idle_choice, finals_choice, is_idle, is_quiet, is_spent, hub_choice_at, choice}
+use Rattle.napi_types.specs.runs.Choice.{local_choice_in, idle_choice, finals_choice, is_idle, is_quiet, hub_choice_at, choice}
 use Rattle.napi_types.specs.runs.Loop.{Event, Opens, Inits, Tickets, Moves, Goes, EndsLoop, Drains, FinalsCome, IsGone}
 use Rattle.napi_types.specs.runs.Machine.{Machine}
 use Rattle.napi_types.specs.runs.Run.{IsRunBy, after, final}
 use Rattle.napi_types.specs.runs.Setting.{opening_of}
-use Rattle.napi_types.specs.runs.Step.{Step, by_hub, ticket_step, move_step, event_step, chosen, may_cut, call_step_on, end_step_on, frame_step, env_step, cut_of, has_room, other_step, step_of}
+use Rattle.napi_types.specs.runs.Step.{Step, by_hub, ticket_step, move_step, event_step, chosen, may_cut, call_step_on, end_step_on, frame_step, env_step, has_room, other_step, step_of}
 use Rattle.napi_types.specs.all_runs.HubLaws.{AreOfScript, AddonsAreTheScripts}
+use Rattle.napi_types.proofs.plain.Conditions.{and-right}
 use Rattle.napi_types.proofs.environment.Answers.{course-parts}
 use Rattle.napi_types.proofs.environment.FrameChanges.{ended-keeps, asked_change-fits}
 use Rattle.napi_types.proofs.environment.FrameEnds.{ended-ends}
 use Rattle.napi_types.proofs.environment.Owners.{Below, body-owned, caller-owned, counted-owned, row-unrefused, none-first, not-unless, owned-asked, owned-ended, owned-init, owned-ticket, owned-phase, owned-opening}
 use Rattle.napi_types.proofs.hub.HubOwners.{MoveOwned, GivesOwned, is_creating_call, given-owned, others-owned, event-owned, thread_event-owned, worker-owned, move-owned}
-use Rattle.napi_types.proofs.runs.Runs.{and-right}
 
 -- WHICH EVENT COMES
 -- what is chosen of the hub is its next move

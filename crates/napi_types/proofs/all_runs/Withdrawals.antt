@@ -20,8 +20,9 @@ use Rattle.napi_types.specs.declared.entry.Why.{Why}
 use Rattle.napi_types.specs.declared.ids.HandleId.{HandleId}
 use Rattle.napi_types.specs.declared.status.Status.{Status}
 use Rattle.napi_types.specs.declared.status.Status.TheVariants as status
+use Rattle.napi_types.specs.plain.Entries.{host_entry}
 use Rattle.napi_types.specs.plain.Replies.{Answer}
-use Rattle.napi_types.specs.plain.Room.{room_of, is_full}
+use Rattle.napi_types.specs.plain.Room.{is_full}
 use Rattle.napi_types.specs.parts.Attachments.{wrap_ticket}
 use Rattle.napi_types.specs.parts.Book.{Registration}
 use Rattle.napi_types.specs.parts.Frames.{caller_of, cause_of}
@@ -30,7 +31,7 @@ use Rattle.napi_types.specs.parts.Hooks.{hook_ticket}
 use Rattle.napi_types.specs.parts.InstanceData.{instance_ticket}
 use Rattle.napi_types.specs.parts.References.{referred_value}
 use Rattle.napi_types.specs.environment.Calls.{effect, answer_unless, answer_unless_deep}
-use Rattle.napi_types.specs.environment.Changes.{host_entry, may_call}
+use Rattle.napi_types.specs.environment.Changes.{may_call}
 use Rattle.napi_types.specs.environment.Ends.{uncut_call_end, end_change_by, end_change}
 use Rattle.napi_types.specs.environment.Entering.{function_change, asked_change}
 use Rattle.napi_types.specs.environment.Environment.{Environment}
@@ -42,14 +43,15 @@ use Rattle.napi_types.specs.environment.WrapCalls.{referring_if}
 use Rattle.napi_types.specs.hub.Hub.{Hub}
 use Rattle.napi_types.specs.hub.HubMoves.{HubMove, Delivers, Closes, Finishes}
 use Rattle.napi_types.specs.hub.HubSteps.{hub_step, delivery_entry}
+use Rattle.napi_types.specs.runs.CallRoom.{room_of}
 use Rattle.napi_types.specs.runs.Machine.{Machine}
 use Rattle.napi_types.specs.runs.Run.{IsNext, IsRunBy, after}
 use Rattle.napi_types.specs.runs.Setting.{opening_of}
 use Rattle.napi_types.specs.runs.Step.{Step, move_step, has_room, step}
 use Rattle.napi_types.specs.all_runs.Counts.{made, dropped, begun, IsOnce, may_withdraw, WithdrawsRightly}
 use Rattle.napi_types.specs.all_runs.Laws.{WithdrawnByTheirCalls, EveryDutyIsOnce, is_ticket}
+use Rattle.napi_types.proofs.plain.Conditions.{and-right}
 use Rattle.napi_types.proofs.hub.HubDuties.{hub_step-spares}
-use Rattle.napi_types.proofs.runs.Runs.{and-right}
 use Rattle.napi_types.proofs.runs.StepCases.{StepCase, calls, ends, opens, inits, begins, vanishes, shares, leaves, passes, moves, others, step-case}
 use Rattle.napi_types.proofs.all_runs.Onces.{tickets-are-once}
 use Rattle.napi_types.proofs.all_runs.Orderly.{Orderly, orderly-step, orderly-opens}

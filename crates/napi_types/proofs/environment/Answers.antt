@@ -16,14 +16,16 @@ use Rattle.napi_types.specs.declared.status.Status.TheVariants as status
 use Rattle.napi_types.specs.plain.Guards.{is_registering}
 use Rattle.napi_types.specs.plain.Lists.{first_changed, when}
 use Rattle.napi_types.specs.plain.Replies.{Answer, accepts, refuses}
-use Rattle.napi_types.specs.plain.Room.{one_if, need, reserved_journal}
+use Rattle.napi_types.specs.plain.Room.{one_if, need}
 use Rattle.napi_types.specs.parts.AttachmentRefusals.{attachment_refusal}
 use Rattle.napi_types.specs.parts.Attachments.{Attachments, wrap_ticket}
 use Rattle.napi_types.specs.parts.Book.{Book, is_registered, is_at, owed_tickets}
 use Rattle.napi_types.specs.parts.ExpectedKinds.{kind_refusal}
 use Rattle.napi_types.specs.parts.Frames.{Frame, caller_of, ask_counted, is_hub_duty, local_frames}
 use Rattle.napi_types.specs.parts.Heap.{Heap, handle_value, handle_properties}
+use Rattle.napi_types.specs.parts.HeapCalls.{heap_effect, addon_effect, heap_answer_unless, heap_answer}
 use Rattle.napi_types.specs.parts.HeapChanges.{new_value, with_handle, with_thrown}
+use Rattle.napi_types.specs.parts.HeapRefusals.{refusal_in}
 use Rattle.napi_types.specs.parts.HookRefusals.{hook_refusal}
 use Rattle.napi_types.specs.parts.Hooks.{hook_ticket}
 use Rattle.napi_types.specs.parts.InstanceData.{instance_ticket, with_instance}
@@ -32,16 +34,17 @@ use Rattle.napi_types.specs.parts.OwnRefusals.{row_refusal}
 use Rattle.napi_types.specs.parts.PropertyCalls.{names_of}
 use Rattle.napi_types.specs.parts.ReferenceRefusals.{reference_refusal}
 use Rattle.napi_types.specs.parts.References.{ReferenceMap, referred_value}
-use Rattle.napi_types.specs.environment.Calls.{heap_effect, addon_effect, heap_answer_unless, heap_answer, effect, answer_unless, answer_unless_deep, with_depth_error, answer}
+use Rattle.napi_types.specs.environment.Calls.{effect, answer_unless, answer_unless_deep, with_depth_error, answer}
 use Rattle.napi_types.specs.environment.Changes.{call_change}
 use Rattle.napi_types.specs.environment.Collection.{collected}
 use Rattle.napi_types.specs.environment.Environment.{Environment, in_heap}
 use Rattle.napi_types.specs.environment.ExternalCalls.{attached_if}
 use Rattle.napi_types.specs.environment.HookCalls.{hooking, unhooked}
 use Rattle.napi_types.specs.environment.InstanceCalls.{setting_instance}
+use Rattle.napi_types.specs.environment.JournalRoom.{reserved_journal}
 use Rattle.napi_types.specs.environment.Moments.{is_tearing, guard_refusal, registering_refusal, moment_refusal}
 use Rattle.napi_types.specs.environment.ReferenceCalls.{value_told, counted_up}
-use Rattle.napi_types.specs.environment.Refusals.{refusal_in, attached_refusal, timely_refusal, early_refusal, depth_refusal}
+use Rattle.napi_types.specs.environment.Refusals.{attached_refusal, timely_refusal, early_refusal, depth_refusal}
 use Rattle.napi_types.specs.environment.Registering.{finalizer_if, ticket_if, registering_if, registered_only, withdrawing}
 use Rattle.napi_types.specs.environment.Roots.{reach}
 use Rattle.napi_types.specs.environment.WrapCalls.{referring_if, wrapping, finalizing}

@@ -8,10 +8,10 @@ use Rattle.napi_types.specs.declared.entry.HostStep.TheVariants as host
 use Rattle.napi_types.specs.declared.entry.What.TheVariants as what
 use Rattle.napi_types.specs.declared.entry.Why.{Why}
 use Rattle.napi_types.specs.declared.ids.HandleId.{HandleId}
+use Rattle.napi_types.specs.plain.Entries.{cut_of}
 use Rattle.napi_types.specs.parts.Frames.{cause_of}
 use Rattle.napi_types.specs.environment.Ends.{end_out, uncut_call_end, end_change_by, end_change}
 use Rattle.napi_types.specs.environment.Environment.{Environment}
-use Rattle.napi_types.specs.runs.Step.{cut_of}
 
 -- who made it, that it is an end, and the cut
 pub record Ends (cut : Option Why) (x : Entry) : Type 0 where

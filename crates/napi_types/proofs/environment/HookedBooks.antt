@@ -12,11 +12,10 @@ use Rattle.napi_types.specs.declared.entry.Duty.{Duty}
 use Rattle.napi_types.specs.declared.entry.Duty.TheVariants as duty
 use Rattle.napi_types.specs.declared.entry.Phase.{Phase}
 use Rattle.napi_types.specs.plain.Lists.{has}
-use Rattle.napi_types.specs.parts.Book.{Book, Registration, TicketState, Registered, Due, Begun, is_registered, is_owed, is_at, made_begun, made_ended, moved_where, moved_at, new_ticket, registration_at, with_registration}
+use Rattle.napi_types.specs.parts.Book.{Book, Registration, TicketState, Registered, Due, Begun, is_registered, is_owed, is_at, made_begun, made_ended, moved_where, moved_at, new_ticket, registration_at, with_registration, TicketsRise, cause_at}
 use Rattle.napi_types.specs.parts.Hooks.{Hook}
 use Rattle.napi_types.specs.environment.Ends.{duty_ended}
-use Rattle.napi_types.specs.environment.Hooked.{cause_at, is_late, StandsIn}
-use Rattle.napi_types.specs.all_runs.Order.{TicketsRise}
+use Rattle.napi_types.specs.environment.Hooked.{is_late, StandsIn}
 use Rattle.napi_types.proofs.plain.Maps.{map-filter}
 use Rattle.napi_types.proofs.parts.Moved.{IsUnder, under, at-state, at-cause, registration-within, registration_at-before, registration_at-new, registration_at-either, cause_at-moved_where, is_at-moved_where}
 use Rattle.napi_types.proofs.environment.FrameChanges.{book_left}

@@ -19,7 +19,7 @@ use Rattle.napi_types.specs.declared.status.Status.{Status}
 use Rattle.napi_types.specs.plain.Phases.{next_phase}
 use Rattle.napi_types.specs.plain.Replies.{accepts}
 use Rattle.napi_types.specs.parts.Attachments.{Attachments, hangs_on, left_on, wrap_payload, wrap_ticket, with_wrap, without_wrap, with_attached}
-use Rattle.napi_types.specs.parts.Book.{Book, Registration, registration_at, is_at, is_registered, is_owed, made_due, made_withdrawn, moved_at, due_where, new_ticket, with_registration}
+use Rattle.napi_types.specs.parts.Book.{Book, Registration, registration_at, is_at, is_registered, is_owed, made_due, made_withdrawn, moved_at, due_where, new_ticket, with_registration, begun_in, may_begin_in, cause_at}
 use Rattle.napi_types.specs.parts.Frames.{caller_of, cause_of, duty_of}
 use Rattle.napi_types.specs.parts.Heap.{handle_value}
 use Rattle.napi_types.specs.parts.Hooks.{Hook, is_hook, hook_ticket, last_hook, without_hook}
@@ -32,13 +32,13 @@ use Rattle.napi_types.specs.environment.Ends.{end_change}
 use Rattle.napi_types.specs.environment.Entering.{enter_change, function_change, asked_change}
 use Rattle.napi_types.specs.environment.Environment.{Environment, new_environment}
 use Rattle.napi_types.specs.environment.HookCalls.{hook_registration, hooking, unhooking}
-use Rattle.napi_types.specs.environment.Hooked.{cause_at, is_late, StandsIn, HasFinalizer, IsHooked}
+use Rattle.napi_types.specs.environment.Hooked.{is_late, StandsIn, HasFinalizer, IsHooked}
 use Rattle.napi_types.specs.environment.InstanceCalls.{setting_instance}
 use Rattle.napi_types.specs.environment.ReferenceCalls.{counted_up, value_told}
 use Rattle.napi_types.specs.environment.Refusals.{early_refusal, depth_refusal, refusal}
 use Rattle.napi_types.specs.environment.Registering.{finalizer_of, finalizer_if, ticket_if, registering_if, registered_only, withdrawing}
 use Rattle.napi_types.specs.environment.Roots.{reach}
-use Rattle.napi_types.specs.environment.Tickets.{begun_in, may_begin_in, hooks_left, ticket_change}
+use Rattle.napi_types.specs.environment.Tickets.{hooks_left, ticket_change}
 use Rattle.napi_types.specs.environment.WrapCalls.{with_attachments, wrapping, finalizing, unwrapping}
 use Rattle.napi_types.proofs.plain.Maps.{filter_all}
 use Rattle.napi_types.proofs.parts.AttachedTickets.{HoldsAttached, HoldsAttached-from, tickets_where-holds, wrap_ticket-holds, HoldsAttached-with_wrap, HoldsAttached-without_wrap, HoldsAttached-with_attached, HoldsAttached-left_on, HoldsAttached-weaker}

@@ -25,7 +25,9 @@ use Rattle.napi_types.specs.parts.ExpectedKinds.{kind_refusal}
 use Rattle.napi_types.specs.parts.Frames.{Frame, frame_of, frame_of_duty, caller_of, ask_counted, asks_made, most_asks}
 use Rattle.napi_types.specs.parts.FunctionCalls.{callee_of}
 use Rattle.napi_types.specs.parts.Heap.{Heap, handle_value, handle_body, handle_properties}
+use Rattle.napi_types.specs.parts.HeapCalls.{addon_effect}
 use Rattle.napi_types.specs.parts.HeapChanges.{with_thrown}
+use Rattle.napi_types.specs.parts.HeapRefusals.{refusal_in}
 use Rattle.napi_types.specs.parts.HookRefusals.{hook_refusal}
 use Rattle.napi_types.specs.parts.Hooks.{hook_ticket}
 use Rattle.napi_types.specs.parts.InstanceData.{instance_ticket}
@@ -36,26 +38,25 @@ use Rattle.napi_types.specs.parts.Properties.{Property}
 use Rattle.napi_types.specs.parts.PropertyCalls.{names_of}
 use Rattle.napi_types.specs.parts.ReferenceRefusals.{reference_refusal}
 use Rattle.napi_types.specs.parts.References.{referred_value}
-use Rattle.napi_types.specs.parts.Values.{Value, fresh_value, starting_values, value_changed, body_of}
+use Rattle.napi_types.specs.parts.Values.{Value, fresh_value, starting_values, value_changed, body_of, those_of}
 use Rattle.napi_types.specs.environment.Asks.{AsksWithin}
-use Rattle.napi_types.specs.environment.Calls.{addon_effect, effect, answer_unless, answer_unless_deep}
+use Rattle.napi_types.specs.environment.Calls.{effect, answer_unless, answer_unless_deep}
 use Rattle.napi_types.specs.environment.Changes.{call_change, init_change, in_phase}
-use Rattle.napi_types.specs.environment.Collection.{those_of}
 use Rattle.napi_types.specs.environment.Ends.{end_change}
 use Rattle.napi_types.specs.environment.Entering.{enter_change, function_change, asked_change}
 use Rattle.napi_types.specs.environment.Environment.{Environment}
 use Rattle.napi_types.specs.environment.Moments.{moment_refusal}
 use Rattle.napi_types.specs.environment.Owners.{BelongsTo, IsOwned}
 use Rattle.napi_types.specs.environment.ReferenceCalls.{value_told, counted_up}
-use Rattle.napi_types.specs.environment.Refusals.{attached_refusal, timely_refusal, refusal_in, early_refusal, depth_refusal, refusal}
+use Rattle.napi_types.specs.environment.Refusals.{attached_refusal, timely_refusal, early_refusal, depth_refusal, refusal}
 use Rattle.napi_types.specs.environment.Registering.{finalizer_if, registering_if, registered_only, withdrawing}
 use Rattle.napi_types.specs.environment.Roots.{reach}
 use Rattle.napi_types.specs.environment.Tickets.{ticket_change}
 use Rattle.napi_types.specs.environment.WrapCalls.{wrapping}
+use Rattle.napi_types.proofs.plain.Conditions.{and-left, and-right}
 use Rattle.napi_types.proofs.environment.Answers.{answer-keeps}
 use Rattle.napi_types.proofs.environment.FrameChanges.{KeepsButFrame, ended-keeps, KeepsAndEnters, enter_change-keeps, hangings-parts}
 use Rattle.napi_types.proofs.environment.Registrations.{KeptByMoves, registered-holds, call-all, ended-all, begun-all, phase-all}
-use Rattle.napi_types.proofs.runs.Runs.{and-left, and-right}
 
 -- VALUES
 abbrev Ours : ℕ → Value → Type 0

@@ -16,7 +16,7 @@ use Rattle.napi_types.specs.declared.entry.Reply.{Reply}
 use Rattle.napi_types.specs.declared.entry.Why.{Why}
 use Rattle.napi_types.specs.declared.ids.HandleId.{HandleId}
 use Rattle.napi_types.specs.declared.status.Status.{Status}
-use Rattle.napi_types.specs.parts.Book.{Book, Registration, TicketState, Registered, Due, Begun, Ended, Withdrawn, is_registered, made_due, made_withdrawn, made_begun, made_ended, moved, moved_at, registration_at}
+use Rattle.napi_types.specs.parts.Book.{Book, Registration, TicketState, Registered, Due, Begun, Ended, Withdrawn, is_registered, made_due, made_withdrawn, made_begun, made_ended, moved, moved_at, registration_at, begun_in}
 use Rattle.napi_types.specs.parts.Frames.{caller_of, cause_of, duty_of}
 use Rattle.napi_types.specs.environment.Calls.{answer}
 use Rattle.napi_types.specs.environment.Changes.{call_change, book_in}
@@ -25,7 +25,6 @@ use Rattle.napi_types.specs.environment.Entering.{enter_change, function_change,
 use Rattle.napi_types.specs.environment.Environment.{Environment}
 use Rattle.napi_types.specs.environment.Moments.{is_tearing}
 use Rattle.napi_types.specs.environment.Refusals.{refusal}
-use Rattle.napi_types.specs.environment.Tickets.{begun_in}
 use Rattle.napi_types.proofs.parts.BookSteps.{BookStep, stays, adds, drops, collects, swaps}
 use Rattle.napi_types.proofs.parts.Books.{All-moved, NoneRegistered}
 use Rattle.napi_types.proofs.environment.Answers.{call_change-keeps, torn-makes-none}

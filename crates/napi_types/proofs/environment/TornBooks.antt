@@ -13,13 +13,12 @@ use Rattle.napi_types.specs.declared.entry.Duty.{Duty}
 use Rattle.napi_types.specs.declared.entry.Duty.TheVariants as duty
 use Rattle.napi_types.specs.declared.ids.HandleId.{HandleId}
 use Rattle.napi_types.specs.declared.status.Status.{Status}
-use Rattle.napi_types.specs.parts.Book.{Book, Registration, TicketState, Registered, Due, Begun, Ended, Withdrawn, is_registered, is_due, is_at, made_due, made_withdrawn, made_begun, made_ended, moved, moved_from, moved_where, moved_at, due_where, registration_at, lowest_due}
+use Rattle.napi_types.specs.parts.Book.{Book, Registration, TicketState, Registered, Due, Begun, Ended, Withdrawn, is_registered, is_due, is_at, made_due, made_withdrawn, made_begun, made_ended, moved, moved_from, moved_where, moved_at, due_where, registration_at, lowest_due, cause_at}
 use Rattle.napi_types.specs.parts.Frames.{caller_of}
 use Rattle.napi_types.specs.environment.Changes.{call_change}
 use Rattle.napi_types.specs.environment.Ends.{duty_ended}
 use Rattle.napi_types.specs.environment.Entering.{enter_change, function_change, asked_change}
 use Rattle.napi_types.specs.environment.Environment.{Environment}
-use Rattle.napi_types.specs.environment.Hooked.{cause_at}
 use Rattle.napi_types.specs.environment.Moments.{is_tearing}
 use Rattle.napi_types.specs.environment.Refusals.{refusal}
 use Rattle.napi_types.proofs.plain.Found.{same-self}

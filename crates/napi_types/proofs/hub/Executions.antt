@@ -11,11 +11,11 @@ use Rattle.napi_types.specs.declared.entry.Out.{Out}
 use Rattle.napi_types.specs.plain.Lists.{has, has_number, with_record, with_number}
 use Rattle.napi_types.specs.parts.Pool.{WorkPool, number_of_work, cancelled_at, started_from, executed_by, finished_at}
 use Rattle.napi_types.specs.parts.Works.{Execution}
+use Rattle.napi_types.specs.hub.HistoryLaws.{LeadsTo}
 use Rattle.napi_types.specs.hub.Hub.{Hub, left_of, new_hub}
 use Rattle.napi_types.specs.hub.HubMoves.{without_duty}
 use Rattle.napi_types.specs.hub.HubSteps.{IsHubNext, hub_step, hub_along}
 use Rattle.napi_types.specs.hub.Replays.{HubReplays}
-use Rattle.napi_types.specs.all_runs.HubLaws.{LeadsTo}
 use Rattle.napi_types.proofs.plain.Found.{IsRising, same-tells, apart-above, rising-filter, rising-with_record}
 use Rattle.napi_types.proofs.plain.Maps.{filter_all}
 use Rattle.napi_types.proofs.hub.HubCases.{HubCase, hub-case, asks, creates_work, deletes_work, cancels_work, queues_work, creates_function, alters, goes, ends_loop, drains, comes_to_finals, delivers, closes, finishes, ends, thread_ends, worker_ends, starts, finishes_work}

@@ -1,11 +1,13 @@
 -- What the entries of the hub make, withdraw and begin: no ticket.
-use Rattle.std.proofs.Common.{◌≡◌, ℕ, Bool, true, ◌&&◌, List, [], ◌∷◌, IsTrue, refl, Option, Some, None, IfSome, option_map}
+use Rattle.std.proofs.Common.{◌≡◌, ℕ, Bool, true, ◌&&◌, List, [], ◌∷◌, IsTrue, refl, Option, Some, None, IfSome, option_map, ◌≢◌, ◌==◌, false, cond, subst}
+use Rattle.std.specs.Option.{option_or, option_and_then}
 use Rattle.napi_types.specs.declared.call.Call.{Call}
 use Rattle.napi_types.specs.declared.call.Call.TheVariants as call
 use Rattle.napi_types.specs.declared.call.Mode.{Mode}
 use Rattle.napi_types.specs.declared.duties.DueInfo.{DueInfo}
 use Rattle.napi_types.specs.declared.entry.Actor.{Actor}
 use Rattle.napi_types.specs.declared.entry.Actor.TheVariants as actor
+use Rattle.napi_types.specs.declared.entry.Cause.TheVariants as cause
 use Rattle.napi_types.specs.declared.entry.Duty.{Duty}
 use Rattle.napi_types.specs.declared.entry.Entry.{Entry}
 use Rattle.napi_types.specs.declared.entry.Given.{Given}
@@ -14,21 +16,75 @@ use Rattle.napi_types.specs.declared.entry.HostStep.TheVariants as host
 use Rattle.napi_types.specs.declared.entry.Out.{Out}
 use Rattle.napi_types.specs.declared.entry.Out.TheVariants as out
 use Rattle.napi_types.specs.declared.entry.Reply.{Reply}
+use Rattle.napi_types.specs.declared.entry.TsfnState.{TsfnState}
+use Rattle.napi_types.specs.declared.entry.TsfnState.TheVariants.{Open, Closing, Finished, Done}
 use Rattle.napi_types.specs.declared.entry.What.{What}
 use Rattle.napi_types.specs.declared.entry.What.TheVariants as what
 use Rattle.napi_types.specs.declared.status.Status.{Status}
 use Rattle.napi_types.specs.declared.status.Status.TheVariants as status
+use Rattle.napi_types.specs.plain.Entries.{begun_duty}
+use Rattle.napi_types.specs.plain.Lists.{head}
 use Rattle.napi_types.specs.plain.Replies.{Answer}
 use Rattle.napi_types.specs.parts.Frames.{is_hub_duty}
 use Rattle.napi_types.specs.parts.Functions.{FunctionState, call_status}
-use Rattle.napi_types.specs.parts.Pool.{work_refusal, executed_by}
-use Rattle.napi_types.specs.parts.Works.{is_created, is_queued, is_deletable}
+use Rattle.napi_types.specs.parts.Pool.{work_refusal, executed_by, WorkPool, completion_info, first_completion, work_numbered}
+use Rattle.napi_types.specs.parts.Works.{is_created, is_queued, is_deletable, Work, Outcome}
 use Rattle.napi_types.specs.hub.Hub.{Hub}
 use Rattle.napi_types.specs.hub.HubCalls.{is_thread_call, hub_answer, unless_refused, on_function, function_at, item_made, call_answer, called_answer, finalizer_duty, new_function_number}
-use Rattle.napi_types.specs.hub.HubMoves.{HubMove, Delivers, Closes, Finishes, hub_move}
+use Rattle.napi_types.specs.hub.HubMoves.{HubMove, Delivers, Closes, Finishes, hub_move, function_move, function_move_in, first_move}
 use Rattle.napi_types.specs.hub.HubSteps.{hub_step, hub_step_of, environment_step, environment_event, loop_end_step, begin_step, close_step, finish_step, frame_end_step, answered_step, given_step, work_number, is_thread_there, nothing_given, answer_unless_given, thread_step, thread_event, worker_step, worker_event, start_step, work_end_step}
-use Rattle.napi_types.specs.all_runs.Counts.{begun_duty}
-use Rattle.napi_types.proofs.runs.SharedSteps.{delivery-of_hub}
+
+-- WHAT A MOVE DELIVERS
+-- a duty of the hub, and never a ticket: neither a call nor a hook begins its frame
+pub record IsOfHub (d : DueInfo) : Type 0 where
+  pub ours : is_hub_duty (Some d.duty) ≡ true
+  pub uncalled : d.cause ≢ cause.Call
+  pub no_hook : d.cause ≢ cause.Hook
+
+abbrev DeliversOfHub : HubMove → Type 0
+DeliversOfHub (Delivers d) = IsOfHub d
+DeliversOfHub _ = Unit {0}
+
+completion-of_hub : (p : WorkPool) → IfSome (first_completion p) IsOfHub
+completion-of_hub p = by (head p.finished)
+  where
+    told : (o : Outcome) (w : Option Work) → IfSome (option_map (λ w. completion_info w o) w) IsOfHub
+    told o None = tt
+    told o (Some w) = record { ours = refl; uncalled = λ z. cc; no_hook = λ z. cc }
+
+    by : (o : Option Outcome) → IfSome (option_and_then (λ (o : Outcome). option_map (λ w. completion_info w o) (work_numbered p o.work)) o) IsOfHub
+    by None = tt
+    by (Some o) = told o (work_numbered p o.work)
+
+function-of_hub : (f : FunctionState) (s : TsfnState) (items : List ℕ) → IfSome (function_move_in f s items) DeliversOfHub
+function-of_hub f Open [] = by (f.count == 0)
+  where
+    by : (b : Bool) → IfSome (cond b (Some (Closes f.id)) None) DeliversOfHub
+    by true = tt
+    by false = tt
+function-of_hub f Open (payload ∷ later) = record { ours = refl; uncalled = λ z. cc; no_hook = λ z. cc }
+function-of_hub f Closing [] = tt
+function-of_hub f Closing (payload ∷ later) = record { ours = refl; uncalled = λ z. cc; no_hook = λ z. cc }
+function-of_hub f Finished items = record { ours = refl; uncalled = λ z. cc; no_hook = λ z. cc }
+function-of_hub f Done items = tt
+
+first-of_hub : (fs : List FunctionState) → IfSome (first_move fs) DeliversOfHub
+first-of_hub [] = tt
+first-of_hub (f ∷ fs) = by (function_move f) (function-of_hub f f.state f.items) (first-of_hub fs)
+  where
+    by : (o : Option HubMove) → IfSome o DeliversOfHub → IfSome (first_move fs) DeliversOfHub → IfSome (option_or o (first_move fs)) DeliversOfHub
+    by None here later = later
+    by (Some move) here later = here
+
+pub move-of_hub : (h : Hub) → IfSome (hub_move h) DeliversOfHub
+move-of_hub h = by (first_completion h.pool) (completion-of_hub h.pool)
+  where
+    by : (o : Option DueInfo) → IfSome o IsOfHub → IfSome (option_or (option_map Delivers o) (first_move h.functions)) DeliversOfHub
+    by None here = first-of_hub h.functions
+    by (Some d) here = here
+
+pub delivery-of_hub : (h : Hub) (d : DueInfo) → hub_move h ≡ Some (Delivers d) → IsOfHub d
+delivery-of_hub h d next = subst (λ o. IfSome o DeliversOfHub) next (move-of_hub h)
 
 -- a duty that is there is the hub's
 abbrev pub OfHub : Option Duty → Type 0

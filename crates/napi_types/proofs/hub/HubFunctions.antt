@@ -16,8 +16,9 @@ use Rattle.napi_types.specs.declared.status.Status.{Status}
 use Rattle.napi_types.specs.declared.status.Status.TheVariants as status
 use Rattle.napi_types.specs.plain.CallFacts.{finalizer_places}
 use Rattle.napi_types.specs.plain.Lists.{found, head, tail, one}
-use Rattle.napi_types.specs.plain.Room.{state_places, function_places, need}
+use Rattle.napi_types.specs.plain.Room.{need}
 use Rattle.napi_types.specs.parts.Functions.{FunctionState, with_item_taken, is_open, is_full_queue, full_status, call_status, called, acquire_status, acquired, release_status, closed_state, closed, released, first_taken, finished, done}
+use Rattle.napi_types.specs.hub.HistoryRoom.{state_places, function_places}
 use Rattle.napi_types.specs.hub.HubMoves.{HubMove, Delivers, Closes, Finishes, function_move_in, function_move, first_move}
 use Rattle.napi_types.proofs.plain.Found.{apart-above, apart-below, same-self}
 use Rattle.napi_types.proofs.hub.HubCases.{Alters, calls, acquires, releases, references, unreferences}

@@ -18,20 +18,20 @@ use Rattle.napi_types.specs.declared.entry.What.TheVariants as what
 use Rattle.napi_types.specs.declared.entry.TsfnState.{TsfnState}
 use Rattle.napi_types.specs.declared.entry.TsfnState.TheVariants.{Open, Closing, Finished, Done}
 use Rattle.napi_types.specs.plain.Lists.{has_number, is_empty, head}
-use Rattle.napi_types.specs.plain.Room.{one_if, stage_places, function_places, reserved_history}
+use Rattle.napi_types.specs.plain.Room.{one_if}
 use Rattle.napi_types.specs.parts.Functions.{FunctionState, is_open, new_function, first_taken, closed, finished, done}
 use Rattle.napi_types.specs.parts.Pool.{work_numbered, completion_info, first_completion}
 use Rattle.napi_types.specs.parts.Works.{Work, Outcome}
-use Rattle.napi_types.specs.hub.Hub.{Hub, Stage, Before, Going, Looped, Drained, Final, new_hub, stage_after, is_past_drain, threads_left, workers_left}
+use Rattle.napi_types.specs.hub.HistoryRoom.{function_places, reserved_history}
+use Rattle.napi_types.specs.hub.Hub.{stage_places, Hub, Stage, Before, Going, Looped, Drained, Final, new_hub, stage_after, is_past_drain, threads_left, workers_left, is_spent}
 use Rattle.napi_types.specs.hub.HubCalls.{new_function_number}
 use Rattle.napi_types.specs.hub.HubMoves.{HubMove, Delivers, Closes, Finishes, function_move_in, function_move, first_move, hub_move, in_function, without_duty, with_delivered}
 use Rattle.napi_types.specs.hub.HubSteps.{is_looped, is_fresh_work, work_number, staged}
-use Rattle.napi_types.specs.runs.Choice.{is_spent}
+use Rattle.napi_types.proofs.plain.Conditions.{and-left, and-right}
 use Rattle.napi_types.proofs.hub.HubCases.{HubCase, asks, creates_work, deletes_work, cancels_work, queues_work, creates_function, alters, goes, ends_loop, drains, comes_to_finals, delivers, closes, finishes, ends, thread_ends, worker_ends, starts, finishes_work}
 use Rattle.napi_types.proofs.hub.HubFunctions.{is_over, IsSound, AreSoundFrom, fewer-sound, more-sound, IsAmong, found-among, Grows, alters-grows, all_closed-sound, DutyFalls, Moves, first-moves}
 use Rattle.napi_types.proofs.hub.HubPools.{PoolSound, created-sound, deleted-sound, cancelled-sound, queued-sound, started-sound, worked-sound, completed-sound, drained-sound, fewer-late, finished-there}
 use Rattle.napi_types.proofs.hub.HubRooms.{WhatMoves, what-moves, move-of_function, completion-completes, late-room}
-use Rattle.napi_types.proofs.runs.Runs.{and-left, and-right}
 
 drained-looped : (s : Stage) → is_looped s ≡ false → is_past_drain s ≡ true → ⊥
 drained-looped Before early late = cc

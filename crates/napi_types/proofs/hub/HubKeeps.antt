@@ -15,16 +15,17 @@ use Rattle.napi_types.specs.declared.entry.Out.TheVariants as out
 use Rattle.napi_types.specs.declared.entry.What.{What}
 use Rattle.napi_types.specs.declared.entry.What.TheVariants as what
 use Rattle.napi_types.specs.declared.status.Status.{Status}
+use Rattle.napi_types.specs.plain.Entries.{is_environment}
 use Rattle.napi_types.specs.plain.Replies.{Answer}
-use Rattle.napi_types.specs.parts.Functions.{FunctionState, is_environment, call_status}
+use Rattle.napi_types.specs.parts.Functions.{FunctionState, call_status}
 use Rattle.napi_types.specs.parts.Pool.{work_refusal, executed_by}
 use Rattle.napi_types.specs.parts.Works.{is_created, is_queued, is_deletable}
+use Rattle.napi_types.specs.hub.HistoryLaws.{KeepsStanding}
 use Rattle.napi_types.specs.hub.Hub.{Hub}
 use Rattle.napi_types.specs.hub.HubCalls.{is_thread_call, hub_answer, unless_refused, on_function, function_at, call_answer, called_answer}
 use Rattle.napi_types.specs.hub.HubMoves.{HubMove, Delivers, Closes, Finishes, hub_move}
 use Rattle.napi_types.specs.hub.HubSteps.{hub_step, hub_step_of, environment_step, environment_event, loop_end_step, begin_step, close_step, finish_step, frame_end_step, answered_step, given_step, work_number, is_thread_there, nothing_given, answer_unless_given, thread_step, thread_event, worker_step, worker_event, start_step, work_end_step}
-use Rattle.napi_types.specs.all_runs.HubLaws.{KeepsStanding}
-use Rattle.napi_types.proofs.runs.Runs.{and-right}
+use Rattle.napi_types.proofs.plain.Conditions.{and-right}
 
 abbrev AnswerKeeps : Hub → Option (Answer Hub) → Type 0
 AnswerKeeps h o = IfSome o (λ a. KeepsStanding h a.after)

@@ -27,19 +27,20 @@ use Rattle.napi_types.specs.declared.entry.What.{What}
 use Rattle.napi_types.specs.declared.entry.What.TheVariants as what
 use Rattle.napi_types.specs.declared.status.Status.{Status}
 use Rattle.napi_types.specs.declared.status.Status.TheVariants as status
+use Rattle.napi_types.specs.plain.Entries.{is_environment}
 use Rattle.napi_types.specs.plain.Lists.{head}
 use Rattle.napi_types.specs.plain.Replies.{Answer}
-use Rattle.napi_types.specs.parts.Functions.{FunctionState, is_environment, first_taken, with_item_taken, closed, finished, done, called, acquired, acquire_status, released, release_status, with_referenced, call_status}
+use Rattle.napi_types.specs.parts.Functions.{FunctionState, first_taken, with_item_taken, closed, finished, done, called, acquired, acquire_status, released, release_status, with_referenced, call_status}
 use Rattle.napi_types.specs.parts.Pool.{WorkPool, work_refusal, with_work, with_queued, cancelled_at, number_of_work, started_from, finished_at, executed_by, work_numbered, first_completion, completion_info}
 use Rattle.napi_types.specs.parts.Works.{Work, Outcome, has_work_number, is_created, is_queued, is_deletable}
-use Rattle.napi_types.specs.environment.Owners.{IsFunctionOf, IsOwnedHub}
 use Rattle.napi_types.specs.hub.Hub.{Hub}
 use Rattle.napi_types.specs.hub.HubCalls.{hub_answer, unless_refused, on_function, function_at, call_answer, called_answer, no_target, is_thread_call}
 use Rattle.napi_types.specs.hub.HubMoves.{HubMove, Delivers, Closes, Finishes, function_move_in, first_move, hub_move, in_function, without_duty}
+use Rattle.napi_types.specs.hub.HubOwners.{IsFunctionOf, IsOwnedHub}
 use Rattle.napi_types.specs.hub.HubSteps.{answered_step, given_step, answer_unless_given, work_number, is_thread_there, nothing_given, thread_call_step, thread_event, thread_step, start_step, work_end_step, worker_step, hub_step_of, hub_step, begin_step, close_step, finish_step, frame_end_step, loop_end_step, environment_event}
+use Rattle.napi_types.proofs.plain.Conditions.{and-right}
 use Rattle.napi_types.proofs.plain.Maps.{All-with_record}
 use Rattle.napi_types.proofs.hub.HubKeeps.{answered-may}
-use Rattle.napi_types.proofs.runs.Runs.{and-right}
 
 -- a work of one of these addons
 abbrev Made : ℕ → Work → Type 0

@@ -20,19 +20,20 @@ use Rattle.napi_types.specs.declared.status.Status.{Status}
 use Rattle.napi_types.specs.declared.status.Status.TheVariants as status
 use Rattle.napi_types.specs.plain.CallFacts.{finalizer_places}
 use Rattle.napi_types.specs.plain.Lists.{found, has, has_number, with_number, with_record, head, tail, one, unless}
-use Rattle.napi_types.specs.plain.Room.{one_if, stage_places, work_places, function_places, reserved_history, need}
+use Rattle.napi_types.specs.plain.Room.{one_if, need}
 use Rattle.napi_types.specs.parts.Functions.{FunctionState, new_function, called, closed, finished}
 use Rattle.napi_types.specs.parts.Pool.{WorkPool, work_at, work_numbered, number_of_work, executed_by, standing_at, work_state, work_refusal, state_refusal, with_work, without_work, with_queued, cancelled_at, with_cancelled, with_started, started_from, with_finished, finished_at, with_completed, first_completion, completion_info, drained}
 use Rattle.napi_types.specs.parts.Works.{Work, WorkState, Created, Queued, Running, Finished, Completed, Execution, Outcome, is_queued, cancelled_outcome}
-use Rattle.napi_types.specs.hub.Hub.{Hub, Stage, Before, Going, Looped, Drained, stage_after, left_of, threads_left, workers_left}
+use Rattle.napi_types.specs.hub.HistoryRoom.{work_places, function_places, reserved_history}
+use Rattle.napi_types.specs.hub.Hub.{stage_places, Hub, Stage, Before, Going, Looped, Drained, stage_after, left_of, threads_left, workers_left}
 use Rattle.napi_types.specs.hub.HubCalls.{new_function_number}
 use Rattle.napi_types.specs.hub.HubMoves.{HubMove, Delivers, Closes, Finishes, first_move, hub_move, in_pool, in_function, without_duty, with_delivered}
 use Rattle.napi_types.specs.hub.HubSteps.{is_looped, work_number, staged, drained_hub}
+use Rattle.napi_types.proofs.plain.Conditions.{and-left}
 use Rattle.napi_types.proofs.plain.Found.{has-found, found-with_record}
 use Rattle.napi_types.proofs.plain.Maps.{length-with_record}
 use Rattle.napi_types.proofs.hub.HubCases.{HubCase, asks, creates_work, deletes_work, cancels_work, queues_work, creates_function, alters, goes, ends_loop, drains, comes_to_finals, delivers, closes, finishes, ends, thread_ends, worker_ends, starts, finishes_work, calls, acquires, releases, references, unreferences}
 use Rattle.napi_types.proofs.hub.HubFunctions.{called-open, AreSoundFrom, IsAmong, found-among, alters-grows, all_closed-le, DutyFalls, Moves, first-moves}
-use Rattle.napi_types.proofs.runs.Runs.{and-left}
 
 -- ONE LESS
 -- without the records of a number that one of them has, the list is shorter

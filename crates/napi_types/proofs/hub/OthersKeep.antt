@@ -1,5 +1,5 @@
 -- What the entries of threads and workers keep of the hub.
-use Rattle.napi_types.specs.all_runs.HubLaws.{OthersKeepTheHub}
+use Rattle.napi_types.specs.hub.HistoryLaws.{OthersKeepTheHub}
 use Rattle.napi_types.proofs.hub.HubKeeps.{other-keeps}
 use Rattle.napi_types.proofs.hub.HubOwners.{others-owned}
 

@@ -18,17 +18,19 @@ use Rattle.napi_types.specs.declared.entry.What.{What}
 use Rattle.napi_types.specs.declared.entry.What.TheVariants as what
 use Rattle.napi_types.specs.declared.status.Status.{Status}
 use Rattle.napi_types.specs.declared.status.Status.TheVariants as status
+use Rattle.napi_types.specs.plain.Entries.{is_environment}
 use Rattle.napi_types.specs.plain.Lists.{found, has, with_number, with_record, one}
-use Rattle.napi_types.specs.plain.Room.{history_room, is_full, need, state_places, stage_places, work_places, function_places, reserved_history, one_if}
-use Rattle.napi_types.specs.parts.Functions.{FunctionState, is_environment, called, acquire_status, acquired, release_status, closed_state, released}
+use Rattle.napi_types.specs.plain.Room.{is_full, need, one_if}
+use Rattle.napi_types.specs.parts.Functions.{FunctionState, called, acquire_status, acquired, release_status, closed_state, released}
 use Rattle.napi_types.specs.parts.Pool.{WorkPool, executed_by, with_started, started_from, with_finished, finished_at}
 use Rattle.napi_types.specs.parts.Works.{Execution}
-use Rattle.napi_types.specs.hub.Hub.{Hub, left_of, threads_left, workers_left, is_past_drain}
+use Rattle.napi_types.specs.hub.HistoryLaws.{OthersLowerNothing, FullStaysFull, FullStaysFullAsOthersGoOn}
+use Rattle.napi_types.specs.hub.HistoryRoom.{history_room, state_places, work_places, function_places, reserved_history}
+use Rattle.napi_types.specs.hub.Hub.{stage_places, Hub, left_of, threads_left, workers_left, is_past_drain}
 use Rattle.napi_types.specs.hub.HubCalls.{is_thread_call}
 use Rattle.napi_types.specs.hub.HubMoves.{in_function}
 use Rattle.napi_types.specs.hub.HubSteps.{IsHubNext, hub_step, hub_step_of, hub_along, thread_step, thread_event, worker_step, worker_event}
 use Rattle.napi_types.specs.hub.Replays.{HubReplays}
-use Rattle.napi_types.specs.all_runs.HubLaws.{OthersLowerNothing, FullStaysFull, FullStaysFullAsOthersGoOn}
 use Rattle.napi_types.proofs.plain.Found.{has-found}
 use Rattle.napi_types.proofs.hub.Executions.{loses-one, wins-one, left-one, HoldsOfHub, step-holds, led-holds}
 use Rattle.napi_types.proofs.hub.HubCases.{HubCase, hub-case, asks, creates_work, deletes_work, cancels_work, queues_work, creates_function, alters, goes, ends_loop, drains, comes_to_finals, delivers, closes, finishes, ends, thread_ends, worker_ends, starts, finishes_work, Alters, calls, acquires, releases, references, unreferences}

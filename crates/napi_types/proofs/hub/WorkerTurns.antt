@@ -15,15 +15,15 @@ use Rattle.napi_types.specs.plain.Lists.{found, has_number, with_number}
 use Rattle.napi_types.specs.parts.Pool.{WorkPool, executed_by, number_of_work, cancelled_at, with_execution, started_from, finished_at}
 use Rattle.napi_types.specs.parts.Works.{Execution}
 use Rattle.napi_types.specs.hub.Actors.{is_worker, WorkerState, Free, Working, Over, worker_after, does_next, worker_along}
+use Rattle.napi_types.specs.hub.HistoryLaws.{WorkersTakeTurns}
 use Rattle.napi_types.specs.hub.Hub.{Hub, new_hub, left_of, workers_left}
 use Rattle.napi_types.specs.hub.HubMoves.{without_duty}
 use Rattle.napi_types.specs.hub.HubSteps.{hub_step, hub_step_of, environment_step, is_worker_there, thread_step, worker_step, start_step, work_end_step}
 use Rattle.napi_types.specs.hub.Replays.{HubReplays}
-use Rattle.napi_types.specs.all_runs.HubLaws.{WorkersTakeTurns}
+use Rattle.napi_types.proofs.plain.Conditions.{and-left, and-right}
 use Rattle.napi_types.proofs.plain.Found.{same-tells, same-self, found-filter, found-with_record}
 use Rattle.napi_types.proofs.hub.HubCases.{HubCase, asks, creates_work, deletes_work, cancels_work, queues_work, creates_function, alters, goes, ends_loop, drains, comes_to_finals, delivers, closes, finishes, ends, thread_ends, worker_ends, starts, finishes_work, hub-case}
 use Rattle.napi_types.proofs.hub.HubRooms.{left-without}
-use Rattle.napi_types.proofs.runs.Runs.{and-left, and-right}
 
 -- WHAT WORKERS EXECUTE
 turned : (a b : ℕ) → (a == b) ≡ (b == a)

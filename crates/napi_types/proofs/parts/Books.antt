@@ -9,8 +9,7 @@ use Rattle.napi_types.specs.declared.entry.Phase.{Phase}
 use Rattle.napi_types.specs.declared.entry.Phase.TheVariants as phase
 use Rattle.napi_types.specs.plain.Lists.{has_number, up_to}
 use Rattle.napi_types.specs.plain.Room.{one_if}
-use Rattle.napi_types.specs.parts.Book.{Book, Registration, TicketState, Registered, Due, Begun, Ended, Withdrawn, is_registered, is_due, is_owed, is_at, made_due, made_withdrawn, made_begun, made_due_and_begun, made_ended, moved, moved_from, moved_where, moved_at, due_where, all_due, registration_at, lowest_due, owed_tickets, with_registration}
-use Rattle.napi_types.specs.environment.Tickets.{begun_in, may_begin_in}
+use Rattle.napi_types.specs.parts.Book.{Book, Registration, TicketState, Registered, Due, Begun, Ended, Withdrawn, is_registered, is_due, is_owed, is_at, made_due, made_withdrawn, made_begun, made_due_and_begun, made_ended, moved, moved_from, moved_where, moved_at, due_where, all_due, registration_at, lowest_due, owed_tickets, with_registration, begun_in, may_begin_in}
 use Rattle.napi_types.proofs.plain.Issued.{has-up_to}
 
 -- ONE MORE

@@ -4,8 +4,7 @@ use Rattle.std.specs.Option.{unwrap_or}
 use Rattle.std.proofs.lemmas.Bool.{eqb-true}
 use Rattle.std.proofs.lemmas.Option.{same_Some, slice_get_within}
 use Rattle.napi_types.specs.declared.entry.Cause.{Cause}
-use Rattle.napi_types.specs.parts.Book.{Book, Registration, TicketState, is_at, moved, moved_from, moved_where, registration_at, new_ticket, with_registration}
-use Rattle.napi_types.specs.environment.Hooked.{cause_at}
+use Rattle.napi_types.specs.parts.Book.{Book, Registration, TicketState, is_at, moved, moved_from, moved_where, registration_at, new_ticket, with_registration, cause_at}
 use Rattle.napi_types.proofs.plain.Found.{apart-below}
 
 -- A TICKET THAT WAS GIVEN

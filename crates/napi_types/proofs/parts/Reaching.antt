@@ -8,8 +8,7 @@ use Rattle.std.proofs.lemmas.List.{length-map}
 use Rattle.std.proofs.lemmas.Map.Views.{any-filter_same}
 use Rattle.napi_types.specs.plain.Lists.{has_number, HaveSameNumbers}
 use Rattle.napi_types.specs.parts.Reach.{numbers, among, children_at, spread, spread_for, reach_from}
-use Rattle.napi_types.specs.parts.Values.{Value}
-use Rattle.napi_types.specs.environment.Collection.{those_of}
+use Rattle.napi_types.specs.parts.Values.{Value, those_of}
 
 -- LISTS
 -- a number is among those that pass a test where it is one of them and passes

@@ -4,7 +4,9 @@ use Rattle.napi_types.specs.declared.call.Call.{Call}
 use Rattle.napi_types.specs.declared.call.Call.TheVariants as call
 use Rattle.napi_types.specs.plain.Built.{is_built}
 use Rattle.napi_types.specs.plain.Guards.{is_shared}
-use Rattle.napi_types.specs.plain.Room.{journal_room, history_room, room_of}
+use Rattle.napi_types.specs.environment.JournalRoom.{journal_room}
+use Rattle.napi_types.specs.hub.HistoryRoom.{history_room}
+use Rattle.napi_types.specs.runs.CallRoom.{room_of}
 use Rattle.napi_types.specs.runs.Machine.{Machine}
 
 -- no shared call is built, ..

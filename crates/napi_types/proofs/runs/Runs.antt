@@ -1,5 +1,5 @@
 -- Laws of runs: they grow at their end.
-use Rattle.std.proofs.Common.{◌≡◌, ◌∙◌, ◌==◌, ℕ, Bool, true, false, ◌&&◌, List, [], ◌∷◌, ◌++◌, IsTrue, refl, sym, ap, append_assoc}
+use Rattle.std.proofs.Common.{◌≡◌, ◌∙◌, ◌==◌, ℕ, Bool, List, [], ◌∷◌, ◌++◌, refl, sym, ap, append_assoc}
 use Rattle.std.proofs.lemmas.List.{append-nil}
 use Rattle.std.proofs.lemmas.List.Elements.{filter-append}
 use Rattle.std.specs.Option.{option_to_list}
@@ -7,24 +7,13 @@ use Rattle.napi_types.specs.declared.duties.DueInfo.{DueInfo}
 use Rattle.napi_types.specs.declared.entry.Entry.{Entry}
 use Rattle.napi_types.specs.declared.call.Ask.{Ask}
 use Rattle.napi_types.specs.declared.call.Call.{Call}
+use Rattle.napi_types.specs.scripts.Plans.{Plan, Registers}
 use Rattle.napi_types.specs.runs.Begins.{begun_info, begun_along, of_addon}
 use Rattle.napi_types.specs.runs.Machine.{Machine}
 use Rattle.napi_types.specs.runs.Parting.{sides_along}
-use Rattle.napi_types.specs.runs.Plan.{Plan, Registers, asked, asked_along, registers_along, registers_after}
+use Rattle.napi_types.specs.runs.Plan.{asked, asked_along, registers_along, registers_after}
 use Rattle.napi_types.specs.runs.Run.{after, IsNext, IsRunBy, final}
 use Rattle.napi_types.specs.runs.Step.{step}
-
-pub and-left : (a b : Bool) → IsTrue (a && b) → IsTrue a
-and-left true b h = refl
-and-left false b h = h
-
-pub and-right : (a b : Bool) → IsTrue (a && b) → IsTrue b
-and-right true b h = h
-and-right false b h = cc
-
-pub and-both : (a b : Bool) → IsTrue a → IsTrue b → IsTrue (a && b)
-and-both true b h k = k
-and-both false b h k = h
 
 -- a run has one entry more at its end
 pub run-more : (m : Machine) (bs : List Ask) (xs : List Entry) (a : Ask) (x : Entry)

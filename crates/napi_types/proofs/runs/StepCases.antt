@@ -17,24 +17,24 @@ use Rattle.napi_types.specs.declared.entry.Phase.{Phase}
 use Rattle.napi_types.specs.declared.entry.Phase.TheVariants as phase
 use Rattle.napi_types.specs.declared.entry.Why.{Why}
 use Rattle.napi_types.specs.declared.ids.HandleId.{HandleId}
+use Rattle.napi_types.specs.plain.Entries.{host_entry, is_environment, cut_of}
 use Rattle.napi_types.specs.plain.Guards.{is_shared}
-use Rattle.napi_types.specs.plain.Phases.{next_phase, stage_of}
-use Rattle.napi_types.specs.parts.Book.{Registration, registration_at, lowest_due}
+use Rattle.napi_types.specs.plain.Phases.{next_phase}
+use Rattle.napi_types.specs.parts.Book.{Registration, registration_at, lowest_due, may_begin_in}
 use Rattle.napi_types.specs.parts.Frames.{Frame, duty_of, is_hub_duty}
-use Rattle.napi_types.specs.parts.Functions.{is_environment}
 use Rattle.napi_types.specs.parts.Hooks.{Hook, last_hook}
-use Rattle.napi_types.specs.environment.Changes.{host_entry, opening_change, init_change, gone_change, number_of}
+use Rattle.napi_types.specs.environment.Changes.{opening_change, init_change, gone_change, number_of}
 use Rattle.napi_types.specs.environment.Ends.{end_change}
 use Rattle.napi_types.specs.environment.Entering.{asked_change}
 use Rattle.napi_types.specs.environment.SharedCalls.{shared_entry}
-use Rattle.napi_types.specs.environment.Tickets.{may_begin_in, ticket_change}
-use Rattle.napi_types.specs.hub.Hub.{Stage, Before, Going, Looped, Drained, Final, stage_after}
+use Rattle.napi_types.specs.environment.Tickets.{ticket_change, ticket_in, next_ticket}
+use Rattle.napi_types.specs.hub.Hub.{stage_of, Stage, Before, Going, Looped, Drained, Final, stage_after, is_spent}
 use Rattle.napi_types.specs.hub.HubMoves.{HubMove, hub_move}
 use Rattle.napi_types.specs.hub.HubSteps.{hub_step, is_moving}
-use Rattle.napi_types.specs.runs.Choice.{local_choice, local_choice_in, idle_choice, is_idle, is_quiet, is_spent, finals_choice, hub_choice_at}
-use Rattle.napi_types.specs.runs.Loop.{Inits, Opens, Tickets, Moves, Goes, EndsLoop, FinalsCome, IsGone, ticket_in, next_ticket}
+use Rattle.napi_types.specs.runs.Choice.{local_choice, local_choice_in, idle_choice, is_idle, is_quiet, finals_choice, hub_choice_at}
+use Rattle.napi_types.specs.runs.Loop.{Inits, Opens, Tickets, Moves, Goes, EndsLoop, FinalsCome, IsGone}
 use Rattle.napi_types.specs.runs.Machine.{Machine}
-use Rattle.napi_types.specs.runs.Step.{Step, locally, shared, by_hub, ticket_step, move_step, event_step, chosen, answered_by, call_step_on, end_step_on, asked_step, cut_of, frame_step, env_step, other_step, step_of, step}
+use Rattle.napi_types.specs.runs.Step.{Step, locally, shared, by_hub, ticket_step, move_step, event_step, chosen, answered_by, call_step_on, end_step_on, asked_step, frame_step, env_step, other_step, step_of, step}
 
 -- the hub's event that starts the phase
 abbrev pub event_before : Phase → HostStep

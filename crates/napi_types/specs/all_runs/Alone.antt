@@ -10,13 +10,13 @@ use Rattle.napi_types.specs.declared.entry.HostStep.TheVariants as host
 use Rattle.napi_types.specs.declared.entry.LoopEnd.TheVariants as loop_end
 use Rattle.napi_types.specs.declared.entry.Out.TheVariants as out
 use Rattle.napi_types.specs.declared.entry.What.TheVariants as what
+use Rattle.napi_types.specs.plain.Entries.{begun_duty}
 use Rattle.napi_types.specs.plain.Guards.{is_shared}
 use Rattle.napi_types.specs.parts.Frames.{is_hub_duty}
 use Rattle.napi_types.specs.hub.Hub.{quiet_hub}
 use Rattle.napi_types.specs.hub.HubMoves.{hub_move}
 use Rattle.napi_types.specs.runs.Machine.{Machine}
 use Rattle.napi_types.specs.runs.Setting.{Setting, final_of}
-use Rattle.napi_types.specs.all_runs.Counts.{begun_duty}
 
 -- SETTINGS
 -- there are no threads and no workers, and no call that is built is shared

@@ -11,7 +11,8 @@ use Rattle.napi_types.specs.parts.Attachments.{left_on, hangs_on}
 use Rattle.napi_types.specs.parts.Book.{due_where}
 use Rattle.napi_types.specs.parts.Reach.{numbers}
 use Rattle.napi_types.specs.parts.References.{emptied}
-use Rattle.napi_types.specs.environment.Collection.{those_of, all_but, is_freed}
+use Rattle.napi_types.specs.parts.Values.{those_of, all_but}
+use Rattle.napi_types.specs.environment.Collection.{is_freed}
 use Rattle.napi_types.specs.environment.Environment.{Environment}
 use Rattle.napi_types.specs.environment.Roots.{reach}
 use Rattle.napi_types.specs.runs.Machine.{Machine}

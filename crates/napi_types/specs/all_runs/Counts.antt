@@ -5,12 +5,10 @@ use Rattle.napi_types.specs.declared.call.Call.TheVariants as call
 use Rattle.napi_types.specs.declared.entry.Duty.{Duty}
 use Rattle.napi_types.specs.declared.entry.Duty.TheVariants as duty
 use Rattle.napi_types.specs.declared.entry.Entry.{Entry}
-use Rattle.napi_types.specs.declared.entry.HostStep.TheVariants as host
-use Rattle.napi_types.specs.declared.entry.Out.{Out}
-use Rattle.napi_types.specs.declared.entry.Out.TheVariants as out
 use Rattle.napi_types.specs.declared.entry.What.{What}
 use Rattle.napi_types.specs.declared.entry.What.TheVariants as what
 use Rattle.napi_types.specs.declared.status.Status.TheVariants as status
+use Rattle.napi_types.specs.plain.Entries.{begun_duty}
 
 -- DUTIES
 -- whether both are the same ticket, work, item or function
@@ -25,15 +23,6 @@ is_same_duty _ _ = false
 abbrev pub is_duty : Duty → Option Duty → Bool
 is_duty d None = false
 is_duty d (Some e) = is_same_duty d e
-
--- the duty whose frame begins with this result, where it is a begin's
-abbrev pub told_duty : Out → Option Duty
-told_duty (out.Begin cause addon entry d) = d
-told_duty _ = None
-
-abbrev pub begun_duty : What → Out → Option Duty
-begun_duty (what.Host host.Begin) o = told_duty o
-begun_duty _ o = None
 
 -- COUNTS
 -- how often a call makes the duty, how often one withdraws it, and how often its frame begins

@@ -5,8 +5,8 @@ use Rattle.napi_types.specs.declared.call.Ask.{Ask}
 use Rattle.napi_types.specs.declared.call.Ask.TheVariants as ask
 use Rattle.napi_types.specs.declared.entry.Entry.{Entry}
 use Rattle.napi_types.specs.declared.entry.Local.{Local}
+use Rattle.napi_types.specs.plain.Entries.{is_environment}
 use Rattle.napi_types.specs.plain.Weave.{weave, RisesBetween}
-use Rattle.napi_types.specs.parts.Functions.{is_environment}
 use Rattle.napi_types.specs.hub.HubSteps.{hub_along}
 use Rattle.napi_types.specs.hub.Replays.{HubReplays}
 use Rattle.napi_types.specs.runs.Machine.{Machine}

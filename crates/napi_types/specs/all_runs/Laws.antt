@@ -7,7 +7,8 @@ use Rattle.napi_types.specs.declared.entry.Phase.TheVariants as phase
 use Rattle.napi_types.specs.declared.entry.Duty.{Duty}
 use Rattle.napi_types.specs.declared.entry.Duty.TheVariants as duty
 use Rattle.napi_types.specs.declared.ids.Ticket.{Ticket}
-use Rattle.napi_types.specs.plain.Room.{reserved_journal, reserved_history}
+use Rattle.napi_types.specs.environment.JournalRoom.{reserved_journal}
+use Rattle.napi_types.specs.hub.HistoryRoom.{reserved_history}
 use Rattle.napi_types.specs.runs.Machine.{Machine}
 use Rattle.napi_types.specs.runs.Run.{IsRunBy}
 use Rattle.napi_types.specs.runs.Setting.{Setting, RunsBy, EndsBy, final_of}

@@ -1,17 +1,15 @@
 -- The order in which tickets are given and begin.
-use Rattle.std.specs.Prelude.{◌<◌, ℕ, Bool, true, false, cond, List, [], ◌∷◌, ◌++◌, flat_map, length, Option, Some, ◌≡◌}
-use Rattle.std.specs.List.{All}
+use Rattle.std.specs.Prelude.{ℕ, Bool, true, false, cond, List, [], ◌∷◌, ◌++◌, flat_map, length, Option, Some, ◌≡◌}
 use Rattle.napi_types.specs.declared.entry.Cause.{Cause}
 use Rattle.napi_types.specs.declared.entry.Cause.TheVariants as cause
 use Rattle.napi_types.specs.declared.entry.Duty.{Duty}
 use Rattle.napi_types.specs.declared.entry.Duty.TheVariants as duty
 use Rattle.napi_types.specs.declared.entry.Entry.{Entry}
-use Rattle.napi_types.specs.declared.entry.HostStep.TheVariants as host
 use Rattle.napi_types.specs.declared.entry.Out.{Out}
 use Rattle.napi_types.specs.declared.entry.Out.TheVariants as out
-use Rattle.napi_types.specs.declared.entry.What.{What}
-use Rattle.napi_types.specs.declared.entry.What.TheVariants as what
+use Rattle.napi_types.specs.plain.Entries.{is_begin, is_finals}
 use Rattle.napi_types.specs.plain.Lists.{up_to}
+use Rattle.napi_types.specs.parts.Book.{TicketsRise, TicketsFall}
 
 -- whether a frame begins for this cause as a hook's
 abbrev pub is_hook_cause : Cause → Bool
@@ -27,15 +25,6 @@ told_ticket _ = []
 abbrev pub told_hook : Out → List ℕ
 told_hook (out.Begin c addon entry (Some (duty.Ticket t))) = cond (is_hook_cause c) (t.0 ∷ []) []
 told_hook _ = []
-
--- whether the entry is a frame's begin, and whether it is `finals`
-abbrev pub is_begin : What → Bool
-is_begin (what.Host host.Begin) = true
-is_begin _ = false
-
-abbrev pub is_finals : What → Bool
-is_finals (what.Host host.Finals) = true
-is_finals _ = false
 
 -- the tickets whose frames begin along the entries, in their order; those of hooks; and those that begin after `finals`
 abbrev pub tickets_begun : List Entry → List ℕ
@@ -60,15 +49,6 @@ tickets_made (x ∷ xs) = made_ticket x.reply.made ++ tickets_made xs
 -- tickets count from 1, in the order of registration
 abbrev pub TicketsCount : List Entry → Type 0
 TicketsCount xs = tickets_made xs ≡ up_to (length (tickets_made xs))
-
--- each ticket is below all that follow it, or above them
-abbrev pub TicketsRise : List ℕ → Type 0
-TicketsRise [] = Unit {0}
-TicketsRise (n ∷ ns) = All (λ m. n < m) ns × TicketsRise ns
-
-abbrev pub TicketsFall : List ℕ → Type 0
-TicketsFall [] = Unit {0}
-TicketsFall (n ∷ ns) = All (λ m. m < n) ns × TicketsFall ns
 
 -- hooks begin in the reverse of the order in which they were added
 abbrev pub HooksFall : List Entry → Type 0

@@ -3,21 +3,19 @@ use Rattle.std.specs.Prelude.{ℕ, ◌+◌, Bool, true, not, ◌&&◌, nat_lt, �
 use Rattle.napi_types.specs.declared.call.Call.{Call}
 use Rattle.napi_types.specs.declared.call.Call.TheVariants as call
 use Rattle.napi_types.specs.declared.status.Status.{Status}
-use Rattle.napi_types.specs.declared.status.Status.TheVariants as status
 use Rattle.napi_types.specs.declared.entry.Cause.TheVariants as cause
 use Rattle.napi_types.specs.declared.entry.Out.{Out}
 use Rattle.napi_types.specs.declared.entry.Out.TheVariants as out
 use Rattle.napi_types.specs.declared.entry.Reply.{Reply}
 use Rattle.napi_types.specs.declared.entry.Entry.{Entry}
 use Rattle.napi_types.specs.declared.entry.What.TheVariants as what
-use Rattle.napi_types.specs.declared.entry.HostStep.{HostStep}
 use Rattle.napi_types.specs.declared.entry.HostStep.TheVariants as host
 use Rattle.napi_types.specs.declared.entry.Actor.TheVariants as actor
 use Rattle.napi_types.specs.declared.entry.Phase.{Phase}
 use Rattle.napi_types.specs.declared.entry.Phase.TheVariants as phase
+use Rattle.napi_types.specs.plain.Entries.{host_entry}
 use Rattle.napi_types.specs.plain.Lists.{has_number}
 use Rattle.napi_types.specs.plain.Numbers.{napi_version}
-use Rattle.napi_types.specs.plain.Replies.{plain}
 use Rattle.napi_types.specs.parts.Book.{Book, all_due}
 use Rattle.napi_types.specs.parts.Frames.{frame_of, begin_told, ask_counted, is_asking, asks_made, most_asks}
 use Rattle.napi_types.specs.parts.HeapChanges.{with_frame}
@@ -28,14 +26,6 @@ use Rattle.napi_types.specs.environment.Environment.{Environment}
 pub record Change : Type 0 where
   pub entry : Entry
   pub after : Environment
-
--- an event of the environment that is no call, with a status
-abbrev pub host_told : HostStep → Status → Out → Entry
-host_told h s o = record { actor = actor.Env; depth = 0; step = 0; what = what.Host h; reply = plain s o; given = None }
-
--- the same with status 0, as of all but the end of a call's frame
-abbrev pub host_entry : HostStep → Out → Entry
-host_entry h o = host_told h status.Ok o
 
 -- `opened` tells the version
 abbrev pub opening_change : Environment → Change

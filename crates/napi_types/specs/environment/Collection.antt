@@ -1,5 +1,5 @@
 -- What a collection answers and leaves.
-use Rattle.std.specs.Prelude.{ℕ, Bool, not, List, length, filter, Option, Some, None}
+use Rattle.std.specs.Prelude.{ℕ, Bool, not, List, length, Option, Some, None}
 use Rattle.napi_types.specs.declared.call.Call.{Call}
 use Rattle.napi_types.specs.declared.call.Call.TheVariants as call
 use Rattle.napi_types.specs.declared.entry.Out.TheVariants as out
@@ -8,16 +8,9 @@ use Rattle.napi_types.specs.plain.Replies.{Answer, accepts}
 use Rattle.napi_types.specs.parts.Attachments.{left_on, hangs_on}
 use Rattle.napi_types.specs.parts.Book.{due_where}
 use Rattle.napi_types.specs.parts.References.{emptied}
-use Rattle.napi_types.specs.parts.Values.{Value}
+use Rattle.napi_types.specs.parts.Values.{those_of, all_but}
 use Rattle.napi_types.specs.environment.Environment.{Environment}
 use Rattle.napi_types.specs.environment.Roots.{reach}
-
--- the values of these numbers, and the others
-abbrev pub those_of : List ℕ → List Value → List Value
-those_of ns vs = filter (λ v. has_number v.number ns) vs
-
-abbrev pub all_but : List ℕ → List Value → List Value
-all_but ns vs = filter (λ v. not (has_number v.number ns)) vs
 
 -- a value is freed where it is none of those that stay
 abbrev pub is_freed : List ℕ → ℕ → Bool

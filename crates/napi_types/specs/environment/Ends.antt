@@ -11,13 +11,14 @@ use Rattle.napi_types.specs.declared.entry.Why.{Why}
 use Rattle.napi_types.specs.declared.ids.HandleId.{HandleId}
 use Rattle.napi_types.specs.declared.status.Status.{Status}
 use Rattle.napi_types.specs.declared.status.Status.TheVariants as status
+use Rattle.napi_types.specs.plain.Entries.{host_told, host_entry}
 use Rattle.napi_types.specs.plain.Lists.{tail}
 use Rattle.napi_types.specs.parts.Book.{Book, made_ended, moved_at}
 use Rattle.napi_types.specs.parts.Frames.{cause_of, duty_of}
 use Rattle.napi_types.specs.parts.FunctionCalls.{left_value}
 use Rattle.napi_types.specs.parts.Heap.{Heap}
 use Rattle.napi_types.specs.parts.HeapChanges.{with_handle, without_frame}
-use Rattle.napi_types.specs.environment.Changes.{Change, host_told, host_entry}
+use Rattle.napi_types.specs.environment.Changes.{Change}
 use Rattle.napi_types.specs.environment.Environment.{Environment}
 
 -- the innermost frame is gone, with all its scopes

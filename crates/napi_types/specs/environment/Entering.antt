@@ -8,10 +8,11 @@ use Rattle.napi_types.specs.declared.ids.HandleId.{HandleId}
 use Rattle.napi_types.specs.declared.status.Status.{Status}
 use Rattle.napi_types.specs.declared.status.Status.TheVariants as status
 use Rattle.napi_types.specs.plain.Built.{is_calling}
+use Rattle.napi_types.specs.plain.Entries.{host_entry}
 use Rattle.napi_types.specs.parts.Frames.{Frame, begin_told}
 use Rattle.napi_types.specs.parts.FunctionCalls.{callee_of, with_receiver}
 use Rattle.napi_types.specs.parts.HeapChanges.{with_frame}
-use Rattle.napi_types.specs.environment.Changes.{Change, host_entry, with_noted_status, call_change}
+use Rattle.napi_types.specs.environment.Changes.{Change, with_noted_status, call_change}
 use Rattle.napi_types.specs.environment.Environment.{Environment}
 use Rattle.napi_types.specs.environment.Refusals.{refusal}
 

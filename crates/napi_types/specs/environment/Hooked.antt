@@ -1,22 +1,16 @@
 -- What the list of hooks, the book and what else has tickets say of each other.
-use Rattle.std.specs.Prelude.{◌≡◌, ℕ, Bool, true, false, map, Option, Some, option_map, IfSome}
+use Rattle.std.specs.Prelude.{◌≡◌, ℕ, Bool, true, false, map, Option, Some, IfSome}
 use Rattle.std.specs.List.{All}
 use Rattle.std.specs.Option.{option_and_then}
-use Rattle.napi_types.specs.declared.entry.Cause.{Cause}
 use Rattle.napi_types.specs.declared.entry.Cause.TheVariants as cause
 use Rattle.napi_types.specs.declared.entry.Phase.{Phase}
 use Rattle.napi_types.specs.declared.entry.Phase.TheVariants as phase
 use Rattle.napi_types.specs.plain.Lists.{has, has_number}
 use Rattle.napi_types.specs.parts.Attachments.{tickets_where}
-use Rattle.napi_types.specs.parts.Book.{Book, registration_at, is_at, is_registered, is_owed}
+use Rattle.napi_types.specs.parts.Book.{Book, is_at, is_registered, is_owed, TicketsRise, cause_at}
 use Rattle.napi_types.specs.parts.Hooks.{Hook}
 use Rattle.napi_types.specs.parts.InstanceData.{InstanceData}
 use Rattle.napi_types.specs.environment.Environment.{Environment}
-use Rattle.napi_types.specs.all_runs.Order.{TicketsRise}
-
--- why the frame of a ticket begins, where it was given
-abbrev pub cause_at : Book → ℕ → Option Cause
-cause_at book n = option_map (λ r. r.cause) (registration_at book n)
 
 -- from `finals` on
 abbrev pub is_late : Phase → Bool

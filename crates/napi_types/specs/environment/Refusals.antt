@@ -1,5 +1,5 @@
 -- The first refusal of a call that applies: a table for each point of their order.
-use Rattle.std.specs.Prelude.{ℕ, List, length, nat_le, Option, None}
+use Rattle.std.specs.Prelude.{List, length, nat_le, Option, None}
 use Rattle.std.specs.Option.{option_or}
 use Rattle.napi_types.specs.declared.call.Call.{Call}
 use Rattle.napi_types.specs.declared.status.Status.{Status}
@@ -7,21 +7,14 @@ use Rattle.napi_types.specs.declared.call.Call.TheVariants as call
 use Rattle.napi_types.specs.declared.status.Status.TheVariants as status
 use Rattle.napi_types.specs.plain.Lists.{when}
 use Rattle.napi_types.specs.parts.AttachmentRefusals.{attachment_refusal}
-use Rattle.napi_types.specs.parts.ExpectedKinds.{kind_refusal}
 use Rattle.napi_types.specs.parts.Frames.{Frame, caller_of, most_frames}
-use Rattle.napi_types.specs.parts.Heap.{Heap}
+use Rattle.napi_types.specs.parts.HeapRefusals.{refusal_in}
 use Rattle.napi_types.specs.parts.HookRefusals.{hook_refusal}
-use Rattle.napi_types.specs.parts.NamedNumbers.{unknown_refusal}
-use Rattle.napi_types.specs.parts.OwnRefusals.{row_refusal}
 use Rattle.napi_types.specs.parts.ReferenceRefusals.{reference_refusal}
 use Rattle.napi_types.specs.environment.Environment.{Environment}
 use Rattle.napi_types.specs.environment.Moments.{moment_refusal}
 
--- the first of these three points that applies, in a heap and a table of so many texts
-abbrev pub refusal_in : ℕ → Heap → Call → Option Status
-refusal_in texts heap c = option_or (unknown_refusal texts heap c) (option_or (kind_refusal heap c) (row_refusal heap c))
-
--- the same where what is attached to a value is asked last
+-- the first refusal that the heap tells, or else that of what is attached to a value
 abbrev pub attached_refusal : Environment → Call → Option Status
 attached_refusal e c = option_or (refusal_in e.texts e.heap c) (attachment_refusal e.attachments e.heap c)
 

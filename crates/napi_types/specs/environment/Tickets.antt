@@ -1,24 +1,27 @@
--- The frame of a ticket begins.
-use Rattle.std.specs.Prelude.{ℕ, Bool, List, ◌∷◌}
+-- Which ticket is next, and how its frame begins.
+use Rattle.std.specs.Prelude.{ℕ, List, ◌∷◌, Option, None, option_map}
 use Rattle.napi_types.specs.declared.entry.HostStep.TheVariants as host
 use Rattle.napi_types.specs.declared.entry.Phase.{Phase}
 use Rattle.napi_types.specs.declared.entry.Phase.TheVariants as phase
-use Rattle.napi_types.specs.parts.Book.{Registration, TicketState, due_info, is_registered, is_due, made_begun, made_due_and_begun, moved_at}
+use Rattle.napi_types.specs.plain.Entries.{host_entry}
+use Rattle.napi_types.specs.parts.Book.{Registration, due_info, moved_at, begun_in, lowest_due}
 use Rattle.napi_types.specs.parts.Frames.{frame_of_duty, begin_told}
 use Rattle.napi_types.specs.parts.HeapChanges.{with_frame}
-use Rattle.napi_types.specs.parts.Hooks.{Hook, without_hook}
-use Rattle.napi_types.specs.environment.Changes.{Change, host_entry}
+use Rattle.napi_types.specs.parts.Hooks.{Hook, without_hook, last_hook}
+use Rattle.napi_types.specs.environment.Changes.{Change}
 use Rattle.napi_types.specs.environment.Environment.{Environment}
 
--- how a ticket comes to begin: in Hooks a hook falls due and begins in one event, in every other phase a ticket begins that is due
-abbrev pub begun_in : Phase → TicketState → TicketState
-begun_in phase.Hooks s = made_due_and_begun s
-begun_in _ s = made_begun s
+-- the ticket that is next by the phase: in the loop and after `finals` the lowest that is due. In Hooks it is that of the hook that was added last, and in every
+-- other phase none: there what is due waits
+abbrev pub ticket_in : Environment → Phase → Option ℕ
+ticket_in e phase.Live = lowest_due e.book
+ticket_in e phase.Hooks = option_map (λ h. h.ticket) (last_hook e.hooks)
+ticket_in e phase.Finals = lowest_due e.book
+ticket_in e _ = None
 
--- so it begins from registered, or else from due
-abbrev pub may_begin_in : Phase → TicketState → Bool
-may_begin_in phase.Hooks s = is_registered s
-may_begin_in _ s = is_due s
+-- that of its phase, whether or not exit was asked
+abbrev pub next_ticket : Environment → Option ℕ
+next_ticket e = ticket_in e e.phase
 
 -- a hook that begins is no longer in the list
 abbrev pub hooks_left : Phase → ℕ → List Hook → List Hook

@@ -15,11 +15,11 @@ use Rattle.napi_types.specs.declared.entry.What.TheVariants as what
 use Rattle.napi_types.specs.declared.entry.Why.TheVariants as why
 use Rattle.napi_types.specs.declared.op.Op.{Op}
 use Rattle.napi_types.specs.plain.Lists.{tail}
-use Rattle.napi_types.specs.plain.Room.{Room, history_room, is_full, may_want_memory}
+use Rattle.napi_types.specs.plain.Room.{Room, is_full, may_want_memory}
 use Rattle.napi_types.specs.scripts.Registers.{operation_ask, blank_registers}
+use Rattle.napi_types.specs.hub.HistoryRoom.{history_room}
 use Rattle.napi_types.specs.hub.Hub.{Hub}
 use Rattle.napi_types.specs.hub.HubSteps.{hub_step}
-use Rattle.napi_types.specs.runs.Setting.{Setting, opening_of}
 
 -- THREADS
 abbrev pub is_thread : ℕ → Actor → Bool
@@ -59,10 +59,6 @@ KeepsScriptFrom limit t h n made left [] = Unit {0}
 KeepsScriptFrom limit t h n made left (x ∷ xs) =
     (is_thread t x.actor ≡ true → IsNextOfThread (history_room h n limit) made left x x.what)
     × KeepsScriptFrom limit t (hub_step h x).after (n + 1) (cond (is_thread t x.actor) (made + 1) made) (cond (is_thread t x.actor) (left_after left x.what) left) xs
-
--- a history keeps the script of a thread
-abbrev pub KeepsScript : Setting → ℕ → List Op → List Entry → Type 0
-KeepsScript s t operations history = KeepsScriptFrom s.limits.history t (opening_of s).hub 0 0 (Some (thread_calls operations)) history
 
 -- WORKERS
 abbrev pub is_worker : ℕ → Actor → Bool

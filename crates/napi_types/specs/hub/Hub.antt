@@ -1,10 +1,12 @@
 -- The hub: the works, the thread-safe functions, which threads and workers have ended, and how far the run has come.
-use Rattle.std.specs.Prelude.{ℕ, Bool, true, false, not, List, [], filter, Option, Some, None}
+use Rattle.std.specs.Prelude.{ℕ, Bool, true, false, not, List, [], filter, Option, Some, None, ◌&&◌}
 use Rattle.std.specs.List.{range_with_len}
 use Rattle.napi_types.specs.declared.duties.DueInfo.{DueInfo}
 use Rattle.napi_types.specs.declared.entry.HostStep.{HostStep}
 use Rattle.napi_types.specs.declared.entry.HostStep.TheVariants as host
-use Rattle.napi_types.specs.plain.Lists.{has_number}
+use Rattle.napi_types.specs.declared.entry.Phase.{Phase}
+use Rattle.napi_types.specs.declared.entry.Phase.TheVariants as phase
+use Rattle.napi_types.specs.plain.Lists.{has_number, is_empty}
 use Rattle.napi_types.specs.parts.Functions.{FunctionState}
 use Rattle.napi_types.specs.parts.Pool.{WorkPool, new_pool}
 
@@ -71,3 +73,24 @@ threads_left h = left_of h.threads h.ended_threads
 
 abbrev pub workers_left : Hub → List ℕ
 workers_left h = left_of h.workers h.ended_workers
+
+-- how many of the four great events have still to happen
+abbrev pub stage_places : Stage → ℕ
+stage_places Before = 4
+stage_places Going = 3
+stage_places Looped = 2
+stage_places Drained = 1
+stage_places Final = 0
+
+-- which of the hub's events happened, as the phase shows it
+abbrev pub stage_of : Phase → Stage
+stage_of phase.Init = Before
+stage_of phase.Live = Going
+stage_of phase.Hooks = Looped
+stage_of phase.Drain = Drained
+stage_of phase.Finals = Final
+stage_of phase.Gone = Final
+
+-- every thread and every worker has ended, and no work runs
+abbrev pub is_spent : Hub → Bool
+is_spent h = is_empty (threads_left h) && is_empty (workers_left h) && is_empty h.pool.executions

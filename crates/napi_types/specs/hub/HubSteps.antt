@@ -17,13 +17,13 @@ use Rattle.napi_types.specs.declared.entry.What.TheVariants as what
 use Rattle.napi_types.specs.declared.entry.Why.TheVariants as why
 use Rattle.napi_types.specs.declared.status.Status.{Status}
 use Rattle.napi_types.specs.declared.status.Status.TheVariants as status
+use Rattle.napi_types.specs.plain.Entries.{host_told, host_entry}
 use Rattle.napi_types.specs.plain.Guards.{is_shared, is_registering}
 use Rattle.napi_types.specs.plain.Lists.{has_number, with_number}
 use Rattle.napi_types.specs.plain.Replies.{Answer, plain, refuses}
 use Rattle.napi_types.specs.parts.Frames.{begin_told, frame_of_duty}
 use Rattle.napi_types.specs.parts.Functions.{closed, finished}
 use Rattle.napi_types.specs.parts.Pool.{executed_by, value_of_work, with_started, with_finished, drained}
-use Rattle.napi_types.specs.environment.Changes.{host_told, host_entry}
 use Rattle.napi_types.specs.hub.Hub.{Hub, Stage, Before, Going, Looped, Drained, Final, stage_after, threads_left, workers_left}
 use Rattle.napi_types.specs.hub.HubCalls.{hub_answer, is_thread_call}
 use Rattle.napi_types.specs.hub.HubMoves.{HubMove, Delivers, Closes, Finishes, hub_move, in_pool, in_function, with_delivered}

@@ -1,7 +1,8 @@
 -- A history that replays at the hub.
 use Rattle.std.specs.Prelude.{ℕ, ◌+◌, List, [], ◌∷◌, IsTrue}
 use Rattle.napi_types.specs.declared.entry.Entry.{Entry}
-use Rattle.napi_types.specs.plain.Room.{history_room, fits_in}
+use Rattle.napi_types.specs.plain.Room.{fits_in}
+use Rattle.napi_types.specs.hub.HistoryRoom.{history_room}
 use Rattle.napi_types.specs.hub.Hub.{Hub}
 use Rattle.napi_types.specs.hub.HubSteps.{IsHubNext, hub_step}
 

@@ -1,11 +1,14 @@
 -- The book of finalizers and cleanup hooks: each that is registered gets the next ticket, counted from 1. A ticket falls due or is withdrawn, begins once it
 -- is due, and ends once it has begun, and moves in no other way.
-use Rattle.std.specs.Prelude.{ℕ, zero, suc, ◌+◌, ◌==◌, Bool, true, false, ◌||◌, cond, List, [], ◌∷◌, ◌++◌, length, filter, replicate, find, slice_get, Option, None, option_map}
+use Rattle.std.specs.Prelude.{ℕ, zero, suc, ◌+◌, ◌==◌, Bool, true, false, ◌||◌, cond, List, [], ◌∷◌, ◌++◌, length, filter, replicate, find, slice_get, Option, None, option_map, ◌<◌}
 use Rattle.std.specs.Option.{unwrap_or}
+use Rattle.std.specs.List.{All}
 use Rattle.napi_types.specs.declared.duties.DueInfo.{DueInfo}
 use Rattle.napi_types.specs.declared.entry.Cause.{Cause}
 use Rattle.napi_types.specs.declared.entry.Duty.{Duty}
 use Rattle.napi_types.specs.declared.entry.Duty.TheVariants as duty
+use Rattle.napi_types.specs.declared.entry.Phase.{Phase}
+use Rattle.napi_types.specs.declared.entry.Phase.TheVariants as phase
 use Rattle.napi_types.specs.declared.status.Status.TheVariants as status
 use Rattle.napi_types.specs.plain.Lists.{up_to}
 
@@ -139,3 +142,26 @@ due_info n r = record {
   gifts = r.payload ∷ r.hint ∷ replicate 6 0;
   runs = true;
 }
+
+-- each ticket is below all that follow it, or above them
+abbrev pub TicketsRise : List ℕ → Type 0
+TicketsRise [] = Unit {0}
+TicketsRise (n ∷ ns) = All (λ m. n < m) ns × TicketsRise ns
+
+abbrev pub TicketsFall : List ℕ → Type 0
+TicketsFall [] = Unit {0}
+TicketsFall (n ∷ ns) = All (λ m. m < n) ns × TicketsFall ns
+
+-- how a ticket comes to begin: in Hooks a hook falls due and begins in one event, in every other phase a ticket begins that is due
+abbrev pub begun_in : Phase → TicketState → TicketState
+begun_in phase.Hooks s = made_due_and_begun s
+begun_in _ s = made_begun s
+
+-- so it begins from registered, or else from due
+abbrev pub may_begin_in : Phase → TicketState → Bool
+may_begin_in phase.Hooks s = is_registered s
+may_begin_in _ s = is_due s
+
+-- why the frame of a ticket begins, where it was given
+abbrev pub cause_at : Book → ℕ → Option Cause
+cause_at book n = option_map (λ r. r.cause) (registration_at book n)

@@ -1,11 +1,12 @@
 -- Functions: what makes one, and what a call of one gives the frame that it enters, and its caller.
-use Rattle.std.specs.Prelude.{ℕ, ◌+◌, List, [], ◌∷◌, length, map, take, replicate, min, ◌++◌, Option, Some, None}
+use Rattle.std.specs.Prelude.{ℕ, ◌+◌, List, [], ◌∷◌, length, take, replicate, ◌++◌, Option, Some, None}
 use Rattle.napi_types.specs.declared.body.Body.TheVariants as body
 use Rattle.napi_types.specs.declared.call.Args.{Args}
 use Rattle.napi_types.specs.declared.call.Call.{Call}
 use Rattle.napi_types.specs.declared.call.Call.TheVariants as call
 use Rattle.napi_types.specs.declared.entry.Cause.TheVariants as cause
 use Rattle.napi_types.specs.declared.ids.HandleId.{HandleId}
+use Rattle.napi_types.specs.plain.Arguments.{argument_handles}
 use Rattle.napi_types.specs.plain.Replies.{Answer}
 use Rattle.napi_types.specs.parts.Bodies.{function_addon, function_entry, function_payload}
 use Rattle.napi_types.specs.parts.Frames.{Frame, frame_of}
@@ -17,10 +18,6 @@ use Rattle.napi_types.specs.parts.Values.{undefined_value}
 abbrev pub on_functions : ℕ → Heap → Call → Option (Answer Heap)
 on_functions addon heap (call.CreateFunction entry payload) = Some (new_value (body.Function addon entry payload) heap)
 on_functions addon heap _ = None
-
--- the handles of a call's arguments: as many as it counts, at most four
-abbrev pub argument_handles : Args → List ℕ
-argument_handles args = map (λ h. h.0) (take (min args.count 4) args.handles)
 
 -- the frame that a call of a function enters
 abbrev pub callee_of : Heap → HandleId → Frame

@@ -7,7 +7,6 @@ use Rattle.napi_types.specs.declared.call.Release.{Release}
 use Rattle.napi_types.specs.declared.call.Release.TheVariants as release
 use Rattle.napi_types.specs.declared.duties.DueInfo.{DueInfo}
 use Rattle.napi_types.specs.declared.entry.Actor.{Actor}
-use Rattle.napi_types.specs.declared.entry.Actor.TheVariants as actor
 use Rattle.napi_types.specs.declared.entry.Cause.TheVariants as cause
 use Rattle.napi_types.specs.declared.entry.Duty.TheVariants as duty
 use Rattle.napi_types.specs.declared.entry.Target.{Target}
@@ -15,6 +14,7 @@ use Rattle.napi_types.specs.declared.entry.TsfnState.{TsfnState}
 use Rattle.napi_types.specs.declared.entry.TsfnState.TheVariants.{Open, Closing, Finished, Done}
 use Rattle.napi_types.specs.declared.status.Status.{Status}
 use Rattle.napi_types.specs.declared.status.Status.TheVariants as status
+use Rattle.napi_types.specs.plain.Entries.{is_environment}
 use Rattle.napi_types.specs.plain.Lists.{head, tail, one, when}
 
 pub record FunctionState : Type 0 where
@@ -80,10 +80,6 @@ is_full_queue f = nat_lt 0 f.maximum && (length f.items == f.maximum)
 abbrev pub is_blocking : Mode → Bool
 is_blocking mode.Blocking = true
 is_blocking _ = false
-
-abbrev pub is_environment : Actor → Bool
-is_environment actor.Env = true
-is_environment _ = false
 
 -- what a call answers while the queue is full; none where it waits, as the blocking call of a thread does
 abbrev pub full_status : Actor → Mode → Option Status

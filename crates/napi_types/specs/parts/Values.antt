@@ -1,9 +1,9 @@
 -- The value graph: a finite map from creation numbers to values.
-use Rattle.std.specs.Prelude.{ℕ, ◌==◌, true, false, cond, List, [], ◌∷◌, ◌++◌, map, filter_map, Option, option_map}
+use Rattle.std.specs.Prelude.{ℕ, ◌==◌, true, false, cond, List, [], ◌∷◌, ◌++◌, map, filter_map, Option, option_map, not, filter}
 use Rattle.std.specs.Option.{unwrap_or}
 use Rattle.napi_types.specs.declared.body.Body.{Body}
 use Rattle.napi_types.specs.declared.body.Body.TheVariants as body
-use Rattle.napi_types.specs.plain.Lists.{found}
+use Rattle.napi_types.specs.plain.Lists.{found, has_number}
 use Rattle.napi_types.specs.parts.Properties.{Property, property_set, property_removed, element_set}
 
 -- a value: its creation number, what it is, its properties in the order in which their names were first set, and its elements, each a value's number or a hole
@@ -72,3 +72,10 @@ with_element at to v = record v { elements = element_set at to v.elements }
 -- the values with the one of a number changed so
 abbrev pub value_changed : ℕ → (Value → Value) → List Value → List Value
 value_changed n change vs = map (λ v. cond (v.number == n) (change v) v) vs
+
+-- the values of these numbers, and the others
+abbrev pub those_of : List ℕ → List Value → List Value
+those_of ns vs = filter (λ v. has_number v.number ns) vs
+
+abbrev pub all_but : List ℕ → List Value → List Value
+all_but ns vs = filter (λ v. not (has_number v.number ns)) vs

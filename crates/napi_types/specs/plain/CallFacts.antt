@@ -4,8 +4,8 @@ use Rattle.napi_types.specs.declared.call.Call.{Call}
 use Rattle.napi_types.specs.declared.call.Call.TheVariants as call
 use Rattle.napi_types.specs.declared.ids.HandleId.{HandleId}
 use Rattle.napi_types.specs.declared.ids.TextNo.{TextNo}
+use Rattle.napi_types.specs.plain.Arguments.{argument_handles}
 use Rattle.napi_types.specs.plain.Lists.{one}
-use Rattle.napi_types.specs.parts.FunctionCalls.{argument_handles}
 
 -- whether the call is guarded, whether it registers something, whether its entry stands in the history, and whether it takes memory beside that of its places; how
 -- many places it needs; and the handles, the texts and the references that it names

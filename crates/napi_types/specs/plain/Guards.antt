@@ -15,3 +15,9 @@ is_registering c = (facts_of c).registers
 -- the calls on works and on thread-safe functions, whose entries stand in the history
 abbrev pub is_shared : Call → Bool
 is_shared c = (facts_of c).shared
+
+-- a call that takes memory beside that of its places in the list of its entry. Such is one whose result is a newly issued number, `escape_handle` excepted,
+-- whose place was kept when the scope opened, and one that registers, `queue_async_work` excepted. So are those that set a property or an element, wrap or tag,
+-- or make an error, and a collection
+abbrev pub is_growing : Call → Bool
+is_growing c = (facts_of c).grows

@@ -9,7 +9,7 @@ use Rattle.napi_types.specs.plain.Lists.{is_empty}
 use Rattle.napi_types.specs.parts.Functions.{is_done}
 use Rattle.napi_types.specs.parts.Pool.{WorkPool}
 use Rattle.napi_types.specs.environment.Environment.{Environment}
-use Rattle.napi_types.specs.hub.Hub.{Hub, Stage, Before, Going, Looped, Drained, Final, threads_left, workers_left}
+use Rattle.napi_types.specs.hub.Hub.{Hub, Stage, Before, Going, Looped, Drained, Final, threads_left, is_spent}
 use Rattle.napi_types.specs.hub.HubMoves.{hub_move}
 use Rattle.napi_types.specs.runs.Loop.{Event, Moves, Goes, EndsLoop, Drains, FinalsCome, init_choice, loop_choice}
 use Rattle.napi_types.specs.runs.Machine.{Machine}
@@ -43,11 +43,7 @@ is_quiet h = is_empty (threads_left h) && is_empty h.pool.executions && (is_empt
 abbrev pub idle_choice : Hub → Option Event
 idle_choice h = cond (is_idle h) (Some (EndsLoop loop_end.Idle)) (cond (is_quiet h) (Some (EndsLoop loop_end.Quiet)) None)
 
--- every thread and every worker has ended, and no work runs
-abbrev pub is_spent : Hub → Bool
-is_spent h = is_empty (threads_left h) && is_empty (workers_left h) && is_empty h.pool.executions
-
--- then `finals` comes
+-- once the hub is spent `finals` comes
 abbrev pub finals_choice : Hub → Option Event
 finals_choice h = cond (is_spent h) (Some FinalsCome) None
 

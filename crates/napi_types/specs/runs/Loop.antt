@@ -4,9 +4,8 @@ use Rattle.napi_types.specs.declared.entry.LoopEnd.{LoopEnd}
 use Rattle.napi_types.specs.declared.entry.LoopEnd.TheVariants as loop_end
 use Rattle.napi_types.specs.declared.entry.Phase.{Phase}
 use Rattle.napi_types.specs.declared.entry.Phase.TheVariants as phase
-use Rattle.napi_types.specs.parts.Book.{lowest_due}
-use Rattle.napi_types.specs.parts.Hooks.{last_hook}
 use Rattle.napi_types.specs.environment.Environment.{Environment}
+use Rattle.napi_types.specs.environment.Tickets.{ticket_in}
 use Rattle.napi_types.specs.hub.HubMoves.{HubMove}
 
 -- an event of the environment where no frame stands: the opening, the init frame of an addon, the frame of a ticket, a move of the hub, its four great events, and
@@ -26,19 +25,7 @@ pub data Event : Type 0 where
 abbrev pub init_choice : Environment → Option Event
 init_choice e = cond e.opened (cond (nat_lt e.inits e.addons) (Some (Inits e.inits)) None) (Some Opens)
 
--- the ticket that is next by the phase: in the loop and after `finals` the lowest that is due. In Hooks it is that of the hook that was added last, and in every
--- other phase none: there what is due waits
-abbrev pub ticket_in : Environment → Phase → Option ℕ
-ticket_in e phase.Live = lowest_due e.book
-ticket_in e phase.Hooks = option_map (λ h. h.ticket) (last_hook e.hooks)
-ticket_in e phase.Finals = lowest_due e.book
-ticket_in e _ = None
-
--- that of its phase, whether or not exit was asked
-abbrev pub next_ticket : Environment → Option ℕ
-next_ticket e = ticket_in e e.phase
-
--- the frame of that ticket
+-- the frame of the ticket that is next
 abbrev pub ticket_choice : Environment → Phase → Option Event
 ticket_choice e p = option_map Tickets (ticket_in e p)
 

@@ -1,8 +1,7 @@
 -- What the plans of addons ask along a run, and the registers that they leave.
-use Rattle.std.specs.Prelude.{ℕ, Bool, cond, List, [], ◌∷◌, map, set, Option, Some, None, slice_index_or}
+use Rattle.std.specs.Prelude.{ℕ, Bool, cond, List, [], ◌∷◌, set, Option, Some, None}
 use Rattle.napi_types.specs.declared.call.Ask.{Ask}
 use Rattle.napi_types.specs.declared.call.Ask.TheVariants as ask
-use Rattle.napi_types.specs.declared.op.Op.{Op}
 use Rattle.napi_types.specs.declared.call.Call.{Call}
 use Rattle.napi_types.specs.declared.call.Call.TheVariants as call
 use Rattle.napi_types.specs.declared.duties.DueInfo.{DueInfo}
@@ -19,30 +18,11 @@ use Rattle.napi_types.specs.plain.Lists.{tail}
 use Rattle.napi_types.specs.parts.Frames.{Frame, at_last_ask}
 use Rattle.napi_types.specs.parts.FunctionCalls.{callee_of, call_gifts}
 use Rattle.napi_types.specs.parts.Heap.{Heap}
-use Rattle.napi_types.specs.scripts.Registers.{plan_ask, registers_after_reply, with_gifts, blank_registers}
+use Rattle.napi_types.specs.scripts.Plans.{Plan, plan_of, Registers, registers_of}
+use Rattle.napi_types.specs.scripts.Registers.{plan_ask, registers_after_reply, with_gifts}
 use Rattle.napi_types.specs.runs.Begins.{told_at}
 use Rattle.napi_types.specs.runs.Machine.{Machine}
 use Rattle.napi_types.specs.runs.Run.{after}
-
--- what an addon tells of its plan: for each entry its operations; none where it tells nothing
-abbrev pub Plan : Type 0
-Plan = Option (List (List Op))
-
--- the plan of an addon by its number; an addon that is not there has no entries
-abbrev pub plan_of : List Plan → ℕ → Plan
-plan_of ps a = slice_index_or ps a (Some [])
-
--- the 32 registers of each addon
-abbrev pub Registers : Type 0
-Registers = List (List ℕ)
-
--- registers as they are loaded
-abbrev pub loaded_registers : List Plan → Registers
-loaded_registers ps = map (λ p. blank_registers) ps
-
--- the registers of an addon by its number
-abbrev pub registers_of : Registers → ℕ → List ℕ
-registers_of rss a = slice_index_or rss a []
 
 -- WHAT IS ASKED
 -- what a frame asks: its plan's next operation, filled from its addon's registers; where no plan is told, the ask that is there

@@ -5,8 +5,9 @@ use Rattle.napi_types.specs.declared.entry.Limits.{Limits}
 use Rattle.napi_types.specs.declared.entry.Phase.TheVariants as phase
 use Rattle.napi_types.specs.declared.call.Ask.{Ask}
 use Rattle.napi_types.specs.declared.call.Call.{Call}
+use Rattle.napi_types.specs.scripts.Plans.{Plan, Registers, loaded_registers}
 use Rattle.napi_types.specs.runs.Machine.{Machine, opening}
-use Rattle.napi_types.specs.runs.Plan.{Plan, Registers, loaded_registers, asked_along, registers_along}
+use Rattle.napi_types.specs.runs.Plan.{asked_along, registers_along}
 use Rattle.napi_types.specs.runs.Run.{IsRunBy, final}
 
 -- what a run is a run of: what each addon of the script tells of its plan, how many texts, threads and workers there are, the limits, and which calls are built

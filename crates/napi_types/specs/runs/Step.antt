@@ -15,19 +15,22 @@ use Rattle.napi_types.specs.declared.entry.Why.{Why}
 use Rattle.napi_types.specs.declared.entry.Why.TheVariants as why
 use Rattle.napi_types.specs.declared.entry.Phase.{Phase}
 use Rattle.napi_types.specs.declared.entry.Phase.TheVariants as phase
+use Rattle.napi_types.specs.plain.Entries.{host_entry, cut_of}
 use Rattle.napi_types.specs.plain.Guards.{is_shared}
-use Rattle.napi_types.specs.plain.Room.{history_room, room_of, is_full, fits_in, may_want_memory}
+use Rattle.napi_types.specs.plain.Room.{is_full, fits_in, may_want_memory}
 use Rattle.napi_types.specs.plain.Weave.{Side, Journal, History}
-use Rattle.napi_types.specs.parts.Book.{Registration, registration_at}
+use Rattle.napi_types.specs.parts.Book.{Registration, registration_at, may_begin_in}
 use Rattle.napi_types.specs.parts.Frames.{Frame, asks_made, most_asks, duty_of, is_hub_duty}
-use Rattle.napi_types.specs.environment.Changes.{Change, host_entry, opening_change, init_change, number_of, is_fresh_result, may_ask, may_call, gone_change, in_phase}
+use Rattle.napi_types.specs.environment.Changes.{Change, opening_change, init_change, number_of, is_fresh_result, may_ask, may_call, gone_change, in_phase}
 use Rattle.napi_types.specs.environment.Ends.{end_change}
 use Rattle.napi_types.specs.environment.Entering.{asked_change}
 use Rattle.napi_types.specs.environment.Environment.{Environment}
 use Rattle.napi_types.specs.environment.SharedCalls.{shared_entry, after_shared, after_delivery, without_root}
-use Rattle.napi_types.specs.environment.Tickets.{may_begin_in, ticket_change}
+use Rattle.napi_types.specs.environment.Tickets.{ticket_change}
+use Rattle.napi_types.specs.hub.HistoryRoom.{history_room}
 use Rattle.napi_types.specs.hub.HubMoves.{HubMove, Delivers, Closes, Finishes}
 use Rattle.napi_types.specs.hub.HubSteps.{HubStep, hub_step, delivery_entry}
+use Rattle.napi_types.specs.runs.CallRoom.{room_of}
 use Rattle.napi_types.specs.runs.Choice.{choice}
 use Rattle.napi_types.specs.runs.Loop.{Event, Opens, Inits, Tickets, Moves, Goes, EndsLoop, Drains, FinalsCome, IsGone}
 use Rattle.napi_types.specs.runs.Machine.{Machine}
@@ -129,11 +132,6 @@ end_step m c may = end_step_on (is_hub_duty (duty_of m.env.frames)) m c may
 abbrev pub asked_step : Machine → Ask → Out → Step
 asked_step m (ask.Do c) o = call_step m c o
 asked_step m (ask.Leave v) o = end_step m (end_change v None m.env) (may_ask m.env)
-
--- the cut that a result tells, if it tells one
-abbrev pub cut_of : Out → Option Why
-cut_of (out.Cut w) = Some w
-cut_of _ = None
 
 -- the step of a frame: its end where it is cut, or else what it asks
 abbrev pub frame_step : Machine → Ask → Out → Option Why → Step

@@ -1,5 +1,5 @@
 use Rattle.std.proofs.Common.{◌≡◌, ◌∙◌, false, sym}
-use Rattle.napi_types.specs.runs.Loop.{next_ticket}
+use Rattle.napi_types.specs.environment.Tickets.{next_ticket}
 use Rattle.env_loop.proofs.Turns.{none-there, init-turn, gone_change-turn}
 use Rattle.env_loop.proofs.turn.event_turn.Goals as goal
 

@@ -11,6 +11,7 @@ use Rattle.napi_types.specs.plain.Replies.{plain}
 use Rattle.napi_types.specs.parts.AttachmentRefusals.{attachment_refusal}
 use Rattle.napi_types.specs.parts.ExpectedKinds.{kind_refusal}
 use Rattle.napi_types.specs.parts.Frames.{caller_of}
+use Rattle.napi_types.specs.parts.HeapRefusals.{refusal_in}
 use Rattle.napi_types.specs.parts.HookRefusals.{hook_refusal}
 use Rattle.napi_types.specs.parts.NamedNumbers.{handles_of, texts_of, unknown_refusal}
 use Rattle.napi_types.specs.parts.OwnRefusals.{row_refusal}
@@ -19,7 +20,7 @@ use Rattle.napi_types.specs.parts.Scopes.{gives}
 use Rattle.napi_types.specs.environment.Calls.{answer_unless_deep}
 use Rattle.napi_types.specs.environment.Environment.{Environment}
 use Rattle.napi_types.specs.environment.Moments.{moment_refusal}
-use Rattle.napi_types.specs.environment.Refusals.{refusal_in, attached_refusal, timely_refusal, depth_refusal}
+use Rattle.napi_types.specs.environment.Refusals.{attached_refusal, timely_refusal, depth_refusal}
 use Rattle.machine_laws.specs.CallLaws.{RefusesUnknownHandles, RefusesUnknownInEachRow, TakesKnownHandles}
 use Rattle.machine_laws.proofs.Naming.{named-alone, hooks-alone, fails-all, passes-all}
 use Rattle.machine_laws.proofs.calls.refuses_unknown_handles.Goals as goal

@@ -5,7 +5,7 @@ use Rattle.napi_types.specs.declared.entry.HostStep.TheVariants as host
 use Rattle.napi_types.specs.declared.entry.Out.{Out}
 use Rattle.napi_types.specs.declared.entry.Out.TheVariants as out
 use Rattle.napi_types.specs.declared.entry.What.TheVariants as what
-use Rattle.napi_types.specs.environment.Changes.{host_entry}
+use Rattle.napi_types.specs.plain.Entries.{host_entry}
 use Rattle.machine_laws.specs.Told.{IsRun}
 use Rattle.machine_laws.specs.RunWords.{init_begins, opening_entries, frame_end}
 use Rattle.machine_laws.specs.TwoAddons.{setting, trace, later}

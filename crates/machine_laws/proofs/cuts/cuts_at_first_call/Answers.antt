@@ -7,11 +7,14 @@ use Rattle.napi_types.specs.declared.entry.Cause.TheVariants as cause
 use Rattle.napi_types.specs.declared.entry.Why.TheVariants as why
 use Rattle.napi_types.specs.declared.ids.HandleId.{HandleId}
 use Rattle.napi_types.specs.plain.Guards.{is_shared}
-use Rattle.napi_types.specs.plain.Room.{need, is_full, may_want_memory, room_of, history_room, journal_room}
+use Rattle.napi_types.specs.plain.Room.{need, is_full, may_want_memory}
 use Rattle.napi_types.specs.environment.Changes.{may_call}
+use Rattle.napi_types.specs.environment.JournalRoom.{journal_room}
+use Rattle.napi_types.specs.hub.HistoryRoom.{history_room}
+use Rattle.napi_types.specs.runs.CallRoom.{room_of}
 use Rattle.napi_types.specs.runs.Run.{IsNext}
 use Rattle.napi_types.specs.runs.Setting.{opening_of}
-use Rattle.napi_types.proofs.runs.Runs.{and-right}
+use Rattle.napi_types.proofs.plain.Conditions.{and-right}
 use Rattle.machine_laws.specs.Cuts.{tight, begun, opening_asks, create, object_made, cut_by, IsOnlyNext, IsCutFull}
 use Rattle.machine_laws.specs.RunWords.{opening_entries}
 use Rattle.machine_laws.proofs.Computing.{run-of}

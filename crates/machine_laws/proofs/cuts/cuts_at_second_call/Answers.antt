@@ -1,7 +1,10 @@
 use Rattle.std.proofs.Common.{◌≡◌, true, cond, refl, ap, ◌∙◌}
 use Rattle.napi_types.specs.declared.call.Call.{Call}
 use Rattle.napi_types.specs.plain.Guards.{is_shared}
-use Rattle.napi_types.specs.plain.Room.{room_of, may_want_memory, journal_room, history_room}
+use Rattle.napi_types.specs.plain.Room.{may_want_memory}
+use Rattle.napi_types.specs.environment.JournalRoom.{journal_room}
+use Rattle.napi_types.specs.hub.HistoryRoom.{history_room}
+use Rattle.napi_types.specs.runs.CallRoom.{room_of}
 use Rattle.machine_laws.specs.Cuts.{first_called, FullAtSecondCall}
 use Rattle.machine_laws.proofs.Cutting.{cut-full, full-there, taken-wants}
 use Rattle.machine_laws.proofs.cuts.cuts_at_second_call.Goals as goal

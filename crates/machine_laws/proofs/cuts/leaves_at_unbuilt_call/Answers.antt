@@ -5,7 +5,7 @@ use Rattle.napi_types.specs.declared.entry.Out.{Out}
 use Rattle.napi_types.specs.declared.entry.Out.TheVariants as out
 use Rattle.napi_types.specs.declared.entry.Why.{Why}
 use Rattle.napi_types.specs.declared.entry.Why.TheVariants as why
-use Rattle.napi_types.specs.environment.Changes.{host_entry}
+use Rattle.napi_types.specs.plain.Entries.{host_entry}
 use Rattle.napi_types.specs.runs.Step.{frame_step}
 use Rattle.machine_laws.specs.Cuts.{first_called, LeavesAtUnbuiltCall}
 use Rattle.machine_laws.proofs.Asking.{unbuilt-never}

@@ -9,16 +9,18 @@ use Rattle.napi_types.specs.declared.entry.Why.{Why}
 use Rattle.napi_types.specs.declared.entry.Why.TheVariants as why
 use Rattle.napi_types.specs.declared.ids.HandleId.{HandleId}
 use Rattle.napi_types.specs.plain.Built.{built_ask}
+use Rattle.napi_types.specs.plain.Entries.{cut_of}
 use Rattle.napi_types.specs.plain.Guards.{is_shared}
 use Rattle.napi_types.specs.parts.Frames.{Frame, is_asking, asks_made, duty_of, is_hub_duty}
+use Rattle.napi_types.specs.scripts.Plans.{Plan, plan_of, Registers, registers_of}
 use Rattle.napi_types.specs.environment.Changes.{may_ask, may_call}
 use Rattle.napi_types.specs.environment.Ends.{end_change}
 use Rattle.napi_types.specs.environment.Environment.{Environment}
 use Rattle.napi_types.specs.runs.Machine.{Machine}
-use Rattle.napi_types.specs.runs.Plan.{Plan, plan_of, Registers, registers_of, frame_ask, frames_ask, asked}
+use Rattle.napi_types.specs.runs.Plan.{frame_ask, frames_ask, asked}
 use Rattle.napi_types.specs.runs.Run.{IsNext}
-use Rattle.napi_types.specs.runs.Step.{Step, may_cut, frame_step, step, cut_of}
-use Rattle.napi_types.proofs.runs.Runs.{and-right}
+use Rattle.napi_types.specs.runs.Step.{Step, may_cut, frame_step, step}
+use Rattle.napi_types.proofs.plain.Conditions.{and-right}
 use Rattle.machine_laws.specs.Cuts.{IsOnlyOfEnvironment, StandsInHub, OnlyLeavesWithoutAsks}
 use Rattle.machine_laws.proofs.Cutting.{only-in-frame, call-may, cut-may, end-may, end-entry, ours-of, left-next, not-last, below-last}
 use Rattle.machine_laws.proofs.Forms.{frame-next}

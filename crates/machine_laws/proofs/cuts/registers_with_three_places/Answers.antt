@@ -3,7 +3,10 @@ use Rattle.napi_types.specs.declared.call.Ask.TheVariants as ask
 use Rattle.napi_types.specs.declared.call.Call.{Call}
 use Rattle.napi_types.specs.declared.call.Call.TheVariants as call
 use Rattle.napi_types.specs.plain.Guards.{is_registering, is_shared}
-use Rattle.napi_types.specs.plain.Room.{room_of, may_want_memory, journal_room, history_room}
+use Rattle.napi_types.specs.plain.Room.{may_want_memory}
+use Rattle.napi_types.specs.environment.JournalRoom.{journal_room}
+use Rattle.napi_types.specs.hub.HistoryRoom.{history_room}
+use Rattle.napi_types.specs.runs.CallRoom.{room_of}
 use Rattle.napi_types.specs.runs.Setting.{RunsBy, opening_of}
 use Rattle.machine_laws.specs.Cuts.{script_within, opening_asks, two_left, external_made, IsCutFull}
 use Rattle.machine_laws.specs.RunWords.{opening_entries}

@@ -8,7 +8,7 @@ use Rattle.napi_types.specs.declared.call.Mode.TheVariants as mode
 use Rattle.napi_types.specs.declared.call.Release.TheVariants as release
 use Rattle.napi_types.specs.declared.entry.Out.{Out}
 use Rattle.napi_types.specs.declared.entry.Out.TheVariants as out
-use Rattle.napi_types.specs.hub.Actors.{KeepsScript}
+use Rattle.napi_types.specs.all_runs.HubLaws.{KeepsScript}
 use Rattle.machine_laws.specs.HubWords.{next_after, by_thread, thread_ends, releases, calls_function}
 use Rattle.machine_laws.specs.Told.{IsRun}
 use Rattle.machine_laws.proofs.KeptScripts.{keeps-script}

@@ -8,7 +8,7 @@ use Rattle.napi_types.specs.declared.call.Release.TheVariants as release
 use Rattle.napi_types.specs.declared.entry.Out.{Out}
 use Rattle.napi_types.specs.declared.entry.Out.TheVariants as out
 use Rattle.napi_types.specs.declared.entry.Why.TheVariants as why
-use Rattle.napi_types.specs.hub.Actors.{KeepsScript}
+use Rattle.napi_types.specs.all_runs.HubLaws.{KeepsScript}
 use Rattle.machine_laws.specs.HubWords.{next_after, thread_ends, releases, calls_function}
 use Rattle.machine_laws.proofs.KeptScripts.{keeps-script}
 use Rattle.machine_laws.specs.RunWords.{loop_ended}

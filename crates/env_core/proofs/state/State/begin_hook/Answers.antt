@@ -1,12 +1,12 @@
 use Rattle.std.proofs.Common.{◌≡◌, ◌∙◌, [], Option, IfSome, ap, refl, sym, subst}
 use Rattle.napi_types.specs.declared.duties.DueInfo.{DueInfo}
 use Rattle.napi_types.specs.declared.entry.HostStep.TheVariants as host
+use Rattle.napi_types.specs.plain.Entries.{host_entry}
 use Rattle.napi_types.specs.parts.Book.{Registration, is_registered, is_begun, is_at, due_info, made_due_and_begun}
 use Rattle.napi_types.specs.parts.Frames.{frame_of_duty, begin_told}
-use Rattle.napi_types.specs.environment.Changes.{host_entry}
 use Rattle.napi_types.specs.environment.Environment.{Environment}
 use Rattle.napi_types.specs.environment.Hooked.{is_late}
-use Rattle.napi_types.specs.runs.Loop.{ticket_in}
+use Rattle.napi_types.specs.environment.Tickets.{ticket_in}
 use Rattle.finalizer_queue.specs.Kept.{ticket_number}
 use Rattle.env_values.specs.Seen.{heap_of}
 use Rattle.env_core.specs.contracts.state.State.{the_view}

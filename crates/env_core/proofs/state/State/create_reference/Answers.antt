@@ -1,7 +1,7 @@
 use Rattle.std.proofs.Common.{◌≡◌, None, sym, subst}
 use Rattle.napi_types.specs.declared.call.Call.TheVariants as call
 use Rattle.napi_types.specs.parts.Graph.{IsLive}
-use Rattle.napi_types.specs.environment.Refusals.{refusal_in}
+use Rattle.napi_types.specs.parts.HeapRefusals.{refusal_in}
 use Rattle.napi_reference.specs.Places.{map_of}
 use Rattle.napi_reference.proofs.Keeping.{AllValues-with_reference}
 use Rattle.env_core.specs.Referring.{RefersToLive}

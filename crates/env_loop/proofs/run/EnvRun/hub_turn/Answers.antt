@@ -1,5 +1,5 @@
 use Rattle.std.proofs.Common.{◌≡◌, ◌∙◌, ap, is_some, sym}
-use Rattle.napi_types.specs.runs.Loop.{next_ticket}
+use Rattle.napi_types.specs.environment.Tickets.{next_ticket}
 use Rattle.env_teardown.specs.Hubs.{quiet_end}
 use Rattle.env_loop.specs.Runs.{Run}
 use Rattle.env_loop.specs.Turns.{turn_of}

@@ -1,0 +1,14 @@
+-- Two conditions that both hold.
+use Rattle.std.proofs.Common.{Bool, true, false, ◌&&◌, IsTrue, refl}
+
+pub and-left : (a b : Bool) → IsTrue (a && b) → IsTrue a
+and-left true b h = refl
+and-left false b h = h
+
+pub and-right : (a b : Bool) → IsTrue (a && b) → IsTrue b
+and-right true b h = h
+and-right false b h = cc
+
+pub and-both : (a b : Bool) → IsTrue a → IsTrue b → IsTrue (a && b)
+and-both true b h k = k
+and-both false b h k = h

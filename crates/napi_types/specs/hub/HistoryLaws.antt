@@ -1,0 +1,68 @@
+-- Laws over all histories of the hub.
+use Rattle.std.specs.Prelude.{◌≡◌, ℕ, ◌+◌, ◌≤◌, true, false, List, length, Some, is_some}
+use Rattle.std.specs.List.{All}
+use Rattle.napi_types.specs.declared.call.Call.{Call}
+use Rattle.napi_types.specs.declared.entry.Entry.{Entry}
+use Rattle.napi_types.specs.plain.Entries.{is_environment}
+use Rattle.napi_types.specs.plain.Room.{is_full}
+use Rattle.napi_types.specs.parts.Pool.{work_numbered, executed_by, value_of_work}
+use Rattle.napi_types.specs.hub.Actors.{is_worker, Free, worker_along}
+use Rattle.napi_types.specs.hub.HistoryRoom.{history_room, reserved_history}
+use Rattle.napi_types.specs.hub.Hub.{Hub, new_hub}
+use Rattle.napi_types.specs.hub.HubOwners.{IsOwnedHub}
+use Rattle.napi_types.specs.hub.HubSteps.{IsHubNext, hub_step, hub_along}
+use Rattle.napi_types.specs.hub.Replays.{HubReplays}
+
+-- how far the hub is, the duty whose frame stands, and how many threads and workers there are
+pub record KeepsStanding (old new : Hub) : Type 0 where
+  pub stage : new.stage ≡ old.stage
+  pub standing : new.standing ≡ old.standing
+  pub threads : new.threads ≡ old.threads
+  pub workers : new.workers ≡ old.workers
+
+-- an entry of a thread or a worker keeps these, and works and functions of the script's addons stay such
+pub record KeepsHub (old new : Hub) : Type 0 where
+  pub standing : KeepsStanding old new
+  pub owned : (count : ℕ) → IsOwnedHub count old → IsOwnedHub count new
+
+abbrev pub OthersKeepTheHub : Type 0
+OthersKeepTheHub = (h : Hub) (x : Entry) → is_environment x.actor ≡ false → IsHubNext h x → KeepsHub h (hub_step h x).after
+
+-- a history that replays from a hub as it opens, for so many threads and workers, has led to this hub
+pub record LeadsTo (limit threads workers : ℕ) (history : List Entry) (h : Hub) : Type 0 where
+  pub replays : HubReplays limit (new_hub threads workers) 0 history
+  pub hub : hub_along (new_hub threads workers) history ≡ h
+
+-- there no entry of a thread or a worker lowers the sum of the history's entries and reserved places
+abbrev pub OthersLowerNothing : Type 0
+OthersLowerNothing = (limit threads workers : ℕ) (history : List Entry) (h : Hub) (x : Entry) → LeadsTo limit threads workers history h
+    → is_environment x.actor ≡ false
+    → IsHubNext h x → reserved_history h ≤ reserved_history (hub_step h x).after + 1
+
+-- so a shared call that is full in a history of n entries stays full after such an entry, and as others go on
+abbrev pub FullStaysFull : Type 0
+FullStaysFull = (limit threads workers : ℕ) (history : List Entry) (h : Hub) (x : Entry) (n : ℕ) (c : Call) → LeadsTo limit threads workers history h
+    → is_environment x.actor ≡ false → IsHubNext h x → is_full (history_room h n limit) c ≡ true
+    → is_full (history_room (hub_step h x).after (n + 1) limit) c ≡ true
+
+abbrev pub FullStaysFullAsOthersGoOn : Type 0
+FullStaysFullAsOthersGoOn = (limit threads workers : ℕ) (history rest : List Entry) (h : Hub) (n : ℕ) (c : Call) → LeadsTo limit threads workers history h
+    → All (λ x. is_environment x.actor ≡ false) rest → HubReplays limit h n rest
+    → is_full (history_room h n limit) c ≡ true → is_full (history_room (hub_along h rest) (n + length rest) limit) c ≡ true
+
+-- the entries of each worker come by turns: it starts a work and finishes it, as often as it will, and then it ends
+abbrev pub WorkersTakeTurns : Type 0
+WorkersTakeTurns = (limit threads workers w : ℕ) (xs : List Entry) → HubReplays limit (new_hub threads workers) 0 xs
+    → is_some (worker_along w (Some Free) xs) ≡ true
+
+-- a worker still executes the work of this number, which is there as it was, with its value
+pub record StaysRunning (w n : ℕ) (old new : Hub) : Type 0 where
+  pub executed : executed_by new.pool w ≡ Some n
+  pub there : is_some (work_numbered new.pool n) ≡ true
+  pub work : work_numbered new.pool n ≡ work_numbered old.pool n
+  pub value : value_of_work new.pool n ≡ value_of_work old.pool n
+
+-- while a worker executes a work, no entry that another actor makes next changes that
+abbrev pub RunningStaysRunning : Type 0
+RunningStaysRunning = (limit threads workers w n : ℕ) (history : List Entry) (h : Hub) (x : Entry) → LeadsTo limit threads workers history h → IsHubNext h x
+    → is_worker w x.actor ≡ false → executed_by h.pool w ≡ Some n → StaysRunning w n h (hub_step h x).after
