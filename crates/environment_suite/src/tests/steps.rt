@@ -1,0 +1,237 @@
+//! What is done with an environment, step by step, and compared with what it is to come to. A step that cannot be made ends the test.
+ghost use Rattle.std.specs.Prelude.{◌≡◌, ◌≢◌, [], true, Some};
+ghost use Rattle.napi_types.specs.plain.Lists.{tail};
+ghost use Rattle.napi_types.specs.plain.Phases.{next_phase};
+ghost use Rattle.napi_types.specs.parts.Frames.{cause_of, duty_of};
+
+use super::{Found, NONE, ample, ticket_of, told};
+use addon_trait::Phased;
+use env_core::{EnvCore, Stepped};
+use napi_types::{
+    Call, Cause, DueInfo, HandleId, Limits, NAPI_VERSION, Phase, SeenList, TsfnId, Why,
+};
+use std::alloc::Global;
+use std::process::Abort;
+
+/// An environment in the init frame of its first addon, where there are two addons and three texts.
+pub fn opened(rt: &impl Abort, alloc: Global) -> EnvCore {
+    let limits = Limits {
+        journal: 1024,
+        history: 16,
+    };
+    let mut core = ample(rt, EnvCore::new(alloc, NAPI_VERSION, 2, 3, limits));
+    core.begin_init(0);
+    core
+}
+
+/// Compares what something came to.
+fn compare(rt: &impl Abort, core: &EnvCore, found: Found, expected: Found) {
+    let entries = core.journal().len();
+    assert_eq!(rt; found, expected, "with {entries} entries");
+}
+
+/// What a call of the innermost frame comes to.
+fn called(rt: &impl Abort, core: &mut EnvCore, call: &Call) -> Found {
+    let Some(frame) = core.frame() else {
+        panic!(rt; "no frame stands");
+    };
+    assert!(rt;
+        frame.asks < 65_536 && call.is_built(),
+        "the call cannot be made"
+    );
+    match core.step(frame.asks, call) {
+        Stepped::Reply(reply) => told(&reply),
+        Stepped::Enter(target, gifts) => ("entry", target.entry as u64, gifts),
+        Stepped::Shared(_) => ("shared", 0, NONE),
+        Stepped::Stop(status) => ("stop", status.number() as u64, NONE),
+    }
+}
+
+/// A call is accepted and tells this.
+pub fn tells(rt: &impl Abort, core: &mut EnvCore, call: Call, word: &'static str, number: u64) {
+    let found = called(rt, core, &call);
+    compare(rt, core, found, (word, number, NONE));
+}
+
+/// A call is accepted and tells nothing.
+pub fn does(rt: &impl Abort, core: &mut EnvCore, call: Call) {
+    tells(rt, core, call, "status", 0);
+}
+
+/// A call is refused with the status of this number.
+pub fn refuses(rt: &impl Abort, core: &mut EnvCore, call: Call, status: u64) {
+    tells(rt, core, call, "status", status);
+}
+
+/// A call gives this handle.
+pub fn gives(rt: &impl Abort, core: &mut EnvCore, call: Call, handle: u64) {
+    tells(rt, core, call, "handle", handle);
+}
+
+/// A call is accepted, tells this, and makes and withdraws these tickets, 0 where it makes or withdraws none.
+pub fn tells_tickets(
+    rt: &impl Abort,
+    core: &mut EnvCore,
+    call: Call,
+    answer: (&'static str, u64),
+    tickets: [u64; 2],
+) {
+    let found = called(rt, core, &call);
+    let numbers = [tickets[0], tickets[1], 0, 0, 0, 0, 0, 0];
+    compare(rt, core, found, (answer.0, answer.1, numbers));
+}
+
+/// A call is accepted, tells nothing and makes this ticket.
+pub fn registers(rt: &impl Abort, core: &mut EnvCore, call: Call, ticket: u64) {
+    tells_tickets(rt, core, call, ("status", 0), [ticket, 0]);
+}
+
+/// A call enters a frame of this entry, with these gifts.
+pub fn enters(rt: &impl Abort, core: &mut EnvCore, call: Call, entry: u64, gifts: [u64; 8]) {
+    let found = called(rt, core, &call);
+    compare(rt, core, found, ("entry", entry, gifts));
+}
+
+/// What the end of the innermost frame, which no ticket began, comes to.
+fn left(rt: &impl Abort, core: &mut EnvCore, value: Option<HandleId>, cut: Option<Why>) -> Found
+    requires { cut ≢ Some Why.Asks }
+{
+    let Some(frame) = core.frame() else {
+        panic!(rt; "no frame stands");
+    };
+    assert!(rt; frame.duty.is_none(), "a ticket began the frame");
+    told(&core.leave(value, cut))
+}
+
+/// The innermost frame ends and leaves the value of a handle, which comes to this.
+pub fn leave(rt: &impl Abort, core: &mut EnvCore, value: Option<HandleId>, expected: Found) {
+    let found = left(rt, core, value, None);
+    compare(rt, core, found, expected);
+}
+
+/// The innermost frame is cut for want of memory, and its end has the status of this number.
+pub fn cut(rt: &impl Abort, core: &mut EnvCore, status: u64) {
+    let found = left(rt, core, None, Some(Why::Memory));
+    compare(rt, core, found, ("cut for memory", status, NONE));
+}
+
+/// The next addon's init frame begins, where no frame stands.
+pub fn begin_next(rt: &impl Abort, core: &mut EnvCore) {
+    let (None, Some(addon)) = (core.frame(), core.next_init()) else {
+        panic!(rt; "no init frame can begin");
+    };
+    core.begin_init(addon);
+}
+
+/// The phase after this one.
+fn phase_after(phase: Phase) -> Option<Phase>
+    ensures { result ≡ next_phase phase }
+{
+    match phase {
+        Phase::Init => Some(Phase::Live),
+        Phase::Live => Some(Phase::Hooks),
+        Phase::Hooks => Some(Phase::Drain),
+        Phase::Drain => Some(Phase::Finals),
+        Phase::Finals => Some(Phase::Gone),
+        Phase::Gone => None,
+    }
+}
+
+/// The next phase comes at this position, where no frame stands.
+pub fn advance(rt: &impl Abort, core: &mut EnvCore, position: u64) {
+    let (None, Some(phase)) = (core.frame(), phase_after(core.phase())) else {
+        panic!(rt; "no phase can come");
+    };
+    core.advance(phase, position);
+}
+
+/// A thread-safe function finishes and one is closed, at these positions, as the teardown would tell a core. No crate makes these calls yet.
+pub fn finish_and_close<P: Phased>(core: &mut P, finished: u64, closed: u64) {
+    core.function_finished(TsfnId(1), finished);
+    core.moved(closed);
+}
+
+/// Whether the frame of this duty stands, and stands alone.
+fn stands(core: &EnvCore, info: &DueInfo) -> bool
+    ensures { let frames = core.now.env.frames in
+        result ≡ true → (duty_of frames ≡ Some info.now.duty) × (tail frames ≡ []) × (cause_of frames ≢ Cause.Call) }
+{
+    match core.frame() {
+        Some(frame) if frame.cause != Cause::Call => {
+            frame.duty == Some(info.duty) && core.depth() == 1
+        }
+        _ => false,
+    }
+}
+
+/// What a ticket that began tells: its number, and the addon, the entry, the payload and the hint.
+fn ticket_told(info: &DueInfo) -> Found {
+    let (addon, entry) = (info.addon as u64, info.entry as u64);
+    let (payload, hint) = (info.gifts[0], info.gifts[1]);
+    let numbers = [addon, entry, payload, hint, 0, 0, 0, 0];
+    ("ticket", ticket_of(Some(info.duty)), numbers)
+}
+
+/// The frame of the next ticket begins, where no frame stands, and ends so. The answer is what the ticket tells.
+fn ran(rt: &impl Abort, core: &mut EnvCore, cut: Option<Why>) -> Found
+    requires { cut ≢ Some Why.Asks }
+{
+    assert!(rt; core.frame().is_none(), "a frame stands");
+    assert!(rt;
+        core.phase() != Phase::Live || !core.exit_asked(),
+        "the loop is to end"
+    );
+    let Some(due) = core.next_local() else {
+        return ("no ticket", 0, NONE);
+    };
+    let info = *due.info();
+    let begun = due.begin(&mut SeenList::new());
+    assert!(rt;
+        stands(core, &info),
+        "the frame of the ticket does not stand alone"
+    );
+    core.end_duty(begun, cut);
+    ticket_told(&info)
+}
+
+/// The frame of the next ticket begins and ends so, and the ticket tells this.
+pub fn run_next(rt: &impl Abort, core: &mut EnvCore, cut: Option<Why>, expected: Found)
+    requires { cut ≢ Some Why.Asks }
+{
+    let found = ran(rt, core, cut);
+    compare(rt, core, found, expected);
+}
+
+/// What the environment tells of itself: how many frames stand; and how many entries the journal has, the position of the last one, how many places are
+/// left, whether exit was asked, whether a ticket is next, the addon whose init frame is next, or 9, how many asks the innermost frame made, and the phase,
+/// counted from 0.
+fn looked(core: &EnvCore) -> Found {
+    let last = match core.journal().last() {
+        Some(local) => local.at,
+        None => 0,
+    };
+    let asks = match core.frame() {
+        Some(frame) => frame.asks as u64,
+        None => 0,
+    };
+    let next = match core.next_init() {
+        Some(addon) => addon as u64,
+        None => 9,
+    };
+    let numbers = [
+        core.journal().len() as u64,
+        last,
+        core.room() as u64,
+        core.exit_asked() as u64,
+        core.has_local() as u64,
+        next,
+        asks,
+        core.phase() as u64,
+    ];
+    ("depth", core.depth() as u64, numbers)
+}
+
+/// What the environment tells of itself is this.
+pub fn look(rt: &impl Abort, core: &EnvCore, expected: Found) {
+    compare(rt, core, looked(core), expected);
+}
