@@ -27,11 +27,11 @@ use Rattle.napi_types.specs.runs.CallRoom.{room_of}
 use Rattle.napi_types.specs.runs.Machine.{Machine}
 use Rattle.napi_types.specs.runs.Plan.{caller_after_reply, with_addon_gifts, with_callee_gifts}
 use Rattle.napi_types.specs.runs.Step.{locally}
+use Rattle.napi_types.proofs.plain.CallFacts.{built-local}
 use Rattle.napi_types.proofs.environment.Answers.{course-parts, answer-keeps}
 use Rattle.napi_types.proofs.environment.FrameChanges.{enter_change-keeps, asked_change-call_change, asked_change-enter_change, KeepsButFrames, asked_change-fits}
 use Rattle.napi_types.proofs.environment.Owners.{callee-owned}
 use Rattle.napi_types.proofs.environment.StandingFrames.{duties-asked}
-use Rattle.napi_types.proofs.all_runs.Rooms.{built-local}
 use Rattle.addon_trait.specs.Addons.{OthersStay}
 use Rattle.env_core.specs.Core.{Core, after_change}
 use Rattle.env_core.specs.Steps.{Replies, EntersBy, Enters}

@@ -22,8 +22,8 @@ use Rattle.napi_types.specs.hub.Hub.{Hub}
 use Rattle.napi_types.specs.runs.CallRoom.{room_of}
 use Rattle.napi_types.specs.runs.Setting.{Setting}
 use Rattle.napi_types.specs.runs.Step.{may_cut}
+use Rattle.napi_types.proofs.plain.CallFacts.{built-local}
 use Rattle.napi_types.proofs.environment.FrameEnds.{ended-ends}
-use Rattle.napi_types.proofs.all_runs.Rooms.{built-local}
 use Rattle.env_core.specs.Core.{Core, after_change, room_in}
 use Rattle.env_core.specs.Steps.{GrowsUnrefused, PassesFirstPlaces, StopsBy}
 use Rattle.env_loop.specs.Recording.{AddonStates, machine_of, why_stopped}

@@ -31,7 +31,7 @@ use Rattle.napi_types.specs.runs.Machine.{Machine}
 use Rattle.napi_types.specs.runs.Run.{IsNext}
 use Rattle.napi_types.specs.runs.Step.{Step, may_cut, call_step_on, end_step_on, frame_step, step}
 use Rattle.napi_types.proofs.plain.Conditions.{and-left, and-right, and-both}
-use Rattle.napi_types.proofs.environment.Answers.{needs-place}
+use Rattle.napi_types.proofs.plain.CallFacts.{needs-place}
 use Rattle.napi_types.proofs.environment.FrameEnds.{Ends, ended-ends}
 use Rattle.napi_types.proofs.runs.SharedSteps.{hub_step-end}
 use Rattle.machine_laws.specs.Cuts.{cut_by, StandsInHub, IsCutFull, first_called, two_left}

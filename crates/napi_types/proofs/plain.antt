@@ -1,6 +1,8 @@
--- On plain data: finite maps and their records, conditions, the weave of two lists.
+-- On plain data: what is known of a call by itself, finite maps and their records, lists, conditions, the weave of two lists.
+pub mod CallFacts
 pub mod Conditions
 pub mod Found
 pub mod Issued
+pub mod Lists
 pub mod Maps
 pub mod Weaves

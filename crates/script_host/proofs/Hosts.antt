@@ -18,10 +18,11 @@ use Rattle.napi_types.specs.runs.Setting.{opening_of, final_of}
 use Rattle.napi_types.specs.all_runs.Alone.{IsAlone}
 use Rattle.napi_types.specs.all_runs.Laws.{HasRoom}
 use Rattle.napi_types.specs.all_runs.Order.{HooksFall, FinalsRise}
+use Rattle.napi_types.proofs.plain.CallFacts.{built-local}
 use Rattle.napi_types.proofs.all_runs.Keeping.{kept-run}
 use Rattle.napi_types.proofs.all_runs.Onces.{tickets-counted}
 use Rattle.napi_types.proofs.all_runs.Orders.{order-holds}
-use Rattle.napi_types.proofs.all_runs.Rooms.{built-local, room-suffices}
+use Rattle.napi_types.proofs.all_runs.Rooms.{room-suffices}
 use Rattle.napi_types.proofs.all_runs.Withdrawals.{once-holds}
 use Rattle.env_loop.specs.Recording.{AddonStates, IsEnded}
 use Rattle.script_host.specs.Loading.{told_plans, setting_with}

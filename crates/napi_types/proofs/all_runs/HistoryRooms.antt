@@ -6,7 +6,6 @@ use Rattle.std.specs.Option.{option_or}
 use Rattle.napi_types.specs.declared.call.Ask.{Ask}
 use Rattle.napi_types.specs.declared.call.Ask.TheVariants as ask
 use Rattle.napi_types.specs.declared.call.Call.{Call}
-use Rattle.napi_types.specs.declared.call.Call.TheVariants as call
 use Rattle.napi_types.specs.declared.entry.Actor.{Actor}
 use Rattle.napi_types.specs.declared.entry.Actor.TheVariants as actor
 use Rattle.napi_types.specs.declared.entry.Entry.{Entry}
@@ -34,7 +33,6 @@ use Rattle.napi_types.specs.environment.Environment.{Environment}
 use Rattle.napi_types.specs.environment.SharedCalls.{shared_entry}
 use Rattle.napi_types.specs.hub.HistoryRoom.{history_room, reserved_history}
 use Rattle.napi_types.specs.hub.Hub.{Hub, is_past_drain, Stage, Before, Going, Looped, Drained, Final, left_of, is_spent}
-use Rattle.napi_types.specs.hub.HubCalls.{is_thread_call}
 use Rattle.napi_types.specs.hub.HubMoves.{HubMove, Delivers, Closes, Finishes, hub_move}
 use Rattle.napi_types.specs.hub.HubSteps.{hub_step, hub_step_of, thread_step, worker_step, delivery_entry}
 use Rattle.napi_types.specs.runs.CallRoom.{room_of}
@@ -49,7 +47,7 @@ use Rattle.napi_types.proofs.plain.Maps.{filter_all}
 use Rattle.napi_types.proofs.environment.FrameEnds.{ended-ends}
 use Rattle.napi_types.proofs.hub.HubCases.{HubCase, hub-case}
 use Rattle.napi_types.proofs.hub.HubHolds.{HubSound, hub-sound, spent-holds, opening-sound}
-use Rattle.napi_types.proofs.hub.HubKeeps.{other-calls}
+use Rattle.napi_types.proofs.hub.HubKeeps.{other-calls, thread-shared}
 use Rattle.napi_types.proofs.hub.HubRooms.{places_of, hub-room}
 use Rattle.napi_types.proofs.runs.CallRooms.{shared-room, not-full}
 
@@ -253,13 +251,7 @@ env-hub : (Enough : Type 0) (l : Limits) (m : Machine) (a : Ask) (o : Out) (fs :
 env-hub Enough l m a o [] told may r = chosen-hub Enough l m (choice m) refl may r
 env-hub Enough l m a o (f ∷ fs) told may r = frame-hub Enough l m a o (cut_of o) told may r
 
--- a thread or a worker makes a shared call, and never `finals`
-thread-shared : (c : Call) → is_thread_call c ≡ true → is_shared c ≡ true
-thread-shared (call.CallThreadsafeFunction f payload m) is = refl
-thread-shared (call.AcquireThreadsafeFunction f) is = refl
-thread-shared (call.ReleaseThreadsafeFunction f m) is = refl
-thread-shared _ is = cc
-
+-- a thread or a worker never makes `finals`
 others-finals : (h : Hub) (x : Entry) (who : Actor) → is_environment who ≡ false → x.what ≡ what.Host host.Finals → IsTrue (hub_step_of h x who).may → ⊥
 others-finals h x actor.Env other is may = cc
 others-finals h x (actor.Thread t) other is may = let no : IsTrue false = subst (λ w. IsTrue (thread_step h t x w).may) is may in cc

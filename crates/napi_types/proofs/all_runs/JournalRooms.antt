@@ -44,11 +44,11 @@ use Rattle.napi_types.specs.runs.Run.{IsRunBy, after, final}
 use Rattle.napi_types.specs.runs.Setting.{Setting, final_of, opening_of}
 use Rattle.napi_types.specs.runs.Step.{Step, by_hub, ticket_step, move_step, event_step, chosen, call_step_on, end_step_on, asked_step, frame_step, env_step, other_step, step_of, step}
 use Rattle.napi_types.proofs.plain.Conditions.{and-right}
-use Rattle.napi_types.proofs.parts.Books.{owed-due_where, owed-begun, NoneRegistered, all_due-none, none-owed_tickets}
+use Rattle.napi_types.proofs.parts.Books.{owed-begun, NoneRegistered, all_due-none, none-owed_tickets}
 use Rattle.napi_types.proofs.environment.Answers.{SameCourse, course_of, course-parts, local-counted}
 use Rattle.napi_types.proofs.environment.FrameChanges.{KeepsButFrame, ended-keeps, owed-left, KeepsButFrames, asked_change-fits}
 use Rattle.napi_types.proofs.environment.FrameEnds.{Ends, ended-ends}
-use Rattle.napi_types.proofs.environment.Registrations.{none-asked, none-ended, none-begun}
+use Rattle.napi_types.proofs.environment.Registrations.{none-asked, none-ended, none-begun, owed-in}
 use Rattle.napi_types.proofs.hub.HubDuties.{delivery-of_hub}
 use Rattle.napi_types.proofs.runs.CallRooms.{local-room, not-full}
 use Rattle.napi_types.proofs.runs.SharedSteps.{after_shared-alone, shares-still, moves-still, others-still, end-stage}
@@ -187,11 +187,6 @@ end-room Enough l m v w may f fs true hubs e r =
     (λ last. none-ended m.env v w (r.settled last)) (framed Enough l m f fs e r)
 
 -- THE HUB STARTS A PHASE
--- what the event makes of the book
-owed-phase : (p : Phase) (book : Book) → owed_tickets (book_in p book) ≡ owed_tickets book
-owed-phase phase.Finals book = owed-due_where (λ n. true) book
-owed-phase _ book = refl
-
 settled-phase : (p : Phase) (book : Book) → p ≢ phase.Gone → is_last p ≡ true → NoneRegistered (book_in p book)
 settled-phase phase.Finals book never last = all_due-none book
 settled-phase phase.Gone book never last = absurd (never refl)
@@ -210,7 +205,7 @@ passed-room Enough l m event p o far g never stands had r = record {
   limits = r.limits;
   journal =
       λ enough. rw g (passed-fits m.journal_length (other_places m.env + length (local_frames m.env.frames)) (owed_tickets (book_in p m.env.book)) (owed_tickets m.env.book) l.journal
-      (owed-phase p m.env.book) (r.journal enough));
+      (owed-in p m.env.book) (r.journal enough));
   stage = far;
   opened = λ q. stands;
   inits = λ q. had;

@@ -51,8 +51,8 @@ use Rattle.napi_types.proofs.environment.Answers.{call_change-keeps}
 use Rattle.napi_types.proofs.environment.FrameChanges.{book_left, ended-keeps as end_change-keeps, enter_change-keeps, hangings-parts}
 use Rattle.napi_types.proofs.hub.HubDuties.{OfHub, SparesTickets, hub_step-spares}
 use Rattle.napi_types.proofs.runs.SharedSteps.{StandsStill, shares-still}
-use Rattle.napi_types.proofs.runs.StepCases.{StepCase, calls, ends, opens, inits, begins, vanishes, shares, leaves, passes, moves, others, event_before, step-case}
-use Rattle.napi_types.proofs.all_runs.Orderly.{Orderly, orderly-step, orderly-opens}
+use Rattle.napi_types.proofs.runs.StepCases.{StepCase, calls, ends, opens, inits, begins, vanishes, shares, leaves, passes, moves, others, event_before}
+use Rattle.napi_types.proofs.all_runs.Orderly.{Orderly, orderly-step, orderly-opens, next-case}
 use Rattle.napi_types.proofs.all_runs.Rooms.{none-left}
 
 -- WHAT A STEP DOES
@@ -178,10 +178,6 @@ step-is m s (passes p o q) ok =
     (subst (λ y. EntryTickets m.env.book y (book_in p m.env.book)) (sym q.entry) (passed-is p o m.env.book))
 step-is m s (moves move next moving alone) ok = move-is m move ok
 step-is m s (others x other) ok = hub-is m.env.book m.hub x m.env.book (and-right (has_room m x.what) (hub_step m.hub x).may ok) refl
-
--- one of a run
-next-case : (m : Machine) (a : Ask) (x : Entry) → Orderly m → IsNext m a x → StepCase m (step m a x)
-next-case m a x h next = step-case m a x h.stage next.1
 
 next-is : (m : Machine) (a : Ask) (x : Entry) → Orderly m → IsNext m a x → EntryDuties m.env.book x (after m a x).env.book
 next-is m a x h next =

@@ -1,10 +1,9 @@
 -- What holds at every moment of a run of the tickets that are still to begin.
-use Rattle.std.proofs.Common.{◌≡◌, ◌≢◌, ◌∙◌, ℕ, suc, Bool, true, false, [], length, get_or, refl, ap, sym, Option, Some, None, is_some, subst, ◌⊎◌, inl, inr}
+use Rattle.std.proofs.Common.{◌≡◌, ◌≢◌, ◌∙◌, ℕ, suc, Bool, true, false, [], length, get_or, refl, ap, sym, Option, Some, subst, ◌⊎◌, inl, inr}
 use Rattle.std.specs.List.{All}
 use Rattle.std.proofs.lemmas.Option.{slice_get-get_or}
 use Rattle.napi_types.specs.declared.call.Call.{Call}
 use Rattle.napi_types.specs.declared.entry.Cause.TheVariants as cause
-use Rattle.napi_types.specs.declared.entry.Duty.{Duty}
 use Rattle.napi_types.specs.declared.entry.Entry.{Entry}
 use Rattle.napi_types.specs.declared.entry.Phase.{Phase}
 use Rattle.napi_types.specs.declared.entry.Phase.TheVariants as phase
@@ -24,7 +23,10 @@ use Rattle.napi_types.specs.environment.Moments.{is_tearing}
 use Rattle.napi_types.specs.hub.Hub.{stage_of}
 use Rattle.napi_types.specs.runs.Machine.{Machine}
 use Rattle.napi_types.specs.runs.Setting.{Setting, opening_of}
-use Rattle.napi_types.specs.runs.Step.{Step}
+use Rattle.napi_types.specs.runs.Step.{Step, step}
+use Rattle.napi_types.specs.declared.call.Ask.{Ask}
+use Rattle.napi_types.specs.runs.Run.{IsNext}
+use Rattle.napi_types.proofs.plain.Lists.{none-there}
 use Rattle.napi_types.proofs.parts.Books.{due-keeps, ended-keeps as ended-owed, NoneRegistered, all_due-none}
 use Rattle.napi_types.proofs.parts.Moved.{at-state, at-cause}
 use Rattle.napi_types.proofs.environment.Answers.{SameCourse, course-parts, torn-makes-none}
@@ -33,7 +35,7 @@ use Rattle.napi_types.proofs.environment.FrameEnds.{ended-ends}
 use Rattle.napi_types.proofs.environment.HookedSteps.{unchanged, hooked-opening, hooked-opened, hooked-init, hooked-asked, hooked-ended, hooked-begun, hooked-phase, hooked-gone}
 use Rattle.napi_types.proofs.environment.Registrations.{KeptByMoves, asked-all, ended-all, begun-all, phase-all, none-asked, none-ended, none-begun}
 use Rattle.napi_types.proofs.runs.SharedSteps.{StandsStill, shares-still, moves-still, others-still, end-stage}
-use Rattle.napi_types.proofs.runs.StepCases.{StepCase, calls, ends, opens, inits, begins, vanishes, shares, leaves, passes, moves, others, InPhase}
+use Rattle.napi_types.proofs.runs.StepCases.{StepCase, calls, ends, opens, inits, begins, vanishes, shares, leaves, passes, moves, others, InPhase, step-case}
 
 -- WHAT HOLDS
 -- the drain has come
@@ -130,13 +132,9 @@ spent-passed e p next left hooked spent is = phase-all IsSpent spent-kept p e.bo
     by (inl h) = all-spent e hooked h.1 (left h.0)
     by (inr h) = spent h
 
-none-made : (o : Option Duty) → o ≡ None → is_some o ≡ true → ⊥
-none-made None h is = cc
-none-made (Some d) h is = cc
-
 spent-asked : (e : Environment) (c : Call) (n : ℕ) → is_tearing e.phase ≡ true → All IsSpent e.book → All IsSpent (asked_change e c n).after.book
 spent-asked e c n tearing all =
-    asked-all IsSpent spent-kept e c n (λ made r who why. absurd (none-made (answer e c n).reply.made (torn-makes-none e c n tearing) made)) all
+    asked-all IsSpent spent-kept e c n (λ made r who why. absurd (none-there (answer e c n).reply.made (torn-makes-none e c n tearing) made)) all
 
 -- nothing of it changes
 orderly-still : (m n : Machine) → StandsStill m n → Orderly m → Orderly n
@@ -203,3 +201,7 @@ orderly-step m s h (others x other) = orderly-still m s.after (others-still m x 
 
 pub orderly-opens : (s : Setting) → Orderly (opening_of s)
 orderly-opens s = record { stage = refl; hooked = hooked-opening (length s.plans) s.texts; settled = λ p. cc; spent = λ p. cc }
+
+-- the step that comes next in a run
+pub next-case : (m : Machine) (a : Ask) (x : Entry) → Orderly m → IsNext m a x → StepCase m (step m a x)
+next-case m a x h next = step-case m a x h.stage next.1

@@ -43,7 +43,7 @@ use Rattle.napi_types.specs.hub.Hub.{Hub}
 use Rattle.napi_types.specs.hub.HubMoves.{HubMove, Delivers, Closes, Finishes, hub_move}
 use Rattle.napi_types.specs.hub.HubSteps.{hub_step, begin_step, delivery_entry}
 use Rattle.napi_types.specs.runs.Machine.{Machine}
-use Rattle.napi_types.specs.runs.Run.{IsNext, IsRunBy, after}
+use Rattle.napi_types.specs.runs.Run.{IsRunBy, after}
 use Rattle.napi_types.specs.runs.Setting.{Setting, opening_of}
 use Rattle.napi_types.specs.runs.Step.{Step, move_step, has_room, other_step, step}
 use Rattle.napi_types.specs.all_runs.Order.{is_hook_cause, told_ticket, told_hook, tickets_begun, hooks_begun, finals_begun, HooksFall, FinalsRise}
@@ -59,8 +59,8 @@ use Rattle.napi_types.proofs.environment.TornBooks.{NoneMore, asked-more, left-m
 use Rattle.napi_types.proofs.hub.HubDuties.{IsOfHub, delivery-of_hub}
 use Rattle.napi_types.proofs.hub.HubKeeps.{hub_step-what}
 use Rattle.napi_types.proofs.runs.SharedSteps.{StandsStill, shares-still, moves-still, others-still, IsNoEvent, others-told, others-none}
-use Rattle.napi_types.proofs.runs.StepCases.{StepCase, calls, ends, opens, inits, begins, vanishes, shares, leaves, passes, moves, others, event_before, step-case}
-use Rattle.napi_types.proofs.all_runs.Orderly.{IsSpent, Orderly, late-tears, is_drained, orderly-step, orderly-opens}
+use Rattle.napi_types.proofs.runs.StepCases.{StepCase, calls, ends, opens, inits, begins, vanishes, shares, leaves, passes, moves, others, event_before}
+use Rattle.napi_types.proofs.all_runs.Orderly.{IsSpent, Orderly, late-tears, is_drained, orderly-step, orderly-opens, next-case}
 
 -- LISTS OF TICKETS
 -- a list of one ticket of which this holds, or of none
@@ -463,12 +463,9 @@ finals-start m _ (moves move next moving alone) comes is = let no : true ≡ fal
 finals-start m _ (others x other) comes is = let no : true ≡ false = sym is ∙ (others-plain m x other comes).finals in cc
 
 -- RUNS
-next-step : (m : Machine) (a : Ask) (x : Entry) → Orderly m → IsNext m a x → StepCase m (step m a x)
-next-step m a x h next = step-case m a x h.stage next.1
-
 run-hooks : (m : Machine) (bs : List Ask) (xs : List Entry) → Orderly m → IsRunBy m bs xs → TicketsFall (hooks_begun xs) × All (MayBeginAt m.env) (hooks_begun xs)
 run-hooks m (a ∷ bs) (x ∷ xs) h run =
-    let s : StepCase m (step m a x) = next-step m a x h run.0 in
+    let s : StepCase m (step m a x) = next-case m a x h run.0 in
     let k : Orderly (after m a x) = orderly-step m (step m a x) h s in
     let told : AtMostOne (IsNextHook m.env (after m a x).env) (hooks_told x) =
     subst (λ (y : Entry). AtMostOne (IsNextHook m.env (after m a x).env) (hooks_told y)) (sym run.0.0) (hooks-next m (step m a x) h s run.0.1) in
@@ -480,7 +477,7 @@ run-hooks m (a ∷ bs) [] h run = absurd run
 run-late : (m : Machine) (bs : List Ask) (xs : List Entry) → Orderly m → is_late m.env.phase ≡ true → IsRunBy m bs xs
     → TicketsRise (tickets_begun xs) × All (λ n. is_at is_due m.env.book n ≡ true) (tickets_begun xs)
 run-late m (a ∷ bs) (x ∷ xs) h late run =
-    let s : StepCase m (step m a x) = next-step m a x h run.0 in
+    let s : StepCase m (step m a x) = next-case m a x h run.0 in
     let told : AtMostOne (IsNextDue m.env (after m a x).env) (tickets_told x) =
     subst (λ (y : Entry). AtMostOne (IsNextDue m.env (after m a x).env) (tickets_told y)) (sym run.0.0) (due-next m (step m a x) h s run.0.1 late) in
     rise-more (λ n. is_at is_due m.env.book n ≡ true) (λ n. is_at is_due (after m a x).env.book n ≡ true) (tickets_told x) (tickets_begun xs) (due-fewer m (step m a x) h s late) told
@@ -491,7 +488,7 @@ run-late m (a ∷ bs) [] h late run = absurd run
 
 run-finals : (m : Machine) (bs : List Ask) (xs : List Entry) → Orderly m → IsRunBy m bs xs → FinalsRise xs
 run-finals m (a ∷ bs) (x ∷ xs) h run =
-    let s : StepCase m (step m a x) = next-step m a x h run.0 in
+    let s : StepCase m (step m a x) = next-case m a x h run.0 in
     let k : Orderly (after m a x) = orderly-step m (step m a x) h s in
     by (is_finals x.what) (λ is. finals-start m (step m a x) s run.0.1 (sym (ap (λ (y : Entry). is_finals y.what) run.0.0) ∙ is)) k (run-finals (after m a x) bs xs k run.1)
   where

@@ -25,7 +25,7 @@ use Rattle.napi_types.specs.declared.entry.What.TheVariants as what
 use Rattle.napi_types.specs.declared.entry.Why.{Why}
 use Rattle.napi_types.specs.declared.ids.HandleId.{HandleId}
 use Rattle.napi_types.specs.declared.status.Status.{Status}
-use Rattle.napi_types.specs.plain.Built.{built_ask, is_built}
+use Rattle.napi_types.specs.plain.Built.{built_ask}
 use Rattle.napi_types.specs.plain.Entries.{is_environment, cut_of, begun_duty}
 use Rattle.napi_types.specs.plain.Guards.{is_shared}
 use Rattle.napi_types.specs.plain.Lists.{tail}
@@ -457,21 +457,6 @@ runs-quiet s bs xs alone run =
     (along-unshared s.built alone.unshared s.plans (loaded_registers s.plans) (opening_of s) bs xs) in
     let stays : StaysQuiet (opening_of s) bs xs = run-quiet (opening_of s) bs xs (opens-quiet s alone) asks run.steps in
     record { asks = asks; entries = stays.entries; quiet = stays.quiet; idle = unasked-idle (final_of s bs xs).hub stays.quiet.hub }
-
--- the calls that are built are none of them shared
-pub built-unshared : (c : Call) → is_built c ≡ true → is_shared c ≡ false
-built-unshared (call.CreateAsyncWork job entry payload) built = cc
-built-unshared (call.DeleteAsyncWork w) built = cc
-built-unshared (call.CancelAsyncWork w) built = cc
-built-unshared (call.QueueAsyncWork w) built = cc
-built-unshared (call.CreateThreadsafeFunction f entry maximum count finalizer context) built = cc
-built-unshared (call.CallThreadsafeFunction f payload m) built = cc
-built-unshared (call.AcquireThreadsafeFunction f) built = cc
-built-unshared (call.ReleaseThreadsafeFunction f m) built = cc
-built-unshared (call.RefThreadsafeFunction f) built = cc
-built-unshared (call.UnrefThreadsafeFunction f) built = cc
-built-unshared (call.GetThreadsafeFunctionContext f) built = cc
-built-unshared _ built = refl
 
 -- NO OTHER DUTY
 -- what is no duty of the hub is not this one, which is no ticket

@@ -2,6 +2,7 @@
 use Rattle.std.proofs.Common.{◌≡◌, ◌≢◌, ◌∙◌, ◌<◌, ℕ, nat_lt, Bool, true, false, cond, List, [], ◌∷◌, length, IsTrue, refl, ap, sym, subst, Option, Some, None, option_map, arith}
 use Rattle.std.specs.Option.{option_or, unwrap_or}
 use Rattle.std.proofs.lemmas.List.Elements.{All-nil, All-cons}
+use Rattle.std.proofs.lemmas.Bool.{ltb-true}
 use Rattle.napi_types.specs.declared.call.Ask.{Ask}
 use Rattle.napi_types.specs.declared.call.Ask.TheVariants as ask
 use Rattle.napi_types.specs.declared.call.Call.{Call}
@@ -50,10 +51,11 @@ use Rattle.napi_types.specs.runs.Setting.{opening_of}
 use Rattle.napi_types.specs.runs.Step.{Step, by_hub, ticket_step, move_step, event_step, chosen, may_cut, call_step_on, end_step_on, frame_step, env_step, has_room, other_step, step_of}
 use Rattle.napi_types.specs.all_runs.HubLaws.{AreOfScript, AddonsAreTheScripts}
 use Rattle.napi_types.proofs.plain.Conditions.{and-right}
+use Rattle.napi_types.proofs.plain.Lists.{none-first, not-unless, some-stand}
 use Rattle.napi_types.proofs.environment.Answers.{course-parts}
 use Rattle.napi_types.proofs.environment.FrameChanges.{ended-keeps, asked_change-fits}
 use Rattle.napi_types.proofs.environment.FrameEnds.{ended-ends}
-use Rattle.napi_types.proofs.environment.Owners.{Below, body-owned, caller-owned, counted-owned, row-unrefused, none-first, not-unless, owned-asked, owned-ended, owned-init, owned-ticket, owned-phase, owned-opening}
+use Rattle.napi_types.proofs.environment.Owners.{Below, body-owned, caller-owned, counted-owned, row-unrefused, owned-asked, owned-ended, owned-init, owned-ticket, owned-phase, owned-opening}
 use Rattle.napi_types.proofs.hub.HubOwners.{MoveOwned, GivesOwned, is_creating_call, given-owned, others-owned, event-owned, thread_event-owned, worker-owned, move-owned}
 
 -- WHICH EVENT COMES
@@ -127,9 +129,6 @@ hub-no-init h Drained k is = by (hub_move h) (is_spent h) is
     by None false is = cc
 hub-no-init h Final k is = cc
 
-below : (i a : ℕ) → nat_lt i a ≡ true → i < a
-below i a h = grind arith
-
 -- an init frame is that of an addon that is there
 pub chosen-init : (m : Machine) (k : ℕ) → choice m ≡ Some (Inits k) → k < m.env.addons
 chosen-init m k is = by m.env.phase is
@@ -142,7 +141,7 @@ chosen-init m k is = by m.env.phase is
 
     init : (b c : Bool) → nat_lt m.env.inits m.env.addons ≡ c → option_or (cond b (cond c (Some (Inits m.env.inits)) None) (Some Opens)) hub ≡ Some (Inits k) → k < m.env.addons
     init false c here is = cc
-    init true true here is = let same : m.env.inits ≡ k = cc in subst (λ i. i < m.env.addons) same (below m.env.inits m.env.addons here)
+    init true true here is = let same : m.env.inits ≡ k = cc in subst (λ i. i < m.env.addons) same (ltb-true m.env.inits m.env.addons here)
     init true false here is = no hub refl is
 
     live : (b : Bool) (t : Option ℕ) → option_or (cond b (Some (EndsLoop loop_end.Exit)) (option_map Tickets t)) hub ≡ Some (Inits k) → k < m.env.addons
@@ -305,9 +304,6 @@ event-step-owned n m IsGone is k = record { addons = k.addons; env = record { fr
 chosen-owned : (n : ℕ) (m : Machine) (o : Option Event) → choice m ≡ o → AreOfScript n m → StepOwned n (chosen m o)
 chosen-owned n m None is k = k
 chosen-owned n m (Some v) is k = event-step-owned n m v is k
-
-some-stand : (f : Frame) (fs gs : List Frame) → gs ≡ f ∷ fs → gs ≢ []
-some-stand f fs gs is = λ none. cc
 
 env-owned : (n : ℕ) (m : Machine) (a : Ask) (o : Out) (fs : List Frame) → m.env.frames ≡ fs → AreOfScript n m → StepOwned n (env_step m a o fs)
 env-owned n m a o [] is k = chosen-owned n m (choice m) refl k

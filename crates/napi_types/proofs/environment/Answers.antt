@@ -14,7 +14,6 @@ use Rattle.napi_types.specs.declared.ids.TextNo.{TextNo}
 use Rattle.napi_types.specs.declared.status.Status.{Status}
 use Rattle.napi_types.specs.declared.status.Status.TheVariants as status
 use Rattle.napi_types.specs.plain.Guards.{is_registering}
-use Rattle.napi_types.specs.plain.Lists.{first_changed, when}
 use Rattle.napi_types.specs.plain.Replies.{Answer, accepts, refuses}
 use Rattle.napi_types.specs.plain.Room.{one_if, need}
 use Rattle.napi_types.specs.parts.AttachmentRefusals.{attachment_refusal}
@@ -49,11 +48,9 @@ use Rattle.napi_types.specs.environment.Registering.{finalizer_if, ticket_if, re
 use Rattle.napi_types.specs.environment.Roots.{reach}
 use Rattle.napi_types.specs.environment.WrapCalls.{referring_if, wrapping, finalizing}
 use Rattle.napi_types.proofs.plain.Maps.{length-with_record}
+use Rattle.napi_types.proofs.plain.Lists.{length-changed, not-when, none-first, none-last}
+use Rattle.napi_types.proofs.plain.CallFacts.{needs-place}
 use Rattle.napi_types.proofs.parts.BookSteps.{BookStep, stays, adds, drops, collects, swaps, step-owed}
-
-length-changed : {A : Type 0} (f : A → A) (xs : List A) → length (first_changed f xs) ≡ length xs
-length-changed f [] = refl
-length-changed f (x ∷ xs) = refl
 
 -- what a call keeps of a heap: how many frames have scopes. It issues one number of each kind at most, and makes as many values as an array of names has, with the array
 pub record HeapKeeps (old new : Heap) : Type 0 where
@@ -81,14 +78,10 @@ in-scopes heap new d h n m = record { depth = d; handles = omega (arith, h); sco
 in-scopes-made : (heap : Heap) (new : Heap) → length new.scopes ≡ length heap.scopes → new.handles ≤ heap.handles + 1 → length new.scope_numbers ≤ length heap.scope_numbers + 1 → new.made ≤ heap.made + 65537 → HeapKeeps heap new
 in-scopes-made heap new d h n m = record { depth = d; handles = omega (arith, h); scopes = n; made = m }
 
-none-last : (a b c : Option Status) → option_or a (option_or b c) ≡ None → c ≡ None
-none-last None None c h = h
-none-last None (Some s) c h = cc
-none-last (Some s) b c h = cc
-
-not-when : (b : Bool) (s : Status) → when b s ≡ None → b ≡ false
-not-when true s h = cc
-not-when false s h = refl
+none-third : (a b c : Option Status) → option_or a (option_or b c) ≡ None → c ≡ None
+none-third None None c h = h
+none-third None (Some s) c h = cc
+none-third (Some s) b c h = cc
 
 few : (n : ℕ) → nat_lt 65536 n ≡ false → n ≤ 65536
 few n h = grind arith
@@ -113,7 +106,7 @@ heap_effect-keeps texts heap (call.GetElement o at) n h = handled heap heap _ re
 heap_effect-keeps texts heap (call.GetPropertyNames o) n h =
     let ps = handle_properties heap o.0 in
     let c : Call = call.GetPropertyNames o in
-    let row : row_refusal heap c ≡ None = none-last (unknown_refusal texts heap c) (kind_refusal heap c) (row_refusal heap c) h in
+    let row : row_refusal heap c ≡ None = none-third (unknown_refusal texts heap c) (kind_refusal heap c) (row_refusal heap c) h in
     handled heap _ _ refl refl refl (named heap (length (names_of ps)) (length ps) (length-map ps _) (few (length ps) (not-when (nat_lt 65536 (length ps)) status.InvalidArg row)))
 heap_effect-keeps texts heap call.OpenHandleScope n h = in-scopes heap _ (length-changed _ heap.scopes) (omega arith) (length-with_record (λ m. m) n heap.scope_numbers) refl
 heap_effect-keeps texts heap call.OpenEscapableHandleScope n h = in-scopes heap _ (length-changed _ heap.scopes) (omega arith) (length-with_record (λ m. m) n heap.scope_numbers) refl
@@ -301,20 +294,12 @@ effect-keeps e call.Collect n h = collected-keeps e (reach e) _
 effect-keeps e call.Exit n h = record { course = refl; frames = refl; heap = same e.heap; references = omega arith; book = stays e.book refl }
 effect-keeps e c n h = keeps-heap e c n h
 
-none-left : (a b : Option Status) → option_or a b ≡ None → a ≡ None
-none-left None b h = refl
-none-left (Some s) b h = cc
-
-none-right : (a b : Option Status) → option_or a b ≡ None → b ≡ None
-none-right None b h = h
-none-right (Some s) b h = cc
-
 given-keeps : (e : Environment) (c : Call) (n : ℕ) (s : Option Status) → early_refusal e c ≡ s → Keeps e (answer_unless e c n s)
 given-keeps e c n None h =
-    let timely : timely_refusal e c ≡ None = none-right (moment_refusal e c) (timely_refusal e c) h in
-    let named : option_or (reference_refusal e.references c) (attached_refusal e c) ≡ None = none-right (hook_refusal (caller_of e.frames) e.hooks c) _ timely in
-    let later : attached_refusal e c ≡ None = none-right (reference_refusal e.references c) _ named in
-    effect-keeps e c n (none-left (refusal_in e.texts e.heap c) (attachment_refusal e.attachments e.heap c) later)
+    let timely : timely_refusal e c ≡ None = none-last (moment_refusal e c) (timely_refusal e c) h in
+    let named : option_or (reference_refusal e.references c) (attached_refusal e c) ≡ None = none-last (hook_refusal (caller_of e.frames) e.hooks c) _ timely in
+    let later : attached_refusal e c ≡ None = none-last (reference_refusal e.references c) _ named in
+    effect-keeps e c n (none-first (refusal_in e.texts e.heap c) (attachment_refusal e.attachments e.heap c) later)
 given-keeps e c n (Some s) h = refuses-all e s
 
 limit-keeps : (e : Environment) (s : Status) → Keeps e (refuses s (with_depth_error e))
@@ -340,11 +325,6 @@ no-cut false h k = cc
 
 makes-none : (c : Call) (made : Option Duty) → 1 ≤ need c → made ≡ None → MakesFor c made
 makes-none c made one none = rw none (record { places = omega (arith, one); registers = λ h. cc })
-
--- each call needs a place for its entry
-pub needs-place : (c : Call) → 1 ≤ need c
-needs-place (call.CallFunction receiver f args) = omega arith
-needs-place c = omega arith
 
 dropping-none : (t : Option ℕ) (a : Answer Environment) → a.reply.made ≡ None → (withdrawing t a).reply.made ≡ None
 dropping-none None a h = h
@@ -394,7 +374,7 @@ answer-makes e c n = at-makes e c n (early_refusal e c) (depth_refusal e.frames 
 -- in the teardown a call that registers is refused, so no duty is made
 torn : (e : Environment) (c : Call) → is_tearing e.phase ≡ true → is_registering c ≡ true → moment_refusal e c ≡ None → ⊥
 torn e c tearing registers none =
-    let late : registering_refusal e c ≡ None = none-right (guard_refusal e c) (registering_refusal e c) none in
+    let late : registering_refusal e c ≡ None = none-last (guard_refusal e c) (registering_refusal e c) none in
     let is : registering_refusal e c ≡ Some status.GenericFailure = rw (registers, tearing) refl in
     let no : Some status.GenericFailure ≡ None = sym is ∙ late in
     cc
@@ -406,7 +386,7 @@ not-some (Some d) h = absurd (h refl)
 torn-given : (e : Environment) (c : Call) (n : ℕ) (s : Option Status) → is_tearing e.phase ≡ true → early_refusal e c ≡ s → (answer_unless e c n s).reply.made ≡ None
 torn-given e c n (Some s) tearing is = refl
 torn-given e c n None tearing is =
-    not-some (effect e c n).reply.made (λ some. torn e c tearing ((effect-makes e c n).registers some) (none-left (moment_refusal e c) (timely_refusal e c) is))
+    not-some (effect e c n).reply.made (λ some. torn e c tearing ((effect-makes e c n).registers some) (none-first (moment_refusal e c) (timely_refusal e c) is))
 
 torn-at : (e : Environment) (c : Call) (n : ℕ) (early deep : Option Status) → is_tearing e.phase ≡ true → early_refusal e c ≡ early → (answer_unless_deep e c n early deep).reply.made ≡ None
 torn-at e c n early None tearing is = torn-given e c n early tearing is

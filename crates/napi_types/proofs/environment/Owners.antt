@@ -15,7 +15,7 @@ use Rattle.napi_types.specs.declared.status.Status.{Status}
 use Rattle.napi_types.specs.declared.status.Status.TheVariants as status
 use Rattle.napi_types.specs.declared.entry.Phase.{Phase}
 use Rattle.napi_types.specs.declared.entry.Cause.TheVariants as cause
-use Rattle.napi_types.specs.plain.Lists.{tail, unless, has_number}
+use Rattle.napi_types.specs.plain.Lists.{tail, has_number}
 use Rattle.napi_types.specs.plain.Replies.{Answer}
 use Rattle.napi_types.specs.parts.AttachmentRefusals.{attachment_refusal}
 use Rattle.napi_types.specs.parts.Attachments.{wrap_ticket}
@@ -54,6 +54,7 @@ use Rattle.napi_types.specs.environment.Roots.{reach}
 use Rattle.napi_types.specs.environment.Tickets.{ticket_change}
 use Rattle.napi_types.specs.environment.WrapCalls.{wrapping}
 use Rattle.napi_types.proofs.plain.Conditions.{and-left, and-right}
+use Rattle.napi_types.proofs.plain.Lists.{none-first, none-last, not-unless}
 use Rattle.napi_types.proofs.environment.Answers.{answer-keeps}
 use Rattle.napi_types.proofs.environment.FrameChanges.{KeepsButFrame, ended-keeps, KeepsAndEnters, enter_change-keeps, hangings-parts}
 use Rattle.napi_types.proofs.environment.Registrations.{KeptByMoves, registered-holds, call-all, ended-all, begun-all, phase-all}
@@ -234,18 +235,6 @@ call_change-owned n e c k stands o =
       functions = at-owned n e c k (early_refusal e c) (depth_refusal e.frames c) (caller-owned n e.frames stands o.frames) o.functions;
       tickets = call-all (Entered n) (entered-kept n) e c k (λ made r who why. subst (λ a. a < n) (sym who) (caller-owned n e.frames stands o.frames)) o.tickets;
     }
-
-pub none-first : (a b : Option Status) → option_or a b ≡ None → a ≡ None
-none-first None b h = refl
-none-first (Some s) b h = h
-
-none-last : (a b : Option Status) → option_or a b ≡ None → b ≡ None
-none-last None b h = h
-none-last (Some s) b h = cc
-
-pub not-unless : (b : Bool) (s : Status) → unless b s ≡ None → b ≡ true
-not-unless true s h = refl
-not-unless false s h = cc
 
 -- a call that nothing refuses is not refused by its row
 pub row-unrefused : (e : Environment) (c : Call) → refusal e c ≡ None → row_refusal e.heap c ≡ None

@@ -16,7 +16,7 @@ use Rattle.napi_types.specs.declared.entry.Reply.{Reply}
 use Rattle.napi_types.specs.declared.entry.Why.{Why}
 use Rattle.napi_types.specs.declared.ids.HandleId.{HandleId}
 use Rattle.napi_types.specs.declared.status.Status.{Status}
-use Rattle.napi_types.specs.parts.Book.{Book, Registration, TicketState, Registered, Due, Begun, Ended, Withdrawn, is_registered, made_due, made_withdrawn, made_begun, made_ended, moved, moved_at, registration_at, begun_in}
+use Rattle.napi_types.specs.parts.Book.{Book, Registration, TicketState, Registered, Due, Begun, Ended, Withdrawn, is_registered, made_due, made_withdrawn, made_begun, made_ended, moved, moved_at, registration_at, begun_in, owed_tickets}
 use Rattle.napi_types.specs.parts.Frames.{caller_of, cause_of, duty_of}
 use Rattle.napi_types.specs.environment.Calls.{answer}
 use Rattle.napi_types.specs.environment.Changes.{call_change, book_in}
@@ -25,8 +25,9 @@ use Rattle.napi_types.specs.environment.Entering.{enter_change, function_change,
 use Rattle.napi_types.specs.environment.Environment.{Environment}
 use Rattle.napi_types.specs.environment.Moments.{is_tearing}
 use Rattle.napi_types.specs.environment.Refusals.{refusal}
+use Rattle.napi_types.proofs.plain.Lists.{none-there}
 use Rattle.napi_types.proofs.parts.BookSteps.{BookStep, stays, adds, drops, collects, swaps}
-use Rattle.napi_types.proofs.parts.Books.{All-moved, NoneRegistered}
+use Rattle.napi_types.proofs.parts.Books.{All-moved, NoneRegistered, owed-due_where}
 use Rattle.napi_types.proofs.environment.Answers.{call_change-keeps, torn-makes-none}
 use Rattle.napi_types.proofs.environment.FrameChanges.{book_left, hangings-parts, ended-keeps, enter_change-keeps}
 
@@ -163,14 +164,15 @@ due-none Withdrawn h = refl
 unregistered-kept : KeptByMoves Unregistered
 unregistered-kept = record { due = λ r h. due-none r.state h; withdrawn = λ r h. withdrawn-none r.state h; begun = λ r h. begun-none r.state h; ended = λ r h. ended-none r.state h }
 
-none-made : (o : Option Duty) → o ≡ None → is_some o ≡ true → ⊥
-none-made None h is = cc
-none-made (Some d) h is = cc
-
 -- in the teardown no call registers
 pub none-asked : (e : Environment) (c : Call) (n : ℕ) → is_tearing e.phase ≡ true → NoneRegistered e.book → NoneRegistered (asked_change e c n).after.book
 none-asked e c n tearing all =
-    asked-all Unregistered unregistered-kept e c n (λ made r who why. absurd (none-made (answer e c n).reply.made (torn-makes-none e c n tearing) made)) all
+    asked-all Unregistered unregistered-kept e c n (λ made r who why. absurd (none-there (answer e c n).reply.made (torn-makes-none e c n tearing) made)) all
+
+-- what the start of a phase makes of the book
+pub owed-in : (p : Phase) (book : Book) → owed_tickets (book_in p book) ≡ owed_tickets book
+owed-in phase.Finals book = owed-due_where (λ n. true) book
+owed-in _ book = refl
 
 pub none-ended : (e : Environment) (v : Option HandleId) (cut : Option Why) → NoneRegistered e.book → NoneRegistered (end_change v cut e).after.book
 none-ended e v cut all = ended-all Unregistered unregistered-kept e v cut all

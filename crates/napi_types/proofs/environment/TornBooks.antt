@@ -1,6 +1,5 @@
 -- What the events of the teardown make of the book: no ticket is given any more, and from `finals` on none falls due.
 use Rattle.std.proofs.Common.{◌≡◌, ◌∙◌, ◌<◌, ◌≤◌, ℕ, zero, suc, ◌+◌, ◌==◌, Bool, true, false, cond, [], ◌∷◌, length, refl, ap, sym, subst, Option, Some, None, option_map, ◌⊎◌, inl, inr, arith}
-use Rattle.std.specs.List.{find, range_with_len}
 use Rattle.std.specs.Option.{unwrap_or}
 use Rattle.std.proofs.lemmas.Bool.{cases_lt, cases_eq}
 use Rattle.std.proofs.lemmas.List.Elements.{All-head, All-tail}
@@ -21,7 +20,8 @@ use Rattle.napi_types.specs.environment.Entering.{enter_change, function_change,
 use Rattle.napi_types.specs.environment.Environment.{Environment}
 use Rattle.napi_types.specs.environment.Moments.{is_tearing}
 use Rattle.napi_types.specs.environment.Refusals.{refusal}
-use Rattle.napi_types.proofs.plain.Found.{same-self}
+use Rattle.napi_types.proofs.plain.Found.{same-self, next-above}
+use Rattle.napi_types.proofs.plain.Lists.{find-first}
 use Rattle.napi_types.proofs.parts.BookSteps.{BookStep, stays, adds, drops, collects, swaps}
 use Rattle.napi_types.proofs.parts.Books.{NoneRegistered}
 use Rattle.napi_types.proofs.parts.Moved.{registration_at-moved_where, cause_at-moved_where}
@@ -153,28 +153,6 @@ left-more cause.Call d book = same-more book book refl
 left-more _ d book = duty-more d book
 
 -- THE LOWEST TICKET BEGINS
-above : (a k : ℕ) → a ≤ k → (a ≡ k → ⊥) → a + 1 ≤ k
-above a k from apart =
-    elim (cases_lt a k) [
-      | inl less ↦ omega (arith, less)
-      | inr ge ↦ absurd (apart (omega (arith, from, ge)))
-    ]
-
--- none of those before it is due
-find-first : (test : ℕ → Bool) (a count n k : ℕ) → find test (range_with_len a count) ≡ Some n → a ≤ k → k < n → test k ≡ false
-find-first test a zero n k is from below = cc
-find-first test a (suc count) n k is from below = by (test a) refl is (λ rest above. find-first test (a + 1) count n k rest above below)
-  where
-    later : test a ≡ false → find test (range_with_len (a + 1) count) ≡ Some n → (find test (range_with_len (a + 1) count) ≡ Some n → a + 1 ≤ k → test k ≡ false)
-        → (a ≡ k) ⊎ (a ≡ k → ⊥) → test k ≡ false
-    later here rest next (inl same) = ap test (sym same) ∙ here
-    later here rest next (inr apart) = next rest (above a k from apart)
-
-    by : (b : Bool) → test a ≡ b → cond b (Some a) (find test (range_with_len (a + 1) count)) ≡ Some n
-        → (find test (range_with_len (a + 1) count) ≡ Some n → a + 1 ≤ k → test k ≡ false) → test k ≡ false
-    by true here is next = let same : a ≡ n = cc in absurd (omega (arith, same, from, below))
-    by false here is next = later here is next (cases_eq a k)
-
 none-below : (book : Book) (n k : ℕ) → lowest_due book ≡ Some n → is_at is_due book k ≡ true → k < n → ⊥
 none-below book n zero lowest due below = cc
 none-below book n (suc k) lowest due below =
@@ -209,4 +187,4 @@ left-above book n k lowest none due =
   where
     apart : n ≤ k → (n ≡ k) ⊎ (n ≡ k → ⊥) → n < k
     apart from (inl same) = let z : true ≡ false = sym due ∙ ap (is_at is_due (moved_at made_begun n book)) (sym same) ∙ not-due n book in cc
-    apart from (inr other) = let more : n + 1 ≤ k = above n k from other in omega (arith, more)
+    apart from (inr other) = let more : n + 1 ≤ k = next-above n k from other in omega (arith, more)

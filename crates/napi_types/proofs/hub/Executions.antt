@@ -2,7 +2,6 @@
 use Rattle.std.proofs.Common.{◌≡◌, ℕ, zero, suc, ◌+◌, ◌<◌, ◌≤◌, ◌==◌, nat_lt, Bool, true, false, not, cond, List, [], ◌∷◌, length, filter, refl, ap, subst, arith, length-append, Option, Some, None}
 use Rattle.std.specs.List.{All, range_with_len}
 use Rattle.std.proofs.lemmas.Bool.{or_parts}
-use Rattle.std.proofs.lemmas.Bool.Decides.{nat_tests}
 use Rattle.std.proofs.lemmas.List.Elements.{All-nil, All-cons, All-weaker}
 use Rattle.napi_types.specs.declared.entry.Duty.{Duty}
 use Rattle.napi_types.specs.declared.entry.Duty.TheVariants as duty
@@ -17,15 +16,12 @@ use Rattle.napi_types.specs.hub.HubMoves.{without_duty}
 use Rattle.napi_types.specs.hub.HubSteps.{IsHubNext, hub_step, hub_along}
 use Rattle.napi_types.specs.hub.Replays.{HubReplays}
 use Rattle.napi_types.proofs.plain.Found.{IsRising, same-tells, apart-above, rising-filter, rising-with_record}
-use Rattle.napi_types.proofs.plain.Maps.{filter_all}
+use Rattle.napi_types.proofs.plain.Maps.{filter_all, one-below}
 use Rattle.napi_types.proofs.hub.HubCases.{HubCase, hub-case, asks, creates_work, deletes_work, cancels_work, queues_work, creates_function, alters, goes, ends_loop, drains, comes_to_finals, delivers, closes, finishes, ends, thread_ends, worker_ends, starts, finishes_work}
 use Rattle.napi_types.proofs.hub.HubHolds.{AreSound, functions-sound}
 use Rattle.napi_types.proofs.hub.HubRooms.{left-without}
 
 -- ONE NUMBER
-either : (n m : ℕ) → (n == m) ≡ false → nat_lt n m ≡ not (nat_lt m n)
-either n m apart = grind (arith, nat_tests)
-
 module _ {A : Type 0} (number : A → ℕ) where
   -- without the record of a number they are one fewer at most
   pub loses-one : (n : ℕ) (xs : List A) → IsRising number xs → length xs ≤ length (filter (λ x. not (number x == n)) xs) + 1
@@ -49,7 +45,7 @@ module _ {A : Type 0} (number : A → ℕ) where
   parts-all x [] absent = omega arith
   parts-all x (y ∷ ys) absent =
       let parts = or_parts (number y == number x) (has number (number x) ys) absent in
-      by (nat_lt (number y) (number x)) (nat_lt (number x) (number y)) (either (number y) (number x) parts.0) (parts-all x ys parts.1)
+      by (nat_lt (number y) (number x)) (nat_lt (number x) (number y)) (one-below (number y) (number x) parts.0) (parts-all x ys parts.1)
     where
       lower : List A
       lower = filter (λ z. nat_lt (number z) (number x)) ys

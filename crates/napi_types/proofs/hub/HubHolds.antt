@@ -66,7 +66,7 @@ duty-sound late h f (duty.Function g) among falls = rw falls.0 (among.kept done 
 duty-sound late h f (duty.Work n) among falls = absurd falls
 duty-sound late h f (duty.Ticket t) among falls = absurd falls
 
-duty-stage : (d : Duty) (h : Hub) → (without_duty d h).stage ≡ h.stage
+pub duty-stage : (d : Duty) (h : Hub) → (without_duty d h).stage ≡ h.stage
 duty-stage (duty.Ticket t) h = refl
 duty-stage (duty.Work n) h = refl
 duty-stage (duty.Item f n) h = refl

@@ -25,6 +25,7 @@ use Rattle.napi_types.specs.hub.Hub.{Hub}
 use Rattle.napi_types.specs.hub.HubCalls.{is_thread_call, hub_answer, unless_refused, on_function, function_at, call_answer, called_answer}
 use Rattle.napi_types.specs.hub.HubMoves.{HubMove, Delivers, Closes, Finishes, hub_move}
 use Rattle.napi_types.specs.hub.HubSteps.{hub_step, hub_step_of, environment_step, environment_event, loop_end_step, begin_step, close_step, finish_step, frame_end_step, answered_step, given_step, work_number, is_thread_there, nothing_given, answer_unless_given, thread_step, thread_event, worker_step, worker_event, start_step, work_end_step}
+use Rattle.napi_types.specs.plain.Guards.{is_shared}
 use Rattle.napi_types.proofs.plain.Conditions.{and-right}
 
 abbrev AnswerKeeps : Hub → Option (Answer Hub) → Type 0
@@ -200,6 +201,13 @@ hub_step-what h x = by x.actor
     by (actor.Worker w) = worker-what h w x x.what refl
 
 -- WHAT OTHERS CALL
+-- a thread's calls are shared
+pub thread-shared : (c : Call) → is_thread_call c ≡ true → is_shared c ≡ true
+thread-shared (call.CallThreadsafeFunction f payload m) is = refl
+thread-shared (call.AcquireThreadsafeFunction f) is = refl
+thread-shared (call.ReleaseThreadsafeFunction f m) is = refl
+thread-shared _ is = cc
+
 pub answered-may : (h : Hub) (x : Entry) (may : Bool) (o : Option (Answer Hub)) → IsTrue (answered_step h x may o).may → IsTrue may
 answered-may h x may None m = cc
 answered-may h x may (Some a) m = m

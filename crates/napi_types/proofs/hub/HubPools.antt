@@ -1,5 +1,5 @@
 -- The pool of works at every moment: each work that waits, runs or is finished is there, and none waits once the drain has come.
-use Rattle.std.proofs.Common.{◌≡◌, ◌∙◌, ◌<◌, ℕ, ◌==◌, ◌||◌, Bool, true, false, not, cond, List, [], ◌∷◌, ◌++◌, map, filter, inl, inr, ◌⊎◌, refl, ap, sym, subst, arith, Option, Some, None, is_some, is_none, option_map}
+use Rattle.std.proofs.Common.{◌≡◌, ◌∙◌, ℕ, ◌==◌, ◌||◌, Bool, true, false, not, cond, List, [], ◌∷◌, ◌++◌, map, filter, inl, inr, ◌⊎◌, refl, ap, sym, subst, arith, Option, Some, None, is_some, is_none, option_map}
 use Rattle.std.specs.List.{All, find, list_any}
 use Rattle.std.specs.Option.{option_map_or, option_and_then}
 use Rattle.std.proofs.lemmas.Bool.{or_cases, or_left, or_right, or_parts}
@@ -9,8 +9,9 @@ use Rattle.napi_types.specs.declared.call.JobSpec.{JobSpec}
 use Rattle.napi_types.specs.plain.Lists.{found, has, has_number, with_number, with_record, tail, one}
 use Rattle.napi_types.specs.parts.Pool.{WorkPool, standing_at, work_state, work_refusal, number_of_work, executed_by, with_work, without_work, new_number, with_queued, cancelled_at, with_cancelled, started_from, with_started, finished_at, with_finished, with_completed, drained}
 use Rattle.napi_types.specs.parts.Works.{Work, Created, Queued, Running, Finished, Completed, Execution, Outcome, is_created, is_queued, is_deletable, is_number, has_work_number, cancelled_outcome}
-use Rattle.napi_types.proofs.plain.Found.{IsRising, same-tells, apart-above, same-self, found-number, has-found, rising-filter, rising-with_record}
+use Rattle.napi_types.proofs.plain.Found.{IsRising, same-tells, apart-above, same-self, found-number, has-found, rising-filter, rising-with_record, rising-changed}
 use Rattle.napi_types.proofs.plain.Maps.{list_any-with_record, All-with_record}
+use Rattle.napi_types.proofs.plain.Lists.{any-map}
 use Rattle.napi_types.proofs.hub.HubRooms.{IsWork, not-refused, Waits, queued-waits, has-with_number}
 
 -- TESTS ON LISTS
@@ -58,10 +59,6 @@ found-any number test n (y ∷ ys) x is passes = by (number y == n) is (found-an
     by true here rest = let it : y ≡ x = cc in or_left (test y) (list_any test ys) (ap test it ∙ passes)
     by false later rest = or_right (test y) (list_any test ys) (rest later passes)
 
-any-map : {A B : Type 0} (test : B → Bool) (f : A → B) (xs : List A) → list_any test (map f xs) ≡ list_any (λ x. test (f x)) xs
-any-map test f [] = refl
-any-map test f (x ∷ xs) = ap (λ b. test (f x) || b) (any-map test f xs)
-
 -- of rising records it is the only one of its number
 found-only : {A : Type 0} (number : A → ℕ) (n : ℕ) (xs : List A) (x : A) → IsRising number xs → found number n xs ≡ Some x → All (λ y. (number y == n) ≡ true → y ≡ x) xs
 found-only number n [] x rises is = All-nil (λ y. (number y == n) ≡ true → y ≡ x)
@@ -75,13 +72,6 @@ found-only number n (y ∷ ys) x rises is = by (number y == n) refl is (found-on
         All-cons (λ z. (number z == n) ≡ true → z ≡ x) y ys (λ z. it)
         (λ k d inside tells. let no : false ≡ true = sym (apart-above n _ (omega (arith, here, rises.0 k d inside))) ∙ tells in cc)
     by false apart is rest = All-cons (λ z. (number z == n) ≡ true → z ≡ x) y ys (λ tells. let no : false ≡ true = sym apart ∙ tells in cc) (rest is)
-
-rising-map : {A : Type 0} (number : A → ℕ) (f : A → A) → ((y : A) → number (f y) ≡ number y) → (xs : List A) → IsRising number xs → IsRising number (map f xs)
-rising-map number f same [] rises = tt
-rising-map number f same (x ∷ xs) rises = (
-  All-map (λ y. number (f x) < number y) f xs (λ k d inside. rw (same x, same _) (rises.0 k d inside)),
-  rising-map number f same xs rises.1,
-)
 
 -- WHAT HOLDS
 -- the work of this number waits, runs or is finished
@@ -242,7 +232,7 @@ queued-sound late p id none early s =
     let only : All (λ (y : Work). (y.id == id) ≡ true → y ≡ w.work) p.works = found-only (λ (y : Work). y.id) id p.works w.work s.rising w.there in
     record {
       none = λ l. absurd (early l);
-      rising = rising-map (λ (y : Work). y.id) numbered same-id p.works s.rising;
+      rising = rising-changed (λ (y : Work). y.id) numbered same-id p.works s.rising;
       issued = All-map (λ (y : Work). has_number y.id p.issued ≡ true) numbered p.works (λ k d inside. ap (λ m. has_number m p.issued) (same-id _) ∙ s.issued k d inside);
       there = λ n.
           let old : stands p n ≡ true → list_any (has_work_number n) (map numbered p.works) ≡ true =

@@ -5,8 +5,6 @@ use Rattle.std.specs.Option.{option_or, unwrap_or, option_and_then, option_map_o
 use Rattle.std.proofs.lemmas.Bool.Decides.{nat_tests}
 use Rattle.std.proofs.lemmas.List.{length-map}
 use Rattle.std.proofs.lemmas.List.Sums.{sum_by_push, length-filter, count_by-le-length}
-use Rattle.napi_types.specs.declared.call.Call.{Call}
-use Rattle.napi_types.specs.declared.call.Call.TheVariants as call
 use Rattle.napi_types.specs.declared.duties.DueInfo.{DueInfo}
 use Rattle.napi_types.specs.declared.entry.Duty.{Duty}
 use Rattle.napi_types.specs.declared.entry.Duty.TheVariants as duty
@@ -32,6 +30,7 @@ use Rattle.napi_types.specs.hub.HubSteps.{is_looped, work_number, staged, draine
 use Rattle.napi_types.proofs.plain.Conditions.{and-left}
 use Rattle.napi_types.proofs.plain.Found.{has-found, found-with_record}
 use Rattle.napi_types.proofs.plain.Maps.{length-with_record}
+use Rattle.napi_types.proofs.plain.CallFacts.{needs-place}
 use Rattle.napi_types.proofs.hub.HubCases.{HubCase, asks, creates_work, deletes_work, cancels_work, queues_work, creates_function, alters, goes, ends_loop, drains, comes_to_finals, delivers, closes, finishes, ends, thread_ends, worker_ends, starts, finishes_work, calls, acquires, releases, references, unreferences}
 use Rattle.napi_types.proofs.hub.HubFunctions.{called-open, AreSoundFrom, IsAmong, found-among, alters-grows, all_closed-le, DutyFalls, Moves, first-moves}
 
@@ -357,10 +356,6 @@ abbrev pub places_of : What → ℕ
 places_of (what.Call c) = need c
 places_of (what.Host event) = 0
 
-least : (c : Call) → 1 ≤ need c
-least call.GetUndefined = omega arith
-least _ = omega arith
-
 nothing-room : (h : Hub) (k : ℕ) → 1 ≤ k → reserved_history h + 1 ≤ reserved_history h + k
 nothing-room h k some = by (reserved_history h)
   where
@@ -371,7 +366,7 @@ has-places : (a b : ℕ) (x : Entry) (w : What) → x.what ≡ w → a + 1 ≤ b
 has-places a b x w is fits = subst (λ v. a + 1 ≤ b + places_of v) (sym is) fits
 
 pub hub-room : (late : Bool) (h : Hub) (x : Entry) (told : Out) (n : Hub) → AreSoundFrom late 1 h.functions → HubCase h x told n → reserved_history n + 1 ≤ reserved_history h + places_of x.what
-hub-room late h x told _ sound (asks c is shared) = has-places _ _ x _ is (nothing-room h (need c) (least c))
+hub-room late h x told _ sound (asks c is shared) = has-places _ _ x _ is (nothing-room h (need c) (needs-place c))
 hub-room late h x told _ sound (creates_work job entry payload addon is fresh tells) =
     has-places _ _ x _ is (in-pool-room h (with_work (work_number x.reply.out) job addon entry payload) 1 1 (omega arith))
 hub-room late h x told _ sound (deletes_work w is none) = has-places _ _ x _ is (in-pool-room h (without_work w.0) 1 1 (omega arith))

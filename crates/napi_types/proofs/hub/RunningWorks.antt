@@ -1,6 +1,6 @@
 -- Over every history that replays, a work that waits or runs is in the pool under its number. While a worker executes a work, no entry of another actor
 -- changes that.
-use Rattle.std.proofs.Common.{◌≡◌, ◌∙◌, ◌<◌, ◌≤◌, ℕ, ◌+◌, ◌==◌, nat_lt, Bool, true, false, not, cond, ◌&&◌, ◌||◌, List, [], ◌∷◌, ◌++◌, map, filter, IsTrue, refl, ap, sym, subst, arith, inl, inr, ◌⊎◌, Option, Some, None, is_some, option_map}
+use Rattle.std.proofs.Common.{◌≡◌, ◌∙◌, ◌≤◌, ℕ, ◌+◌, ◌==◌, nat_lt, Bool, true, false, not, cond, ◌&&◌, ◌||◌, List, [], ◌∷◌, ◌++◌, map, filter, IsTrue, refl, ap, sym, subst, arith, inl, inr, ◌⊎◌, Option, Some, None, is_some, option_map}
 use Rattle.std.specs.List.{All, find}
 use Rattle.std.specs.Option.{option_map_or}
 use Rattle.std.proofs.lemmas.Bool.Decides.{nat_tests}
@@ -31,7 +31,7 @@ use Rattle.napi_types.specs.hub.HubMoves.{in_pool, without_duty}
 use Rattle.napi_types.specs.hub.HubSteps.{HubStep, IsHubNext, hub_along, hub_step, hub_step_of, environment_step, given_step, answered_step, answer_unless_given, is_timely, is_fresh_work, work_number, thread_step, is_thread_there, worker_step}
 use Rattle.napi_types.specs.hub.Replays.{HubReplays}
 use Rattle.napi_types.proofs.plain.Conditions.{and-right}
-use Rattle.napi_types.proofs.plain.Found.{IsRising, same-tells, same-self, apart-below, found-first, found-later, parts-rising, rising-filter, rising-with_record}
+use Rattle.napi_types.proofs.plain.Found.{IsRising, same-tells, same-self, apart-below, found-first, found-later, parts-rising, rising-filter, rising-with_record, rising-changed}
 use Rattle.napi_types.proofs.plain.Maps.{All-with_record}
 use Rattle.napi_types.proofs.hub.HubCases.{HubCase, asks, creates_work, deletes_work, cancels_work, queues_work, creates_function, alters, goes, ends_loop, drains, comes_to_finals, delivers, closes, finishes, ends, thread_ends, worker_ends, starts, finishes_work, hub-case}
 use Rattle.napi_types.proofs.hub.HubRooms.{IsWork, not-refused, has-with_number}
@@ -88,18 +88,6 @@ rising-found number [] rises = All-nil (λ x. found number (number x) [] ≡ Som
 rising-found number (x ∷ xs) rises =
     All-cons (λ y. found number (number y) (x ∷ xs) ≡ Some y) x xs (found-first number x xs)
     (λ k d inside. found-later number _ x xs (apart-below (number x) _ (rises.0 k d inside)) ∙ rising-found number xs rises.1 k d inside)
-
--- they rise as they did where each is changed and keeps its number
-rising-changed : {A : Type 0} (number : A → ℕ) (f : A → A) → ((x : A) → number (f x) ≡ number x) → (xs : List A) → IsRising number xs
-    → IsRising number (map f xs)
-rising-changed number f same [] rises = cc
-rising-changed number f same (x ∷ xs) rises = (
-  All-map (λ y. number (f x) < number y) f xs (λ k d inside. above x _ (rises.0 k d inside)),
-  rising-changed number f same xs rises.1,
-)
-  where
-    above : (y z : _) → number y < number z → number (f y) < number (f z)
-    above y z below = omega (arith, same y, same z, below)
 
 -- NUMBERS OF WORKS
 -- one of these executes the work of this number

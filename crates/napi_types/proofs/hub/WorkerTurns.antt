@@ -1,7 +1,6 @@
 -- Over every history that replays a worker starts and finishes works by turns, and then ends. No entry of another actor changes what it executes.
-use Rattle.std.proofs.Common.{◌≡◌, ◌∙◌, ℕ, ◌+◌, ◌==◌, Bool, true, false, not, cond, ◌||◌, List, [], ◌∷◌, filter, IsTrue, refl, ap, sym, subst, arith, Option, Some, None, is_some, is_none, option_map}
+use Rattle.std.proofs.Common.{◌≡◌, ◌∙◌, ℕ, ◌+◌, ◌==◌, Bool, true, false, not, cond, ◌||◌, List, [], ◌∷◌, filter, IsTrue, refl, ap, sym, subst, Option, Some, None, is_some, is_none, option_map}
 use Rattle.std.specs.List.{range_with_len}
-use Rattle.std.proofs.lemmas.Bool.Decides.{nat_tests}
 use Rattle.napi_types.specs.declared.entry.Actor.{Actor}
 use Rattle.napi_types.specs.declared.entry.Actor.TheVariants as actor
 use Rattle.napi_types.specs.declared.entry.Duty.{Duty}
@@ -21,14 +20,11 @@ use Rattle.napi_types.specs.hub.HubMoves.{without_duty}
 use Rattle.napi_types.specs.hub.HubSteps.{hub_step, hub_step_of, environment_step, is_worker_there, thread_step, worker_step, start_step, work_end_step}
 use Rattle.napi_types.specs.hub.Replays.{HubReplays}
 use Rattle.napi_types.proofs.plain.Conditions.{and-left, and-right}
-use Rattle.napi_types.proofs.plain.Found.{same-tells, same-self, found-filter, found-with_record}
+use Rattle.napi_types.proofs.plain.Found.{same-tells, same-self, found-filter, found-with_record, turned}
 use Rattle.napi_types.proofs.hub.HubCases.{HubCase, asks, creates_work, deletes_work, cancels_work, queues_work, creates_function, alters, goes, ends_loop, drains, comes_to_finals, delivers, closes, finishes, ends, thread_ends, worker_ends, starts, finishes_work, hub-case}
 use Rattle.napi_types.proofs.hub.HubRooms.{left-without}
 
 -- WHAT WORKERS EXECUTE
-turned : (a b : ℕ) → (a == b) ≡ (b == a)
-turned a b = grind (arith, nat_tests)
-
 started-executes : (v n w : ℕ) (p : WorkPool) → executed_by (with_execution v n p) w ≡ cond (v == w) (Some n) (executed_by p w)
 started-executes v n w p =
     ap (λ o. option_map (λ (e : Execution). e.work) o) (found-with_record (λ (e : Execution). e.worker) w (record { worker = v; work = n }) p.executions)

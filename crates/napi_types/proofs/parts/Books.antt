@@ -2,7 +2,7 @@
 use Rattle.std.proofs.Common.{◌≡◌, ◌∙◌, ℕ, zero, suc, ◌+◌, ◌<◌, ◌≤◌, ◌==◌, ◌||◌, Bool, true, false, cond, List, [], ◌∷◌, length, filter, slice_get, Option, Some, None, option_map, refl, ap, sym, arith}
 use Rattle.std.specs.List.{All, find}
 use Rattle.std.specs.Option.{unwrap_or}
-use Rattle.std.proofs.lemmas.Bool.{eqb-true}
+use Rattle.std.proofs.lemmas.Bool.{eqb-true, eq-eqb}
 use Rattle.std.proofs.lemmas.List.Elements.{All-head, All-tail, All-cons, All-nil}
 use Rattle.std.proofs.lemmas.Option.{slice_get-get_or}
 use Rattle.napi_types.specs.declared.entry.Phase.{Phase}
@@ -11,6 +11,8 @@ use Rattle.napi_types.specs.plain.Lists.{has_number, up_to}
 use Rattle.napi_types.specs.plain.Room.{one_if}
 use Rattle.napi_types.specs.parts.Book.{Book, Registration, TicketState, Registered, Due, Begun, Ended, Withdrawn, is_registered, is_due, is_owed, is_at, made_due, made_withdrawn, made_begun, made_due_and_begun, made_ended, moved, moved_from, moved_where, moved_at, due_where, all_due, registration_at, lowest_due, owed_tickets, with_registration, begun_in, may_begin_in}
 use Rattle.napi_types.proofs.plain.Issued.{has-up_to}
+use Rattle.napi_types.proofs.plain.Found.{apart-below, apart-above}
+use Rattle.napi_types.proofs.plain.Lists.{find-passes}
 
 -- ONE MORE
 pub owed-cons : (r : Registration) (rs : Book) → owed_tickets (r ∷ rs) ≡ one_if (is_owed r.state) + owed_tickets rs
@@ -66,18 +68,9 @@ pub owed-ended : (n : ℕ) (book : Book) → owed_tickets (moved_at made_ended n
 owed-ended n book = moved_from-keeps made_ended ended-keeps (λ m. m == n) 1 book
 
 -- MOVES THAT TAKE ONE AWAY
-same-number : (a n : ℕ) → a ≡ n → (a == n) ≡ true
-same-number a n h = grind arith
-
-apart-above : (a n : ℕ) → n < a → (a == n) ≡ false
-apart-above a n h = grind arith
-
-apart-below : (a n : ℕ) → a < n → (a == n) ≡ false
-apart-below a n h = grind arith
-
 moved_from-below : (move : TicketState → TicketState) (k n : ℕ) (rs : Book) → n < k → moved_from k move (λ m. m == n) rs ≡ rs
 moved_from-below move k n [] h = refl
-moved_from-below move k n (r ∷ rs) h = rw (apart-above k n h) (ap (λ qs. r ∷ qs) (moved_from-below move (suc k) n rs (omega arith)))
+moved_from-below move k n (r ∷ rs) h = rw (apart-above n k h) (ap (λ qs. r ∷ qs) (moved_from-below move (suc k) n rs (omega arith)))
 
 -- a state that passes the test is one before whose frame it stands, and the move takes it from there
 pub record Leaves (test : TicketState → Bool) (move : TicketState → TicketState) : Type 0 where
@@ -92,7 +85,7 @@ moved_from-leaves test move leaves k zero n (q ∷ rs) r at here is =
     let here_is : test q.state ≡ true = ap (λ (x : Registration). test x.state) same ∙ is in
     let stands : owed_tickets (q ∷ rs) ≡ 1 + owed_tickets rs = owed-cons q rs ∙ ap (λ b. one_if b + owed_tickets rs) (leaves.before q.state here_is) in
     let gone : owed_tickets (moved move q ∷ rs) ≡ 0 + owed_tickets rs = owed-cons (moved move q) rs ∙ ap (λ b. one_if b + owed_tickets rs) (leaves.after q.state here_is) in
-    rw (same-number k n (omega arith), moved_from-below move (suc k) n rs (omega arith)) (omega (arith, stands, gone))
+    rw (eq-eqb k n (omega arith), moved_from-below move (suc k) n rs (omega arith)) (omega (arith, stands, gone))
 moved_from-leaves test move leaves k (suc p) n (q ∷ rs) r at here is =
     let later : owed_tickets (moved_from (suc k) move (λ m. m == n) rs) + 1 ≡ owed_tickets rs = moved_from-leaves test move leaves (suc k) p n rs r (omega arith) here is in
     let now : owed_tickets (q ∷ rs) ≡ one_if (is_owed q.state) + owed_tickets rs = owed-cons q rs in
@@ -167,14 +160,6 @@ pub owed-begun : (p : Phase) (n : ℕ) (book : Book) (r : Registration) → regi
 owed-begun p n book r there is = moved_at-leaves (may_begin_in p) (begun_in p) (leaves-in p) n book (Some r) there is
 
 -- THE LOWEST
-find-passes : (test : ℕ → Bool) (xs : List ℕ) (n : ℕ) → find test xs ≡ Some n → test n ≡ true
-find-passes test [] n is = let no : ⊥ = cc in absurd no
-find-passes test (x ∷ xs) n is = by (test x) refl is (find-passes test xs n)
-  where
-    by : (b : Bool) → test x ≡ b → cond b (Some x) (find test xs) ≡ Some n → (find test xs ≡ Some n → test n ≡ true) → test n ≡ true
-    by true here is rest = let same : x ≡ n = cc in ap test (sym same) ∙ here
-    by false here is rest = rest is
-
 -- what is under a ticket that is due
 pub record IsDueAt (book : Book) (n : ℕ) : Type 0 where
   pub registration : Registration

@@ -72,7 +72,7 @@ numbers_more : (b : Bool) (v : Value) (vs : List Value) (ns : List ℕ) → numb
 numbers_more true v vs ns same = ap (λ ms. v.number ∷ ms) same
 numbers_more false v vs ns same = same
 
-numbers-filter : (p : ℕ → Bool) (vs : List Value) → numbers (filter (λ v. p v.number) vs) ≡ filter p (numbers vs)
+pub numbers-filter : (p : ℕ → Bool) (vs : List Value) → numbers (filter (λ v. p v.number) vs) ≡ filter p (numbers vs)
 numbers-filter p [] = refl
 numbers-filter p (v ∷ vs) = numbers_more (p v.number) v (filter (λ (w : Value). p w.number) vs) (filter p (numbers vs)) (numbers-filter p vs)
 

@@ -1,5 +1,5 @@
--- Two conditions that both hold.
-use Rattle.std.proofs.Common.{Bool, true, false, ◌&&◌, IsTrue, refl}
+-- Two conditions.
+use Rattle.std.proofs.Common.{◌≡◌, Bool, true, false, ◌&&◌, IsTrue, refl, sym}
 
 pub and-left : (a b : Bool) → IsTrue (a && b) → IsTrue a
 and-left true b h = refl
@@ -12,3 +12,9 @@ and-right false b h = cc
 pub and-both : (a b : Bool) → IsTrue a → IsTrue b → IsTrue (a && b)
 and-both true b h k = k
 and-both false b h k = h
+
+-- they hold alike where each gives the other
+pub alike : (a b : Bool) → (a ≡ true → b ≡ true) → (b ≡ true → a ≡ true) → a ≡ b
+alike true b there back = sym (there refl)
+alike false true there back = back refl
+alike false false there back = refl

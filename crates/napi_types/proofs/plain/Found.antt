@@ -1,10 +1,10 @@
 -- What is found in a finite map: a list of records by rising number.
-use Rattle.std.proofs.Common.{◌≡◌, ◌∙◌, ℕ, ◌<◌, ◌==◌, nat_lt, ◌||◌, Bool, true, false, not, cond, List, [], ◌∷◌, ◌++◌, filter, Option, Some, None, is_some, refl, ap, sym, subst, arith}
+use Rattle.std.proofs.Common.{◌≡◌, ◌∙◌, ℕ, ◌<◌, ◌==◌, nat_lt, ◌||◌, Bool, true, false, not, cond, List, [], ◌∷◌, ◌++◌, filter, Option, Some, None, is_some, refl, ap, sym, subst, arith, suc, ◌+◌, ◌≤◌, inl, inr, map}
 use Rattle.std.specs.List.{All}
 use Rattle.std.specs.Option.{option_or, option_and_then}
-use Rattle.std.proofs.lemmas.Bool.{ltb-true, lt-ltb, le-ltb, or_parts}
+use Rattle.std.proofs.lemmas.Bool.{ltb-true, lt-ltb, le-ltb, or_parts, cases_lt}
 use Rattle.std.proofs.lemmas.Bool.Decides.{nat_tests}
-use Rattle.std.proofs.lemmas.List.Elements.{All-head, All-tail, All-cons, All-nil, All-append, All-filter}
+use Rattle.std.proofs.lemmas.List.Elements.{All-head, All-tail, All-cons, All-nil, All-append, All-filter, All-map}
 use Rattle.napi_types.specs.plain.Lists.{found, has, with_record, as_map}
 use Rattle.napi_types.proofs.plain.Maps.{filter_all, filter_none}
 
@@ -20,6 +20,19 @@ apart-above m n below = grind (arith, nat_tests)
 
 pub same-self : (n : ℕ) → (n == n) ≡ true
 same-self n = grind (arith, nat_tests)
+
+pub turned : (m n : ℕ) → (m == n) ≡ (n == m)
+turned m n = grind (arith, nat_tests)
+
+pub next-same : (m n : ℕ) → (suc m == suc n) ≡ (m == n)
+next-same m n = grind (arith, nat_tests)
+
+pub next-above : (m n : ℕ) → m ≤ n → (m ≡ n → ⊥) → m + 1 ≤ n
+next-above m n from apart =
+    elim (cases_lt m n) [
+      | inl less ↦ omega (arith, less)
+      | inr least ↦ absurd (apart (omega (arith, from, least)))
+    ]
 
 -- the records lie by rising number, no two with the same
 abbrev pub IsRising : {A : Type 0} → (A → ℕ) → List A → Type 0
@@ -180,6 +193,12 @@ module _ {A : Type 0} (number : A → ℕ) where
     where
       from : (y : A) (zs : List A) → number y < number x → All (λ z. number x < number z) zs → All (λ z. number y < number z) (x ∷ zs)
       from y zs below above = All-cons (λ z. number y < number z) x zs below (λ i e within. omega (arith, below, above i e within))
+
+  -- records that are changed and keep their numbers
+  pub rising-changed : (f : A → A) → ((x : A) → number (f x) ≡ number x) → (xs : List A) → IsRising number xs → IsRising number (map f xs)
+  rising-changed f same [] rises = tt
+  rising-changed f same (x ∷ xs) rises =
+      (All-map (λ y. number (f x) < number y) f xs (λ k d inside. rw (same x, same _) (rises.0 k d inside)), rising-changed f same xs rises.1)
 
   pub rising-as_map : (xs : List A) → IsRising number (as_map number xs)
   rising-as_map [] = cc

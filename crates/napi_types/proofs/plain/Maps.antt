@@ -25,6 +25,10 @@ swapped true true c = refl
 swapped true false c = refl
 swapped false b c = refl
 
+-- of two numbers that are not the same one is below the other
+pub one-below : (m n : ℕ) → (m == n) ≡ false → nat_lt m n ≡ not (nat_lt n m)
+one-below m n apart = grind (arith, nat_tests)
+
 -- ONE RECORD MORE
 module _ {A : Type 0} (number : A → ℕ) (x : A) where
   abbrev lower : A → Bool
@@ -65,14 +69,11 @@ module _ {A : Type 0} (number : A → ℕ) (x : A) where
       All-append P (filter lower xs) (x ∷ filter higher xs) (All-filter lower P xs all) (All-cons P x (filter higher xs) here (All-filter higher P xs all))
 
   -- a test finds something where it finds the record or one of the others, if none of them has its number
-  either : (n m : ℕ) → (n == m) ≡ false → nat_lt n m ≡ not (nat_lt m n)
-  either n m apart = grind (arith, nat_tests)
-
   parts-any : (p : A → Bool) (xs : List A) → has number (number x) xs ≡ false → list_any p xs ≡ (list_any p (filter lower xs) || list_any p (filter higher xs))
   parts-any p [] absent = refl
   parts-any p (y ∷ ys) absent =
       let parts = or_parts (number y == number x) (has number (number x) ys) absent in
-      by (lower y) (higher y) (either (number y) (number x) parts.0) (parts-any p ys parts.1)
+      by (lower y) (higher y) (one-below (number y) (number x) parts.0) (parts-any p ys parts.1)
     where
       first : (a b c : Bool) → (a || (b || c)) ≡ ((a || b) || c)
       first true b c = refl
@@ -124,7 +125,14 @@ map-with_record number f same x xs =
     ∙ ap (λ ys. ys ++ f x ∷ map f (filter (λ y. nat_lt (number x) (number y)) xs)) (map-filter f _ (λ y. nat_lt (number y) (number (f x))) (λ y. rw (same y, same x) refl) xs)
     ∙ ap (λ ys. filter (λ y. nat_lt (number y) (number (f x))) (map f xs) ++ f x ∷ ys) (map-filter f _ (λ y. nat_lt (number (f x)) (number y)) (λ y. rw (same y, same x) refl) xs)
 
--- WHAT HOLDS OF NUMBERS
+-- NUMBERS AMONG OTHERS
+-- a number is among two lists where it is in one of them
+pub has-left : (n : ℕ) (ms ns : List ℕ) → has_number n ms ≡ true → has_number n (ms ++ ns) ≡ true
+has-left n ms ns here = list_any-append (λ m. m == n) ms ns ∙ or_left (has_number n ms) (has_number n ns) here
+
+pub has-right : (n : ℕ) (ms ns : List ℕ) → has_number n ns ≡ true → has_number n (ms ++ ns) ≡ true
+has-right n ms ns here = list_any-append (λ m. m == n) ms ns ∙ or_right (has_number n ms) (has_number n ns) here
+
 -- what holds of all of these numbers holds of each that is among them
 pub among-holds : (P : ℕ → Type 0) (ns : List ℕ) (n : ℕ) → All P ns → has_number n ns ≡ true → P n
 among-holds P [] n all here = cc

@@ -1,30 +1,15 @@
 -- In which list the entry of a call stands: a shared call has it in the history, and every other in the journal.
 use Rattle.std.proofs.Common.{◌≡◌, Bool, true, false, not, IsTrue, refl}
 use Rattle.napi_types.specs.declared.call.Call.{Call}
-use Rattle.napi_types.specs.declared.call.Call.TheVariants as call
 use Rattle.napi_types.specs.plain.Built.{is_built}
 use Rattle.napi_types.specs.plain.Guards.{is_shared}
 use Rattle.napi_types.specs.environment.JournalRoom.{journal_room}
 use Rattle.napi_types.specs.hub.HistoryRoom.{history_room}
 use Rattle.napi_types.specs.runs.CallRoom.{room_of}
 use Rattle.napi_types.specs.runs.Machine.{Machine}
+use Rattle.napi_types.proofs.plain.CallFacts.{built-local}
 
--- no shared call is built, ..
-pub built-local : (c : Call) → is_built c ≡ true → is_shared c ≡ false
-built-local (call.CreateAsyncWork job completion payload) h = cc
-built-local (call.DeleteAsyncWork w) h = cc
-built-local (call.CancelAsyncWork w) h = cc
-built-local (call.QueueAsyncWork w) h = cc
-built-local (call.CreateThreadsafeFunction f entry most initial finalizer context) h = cc
-built-local (call.CallThreadsafeFunction f payload mode) h = cc
-built-local (call.AcquireThreadsafeFunction f) h = cc
-built-local (call.ReleaseThreadsafeFunction f how) h = cc
-built-local (call.RefThreadsafeFunction f) h = cc
-built-local (call.UnrefThreadsafeFunction f) h = cc
-built-local (call.GetThreadsafeFunctionContext f) h = cc
-built-local _ h = refl
-
--- .. every call that is not shared has its entry in the journal, ..
+-- every call that is not shared has its entry in the journal, ..
 pub local-room : (m : Machine) (c : Call) → is_shared c ≡ false → room_of m c ≡ journal_room m.env m.journal_length m.limits.journal
 local-room m c local = rw local refl
 

@@ -5,8 +5,6 @@ use Rattle.napi_types.specs.declared.call.Call.TheVariants as call
 use Rattle.napi_types.specs.declared.duties.DueInfo.{DueInfo}
 use Rattle.napi_types.specs.declared.entry.Actor.{Actor}
 use Rattle.napi_types.specs.declared.entry.Actor.TheVariants as actor
-use Rattle.napi_types.specs.declared.entry.Duty.{Duty}
-use Rattle.napi_types.specs.declared.entry.Duty.TheVariants as duty
 use Rattle.napi_types.specs.declared.entry.Entry.{Entry}
 use Rattle.napi_types.specs.declared.entry.HostStep.{HostStep}
 use Rattle.napi_types.specs.declared.entry.HostStep.TheVariants as host
@@ -21,12 +19,13 @@ use Rattle.napi_types.specs.environment.Environment.{Environment}
 use Rattle.napi_types.specs.environment.SharedCalls.{shared_entry, with_root, after_shared}
 use Rattle.napi_types.specs.hub.Hub.{Hub}
 use Rattle.napi_types.specs.hub.HubCalls.{is_thread_call}
-use Rattle.napi_types.specs.hub.HubMoves.{HubMove, Delivers, Closes, Finishes, hub_move, without_duty}
+use Rattle.napi_types.specs.hub.HubMoves.{HubMove, Delivers, Closes, Finishes, hub_move}
 use Rattle.napi_types.specs.hub.HubSteps.{HubStep, hub_step, hub_step_of, environment_step, begin_step, close_step, finish_step, frame_end_step, delivery_entry, thread_step, thread_event, worker_step, worker_event}
 use Rattle.napi_types.specs.runs.Machine.{Machine}
 use Rattle.napi_types.specs.runs.Step.{answered_by, move_step, other_step}
 use Rattle.napi_types.proofs.environment.FrameChanges.{hangings_of}
 use Rattle.napi_types.proofs.hub.HubKeeps.{given-keeps, other-keeps, thread-calls}
+use Rattle.napi_types.proofs.hub.HubHolds.{duty-stage}
 
 -- THE ENVIRONMENT AFTER A SHARED CALL
 -- a new thread-safe function may keep a value alive, and nothing else changes with it
@@ -52,15 +51,9 @@ pub end-stage : (h : Hub) (x : Entry) → x.actor ≡ actor.Env → x.what ≡ w
 end-stage h x who is = ap (λ (s : HubStep). s.after.stage) (hub_step-end h x who is) ∙ frame_end-stage h x h.standing
 
 -- a move leaves it
-without-stage : (d : Duty) (h : Hub) → (without_duty d h).stage ≡ h.stage
-without-stage (duty.Ticket t) h = refl
-without-stage (duty.Work n) h = refl
-without-stage (duty.Item f n) h = refl
-without-stage (duty.Function f) h = refl
-
 begin-stage : (h : Hub) (x : Entry) (o : Option HubMove) → (begin_step h x o).after.stage ≡ h.stage
 begin-stage h x None = refl
-begin-stage h x (Some (Delivers d)) = without-stage d.duty h
+begin-stage h x (Some (Delivers d)) = duty-stage d.duty h
 begin-stage h x (Some (Closes n)) = refl
 begin-stage h x (Some (Finishes n)) = refl
 
