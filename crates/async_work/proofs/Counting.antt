@@ -2,19 +2,13 @@
 use Rattle.std.proofs.Common.{◌≡◌, ◌∙◌, ℕ, zero, suc, ◌+◌, ◌-◌, ◌<◌, ◌≤◌, ◌==◌, ◌||◌, Bool, true, false, not, cond, List, [], ◌∷◌, ◌++◌, length, map, filter, set, find, Option, Some, None, is_some, option_map, refl, ap, sym, arith}
 use Rattle.std.specs.List.{All, slice_get, cons_option, count_by, list_any}
 use Rattle.std.specs.Option.{option_and_then}
-use Rattle.std.proofs.lemmas.Bool.Decides.{nat_tests}
 use Rattle.std.proofs.lemmas.List.Sums.{sum_by-cons}
 use Rattle.std.proofs.lemmas.List.Elements.{All-head, All-tail, All-cons, All-nil}
 use Rattle.std.proofs.lemmas.Option.{slice_get_within, slice_get-map}
 use Rattle.napi_types.specs.plain.Lists.{found, has, as_map}
-use Rattle.napi_types.proofs.plain.Found.{IsRising, same-self, same-tells, apart-below, apart-above, found-above, found-first, found-later, found-All, found-number, found-as_map, rising-as_map, has-found}
+use Rattle.napi_types.proofs.plain.Found.{IsRising, same-self, same-tells, apart-below, apart-above, found-above, found-first, found-later, found-All, found-number, found-as_map, rising-as_map, has-found, next-same}
+use Rattle.napi_types.proofs.plain.Conditions.{alike}
 use Rattle.async_work.specs.Counted.{element, listed}
-
-pub turned : (m n : ℕ) → (m == n) ≡ (n == m)
-turned m n = grind (arith, nat_tests)
-
-next-same : (m n : ℕ) → (suc m == suc n) ≡ (m == n)
-next-same m n = grind (arith, nat_tests)
 
 module _ {A : Type 0} where
   -- ONE ELEMENT IS ANOTHER, OR NEW
@@ -135,11 +129,6 @@ module _ {A B : Type 0} (f : ℕ → A → Option B) where
         place at = omega arith
 
 -- WHAT IS FOUND
-pub either : (a b : Bool) → (a ≡ true → b ≡ true) → (b ≡ true → a ≡ true) → a ≡ b
-either true b there back = sym (there refl)
-either false true there back = back refl
-either false false there back = refl
-
 pub some : {A : Type 0} (o : Option A) → is_some o ≡ true → (x : A) × (o ≡ Some x)
 some None is = let no : ⊥ = cc in absurd no
 some (Some x) is = (x, refl)
@@ -169,7 +158,7 @@ module _ {A : Type 0} where
   -- the map by g of a list in which each is found by g has the same
   pub has-as_map : (f g : A → ℕ) (n : ℕ) (xs : List A) → ((m : ℕ) (x : A) → found f m xs ≡ Some x → found g (g x) xs ≡ Some x)
       → has f n (as_map g xs) ≡ has f n xs
-  has-as_map f g n xs each = has-found f n (as_map g xs) ∙ either (is_some (found f n (as_map g xs))) (is_some (found f n xs)) there back
+  has-as_map f g n xs each = has-found f n (as_map g xs) ∙ alike (is_some (found f n (as_map g xs))) (is_some (found f n xs)) there back
       ∙ sym (has-found f n xs)
     where
       there : is_some (found f n (as_map g xs)) ≡ true → is_some (found f n xs) ≡ true

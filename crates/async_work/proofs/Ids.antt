@@ -9,14 +9,14 @@ use Rattle.std.proofs.lemmas.Option.{slice_get-get_or}
 use Rattle.napi_types.specs.declared.call.JobSpec.{JobSpec}
 use Rattle.napi_types.specs.plain.Lists.{found, has_number, with_record, with_number, up_to}
 use Rattle.napi_types.specs.parts.Works.{Work, is_number, has_work_number}
-use Rattle.napi_types.proofs.plain.Found.{IsRising, same-self, same-tells, apart-above, found-same, found-with_record, found-filter, rising-with_record, rising-filter}
+use Rattle.napi_types.proofs.plain.Found.{IsRising, same-self, same-tells, apart-above, found-same, found-with_record, found-filter, rising-with_record, rising-filter, turned}
 use Rattle.napi_types.proofs.plain.Issued.{above-up_to, up_to-more}
 use Rattle.async_work.specs.Counted.{element}
 use Rattle.async_work.specs.declared.place.Place.{Place}
 use Rattle.async_work.specs.declared.place.Standing.{Standing}
 use Rattle.async_work.specs.declared.place.Standing.TheVariants as standing
 use Rattle.async_work.specs.Places.{Placed, standing_number, place_seen, places_seen, place_at, with_place_number, work_of, listed_work, works_of}
-use Rattle.async_work.proofs.Counting.{element-within, element-set, element-push, element-map, listed-All, listed-rising, found-listed, find-only, turned}
+use Rattle.async_work.proofs.Counting.{element-within, element-set, element-push, element-map, listed-All, listed-rising, found-listed, find-only}
 
 pub seen_of : {X Y : Type 0} (f : X → Y) (o : Option (Bor X)) → option_map (λ p. f p.now) o ≡ option_map f (option_copied o)
 seen_of f None = refl

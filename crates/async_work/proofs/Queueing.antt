@@ -4,17 +4,18 @@ use Rattle.std.specs.List.{slice_get, cons_option}
 use Rattle.std.specs.Option.{option_and_then, option_map_or}
 use Rattle.std.proofs.lemmas.List.{length-set, length-map, map-set, map-append}
 use Rattle.std.proofs.lemmas.Option.{slice_get-get_or}
+use Rattle.std.proofs.lemmas.Bool.{ltb-true}
 use Rattle.napi_types.specs.declared.call.JobSpec.{JobSpec}
 use Rattle.napi_types.specs.declared.duties.Slip.{Slip}
 use Rattle.napi_types.specs.plain.Lists.{found, has_number, one}
-use Rattle.napi_types.proofs.plain.Found.{IsRising, same-self, same-tells, found-same, found-filter, rising-filter, has-found}
+use Rattle.napi_types.proofs.plain.Found.{IsRising, same-self, same-tells, found-same, found-filter, rising-filter, has-found, turned}
 use Rattle.napi_types.proofs.plain.Maps.{all-among}
 use Rattle.async_work.specs.declared.line.Numbered.{Numbered}
 use Rattle.async_work.specs.declared.line.Outcome as code
 use Rattle.async_work.specs.declared.line.Stage.{Stage}
 use Rattle.async_work.specs.declared.line.Stage.TheVariants as stage
 use Rattle.async_work.specs.Line.{LineStage, Done, InLine, stage_seen, entry_seen, line_seen, outcome_seen, outcomes_seen, waiting_job, with_stage, entry_at, stage_at, id_at, waits, listed_number, waiting}
-use Rattle.async_work.proofs.Counting.{element-set, element-push, element-map, element-past, element-within, listed-push, listed-rising, found-listed, length-without, turned}
+use Rattle.async_work.proofs.Counting.{element-set, element-push, element-map, element-past, element-within, listed-push, listed-rising, found-listed, length-without}
 
 -- what is read at a place of the line is the work of its number
 pub entry_at-read : {J : Type 0} (spec : J → JobSpec) (line : List (Numbered J)) (n at : ℕ) (x : Numbered J) → n ≡ at + 1 → at < length line
@@ -140,9 +141,6 @@ waiting-more line e s is = listed-push listed_number 1 line e ∙ ap (λ o. wait
 pub waiting-none : (line : List InLine) → ((m : ℕ) → waits line m ≡ false) → waiting line ≡ []
 waiting-none line none = found-same (λ m. m) (waiting line) [] (rising-waiting line) tt (λ m. found-waiting line m ∙ ap (λ b. cond b (Some m) None) (none m))
 
-lower : (m n : ℕ) → nat_lt m n ≡ true → m < n
-lower m n h = grind arith
-
 upper : (m n : ℕ) → (m == n) ≡ false → nat_lt m n ≡ false → n < m
 upper m n h k = grind arith
 
@@ -168,7 +166,7 @@ waiting-first line n here passed =
         case : (a b c : Bool) → (m == n) ≡ a → waits line m ≡ b → nat_lt m n ≡ c → is_some (cond (not a) (cond b (Some m) None) None) ≡ true → n < m
         case true b c same waiting_is before passes = let no : ⊥ = cc in absurd no
         case false false c same waiting_is before passes = let no : ⊥ = cc in absurd no
-        case false true true same waiting_is before passes = let no : ⊥ = let it : waits line m ≡ false = passed m (lower m n before) in cc in absurd no
+        case false true true same waiting_is before passes = let no : ⊥ = let it : waits line m ≡ false = passed m (ltb-true m n before) in cc in absurd no
         case false true false same waiting_is before passes = upper m n same before
 
     by : (m : ℕ) (b : Bool) → (n == m) ≡ b → cond (waits line m) (Some m) None ≡ cond b (Some n) (found (λ m. m) m rest)

@@ -9,13 +9,14 @@ use Rattle.std.proofs.lemmas.List.Sums.{sum_by-set, sum_by-append, sum_by-cons, 
 use Rattle.std.proofs.lemmas.Bool.Decides.{nat_tests}
 use Rattle.napi_types.specs.declared.duties.Slip.{Slip}
 use Rattle.napi_types.specs.parts.Book.{Registration, lowest_due, TicketState, Registered, Due, Begun, Ended, Withdrawn, is_registered, is_due, is_begun, is_at, moved, made_due, made_withdrawn, made_begun, made_ended, made_due_and_begun}
+use Rattle.napi_types.proofs.plain.Found.{apart-above}
 use Rattle.finalizer_queue.specs.declared.rows.Row.{Row}
 use Rattle.finalizer_queue.specs.declared.rows.RowState.{RowState}
 use Rattle.finalizer_queue.specs.declared.rows.RowState.TheVariants as state
 use Rattle.finalizer_queue.specs.Rows.{registration_in, row_registration, state_of, book_of, registered_count, AreKept}
 use Rattle.finalizer_queue.proofs.Heaps.{times, times-moved, times-more, bound-times}
 use Rattle.finalizer_queue.proofs.Lowest.{lowest-is, lowest-none, lowest-some}
-use Rattle.finalizer_queue.proofs.Moves.{IsRow, apart-above, is_at-row, is_at-set, is_at-within}
+use Rattle.finalizer_queue.proofs.Moves.{IsRow, is_at-row, is_at-set, is_at-within}
 
 itself : (n : ℕ) → ◌≡◌ {A = ℕ} (cond (n == n) 1 0) 1
 itself n = grind arith
@@ -315,7 +316,7 @@ filled-lowest rows spare row_places count places [] kept long =
 filled-lowest rows spare row_places count places (t ∷ ts) kept long =
     let is = times-due rows spare row_places count places (t ∷ ts) kept t.0 (omega (arith, itself t.0, times-more t.0 t ts)) in
     let given = is_at-within is_due rows t.0 is in
-    let filled : (count == 0) ≡ false = apart-above count 0 (omega (arith, long)) in
+    let filled : (count == 0) ≡ false = apart-above 0 count (omega (arith, long)) in
     ap not filled ∙ sym (lowest-some (book_of rows) t.0 given.0 (omega (arith, given.1, length-map rows row_registration)) is)
 
 -- a place in the heap is free for a ticket that is registered

@@ -3,34 +3,24 @@ use Rattle.std.proofs.Common.{◌≡◌, ◌∙◌, ℕ, zero, suc, ◌+◌, ◌
 use Rattle.std.specs.Option.{unwrap_or}
 use Rattle.std.proofs.lemmas.List.{map-set, length-map}
 use Rattle.std.proofs.lemmas.Option.{slice_get-map, slice_get_read, slice_get_within, slice_get_past}
+use Rattle.std.proofs.lemmas.Bool.{eq-eqb}
 use Rattle.napi_types.specs.parts.Book.{Book, Registration, TicketState, made_due, moved, moved_from, moved_at, due_where, all_due, registration_at, is_at}
+use Rattle.napi_types.proofs.plain.Found.{apart-below, apart-above, next-same}
 use Rattle.finalizer_queue.specs.declared.rows.Row.{Row}
 use Rattle.finalizer_queue.specs.Rows.{row_registration, state_of, book_of}
-
-pub apart-above : (a n : ℕ) → n < a → (a == n) ≡ false
-apart-above a n h = grind arith
-
-pub apart-below : (a n : ℕ) → a < n → (a == n) ≡ false
-apart-below a n h = grind arith
-
-next-same : (a n : ℕ) → (suc a == suc n) ≡ (a == n)
-next-same a n = grind arith
-
-pub same-number : (a n : ℕ) → a ≡ n → (a == n) ≡ true
-same-number a n h = grind arith
 
 -- A TICKET IS MOVED
 -- the tickets from k on are as they were, where the one that moves is below
 moved_from-below : (move : TicketState → TicketState) (k n : ℕ) (rs : List Registration) → n < k → moved_from k move (λ m. m == n) rs ≡ rs
 moved_from-below move k n [] h = refl
-moved_from-below move k n (r ∷ rs) h = rw (apart-above k n h) (ap (λ qs. r ∷ qs) (moved_from-below move (suc k) n rs (omega arith)))
+moved_from-below move k n (r ∷ rs) h = rw (apart-above n k h) (ap (λ qs. r ∷ qs) (moved_from-below move (suc k) n rs (omega arith)))
 
 moved_from-at : (move : TicketState → TicketState) (k p n : ℕ) (rs : List Registration) (x y : Registration) → n ≡ k + p → slice_get rs p ≡ Some x → y ≡ moved move x
     → set rs p y ≡ moved_from k move (λ m. m == n) rs
 moved_from-at move k p n [] x y at here is = let no : ⊥ = cc in absurd no
 moved_from-at move k zero n (r ∷ rs) x y at here is =
     let same : r ≡ x = cc in
-    rw (same-number k n (omega arith), moved_from-below move (suc k) n rs (omega arith), same, is) refl
+    rw (eq-eqb k n (omega arith), moved_from-below move (suc k) n rs (omega arith), same, is) refl
 moved_from-at move k (suc p) n (r ∷ rs) x y at here is =
     rw (apart-below k n (omega arith)) (ap (λ qs. r ∷ qs) (moved_from-at move (suc k) p n rs x y (omega arith) here is))
 
@@ -53,7 +43,7 @@ book_of-moved move rows n x y row is =
 pub slice_get-set : {X : Type 0} (xs : List X) (p q : ℕ) (y : X) → p < length xs → slice_get (set xs p y) q ≡ cond (q == p) (Some y) (slice_get xs q)
 slice_get-set [] p q y h = absurd (omega arith)
 slice_get-set (x ∷ xs) zero zero y h = refl
-slice_get-set (x ∷ xs) zero (suc q) y h = rw (apart-above (suc q) 0 (omega arith)) refl
+slice_get-set (x ∷ xs) zero (suc q) y h = rw (apart-above 0 (suc q) (omega arith)) refl
 slice_get-set (x ∷ xs) (suc p) zero y h = rw (apart-below 0 (suc p) (omega arith)) refl
 slice_get-set (x ∷ xs) (suc p) (suc q) y h = rw (next-same q p) (slice_get-set xs p q y (omega arith))
 

@@ -1,21 +1,13 @@
 -- What was taken has begun.
-use Rattle.std.proofs.Common.{◌≡◌, ◌∙◌, ℕ, ◌==◌, Bool, true, false, cond, List, [], ◌∷◌, Option, Some, option_map, refl, sym, ap}
-use Rattle.std.specs.List.{find}
+use Rattle.std.proofs.Common.{◌≡◌, ◌∙◌, ℕ, ◌==◌, Bool, true, false, cond, Option, Some, option_map, refl, sym, ap}
+use Rattle.std.proofs.lemmas.Bool.{eq-eqb}
 use Rattle.std.specs.Option.{unwrap_or}
 use Rattle.napi_types.specs.declared.duties.DueInfo.{DueInfo}
 use Rattle.napi_types.specs.plain.Lists.{up_to}
 use Rattle.napi_types.specs.parts.Book.{Book, Registration, TicketState, Registered, Due, Begun, Ended, Withdrawn, is_due, is_begun, is_at, made_begun, moved, moved_at, registration_at, lowest_due}
+use Rattle.napi_types.proofs.plain.Lists.{find-passes}
 use Rattle.napi_types.proofs.parts.Moved.{registration_at-moved_where}
 use Rattle.finalizer_queue.specs.Kept.{Takes, ticket_number}
-use Rattle.finalizer_queue.proofs.Moves.{same-number}
-
-find-passes : (test : ℕ → Bool) (xs : List ℕ) (n : ℕ) → find test xs ≡ Some n → test n ≡ true
-find-passes test [] n is = let no : ⊥ = cc in absurd no
-find-passes test (x ∷ xs) n is = by (test x) refl is (find-passes test xs n)
-  where
-    by : (b : Bool) → test x ≡ b → cond b (Some x) (find test xs) ≡ Some n → (find test xs ≡ Some n → test n ≡ true) → test n ≡ true
-    by true here is rest = let same : x ≡ n = cc in ap test (sym same) ∙ here
-    by false here is rest = rest is
 
 -- a ticket that was the lowest due, and begins
 pub lowest-begun : (old : Book) (n : ℕ) (r : Registration) → lowest_due old ≡ Some n → registration_at old n ≡ Some r → is_at is_begun (moved_at made_begun n old) n ≡ true
@@ -24,7 +16,7 @@ lowest-begun old n r lowest there =
     let due : is_due r.state ≡ true = ap (tells is_due) (sym there) ∙ find-passes (is_at is_due old) (up_to _) n lowest in
     ap (tells is_begun) (registration_at-moved_where made_begun (λ m. m == n) old n)
     ∙ ap (λ o. tells is_begun (option_map (λ q. cond (n == n) (moved made_begun q) q) o)) there
-    ∙ ap (λ b. is_begun (cond b (moved made_begun r) r).state) (same-number n n refl)
+    ∙ ap (λ b. is_begun (cond b (moved made_begun r) r).state) (eq-eqb n n refl)
     ∙ begins r.state due
   where
     begins : (s : TicketState) → is_due s ≡ true → is_begun (made_begun s) ≡ true

@@ -15,12 +15,13 @@ use Rattle.std.proofs.lemmas.List.{get_or_append_left, get_or-append-add, get_or
 use Rattle.std.proofs.lemmas.Option.{slice_get-get_or, slice_get_past}
 use Rattle.napi_types.specs.declared.ids.ScopeKind.TheVariants as kind
 use Rattle.napi_types.specs.parts.Scopes.{value_in}
+use Rattle.napi_types.proofs.plain.Lists.{option_or-none}
 use Rattle.handle_scope.specs.declared.scopes.HeldHandle.{HeldHandle}
 use Rattle.handle_scope.specs.declared.scopes.ScopeMark.{ScopeMark}
 use Rattle.handle_scope.specs.declared.scopes.Escape.{Escape}
 use Rattle.handle_scope.specs.Marks.{held_of, waiting, all_waiting, waiting_value, free_escapes, Rises, AreAtMost, IsTracked}
 use Rattle.handle_scope.proofs.Numbers.{Rises-push, Rises-tail, Rises-filter, Lacks, Lacks-tail, HasAt, HasAt-tail}
-use Rattle.handle_scope.proofs.Lookups.{value_in-append, option_or-none}
+use Rattle.handle_scope.proofs.Lookups.{value_in-append}
 use Rattle.handle_scope.proofs.Marks.{escaped_mark, opened_mark}
 use Rattle.handle_scope.proofs.Places.{reverse-cons}
 

@@ -4,6 +4,7 @@ use Rattle.std.proofs.lemmas.Bool.Decides.{nat_tests}
 use Rattle.std.proofs.lemmas.List.{get_or-map, length-map, get_or-append-add, length-append}
 use Rattle.std.specs.Option.{option_or}
 use Rattle.napi_types.specs.parts.Scopes.{Held, value_in}
+use Rattle.napi_types.proofs.plain.Lists.{option_or-none}
 use Rattle.handle_scope.specs.declared.scopes.HeldHandle.{HeldHandle}
 use Rattle.handle_scope.specs.Marks.{held_of, Rises}
 use Rattle.handle_scope.proofs.Numbers.{HasAt, Lacks, HasAt-tail, Lacks-tail, Rises-tail}
@@ -11,10 +12,6 @@ use Rattle.handle_scope.proofs.Numbers.{HasAt, Lacks, HasAt-tail, Lacks-tail, Ri
 pub option_or-assoc : {A : Type 0} (a b c : Option A) → option_or (option_or a b) c ≡ option_or a (option_or b c)
 option_or-assoc None b c = refl
 option_or-assoc (Some x) b c = refl
-
-pub option_or-none : {A : Type 0} (a : Option A) → option_or a None ≡ a
-option_or-none None = refl
-option_or-none (Some x) = refl
 
 -- the first handle, or what the rest says
 value_in-first : (p : Held) (hs : List Held) (h : ℕ) (same : Bool) → (p.handle == h) ≡ same → value_in (p ∷ hs) h ≡ cond same (Some p.value) (value_in hs h)

@@ -3,26 +3,28 @@ use Rattle.std.proofs.Common.{◌≡◌, ◌∙◌, ℕ, zero, suc, ◌+◌, ◌
 use Rattle.std.specs.List.{filter, filter_map}
 use Rattle.std.proofs.lemmas.List.{length-set, length-append}
 use Rattle.std.proofs.lemmas.List.Elements.{filter_map-append}
+use Rattle.std.proofs.lemmas.Bool.{eq-eqb}
 use Rattle.napi_types.specs.declared.ids.ValueId.{ValueId}
 use Rattle.napi_types.specs.plain.Lists.{has_number, with_record, as_map, with_number, up_to}
 use Rattle.napi_types.specs.parts.References.{Reference, ReferenceMap, with_reference, without_reference, with_count}
 use Rattle.napi_types.proofs.plain.Issued.{above-up_to, up_to-more}
 use Rattle.napi_types.proofs.plain.Maps.{with_record-last}
+use Rattle.napi_types.proofs.plain.Found.{apart-above, apart-below}
 use Rattle.napi_reference.specs.declared.rows.Row.{Row}
 use Rattle.napi_reference.specs.Places.{ReferencePlaces, map_of}
 use Rattle.napi_reference.specs.Rows.{reference_of, references_from, places_of, row_of}
-use Rattle.napi_reference.proofs.Numbers.{apart-above, apart-below, same-number, listed_from, listed-below, listed-map}
+use Rattle.napi_reference.proofs.Numbers.{listed_from, listed-below, listed-map}
 
 -- A REFERENCE IS DELETED
 filter-below : (k : ℕ) (rows : List (Option Row)) (n : ℕ) → n < k → filter (λ r. not (r.number == n)) (listed_from k rows) ≡ listed_from k rows
 filter-below k [] n h = refl
 filter-below k (None ∷ rows) n h = filter-below (suc k) rows n (omega arith)
-filter-below k (Some row ∷ rows) n h = rw (apart-above k n h) (ap (λ rs. reference_of k row ∷ rs) (filter-below (suc k) rows n (omega arith)))
+filter-below k (Some row ∷ rows) n h = rw (apart-above n k h) (ap (λ rs. reference_of k row ∷ rs) (filter-below (suc k) rows n (omega arith)))
 
 filter-at : (k : ℕ) (rows : List (Option Row)) (p n : ℕ) → n ≡ k + p → filter (λ r. not (r.number == n)) (listed_from k rows) ≡ listed_from k (set rows p None)
 filter-at k [] p n e = refl
 filter-at k (None ∷ rows) zero n e = filter-below (suc k) rows n (omega arith)
-filter-at k (Some row ∷ rows) zero n e = rw (same-number k n (omega arith)) (filter-below (suc k) rows n (omega arith))
+filter-at k (Some row ∷ rows) zero n e = rw (eq-eqb k n (omega arith)) (filter-below (suc k) rows n (omega arith))
 filter-at k (None ∷ rows) (suc p) n e = filter-at (suc k) rows p n (omega arith)
 filter-at k (Some row ∷ rows) (suc p) n e = rw (apart-below k n (omega arith)) (ap (λ rs. reference_of k row ∷ rs) (filter-at (suc k) rows p n (omega arith)))
 
@@ -50,13 +52,13 @@ recounted count row = record row { count = count }
 count-below : (k : ℕ) (rows : List (Option Row)) (n count : ℕ) → n < k → map (λ r. cond (r.number == n) (record r { count = count }) r) (listed_from k rows) ≡ listed_from k rows
 count-below k [] n count h = refl
 count-below k (None ∷ rows) n count h = count-below (suc k) rows n count (omega arith)
-count-below k (Some row ∷ rows) n count h = rw (apart-above k n h) (ap (λ rs. reference_of k row ∷ rs) (count-below (suc k) rows n count (omega arith)))
+count-below k (Some row ∷ rows) n count h = rw (apart-above n k h) (ap (λ rs. reference_of k row ∷ rs) (count-below (suc k) rows n count (omega arith)))
 
 count-at : (k : ℕ) (rows : List (Option Row)) (p n count : ℕ) → n ≡ k + p
     → map (λ r. cond (r.number == n) (record r { count = count }) r) (listed_from k rows) ≡ listed_from k (set rows p (option_map (recounted count) (slice_index_or rows p None)))
 count-at k [] p n count e = refl
 count-at k (None ∷ rows) zero n count e = count-below (suc k) rows n count (omega arith)
-count-at k (Some row ∷ rows) zero n count e = rw (same-number k n (omega arith)) (ap (λ rs. reference_of k (recounted count row) ∷ rs) (count-below (suc k) rows n count (omega arith)))
+count-at k (Some row ∷ rows) zero n count e = rw (eq-eqb k n (omega arith)) (ap (λ rs. reference_of k (recounted count row) ∷ rs) (count-below (suc k) rows n count (omega arith)))
 count-at k (None ∷ rows) (suc p) n count e = count-at (suc k) rows p n count (omega arith)
 count-at k (Some row ∷ rows) (suc p) n count e = rw (apart-below k n (omega arith)) (ap (λ rs. reference_of k row ∷ rs) (count-at (suc k) rows p n count (omega arith)))
 

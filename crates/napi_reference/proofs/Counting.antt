@@ -7,8 +7,9 @@ use Rattle.napi_types.specs.declared.status.Status.TheVariants as status
 use Rattle.napi_types.specs.plain.Lists.{one}
 use Rattle.napi_types.specs.parts.ReferenceRefusals.{references_of, count_refusal, reference_refusal}
 use Rattle.napi_types.specs.parts.References.{ReferenceMap, has_reference, most_count}
+use Rattle.napi_types.proofs.plain.Found.{apart-above, apart-below}
 use Rattle.napi_reference.specs.declared.rows.Row.{Row}
-use Rattle.napi_reference.proofs.Numbers.{IsRow, valued, apart-above, apart-below}
+use Rattle.napi_reference.proofs.Numbers.{IsRow, valued}
 
 -- a call that names a reference that is not there is refused
 pub refused_unknown : (m : ReferenceMap) (n : ℕ) (c : Call) → references_of c ≡ one n → has_reference m n ≡ false → reference_refusal m c ≡ Some status.InvalidArg
@@ -31,4 +32,4 @@ pub take_of_none : (m : ReferenceMap) (id : RefId) (row : Row) → IsRow m id.0 
 take_of_none m id row is none = sym (refused_known m id.0 (call.ReferenceUnref id) refl is.there ∙ rw (is.count, none) refl)
 
 pub take_of_some : (m : ReferenceMap) (id : RefId) (row : Row) → IsRow m id.0 row → 0 < row.count → None ≡ reference_refusal m (call.ReferenceUnref id)
-take_of_some m id row is some = sym (refused_known m id.0 (call.ReferenceUnref id) refl is.there ∙ rw (is.count, apart-above row.count 0 some) refl)
+take_of_some m id row is some = sym (refused_known m id.0 (call.ReferenceUnref id) refl is.there ∙ rw (is.count, apart-above 0 row.count some) refl)

@@ -3,22 +3,15 @@ use Rattle.std.proofs.Common.{◌≡◌, ◌∙◌, ℕ, zero, suc, ◌+◌, ◌
 use Rattle.std.specs.List.{All, AllByRecursion, IsDistinct, filter_map}
 use Rattle.std.proofs.lemmas.List.Elements.{All-nil, All-cons}
 use Rattle.std.proofs.lemmas.Map.Keys.{IsDistinct-cons}
+use Rattle.std.proofs.lemmas.Bool.{eq-eqb}
 use Rattle.napi_types.specs.declared.ids.ValueId.{ValueId}
 use Rattle.napi_types.specs.plain.Lists.{found, has, with_record, as_map}
 use Rattle.napi_types.specs.parts.References.{Reference, ReferenceMap, reference_at, has_reference, referred_value, reference_count}
 use Rattle.napi_types.proofs.plain.Maps.{with_record-first}
+use Rattle.napi_types.proofs.plain.Found.{apart-below, apart-above}
 use Rattle.napi_reference.specs.declared.rows.Row.{Row}
 use Rattle.napi_reference.specs.Places.{ReferencePlaces, map_of, EachReferenceStandsOnce}
 use Rattle.napi_reference.specs.Rows.{reference_of, references_from, places_of, row_of}
-
-pub apart-above : (a n : ℕ) → n < a → (a == n) ≡ false
-apart-above a n h = grind arith
-
-pub apart-below : (a n : ℕ) → a < n → (a == n) ≡ false
-apart-below a n h = grind arith
-
-pub same-number : (a n : ℕ) → a ≡ n → (a == n) ≡ true
-same-number a n h = grind arith
 
 -- the references of rows whose numbers count up from this one
 abbrev pub listed_from : ℕ → List (Option Row) → List Reference
@@ -67,14 +60,14 @@ length-references_from k (row ∷ rows) = ap suc (length-references_from (suc k)
 found-below : (k : ℕ) (rows : List (Option Row)) (n : ℕ) → n < k → found (λ r. r.number) n (listed_from k rows) ≡ None
 found-below k [] n h = refl
 found-below k (None ∷ rows) n h = found-below (suc k) rows n (omega arith)
-found-below k (Some row ∷ rows) n h = rw (apart-above k n h) (found-below (suc k) rows n (omega arith))
+found-below k (Some row ∷ rows) n h = rw (apart-above n k h) (found-below (suc k) rows n (omega arith))
 
 found-at : (k : ℕ) (rows : List (Option Row)) (p n : ℕ) → n ≡ k + p → found (λ r. r.number) n (listed_from k rows) ≡ option_map (reference_of n) (slice_index_or rows p None)
 found-at k [] p n e = refl
 found-at k (None ∷ rows) zero n e = found-below (suc k) rows n (omega arith)
 found-at k (Some row ∷ rows) zero n e =
     let same : k ≡ n = omega arith in
-    rw (same-number k n same) (ap (λ m. Some (reference_of m row)) same)
+    rw (eq-eqb k n same) (ap (λ m. Some (reference_of m row)) same)
 found-at k (None ∷ rows) (suc p) n e = found-at (suc k) rows p n (omega arith)
 found-at k (Some row ∷ rows) (suc p) n e = rw (apart-below k n (omega arith)) (found-at (suc k) rows p n (omega arith))
 

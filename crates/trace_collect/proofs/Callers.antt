@@ -9,8 +9,8 @@ use Rattle.napi_types.specs.declared.ids.ValueId.{ValueId}
 use Rattle.napi_types.specs.plain.Lists.{has_number}
 use Rattle.napi_types.specs.parts.Graph.{StoreState, IsLive, value_of, number_in}
 use Rattle.napi_types.specs.parts.Values.{Value}
+use Rattle.napi_types.proofs.plain.Maps.{has-left, has-right}
 use Rattle.value_store.specs.Changes.{numbers_of, IsStarting}
-use Rattle.trace_collect.proofs.Members.{has-left, has-right}
 
 -- these are live, with the first starting values among them
 pub record HoldsFirst (s : StoreState) (many : ℕ) (ids : List ValueId) : Type 0 where

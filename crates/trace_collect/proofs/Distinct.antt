@@ -7,12 +7,12 @@ use Rattle.std.proofs.lemmas.List.Elements.{All-head, All-tail}
 use Rattle.std.proofs.lemmas.Map.Keys.{IsDistinct-head, IsDistinct-tail, IsDistinct-cons}
 use Rattle.std.proofs.lemmas.Map.Made.{length-from_same_keys}
 use Rattle.napi_types.specs.plain.Lists.{has_number}
+use Rattle.napi_types.proofs.plain.Found.{turned}
 use Rattle.value_store.proofs.Lookup.{apart-number}
-use Rattle.value_store.proofs.Properties.{same-flip}
 
 -- the two tests of membership agree
 member-has : (xs : List ℕ) (n : ℕ) → is_member nat_eq xs n ≡ has_number n xs
-member-has xs n = let same : nat_eq n ≡ (λ m. m == n) = λ i m. same-flip n m i in ap (λ p. list_any p xs) same
+member-has xs n = let same : nat_eq n ≡ (λ m. m == n) = λ i m. turned n m i in ap (λ p. list_any p xs) same
 
 -- two such lists that have the same numbers are as long
 pub same-length : (xs ys : List ℕ) → IsDistinct nat_eq xs → IsDistinct nat_eq ys → ((n : ℕ) → has_number n xs ≡ has_number n ys) → length xs ≡ length ys

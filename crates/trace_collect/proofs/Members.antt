@@ -5,13 +5,6 @@ use Rattle.std.proofs.lemmas.Bool.{eqb-true, eq-eqb, or_cases, or_left, or_right
 use Rattle.std.proofs.lemmas.List.Folds.{list_any-append}
 use Rattle.napi_types.specs.plain.Lists.{has_number}
 
--- a number is among two lists where it is in one of them
-pub has-left : (n : ℕ) (xs ys : List ℕ) → has_number n xs ≡ true → has_number n (xs ++ ys) ≡ true
-has-left n xs ys h = list_any-append (λ m. m == n) xs ys ∙ or_left (has_number n xs) (has_number n ys) h
-
-pub has-right : (n : ℕ) (xs ys : List ℕ) → has_number n ys ≡ true → has_number n (xs ++ ys) ≡ true
-has-right n xs ys h = list_any-append (λ m. m == n) xs ys ∙ or_right (has_number n xs) (has_number n ys) h
-
 pub has-cases : (n : ℕ) (xs ys : List ℕ) → has_number n (xs ++ ys) ≡ true → (has_number n xs ≡ true) ⊎ (has_number n ys ≡ true)
 has-cases n xs ys h = or_cases (has_number n xs) (has_number n ys) (sym (list_any-append (λ m. m == n) xs ys) ∙ h)
 

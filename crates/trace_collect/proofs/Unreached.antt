@@ -12,10 +12,10 @@ use Rattle.napi_types.specs.plain.Lists.{has_number}
 use Rattle.napi_types.specs.parts.Graph.{Stored, StoreState, IsLive, IsSoundStore, value_of, creation_number, number_in, graph_of}
 use Rattle.napi_types.specs.parts.Reach.{numbers, children_at}
 use Rattle.napi_types.specs.parts.Values.{Value, children, those_of, all_but}
-use Rattle.napi_types.proofs.parts.Reaching.{reach-roots, reach-closed, has_number-filter}
+use Rattle.napi_types.proofs.plain.Found.{turned}
+use Rattle.napi_types.proofs.parts.Reaching.{reach-roots, reach-closed, has_number-filter, numbers-filter}
 use Rattle.value_store.specs.Changes.{id_at, numbers_of, EachStandsOnce, CanFree}
 use Rattle.value_store.proofs.LiveValues.{in-range, place-live, live-place, graph-live, live-graph, number-apart, number-value, graph-children, graph-distinct}
-use Rattle.value_store.proofs.Properties.{same-flip}
 use Rattle.value_store.proofs.Reading.{some-is}
 use Rattle.value_store.proofs.Naming.{All-from_has}
 use Rattle.trace_collect.specs.Collects.{reached, HoldsStarting, IsUnreached, AreUnreached}
@@ -70,7 +70,7 @@ module _ (s : StoreState) (once : EachStandsOnce s) (roots : List ℕ) (marks : 
   moved-numbers = IsPermutation-map (λ (v : ValueId). v.0) list sorted moved
 
   pub sorted-distinct : IsDistinct nat_eq (numbers_of sorted)
-  sorted-distinct = IsDistinct-IsPermutation nat_eq same-flip (numbers_of list) (numbers_of sorted) moved-numbers (subst (λ ns. IsDistinct nat_eq ns) (sym is) (unmarked-distinct s marks (length marks) once))
+  sorted-distinct = IsDistinct-IsPermutation nat_eq turned (numbers_of list) (numbers_of sorted) moved-numbers (subst (λ ns. IsDistinct nat_eq ns) (sym is) (unmarked-distinct s marks (length marks) once))
 
   pub sorted-unreached : length marks ≡ length s.places → AreMarked s roots marks → AreUnreached s roots (numbers_of sorted)
   sorted-unreached size marked id =
@@ -93,14 +93,6 @@ sorted-rising sorted order apart = IsStrictlyIncreasing-from_distinct (numbers_o
         rw (one, two) (order i j v low less)
 
 -- FREED
-numbers-filter : (p : ℕ → Bool) (vs : List Value) → numbers (filter (λ v. p v.number) vs) ≡ filter p (numbers vs)
-numbers-filter p [] = refl
-numbers-filter p (v ∷ vs) = by (p v.number) (numbers-filter p vs)
-  where
-    by : (b : Bool) → numbers (filter (λ w. p w.number) vs) ≡ filter p (numbers vs) → numbers (cond b (v ∷ filter (λ w. p w.number) vs) (filter (λ w. p w.number) vs)) ≡ cond b (v.number ∷ filter p (numbers vs)) (filter p (numbers vs))
-    by true rest = ap (λ l. v.number ∷ l) rest
-    by false rest = rest
-
 -- tests that agree at each of the values' numbers keep the same values
 filter-agree : (p q : ℕ → Bool) (vs : List Value) → ((n : ℕ) → has_number n (numbers vs) ≡ true → p n ≡ q n) → filter (λ v. p v.number) vs ≡ filter (λ v. q v.number) vs
 filter-agree p q [] agree = refl

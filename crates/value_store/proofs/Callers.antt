@@ -2,6 +2,7 @@
 use Rattle.std.proofs.Common.{◌≡◌, ◌≢◌, ℕ, ◌+◌, ◌<◌, ◌≤◌, ◌==◌, ◌||◌, nat_eq, Bool, true, false, [], ◌∷◌, Option, Some, None, IsSome, IfSome, option_map, refl, sym, subst, ◌∙◌, arith}
 use Rattle.std.specs.List.{IsDistinct}
 use Rattle.std.proofs.lemmas.List.Elements.{All-nil, All-cons, All-weaker}
+use Rattle.std.proofs.lemmas.Bool.{or_parts}
 use borrow.Author.Tests.{eqb-true}
 use Rattle.napi_types.specs.declared.body.Body.{Body}
 use Rattle.napi_types.specs.plain.Lists.{has_number}
@@ -29,10 +30,6 @@ makes-live s t id v step n h = by (n == id) refl
     by : (e : Bool) → (n == id) ≡ e → IsLive t n
     by true e = let same : n ≡ id = eqb-true n id e in subst (λ (m : ℕ). IsLive t m) (sym same) (subst (λ (o : Option Value). IsSome o) (sym step.named) refl)
     by false e = subst (λ (o : Option Value). IsSome o) (sym (step.others n (other-number n id e))) h
-
-never : (a c : Bool) → (a || c) ≡ false → c ≡ false
-never true c h = let no : ⊥ = cc in absurd no
-never false c h = h
 
 -- a value that was just made may be freed again
 pub made-can-free : (s t : StoreState) (id : ℕ) (b : Body) → IsSoundStore s → 5 ≤ s.made → Makes s t id b → CanFree t (id ∷ [])
@@ -63,6 +60,6 @@ made-can-free s t id b sound started step = record {
         by true e =
             let same : id ≡ m = eqb-true id m e in
             let was : has_number m s.issued ≡ true = sound.given m live in
-            let fresh : has_number id s.issued ≡ false = never (0 == id) (has_number id s.issued) step.fresh in
+            let fresh : has_number id s.issued ≡ false = (or_parts (0 == id) (has_number id s.issued) step.fresh).1 in
             let both : has_number m s.issued ≡ false = subst (λ (k : ℕ). has_number k s.issued ≡ false) same fresh in
             let no : ⊥ = cc in absurd no

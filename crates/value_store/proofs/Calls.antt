@@ -3,20 +3,21 @@ use Rattle.std.proofs.Common.{◌≡◌, ◌≢◌, ℕ, suc, ◌+◌, ◌<◌, 
 use Rattle.std.specs.declared.result.Result.{Result}
 use Rattle.std.specs.declared.result.Result.TheVariants.{Ok, Err}
 use Rattle.std.specs.List.{All}
-use Rattle.std.proofs.lemmas.List.Elements.{All-nil, All-head, All-tail, All-weaker}
-use borrow.Author.Tests.{eqb-true}
+use Rattle.std.proofs.lemmas.List.Elements.{All-nil, All-weaker}
+use Rattle.std.proofs.lemmas.Bool.{eq-eqb}
 use Rattle.napi_types.specs.declared.body.Body.{Body}
 use Rattle.napi_types.specs.plain.Lists.{has_number, up_to}
 use Rattle.napi_types.specs.parts.Graph.{StoreState, value_of, creation_number}
 use Rattle.napi_types.specs.parts.Properties.{HasDistinctNames}
 use Rattle.napi_types.specs.parts.Values.{Value, fresh_value, children, with_property, without_property, with_element}
 use Rattle.napi_types.proofs.plain.Issued.{above-up_to, has-up_to}
+use Rattle.napi_types.proofs.plain.Found.{apart-below, turned}
+use Rattle.napi_types.proofs.plain.Maps.{among-holds}
 use Rattle.value_store.specs.Places.{state_of, at_number, changed_at, IsNumbered, IsCleared}
 use Rattle.value_store.specs.Changes.{ChangesOnly, Makes, MakesValue, Frees, CanFree}
 use Rattle.value_store.proofs.Naming.{children-with_property, children-without_property, children-with_element}
-use Rattle.value_store.proofs.Lookup.{value_of-state_of, at_number-push, same-number, apart-number, apart-below}
+use Rattle.value_store.proofs.Lookup.{value_of-state_of, at_number-push, apart-number}
 use Rattle.value_store.proofs.Names.{distinct-property_set, distinct-property_removed, distinct-none}
-use Rattle.value_store.proofs.Properties.{same-flip}
 use Rattle.value_store.proofs.Reading.{some-is, starting-long, starting-there}
 use Rattle.value_store.proofs.States.{updated, updated-live, updated-numbered, same-map, IsGoodChange, changed-numbered, changed-only}
 
@@ -120,7 +121,7 @@ pushed-makes ps w all after = record {
     many = length-append ps (Some w ∷ []) ∙ omega arith
 
     same : updated (at_number ps) (length ps + 1) w (length ps + 1) ≡ Some w
-    same = rw (same-number (length ps + 1) (length ps + 1) refl) refl
+    same = rw (eq-eqb (length ps + 1) (length ps + 1) refl) refl
 
     other : (n : ℕ) → n ≢ length ps + 1 → updated (at_number ps) (length ps + 1) w n ≡ at_number ps n
     other n apart = rw (apart-number n (length ps + 1) apart) refl
@@ -129,7 +130,7 @@ pushed-makes ps w all after = record {
     fresh m = rw (apart-below 0 (m + 1) (omega arith)) (above-up_to (m + 1) m (omega arith))
 
     next : (m n : ℕ) → has_number n (up_to (suc m)) ≡ ((n == m + 1) || has_number n (up_to m))
-    next m n = let e : m + 1 ≡ suc m = omega arith in has-up_to n m ∙ rw (e, same-flip n (suc m)) refl
+    next m n = let e : m + 1 ≡ suc m = omega arith in has-up_to n m ∙ rw (e, turned n (suc m)) refl
 
 -- a new value has the next number
 pub made-numbered : (ps : List (Option Value)) (b : Body) → IsNumbered (at_number ps) → IsNumbered (at_number (ps ++ Some (fresh_value (length ps + 1) b) ∷ []))
@@ -139,15 +140,6 @@ pub makes : (ps qs : List (Option Value)) (s : StoreState) (b : Body) → state_
 makes ps qs s b view all is =
     subst (λ (t : StoreState). Makes t (state_of qs) (length ps + 1) b) view
     (subst (λ (l : List (Option Value)). Makes (state_of ps) (state_of l) (length ps + 1) b) (sym is) (pushed-makes ps (fresh_value (length ps + 1) b) all (made-numbered ps b all)))
-
--- what holds of each number in a list holds of one that is found in it
-all-has : (P : ℕ → Type 0) (ids : List ℕ) (n : ℕ) → All P ids → has_number n ids ≡ true → P n
-all-has P [] n h e = let no : ⊥ = cc in absurd no
-all-has P (x ∷ ids) n h e = by (all-has P ids n (All-tail P x ids h)) (x == n) refl e
-  where
-    by : (has_number n ids ≡ true → P n) → (b : Bool) → (x == n) ≡ b → (b || has_number n ids) ≡ true → P n
-    by rest true same e = subst P (eqb-true x n same) (All-head P x ids h)
-    by rest false same e = rest e
 
 abbrev cleared : (ℕ → Option Value) → List ℕ → ℕ → Option Value
 cleared values ids n = cond (has_number n ids) None (values n)
@@ -172,7 +164,7 @@ module _ (ps qs : List (Option Value)) (ids : List ℕ) (all : IsNumbered (at_nu
       by : (b : Bool) → has_number (which + 1) ids ≡ b → b ≡ false
       by false e = refl
       by true e =
-          let high : IfSome (creation_number (state_of ps) (which + 1)) (λ number. 5 < number) = all-has (λ id. IfSome (creation_number (state_of ps) id) (λ number. 5 < number)) ids (which + 1) can.not_starting e in
+          let high : IfSome (creation_number (state_of ps) (which + 1)) (λ number. 5 < number) = among-holds (λ id. IfSome (creation_number (state_of ps) id) (λ number. 5 < number)) ids (which + 1) can.not_starting e in
           let moved : IfSome (option_map (λ (v : Value). v.number) (at_number ps (which + 1))) (λ number. 5 < number) = subst (λ (o : Option Value). IfSome (option_map (λ v. v.number) o) (λ number. 5 < number)) (old-map (which + 1)) high in
           let over : 5 < which + 1 = above (at_number ps (which + 1)) (starting-there ps all which less) (all.numbered (which + 1)) moved in
           absurd (omega arith)

@@ -5,10 +5,10 @@ use Rattle.std.proofs.lemmas.List.{get_or-map, take_more, map-append, length-map
 use Rattle.napi_types.specs.declared.ids.ValueId.{ValueId}
 use Rattle.napi_types.specs.plain.Lists.{has_number}
 use Rattle.napi_types.specs.parts.Values.{Value}
+use Rattle.napi_types.proofs.plain.Found.{turned}
 use Rattle.value_store.specs.Changes.{numbers_of}
 use Rattle.value_store.specs.Places.{at_number, IsCleared}
 use Rattle.value_store.proofs.Lookup.{at_number-set, number-within}
-use Rattle.value_store.proofs.Properties.{same-flip}
 
 -- each number of the list has a place
 pub listed-within : (ps : List (Option Value)) (list : List ValueId) (i : ℕ) (d : ValueId) → i < length list → All (λ n. IsSome (at_number ps n)) (numbers_of list) → (0 < (get_or list i d).0) × ((get_or list i d).0 ≤ length ps)
@@ -19,7 +19,7 @@ listed-within ps list i d less all =
     number-within ps (get_or list i d).0 (subst (λ (n : ℕ). IsSome (at_number ps n)) same there)
 
 has-more : (n k : ℕ) (ids : List ℕ) → has_number n (ids ++ k ∷ []) ≡ ((n == k) || has_number n ids)
-has-more n k [] = ap (λ b. b || false) (same-flip k n)
+has-more n k [] = ap (λ b. b || false) (turned k n)
 has-more n k (x ∷ ids) = ap (λ b. (x == n) || b) (has-more n k ids) ∙ turn (x == n) (n == k) (has_number n ids)
   where
     turn : (a b c : Bool) → (a || (b || c)) ≡ (b || (a || c))

@@ -2,7 +2,7 @@
 use Rattle.std.proofs.Common.{◌≡◌, ◌≢◌, ℕ, zero, suc, ◌+◌, ◌-◌, ◌<◌, ◌≤◌, ◌==◌, ◌||◌, max, nat_eq, Bool, true, false, cond, List, [], ◌∷◌, ◌++◌, map, length, get_or, slice_get, slice_index, set, replicate, Option, Some, None, IsSome, option_map, inl, inr, refl, ap, sym, subst, ◌∙◌, arith, append-nil, length-append, length-set, get_or-set_same, get_or-set_other, ext_get_or}
 use Rattle.std.specs.List.{IsDistinct, AllByRecursion, range_with_len, filter_map}
 use Rattle.std.specs.Map.{keys_of, lookup}
-use Rattle.std.proofs.lemmas.Bool.{cases_lt}
+use Rattle.std.proofs.lemmas.Bool.{cases_lt, eq-eqb}
 use Rattle.std.proofs.lemmas.List.{get_or_past, get_or-append_right, length-map, length-replicate, set-append_right}
 use Rattle.std.proofs.lemmas.List.Folds.{list_any-append}
 use Rattle.std.proofs.lemmas.List.FromFn.{get_or-map-range_with_len, length-map-range_with_len, map-range_with_len_more}
@@ -13,9 +13,9 @@ use Rattle.napi_types.specs.plain.Lists.{has_number, HaveSameNumbers}
 use Rattle.napi_types.specs.parts.NewValues.{array_of}
 use Rattle.napi_types.specs.parts.Properties.{Property, element_at, element_set}
 use Rattle.napi_types.specs.parts.Values.{with_element}
+use Rattle.napi_types.proofs.plain.Found.{turned}
 use Rattle.value_store.specs.Properties.{property_of, listed_properties, listed_elements, element_of, numbers_in}
-use Rattle.value_store.proofs.Lookup.{other-number, same-number}
-use Rattle.value_store.proofs.Properties.{same-flip}
+use Rattle.value_store.proofs.Lookup.{other-number}
 
 -- each index is below the count
 abbrev IsWithin : List (ℕ × ValueId) → ℕ → Type 0
@@ -161,7 +161,7 @@ record IsEntered (e : ℕ × ValueId) (es : List (ℕ × ValueId)) (count : ℕ)
 entered : (e : ℕ × ValueId) (es : List (ℕ × ValueId)) (count : ℕ) → IsDistinct nat_eq (keys_of (e ∷ es)) → IsWithin (e ∷ es) count → IsEntered e es count
 entered e es count distinct within =
     let before : IsWithin es count = λ q some. within q (either (nat_eq q e.0) (lookup (nat_eq q) es) some) in
-    let here : e.0 < count = within e.0 (subst (λ (b : Bool). IsSome (cond b (Some e.1) (lookup (nat_eq e.0) es))) (sym (same-number e.0 e.0 refl)) refl) in
+    let here : e.0 < count = within e.0 (subst (λ (b : Bool). IsSome (cond b (Some e.1) (lookup (nat_eq e.0) es))) (sym (eq-eqb e.0 e.0 refl)) refl) in
     let count_is : max count (e.0 + 1) ≡ count = omega arith in
     let many : length (listed_elements es count) ≡ count = length-map-range_with_len (element_of es) 0 count in
     let none : e.0 + 1 - length (listed_elements es count) ≡ 0 = omega arith in
@@ -170,7 +170,7 @@ entered e es count distinct within =
       less = omega arith;
       hole = element_at-listed es count e.0 before ∙ ap (option_map (λ (v : ValueId). v.0)) (absent e.0 es (IsDistinct-head nat_eq e.0 (keys_of es) distinct));
       now = ap (listed_elements (e ∷ es)) (sym count_is)
-          ∙ listed_elements-set es (e ∷ es) count e.0 e.1 before (λ q. ap (λ b. cond b (Some e.1) (lookup (nat_eq q) es)) (same-flip q e.0))
+          ∙ listed_elements-set es (e ∷ es) count e.0 e.1 before (λ q. ap (λ b. cond b (Some e.1) (lookup (nat_eq q) es)) (turned q e.0))
           ∙ ap (λ k. set (listed_elements es count ++ replicate k None) e.0 (Some e.1.0)) none
           ∙ ap (λ l. set l e.0 (Some e.1.0)) (append-nil (listed_elements es count));
     }

@@ -3,13 +3,15 @@ use Rattle.std.proofs.Common.{◌≡◌, ℕ, zero, suc, ◌+◌, ◌≤◌, ◌
 use Rattle.std.specs.List.{All, filter_map, range_with_len, cons_option}
 use Rattle.std.specs.Option.{unwrap_or}
 use Rattle.std.proofs.lemmas.List.Elements.{All-head, All-tail}
+use Rattle.std.proofs.lemmas.Bool.{eq-eqb}
 use Rattle.napi_types.specs.plain.Lists.{found, has_number}
 use Rattle.napi_types.specs.parts.Graph.{Stored, live, value_of, number_in, renamed, graph_of}
 use Rattle.napi_types.specs.parts.Properties.{Property}
 use Rattle.napi_types.specs.parts.Values.{Value, children, value_at, value_changed}
+use Rattle.napi_types.proofs.plain.Found.{apart-below, apart-above}
 use Rattle.value_store.specs.Places.{state_of, stored_as, at_number, IsNumbered, IsCleared}
 use Rattle.value_store.proofs.Naming.{left, right, to_options}
-use Rattle.value_store.proofs.Lookup.{value_of-state_of, apart-above, apart-below, same-number}
+use Rattle.value_store.proofs.Lookup.{value_of-state_of}
 
 -- the values that stand in the list
 abbrev pub standing : List (Option Value) → List Value
@@ -105,7 +107,7 @@ changed-above n k f [] numbered h = refl
 changed-above n k f (None ∷ ps) numbered h = changed-above n (k + 1) f ps (λ p v e. let q : v.number ≡ k + suc p + 1 = numbered (suc p) v e in omega arith) (omega arith)
 changed-above n k f (Some v ∷ ps) numbered h =
     let number : v.number ≡ k + 0 + 1 = numbered 0 v refl in
-    let apart : (v.number == n) ≡ false = apart-above v.number n (omega arith) in
+    let apart : (v.number == n) ≡ false = apart-above n v.number (omega arith) in
     rw apart (ap (λ l. v ∷ l) (changed-above n (k + 1) f ps (λ p w e. let q : w.number ≡ k + suc p + 1 = numbered (suc p) w e in omega arith) (omega arith)))
 
 changed-from : (n k : ℕ) (f : Value → Value) (ps : List (Option Value)) (p : ℕ) (v : Value) → ((p : ℕ) (v : Value) → slice_index_or ps p None ≡ Some v → v.number ≡ k + p + 1) → n ≡ k + p + 1 → slice_index_or ps p None ≡ Some v → standing (set ps p (Some (f v))) ≡ value_changed n f (standing ps)
@@ -114,7 +116,7 @@ changed-from n k f (None ∷ ps) zero v numbered at is = let no : ⊥ = cc in ab
 changed-from n k f (Some w ∷ ps) zero v numbered at is =
     let same : w ≡ v = cc in
     let number : w.number ≡ k + 0 + 1 = numbered 0 w refl in
-    let here : (w.number == n) ≡ true = same-number w.number n (omega arith) in
+    let here : (w.number == n) ≡ true = eq-eqb w.number n (omega arith) in
     rw here (ap (λ u. f u ∷ standing ps) (sym same) ∙ ap (λ l. f w ∷ l) (sym (changed-above n (k + 1) f ps (λ p w e. let q : w.number ≡ k + suc p + 1 = numbered (suc p) w e in omega arith) (omega arith))))
 changed-from n k f (None ∷ ps) (suc p) v numbered at is = changed-from n (k + 1) f ps p v (λ p w e. let q : w.number ≡ k + suc p + 1 = numbered (suc p) w e in omega arith) (omega arith) is
 changed-from n k f (Some w ∷ ps) (suc p) v numbered at is =

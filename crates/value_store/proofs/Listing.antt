@@ -4,6 +4,7 @@ use Rattle.std.specs.List.{All, filter_map, range_with_len}
 use Rattle.std.proofs.lemmas.List.{map-append, length-map, get_or-append-add, length-take-le, take_more}
 use Rattle.std.proofs.lemmas.List.Elements.{filter_map-append}
 use Rattle.std.proofs.lemmas.List.FromFn.{get_or-range_with_len, length-range_with_len}
+use Rattle.std.proofs.lemmas.Bool.{eq-eqb}
 use borrow.Author.Tests.{eqb-true}
 use Rattle.napi_types.specs.declared.body.Body.{Body}
 use Rattle.napi_types.specs.plain.Lists.{has_number, up_to}
@@ -11,9 +12,10 @@ use Rattle.napi_types.specs.parts.Graph.{StoreState, graph_of}
 use Rattle.napi_types.specs.parts.NewValues.{made_after, array_of, list_of}
 use Rattle.napi_types.specs.parts.Values.{Value, fresh_value, children}
 use Rattle.napi_types.proofs.plain.Issued.{above-up_to, has-up_to}
+use Rattle.napi_types.proofs.plain.Found.{apart-below}
 use Rattle.value_store.specs.Places.{state_of, at_number, IsNumbered}
 use Rattle.value_store.specs.Changes.{MakesList}
-use Rattle.value_store.proofs.Lookup.{value_of-state_of, at_number-push, apart-below, same-number}
+use Rattle.value_store.proofs.Lookup.{value_of-state_of, at_number-push}
 use Rattle.value_store.proofs.Names.{distinct-none}
 use Rattle.value_store.proofs.States.{given}
 use Rattle.value_store.proofs.Calls.{made-numbered, pushed-numbered}
@@ -155,7 +157,7 @@ module _ (ps qs : List (Option Value)) (s : StoreState) (view : state_of ps ≡ 
       ∙ last (ps ++ map Some (made_after (length ps) bs)) (Some (array_of (length ps + length bs + 1) (range_with_len (length ps + 1) (length bs))))
     where
       last : (xs : List (Option Value)) (x : Option Value) → at_number (xs ++ x ∷ []) (length xs + 1) ≡ x
-      last xs x = at_number-push xs x (length xs + 1) ∙ rw (same-number (length xs + 1) (length xs + 1) refl) refl
+      last xs x = at_number-push xs x (length xs + 1) ∙ rw (eq-eqb (length xs + 1) (length xs + 1) refl) refl
 
   pub listed : MakesList s (state_of qs) (length qs) (length bs)
   listed = subst (λ (t : StoreState). MakesList t (state_of qs) (length qs) (length bs)) view (subst (λ (n : ℕ). MakesList (state_of ps) (state_of qs) n (length bs)) (sym many) (record {

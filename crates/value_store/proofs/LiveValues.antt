@@ -3,6 +3,7 @@ use Rattle.std.proofs.Common.{◌≡◌, ℕ, zero, suc, ◌+◌, ◌<◌, ◌�
 use Rattle.std.specs.List.{filter_map, range_with_len, cons_option, IsDistinct, AllByRecursion}
 use Rattle.std.specs.Option.{unwrap_or}
 use Rattle.std.proofs.lemmas.List.{map-append}
+use Rattle.std.proofs.lemmas.Bool.{eq-eqb}
 use borrow.Author.Tests.{eqb-true}
 use Rattle.napi_types.specs.plain.Lists.{found, has_number}
 use Rattle.napi_types.specs.parts.Graph.{Stored, StoreState, live, value_of, number_in, renamed, graph_of, IsLive, IsSoundStore}
@@ -10,7 +11,7 @@ use Rattle.napi_types.specs.parts.Properties.{Property}
 use Rattle.napi_types.specs.parts.Reach.{numbers, children_at}
 use Rattle.napi_types.specs.parts.Values.{Value, children, value_at}
 use Rattle.value_store.specs.Changes.{id_at, EachStandsOnce}
-use Rattle.value_store.proofs.Lookup.{same-number, apart-number, other-number}
+use Rattle.value_store.proofs.Lookup.{apart-number, other-number}
 use Rattle.value_store.proofs.Reading.{some-is}
 
 -- PLACES
@@ -33,7 +34,7 @@ found-at (None ∷ ps) once zero x is = let no : ⊥ = cc in absurd no
 found-at (None ∷ ps) once (suc place) x is = found-at ps (rest-once None ps once) place x is
 found-at (Some y ∷ ps) once zero x is =
     let same : y ≡ x = cc in
-    let here : (y.id == x.id) ≡ true = same-number y.id x.id (ap (λ (z : Stored). z.id) same) in
+    let here : (y.id == x.id) ≡ true = eq-eqb y.id x.id (ap (λ (z : Stored). z.id) same) in
     ap (λ b. cond b (Some y) (found (λ z. z.id) x.id (standing ps))) here ∙ is
 found-at (Some y ∷ ps) once (suc place) x is = by (found-at ps (rest-once (Some y) ps once) place x is) (y.id == x.id) refl
   where
@@ -72,7 +73,7 @@ numbered-at (None ∷ ps) zero x is = let no : ⊥ = cc in absurd no
 numbered-at (None ∷ ps) (suc place) x is = numbered-at ps place x is
 numbered-at (Some y ∷ ps) zero x is =
     let same : y ≡ x = cc in
-    let here : (y.value.number == x.value.number) ≡ true = same-number y.value.number x.value.number (ap (λ (z : Stored). z.value.number) same) in
+    let here : (y.value.number == x.value.number) ≡ true = eq-eqb y.value.number x.value.number (ap (λ (z : Stored). z.value.number) same) in
     subst (λ b. IsSome (cond b (Some y.value) (value_at (values ps) x.value.number))) (sym here) refl
 numbered-at (Some y ∷ ps) (suc place) x is = by (numbered-at ps place x is) (y.value.number == x.value.number)
   where
@@ -103,7 +104,7 @@ value_at-numbered f numbered (m ∷ ns) n = by (value_at-numbered f numbered ns 
     by rest None is false e = rest
     by rest (Some v) is true e =
         let same : m ≡ n = eqb-true m n e in
-        let here : (v.number == n) ≡ true = same-number v.number n (numbered m v is ∙ same) in
+        let here : (v.number == n) ≡ true = eq-eqb v.number n (numbered m v is ∙ same) in
         ap (λ b. cond b (Some v) (value_at (filter_map f ns) n)) here ∙ sym is ∙ ap f same
     by rest (Some v) is false e =
         let other : (v.number == n) ≡ false = ap (λ k. k == n) (numbered m v is) ∙ e in

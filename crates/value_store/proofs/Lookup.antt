@@ -1,23 +1,13 @@
 -- The value that a number names stands at its place.
 use Rattle.std.proofs.Common.{◌≡◌, ◌≢◌, ℕ, zero, suc, ◌+◌, ◌-◌, ◌<◌, ◌≤◌, ◌==◌, Bool, true, false, cond, List, [], ◌∷◌, ◌++◌, map, length, set, Option, Some, None, IsSome, option_map, slice_index_or, refl, arith, get_or-set_same, get_or-set_other}
+use Rattle.std.proofs.lemmas.Bool.{eq-eqb}
 use Rattle.std.specs.List.{filter_map}
 use borrow.Author.Tests.{eqb-true}
 use Rattle.napi_types.specs.plain.Lists.{found}
 use Rattle.napi_types.specs.parts.Graph.{Stored, value_of}
 use Rattle.napi_types.specs.parts.Values.{Value}
+use Rattle.napi_types.proofs.plain.Found.{apart-below, apart-above, next-same}
 use Rattle.value_store.specs.Places.{state_of, stored_as, at_number}
-
-pub apart-above : (a n : ℕ) → n < a → (a == n) ≡ false
-apart-above a n h = grind arith
-
-pub apart-below : (a n : ℕ) → a < n → (a == n) ≡ false
-apart-below a n h = grind arith
-
-pub same-number : (a n : ℕ) → a ≡ n → (a == n) ≡ true
-same-number a n h = grind arith
-
-pub same-suc : (a n : ℕ) → (suc a == suc n) ≡ (a == n)
-same-suc a n = grind arith
 
 pub other-number : (a n : ℕ) → (a == n) ≡ false → a ≢ n
 other-number a n h = grind arith
@@ -34,7 +24,7 @@ named-below k [] numbered n h = refl
 named-below k (None ∷ ps) numbered n h = named-below (k + 1) ps (λ p v e. let q : v.number ≡ k + suc p + 1 = numbered (suc p) v e in omega arith) n (omega arith)
 named-below k (Some v ∷ ps) numbered n h =
     let number : v.number ≡ k + 0 + 1 = numbered 0 v refl in
-    let apart : (v.number == n) ≡ false = apart-above v.number n (omega arith) in
+    let apart : (v.number == n) ≡ false = apart-above n v.number (omega arith) in
     rw apart (named-below (k + 1) ps (λ p w e. let q : w.number ≡ k + suc p + 1 = numbered (suc p) w e in omega arith) n (omega arith))
 
 named-at : (k : ℕ) (ps : List (Option Value)) → ((p : ℕ) (v : Value) → slice_index_or ps p None ≡ Some v → v.number ≡ k + p + 1) → (p n : ℕ) → n ≡ k + p + 1 → named n ps ≡ slice_index_or ps p None
@@ -42,7 +32,7 @@ named-at k [] numbered p n e = refl
 named-at k (None ∷ ps) numbered zero n e = named-below (k + 1) ps (λ p v e. let q : v.number ≡ k + suc p + 1 = numbered (suc p) v e in omega arith) n (omega arith)
 named-at k (Some v ∷ ps) numbered zero n e =
     let number : v.number ≡ k + 0 + 1 = numbered 0 v refl in
-    let same : (v.number == n) ≡ true = same-number v.number n (omega arith) in
+    let same : (v.number == n) ≡ true = eq-eqb v.number n (omega arith) in
     rw same refl
 named-at k (None ∷ ps) numbered (suc p) n e = named-at (k + 1) ps (λ p v e. let q : v.number ≡ k + suc p + 1 = numbered (suc p) v e in omega arith) p n (omega arith)
 named-at k (Some v ∷ ps) numbered (suc p) n e =
@@ -83,14 +73,14 @@ at_number-set ps k x some short (suc m) = by (suc m == k) refl
 
 push-at : (ps : List (Option Value)) (x : Option Value) (m : ℕ) → slice_index_or (ps ++ x ∷ []) m None ≡ cond (m == length ps) x (slice_index_or ps m None)
 push-at [] x zero = refl
-push-at [] x (suc m) = rw (apart-above (suc m) 0 (omega arith)) refl
+push-at [] x (suc m) = rw (apart-above 0 (suc m) (omega arith)) refl
 push-at (p ∷ ps) x zero = rw (apart-below 0 (suc (length ps)) (omega arith)) refl
-push-at (p ∷ ps) x (suc m) = rw (same-suc m (length ps)) (push-at ps x m)
+push-at (p ∷ ps) x (suc m) = rw (next-same m (length ps)) (push-at ps x m)
 
 -- a push gives the next number a value, and changes nothing else
 pub at_number-push : (ps : List (Option Value)) (x : Option Value) (n : ℕ) → at_number (ps ++ x ∷ []) n ≡ cond (n == length ps + 1) x (at_number ps n)
 at_number-push ps x zero = rw (apart-below 0 (length ps + 1) (omega arith)) refl
-at_number-push ps x (suc m) = rw (next (length ps), same-suc m (length ps)) (push-at ps x m)
+at_number-push ps x (suc m) = rw (next (length ps), next-same m (length ps)) (push-at ps x m)
   where
     next : (n : ℕ) → n + 1 ≡ suc n
     next n = omega arith

@@ -1,5 +1,5 @@
 -- Laws on the map from names to values as a list of properties.
-use Rattle.std.proofs.Common.{◌≡◌, ◌==◌, nat_eq, Bool, true, false, cond, not, List, [], ◌∷◌, map, Option, Some, None, option_map, is_some, refl, ap, sym, arith, if◌then◌else◌, ℕ}
+use Rattle.std.proofs.Common.{◌≡◌, ◌==◌, nat_eq, Bool, true, false, cond, not, List, [], ◌∷◌, map, Option, Some, None, option_map, is_some, refl, ap, sym, if◌then◌else◌, ℕ}
 use Rattle.std.specs.List.{IsDistinct, AllByRecursion}
 use Rattle.std.specs.Map.{keys_of, lookup, remove_entry}
 use Rattle.std.proofs.lemmas.Map.Keys.{IsDistinct-head, IsDistinct-tail}
@@ -8,15 +8,13 @@ use Rattle.indexmap.specs.IndexMap.{insert_entry}
 use Rattle.napi_types.specs.declared.ids.ValueId.{ValueId}
 use Rattle.napi_types.specs.plain.Lists.{found}
 use Rattle.napi_types.specs.parts.Properties.{Property, property_at, property_set, property_removed, HasDistinctNames}
+use Rattle.napi_types.proofs.plain.Found.{turned}
 use Rattle.value_store.specs.Properties.{property_of, listed_properties}
-
-pub same-flip : (a b : ℕ) → (a == b) ≡ (b == a)
-same-flip a b = grind arith
 
 -- an insert into the map is a property that is set
 pub listed_properties-insert_entry : (name : ℕ) (to : ValueId) (es : List (ℕ × ValueId)) → listed_properties (insert_entry nat_eq es name to) ≡ property_set name to.0 (listed_properties es)
 listed_properties-insert_entry name to [] = refl
-listed_properties-insert_entry name to (e ∷ es) = rw (same-flip name e.0) (by (listed_properties-insert_entry name to es) (e.0 == name))
+listed_properties-insert_entry name to (e ∷ es) = rw (turned name e.0) (by (listed_properties-insert_entry name to es) (e.0 == name))
   where
     by : listed_properties (insert_entry nat_eq es name to) ≡ property_set name to.0 (listed_properties es) → (b : Bool) → listed_properties (if b then (e.0, to) ∷ es else e ∷ insert_entry nat_eq es name to) ≡ cond b (record { name = e.0; value = to.0 } ∷ listed_properties es) (property_of e ∷ property_set name to.0 (listed_properties es))
     by rest true = refl
@@ -25,7 +23,7 @@ listed_properties-insert_entry name to (e ∷ es) = rw (same-flip name e.0) (by 
 -- what the map has at a name is the property's value
 pub property_at-listed_properties : (name : ℕ) (es : List (ℕ × ValueId)) → property_at name (listed_properties es) ≡ option_map (λ v. v.0) (lookup (nat_eq name) es)
 property_at-listed_properties name [] = refl
-property_at-listed_properties name (e ∷ es) = rw (same-flip name e.0) (by (property_at-listed_properties name es) (e.0 == name))
+property_at-listed_properties name (e ∷ es) = rw (turned name e.0) (by (property_at-listed_properties name es) (e.0 == name))
   where
     by : property_at name (listed_properties es) ≡ option_map (λ v. v.0) (lookup (nat_eq name) es) → (b : Bool) → option_map (λ (p : Property). p.value) (cond b (Some (property_of e)) (found (λ (p : Property). p.name) name (listed_properties es))) ≡ option_map (λ (v : ValueId). v.0) (cond b (Some e.1) (lookup (nat_eq name) es))
     by rest true = refl
@@ -34,12 +32,12 @@ property_at-listed_properties name (e ∷ es) = rw (same-flip name e.0) (by (pro
 -- where no name is the one removed, all properties stay
 property_removed-absent : (name : ℕ) (es : List (ℕ × ValueId)) → AllByRecursion (λ y. nat_eq name y ≡ false) (keys_of es) → property_removed name (listed_properties es) ≡ listed_properties es
 property_removed-absent name [] h = refl
-property_removed-absent name (e ∷ es) h = rw (same-flip e.0 name, h.0) (ap (λ l. property_of e ∷ l) (property_removed-absent name es h.1))
+property_removed-absent name (e ∷ es) h = rw (turned e.0 name, h.0) (ap (λ l. property_of e ∷ l) (property_removed-absent name es h.1))
 
 -- an entry taken out of the map is a property removed
 pub listed_properties-remove_entry : (name : ℕ) (es : List (ℕ × ValueId)) → IsDistinct nat_eq (keys_of es) → listed_properties (remove_entry (nat_eq name) es) ≡ property_removed name (listed_properties es)
 listed_properties-remove_entry name [] h = refl
-listed_properties-remove_entry name (e ∷ es) h = rw (same-flip e.0 name) (by (listed_properties-remove_entry name es (IsDistinct-tail nat_eq e.0 (keys_of es) h)) (nat_eq name e.0) refl)
+listed_properties-remove_entry name (e ∷ es) h = rw (turned e.0 name) (by (listed_properties-remove_entry name es (IsDistinct-tail nat_eq e.0 (keys_of es) h)) (nat_eq name e.0) refl)
   where
     by : listed_properties (remove_entry (nat_eq name) es) ≡ property_removed name (listed_properties es) → (b : Bool) → nat_eq name e.0 ≡ b → listed_properties (cond b es (e ∷ remove_entry (nat_eq name) es)) ≡ cond (not b) (property_of e ∷ property_removed name (listed_properties es)) (property_removed name (listed_properties es))
     by rest true same = let is : name ≡ e.0 = eqb-true name e.0 same in sym (rw is (property_removed-absent e.0 es (IsDistinct-head nat_eq e.0 (keys_of es) h)))

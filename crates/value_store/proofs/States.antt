@@ -3,15 +3,17 @@ use Rattle.std.proofs.Common.{◌≡◌, ◌≢◌, ℕ, zero, suc, ◌+◌, ◌
 use Rattle.std.specs.List.{All}
 use Rattle.std.proofs.lemmas.List.{length-set}
 use Rattle.std.proofs.lemmas.List.Elements.{All-weaker}
+use Rattle.std.proofs.lemmas.Bool.{eq-eqb}
 use borrow.Author.Tests.{eqb-true}
 use Rattle.napi_types.specs.plain.Lists.{has_number, up_to}
 use Rattle.napi_types.specs.parts.Graph.{IsSoundStore, IsSoundMap, value_of}
 use Rattle.napi_types.specs.parts.Properties.{HasDistinctNames}
 use Rattle.napi_types.specs.parts.Values.{Value, children, value_at, starting_values}
 use Rattle.napi_types.proofs.plain.Issued.{has-up_to}
+use Rattle.napi_types.proofs.plain.Found.{apart-above}
 use Rattle.value_store.specs.Places.{state_of, at_number, changed_at, IsNumbered}
 use Rattle.value_store.specs.Changes.{ChangesOnly}
-use Rattle.value_store.proofs.Lookup.{value_of-state_of, number-within, at_number-set, other-number, same-number, apart-number, apart-above}
+use Rattle.value_store.proofs.Lookup.{value_of-state_of, number-within, at_number-set, other-number, apart-number}
 
 abbrev pub updated : (ℕ → Option Value) → ℕ → Value → ℕ → Option Value
 updated values k w n = cond (n == k) (Some w) (values n)
@@ -64,7 +66,7 @@ given (suc n) k some less = has-up_to k n ∙ by (given n k some) (suc n == k) r
 
 zero-not-given : (n : ℕ) → has_number 0 (up_to n) ≡ false
 zero-not-given zero = refl
-zero-not-given (suc n) = has-up_to 0 n ∙ rw (apart-above (suc n) 0 (omega arith)) (zero-not-given n)
+zero-not-given (suc n) = has-up_to 0 n ∙ rw (apart-above 0 (suc n) (omega arith)) (zero-not-given n)
 
 -- what holds of every state of a store
 pub sound : (ps : List (Option Value)) → IsNumbered (at_number ps) → IsSoundStore (state_of ps)
@@ -118,7 +120,7 @@ changed-only ps k change all good =
     }
   where
     updated-same : (f : ℕ → Option Value) (k : ℕ) (w : Value) → updated f k w k ≡ Some w
-    updated-same f k w = rw (same-number k k refl) refl
+    updated-same f k w = rw (eq-eqb k k refl) refl
 
     updated-other : (f : ℕ → Option Value) (k : ℕ) (w : Value) (n : ℕ) → n ≢ k → updated f k w n ≡ f n
     updated-other f k w n other = rw (apart-number n k other) refl

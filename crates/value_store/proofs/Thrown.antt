@@ -3,6 +3,7 @@ use Rattle.std.proofs.Common.{◌≡◌, ℕ, ◌+◌, ◌<◌, ◌≤◌, false
 use Rattle.std.specs.List.{All}
 use Rattle.std.proofs.lemmas.List.{map-append}
 use Rattle.std.proofs.lemmas.List.Elements.{All-nil, All-cons, filter_map-append}
+use Rattle.std.proofs.lemmas.Bool.{eq-eqb}
 use Rattle.napi_types.specs.declared.body.Body.{Body}
 use Rattle.napi_types.specs.declared.ids.TextNo.{TextNo}
 use Rattle.napi_types.specs.plain.Lists.{has_number, up_to}
@@ -10,10 +11,11 @@ use Rattle.napi_types.specs.parts.Graph.{StoreState, graph_of}
 use Rattle.napi_types.specs.parts.NewValues.{made_after, error_of, thrown_strings, thrown_of}
 use Rattle.napi_types.specs.parts.Values.{Value, children}
 use Rattle.napi_types.proofs.plain.Issued.{above-up_to}
+use Rattle.napi_types.proofs.plain.Found.{apart-below}
 use Rattle.value_store.specs.declared.place.Place.{Place}
 use Rattle.value_store.specs.Places.{value_here, state_of, at_number, HasValue, IsNumbered}
 use Rattle.value_store.specs.Changes.{MakesList}
-use Rattle.value_store.proofs.Lookup.{value_of-state_of, at_number-push, apart-below, same-number}
+use Rattle.value_store.proofs.Lookup.{value_of-state_of, at_number-push}
 use Rattle.value_store.proofs.States.{given}
 use Rattle.value_store.proofs.Calls.{pushed-numbered}
 use Rattle.value_store.proofs.Graphs.{standing, graph-is}
@@ -56,7 +58,7 @@ module _ (ps qs : List (Option Value)) (s : StoreState) (view : state_of ps ≡ 
       ∙ last (ps ++ map Some (made_after (length ps) bs)) (Some w)
     where
       last : (xs : List (Option Value)) (x : Option Value) → at_number (xs ++ x ∷ []) (length xs + 1) ≡ x
-      last xs x = at_number-push xs x (length xs + 1) ∙ rw (same-number (length xs + 1) (length xs + 1) refl) refl
+      last xs x = at_number-push xs x (length xs + 1) ∙ rw (eq-eqb (length xs + 1) (length xs + 1) refl) refl
 
   stays : (n : ℕ) → n ≤ length ps → at_number qs n ≡ at_number ps n
   stays n within = ap (λ l. at_number l n) (is ∙ sym (last-parts ps (made_after (length ps) bs) w)) ∙ before ps (map Some (made_after (length ps) bs ++ w ∷ [])) n within
