@@ -16,7 +16,6 @@ use Rattle.napi_types.specs.declared.entry.Phase.TheVariants as phase
 use Rattle.napi_types.specs.declared.entry.What.{What}
 use Rattle.napi_types.specs.declared.entry.What.TheVariants as what
 use Rattle.napi_types.specs.plain.Entries.{host_entry, is_environment}
-use Rattle.napi_types.specs.plain.Guards.{is_shared}
 use Rattle.napi_types.specs.parts.Functions.{closed}
 use Rattle.napi_types.specs.parts.Pool.{new_pool, drained, executed_by}
 use Rattle.napi_types.specs.environment.Ends.{end_change}
@@ -31,7 +30,7 @@ use Rattle.napi_types.specs.runs.Setting.{Setting, opening_of, final_of}
 use Rattle.napi_types.specs.runs.Step.{Step, has_room, step}
 use Rattle.napi_types.proofs.plain.Conditions.{and-right}
 use Rattle.napi_types.proofs.environment.FrameEnds.{ended-ends}
-use Rattle.napi_types.proofs.hub.HubKeeps.{hub_step-what, other-calls}
+use Rattle.napi_types.proofs.hub.HubKeeps.{hub_step-what, other-calls, thread-shared}
 use Rattle.napi_types.proofs.runs.SharedSteps.{hub_step-end}
 use Rattle.napi_types.proofs.runs.StepCases.{StepCase, calls, ends, opens, inits, begins, vanishes, shares, leaves, passes, moves, others, event_before, step-case}
 use Rattle.napi_types.proofs.all_runs.Orderly.{Orderly, orderly-step, orderly-opens}
@@ -69,20 +68,13 @@ passed-bare h phase.Finals o bare = record { closing = bare.closing; pool = bare
 passed-bare h phase.Gone o bare = bare
 
 -- THE ENTRIES OF OTHERS
--- a thread's calls are shared
-thread-shares : (c : Call) → is_thread_call c ≡ true → is_shared c ≡ true
-thread-shares (call.CallThreadsafeFunction f payload mode) theirs = refl
-thread-shares (call.AcquireThreadsafeFunction f) theirs = refl
-thread-shares (call.ReleaseThreadsafeFunction f mode) theirs = refl
-thread-shares _ theirs = cc
-
 thread_event-bare : (h : Hub) (t : ℕ) (x : Entry) (event : HostStep) → IsBare h → IsBare (thread_event h t x event).after
 thread_event-bare h t x host.ActorEnd bare = record { closing = bare.closing; pool = bare.pool; functions = bare.functions }
 thread_event-bare h t x _ bare = bare
 
 thread-bare : (h : Hub) (t : ℕ) (x : Entry) (w : What) → ((c : Call) → w ≡ what.Call c → is_thread_call c ≡ true) → is_shared_call w ≡ false → IsBare h
     → IsBare (thread_step h t x w).after
-thread-bare h t x (what.Call c) theirs none bare = let no : false ≡ true = sym none ∙ thread-shares c (theirs c refl) in cc
+thread-bare h t x (what.Call c) theirs none bare = let no : false ≡ true = sym none ∙ thread-shared c (theirs c refl) in cc
 thread-bare h t x (what.Host event) theirs none bare = thread_event-bare h t x event bare
 
 start-bare : (h : Hub) (w : ℕ) (x : Entry) (queued : List ℕ) → queued ≡ [] → IsBare h → IsBare (start_step h w x queued).after

@@ -1,8 +1,7 @@
 -- Which ticket begins next, and where a duty may begin.
-use Rattle.std.proofs.Common.{◌≡◌, ◌<◌, ◌≤◌, ◌∙◌, ℕ, zero, suc, ◌+◌, Bool, true, false, cond, not, List, [], ◌∷◌, length, IsTrue, refl, ap, sym, subst, Option, Some, None, inl, inr, ◌⊎◌, arith}
-use Rattle.std.specs.List.{find, range_with_len}
+use Rattle.std.proofs.Common.{◌≡◌, ◌<◌, ◌∙◌, ℕ, zero, suc, true, false, not, [], length, IsTrue, refl, ap, sym, subst, Option, Some, None, inl, inr, ◌⊎◌, arith}
 use Rattle.std.specs.Option.{option_or}
-use Rattle.std.proofs.lemmas.Bool.{cases_lt, cases_eq, not-true}
+use Rattle.std.proofs.lemmas.Bool.{not-true}
 use Rattle.napi_types.specs.declared.call.Args.{Args}
 use Rattle.napi_types.specs.declared.call.Call.{Call}
 use Rattle.napi_types.specs.declared.call.Call.TheVariants as call
@@ -32,6 +31,7 @@ use Rattle.napi_types.specs.runs.Choice.{local_choice, local_choice_in, hub_choi
 use Rattle.napi_types.specs.runs.Loop.{Event, Tickets, Moves, Goes, EndsLoop, Drains, FinalsCome}
 use Rattle.napi_types.specs.runs.Machine.{Machine}
 use Rattle.napi_types.specs.runs.Step.{Step, ticket_step, move_step, event_step, chosen, step}
+use Rattle.napi_types.proofs.plain.Lists.{find-passes, find-first}
 use Rattle.napi_types.proofs.parts.Books.{IsDueAt, lowest-due}
 use Rattle.napi_types.proofs.hub.HubDuties.{delivery-of_hub}
 use Rattle.napi_types.proofs.runs.SharedSteps.{others-none}
@@ -200,37 +200,6 @@ pub tickets-begin : TicketsBeginAtTheirMoments
 tickets-begin m a x c addon entry d next is told = form-begins m (step m a x) d x (form-of m a x next) next.0 next.1 (is, ap told_duty told)
 
 -- THE LOWEST IS THE LOWEST
-above : (a k : ℕ) → a ≤ k → (a ≡ k → ⊥) → a + 1 ≤ k
-above a k from apart =
-    elim (cases_lt a k) [
-      | inl less ↦ omega (arith, less)
-      | inr ge ↦ absurd (apart (omega (arith, from, ge)))
-    ]
-
-module _ (test : ℕ → Bool) where
-  find-passes : (xs : List ℕ) (n : ℕ) → find test xs ≡ Some n → test n ≡ true
-  find-passes [] n is = cc
-  find-passes (x ∷ xs) n is = by (test x) refl is (find-passes xs n)
-    where
-      by : (b : Bool) → test x ≡ b → cond b (Some x) (find test xs) ≡ Some n → (find test xs ≡ Some n → test n ≡ true) → test n ≡ true
-      by true here is rest = let same : x ≡ n = cc in ap test (sym same) ∙ here
-      by false here is rest = rest is
-
-  -- none of those before it passes
-  find-first : (a count n k : ℕ) → find test (range_with_len a count) ≡ Some n → a ≤ k → k < n → test k ≡ false
-  find-first a zero n k is from below = cc
-  find-first a (suc count) n k is from below = by (test a) refl is (λ rest above. find-first (a + 1) count n k rest above below)
-    where
-      later : test a ≡ false → find test (range_with_len (a + 1) count) ≡ Some n → (find test (range_with_len (a + 1) count) ≡ Some n → a + 1 ≤ k → test k ≡ false)
-          → (a ≡ k) ⊎ (a ≡ k → ⊥) → test k ≡ false
-      later here rest next (inl same) = ap test (sym same) ∙ here
-      later here rest next (inr apart) = next rest (above a k from apart)
-
-      by : (b : Bool) → test a ≡ b → cond b (Some a) (find test (range_with_len (a + 1) count)) ≡ Some n
-          → (find test (range_with_len (a + 1) count) ≡ Some n → a + 1 ≤ k → test k ≡ false) → test k ≡ false
-      by true here is next = let same : a ≡ n = cc in absurd (omega (arith, same, from, below))
-      by false here is next = later here is next (cases_eq a k)
-
 pub lowest-lowest : LowestDueIsLowest
 lowest-lowest book n is = record { due = find-passes (is_at is_due book) (up_to (length book)) n is; below = below }
   where

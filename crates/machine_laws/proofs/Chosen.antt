@@ -133,18 +133,3 @@ chosen-by m v is = by (local_choice m.env) refl is
         → (local_choice m.env ≡ Some v) ⊎ ((local_choice m.env ≡ None) × (hub_choice m.hub ≡ Some v))
     by (Some w) here is = inl (here ∙ is)
     by None here is = inr (here, is)
-
--- a move is the hub's next one
-pub chosen-move : (m : Machine) (move : HubMove) → choice m ≡ Some (Moves move) → hub_move m.hub ≡ Some move
-chosen-move m move is = by (chosen-by m (Moves move) is)
-  where
-    own : (p : Phase) → OwnChoice m.env p (Moves move) → ⊥
-    own p o = elim o [ ]
-
-    of-hub : (s : Stage) → HubChoice m.hub s (Moves move) → hub_move m.hub ≡ Some move
-    of-hub _ (moves_in_loop _ next) = next
-    of-hub _ (moves_at_end _ next) = next
-
-    by : (local_choice m.env ≡ Some (Moves move)) ⊎ ((local_choice m.env ≡ None) × (hub_choice m.hub ≡ Some (Moves move))) → hub_move m.hub ≡ Some move
-    by (inl is) = absurd (own m.env.phase (own-choice m.env m.env.phase (Moves move) is))
-    by (inr is) = of-hub m.hub.stage (hub-choice m.hub m.hub.stage (Moves move) is.1)

@@ -4,7 +4,6 @@ use Rattle.std.specs.List.{All, AllByRecursion, IsDistinct, count_by}
 use Rattle.std.specs.Option.{IfSome}
 use Rattle.std.proofs.lemmas.Bool.{eq-eqb, or_left, or_right}
 use Rattle.std.proofs.lemmas.List.Elements.{All-nil, All-cons, All-filter, All-map, All-weaker, filter_passes}
-use Rattle.std.proofs.lemmas.List.Folds.{list_any-append}
 use Rattle.std.proofs.lemmas.Map.Keys.{IsDistinct-head, IsDistinct-tail}
 use Rattle.napi_types.specs.plain.Lists.{has_number}
 use Rattle.napi_types.specs.parts.Reach.{numbers, children_at}
@@ -13,6 +12,7 @@ use Rattle.napi_types.specs.parts.Values.{Value, children, value_at, starting_va
 use Rattle.napi_types.specs.environment.Collection.{collected}
 use Rattle.napi_types.specs.environment.Environment.{Environment, FunctionRoot}
 use Rattle.napi_types.specs.environment.Roots.{roots, reach}
+use Rattle.napi_types.proofs.plain.Maps.{has-left, has-right}
 use Rattle.napi_types.proofs.parts.Reaching.{reach-roots, reach-closed, numbers-kept}
 use Rattle.machine_laws.specs.Consistency.{values_of_handles, IsLiveAmong}
 use Rattle.machine_laws.proofs.Children.{OfChildren}
@@ -28,12 +28,6 @@ within-filter p (x ∷ xs) q = by (p x) (within-filter p xs q)
     by : (b : Bool) → count_by q (filter p xs) ≤ count_by q xs + 0 → count_by q (cond b (x ∷ filter p xs) (filter p xs)) ≤ count_by q (x ∷ xs) + 0
     by true less = omega (arith, less, count-cons q x (filter p xs), count-cons q x xs)
     by false less = omega (arith, less, count-cons q x xs)
-
-in-left : (n : ℕ) (ms ns : List ℕ) → has_number n ms ≡ true → has_number n (ms ++ ns) ≡ true
-in-left n ms ns h = list_any-append (λ m. m == n) ms ns ∙ or_left (has_number n ms) (has_number n ns) h
-
-in-right : (n : ℕ) (ms ns : List ℕ) → has_number n ns ≡ true → has_number n (ms ++ ns) ≡ true
-in-right n ms ns h = list_any-append (λ m. m == n) ms ns ∙ or_right (has_number n ms) (has_number n ns) h
 
 -- a value is found by its number where no number stands twice
 of-each : {A : Type 0} (P : ℕ → Type 0) (f : A → ℕ) (xs : List A) → AllByRecursion P (map f xs) → All (λ x. P (f x)) xs
@@ -65,24 +59,24 @@ early_roots e = numbers starting_values ++ held_roots e ++ strong_values e.refer
 
 -- each of the first three kinds is a root
 root-early : (e : Environment) (n : ℕ) → has_number n (early_roots e) ≡ true → has_number n (roots e) ≡ true
-root-early e n h = in-left n (early_roots e ++ function_values e) (option_to_list e.pending) (in-left n (early_roots e) (function_values e) h)
+root-early e n h = has-left n (early_roots e ++ function_values e) (option_to_list e.pending) (has-left n (early_roots e) (function_values e) h)
 
 -- a starting value, the value of a handle that is held, what a thread-safe function keeps alive, and the pending exception are roots
 root-starting : (e : Environment) (n : ℕ) → has_number n (numbers starting_values) ≡ true → has_number n (roots e) ≡ true
 root-starting e n h =
     root-early e n
-    (in-left n (numbers starting_values ++ held_roots e) (strong_values e.references) (in-left n (numbers starting_values) (held_roots e) h))
+    (has-left n (numbers starting_values ++ held_roots e) (strong_values e.references) (has-left n (numbers starting_values) (held_roots e) h))
 
 root-held : (e : Environment) (n : ℕ) → has_number n (held_roots e) ≡ true → has_number n (roots e) ≡ true
 root-held e n h =
     root-early e n
-    (in-left n (numbers starting_values ++ held_roots e) (strong_values e.references) (in-right n (numbers starting_values) (held_roots e) h))
+    (has-left n (numbers starting_values ++ held_roots e) (strong_values e.references) (has-right n (numbers starting_values) (held_roots e) h))
 
 root-function : (e : Environment) (n : ℕ) → has_number n (function_values e) ≡ true → has_number n (roots e) ≡ true
-root-function e n h = in-left n (early_roots e ++ function_values e) (option_to_list e.pending) (in-right n (early_roots e) (function_values e) h)
+root-function e n h = has-left n (early_roots e ++ function_values e) (option_to_list e.pending) (has-right n (early_roots e) (function_values e) h)
 
 root-pending : (e : Environment) (n : ℕ) → has_number n (option_to_list e.pending) ≡ true → has_number n (roots e) ≡ true
-root-pending e n h = in-right n (early_roots e ++ function_values e) (option_to_list e.pending) h
+root-pending e n h = has-right n (early_roots e ++ function_values e) (option_to_list e.pending) h
 
 -- WHAT IS KEPT
 -- the values after a collection

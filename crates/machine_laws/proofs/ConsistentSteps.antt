@@ -1,6 +1,5 @@
 -- Every step keeps environments consistent, whether or not it may stand, and so does every run.
 use Rattle.std.proofs.Common.{◌≡◌, ◌≤◌, arith, ℕ, zero, suc, ◌+◌, ◌==◌, nat_le, not, true, false, Bool, List, [], ◌∷◌, length, take, refl, sym, ◌∙◌, ap, subst, Option, Some, None}
-use Rattle.std.specs.Option.{option_or}
 use Rattle.std.specs.List.{All}
 use Rattle.std.proofs.lemmas.Bool.{leb-false}
 use Rattle.std.proofs.lemmas.List.Elements.{All-push, All-filter}
@@ -25,7 +24,7 @@ use Rattle.napi_types.specs.declared.status.Status.{Status}
 use Rattle.napi_types.specs.declared.status.Status.TheVariants as status
 use Rattle.napi_types.specs.plain.Entries.{cut_of}
 use Rattle.napi_types.specs.plain.Guards.{is_shared}
-use Rattle.napi_types.specs.plain.Lists.{first_changed, tail, when}
+use Rattle.napi_types.specs.plain.Lists.{tail}
 use Rattle.napi_types.specs.parts.Book.{Book, Registration, due_info, moved_at, registration_at, begun_in}
 use Rattle.napi_types.specs.parts.Frames.{Frame, frame_of, frame_of_duty, cause_of, duty_of, is_hub_duty, most_frames, ask_counted}
 use Rattle.napi_types.specs.parts.FunctionCalls.{left_value, with_receiver}
@@ -45,21 +44,12 @@ use Rattle.napi_types.specs.runs.Loop.{Event, Opens, Inits, Tickets, Moves, Goes
 use Rattle.napi_types.specs.runs.Machine.{Machine}
 use Rattle.napi_types.specs.runs.Run.{after, final}
 use Rattle.napi_types.specs.runs.Step.{Step, ticket_step, move_step, event_step, chosen, may_cut, call_step_on, end_step_on, asked_step, frame_step, env_step, step_of}
+use Rattle.napi_types.proofs.plain.Lists.{length-changed, length-tail, none-last, not-when}
 use Rattle.napi_types.proofs.runs.SharedSteps.{after_shared-alone}
 use Rattle.machine_laws.specs.Consistency.{IsConsistent, IsLiveAmong}
 use Rattle.machine_laws.proofs.ConsistentAnswers.{IsConsistentButFrames, Follows, parts-of, whole-of, in-heap, call_change-follows}
 use Rattle.machine_laws.proofs.ConsistentCalls.{handle-live}
 use Rattle.machine_laws.proofs.ConsistentHeaps.{IsConsistentHeap, ComesTo, HandlesStay, stays, stays-then, and-then, unchanged, with-handle, with-frame, without-frame}
-
-length-changed : {A : Type 0} (f : A → A) (xs : List A) → length (first_changed f xs) ≡ length xs
-length-changed f [] = refl
-length-changed f (x ∷ xs) = refl
-
-length-tail : {A B : Type 0} (xs : List A) (ys : List B) → length xs ≡ length ys → length (tail xs) ≡ length (tail ys)
-length-tail [] [] h = refl
-length-tail [] (y ∷ ys) h = absurd (omega (arith, h))
-length-tail (x ∷ xs) [] h = absurd (omega (arith, h))
-length-tail (x ∷ xs) (y ∷ ys) h = omega (arith, h)
 
 tail-shorter : {A : Type 0} (xs : List A) → length (tail xs) ≤ length xs
 tail-shorter [] = omega arith
@@ -124,14 +114,6 @@ with-receiver heap (Some h) g = unchanged heap g
 length-receiver : (heap : Heap) (receiver : Option HandleId) → length (with_receiver receiver heap).scopes ≡ length heap.scopes
 length-receiver heap None = length-changed _ heap.scopes
 length-receiver heap (Some h) = refl
-
-none-last : (a b : Option Status) → option_or a b ≡ None → b ≡ None
-none-last None b h = h
-none-last (Some s) b h = cc
-
-not-when : (b : Bool) (s : Status) → when b s ≡ None → b ≡ false
-not-when true s h = cc
-not-when false s h = refl
 
 -- a function is called only where a frame more may stand
 below-limit : (e : Environment) (receiver : Option HandleId) (f : HandleId) (args : Args) → refusal e (call.CallFunction receiver f args) ≡ None

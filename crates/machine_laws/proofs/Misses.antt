@@ -20,17 +20,17 @@ use Rattle.napi_types.specs.declared.status.Kind.{Kind}
 use Rattle.napi_types.specs.declared.status.Status.{Status}
 use Rattle.napi_types.specs.plain.Entries.{host_entry}
 use Rattle.napi_types.specs.plain.Lists.{has_number}
-use Rattle.napi_types.specs.plain.Replies.{Answer}
 use Rattle.napi_types.specs.parts.Pool.{executed_by}
 use Rattle.napi_types.specs.scripts.Plans.{loaded_registers}
 use Rattle.napi_types.specs.hub.Hub.{Hub, Final, threads_left, workers_left}
 use Rattle.napi_types.specs.hub.HubCalls.{hub_answer, is_thread_call}
-use Rattle.napi_types.specs.hub.HubSteps.{hub_step, hub_step_of, answered_step, is_gone_on, is_thread_there, is_thread_end, nothing_given, thread_step, is_worker_there, start_step, work_end_step, worker_step}
+use Rattle.napi_types.specs.hub.HubSteps.{hub_step, hub_step_of, is_gone_on, is_thread_there, is_thread_end, nothing_given, thread_step, is_worker_there, start_step, work_end_step, worker_step}
 use Rattle.napi_types.specs.runs.Machine.{Machine}
 use Rattle.napi_types.specs.runs.Run.{IsNext, IsRunBy}
 use Rattle.napi_types.specs.runs.Setting.{Setting, opening_of}
 use Rattle.napi_types.specs.runs.Step.{step_of, has_room}
 use Rattle.napi_types.proofs.plain.Conditions.{and-left, and-right}
+use Rattle.napi_types.proofs.hub.HubKeeps.{answered-may}
 use Rattle.machine_laws.specs.Computing.{ComputesBy, steps, entries_of, all_may, is_paired}
 use Rattle.machine_laws.specs.Told.{IsRun, all_told, told_asks}
 use Rattle.machine_laws.proofs.Asks.{asks-unique, told-run}
@@ -140,10 +140,6 @@ told-may s xs h r =
 
 -- THE END
 -- where every thread and every worker has ended, nothing of theirs may come
-answered-may : (h : Hub) (x : Entry) (may : Bool) (o : Option (Answer Hub)) → IsTrue (answered_step h x may o).may → IsTrue may
-answered-may h x may None t = cc
-answered-may h x may (Some a) t = t
-
 none-left : (n : ℕ) (ns : List ℕ) → ns ≡ [] → IsTrue (has_number n ns) → ⊥
 none-left n [] none t = cc
 none-left n (m ∷ ms) none t = cc

@@ -1,22 +1,18 @@
 -- What a call names, and the first refusal for that.
-use Rattle.std.proofs.Common.{◌≡◌, ℕ, ◌==◌, ◌∙◌, ap, sym, refl, Bool, true, false, ◌&&◌, List, [], ◌∷◌, Option, Some, None, inl, inr}
+use Rattle.std.proofs.Common.{◌≡◌, ℕ, ◌==◌, ◌∙◌, ap, sym, refl, Bool, true, false, ◌&&◌, List, [], ◌∷◌, inl, inr}
 use Rattle.std.proofs.Math.Bool.{and-false}
 use Rattle.std.proofs.lemmas.Bool.{eqb-true, eq-eqb, or_cases, or_left, or_right}
 use Rattle.std.specs.List.{list_all}
 use Rattle.std.specs.Option.{option_or}
 use Rattle.napi_types.specs.declared.call.Call.TheVariants as call
-use Rattle.napi_types.specs.declared.status.Status.{Status}
 use Rattle.napi_types.specs.plain.Lists.{has_number}
 use Rattle.napi_types.specs.parts.Frames.{caller_of}
 use Rattle.napi_types.specs.parts.HeapRefusals.{refusal_in}
 use Rattle.napi_types.specs.parts.HookRefusals.{hook_refusal}
 use Rattle.napi_types.specs.parts.ReferenceRefusals.{reference_refusal}
 use Rattle.napi_types.specs.environment.Refusals.{attached_refusal}
+use Rattle.napi_types.proofs.plain.Lists.{option_or-none}
 use Rattle.machine_laws.specs.CallLaws.{ReferencesAreNamedAlone, HooksAreNamedAlone}
-
-option_or-none : (s : Option Status) → option_or s None ≡ s
-option_or-none None = refl
-option_or-none (Some s) = refl
 
 pub named-alone : ReferencesAreNamedAlone
 named-alone e (call.DeleteReference r) = record { alone = inr (refl, refl); order = option_or-none (reference_refusal e.references (call.DeleteReference r)) }

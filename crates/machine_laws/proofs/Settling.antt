@@ -16,7 +16,7 @@ use Rattle.napi_types.specs.declared.entry.Why.{Why}
 use Rattle.napi_types.specs.declared.ids.HandleId.{HandleId}
 use Rattle.napi_types.specs.parts.Book.{Book, Registration, is_registered, is_at, registration_at, lowest_due}
 use Rattle.napi_types.specs.parts.Duties.{AreNested}
-use Rattle.napi_types.specs.parts.Frames.{Frame, frame_of_duty}
+use Rattle.napi_types.specs.parts.Frames.{frame_of_duty}
 use Rattle.napi_types.specs.environment.Changes.{number_of, in_phase}
 use Rattle.napi_types.specs.environment.Ends.{end_change}
 use Rattle.napi_types.specs.environment.Entering.{asked_change}
@@ -30,16 +30,17 @@ use Rattle.napi_types.specs.runs.Machine.{Machine}
 use Rattle.napi_types.specs.runs.Run.{IsNext, IsRunBy, after, final}
 use Rattle.napi_types.specs.runs.Setting.{Setting, opening_of, final_of}
 use Rattle.napi_types.specs.runs.Step.{Step, ticket_step, event_step, shared_call_step, end_step_on, step}
+use Rattle.napi_types.proofs.plain.Lists.{some-stand}
 use Rattle.napi_types.proofs.parts.Books.{NoneRegistered, none-owed_tickets}
 use Rattle.napi_types.proofs.environment.Registrations.{registered-holds, AreUncalled, uncalled-asked, uncalled-ended, uncalled-begun, uncalled-phase}
 use Rattle.napi_types.proofs.environment.StandingFrames.{counted-nested, nested-asked, nested-ended, nested-first, nested-ticket, nested-init}
 use Rattle.napi_types.proofs.hub.HubDuties.{delivery-of_hub}
 use Rattle.napi_types.proofs.runs.SharedSteps.{is_of_others, after_shared-alone}
+use Rattle.napi_types.proofs.all_runs.ScriptAddons.{chosen-move}
 use Rattle.machine_laws.specs.Choices.{begins_due_tickets_in, IsOfTicket, GoneComesOnlyAfterFinals}
 use Rattle.machine_laws.specs.FinalizerLaws.{OnlyTheOutermostFrameHasADuty, NoneIsRegisteredFromFinalsOn}
 use Rattle.machine_laws.proofs.Beginning.{lowest-first}
 use Rattle.machine_laws.proofs.Choosing.{gone-last, hub-in-phase}
-use Rattle.machine_laws.proofs.Chosen.{chosen-move}
 use Rattle.machine_laws.proofs.Forms as form
 use Rattle.machine_laws.proofs.Forms.{Form, form-of, by-env}
 use Rattle.machine_laws.proofs.OrderlyRuns.{orderly-run}
@@ -92,9 +93,6 @@ event-nested m (EndsLoop w) next none here = phase-nested phase.Hooks m.env here
 event-nested m Drains next none here = phase-nested phase.Drain m.env here
 event-nested m FinalsCome next none here = phase-nested phase.Finals m.env here
 event-nested m IsGone next none here = record { frames = here.frames; uncalled = here.uncalled }
-
-some-stand : (f : Frame) (fs gs : List Frame) → gs ≡ f ∷ fs → gs ≢ []
-some-stand f fs gs is none = let z : f ∷ fs ≡ [] = sym is ∙ none in cc
 
 pub form-nested : (m : Machine) (t : Step) → Form m t → IsNested m.env → IsNested t.after.env
 form-nested m _ (form.calls f fs stands c o alone) here = asked-nested m.env c (number_of o) (some-stand f fs m.env.frames stands) here

@@ -9,6 +9,7 @@ use Rattle.std.proofs.lemmas.List.Elements.{filter-append}
 use Rattle.std.proofs.lemmas.List.Folds.{find-append}
 use Rattle.napi_types.specs.plain.Lists.{found, has, with_record, as_map, with_number}
 use Rattle.napi_types.specs.parts.References.{Reference}
+use Rattle.napi_types.proofs.plain.Lists.{option_or-none}
 use Rattle.napi_reference.specs.Places.{standing}
 
 -- TWO TESTS
@@ -61,10 +62,6 @@ and-swap true true = refl
 and-swap true false = refl
 and-swap false true = refl
 and-swap false false = refl
-
-option_or-none : {A : Type 0} (o : Option A) → option_or o None ≡ o
-option_or-none None = refl
-option_or-none (Some x) = refl
 
 module _ {A : Type 0} (number : A → ℕ) where
   abbrev under : ℕ → A → Bool

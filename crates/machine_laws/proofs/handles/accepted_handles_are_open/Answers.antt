@@ -1,10 +1,10 @@
-use Rattle.std.proofs.Common.{◌≡◌, ℕ, ◌==◌, Bool, true, false, List, [], ◌∷◌, Option, Some, None, refl, subst, is_some}
+use Rattle.std.proofs.Common.{◌≡◌, ℕ, ◌==◌, Bool, true, false, List, [], ◌∷◌, Option, None, refl, subst, is_some}
 use Rattle.std.specs.List.{list_all}
 use Rattle.std.specs.Option.{option_or}
 use Rattle.std.proofs.lemmas.Bool.{eqb-true, and_parts}
 use Rattle.napi_types.specs.declared.status.Status.{Status}
 use Rattle.napi_types.specs.declared.status.Status.TheVariants as status
-use Rattle.napi_types.specs.plain.Lists.{has_number, unless}
+use Rattle.napi_types.specs.plain.Lists.{has_number}
 use Rattle.napi_types.specs.parts.AttachmentRefusals.{attachment_refusal}
 use Rattle.napi_types.specs.parts.ExpectedKinds.{kind_refusal}
 use Rattle.napi_types.specs.parts.Frames.{caller_of}
@@ -16,20 +16,9 @@ use Rattle.napi_types.specs.parts.ReferenceRefusals.{reference_refusal}
 use Rattle.napi_types.specs.parts.Scopes.{gives}
 use Rattle.napi_types.specs.environment.Moments.{moment_refusal}
 use Rattle.napi_types.specs.environment.Refusals.{attached_refusal, timely_refusal, early_refusal, depth_refusal}
+use Rattle.napi_types.proofs.plain.Lists.{none-first, none-last, not-unless}
 use Rattle.machine_laws.specs.HandleLaws.{AcceptedHandlesAreOpen}
 use Rattle.machine_laws.proofs.handles.accepted_handles_are_open.Goals as goal
-
-none-first : (a b : Option Status) → option_or a b ≡ None → a ≡ None
-none-first None b h = refl
-none-first (Some s) b h = h
-
-none-last : (a b : Option Status) → option_or a b ≡ None → b ≡ None
-none-last None b h = h
-none-last (Some s) b h = cc
-
-not-unless : (b : Bool) (s : Status) → unless b s ≡ None → b ≡ true
-not-unless true s h = refl
-not-unless false s h = cc
 
 -- what is true of all numbers of a list is true of each that it has
 of-all : (p : ℕ → Bool) (n : ℕ) (ns : List ℕ) → list_all p ns ≡ true → has_number n ns ≡ true → p n ≡ true
