@@ -20,11 +20,11 @@ use Rattle.napi_types.specs.parts.Values.{Value, those_of, all_but}
 use Rattle.napi_types.specs.environment.Collection.{is_freed, collected}
 use Rattle.napi_types.specs.environment.Environment.{Environment}
 use Rattle.napi_types.specs.environment.Roots.{roots, reach}
+use Rattle.napi_types.proofs.plain.Lists.{All-left, All-right}
 use Rattle.napi_types.proofs.parts.Reaching.{reach_from-same}
 use Rattle.value_store.specs.Changes.{Frees}
 use Rattle.handle_scope.specs.HandleScopes.{HandleScopes}
 use Rattle.env_values.specs.Seen.{seen_frame, heap_of}
-use Rattle.env_values.proofs.Held.{All-left, All-right}
 use Rattle.env_values.proofs.Seen.{IsSame, seen-same}
 use Rattle.trace_collect.specs.Collects.{reached, AreUnreached}
 use Rattle.env_core.specs.Referring.{seen_reference, references_seen, RefersToLive}

@@ -32,10 +32,11 @@ use Rattle.napi_types.specs.environment.JournalRoom.{gone_place, reserved_journa
 use Rattle.napi_types.specs.environment.Refusals.{refusal, early_refusal, depth_refusal}
 use Rattle.napi_types.specs.environment.Tickets.{ticket_change, ticket_in, next_ticket}
 use Rattle.napi_types.proofs.parts.BookSteps.{step-length}
-use Rattle.napi_types.proofs.parts.Books.{owed-due_where, owed-begun, IsDueAt, lowest-due, length-moved}
+use Rattle.napi_types.proofs.parts.Books.{owed-begun, IsDueAt, lowest-due, length-moved}
 use Rattle.napi_types.proofs.environment.Answers.{course-parts, KeepsButAsk, call_change-keeps, call-reserved}
 use Rattle.napi_types.proofs.environment.FrameChanges.{book_left, owed-left, KeepsButFrame, ended-keeps}
 use Rattle.napi_types.proofs.environment.HookedSteps.{hooked-called, hooked-ended, hooked-begun, hooked-phase}
+use Rattle.napi_types.proofs.environment.Registrations.{owed-in}
 use Rattle.env_core.specs.Journal.{Pages}
 use Rattle.env_core.specs.Core.{Core, IsCore, after_change, room_in}
 use Rattle.env_core.specs.State.{Calls}
@@ -208,10 +209,6 @@ core-begun old new pages after x n r c next there is e =
     (subst (λ (s : Environment). IsHooked s) (sym is) (hooked-begun n r old there may c.hooked))
 
 -- A PHASE STARTS
-owed-in : (p : Phase) (book : Book) → owed_tickets (book_in p book) ≡ owed_tickets book
-owed-in phase.Finals book = owed-due_where (λ n. true) book
-owed-in _ book = refl
-
 length-in : (p : Phase) (book : Book) → length (book_in p book) ≡ length book
 length-in phase.Finals book = length-moved made_due (λ n. true) book
 length-in _ book = refl

@@ -1,5 +1,5 @@
 -- What stays of a state where a frame ends.
-use Rattle.std.proofs.Common.{◌≡◌, ℕ, ◌+◌, List, [], ◌∷◌, ◌++◌, length, refl, ap, sym, ◌∙◌, Option, Some, IfSome, arith}
+use Rattle.std.proofs.Common.{◌≡◌, ℕ, ◌+◌, List, [], ◌∷◌, ◌++◌, refl, ap, sym, ◌∙◌, Option, Some, IfSome}
 use Rattle.std.specs.List.{All}
 use Rattle.napi_types.specs.plain.Lists.{tail}
 use Rattle.napi_types.specs.parts.Frames.{Frame}
@@ -7,22 +7,16 @@ use Rattle.napi_types.specs.parts.Graph.{StoreState, IsLive}
 use Rattle.napi_types.specs.parts.References.{ReferenceMap}
 use Rattle.napi_types.specs.parts.ScopeChanges.{hold_in}
 use Rattle.napi_types.specs.parts.Scopes.{Held, FrameScopes, held_by_scopes, held_by_frames}
+use Rattle.napi_types.proofs.plain.Lists.{length-changed, length-tail, All-left}
 use Rattle.handle_scope.specs.HandleScopes.{HandleScopes, without_frame_scopes, without_call_scopes, with_issued_handle}
 use Rattle.env_values.proofs.Giving.{issued-live}
 use Rattle.env_core.specs.State.{IsState, is_by_call}
-use Rattle.env_core.proofs.Scopes.{length-changed}
-use Rattle.env_core.proofs.SeenScopes.{All-front, map-tail}
-
-length-tail : {A B : Type 0} (xs : List A) (ys : List B) → length xs ≡ length ys → length (tail xs) ≡ length (tail ys)
-length-tail [] [] e = refl
-length-tail (x ∷ xs) (y ∷ ys) e = omega (arith, e)
-length-tail [] (y ∷ ys) e = absurd (omega (arith, e))
-length-tail (x ∷ xs) [] e = absurd (omega (arith, e))
+use Rattle.env_core.proofs.SeenScopes.{map-tail}
 
 -- what the frames outside hold was held before
 all-left : (P : Held → Type 0) (fs : List FrameScopes) → All P (held_by_frames fs) → All P (held_by_frames (tail fs))
 all-left P [] h = h
-all-left P (f ∷ fs) h = All-front P (held_by_frames fs) (f.own ++ held_by_scopes f.opened) h
+all-left P (f ∷ fs) h = All-left P (held_by_frames fs) (f.own ++ held_by_scopes f.opened) h
 
 -- a frame and its scopes are gone
 pub state-left : {m : ReferenceMap} (store : StoreState) (old new : HandleScopes) (standing left : List Frame) (thrown pending : Option ℕ) → IsState store old standing thrown m

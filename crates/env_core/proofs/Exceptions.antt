@@ -29,12 +29,13 @@ use Rattle.napi_types.specs.environment.Environment.{Environment, with_heap}
 use Rattle.napi_types.specs.environment.ExceptionCalls.{with_pending, with_thrown_error}
 use Rattle.napi_types.specs.environment.Moments.{moment_refusal}
 use Rattle.napi_types.specs.environment.Refusals.{timely_refusal, early_refusal, depth_refusal}
+use Rattle.napi_types.proofs.plain.Lists.{length-changed}
 use Rattle.handle_scope.specs.HandleScopes.{HandleScopes, with_issued_handle}
 use Rattle.env_values.specs.Seen.{heap_of}
 use Rattle.env_values.proofs.Giving.{issued-live}
 use Rattle.env_values.proofs.HandleValues.{unknown-handle}
 use Rattle.env_core.specs.State.{pending_seen, IsState, Answers, AnswersInTime}
-use Rattle.env_core.proofs.Scopes.{with_parts, by-refusal, known-handle, length-changed}
+use Rattle.env_core.proofs.Scopes.{with_parts, by-refusal, known-handle}
 
 -- THE MOMENT
 -- only the call of a function is refused for the depth

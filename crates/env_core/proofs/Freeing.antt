@@ -9,6 +9,7 @@ use Rattle.napi_types.specs.parts.Book.{Book, due_where}
 use Rattle.napi_types.specs.parts.Graph.{StoreState, IsSoundStore, IsLive, number_in}
 use Rattle.napi_types.specs.environment.Collection.{is_freed}
 use Rattle.napi_types.proofs.plain.Found.{passing, map-rising, as_map-kept}
+use Rattle.napi_types.proofs.plain.Lists.{any-map}
 use Rattle.finalizer_queue.proofs.Moves.{length-due_where}
 use Rattle.wrap_tag.specs.Wraps.{AreGiven}
 use Rattle.wrap_tag.proofs.Dues.{due_where-same}
@@ -21,10 +22,6 @@ use Rattle.env_core.proofs.Renaming.{listed-filter, seen-filter, list_any-seen}
 any-same : {A : Type 0} (p q : A → Bool) (xs : List A) → All (λ x. p x ≡ q x) xs → list_any p xs ≡ list_any q xs
 any-same p q [] same = refl
 any-same p q (x ∷ xs) same = ap (λ b. b || list_any p xs) (All-head (λ y. p y ≡ q y) x xs same) ∙ ap (λ b. q x || b) (any-same p q xs (All-tail (λ y. p y ≡ q y) x xs same))
-
-any-map : {A B : Type 0} (p : B → Bool) (f : A → B) (xs : List A) → list_any p (map f xs) ≡ list_any (λ x. p (f x)) xs
-any-map p f [] = refl
-any-map p f (x ∷ xs) = ap (λ b. p (f x) || b) (any-map p f xs)
 
 -- a test of what is there
 abbrev holds_of : (ℕ → Bool) → Option ℕ → Bool

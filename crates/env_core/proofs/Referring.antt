@@ -26,6 +26,7 @@ use Rattle.napi_types.specs.environment.Environment.{Environment, in_heap}
 use Rattle.napi_types.specs.environment.ReferenceCalls.{counted_up, value_told}
 use Rattle.napi_types.specs.environment.Refusals.{timely_refusal}
 use Rattle.napi_types.proofs.plain.Maps.{map-filter, map-with_record}
+use Rattle.napi_types.proofs.plain.Lists.{option_or-none}
 use Rattle.handle_scope.specs.HandleScopes.{HandleScopes}
 use Rattle.env_values.specs.Seen.{heap_of}
 use Rattle.env_values.proofs.Giving.{given-answer}
@@ -129,16 +130,12 @@ replied-timely e new c r none fresh is =
 pub accepted-timely : (e new : Environment) (c : Call) (o : Out) → timely_refusal e c ≡ None → is_fresh_result e o ≡ true → effect e c (number_of o) ≡ accepts o new → AnswersInTime e c (plain status.Ok o) new
 accepted-timely e new c o none fresh is = replied-timely e new c (plain status.Ok o) none fresh is
 
-pub or-none : (o : Option Status) → option_or o None ≡ o
-or-none None = refl
-or-none (Some s) = refl
-
 -- a call that nothing else refuses is refused for its reference alone
 abbrev pub NamesReference : Environment → Call → Type 0
 NamesReference e c = timely_refusal e c ≡ option_or (reference_refusal e.references c) None
 
 pub by-reference : (e : Environment) (c : Call) (o : Option Status) → reference_refusal e.references c ≡ o → NamesReference e c → timely_refusal e c ≡ o
-by-reference e c o h only = only ∙ ap (λ x. option_or x None) h ∙ or-none o
+by-reference e c o h only = only ∙ ap (λ x. option_or x None) h ∙ option_or-none o
 
 -- A CALL ON A REFERENCE
 -- the environment with these references

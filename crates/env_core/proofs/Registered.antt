@@ -35,6 +35,7 @@ use Rattle.napi_types.specs.environment.Refusals.{timely_refusal}
 use Rattle.napi_types.specs.environment.Registering.{finalizer_of, finalizer_if, ticket_if, registering_if, registered_only, withdrawing}
 use Rattle.napi_types.specs.environment.WrapCalls.{referring_if}
 use Rattle.napi_types.proofs.plain.Maps.{All-with_record, map-with_record}
+use Rattle.napi_types.proofs.plain.Lists.{length-changed}
 use Rattle.napi_types.proofs.parts.Books.{length-moved}
 use Rattle.handle_scope.specs.HandleScopes.{HandleScopes}
 use Rattle.env_values.specs.Seen.{seen_frame, heap_of}
@@ -48,7 +49,6 @@ use Rattle.env_core.specs.State.{AnswersInTime}
 use Rattle.env_core.proofs.Attaching.{seen-wrap_of, seen-with_wrap, seen-without_wrap, attached-with_wrap, seen-payload, wrap-free, target-taken, timely-finalizer}
 use Rattle.env_core.proofs.Beginning.{book-registered, book-withdrawn}
 use Rattle.env_core.proofs.Referring.{replied-timely, seen-with}
-use Rattle.env_core.proofs.Scopes.{length-changed}
 
 -- THE BOOK
 pub longer : (f : Option Registration) (book : Book) → length book ≤ length (with_registration_if f book)

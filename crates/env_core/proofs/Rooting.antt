@@ -1,8 +1,8 @@
 -- The roots of the store's state are the machine's.
-use Rattle.std.proofs.Common.{◌≡◌, ℕ, zero, suc, ◌+◌, ◌<◌, arith, append_assoc, length, take, get_or, slice_index_or, ◌==◌, ◌||◌, Bool, true, false, cond, inl, inr, List, [], ◌∷◌, ◌++◌, map, filter_map, Option, Some, None, option_map, IfSome, refl, ap, sym, subst, ◌∙◌}
+use Rattle.std.proofs.Common.{◌≡◌, ℕ, zero, suc, ◌+◌, ◌<◌, arith, append_assoc, length, take, get_or, slice_index_or, ◌==◌, ◌||◌, Bool, true, false, cond, inl, inr, List, [], ◌∷◌, ◌++◌, map, filter_map, Option, Some, None, option_map, IfSome, refl, ap, sym, ◌∙◌}
 use Rattle.std.specs.List.{All, cons_option}
 use Rattle.std.proofs.lemmas.List.{map-append, append-nil, take_more}
-use Rattle.std.proofs.lemmas.List.Elements.{filter_map-append, All-nil, All-cons, All-head, All-tail, All-append, All-map}
+use Rattle.std.proofs.lemmas.List.Elements.{filter_map-append, All-nil, All-cons, All-append, All-map}
 use Rattle.std.proofs.lemmas.List.Folds.{list_any-append}
 use Rattle.std.proofs.lemmas.Bool.{or_cases, or_left, or_right, eqb-true, eq-eqb}
 use Rattle.std.specs.Option.{option_to_list}
@@ -14,6 +14,8 @@ use Rattle.napi_types.specs.parts.Scopes.{Held, Scope, FrameScopes, held_by_scop
 use Rattle.napi_types.specs.parts.Values.{starting_values}
 use Rattle.napi_types.specs.environment.Environment.{Environment}
 use Rattle.napi_types.specs.environment.Roots.{roots}
+use Rattle.napi_types.proofs.plain.Maps.{among-holds, all-among}
+use Rattle.napi_types.proofs.plain.Conditions.{alike}
 use Rattle.handle_scope.specs.HandleScopes.{HandleScopes, held_places, free_place, frame_places, handle_places}
 use Rattle.env_values.specs.Seen.{seen_held, seen_scope, seen_frame, heap_of, HoldsLive}
 use Rattle.napi_reference.specs.Places.{strong_in}
@@ -41,14 +43,9 @@ mapped-within f (m ∷ ms) ns within k h =
       | inr later ↦ mapped-within f ms ns (λ n here. within n (or_right (m == n) (has_number n ms) here)) k later
     ]
 
-both_ways : (a b : Bool) → (a ≡ true → b ≡ true) → (b ≡ true → a ≡ true) → a ≡ b
-both_ways true b to from = sym (to refl)
-both_ways false true to from = from refl
-both_ways false false to from = refl
-
 pub same-mapped : (f : ℕ → ℕ) (ms ns : List ℕ) → HaveSameNumbers ms ns → HaveSameNumbers (map f ms) (map f ns)
 same-mapped f ms ns same =
-    λ k. both_ways (has_number k (map f ms)) (has_number k (map f ns)) (mapped-within f ms ns (λ n h. sym (same n) ∙ h) k) (mapped-within f ns ms (λ n h. same n ∙ h) k)
+    λ k. alike (has_number k (map f ms)) (has_number k (map f ns)) (mapped-within f ms ns (λ n h. sym (same n) ∙ h) k) (mapped-within f ns ms (λ n h. same n ∙ h) k)
 
 pub same-after : (ls ms ns : List ℕ) → HaveSameNumbers ms ns → HaveSameNumbers (ls ++ ms) (ls ++ ns)
 same-after ls ms ns same =
@@ -57,20 +54,6 @@ same-after ls ms ns same =
 pub same-before : (ls ms ns : List ℕ) → HaveSameNumbers ms ns → HaveSameNumbers (ms ++ ls) (ns ++ ls)
 same-before ls ms ns same =
     λ n. list_any-append (λ m. m == n) ms ls ∙ ap (λ b. b || has_number n ls) (same n) ∙ sym (list_any-append (λ m. m == n) ns ls)
-
--- what holds of all of these numbers holds of all of the others
-among-holds : (P : ℕ → Type 0) (ns : List ℕ) (n : ℕ) → All P ns → has_number n ns ≡ true → P n
-among-holds P [] n all h = cc
-among-holds P (m ∷ ms) n all h =
-    elim (or_cases (m == n) (has_number n ms) h) [
-      | inl same ↦ subst P (eqb-true m n same) (All-head P m ms all)
-      | inr later ↦ among-holds P ms n (All-tail P m ms all) later
-    ]
-
-all-among : (P : ℕ → Type 0) (ns : List ℕ) → ((n : ℕ) → has_number n ns ≡ true → P n) → All P ns
-all-among P [] holds = All-nil P
-all-among P (n ∷ ns) holds =
-    All-cons P n ns (holds n (or_left (n == n) (has_number n ns) (eq-eqb n n refl))) (all-among P ns (λ m here. holds m (or_right (n == m) (has_number m ns) here)))
 
 pub same-holds : (P : ℕ → Type 0) (ms ns : List ℕ) → HaveSameNumbers ms ns → All P ms → All P ns
 same-holds P ms ns same all = all-among P ns (λ n here. among-holds P ms n all (same n ∙ here))

@@ -1,5 +1,5 @@
 -- What the calls on scopes answer, and what stays of a state's parts.
-use Rattle.std.proofs.Common.{◌≡◌, ℕ, ◌+◌, Bool, true, false, IsTrue, List, [], ◌∷◌, length, refl, ap, sym, ◌∙◌, Option, Some, None, is_some, option_map, Result, Ok, Err, OnOk, OnErr}
+use Rattle.std.proofs.Common.{◌≡◌, ℕ, ◌+◌, Bool, true, false, IsTrue, List, refl, ap, sym, ◌∙◌, Option, Some, None, is_some, option_map, Result, Ok, Err, OnOk, OnErr}
 use Rattle.std.specs.Option.{unwrap_or, option_or}
 use Rattle.napi_types.specs.declared.call.Call.{Call}
 use Rattle.napi_types.specs.declared.call.Call.TheVariants as call
@@ -10,7 +10,7 @@ use Rattle.napi_types.specs.declared.ids.ScopeKind.{ScopeKind}
 use Rattle.napi_types.specs.declared.ids.ScopeKind.TheVariants as scope_kind
 use Rattle.napi_types.specs.declared.status.Status.{Status}
 use Rattle.napi_types.specs.declared.status.Status.TheVariants as status
-use Rattle.napi_types.specs.plain.Lists.{first_changed, unless}
+use Rattle.napi_types.specs.plain.Lists.{unless}
 use Rattle.napi_types.specs.plain.Replies.{Answer, accepts, plain}
 use Rattle.napi_types.specs.parts.AttachmentRefusals.{attachment_refusal}
 use Rattle.napi_types.specs.parts.Frames.{Frame}
@@ -27,6 +27,7 @@ use Rattle.napi_types.specs.parts.Values.{undefined_value}
 use Rattle.napi_types.specs.environment.Calls.{effect, answer_unless}
 use Rattle.napi_types.specs.environment.Environment.{Environment, with_heap, in_heap}
 use Rattle.napi_types.specs.environment.Refusals.{attached_refusal, timely_refusal}
+use Rattle.napi_types.proofs.plain.Lists.{length-changed}
 use Rattle.handle_scope.specs.HandleScopes.{HandleScopes, is_fresh_scope, with_open_scope, without_innermost_scope, with_escaped_handle}
 use Rattle.env_values.specs.Seen.{heap_of}
 use Rattle.env_values.proofs.Held.{escaped-holds}
@@ -34,10 +35,6 @@ use Rattle.env_values.proofs.HandleValues.{unknown-handle, given-live}
 use Rattle.env_values.proofs.Seen.{gives-seen, escaped-seen}
 use Rattle.env_core.specs.State.{IsState, AnswersInTime, opening_call, closing_call}
 use Rattle.env_core.proofs.SeenScopes.{seen-opened, seen-closed, closing-seen, escaping-seen, all-opened, all-closed}
-
-pub length-changed : {A : Type 0} (f : A → A) (xs : List A) → length (first_changed f xs) ≡ length xs
-length-changed f [] = refl
-length-changed f (x ∷ xs) = refl
 
 -- the environment with these values and scopes
 abbrev pub with_parts : Environment → StoreState → HandleScopes → Environment

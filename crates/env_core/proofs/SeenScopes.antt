@@ -3,7 +3,6 @@ use Rattle.std.proofs.Common.{◌≡◌, ℕ, ◌==◌, ◌||◌, ◌&&◌, Bool
 use Rattle.std.specs.Option.{option_or}
 use Rattle.std.specs.List.{All}
 use Rattle.std.proofs.lemmas.List.{append-nil}
-use Rattle.std.proofs.lemmas.List.Elements.{All-nil, All-cons, All-head, All-tail}
 use Rattle.napi_types.specs.declared.ids.ScopeKind.{ScopeKind}
 use Rattle.napi_types.specs.declared.ids.ScopeKind.TheVariants as scope_kind
 use Rattle.napi_types.specs.declared.status.Status.TheVariants as status
@@ -12,6 +11,7 @@ use Rattle.napi_types.specs.parts.Graph.{StoreState}
 use Rattle.napi_types.specs.parts.ScopeChanges.{open_in, close_in}
 use Rattle.napi_types.specs.parts.ScopeRefusals.{has_scope, is_kind, closing, escapable_scope, refuses_escape, escaping}
 use Rattle.napi_types.specs.parts.Scopes.{Held, Scope, FrameScopes, held_by_scopes, held_by_frames, opened_scopes}
+use Rattle.napi_types.proofs.plain.Lists.{All-left}
 use Rattle.env_values.specs.Seen.{seen_held, seen_scope, seen_frame}
 
 -- WHAT IS SEEN
@@ -64,16 +64,12 @@ pub escaping-seen : (store : StoreState) (n : ℕ) (fs : List FrameScopes) → e
 escaping-seen store n fs = ap (escaping n) (opened-seen store fs) ∙ ap refuses_escape (escapable-seen store n (opened_scopes fs)) ∙ refuses-seen store (escapable_scope n (opened_scopes fs))
 
 -- WHAT SCOPES HOLD
-pub All-front : {A : Type 0} (P : A → Type 0) (xs ys : List A) → All P (xs ++ ys) → All P xs
-All-front P [] ys h = All-nil P
-All-front P (x ∷ xs) ys h = All-cons P x xs (All-head P x (xs ++ ys) h) (All-front P xs ys (All-tail P x (xs ++ ys) h))
-
 -- what is left after a close was held before
 all-closed_among : (P : Held → Type 0) (hs own : List Held) (ss : List Scope) → All P (hs ++ (own ++ held_by_scopes ss)) → All P (hs ++ (own ++ held_by_scopes (tail ss)))
 all-closed_among P hs own [] h = h
 all-closed_among P hs own (s ∷ ss) h =
     let e : hs ++ (own ++ (held_by_scopes ss ++ s.held)) ≡ (hs ++ (own ++ held_by_scopes ss)) ++ s.held = simp append_assoc in
-    All-front P (hs ++ (own ++ held_by_scopes ss)) s.held (subst (All P) e h)
+    All-left P (hs ++ (own ++ held_by_scopes ss)) s.held (subst (All P) e h)
 
 pub all-closed : (P : Held → Type 0) (fs : List FrameScopes) → All P (held_by_frames fs) → All P (held_by_frames (first_changed close_in fs))
 all-closed P [] h = h

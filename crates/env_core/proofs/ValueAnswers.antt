@@ -25,13 +25,13 @@ use Rattle.napi_types.specs.environment.Calls.{effect, answer_unless}
 use Rattle.napi_types.specs.environment.Changes.{is_fresh_result, number_of}
 use Rattle.napi_types.specs.environment.Environment.{Environment, with_heap, in_heap}
 use Rattle.napi_types.specs.environment.Refusals.{attached_refusal, timely_refusal}
+use Rattle.napi_types.proofs.plain.Lists.{option_or-none}
 use Rattle.napi_types.proofs.environment.Answers.{heap_answer-keeps}
 use Rattle.std.specs.Option.{option_or}
 use Rattle.handle_scope.specs.HandleScopes.{HandleScopes}
 use Rattle.env_values.specs.Seen.{seen_frame, heap_of, KeepsValues}
 use Rattle.env_core.specs.Attaching.{attachments_seen, IsAttached}
 use Rattle.env_core.proofs.Attaching.{attachments-kept}
-use Rattle.env_core.proofs.Referring.{or-none}
 use Rattle.env_core.specs.Referring.{seen_reference, references_seen, RefersToLive}
 use Rattle.env_core.specs.State.{pending_seen, AnswersInTime}
 
@@ -118,7 +118,7 @@ pub timely-value : (e : Environment) (c : Call) → is_value_call c ≡ true →
 timely-value e c h =
     ap (λ o. option_or o (option_or (reference_refusal e.references c) (attached_refusal e c))) (no-hook (caller_of e.frames) e.hooks c h)
     ∙ ap (λ o. option_or o (attached_refusal e c)) (no-reference e.references c h)
-    ∙ ap (option_or (refusal_in e.texts e.heap c)) (no-attachment e.attachments e.heap c h) ∙ or-none (refusal_in e.texts e.heap c)
+    ∙ ap (option_or (refusal_in e.texts e.heap c)) (no-attachment e.attachments e.heap c h) ∙ option_or-none (refusal_in e.texts e.heap c)
 
 -- the reply of such a call, and the heap that it leaves, are the machine's answer in the environment
 pub value-answers : {E : Type 0} (e : Environment) (addon : ℕ) (c : Call) (heap : Heap) (result : Result Reply E) → is_value_call c ≡ true → addon ≡ caller_of e.frames

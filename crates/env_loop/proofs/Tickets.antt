@@ -1,6 +1,6 @@
 -- The frame of a ticket begins.
 use Rattle.std.proofs.Common.{◌≡◌, ◌<◌, ◌≤◌, ◌++◌, ◌∙◌, ℕ, true, false, cond, List, [], ◌∷◌, length, set, Option, Some, None, option_map, refl, ap, subst, sym, arith}
-use Rattle.std.specs.Option.{option_or, option_to_list, unwrap_or}
+use Rattle.std.specs.Option.{option_or, option_to_list}
 use Rattle.std.proofs.lemmas.List.Elements.{All-head}
 use Rattle.napi_types.specs.declared.call.Ask.TheVariants as ask
 use Rattle.napi_types.specs.declared.duties.DueInfo.{DueInfo}
@@ -9,12 +9,11 @@ use Rattle.napi_types.specs.declared.entry.LoopEnd.TheVariants as loop_end
 use Rattle.napi_types.specs.declared.entry.Phase.{Phase}
 use Rattle.napi_types.specs.declared.entry.Phase.TheVariants as phase
 use Rattle.napi_types.specs.plain.Weave.{Side, Journal}
-use Rattle.napi_types.specs.parts.Book.{Book, Registration, registration_at, is_registered, is_due, is_at, lowest_due, due_info, may_begin_in}
+use Rattle.napi_types.specs.parts.Book.{Registration, registration_at, lowest_due, due_info}
 use Rattle.napi_types.specs.parts.Frames.{Frame, frame_of_duty}
-use Rattle.napi_types.specs.parts.Hooks.{Hook, last_hook}
 use Rattle.napi_types.specs.scripts.Plans.{Plan}
 use Rattle.napi_types.specs.environment.Environment.{Environment}
-use Rattle.napi_types.specs.environment.Hooked.{IsHooked, is_late}
+use Rattle.napi_types.specs.environment.Hooked.{IsHooked}
 use Rattle.napi_types.specs.environment.Owners.{IsOwned}
 use Rattle.napi_types.specs.environment.Tickets.{ticket_change, ticket_in, next_ticket}
 use Rattle.napi_types.specs.hub.Hub.{Hub}
@@ -25,11 +24,11 @@ use Rattle.napi_types.specs.runs.Machine.{Machine}
 use Rattle.napi_types.specs.runs.Plan.{with_addon_gifts, with_begun_gifts}
 use Rattle.napi_types.specs.runs.Setting.{Setting}
 use Rattle.napi_types.specs.runs.Step.{step, event_step, chosen, env_step, locally, ticket_step}
-use Rattle.napi_types.proofs.parts.Books.{IsDueAt, lowest-due}
-use Rattle.napi_types.proofs.environment.HookedSteps.{hook-registered, hooked-begun}
+use Rattle.napi_types.proofs.environment.HookedSteps.{hooked-begun}
 use Rattle.napi_types.proofs.environment.Owners.{owned-ticket, within-ticket}
 use Rattle.napi_types.proofs.environment.Registrations.{uncalled-begun}
 use Rattle.napi_types.proofs.environment.StandingFrames.{nested-ticket}
+use Rattle.env_core.proofs.Cores.{next-may}
 use Rattle.addon_trait.specs.Addons.{seen_of}
 use Rattle.env_core.specs.Core.{Core, after_change}
 use Rattle.env_core.specs.Steps.{BeginsTicket}
@@ -69,39 +68,12 @@ turn-of-ticket e n alone unasked is =
     ∙ ap (λ o. turn_at [] (side_of (uncounted e) o)) (ticket-chosen (uncounted e) n unasked is)
     ∙ ap (λ (s : Side). turn_at [] (Some s)) (ticket-side (uncounted e) n)
 
--- it may begin: a hook is registered, and every other one is due
-lowest-ready : (book : Book) (n : ℕ) (r : Registration) → lowest_due book ≡ Some n → registration_at book n ≡ Some r → is_due r.state ≡ true
-lowest-ready book n r is there =
-    let d : IsDueAt book n = lowest-due book n is in
-    let same : d.registration ≡ r = let e : Some d.registration ≡ Some r = sym d.there ∙ there in cc in
-    ap (λ (q : Registration). is_due q.state) (sym same) ∙ d.due
-
-hook-ready : (e : Environment) (o : Option Hook) (n : ℕ) (r : Registration) → IsHooked e → is_late e.phase ≡ false → last_hook e.hooks ≡ o → option_map (λ h. h.ticket) o ≡ Some n
-    → registration_at e.book n ≡ Some r → is_registered r.state ≡ true
-hook-ready e None n r hooked early last is there = cc
-hook-ready e (Some h) n r hooked early last is there =
-    let same : h.ticket ≡ n = let told : Some h.ticket ≡ Some n = is in cc in
-    let here : is_at is_registered e.book h.ticket ≡ true = hook-registered e h hooked early last in
-    let at : is_at is_registered e.book n ≡ true = ap (is_at is_registered e.book) (sym same) ∙ here in
-    ap (λ (o : Option Registration). unwrap_or (option_map (λ (q : Registration). is_registered q.state) o) false) (sym there) ∙ at
-
-ready-in : (e : Environment) (p : Phase) (n : ℕ) (r : Registration) → e.phase ≡ p → IsHooked e → ticket_in e p ≡ Some n → registration_at e.book n ≡ Some r → may_begin_in p r.state ≡ true
-ready-in e phase.Live n r here hooked is there = lowest-ready e.book n r is there
-ready-in e phase.Finals n r here hooked is there = lowest-ready e.book n r is there
-ready-in e phase.Hooks n r here hooked is there = hook-ready e (last_hook e.hooks) n r hooked (ap is_late here) refl is there
-ready-in e phase.Init n r here hooked is there = cc
-ready-in e phase.Drain n r here hooked is there = cc
-ready-in e phase.Gone n r here hooked is there = cc
-
-ticket-ready : (e : Environment) (n : ℕ) (r : Registration) → IsHooked e → next_ticket e ≡ Some n → registration_at e.book n ≡ Some r → may_begin_in e.phase r.state ≡ true
-ticket-ready e n r hooked is there = ready-in e e.phase n r refl hooked is there
-
 -- A RECORDED RUN GOES ON
 ticket-next : (m : Machine) (n : ℕ) (r : Registration) → IsHooked m.env → m.env.frames ≡ [] → (m.env.phase ≡ phase.Live → m.env.exit_asked ≡ false) → next_ticket m.env ≡ Some n
     → registration_at m.env.book n ≡ Some r → step m (ask.Leave None) (ticket_change n r m.env).entry ≡ locally m (ticket_change n r m.env) true
 ticket-next m n r hooked alone unasked is there =
     ap (env_step m (ask.Leave None) (ticket_change n r m.env).entry.reply.out) alone ∙ ap (chosen m) (ticket-chosen m n unasked is) ∙ ap (ticket_step m n) there
-    ∙ ap (locally m (ticket_change n r m.env)) (ticket-ready m.env n r hooked is there)
+    ∙ ap (locally m (ticket_change n r m.env)) (next-may m.env n r hooked is there)
 
 pub ticket-grown : (s : Setting) (core : Core) (hub : Hub) (history : List Entry) (all : AddonStates) (firsts : List (List DueInfo)) (rec : IsRecorded s core hub history all firsts)
     (now : AddonStates) (n : ℕ) (r : Registration)
@@ -143,7 +115,7 @@ ticket-turn ps all now core new due info sound alone unasked begins enough as_ma
       asks = within-ticket core.env n r sound.asks;
       nested = nested-ticket n r core.env begins.registered sound.uncalled alone;
       uncalled = uncalled-begun core.env.phase n core.env.book sound.uncalled;
-      hooked = hooked-begun n r core.env begins.registered (ticket-ready core.env n r sound.hooked begins.next begins.registered) sound.hooked;
+      hooked = hooked-begun n r core.env begins.registered (next-may core.env n r sound.hooked begins.next begins.registered) sound.hooked;
       gone = λ g. absurd (not-gone core.env.phase g begins.next);
     } in
     after_change-turn ps core new all now (ticket_change n r core.env) begins.after (given-others core.env.addons all.registers now.registers r.addon d.gifts there given_it)

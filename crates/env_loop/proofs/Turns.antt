@@ -1,5 +1,6 @@
 -- A turn, and the turns of events with no frame.
 use Rattle.std.proofs.Common.{◌≡◌, ◌<◌, ℕ, nat_lt, Bool, true, false, cond, List, [], drop, refl, ap, subst, sym, ◌∙◌, arith, Option, Some, None, is_some}
+use Rattle.std.proofs.lemmas.Bool.{ltb-true}
 use Rattle.std.specs.Option.{option_to_list}
 use Rattle.napi_types.specs.declared.duties.DueInfo.{DueInfo}
 use Rattle.napi_types.specs.declared.entry.Phase.TheVariants as phase
@@ -57,16 +58,13 @@ lt-of core i h = by (nat_lt core.env.inits core.env.addons) h
     by true same = (refl, cc)
     by false same = cc
 
-below-of : (a b : ℕ) → nat_lt a b ≡ true → a < b
-below-of a b h = grind arith
-
 -- the next init frame begins
 pub init-turn : (ps : List Plan) (all : AddonStates) (core new : Core) (i : ℕ) → IsSoundEnvironment core.env → core.env.frames ≡ [] → core.env.phase ≡ phase.Init
     → Some i ≡ next_init core.env
     → new ≡ after_change (init_change i core.env) core → IsTurn ps core all new all
 init-turn ps all core new i sound alone here next made =
     let more = lt-of core i next in
-    let there : i < core.env.addons = omega (arith, below-of core.env.inits core.env.addons more.0, more.1) in
+    let there : i < core.env.addons = omega (arith, ltb-true core.env.inits core.env.addons more.0, more.1) in
     let R : ℕ → Type 0 = λ k. Continues ps core all (after_change (init_change k core.env) core) all in
     let begun : IsSoundEnvironment (init_change i core.env).after = record {
       opened = sound.opened;

@@ -1,7 +1,8 @@
 -- The heap where a handle is given, of a value that was there or of a new one.
-use Rattle.std.proofs.Common.{◌≡◌, ◌≢◌, ◌∙◌, ℕ, ◌+◌, ◌==◌, ◌||◌, true, false, Bool, List, [], ◌∷◌, ◌++◌, map, length, Option, Some, None, option_map, IsSome, ap, sym, refl, subst}
+use Rattle.std.proofs.Common.{◌≡◌, ◌≢◌, ◌∙◌, ℕ, ◌+◌, ◌==◌, true, false, List, [], ◌∷◌, ◌++◌, map, length, Option, Some, None, option_map, IsSome, ap, sym, refl, subst}
 use Rattle.std.specs.Option.{unwrap_or}
 use Rattle.std.proofs.lemmas.List.Elements.{All-weaker}
+use Rattle.std.proofs.lemmas.Bool.{or_parts}
 use Rattle.napi_types.specs.declared.body.Body.{Body}
 use Rattle.napi_types.specs.declared.entry.Out.TheVariants as out
 use Rattle.napi_types.specs.declared.ids.HandleId.{HandleId}
@@ -55,10 +56,6 @@ given-answer before after v h number is =
     ap (λ n. accepts (out.Handle (record { 0 = n })) (with_handle v before)) (sym number) ∙ ap (λ (heap : Heap). accepts (out.Handle h) heap) (sym is)
 
 -- A NEW VALUE
-never : (a c : Bool) → (a || c) ≡ false → c ≡ false
-never true c h = let no : ⊥ = cc in absurd no
-never false c h = h
-
 pub makes-agrees : (s t : StoreState) (id : ℕ) (v : Value) → IsSoundStore s → MakesValue s t id v → Agrees s t
 makes-agrees s t id v sound step n live =
     let apart : n ≢ id = λ same. stands same in ap (λ o. unwrap_or (option_map (λ (v : Value). v.number) o) 0) (step.others n apart)
@@ -66,7 +63,7 @@ makes-agrees s t id v sound step n live =
     stands : n ≡ id → ⊥
     stands same =
         let was : has_number n s.issued ≡ true = sound.given n live in
-        let fresh : has_number id s.issued ≡ false = never (0 == id) (has_number id s.issued) step.fresh in
+        let fresh : has_number id s.issued ≡ false = (or_parts (0 == id) (has_number id s.issued) step.fresh).1 in
         let both : has_number n s.issued ≡ false = subst (λ (k : ℕ). has_number k s.issued ≡ false) (sym same) fresh in
         cc
 

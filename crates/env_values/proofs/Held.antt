@@ -6,15 +6,7 @@ use Rattle.std.proofs.lemmas.List.Elements.{All-nil, All-cons, All-head, All-tai
 use Rattle.napi_types.specs.plain.Lists.{found, first_changed}
 use Rattle.napi_types.specs.parts.ScopeChanges.{hold_in, hold_at, inside, escape_at, escape_in}
 use Rattle.napi_types.specs.parts.Scopes.{Held, Scope, FrameScopes, value_in, value_in_scopes, gives, held_by_scopes, held_by_frame, held_by_frames}
-
--- what holds of each element of two lists holds of each element of either
-pub All-left : {X : Type 0} (P : X → Type 0) (xs ys : List X) → All P (xs ++ ys) → All P xs
-All-left P [] ys h = All-nil P
-All-left P (x ∷ xs) ys h = All-cons P x xs (All-head P x (xs ++ ys) h) (All-left P xs ys (All-tail P x (xs ++ ys) h))
-
-pub All-right : {X : Type 0} (P : X → Type 0) (xs ys : List X) → All P (xs ++ ys) → All P ys
-All-right P [] ys h = h
-All-right P (x ∷ xs) ys h = All-right P xs ys (All-tail P x (xs ++ ys) h)
+use Rattle.napi_types.proofs.plain.Lists.{All-left, All-right}
 
 module _ (P : ℕ → Type 0) where
   abbrev OfValue : Held → Type 0

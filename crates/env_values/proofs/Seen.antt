@@ -8,8 +8,8 @@ use Rattle.napi_types.specs.plain.Lists.{found, first_changed}
 use Rattle.napi_types.specs.parts.Graph.{StoreState, number_in}
 use Rattle.napi_types.specs.parts.ScopeChanges.{hold_in, hold_at, inside, escape_at, escape_in}
 use Rattle.napi_types.specs.parts.Scopes.{Held, Scope, FrameScopes, value_in, value_in_scopes, gives, held_by_scopes, held_by_frame, held_by_frames}
+use Rattle.napi_types.proofs.plain.Lists.{All-left, All-right}
 use Rattle.env_values.specs.Seen.{seen_held, seen_scope, seen_frame}
-use Rattle.env_values.proofs.Held.{All-left, All-right}
 
 module _ (s : StoreState) where
   value_in-seen : (hs : List Held) (h : ℕ) → value_in (map (seen_held s) hs) h ≡ option_map (number_in s) (value_in hs h)
