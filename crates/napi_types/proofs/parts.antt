@@ -3,4 +3,5 @@ pub mod AttachedTickets
 pub mod BookSteps
 pub mod Books
 pub mod Moved
+pub mod Moves
 pub mod Reaching

@@ -66,10 +66,7 @@ is_last _ = false
 last-tears : (p : Phase) → is_last p ≡ true → is_tearing p ≡ true
 last-tears phase.Finals h = refl
 last-tears phase.Gone h = refl
-last-tears phase.Init h = cc
-last-tears phase.Live h = cc
-last-tears phase.Hooks h = cc
-last-tears phase.Drain h = cc
+last-tears _ h = cc
 
 -- what holds at every moment of a run; that the journal is within its limit, where the limits suffice
 pub record Roomy (Enough : Type 0) (l : Limits) (m : Machine) : Type 0 where
@@ -190,10 +187,7 @@ end-room Enough l m v w may f fs true hubs e r =
 settled-phase : (p : Phase) (book : Book) → p ≢ phase.Gone → is_last p ≡ true → NoneRegistered (book_in p book)
 settled-phase phase.Finals book never last = all_due-none book
 settled-phase phase.Gone book never last = absurd (never refl)
-settled-phase phase.Init book never last = cc
-settled-phase phase.Live book never last = cc
-settled-phase phase.Hooks book never last = cc
-settled-phase phase.Drain book never last = cc
+settled-phase _ book never last = cc
 
 passed-fits : (j b w v x : ℕ) → w ≡ v → j + (b + 2 * v) ≤ x → j + (b + 2 * w) ≤ x
 passed-fits j b w v x e h = omega (arith, e, h)

@@ -144,8 +144,7 @@ other-step-kept m x other may is =
 
 step-kept : (m : Machine) (a : Ask) (x : Entry) (who : Actor) → x.actor ≡ who → StepKeeps m (step_of m a x who)
 step-kept m a x actor.Env same may is = env-step-kept m a x.reply.out m.env.frames may is
-step-kept m a x (actor.Thread t) same may is = other-step-kept m x (ap is_environment same) may is
-step-kept m a x (actor.Worker w) same may is = other-step-kept m x (ap is_environment same) may is
+step-kept m a x _ same may is = other-step-kept m x (ap is_environment same) may is
 
 -- RUNS
 pub kept-next : (m : Machine) (a : Ask) (x : Entry) → IsNext m a x → x.what ≡ what.Call call.Collect → Collects m.env (after m a x).env x

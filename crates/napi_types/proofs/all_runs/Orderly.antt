@@ -11,7 +11,7 @@ use Rattle.napi_types.specs.declared.entry.Why.{Why}
 use Rattle.napi_types.specs.declared.ids.HandleId.{HandleId}
 use Rattle.napi_types.specs.plain.Lists.{has}
 use Rattle.napi_types.specs.plain.Phases.{next_phase}
-use Rattle.napi_types.specs.parts.Book.{Book, Registration, TicketState, Registered, Due, is_owed, made_withdrawn, made_begun, registration_at}
+use Rattle.napi_types.specs.parts.Book.{Book, Registration, is_owed, registration_at}
 use Rattle.napi_types.specs.parts.Hooks.{Hook}
 use Rattle.napi_types.specs.environment.Calls.{answer}
 use Rattle.napi_types.specs.environment.Changes.{book_in}
@@ -27,13 +27,14 @@ use Rattle.napi_types.specs.runs.Step.{Step, step}
 use Rattle.napi_types.specs.declared.call.Ask.{Ask}
 use Rattle.napi_types.specs.runs.Run.{IsNext}
 use Rattle.napi_types.proofs.plain.Lists.{none-there}
-use Rattle.napi_types.proofs.parts.Books.{due-keeps, ended-keeps as ended-owed, NoneRegistered, all_due-none}
+use Rattle.napi_types.proofs.parts.Books.{NoneRegistered, all_due-none}
 use Rattle.napi_types.proofs.parts.Moved.{at-state, at-cause}
+use Rattle.napi_types.proofs.parts.Moves.{KeptByMoves, unowed-moved}
 use Rattle.napi_types.proofs.environment.Answers.{SameCourse, course-parts, torn-makes-none}
 use Rattle.napi_types.proofs.environment.FrameChanges.{SameHangings, hangings-parts, ended-keeps, asked_change-fits}
 use Rattle.napi_types.proofs.environment.FrameEnds.{ended-ends}
 use Rattle.napi_types.proofs.environment.HookedSteps.{unchanged, hooked-opening, hooked-opened, hooked-init, hooked-asked, hooked-ended, hooked-begun, hooked-phase, hooked-gone}
-use Rattle.napi_types.proofs.environment.Registrations.{KeptByMoves, asked-all, ended-all, begun-all, phase-all, none-asked, none-ended, none-begun}
+use Rattle.napi_types.proofs.environment.Registrations.{asked-all, ended-all, begun-all, phase-all, none-asked, none-ended, none-begun}
 use Rattle.napi_types.proofs.runs.SharedSteps.{StandsStill, shares-still, moves-still, others-still, end-stage}
 use Rattle.napi_types.proofs.runs.StepCases.{StepCase, calls, ends, opens, inits, begins, vanishes, shares, leaves, passes, moves, others, InPhase, step-case}
 
@@ -50,20 +51,7 @@ abbrev pub IsSpent : Registration → Type 0
 IsSpent r = r.cause ≡ cause.Hook → is_owed r.state ≡ false
 
 spent-kept : KeptByMoves IsSpent
-spent-kept = record {
-  due = λ r h why. due-keeps r.state ∙ h why;
-  withdrawn = λ r h why. withdrawn r.state (h why);
-  begun = λ r h why. begun r.state (h why);
-  ended = λ r h why. ended-owed r.state ∙ h why;
-}
-  where
-    withdrawn : (s : TicketState) → is_owed s ≡ false → is_owed (made_withdrawn s) ≡ false
-    withdrawn Registered h = refl
-    withdrawn _ h = h
-
-    begun : (s : TicketState) → is_owed s ≡ false → is_owed (made_begun s) ≡ false
-    begun Due h = refl
-    begun _ h = h
+spent-kept move r spent hook = unowed-moved move r.state (spent hook)
 
 -- the hub is as far as the phase says; from `finals` on none is registered, and once the drain has come no hook is registered or due
 pub record Orderly (m : Machine) : Type 0 where
@@ -75,27 +63,20 @@ pub record Orderly (m : Machine) : Type 0 where
 pub late-tears : (p : Phase) → is_late p ≡ true → is_tearing p ≡ true
 late-tears phase.Finals h = refl
 late-tears phase.Gone h = refl
-late-tears phase.Init h = cc
-late-tears phase.Live h = cc
-late-tears phase.Hooks h = cc
-late-tears phase.Drain h = cc
+late-tears _ h = cc
 
 drained-tears : (p : Phase) → is_drained p ≡ true → is_tearing p ≡ true
-drained-tears phase.Drain h = refl
-drained-tears phase.Finals h = refl
-drained-tears phase.Gone h = refl
 drained-tears phase.Init h = cc
 drained-tears phase.Live h = cc
 drained-tears phase.Hooks h = cc
+drained-tears _ h = refl
 
 -- the drain comes from Hooks, or has come before
 drain-next : (q p : Phase) → next_phase q ≡ Some p → is_drained p ≡ true → (p ≡ phase.Drain) × (is_late q ≡ false) ⊎ is_drained q ≡ true
 drain-next phase.Init p next is = let same : phase.Live ≡ p = cc in let no : false ≡ true = ap is_drained same ∙ is in cc
 drain-next phase.Live p next is = let same : phase.Hooks ≡ p = cc in let no : false ≡ true = ap is_drained same ∙ is in cc
 drain-next phase.Hooks p next is = let same : phase.Drain ≡ p = cc in inl (sym same, refl)
-drain-next phase.Drain p next is = inr refl
-drain-next phase.Finals p next is = inr refl
-drain-next phase.Gone p next is = inr refl
+drain-next _ p next is = inr refl
 
 -- up to `finals`, where no hook is left in the list, none is registered or due
 all-spent : (e : Environment) → IsHooked e → is_late e.phase ≡ false → e.hooks ≡ [] → All IsSpent e.book
@@ -119,10 +100,7 @@ all-spent e hooked early none k d inside why = by (is_owed r.state) refl
 settled-passed : (p : Phase) (book : Book) → p ≢ phase.Gone → is_late p ≡ true → NoneRegistered (book_in p book)
 settled-passed phase.Finals book never late = all_due-none book
 settled-passed phase.Gone book never late = absurd (never refl)
-settled-passed phase.Init book never late = cc
-settled-passed phase.Live book never late = cc
-settled-passed phase.Hooks book never late = cc
-settled-passed phase.Drain book never late = cc
+settled-passed _ book never late = cc
 
 spent-passed : (e : Environment) (p : Phase) → next_phase e.phase ≡ Some p → (p ≡ phase.Drain → e.hooks ≡ []) → IsHooked e → (is_drained e.phase ≡ true → All IsSpent e.book)
     → is_drained p ≡ true → All IsSpent (book_in p e.book)

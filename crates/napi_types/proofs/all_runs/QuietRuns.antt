@@ -116,16 +116,12 @@ local-quietly : (e : Environment) (p : Phase) → ComesQuietly (local_choice_in 
 local-quietly e phase.Init = init-quietly e.inits e.opened (nat_lt e.inits e.addons)
 local-quietly e phase.Live = loop-quietly e.exit_asked (lowest_due e.book)
 local-quietly e phase.Hooks = ticket-quietly (option_map (λ h. h.ticket) (last_hook e.hooks))
-local-quietly e phase.Drain = tt
 local-quietly e phase.Finals = finals-quietly (lowest_due e.book)
-local-quietly e phase.Gone = tt
+local-quietly e _ = tt
 
 unasked-quietly : (s : Stage) → ComesQuietly (hub_choice_at (quiet_hub s) s)
-unasked-quietly Before = refl
-unasked-quietly Going = refl
-unasked-quietly Looped = refl
-unasked-quietly Drained = refl
 unasked-quietly Final = tt
+unasked-quietly _ = refl
 
 either-quietly : (o q : Option Event) → ComesQuietly o → ComesQuietly q → ComesQuietly (option_or o q)
 either-quietly None q first second = second
@@ -368,10 +364,7 @@ worker-there h w x (what.Host event) may = by event may
 
 thread-away : (s : Stage) (t : ℕ) → is_thread_there (quiet_hub s) t ≡ false
 thread-away Before t = refl
-thread-away Going t = refl
-thread-away Looped t = refl
-thread-away Drained t = refl
-thread-away Final t = refl
+thread-away _ t = refl
 
 other-away : (m : Machine) (x : Entry) (who : Actor) → is_environment who ≡ false → IsQuiet m → IsTrue (hub_step_of m.hub x who).may → ⊥
 other-away m x actor.Env other q may = cc
@@ -388,8 +381,7 @@ other-quiet m x other q may = absurd (other-away m x x.actor other q (and-right 
 step-quiet : (m : Machine) (a : Ask) (x : Entry) (who : Actor) → x.actor ≡ who → IsQuiet m → is_shared_ask a ≡ false → IsTrue (step_of m a x who).may
     → QuietStep (step_of m a x who)
 step-quiet m a x actor.Env is q alone may = env-quiet m a x.reply.out m.env.frames q alone may
-step-quiet m a x (actor.Thread t) is q alone may = other-quiet m x (ap is_environment is) q may
-step-quiet m a x (actor.Worker w) is q alone may = other-quiet m x (ap is_environment is) q may
+step-quiet m a x _ is q alone may = other-quiet m x (ap is_environment is) q may
 
 -- RUNS
 -- where no shared call is asked, a run from a quiet moment on
@@ -438,8 +430,7 @@ module _ (built : Call → Bool) (unshared : (c : Call) → built c ≡ true →
 
   asked-unshared : (ps : List Plan) (rss : Registers) (m : Machine) (a : Ask) (who : Actor) → IsUnshared (asked built ps rss m a who)
   asked-unshared ps rss m a actor.Env = frames-unshared ps rss m.env.frames a
-  asked-unshared ps rss m a (actor.Thread t) = refl
-  asked-unshared ps rss m a (actor.Worker w) = refl
+  asked-unshared ps rss m a _ = refl
 
   along-unshared : (ps : List Plan) (rss : Registers) (m : Machine) (bs : List Ask) (xs : List Entry) → All IsUnshared (asked_along built ps rss m bs xs)
   along-unshared ps rss m (a ∷ bs) (x ∷ xs) =

@@ -55,9 +55,10 @@ use Rattle.napi_types.specs.environment.Tickets.{ticket_change}
 use Rattle.napi_types.specs.environment.WrapCalls.{wrapping}
 use Rattle.napi_types.proofs.plain.Conditions.{and-left, and-right}
 use Rattle.napi_types.proofs.plain.Lists.{none-first, none-last, not-unless}
+use Rattle.napi_types.proofs.parts.Moves.{KeptByMoves}
 use Rattle.napi_types.proofs.environment.Answers.{answer-keeps}
 use Rattle.napi_types.proofs.environment.FrameChanges.{KeepsButFrame, ended-keeps, KeepsAndEnters, enter_change-keeps, hangings-parts}
-use Rattle.napi_types.proofs.environment.Registrations.{KeptByMoves, registered-holds, call-all, ended-all, begun-all, phase-all}
+use Rattle.napi_types.proofs.environment.Registrations.{registered-holds, call-all, ended-all, begun-all, phase-all}
 
 -- VALUES
 abbrev Ours : ℕ → Value → Type 0
@@ -71,7 +72,7 @@ abbrev Entered : ℕ → Registration → Type 0
 Entered n r = r.addon < n
 
 entered-kept : (n : ℕ) → KeptByMoves (Entered n)
-entered-kept n = record { due = λ r h. h; withdrawn = λ r h. h; begun = λ r h. h; ended = λ r h. h }
+entered-kept n move r entered = entered
 
 abbrev NoFunction : Body → Type 0
 NoFunction b = is_function b ≡ false

@@ -16,7 +16,7 @@ use Rattle.napi_types.specs.declared.entry.Reply.{Reply}
 use Rattle.napi_types.specs.declared.entry.Why.{Why}
 use Rattle.napi_types.specs.declared.ids.HandleId.{HandleId}
 use Rattle.napi_types.specs.declared.status.Status.{Status}
-use Rattle.napi_types.specs.parts.Book.{Book, Registration, TicketState, Registered, Due, Begun, Ended, Withdrawn, is_registered, made_due, made_withdrawn, made_begun, made_ended, moved, moved_at, registration_at, begun_in, owed_tickets}
+use Rattle.napi_types.specs.parts.Book.{Book, Registration, is_registered, made_due, made_withdrawn, made_ended, moved, moved_at, registration_at, begun_in, owed_tickets}
 use Rattle.napi_types.specs.parts.Frames.{caller_of, cause_of, duty_of}
 use Rattle.napi_types.specs.environment.Calls.{answer}
 use Rattle.napi_types.specs.environment.Changes.{call_change, book_in}
@@ -28,17 +28,11 @@ use Rattle.napi_types.specs.environment.Refusals.{refusal}
 use Rattle.napi_types.proofs.plain.Lists.{none-there}
 use Rattle.napi_types.proofs.parts.BookSteps.{BookStep, stays, adds, drops, collects, swaps}
 use Rattle.napi_types.proofs.parts.Books.{All-moved, NoneRegistered, owed-due_where}
+use Rattle.napi_types.proofs.parts.Moves.{KeptByMoves, Falls, Withdraws, Begins, Ends, unregistered-moved}
 use Rattle.napi_types.proofs.environment.Answers.{call_change-keeps, torn-makes-none}
 use Rattle.napi_types.proofs.environment.FrameChanges.{book_left, hangings-parts, ended-keeps, enter_change-keeps}
 
--- a fact of registrations that every move of a ticket keeps
-pub record KeptByMoves (P : Registration → Type 0) : Type 0 where
-  pub due : (r : Registration) → P r → P (moved made_due r)
-  pub withdrawn : (r : Registration) → P r → P (moved made_withdrawn r)
-  pub begun : (r : Registration) → P r → P (moved made_begun r)
-  pub ended : (r : Registration) → P r → P (moved made_ended r)
-
--- it holds of what is under a ticket
+-- what holds of every registration holds of what is under a ticket
 pub registered-holds : (P : Registration → Type 0) (t : ℕ) (book : Book) (r : Registration) → registration_at book t ≡ Some r → All P book → P r
 registered-holds P zero book r there all = let no : ⊥ = cc in absurd no
 registered-holds P (suc p) book r there all = subst P (get_or_from_slice_get book p r r there) (all p r (slice_get_within book p r there))
@@ -52,11 +46,11 @@ module _ (P : Registration → Type 0) (moves : KeptByMoves P) where
       → BookStep addon b made dropped c → All P b → All P c
   step-all addon b _ _ _ new (stays c e) all = same-book b c e all
   step-all addon b _ _ _ new (adds r c s who why e) all = same-book (b ++ r ∷ []) c e (All-push P b r all (new refl r who why))
-  step-all addon b _ _ _ new (drops n c h e) all = same-book (moved_at made_withdrawn n b) c e (All-moved P made_withdrawn moves.withdrawn (λ m. m == n) b all)
-  step-all addon b _ _ _ new (collects test c e) all = same-book _ c e (All-moved P made_due moves.due test b all)
+  step-all addon b _ _ _ new (drops n c h e) all = same-book _ c e (All-moved P made_withdrawn (moves Withdraws) (λ m. m == n) b all)
+  step-all addon b _ _ _ new (collects test c e) all = same-book _ c e (All-moved P made_due (moves Falls) test b all)
   step-all addon b _ _ _ new (swaps n r c h s who why e) all =
       let left : Book = moved_at made_withdrawn n b in
-      same-book (left ++ r ∷ []) c e (All-push P left r (All-moved P made_withdrawn moves.withdrawn (λ m. m == n) b all) (new refl r who why))
+      same-book (left ++ r ∷ []) c e (All-push P left r (All-moved P made_withdrawn (moves Withdraws) (λ m. m == n) b all) (new refl r who why))
 
   pub call-all : (e : Environment) (c : Call) (n : ℕ) → (is_some (call_change e c n).entry.reply.made ≡ true → (r : Registration) → r.addon ≡ caller_of e.frames → r.cause ≢ cause.Call → P r)
       → All P e.book → All P (call_change e c n).after.book
@@ -78,7 +72,7 @@ module _ (P : Registration → Type 0) (moves : KeptByMoves P) where
   asked-all e c n new all = call-all e c n new all
 
   duty-all : (d : Option Duty) (b : Book) → All P b → All P (duty_ended d b)
-  duty-all (Some (duty.Ticket t)) b all = All-moved P made_ended moves.ended (λ m. m == t.0) b all
+  duty-all (Some (duty.Ticket t)) b all = All-moved P made_ended (moves Ends) (λ m. m == t.0) b all
   duty-all (Some (duty.Work n)) b all = all
   duty-all (Some (duty.Item f n)) b all = all
   duty-all (Some (duty.Function f)) b all = all
@@ -92,18 +86,14 @@ module _ (P : Registration → Type 0) (moves : KeptByMoves P) where
   ended-all e v cut all = same-book _ (end_change v cut e).after.book (ended-keeps v cut e).book (left-all (cause_of e.frames) (duty_of e.frames) e.book all)
 
   begun-holds : (p : Phase) (r : Registration) → P r → P (moved (begun_in p) r)
-  begun-holds phase.Hooks r h = moves.begun (moved made_due r) (moves.due r h)
-  begun-holds phase.Init r h = moves.begun r h
-  begun-holds phase.Live r h = moves.begun r h
-  begun-holds phase.Drain r h = moves.begun r h
-  begun-holds phase.Finals r h = moves.begun r h
-  begun-holds phase.Gone r h = moves.begun r h
+  begun-holds phase.Hooks r h = moves Begins (moved made_due r) (moves Falls r h)
+  begun-holds _ r h = moves Begins r h
 
   pub begun-all : (p : Phase) (n : ℕ) (b : Book) → All P b → All P (moved_at (begun_in p) n b)
   begun-all p n b all = All-moved P (begun_in p) (begun-holds p) (λ m. m == n) b all
 
   pub phase-all : (p : Phase) (b : Book) → All P b → All P (book_in p b)
-  phase-all phase.Finals b all = All-moved P made_due moves.due (λ n. true) b all
+  phase-all phase.Finals b all = All-moved P made_due (moves Falls) (λ n. true) b all
   phase-all _ b all = all
 
 -- WHY THE FRAME OF A TICKET BEGINS
@@ -115,7 +105,7 @@ abbrev Uncalled : Registration → Type 0
 Uncalled r = r.cause ≢ cause.Call
 
 uncalled-kept : KeptByMoves Uncalled
-uncalled-kept = record { due = λ r h. h; withdrawn = λ r h. h; begun = λ r h. h; ended = λ r h. h }
+uncalled-kept move r uncalled = uncalled
 
 pub uncalled-asked : (e : Environment) (c : Call) (n : ℕ) → AreUncalled e.book → AreUncalled (asked_change e c n).after.book
 uncalled-asked e c n all = asked-all Uncalled uncalled-kept e c n (λ made r who why. why) all
@@ -133,36 +123,8 @@ uncalled-phase p b all = phase-all Uncalled uncalled-kept p b all
 abbrev Unregistered : Registration → Type 0
 Unregistered r = is_registered r.state ≡ false
 
-begun-none : (s : TicketState) → is_registered s ≡ false → is_registered (made_begun s) ≡ false
-begun-none Registered h = cc
-begun-none Due h = refl
-begun-none Begun h = refl
-begun-none Ended h = refl
-begun-none Withdrawn h = refl
-
-ended-none : (s : TicketState) → is_registered s ≡ false → is_registered (made_ended s) ≡ false
-ended-none Registered h = cc
-ended-none Due h = refl
-ended-none Begun h = refl
-ended-none Ended h = refl
-ended-none Withdrawn h = refl
-
-withdrawn-none : (s : TicketState) → is_registered s ≡ false → is_registered (made_withdrawn s) ≡ false
-withdrawn-none Registered h = cc
-withdrawn-none Due h = refl
-withdrawn-none Begun h = refl
-withdrawn-none Ended h = refl
-withdrawn-none Withdrawn h = refl
-
-due-none : (s : TicketState) → is_registered s ≡ false → is_registered (made_due s) ≡ false
-due-none Registered h = cc
-due-none Due h = refl
-due-none Begun h = refl
-due-none Ended h = refl
-due-none Withdrawn h = refl
-
 unregistered-kept : KeptByMoves Unregistered
-unregistered-kept = record { due = λ r h. due-none r.state h; withdrawn = λ r h. withdrawn-none r.state h; begun = λ r h. begun-none r.state h; ended = λ r h. ended-none r.state h }
+unregistered-kept move r none = unregistered-moved move r.state none
 
 -- in the teardown no call registers
 pub none-asked : (e : Environment) (c : Call) (n : ℕ) → is_tearing e.phase ≡ true → NoneRegistered e.book → NoneRegistered (asked_change e c n).after.book

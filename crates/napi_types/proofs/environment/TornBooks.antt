@@ -1,8 +1,7 @@
 -- What the events of the teardown make of the book: no ticket is given any more, and from `finals` on none falls due.
-use Rattle.std.proofs.Common.{◌≡◌, ◌∙◌, ◌<◌, ◌≤◌, ℕ, zero, suc, ◌+◌, ◌==◌, Bool, true, false, cond, [], ◌∷◌, length, refl, ap, sym, subst, Option, Some, None, option_map, ◌⊎◌, inl, inr, arith}
+use Rattle.std.proofs.Common.{◌≡◌, ◌∙◌, ◌<◌, ◌≤◌, ℕ, zero, suc, ◌+◌, ◌==◌, Bool, true, false, cond, length, refl, ap, sym, subst, Option, Some, None, option_map, ◌⊎◌, inl, inr, arith}
 use Rattle.std.specs.Option.{unwrap_or}
 use Rattle.std.proofs.lemmas.Bool.{cases_lt, cases_eq}
-use Rattle.std.proofs.lemmas.List.Elements.{All-head, All-tail}
 use Rattle.napi_types.specs.declared.call.Args.{Args}
 use Rattle.napi_types.specs.declared.call.Call.{Call}
 use Rattle.napi_types.specs.declared.call.Call.TheVariants as call
@@ -12,7 +11,7 @@ use Rattle.napi_types.specs.declared.entry.Duty.{Duty}
 use Rattle.napi_types.specs.declared.entry.Duty.TheVariants as duty
 use Rattle.napi_types.specs.declared.ids.HandleId.{HandleId}
 use Rattle.napi_types.specs.declared.status.Status.{Status}
-use Rattle.napi_types.specs.parts.Book.{Book, Registration, TicketState, Registered, Due, Begun, Ended, Withdrawn, is_registered, is_due, is_at, made_due, made_withdrawn, made_begun, made_ended, moved, moved_from, moved_where, moved_at, due_where, registration_at, lowest_due, cause_at}
+use Rattle.napi_types.specs.parts.Book.{Book, Registration, TicketState, Due, is_registered, is_due, is_at, made_begun, moved, moved_where, moved_at, registration_at, lowest_due, cause_at}
 use Rattle.napi_types.specs.parts.Frames.{caller_of}
 use Rattle.napi_types.specs.environment.Changes.{call_change}
 use Rattle.napi_types.specs.environment.Ends.{duty_ended}
@@ -25,23 +24,27 @@ use Rattle.napi_types.proofs.plain.Lists.{find-first}
 use Rattle.napi_types.proofs.parts.BookSteps.{BookStep, stays, adds, drops, collects, swaps}
 use Rattle.napi_types.proofs.parts.Books.{NoneRegistered}
 use Rattle.napi_types.proofs.parts.Moved.{registration_at-moved_where, cause_at-moved_where}
+use Rattle.napi_types.proofs.parts.Moves.{Move, Falls, Withdraws, Begins, Ends, next, registered-before, due-moved}
 use Rattle.napi_types.proofs.environment.Answers.{call_change-keeps, torn-makes-none}
 use Rattle.napi_types.proofs.environment.FrameChanges.{book_left, hangings-parts, enter_change-keeps}
+use Rattle.napi_types.proofs.environment.Registrations.{registered-holds}
 
 -- A MOVE
 -- whether what is under a ticket passes a test
 abbrev tells : (TicketState → Bool) → Option Registration → Bool
 tells test o = unwrap_or (option_map (λ r. test r.state) o) false
 
--- a ticket that passes a test was so before, if the move leads to no such state
-was-at : (is : TicketState → Bool) (move : TicketState → TicketState) → ((s : TicketState) → is (move s) ≡ true → is s ≡ true) → (test : ℕ → Bool) (book : Book) (n : ℕ)
+-- a ticket that passes a test was so before, if the move brings what is under it to no such state
+was-at : (is : TicketState → Bool) (move : TicketState → TicketState) (test : ℕ → Bool) (book : Book) (n : ℕ)
+    → ((r : Registration) → registration_at book n ≡ Some r → is (move r.state) ≡ true → is r.state ≡ true)
     → is_at is (moved_where move test book) n ≡ true → is_at is book n ≡ true
-was-at is move back test book n now = by (test n) (registration_at book n) (sym (ap (tells is) (registration_at-moved_where move test book n)) ∙ now)
+was-at is move test book n back now = by (test n) (registration_at book n) back (sym (ap (tells is) (registration_at-moved_where move test book n)) ∙ now)
   where
-    by : (b : Bool) (o : Option Registration) → tells is (option_map (λ r. cond b (moved move r) r) o) ≡ true → tells is o ≡ true
-    by b None now = now
-    by true (Some r) now = back r.state now
-    by false (Some r) now = now
+    by : (b : Bool) (o : Option Registration) → ((r : Registration) → o ≡ Some r → is (move r.state) ≡ true → is r.state ≡ true)
+        → tells is (option_map (λ r. cond b (moved move r) r) o) ≡ true → tells is o ≡ true
+    by b None back now = now
+    by true (Some r) back now = back r refl now
+    by false (Some r) back now = now
 
 -- a book in which no ticket is registered, and where none was registered none is due, that was not so before; each has its cause
 pub record NoneMore (old new : Book) : Type 0 where
@@ -52,78 +55,26 @@ pub record NoneMore (old new : Book) : Type 0 where
 pub same-more : (old new : Book) → new ≡ old → NoneMore old new
 same-more old new same = subst (λ (b : Book). NoneMore old b) (sym same) (record { causes = λ n. refl; registered = λ n h. h; due = λ none n h. h })
 
--- a move that makes none registered and none due
-moved-more : (move : TicketState → TicketState) → ((s : TicketState) → is_registered (move s) ≡ true → is_registered s ≡ true)
-    → ((s : TicketState) → is_due (move s) ≡ true → is_due s ≡ true) → (test : ℕ → Bool) (book : Book) → NoneMore book (moved_where move test book)
-moved-more move registered due test book =
-    record { causes = cause_at-moved_where move test book; registered = was-at is_registered move registered test book; due = λ none. was-at is_due move due test book }
-
-withdrawn-more : (n : ℕ) (book : Book) → NoneMore book (moved_at made_withdrawn n book)
-withdrawn-more n book = moved-more made_withdrawn registered due (λ m. m == n) book
-  where
-    registered : (s : TicketState) → is_registered (made_withdrawn s) ≡ true → is_registered s ≡ true
-    registered Registered h = refl
-    registered _ h = h
-
-    due : (s : TicketState) → is_due (made_withdrawn s) ≡ true → is_due s ≡ true
-    due Registered h = cc
-    due _ h = h
+-- every move leads to such a book
+moved-more : (move : Move) (test : ℕ → Bool) (book : Book) → NoneMore book (moved_where (next move) test book)
+moved-more move test book = record {
+  causes = cause_at-moved_where (next move) test book;
+  registered = λ n. was-at is_registered (next move) test book n (λ r there. registered-before move r.state);
+  due = λ none n.
+      was-at is_due (next move) test book n
+      (λ r there. due-moved move r.state (registered-holds (λ q. is_registered q.state ≡ false) n book r there none));
+}
 
 pub begun-more : (n : ℕ) (book : Book) → NoneMore book (moved_at made_begun n book)
-begun-more n book = moved-more made_begun registered due (λ m. m == n) book
-  where
-    registered : (s : TicketState) → is_registered (made_begun s) ≡ true → is_registered s ≡ true
-    registered Due h = cc
-    registered _ h = h
-
-    due : (s : TicketState) → is_due (made_begun s) ≡ true → is_due s ≡ true
-    due Due h = refl
-    due _ h = h
-
-ended-more : (n : ℕ) (book : Book) → NoneMore book (moved_at made_ended n book)
-ended-more n book = moved-more made_ended registered due (λ m. m == n) book
-  where
-    registered : (s : TicketState) → is_registered (made_ended s) ≡ true → is_registered s ≡ true
-    registered Begun h = cc
-    registered _ h = h
-
-    due : (s : TicketState) → is_due (made_ended s) ≡ true → is_due s ≡ true
-    due Begun h = cc
-    due _ h = h
-
--- where none is registered none falls due
-none-falls : (test : ℕ → Bool) (k : ℕ) (rs : Book) → NoneRegistered rs → moved_from k made_due test rs ≡ rs
-none-falls test k [] none = refl
-none-falls test k (r ∷ rs) none =
-    let P : Registration → Type 0 = λ q. is_registered q.state ≡ false in
-    ap (λ q. q ∷ moved_from (suc k) made_due test rs) (by (test k) (All-head P r rs none)) ∙ ap (λ qs. r ∷ qs) (none-falls test (suc k) rs (All-tail P r rs none))
-  where
-    stays-so : (s : TicketState) → is_registered s ≡ false → made_due s ≡ s
-    stays-so Registered h = cc
-    stays-so _ h = refl
-
-    by : (b : Bool) → is_registered r.state ≡ false → cond b (moved made_due r) r ≡ r
-    by true h = ap (λ s. record r { state = s }) (stays-so r.state h)
-    by false h = refl
-
-collected-more : (test : ℕ → Bool) (book : Book) → NoneMore book (due_where test book)
-collected-more test book = record {
-  causes = cause_at-moved_where made_due test book;
-  registered = was-at is_registered made_due registered test book;
-  due = λ none n h. ap (λ b. is_at is_due b n) (sym (none-falls test 1 book none)) ∙ h;
-}
-  where
-    registered : (s : TicketState) → is_registered (made_due s) ≡ true → is_registered s ≡ true
-    registered Registered h = refl
-    registered _ h = h
+begun-more n book = moved-more Begins (λ m. m == n) book
 
 -- A CALL
 -- one that makes no duty, as is each in the teardown
 step-more : (addon : ℕ) (b : Book) (made dropped : Option Duty) (c : Book) → made ≡ None → BookStep addon b made dropped c → NoneMore b c
 step-more addon b _ _ _ none (stays c e) = same-more b c e
 step-more addon b _ _ _ none (adds r c s who why e) = cc
-step-more addon b _ _ _ none (drops n c h e) = subst (λ (d : Book). NoneMore b d) (sym e) (withdrawn-more n b)
-step-more addon b _ _ _ none (collects test c e) = subst (λ (d : Book). NoneMore b d) (sym e) (collected-more test b)
+step-more addon b _ _ _ none (drops n c h e) = subst (λ (d : Book). NoneMore b d) (sym e) (moved-more Withdraws (λ m. m == n) b)
+step-more addon b _ _ _ none (collects test c e) = subst (λ (d : Book). NoneMore b d) (sym e) (moved-more Falls test b)
 step-more addon b _ _ _ none (swaps n r c h s who why e) = cc
 
 call-more : (e : Environment) (c : Call) (n : ℕ) → is_tearing e.phase ≡ true → NoneMore e.book (call_change e c n).after.book
@@ -142,7 +93,7 @@ asked-more e c n tearing = call-more e c n tearing
 
 -- THE END OF A FRAME
 duty-more : (d : Option Duty) (book : Book) → NoneMore book (duty_ended d book)
-duty-more (Some (duty.Ticket t)) book = ended-more t.0 book
+duty-more (Some (duty.Ticket t)) book = moved-more Ends (λ m. m == t.0) book
 duty-more (Some (duty.Work w)) book = same-more book book refl
 duty-more (Some (duty.Item f n)) book = same-more book book refl
 duty-more (Some (duty.Function f)) book = same-more book book refl
@@ -166,10 +117,7 @@ not-due n book = ap (tells is_due) (registration_at-moved_where made_begun (λ m
   where
     begins : (s : TicketState) → is_due (made_begun s) ≡ false
     begins Due = refl
-    begins Registered = refl
-    begins Begun = refl
-    begins Ended = refl
-    begins Withdrawn = refl
+    begins _ = refl
 
     by : (b : Bool) → b ≡ true → (o : Option Registration) → tells is_due (option_map (λ r. cond b (moved made_begun r) r) o) ≡ false
     by true is None = refl

@@ -101,9 +101,7 @@ finished-one p w (Some n) one = rising-filter (λ (x : Execution). x.worker) (λ
 
 left-duty-one : (h : Hub) (d : Duty) → ExecutesOne h.pool → ExecutesOne (without_duty d h).pool
 left-duty-one h (duty.Work n) one = one
-left-duty-one h (duty.Item f n) one = one
-left-duty-one h (duty.Function f) one = one
-left-duty-one h (duty.Ticket t) one = one
+left-duty-one h _ one = one
 
 executions-one : (h : Hub) (x : Entry) (told : Out) (n : Hub) → ExecutesOne h.pool → HubCase h x told n → ExecutesOne n.pool
 executions-one h x told _ one (asks c is shared) = one

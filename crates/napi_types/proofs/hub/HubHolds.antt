@@ -35,10 +35,7 @@ use Rattle.napi_types.proofs.hub.HubRooms.{WhatMoves, what-moves, move-of_functi
 
 drained-looped : (s : Stage) → is_looped s ≡ false → is_past_drain s ≡ true → ⊥
 drained-looped Before early late = cc
-drained-looped Going early late = cc
-drained-looped Looped early late = cc
-drained-looped Drained early late = cc
-drained-looped Final early late = cc
+drained-looped _ early late = cc
 
 -- THE FUNCTIONS
 abbrev pub AreSound : Hub → Type 0
@@ -63,14 +60,11 @@ staged-sound h event other comes sound =
 duty-sound : (late : Bool) (h : Hub) (f : FunctionState) (d : Duty) → IsAmong late 1 h.functions f → DutyFalls late f d → AreSoundFrom late 1 (without_duty d h).functions
 duty-sound late h f (duty.Item g n) among falls = rw falls.0 (among.kept first_taken falls.1.id (falls.1.sound among.sound))
 duty-sound late h f (duty.Function g) among falls = rw falls.0 (among.kept done falls.1.id (falls.1.sound among.sound))
-duty-sound late h f (duty.Work n) among falls = absurd falls
-duty-sound late h f (duty.Ticket t) among falls = absurd falls
+duty-sound late h f _ among falls = absurd falls
 
 pub duty-stage : (d : Duty) (h : Hub) → (without_duty d h).stage ≡ h.stage
 duty-stage (duty.Ticket t) h = refl
-duty-stage (duty.Work n) h = refl
-duty-stage (duty.Item f n) h = refl
-duty-stage (duty.Function f) h = refl
+duty-stage _ h = refl
 
 delivered-sound : (h : Hub) (d : DueInfo) → AreSound h → hub_move h ≡ Some (Delivers d) → AreSound (with_delivered d h)
 delivered-sound h d sound next =
@@ -133,10 +127,9 @@ staged-pool : (h : Hub) (event : HostStep) → is_draining event ≡ false → i
 staged-pool h event other comes s = fewer-late (is_past_drain h.stage) (is_past_drain (staged event h).stage) h.pool (still-late h.stage event other comes) s
 
 duty-pool : (late : Bool) (h : Hub) (f : FunctionState) (d : Duty) → DutyFalls late f d → (without_duty d h).pool ≡ h.pool
-duty-pool late h f (duty.Item g n) falls = refl
-duty-pool late h f (duty.Function g) falls = refl
 duty-pool late h f (duty.Work n) falls = absurd falls
 duty-pool late h f (duty.Ticket t) falls = absurd falls
+duty-pool late h f _ falls = refl
 
 delivered-pool : (h : Hub) (d : DueInfo) → HubSound h → hub_move h ≡ Some (Delivers d) → PoolSound (is_past_drain (with_delivered d h).stage) (with_delivered d h).pool
 delivered-pool h d s next =

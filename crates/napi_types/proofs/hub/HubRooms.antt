@@ -292,9 +292,7 @@ duty-room late h f (duty.Ticket t) among falls = absurd falls
 
 duty-standing : (d : Duty) (h : Hub) → (without_duty d h).standing ≡ h.standing
 duty-standing (duty.Ticket t) h = refl
-duty-standing (duty.Work n) h = refl
-duty-standing (duty.Item f n) h = refl
-duty-standing (duty.Function f) h = refl
+duty-standing _ h = refl
 
 delivered-room : (late : Bool) (h : Hub) (d : DueInfo) → AreSoundFrom late 1 h.functions → hub_move h ≡ Some (Delivers d) → is_none h.standing ≡ true
     → reserved_history (with_delivered d h) + 1 ≤ reserved_history h + 0

@@ -9,7 +9,7 @@ use Rattle.napi_types.specs.declared.entry.Phase.{Phase}
 use Rattle.napi_types.specs.declared.entry.Phase.TheVariants as phase
 use Rattle.napi_types.specs.plain.Lists.{has_number, up_to}
 use Rattle.napi_types.specs.plain.Room.{one_if}
-use Rattle.napi_types.specs.parts.Book.{Book, Registration, TicketState, Registered, Due, Begun, Ended, Withdrawn, is_registered, is_due, is_owed, is_at, made_due, made_withdrawn, made_begun, made_due_and_begun, made_ended, moved, moved_from, moved_where, moved_at, due_where, all_due, registration_at, lowest_due, owed_tickets, with_registration, begun_in, may_begin_in}
+use Rattle.napi_types.specs.parts.Book.{Book, Registration, TicketState, Registered, Due, is_registered, is_due, is_owed, is_at, made_due, made_withdrawn, made_begun, made_due_and_begun, made_ended, moved, moved_from, moved_where, moved_at, due_where, all_due, registration_at, lowest_due, owed_tickets, with_registration, begun_in, may_begin_in}
 use Rattle.napi_types.proofs.plain.Issued.{has-up_to}
 use Rattle.napi_types.proofs.plain.Found.{apart-below, apart-above}
 use Rattle.napi_types.proofs.plain.Lists.{find-passes}
@@ -36,17 +36,11 @@ Keeps move = (s : TicketState) → is_owed (move s) ≡ is_owed s
 
 pub due-keeps : (s : TicketState) → is_owed (made_due s) ≡ is_owed s
 due-keeps Registered = refl
-due-keeps Due = refl
-due-keeps Begun = refl
-due-keeps Ended = refl
-due-keeps Withdrawn = refl
+due-keeps _ = refl
 
 pub ended-keeps : (s : TicketState) → is_owed (made_ended s) ≡ is_owed s
 ended-keeps Registered = refl
-ended-keeps Due = refl
-ended-keeps Begun = refl
-ended-keeps Ended = refl
-ended-keeps Withdrawn = refl
+ended-keeps _ = refl
 
 moved-state : (move : TicketState → TicketState) → Keeps move → (b : Bool) (r : Registration) → is_owed (cond b (moved move r) r).state ≡ is_owed r.state
 moved-state move keeps true r = keeps r.state
@@ -68,7 +62,7 @@ pub owed-ended : (n : ℕ) (book : Book) → owed_tickets (moved_at made_ended n
 owed-ended n book = moved_from-keeps made_ended ended-keeps (λ m. m == n) 1 book
 
 -- MOVES THAT TAKE ONE AWAY
-moved_from-below : (move : TicketState → TicketState) (k n : ℕ) (rs : Book) → n < k → moved_from k move (λ m. m == n) rs ≡ rs
+pub moved_from-below : (move : TicketState → TicketState) (k n : ℕ) (rs : Book) → n < k → moved_from k move (λ m. m == n) rs ≡ rs
 moved_from-below move k n [] h = refl
 moved_from-below move k n (r ∷ rs) h = rw (apart-above n k h) (ap (λ qs. r ∷ qs) (moved_from-below move (suc k) n rs (omega arith)))
 
@@ -105,51 +99,33 @@ withdrawn-leaves = record { before = before; after = after }
     before : (s : TicketState) → is_registered s ≡ true → is_owed s ≡ true
     before Registered is = refl
     before Due is = refl
-    before Begun is = cc
-    before Ended is = cc
-    before Withdrawn is = cc
+    before _ is = cc
 
     after : (s : TicketState) → is_registered s ≡ true → is_owed (made_withdrawn s) ≡ false
     after Registered is = refl
-    after Due is = cc
-    after Begun is = cc
-    after Ended is = cc
-    after Withdrawn is = cc
+    after _ is = cc
 
 begun-leaves : Leaves is_due made_begun
 begun-leaves = record { before = before; after = after }
   where
     before : (s : TicketState) → is_due s ≡ true → is_owed s ≡ true
-    before Registered is = cc
     before Due is = refl
-    before Begun is = cc
-    before Ended is = cc
-    before Withdrawn is = cc
+    before _ is = cc
 
     after : (s : TicketState) → is_due s ≡ true → is_owed (made_begun s) ≡ false
-    after Registered is = cc
     after Due is = refl
-    after Begun is = cc
-    after Ended is = cc
-    after Withdrawn is = cc
+    after _ is = cc
 
 hook-leaves : Leaves is_registered made_due_and_begun
 hook-leaves = record { before = withdrawn-leaves.before; after = after }
   where
     after : (s : TicketState) → is_registered s ≡ true → is_owed (made_due_and_begun s) ≡ false
     after Registered is = refl
-    after Due is = cc
-    after Begun is = cc
-    after Ended is = cc
-    after Withdrawn is = cc
+    after _ is = cc
 
 pub leaves-in : (p : Phase) → Leaves (may_begin_in p) (begun_in p)
-leaves-in phase.Init = begun-leaves
-leaves-in phase.Live = begun-leaves
 leaves-in phase.Hooks = hook-leaves
-leaves-in phase.Drain = begun-leaves
-leaves-in phase.Finals = begun-leaves
-leaves-in phase.Gone = begun-leaves
+leaves-in _ = begun-leaves
 
 -- a registered ticket that is withdrawn, and a ticket that begins as it may in its phase, is one less
 pub owed-withdrawn : (n : ℕ) (book : Book) → is_at is_registered book n ≡ true → owed_tickets (moved_at made_withdrawn n book) + 1 ≡ owed_tickets book
@@ -197,10 +173,7 @@ NoneRegistered book = All (λ r. is_registered r.state ≡ false) book
 -- where all fall due none is registered
 due-registers-none : (s : TicketState) → is_registered (made_due s) ≡ false
 due-registers-none Registered = refl
-due-registers-none Due = refl
-due-registers-none Begun = refl
-due-registers-none Ended = refl
-due-registers-none Withdrawn = refl
+due-registers-none _ = refl
 
 due_from-none : (k : ℕ) (rs : Book) → NoneRegistered (moved_from k made_due (λ n. true) rs)
 due_from-none k [] = All-nil (λ (r : Registration). is_registered r.state ≡ false)

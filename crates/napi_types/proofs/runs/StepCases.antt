@@ -181,8 +181,7 @@ env-case m a o (f ∷ fs) stands far may = frame-case m a o (cut_of o)
 
 of-case : (m : Machine) (a : Ask) (x : Entry) (who : Actor) → x.actor ≡ who → InPhase m → IsTrue (step_of m a x who).may → StepCase m (step_of m a x who)
 of-case m a x actor.Env is far may = env-case m a x.reply.out m.env.frames refl far may
-of-case m a x (actor.Thread t) is far may = others x (ap is_environment is)
-of-case m a x (actor.Worker w) is far may = others x (ap is_environment is)
+of-case m a x _ is far may = others x (ap is_environment is)
 
 pub step-case : (m : Machine) (a : Ask) (x : Entry) → InPhase m → IsTrue (step m a x).may → StepCase m (step m a x)
 step-case m a x far may = of-case m a x x.actor refl far may
