@@ -8,7 +8,7 @@ use Rattle.std.proofs.lemmas.List.{length-set, length-append, length-map}
 use Rattle.std.proofs.lemmas.List.Sums.{sum_by-set, sum_by-append, sum_by-cons, get_or-le-sum_by}
 use Rattle.std.proofs.lemmas.Bool.Decides.{nat_tests}
 use Rattle.napi_types.specs.declared.duties.Slip.{Slip}
-use Rattle.napi_types.specs.parts.Book.{Registration, lowest_due, TicketState, Registered, Due, Begun, Ended, Withdrawn, is_registered, is_due, is_begun, is_at, moved, made_due, made_withdrawn, made_begun, made_ended, made_due_and_begun}
+use Rattle.napi_types.specs.parts.Book.{Registration, lowest_due, TicketState, Registered, Due, Begun, is_registered, is_due, is_begun, is_at, moved, made_due, made_withdrawn, made_begun, made_ended, made_due_and_begun}
 use Rattle.napi_types.proofs.plain.Found.{apart-above}
 use Rattle.finalizer_queue.specs.declared.rows.Row.{Row}
 use Rattle.finalizer_queue.specs.declared.rows.RowState.{RowState}
@@ -81,17 +81,11 @@ kept-withdrawn rows spare row_places count places ts kept n x y row is =
   where
     as_due : (s : TicketState) → is_due (made_withdrawn s) ≡ is_due s
     as_due Registered = refl
-    as_due Due = refl
-    as_due Begun = refl
-    as_due Ended = refl
-    as_due Withdrawn = refl
+    as_due _ = refl
 
     waits : (s : TicketState) → is_registered (made_withdrawn s) ≡ false
     waits Registered = refl
-    waits Due = refl
-    waits Begun = refl
-    waits Ended = refl
-    waits Withdrawn = refl
+    waits _ = refl
 
 -- a ticket that has begun ends
 pub kept-ended : (rows : List Row) (spare row_places count places : ℕ) (ts : List (Reverse ℕ)) → AreKept rows spare row_places ts count places
@@ -103,17 +97,11 @@ kept-ended rows spare row_places count places ts kept n x y row none is =
   where
     as_due : (s : TicketState) → is_due (made_ended s) ≡ is_due s
     as_due Registered = refl
-    as_due Due = refl
-    as_due Begun = refl
-    as_due Ended = refl
-    as_due Withdrawn = refl
+    as_due _ = refl
 
     waits : (s : TicketState) → is_registered (made_ended s) ≡ is_registered s
     waits Registered = refl
-    waits Due = refl
-    waits Begun = refl
-    waits Ended = refl
-    waits Withdrawn = refl
+    waits _ = refl
 
 -- a ticket that is registered falls due and begins
 pub kept-begun : (rows : List Row) (spare row_places count places : ℕ) (ts : List (Reverse ℕ)) → AreKept rows spare row_places ts count places
@@ -124,18 +112,12 @@ kept-begun rows spare row_places count places ts kept n x y row some is =
     (ap is_registered (state-moved made_due_and_begun x y is) ∙ waits (state_of x.state))
   where
     as_due : (s : TicketState) → is_registered s ≡ true → is_due (made_due_and_begun s) ≡ is_due s
-    as_due Registered some = refl
-    as_due Due some = let no : ⊥ = cc in absurd no
-    as_due Begun some = refl
-    as_due Ended some = refl
-    as_due Withdrawn some = refl
+    as_due Due some = cc
+    as_due _ some = refl
 
     waits : (s : TicketState) → is_registered (made_due_and_begun s) ≡ false
     waits Registered = refl
-    waits Due = refl
-    waits Begun = refl
-    waits Ended = refl
-    waits Withdrawn = refl
+    waits _ = refl
 
 -- a ticket that is not registered does not fall due
 pub kept-stays : (rows : List Row) (spare row_places count places : ℕ) (ts : List (Reverse ℕ)) → AreKept rows spare row_places ts count places
@@ -148,11 +130,8 @@ kept-stays rows spare row_places count places ts kept n x y row none is =
     (ap is_registered (state-moved made_due x y is ∙ same) ∙ none)
   where
     stays : (s : TicketState) → is_registered s ≡ false → made_due s ≡ s
-    stays Registered none = let no : ⊥ = cc in absurd no
-    stays Due none = refl
-    stays Begun none = refl
-    stays Ended none = refl
-    stays Withdrawn none = refl
+    stays Registered none = cc
+    stays _ none = refl
 
 -- the heap has a ticket more, which was not there
 pushed-times : (m n : ℕ) (t : Reverse ℕ) (ts us : List (Reverse ℕ)) → t.0 ≡ n → IsPermutation (t ∷ ts) us → times n ts ≡ 0 → times m us ≡ cond (m == n) 1 (times m ts)
@@ -184,16 +163,11 @@ kept-due rows spare row_places count places count_after places_after ts us kept 
     falls : (s : TicketState) → is_registered s ≡ true → made_due s ≡ Due
     falls Registered some = refl
     falls Due some = refl
-    falls Begun some = let no : ⊥ = cc in absurd no
-    falls Ended some = let no : ⊥ = cc in absurd no
-    falls Withdrawn some = let no : ⊥ = cc in absurd no
+    falls _ some = cc
 
     before : (s : TicketState) → is_registered s ≡ true → is_due s ≡ false
-    before Registered some = refl
-    before Due some = let no : ⊥ = cc in absurd no
-    before Begun some = refl
-    before Ended some = refl
-    before Withdrawn some = refl
+    before Due some = cc
+    before _ some = refl
 
 -- the heap has a ticket less, which was there once
 popped-times : (m n : ℕ) (t : Reverse ℕ) (ts us : List (Reverse ℕ)) → t.0 ≡ n → IsPermutation ts (t ∷ us) → times n ts ≡ 1 → times m us ≡ cond (m == n) 0 (times m ts)
@@ -228,9 +202,7 @@ kept-taken rows spare row_places count places count_after places_after ts us kep
     begins : (s : TicketState) → is_due s ≡ true → made_due_and_begun s ≡ Begun
     begins Registered some = refl
     begins Due some = refl
-    begins Begun some = let no : ⊥ = cc in absurd no
-    begins Ended some = let no : ⊥ = cc in absurd no
-    begins Withdrawn some = let no : ⊥ = cc in absurd no
+    begins _ some = cc
 
 -- A ROW MORE
 is_at-more : (test : TicketState → Bool) (rows : List Row) (m : ℕ) (y : Row) → test (state_of y.state) ≡ false → is_at test (book_of (rows ++ y ∷ [])) m ≡ is_at test (book_of rows) m
@@ -341,11 +313,8 @@ other-state state.Ended other = refl
 other-state state.Withdrawn other = refl
 
 pub begun-unregistered : (s : TicketState) → is_begun s ≡ true → is_registered s ≡ false
-begun-unregistered Registered is = let no : ⊥ = cc in absurd no
-begun-unregistered Due is = refl
-begun-unregistered Begun is = refl
-begun-unregistered Ended is = refl
-begun-unregistered Withdrawn is = refl
+begun-unregistered Registered is = cc
+begun-unregistered _ is = refl
 
 pub registered-waits : (s : TicketState) → is_registered s ≡ true → (is_registered s || is_due s) ≡ true
 registered-waits s is = rw is refl
@@ -353,17 +322,12 @@ registered-waits s is = rw is refl
 pub due-waits : (s : TicketState) → is_due s ≡ true → (is_registered s || is_due s) ≡ true
 due-waits Registered is = refl
 due-waits Due is = refl
-due-waits Begun is = let no : ⊥ = cc in absurd no
-due-waits Ended is = let no : ⊥ = cc in absurd no
-due-waits Withdrawn is = let no : ⊥ = cc in absurd no
+due-waits _ is = cc
 
 -- a ticket that is due begins, as one does that falls due and begins
 pub moved-begun : (x y : Row) → is_due (state_of x.state) ≡ true → row_registration y ≡ moved made_due_and_begun (row_registration x) → row_registration y ≡ moved made_begun (row_registration x)
 moved-begun x y some is = is ∙ ap (λ s. registration_in s x.duty) (same (state_of x.state) some)
   where
     same : (s : TicketState) → is_due s ≡ true → made_due_and_begun s ≡ made_begun s
-    same Registered some = let no : ⊥ = cc in absurd no
-    same Due some = refl
-    same Begun some = refl
-    same Ended some = refl
-    same Withdrawn some = refl
+    same Registered some = cc
+    same _ some = refl

@@ -6,15 +6,11 @@ use Rattle.std.proofs.lemmas.Option.{slice_get-map, slice_get_read, slice_get_wi
 use Rattle.std.proofs.lemmas.Bool.{eq-eqb}
 use Rattle.napi_types.specs.parts.Book.{Book, Registration, TicketState, made_due, moved, moved_from, moved_at, due_where, all_due, registration_at, is_at}
 use Rattle.napi_types.proofs.plain.Found.{apart-below, apart-above, next-same}
+use Rattle.napi_types.proofs.parts.Books.{moved_from-below, length-moved}
 use Rattle.finalizer_queue.specs.declared.rows.Row.{Row}
 use Rattle.finalizer_queue.specs.Rows.{row_registration, state_of, book_of}
 
 -- A TICKET IS MOVED
--- the tickets from k on are as they were, where the one that moves is below
-moved_from-below : (move : TicketState → TicketState) (k n : ℕ) (rs : List Registration) → n < k → moved_from k move (λ m. m == n) rs ≡ rs
-moved_from-below move k n [] h = refl
-moved_from-below move k n (r ∷ rs) h = rw (apart-above n k h) (ap (λ qs. r ∷ qs) (moved_from-below move (suc k) n rs (omega arith)))
-
 moved_from-at : (move : TicketState → TicketState) (k p n : ℕ) (rs : List Registration) (x y : Registration) → n ≡ k + p → slice_get rs p ≡ Some x → y ≡ moved move x
     → set rs p y ≡ moved_from k move (λ m. m == n) rs
 moved_from-at move k p n [] x y at here is = let no : ⊥ = cc in absurd no
@@ -135,9 +131,5 @@ due-all k n (r ∷ rs) h = rw (under k n (omega arith)) (ap (λ qs. moved made_d
 pub due_where-all : (book : Book) (n : ℕ) → length book < n → due_where (λ m. nat_lt m n) book ≡ all_due book
 due_where-all book n h = due-all 1 n book (omega arith)
 
-length-moved_from : (move : TicketState → TicketState) (test : ℕ → Bool) (k : ℕ) (rs : List Registration) → length (moved_from k move test rs) ≡ length rs
-length-moved_from move test k [] = refl
-length-moved_from move test k (r ∷ rs) = ap suc (length-moved_from move test (suc k) rs)
-
 pub length-due_where : (test : ℕ → Bool) (book : Book) → length (due_where test book) ≡ length book
-length-due_where test book = length-moved_from made_due test 1 book
+length-due_where test book = length-moved made_due test book

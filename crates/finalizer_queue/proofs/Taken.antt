@@ -4,7 +4,7 @@ use Rattle.std.proofs.lemmas.Bool.{eq-eqb}
 use Rattle.std.specs.Option.{unwrap_or}
 use Rattle.napi_types.specs.declared.duties.DueInfo.{DueInfo}
 use Rattle.napi_types.specs.plain.Lists.{up_to}
-use Rattle.napi_types.specs.parts.Book.{Book, Registration, TicketState, Registered, Due, Begun, Ended, Withdrawn, is_due, is_begun, is_at, made_begun, moved, moved_at, registration_at, lowest_due}
+use Rattle.napi_types.specs.parts.Book.{Book, Registration, TicketState, Due, is_due, is_begun, is_at, made_begun, moved, moved_at, registration_at, lowest_due}
 use Rattle.napi_types.proofs.plain.Lists.{find-passes}
 use Rattle.napi_types.proofs.parts.Moved.{registration_at-moved_where}
 use Rattle.finalizer_queue.specs.Kept.{Takes, ticket_number}
@@ -20,11 +20,8 @@ lowest-begun old n r lowest there =
     ∙ begins r.state due
   where
     begins : (s : TicketState) → is_due s ≡ true → is_begun (made_begun s) ≡ true
-    begins Registered due = let no : ⊥ = cc in absurd no
     begins Due due = refl
-    begins Begun due = let no : ⊥ = cc in absurd no
-    begins Ended due = let no : ⊥ = cc in absurd no
-    begins Withdrawn due = let no : ⊥ = cc in absurd no
+    begins _ due = cc
 
 pub takes-begun : (old new : Book) (due : DueInfo) → Takes old due new → is_at is_begun new (ticket_number due.duty) ≡ true
 takes-begun old new due takes =
