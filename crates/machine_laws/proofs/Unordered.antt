@@ -1,15 +1,12 @@
 -- Finite maps do not tell in what order their records were added.
 use Rattle.std.proofs.Common.{◌≡◌, ◌∙◌, ℕ, zero, suc, ◌<◌, ◌≤◌, ◌==◌, nat_lt, ◌&&◌, Bool, true, false, cond, List, [], ◌∷◌, ◌++◌, filter, length, Option, Some, None, slice_index_or, set, refl, ap, sym, arith, append_assoc, inl, inr}
-use Rattle.std.specs.List.{find}
-use Rattle.std.specs.Option.{option_or}
-use Rattle.std.proofs.lemmas.Bool.{lt-ltb, le-ltb, eq-eqb, eqb-true, cases_lt, or_parts}
+use Rattle.std.proofs.lemmas.Bool.{lt-ltb, le-ltb, eqb-true, cases_lt, or_parts}
 use Rattle.std.proofs.lemmas.Bool.Decides.{nat_tests}
 use Rattle.std.proofs.lemmas.List.{append-nil}
 use Rattle.std.proofs.lemmas.List.Elements.{filter-append}
-use Rattle.std.proofs.lemmas.List.Folds.{find-append}
 use Rattle.napi_types.specs.plain.Lists.{found, has, with_record, as_map, with_number}
 use Rattle.napi_types.specs.parts.References.{Reference}
-use Rattle.napi_types.proofs.plain.Lists.{option_or-none}
+use Rattle.napi_types.proofs.plain.Found.{found-with_record, same-self}
 use Rattle.napi_reference.specs.Places.{standing}
 
 -- TWO TESTS
@@ -22,21 +19,9 @@ module _ {A : Type 0} (p q r : A → Bool) (both : (y : A) → (q y && p y) ≡ 
       by true c e rest = ap (λ d. cond d (x ∷ filter p (filter q xs)) (filter p (filter q xs))) e ∙ ap (λ ys. cond c (x ∷ ys) ys) rest
       by false c e rest = rest ∙ ap (λ d. cond d (x ∷ filter r xs) (filter r xs)) e
 
-  find-both : (xs : List A) → find p (filter q xs) ≡ find r xs
-  find-both [] = refl
-  find-both (x ∷ xs) = by (q x) (r x) (both x) (find-both xs)
-    where
-      by : (b c : Bool) → (b && p x) ≡ c → find p (filter q xs) ≡ find r xs → find p (cond b (x ∷ filter q xs) (filter q xs)) ≡ cond c (Some x) (find r xs)
-      by true c e rest = ap (λ d. cond d (Some x) (find p (filter q xs))) e ∙ ap (λ o. cond c (Some x) o) rest
-      by false c e rest = rest ∙ ap (λ d. cond d (Some x) (find r xs)) e
-
 filter_never : {A : Type 0} (xs : List A) → filter (λ _. false) xs ≡ []
 filter_never [] = refl
 filter_never (x ∷ xs) = filter_never xs
-
-find_never : {A : Type 0} (xs : List A) → find (λ _. false) xs ≡ None
-find_never [] = refl
-find_never (x ∷ xs) = find_never xs
 
 -- a number, where one number is below another
 below-both : (a b n : ℕ) → a < b → (nat_lt n b && nat_lt n a) ≡ nat_lt n a
@@ -115,41 +100,10 @@ module _ {A : Type 0} (number : A → ℕ) where
 
   -- WHAT IS FOUND
   pub with_record-there : (x : A) (xs : List A) → found number (number x) (with_record number x xs) ≡ Some x
-  with_record-there x xs =
-      let a = number x in
-      find-append (λ z. number z == a) (filter (under a) xs) (x ∷ filter (over a) xs)
-      ∙ ap (λ o. option_or o (found number a (x ∷ filter (over a) xs))) (find-both (λ z. number z == a) (under a) (λ _. false) (λ z. below-same a (number z)) xs ∙ find_never xs)
-      ∙ ap (λ t. cond t (Some x) (found number a (filter (over a) xs))) (eq-eqb a a refl)
-    where
-      below-same : (a n : ℕ) → (nat_lt n a && (n == a)) ≡ false
-      below-same a n = grind (arith, nat_tests)
+  with_record-there x xs = found-with_record number (number x) x xs ∙ ap (λ b. cond b (Some x) (found number (number x) xs)) (same-self (number x))
 
   pub with_record-others : (x : A) (k : ℕ) (xs : List A) → (number x == k) ≡ false → found number k (with_record number x xs) ≡ found number k xs
-  with_record-others x k xs apart =
-      let a = number x in
-      find-append (λ z. number z == k) (filter (under a) xs) (x ∷ filter (over a) xs)
-      ∙ ap (λ t. option_or (found number k (filter (under a) xs)) (cond t (Some x) (found number k (filter (over a) xs)))) apart
-      ∙ elim (cases_lt k a) [
-        | inl less ↦
-            ap (λ o. option_or o (found number k (filter (over a) xs))) (find-both (λ z. number z == k) (under a) (λ z. number z == k) (λ z. under-same a k (number z) less) xs)
-            ∙ ap (λ o. option_or (found number k xs) o) (find-both (λ z. number z == k) (over a) (λ _. false) (λ z. over-none a k (number z) less) xs ∙ find_never xs)
-            ∙ option_or-none (found number k xs)
-        | inr le ↦
-            ap (λ o. option_or o (found number k (filter (over a) xs))) (find-both (λ z. number z == k) (under a) (λ _. false) (λ z. under-none a k (number z) le) xs ∙ find_never xs)
-            ∙ find-both (λ z. number z == k) (over a) (λ z. number z == k) (λ z. over-same a k (number z) apart le) xs
-      ]
-    where
-      under-same : (a k n : ℕ) → k < a → (nat_lt n a && (n == k)) ≡ (n == k)
-      under-same a k n h = grind (arith, nat_tests)
-
-      over-none : (a k n : ℕ) → k < a → (nat_lt a n && (n == k)) ≡ false
-      over-none a k n h = grind (arith, nat_tests)
-
-      under-none : (a k n : ℕ) → a ≤ k → (nat_lt n a && (n == k)) ≡ false
-      under-none a k n h = grind (arith, nat_tests)
-
-      over-same : (a k n : ℕ) → (a == k) ≡ false → a ≤ k → (nat_lt a n && (n == k)) ≡ (n == k)
-      over-same a k n apart h = grind (arith, nat_tests)
+  with_record-others x k xs apart = found-with_record number k x xs ∙ ap (λ b. cond b (Some x) (found number k xs)) apart
 
 -- numbers in either order, be they equal too
 pub numbers-swap : (n k : ℕ) (ns : List ℕ) → with_number n (with_number k ns) ≡ with_number k (with_number n ns)

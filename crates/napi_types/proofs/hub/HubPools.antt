@@ -9,10 +9,10 @@ use Rattle.napi_types.specs.declared.call.JobSpec.{JobSpec}
 use Rattle.napi_types.specs.plain.Lists.{found, has, has_number, with_number, with_record, tail, one}
 use Rattle.napi_types.specs.parts.Pool.{WorkPool, standing_at, work_state, work_refusal, number_of_work, executed_by, with_work, without_work, new_number, with_queued, cancelled_at, with_cancelled, started_from, with_started, finished_at, with_finished, with_completed, drained}
 use Rattle.napi_types.specs.parts.Works.{Work, Created, Queued, Running, Finished, Completed, Execution, Outcome, is_created, is_queued, is_deletable, is_number, has_work_number, cancelled_outcome}
-use Rattle.napi_types.proofs.plain.Found.{IsRising, same-tells, apart-above, same-self, found-number, has-found, rising-filter, rising-with_record, rising-changed}
+use Rattle.napi_types.proofs.plain.Found.{IsRising, same-tells, apart-above, same-self, found-number, has-found, rising-filter, rising-with_record, rising-changed, has-with_number}
 use Rattle.napi_types.proofs.plain.Maps.{list_any-with_record, All-with_record}
 use Rattle.napi_types.proofs.plain.Lists.{any-map}
-use Rattle.napi_types.proofs.hub.HubRooms.{IsWork, not-refused, Waits, queued-waits, has-with_number}
+use Rattle.napi_types.proofs.hub.HubRooms.{IsWork, not-refused, Waits, queued-waits}
 
 -- TESTS ON LISTS
 any-filter : {A : Type 0} (test keep : A → Bool) (xs : List A) → All (λ x. keep x ≡ false → test x ≡ false) xs → list_any test xs ≡ true → list_any test (filter keep xs) ≡ true

@@ -2,7 +2,6 @@
 use Rattle.std.proofs.Common.{◌≡◌, ◌∙◌, ℕ, suc, ◌+◌, ◌*◌, ◌≤◌, ◌==◌, ◌||◌, Bool, true, false, not, cond, List, [], ◌∷◌, ◌++◌, length, map, filter, refl, ap, sym, subst, arith, length-append, inl, inr, ◌⊎◌, Option, Some, None, is_some, is_none, option_map}
 use Rattle.std.specs.List.{sum_by, range_with_len}
 use Rattle.std.specs.Option.{option_or, unwrap_or, option_and_then, option_map_or}
-use Rattle.std.proofs.lemmas.Bool.Decides.{nat_tests}
 use Rattle.std.proofs.lemmas.List.{length-map}
 use Rattle.std.proofs.lemmas.List.Sums.{sum_by_push, length-filter, count_by-le-length}
 use Rattle.napi_types.specs.declared.duties.DueInfo.{DueInfo}
@@ -28,7 +27,7 @@ use Rattle.napi_types.specs.hub.HubCalls.{new_function_number}
 use Rattle.napi_types.specs.hub.HubMoves.{HubMove, Delivers, Closes, Finishes, first_move, hub_move, in_pool, in_function, without_duty, with_delivered}
 use Rattle.napi_types.specs.hub.HubSteps.{is_looped, work_number, staged, drained_hub}
 use Rattle.napi_types.proofs.plain.Conditions.{and-left}
-use Rattle.napi_types.proofs.plain.Found.{has-found, found-with_record}
+use Rattle.napi_types.proofs.plain.Found.{has-found, has-with_number, turned}
 use Rattle.napi_types.proofs.plain.Maps.{length-with_record}
 use Rattle.napi_types.proofs.plain.CallFacts.{needs-place}
 use Rattle.napi_types.proofs.hub.HubCases.{HubCase, asks, creates_work, deletes_work, cancels_work, queues_work, creates_function, alters, goes, ends_loop, drains, comes_to_finals, delivers, closes, finishes, ends, thread_ends, worker_ends, starts, finishes_work, calls, acquires, releases, references, unreferences}
@@ -49,14 +48,6 @@ has-fewer number n (x ∷ xs) there = by (number x == n) there (at-most xs) (has
     by true there few rest = omega (arith, few)
     by false there few rest = let less = rest there in omega (arith, less)
 
--- a set of numbers with one more has that, and those that it had
-pub has-with_number : (k n : ℕ) (ns : List ℕ) → has_number k (with_number n ns) ≡ ((n == k) || has_number k ns)
-has-with_number k n ns = has-found (λ m. m) k (with_number n ns) ∙ ap is_some (found-with_record (λ m. m) k n ns) ∙ by (n == k)
-  where
-    by : (b : Bool) → is_some (cond b (Some n) (found (λ m. m) k ns)) ≡ (b || has_number k ns)
-    by true = refl
-    by false = sym (has-found (λ m. m) k ns)
-
 -- those of these that have not ended
 abbrev pub not_among : List ℕ → List ℕ → List ℕ
 not_among ended ms = filter (λ k. not (has_number k ended)) ms
@@ -67,9 +58,6 @@ left-without n ended (m ∷ ms) =
     ap (λ c. cond (not c) (m ∷ not_among (with_number n ended) ms) (not_among (with_number n ended) ms)) (has-with_number m n ended ∙ ap (λ c. c || has_number m ended) (turned n m))
     ∙ by (m == n) refl (has_number m ended) (left-without n ended ms)
   where
-    turned : (a b : ℕ) → (a == b) ≡ (b == a)
-    turned a b = grind (arith, nat_tests)
-
     by : (a : Bool) → (m == n) ≡ a → (b : Bool) → not_among (with_number n ended) ms ≡ filter (λ k. not (k == n)) (not_among ended ms)
         → cond (not (a || b)) (m ∷ not_among (with_number n ended) ms) (not_among (with_number n ended) ms)
         ≡ filter (λ k. not (k == n)) (cond (not b) (m ∷ not_among ended ms) (not_among ended ms))

@@ -31,10 +31,10 @@ use Rattle.napi_types.specs.hub.HubMoves.{in_pool, without_duty}
 use Rattle.napi_types.specs.hub.HubSteps.{HubStep, IsHubNext, hub_along, hub_step, hub_step_of, environment_step, given_step, answered_step, answer_unless_given, is_timely, is_fresh_work, work_number, thread_step, is_thread_there, worker_step}
 use Rattle.napi_types.specs.hub.Replays.{HubReplays}
 use Rattle.napi_types.proofs.plain.Conditions.{and-right}
-use Rattle.napi_types.proofs.plain.Found.{IsRising, same-tells, same-self, apart-below, found-first, found-later, parts-rising, rising-filter, rising-with_record, rising-changed}
+use Rattle.napi_types.proofs.plain.Found.{IsRising, same-tells, same-self, apart-below, found-first, found-later, parts-rising, rising-filter, rising-with_record, rising-changed, has-with_number}
 use Rattle.napi_types.proofs.plain.Maps.{All-with_record}
 use Rattle.napi_types.proofs.hub.HubCases.{HubCase, asks, creates_work, deletes_work, cancels_work, queues_work, creates_function, alters, goes, ends_loop, drains, comes_to_finals, delivers, closes, finishes, ends, thread_ends, worker_ends, starts, finishes_work, hub-case}
-use Rattle.napi_types.proofs.hub.HubRooms.{IsWork, not-refused, has-with_number}
+use Rattle.napi_types.proofs.hub.HubRooms.{IsWork, not-refused}
 use Rattle.napi_types.proofs.hub.WorkerTurns.{others-leave}
 
 -- LISTS

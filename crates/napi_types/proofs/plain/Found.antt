@@ -5,8 +5,8 @@ use Rattle.std.specs.Option.{option_or, option_and_then}
 use Rattle.std.proofs.lemmas.Bool.{ltb-true, lt-ltb, le-ltb, or_parts, cases_lt}
 use Rattle.std.proofs.lemmas.Bool.Decides.{nat_tests}
 use Rattle.std.proofs.lemmas.List.Elements.{All-head, All-tail, All-cons, All-nil, All-append, All-filter, All-map}
-use Rattle.napi_types.specs.plain.Lists.{found, has, with_record, as_map}
-use Rattle.napi_types.proofs.plain.Maps.{filter_all, filter_none}
+use Rattle.napi_types.specs.plain.Lists.{found, has, with_record, as_map, has_number, with_number}
+use Rattle.napi_types.proofs.plain.Maps.{filter_all, filter_none, one-below}
 
 -- NUMBERS APART
 pub same-tells : (m n : ℕ) → (m == n) ≡ true → m ≡ n
@@ -264,11 +264,8 @@ module _ {A : Type 0} (number : A → ℕ) where
   parts-rising n [] rises absent = refl
   parts-rising n (x ∷ xs) rises absent =
       let apart = or_parts (number x == n) (has number n xs) absent in
-      by (nat_lt (number x) n) (nat_lt n (number x)) refl refl (either (number x) n apart.0) (parts-rising n xs rises.1 apart.1)
+      by (nat_lt (number x) n) (nat_lt n (number x)) refl refl (one-below (number x) n apart.0) (parts-rising n xs rises.1 apart.1)
     where
-      either : (m k : ℕ) → (m == k) ≡ false → nat_lt m k ≡ not (nat_lt k m)
-      either m k apart = grind (arith, nat_tests)
-
       by : (a b : Bool) → nat_lt (number x) n ≡ a → nat_lt n (number x) ≡ b → nat_lt (number x) n ≡ not (nat_lt n (number x))
           → filter (λ y. nat_lt (number y) n) xs ++ filter (λ y. nat_lt n (number y)) xs ≡ xs
           → cond a (x ∷ filter (λ y. nat_lt (number y) n) xs) (filter (λ y. nat_lt (number y) n) xs) ++ cond b (x ∷ filter (λ y. nat_lt n (number y)) xs) (filter (λ y. nat_lt n (number y)) xs) ≡ x ∷ xs
@@ -279,3 +276,11 @@ module _ {A : Type 0} (number : A → ℕ) where
           let first : n < number x = ltb-true n (number x) above in
           ap (λ ys. ys ++ x ∷ filter (λ y. nat_lt n (number y)) xs) (filter_none (λ y. nat_lt (number y) n) xs (λ k d inside. le-ltb _ _ (omega (arith, first, rises.0 k d inside))))
           ∙ ap (λ ys. x ∷ ys) (filter_all (λ y. nat_lt n (number y)) xs (λ k d inside. lt-ltb _ _ (omega (arith, first, rises.0 k d inside))))
+
+-- a set of numbers with one more has that, and those that it had
+pub has-with_number : (k n : ℕ) (ns : List ℕ) → has_number k (with_number n ns) ≡ ((n == k) || has_number k ns)
+has-with_number k n ns = has-found (λ m. m) k (with_number n ns) ∙ ap is_some (found-with_record (λ m. m) k n ns) ∙ by (n == k)
+  where
+    by : (b : Bool) → is_some (cond b (Some n) (found (λ m. m) k ns)) ≡ (b || has_number k ns)
+    by true = refl
+    by false = sym (has-found (λ m. m) k ns)
