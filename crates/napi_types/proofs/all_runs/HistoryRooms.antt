@@ -277,8 +277,7 @@ other-hub Enough l m x other is may r =
 step-hub : (Enough : Type 0) (l : Limits) (m : Machine) (a : Ask) (x : Entry) (who : Actor) → x.actor ≡ who → x ≡ (step_of m a x who).entry → IsTrue (step_of m a x who).may
     → HubRoomy Enough l m → HubRoomy Enough l (step_of m a x who).after
 step-hub Enough l m a x actor.Env who is may r = env-hub Enough l m a x.reply.out m.env.frames (sym (ap (λ (y : Entry). y.reply.out) is)) may r
-step-hub Enough l m a x (actor.Thread t) who is may r = other-hub Enough l m x (ap is_environment who) is may r
-step-hub Enough l m a x (actor.Worker w) who is may r = other-hub Enough l m x (ap is_environment who) is may r
+step-hub Enough l m a x _ who is may r = other-hub Enough l m x (ap is_environment who) is may r
 
 pub hub-run : (Enough : Type 0) (l : Limits) (m : Machine) (bs : List Ask) (xs : List Entry) → HubRoomy Enough l m → IsRunBy m bs xs → HubRoomy Enough l (final m bs xs)
 hub-run Enough l m (a ∷ bs) (x ∷ xs) r n = hub-run Enough l (after m a x) bs xs (step-hub Enough l m a x x.actor refl n.0.0 n.0.1 r) n.1

@@ -31,22 +31,19 @@ use Rattle.napi_types.proofs.runs.Runs.{run-more, final-more, asked-more, regist
 -- the step of another actor is the hub's
 pub others-step : (m : Machine) (a : Ask) (x : Entry) (who : Actor) → is_environment who ≡ false → step_of m a x who ≡ other_step m x
 others-step m a x actor.Env other = cc
-others-step m a x (actor.Thread t) other = refl
-others-step m a x (actor.Worker w) other = refl
+others-step m a x _ other = refl
 
 -- it asks nothing of an addon, and keeps no register
 others-ask : (built : Call → Bool) (ps : List Plan) (rss : Registers) (m : Machine) (a : Ask) (who : Actor) → is_environment who ≡ false → asked built ps rss m a who ≡ ask.Leave None
 others-ask built ps rss m a actor.Env other = cc
-others-ask built ps rss m a (actor.Thread t) other = refl
-others-ask built ps rss m a (actor.Worker w) other = refl
+others-ask built ps rss m a _ other = refl
 
 others-keep : (ps : List Plan) (rss : Registers) (m : Machine) (a : Ask) (x : Entry) → is_environment x.actor ≡ false → registers_after ps rss m a x ≡ rss
 others-keep ps rss m a x other = by x.actor other
   where
     by : (who : Actor) → is_environment who ≡ false → after_entry ps rss m a x who ≡ rss
     by actor.Env other = cc
-    by (actor.Thread t) other = refl
-    by (actor.Worker w) other = refl
+    by _ other = refl
 
 -- its entry may come next
 others-next : (m : Machine) (x : Entry) → is_environment x.actor ≡ false → IsHubNext m.hub x → IsTrue (fits_in (history_room m.hub m.history_length m.limits.history) x.what)

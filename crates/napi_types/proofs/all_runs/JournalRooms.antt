@@ -52,7 +52,7 @@ use Rattle.napi_types.proofs.environment.Registrations.{none-asked, none-ended, 
 use Rattle.napi_types.proofs.hub.HubDuties.{delivery-of_hub}
 use Rattle.napi_types.proofs.runs.CallRooms.{local-room, not-full}
 use Rattle.napi_types.proofs.runs.SharedSteps.{after_shared-alone, shares-still, moves-still, others-still, end-stage}
-use Rattle.napi_types.proofs.runs.StepCases.{StepCase, calls, ends, opens, inits, begins, vanishes, shares, leaves, passes, moves, others, stage-moved, step-case}
+use Rattle.napi_types.proofs.runs.StepCases.{StepCase, ends, inits, begins, shares, leaves, passes, moves, others, stage-moved, step-case}
 
 abbrev pub is_init : Phase → Bool
 is_init phase.Init = true
@@ -388,8 +388,7 @@ other-room Enough l m x other r = record {
 step-room : (Enough : Type 0) (l : Limits) (m : Machine) (a : Ask) (x : Entry) (who : Actor) → x.actor ≡ who → Roomy Enough l m → IsTrue (step_of m a x who).may
     → Roomy Enough l (step_of m a x who).after
 step-room Enough l m a x actor.Env is r h = env-room Enough l m a x.reply.out m.env.frames refl r h
-step-room Enough l m a x (actor.Thread n) is r h = other-room Enough l m x (ap is_environment is) r
-step-room Enough l m a x (actor.Worker n) is r h = other-room Enough l m x (ap is_environment is) r
+step-room Enough l m a x _ is r h = other-room Enough l m x (ap is_environment is) r
 
 run-room : (Enough : Type 0) (l : Limits) (m : Machine) (bs : List Ask) (xs : List Entry) → Roomy Enough l m → IsRunBy m bs xs → Roomy Enough l (final m bs xs)
 run-room Enough l m (a ∷ bs) (x ∷ xs) r n = run-room Enough l (after m a x) bs xs (step-room Enough l m a x x.actor refl r n.0.1) n.1
@@ -410,21 +409,15 @@ one-shared j k = omega arith
 
 move-counted : (m : Machine) (move : HubMove) → entries (move_step m move).after ≡ suc (entries m)
 move-counted m (Delivers d) = one-shared m.journal_length m.history_length
-move-counted m (Closes n) = one-shared m.journal_length m.history_length
-move-counted m (Finishes n) = one-shared m.journal_length m.history_length
+move-counted m _ = one-shared m.journal_length m.history_length
 
 step-counted : (m : Machine) (s : Step) → StepCase m s → entries s.after ≡ suc (entries m)
-step-counted m _ (calls c n may local) = one-local m.journal_length m.history_length
-step-counted m _ (ends v cut may local) = one-local m.journal_length m.history_length
-step-counted m _ opens = one-local m.journal_length m.history_length
-step-counted m _ (inits n) = one-local m.journal_length m.history_length
-step-counted m _ (begins n r there next may) = one-local m.journal_length m.history_length
-step-counted m _ (vanishes here) = one-local m.journal_length m.history_length
 step-counted m _ (shares c o is) = one-shared m.journal_length m.history_length
 step-counted m _ (leaves v cut may is) = one-shared m.journal_length m.history_length
 step-counted m _ (passes p o passed) = one-shared m.journal_length m.history_length
 step-counted m _ (moves move next moving alone) = move-counted m move
 step-counted m _ (others x other) = one-shared m.journal_length m.history_length
+step-counted m _ _ = one-local m.journal_length m.history_length
 
 one-more : (now before n after : ℕ) → now ≡ suc before → after ≡ now + n → after ≡ before + suc n
 one-more now before n after e h = omega (arith, e, h)

@@ -35,7 +35,7 @@ use Rattle.napi_types.specs.hub.HubCalls.{is_thread_call}
 use Rattle.napi_types.specs.hub.HubMoves.{HubMove, Delivers, Closes, Finishes}
 use Rattle.napi_types.specs.hub.HubSteps.{hub_step, delivery_entry}
 use Rattle.napi_types.specs.runs.Choice.{choice}
-use Rattle.napi_types.specs.runs.Loop.{Event, Opens, Inits, Tickets, Moves, Goes, EndsLoop, Drains, FinalsCome, IsGone}
+use Rattle.napi_types.specs.runs.Loop.{Event, Tickets, Moves, Goes, EndsLoop, Drains, FinalsCome}
 use Rattle.napi_types.specs.runs.Machine.{Machine}
 use Rattle.napi_types.specs.runs.Run.{after, IsNext, IsRunBy}
 use Rattle.napi_types.specs.runs.Step.{Step, by_hub, ticket_step, move_step, event_step, chosen, may_cut, shared_call_step, call_step_on, end_step_on, asked_step, frame_step, env_step, has_room, other_step, step_of, step}
@@ -66,15 +66,13 @@ great-other : (m : Machine) (event : HostStep) (p : Phase) (o : Out) → IsColle
 great-other m event p o is = hub-other m (host_entry event o) (λ no. cc) is
 
 event-other : (m : Machine) (event : Event) → IsCollection (event_step m event).entry → ⊥
-event-other m Opens is = cc
-event-other m (Inits n) is = cc
 event-other m (Tickets n) is = ticket-other m n (registration_at m.env.book n) is
 event-other m (Moves move) is = move-other m move is
 event-other m Goes is = great-other m host.Go phase.Live out.Nothing is
 event-other m (EndsLoop w) is = great-other m host.LoopEnd phase.Hooks (out.Ended w) is
 event-other m Drains is = great-other m host.Drain phase.Drain (out.Unsigned (length m.hub.pool.queued)) is
 event-other m FinalsCome is = great-other m host.Finals phase.Finals out.Nothing is
-event-other m IsGone is = cc
+event-other m _ is = cc
 
 chosen-other : (m : Machine) (event : Option Event) → IsCollection (chosen m event).entry → ⊥
 chosen-other m None is = cc

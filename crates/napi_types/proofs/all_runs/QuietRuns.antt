@@ -56,12 +56,12 @@ use Rattle.napi_types.specs.all_runs.Alone.{IsAlone, is_shared_ask, IsQuiet, IsQ
 use Rattle.napi_types.specs.all_runs.Counts.{is_duty, made, dropped, begun}
 use Rattle.napi_types.specs.all_runs.Laws.{RunsAloneAreQuiet, OnlyTicketsAreMade, is_ticket}
 use Rattle.napi_types.proofs.plain.Conditions.{and-left, and-right}
-use Rattle.napi_types.proofs.parts.BookSteps.{BookStep, stays, adds, drops, collects, swaps}
+use Rattle.napi_types.proofs.parts.BookSteps.{BookStep, stays}
 use Rattle.napi_types.proofs.environment.Answers.{answer-keeps}
 use Rattle.napi_types.proofs.environment.FrameChanges.{ended-keeps, KeepsAndEnters, enter_change-keeps}
 use Rattle.napi_types.proofs.environment.FrameEnds.{Ends, ended-ends}
 use Rattle.napi_types.proofs.hub.HubKeeps.{answered-may}
-use Rattle.napi_types.proofs.all_runs.Onces.{TicketStep, called, began, ended, EntryTickets, nothing, phase-is, end-is, asked-is, made-cons, dropped-cons, begun-cons}
+use Rattle.napi_types.proofs.all_runs.Onces.{TicketStep, called, began, EntryTickets, nothing, phase-is, end-is, asked-is, made-cons, dropped-cons, begun-cons}
 
 -- THE HUB
 -- it has nothing to do
@@ -208,15 +208,11 @@ record SparesHub (made dropped begun : Option Duty) : Type 0 where
 
 book-spares : (addon : ℕ) (b : Book) (made dropped : Option Duty) (c : Book) → BookStep addon b made dropped c → SparesHub made dropped None
 book-spares addon b _ _ _ (stays c e) = record { unmade = refl; undropped = refl; unbegun = refl }
-book-spares addon b _ _ _ (adds r c new who why e) = record { unmade = refl; undropped = refl; unbegun = refl }
-book-spares addon b _ _ _ (drops n c is e) = record { unmade = refl; undropped = refl; unbegun = refl }
-book-spares addon b _ _ _ (collects test c e) = record { unmade = refl; undropped = refl; unbegun = refl }
-book-spares addon b _ _ _ (swaps n r c is new who why e) = record { unmade = refl; undropped = refl; unbegun = refl }
+book-spares addon b _ _ _ _ = record { unmade = refl; undropped = refl; unbegun = refl }
 
 ticket-spares : (b : Book) (made dropped begun : Option Duty) (c : Book) → TicketStep b made dropped begun c → SparesHub made dropped begun
 ticket-spares b _ _ _ _ (called addon made dropped c s) = book-spares addon b made dropped c s
-ticket-spares b _ _ _ _ (began p n r c there may e) = record { unmade = refl; undropped = refl; unbegun = refl }
-ticket-spares b _ _ _ _ (ended n c e) = record { unmade = refl; undropped = refl; unbegun = refl }
+ticket-spares b _ _ _ _ _ = record { unmade = refl; undropped = refl; unbegun = refl }
 
 quiet-entry : (b : Book) (x : Entry) (c : Book) → TellsQuiet x → EntryTickets b x c → IsQuietEntry x
 quiet-entry b x c tells tickets =

@@ -161,9 +161,8 @@ chosen-init m k is = by m.env.phase is
     by phase.Init is = init m.env.opened (nat_lt m.env.inits m.env.addons) refl is
     by phase.Live is = live m.env.exit_asked (lowest_due m.env.book) is
     by phase.Hooks is = hooks (option_map (λ (h : Hook). h.ticket) (last_hook m.env.hooks)) is
-    by phase.Drain is = no hub refl is
     by phase.Finals is = finals (lowest_due m.env.book) is
-    by phase.Gone is = no hub refl is
+    by _ is = no hub refl is
 
 -- THE HUB AT AN EVENT
 abbrev step_by : Hub → Entry → Actor → What → HubStep
@@ -291,7 +290,6 @@ move-step-owned n m (Finishes f) next k = record {
 }
 
 event-step-owned : (n : ℕ) (m : Machine) (v : Event) → choice m ≡ Some v → AreOfScript n m → StepOwned n (event_step m v)
-event-step-owned n m Opens is k = record { addons = k.addons; env = record { frames = k.env.frames; functions = k.env.functions; tickets = k.env.tickets }; hub = k.hub }
 event-step-owned n m (Inits i) is k = record { addons = k.addons; env = owned-init n m.env i (subst (λ a. i < a) k.addons (chosen-init m i is)) k.env; hub = k.hub }
 event-step-owned n m (Tickets t) is k = ticket-step-owned n m t (registration_at m.env.book t) refl k
 event-step-owned n m (Moves move) is k = move-step-owned n m move (chosen-move m move is) k
@@ -299,7 +297,7 @@ event-step-owned n m Goes is k = great-owned n m host.Go phase.Live out.Nothing 
 event-step-owned n m (EndsLoop w) is k = great-owned n m host.LoopEnd phase.Hooks (out.Ended w) k
 event-step-owned n m Drains is k = great-owned n m host.Drain phase.Drain (out.Unsigned (length m.hub.pool.queued)) k
 event-step-owned n m FinalsCome is k = great-owned n m host.Finals phase.Finals out.Nothing k
-event-step-owned n m IsGone is k = record { addons = k.addons; env = record { frames = k.env.frames; functions = k.env.functions; tickets = k.env.tickets }; hub = k.hub }
+event-step-owned n m _ is k = record { addons = k.addons; env = record { frames = k.env.frames; functions = k.env.functions; tickets = k.env.tickets }; hub = k.hub }
 
 chosen-owned : (n : ℕ) (m : Machine) (o : Option Event) → choice m ≡ o → AreOfScript n m → StepOwned n (chosen m o)
 chosen-owned n m None is k = k
@@ -315,8 +313,7 @@ other-owned n m x other may k =
 
 step-owned : (n : ℕ) (m : Machine) (a : Ask) (x : Entry) (who : Actor) → x.actor ≡ who → IsTrue (step_of m a x who).may → AreOfScript n m → StepOwned n (step_of m a x who)
 step-owned n m a x actor.Env is may k = env-owned n m a x.reply.out m.env.frames refl k
-step-owned n m a x (actor.Thread t) is may k = other-owned n m x (ap is_environment is) may k
-step-owned n m a x (actor.Worker w) is may k = other-owned n m x (ap is_environment is) may k
+step-owned n m a x _ is may k = other-owned n m x (ap is_environment is) may k
 
 run-owned : (n : ℕ) (m : Machine) (bs : List Ask) (xs : List Entry) → IsRunBy m bs xs → AreOfScript n m → AreOfScript n (final m bs xs)
 run-owned n m (a ∷ bs) (x ∷ xs) run k = run-owned n (after m a x) bs xs run.1 (step-owned n m a x x.actor refl run.0.1 k)

@@ -73,10 +73,7 @@ module _ (P : Registration → Type 0) (moves : KeptByMoves P) where
 
   duty-all : (d : Option Duty) (b : Book) → All P b → All P (duty_ended d b)
   duty-all (Some (duty.Ticket t)) b all = All-moved P made_ended (moves Ends) (λ m. m == t.0) b all
-  duty-all (Some (duty.Work n)) b all = all
-  duty-all (Some (duty.Item f n)) b all = all
-  duty-all (Some (duty.Function f)) b all = all
-  duty-all None b all = all
+  duty-all _ b all = all
 
   left-all : (c : Cause) (d : Option Duty) (b : Book) → All P b → All P (book_left c d b)
   left-all cause.Call d b all = all

@@ -21,7 +21,7 @@ use Rattle.napi_types.specs.environment.Moments.{is_tearing}
 use Rattle.napi_types.specs.environment.Refusals.{refusal}
 use Rattle.napi_types.proofs.plain.Found.{same-self, next-above}
 use Rattle.napi_types.proofs.plain.Lists.{find-first}
-use Rattle.napi_types.proofs.parts.BookSteps.{BookStep, stays, adds, drops, collects, swaps}
+use Rattle.napi_types.proofs.parts.BookSteps.{BookStep, stays, drops, collects}
 use Rattle.napi_types.proofs.parts.Books.{NoneRegistered}
 use Rattle.napi_types.proofs.parts.Moved.{registration_at-moved_where, cause_at-moved_where}
 use Rattle.napi_types.proofs.parts.Moves.{Move, Falls, Withdraws, Begins, Ends, next, registered-before, due-moved}
@@ -72,10 +72,9 @@ begun-more n book = moved-more Begins (λ m. m == n) book
 -- one that makes no duty, as is each in the teardown
 step-more : (addon : ℕ) (b : Book) (made dropped : Option Duty) (c : Book) → made ≡ None → BookStep addon b made dropped c → NoneMore b c
 step-more addon b _ _ _ none (stays c e) = same-more b c e
-step-more addon b _ _ _ none (adds r c s who why e) = cc
 step-more addon b _ _ _ none (drops n c h e) = subst (λ (d : Book). NoneMore b d) (sym e) (moved-more Withdraws (λ m. m == n) b)
 step-more addon b _ _ _ none (collects test c e) = subst (λ (d : Book). NoneMore b d) (sym e) (moved-more Falls test b)
-step-more addon b _ _ _ none (swaps n r c h s who why e) = cc
+step-more addon b _ _ _ none _ = cc
 
 call-more : (e : Environment) (c : Call) (n : ℕ) → is_tearing e.phase ≡ true → NoneMore e.book (call_change e c n).after.book
 call-more e c n tearing = step-more (caller_of e.frames) e.book _ _ _ (torn-makes-none e c n tearing) (call_change-keeps e c n).book
@@ -94,10 +93,7 @@ asked-more e c n tearing = call-more e c n tearing
 -- THE END OF A FRAME
 duty-more : (d : Option Duty) (book : Book) → NoneMore book (duty_ended d book)
 duty-more (Some (duty.Ticket t)) book = moved-more Ends (λ m. m == t.0) book
-duty-more (Some (duty.Work w)) book = same-more book book refl
-duty-more (Some (duty.Item f n)) book = same-more book book refl
-duty-more (Some (duty.Function f)) book = same-more book book refl
-duty-more None book = same-more book book refl
+duty-more _ book = same-more book book refl
 
 pub left-more : (c : Cause) (d : Option Duty) (book : Book) → NoneMore book (book_left c d book)
 left-more cause.Call d book = same-more book book refl

@@ -17,7 +17,7 @@ use Rattle.napi_types.specs.hub.HubSteps.{IsHubNext, hub_step, hub_along}
 use Rattle.napi_types.specs.hub.Replays.{HubReplays}
 use Rattle.napi_types.proofs.plain.Found.{IsRising, same-tells, apart-above, rising-filter, rising-with_record}
 use Rattle.napi_types.proofs.plain.Maps.{filter_all, one-below}
-use Rattle.napi_types.proofs.hub.HubCases.{HubCase, hub-case, asks, creates_work, deletes_work, cancels_work, queues_work, creates_function, alters, goes, ends_loop, drains, comes_to_finals, delivers, closes, finishes, ends, thread_ends, worker_ends, starts, finishes_work}
+use Rattle.napi_types.proofs.hub.HubCases.{HubCase, hub-case, cancels_work, delivers, ends, starts, finishes_work}
 use Rattle.napi_types.proofs.hub.HubHolds.{AreSound, functions-sound}
 use Rattle.napi_types.proofs.hub.HubRooms.{left-without}
 
@@ -104,25 +104,11 @@ left-duty-one h (duty.Work n) one = one
 left-duty-one h _ one = one
 
 executions-one : (h : Hub) (x : Entry) (told : Out) (n : Hub) → ExecutesOne h.pool → HubCase h x told n → ExecutesOne n.pool
-executions-one h x told _ one (asks c is shared) = one
-executions-one h x told _ one (creates_work job entry payload addon is fresh tells) = one
-executions-one h x told _ one (deletes_work w is none) = one
 executions-one h x told _ one (cancels_work w is none) = cancelled-one h.pool (number_of_work h.pool w.0) one
-executions-one h x told _ one (queues_work w is none early) = one
-executions-one h x told _ one (creates_function f entry maximum count finalizer context addon target is early) = one
-executions-one h x told _ one (alters c k f change is there how) = one
-executions-one h x told _ one (goes is may) = one
-executions-one h x told _ one (ends_loop is may) = one
-executions-one h x told _ one (drains is may) = one
-executions-one h x told _ one (comes_to_finals is may) = one
 executions-one h x told _ one (delivers d is next alone) = left-duty-one h d.duty one
-executions-one h x told _ one (closes n is next) = one
-executions-one h x told _ one (finishes n is next) = one
-executions-one h x told _ one (ends d is stands) = one
-executions-one h x told _ one (thread_ends t is there) = one
-executions-one h x told _ one (worker_ends w is there) = one
 executions-one h x told _ one (starts w n later is waits free) = started-one h.pool w h.pool.queued one
 executions-one h x told _ one (finishes_work w n is runs) = finished-one h.pool w (executed_by h.pool w) one
+executions-one h x told _ one _ = one
 
 -- ALONG A HISTORY
 -- what holds of every hub to which a history leads

@@ -159,21 +159,15 @@ loop_end-case h x _ is may = cc
 
 begin-case : (h : Hub) (x : Entry) (o : Option HubMove) → hub_move h ≡ o → x.what ≡ what.Host host.Begin → StepsTo h x (begin_step h x o)
 begin-case h x (Some (Delivers d)) next is may = delivers d is next (and-right _ (is_none h.standing) may)
-begin-case h x None next is may = cc
-begin-case h x (Some (Closes n)) next is may = cc
-begin-case h x (Some (Finishes n)) next is may = cc
+begin-case h x _ next is may = cc
 
 close-case : (h : Hub) (x : Entry) (o : Option HubMove) → hub_move h ≡ o → x.what ≡ what.Host host.CloseTsfn → StepsTo h x (close_step h x o)
 close-case h x (Some (Closes n)) next is may = closes n is next
-close-case h x None next is may = cc
-close-case h x (Some (Delivers d)) next is may = cc
-close-case h x (Some (Finishes n)) next is may = cc
+close-case h x _ next is may = cc
 
 finish-case : (h : Hub) (x : Entry) (o : Option HubMove) → hub_move h ≡ o → x.what ≡ what.Host host.FinishTsfn → StepsTo h x (finish_step h x o)
 finish-case h x (Some (Finishes n)) next is may = finishes n is next
-finish-case h x None next is may = cc
-finish-case h x (Some (Delivers d)) next is may = cc
-finish-case h x (Some (Closes n)) next is may = cc
+finish-case h x _ next is may = cc
 
 frame_end-case : (h : Hub) (x : Entry) (o : Option DueInfo) → h.standing ≡ o → x.what ≡ what.Host host.End → StepsTo h x (frame_end_step h x o)
 frame_end-case h x None stands is may = cc

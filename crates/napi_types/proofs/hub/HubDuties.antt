@@ -168,22 +168,16 @@ loop_end-spares h x _ ok = cc
 
 -- the duty whose frame begins is the hub's
 begin-spares : (h : Hub) (x : Entry) (o : Option HubMove) → hub_move h ≡ o → IsTrue (begin_step h x o).may → SparesTickets (begin_step h x o).entry
-begin-spares h x None next ok = cc
 begin-spares h x (Some (Delivers d)) next ok = record { dropped = refl; made = tt; begun = (delivery-of_hub h d next).ours }
-begin-spares h x (Some (Closes n)) next ok = cc
-begin-spares h x (Some (Finishes n)) next ok = cc
+begin-spares h x _ next ok = cc
 
 close-spares : (h : Hub) (x : Entry) (o : Option HubMove) → IsTrue (close_step h x o).may → SparesTickets (close_step h x o).entry
-close-spares h x None ok = cc
-close-spares h x (Some (Delivers d)) ok = cc
 close-spares h x (Some (Closes n)) ok = record { dropped = refl; made = tt; begun = tt }
-close-spares h x (Some (Finishes n)) ok = cc
+close-spares h x _ ok = cc
 
 finish-spares : (h : Hub) (x : Entry) (o : Option HubMove) → IsTrue (finish_step h x o).may → SparesTickets (finish_step h x o).entry
-finish-spares h x None ok = cc
-finish-spares h x (Some (Delivers d)) ok = cc
-finish-spares h x (Some (Closes n)) ok = cc
 finish-spares h x (Some (Finishes n)) ok = record { dropped = refl; made = tt; begun = tt }
+finish-spares h x _ ok = cc
 
 frame_end-spares : (h : Hub) (x : Entry) (d : Option DueInfo) → IsTrue (frame_end_step h x d).may → SparesTickets (frame_end_step h x d).entry
 frame_end-spares h x None ok = cc

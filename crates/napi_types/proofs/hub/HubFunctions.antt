@@ -21,7 +21,7 @@ use Rattle.napi_types.specs.parts.Functions.{FunctionState, with_item_taken, is_
 use Rattle.napi_types.specs.hub.HistoryRoom.{state_places, function_places}
 use Rattle.napi_types.specs.hub.HubMoves.{HubMove, Delivers, Closes, Finishes, function_move_in, function_move, first_move}
 use Rattle.napi_types.proofs.plain.Found.{apart-above, apart-below, same-self}
-use Rattle.napi_types.proofs.hub.HubCases.{Alters, calls, acquires, releases, references, unreferences}
+use Rattle.napi_types.proofs.hub.HubCases.{Alters, calls, acquires, releases}
 
 -- WHAT HOLDS
 -- a function that is finished
@@ -138,9 +138,7 @@ called-open who m f is = by (f.count == 0) (is_open f.state) is
 
 over-open : (s : TsfnState) → is_open s ≡ true → is_over s ≡ true → ⊥
 over-open Open opened over = cc
-over-open Closing opened over = cc
-over-open Finished opened over = cc
-over-open Done opened over = cc
+over-open _ opened over = cc
 
 item-more : (p n m : ℕ) → m ≡ n + 1 → p + 2 * m + 1 ≤ p + 2 * n + 3
 item-more p n m e = omega (arith, e)
@@ -161,24 +159,18 @@ acquired-grows drained f _ = record { id = refl; sound = λ s. s; room = omega a
 -- a function that is closed
 closed-over : (s : TsfnState) → is_over (closed_state s) ≡ is_over s
 closed-over Open = refl
-closed-over Closing = refl
-closed-over Finished = refl
-closed-over Done = refl
+closed-over _ = refl
 
 closed-shut : (s : TsfnState) → is_open (closed_state s) ≡ false
 closed-shut Open = refl
-closed-shut Closing = refl
-closed-shut Finished = refl
-closed-shut Done = refl
+closed-shut _ = refl
 
 closed-sound : (drained late : Bool) (f : FunctionState) → IsSound drained f → IsSound late (closed f)
 closed-sound drained late f s = record { settled = λ over. s.settled (sym (closed-over f.state) ∙ over); shut = λ is. closed-shut f.state }
 
 closed-places : (finalizer : Option ℕ) (s : TsfnState) → state_places finalizer (closed_state s) ≤ state_places finalizer s
 closed-places finalizer Open = omega arith
-closed-places finalizer Closing = omega arith
-closed-places finalizer Finished = omega arith
-closed-places finalizer Done = omega arith
+closed-places finalizer _ = omega arith
 
 pub closed-le : (f : FunctionState) → function_places (closed f) ≤ function_places f
 closed-le f = omega (arith, closed-places f.finalizer f.state)
@@ -205,8 +197,7 @@ pub alters-grows : (drained : Bool) (f : FunctionState) (c : Call) (change : Fun
 alters-grows drained f _ _ (calls n payload m who s tells) = called-grows drained f payload s (λ is. called-open who m f (tells ∙ ap Some is))
 alters-grows drained f _ _ (acquires n) = acquired-grows drained f (acquire_status f)
 alters-grows drained f _ _ (releases n m) = released-grows drained f (release_status f) m
-alters-grows drained f _ _ (references n) = record { id = refl; sound = λ s. record { settled = s.settled; shut = s.shut }; room = omega arith }
-alters-grows drained f _ _ (unreferences n) = record { id = refl; sound = λ s. record { settled = s.settled; shut = s.shut }; room = omega arith }
+alters-grows drained f _ _ _ = record { id = refl; sound = λ s. record { settled = s.settled; shut = s.shut }; room = omega arith }
 
 -- WHAT A MOVE DOES
 -- one that takes so many places less

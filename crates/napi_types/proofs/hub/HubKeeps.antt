@@ -121,22 +121,16 @@ loop_end-what h x (out.Ended w) is = sym is
 loop_end-what h x _ is = refl
 
 begin-what : (h : Hub) (x : Entry) (o : Option HubMove) → x.what ≡ what.Host host.Begin → (begin_step h x o).entry.what ≡ x.what
-begin-what h x None is = refl
 begin-what h x (Some (Delivers d)) is = sym is
-begin-what h x (Some (Closes n)) is = refl
-begin-what h x (Some (Finishes n)) is = refl
+begin-what h x _ is = refl
 
 close-what : (h : Hub) (x : Entry) (o : Option HubMove) → x.what ≡ what.Host host.CloseTsfn → (close_step h x o).entry.what ≡ x.what
-close-what h x None is = refl
-close-what h x (Some (Delivers d)) is = refl
 close-what h x (Some (Closes n)) is = sym is
-close-what h x (Some (Finishes n)) is = refl
+close-what h x _ is = refl
 
 finish-what : (h : Hub) (x : Entry) (o : Option HubMove) → x.what ≡ what.Host host.FinishTsfn → (finish_step h x o).entry.what ≡ x.what
-finish-what h x None is = refl
-finish-what h x (Some (Delivers d)) is = refl
-finish-what h x (Some (Closes n)) is = refl
 finish-what h x (Some (Finishes n)) is = sym is
+finish-what h x _ is = refl
 
 frame_end-what : (h : Hub) (x : Entry) (d : Option DueInfo) → x.what ≡ what.Host host.End → (frame_end_step h x d).entry.what ≡ x.what
 frame_end-what h x None is = refl

@@ -250,22 +250,16 @@ left-owned n (duty.Function f) h o = function-owned n f.0 done h (λ i y here. k
 left-owned n (duty.Ticket t) h o = o
 
 begin-owned : (n : ℕ) (h : Hub) (x : Entry) (o : Option HubMove) → IsOwnedHub n h → IsOwnedHub n (begin_step h x o).after
-begin-owned n h x None k = k
 begin-owned n h x (Some (Delivers d)) k = let l : IsOwnedHub n (without_duty d.duty h) = left-owned n d.duty h k in record { works = l.works; functions = l.functions }
-begin-owned n h x (Some (Closes m)) k = k
-begin-owned n h x (Some (Finishes m)) k = k
+begin-owned n h x _ k = k
 
 close-owned : (n : ℕ) (h : Hub) (x : Entry) (o : Option HubMove) → IsOwnedHub n h → IsOwnedHub n (close_step h x o).after
-close-owned n h x None k = k
-close-owned n h x (Some (Delivers d)) k = k
 close-owned n h x (Some (Closes m)) k = function-owned n m closed h (λ i y here. keeps-plainly i y _ refl refl here) k
-close-owned n h x (Some (Finishes m)) k = k
+close-owned n h x _ k = k
 
 finish-owned : (n : ℕ) (h : Hub) (x : Entry) (o : Option HubMove) → IsOwnedHub n h → IsOwnedHub n (finish_step h x o).after
-finish-owned n h x None k = k
-finish-owned n h x (Some (Delivers d)) k = k
-finish-owned n h x (Some (Closes m)) k = k
 finish-owned n h x (Some (Finishes m)) k = function-owned n m finished h (λ i y here. keeps-plainly i y _ refl refl here) k
+finish-owned n h x _ k = k
 
 frame_end-owned : (n : ℕ) (h : Hub) (x : Entry) (d : Option DueInfo) → IsOwnedHub n h → IsOwnedHub n (frame_end_step h x d).after
 frame_end-owned n h x None k = k

@@ -13,7 +13,7 @@ use Rattle.napi_types.specs.declared.entry.Out.{Out}
 use Rattle.napi_types.specs.declared.entry.HostStep.{HostStep}
 use Rattle.napi_types.specs.declared.entry.HostStep.TheVariants as host
 use Rattle.napi_types.specs.declared.entry.TsfnState.{TsfnState}
-use Rattle.napi_types.specs.declared.entry.TsfnState.TheVariants.{Open, Closing, Finished, Done}
+use Rattle.napi_types.specs.declared.entry.TsfnState.TheVariants.{Open, Closing}
 use Rattle.napi_types.specs.declared.entry.What.{What}
 use Rattle.napi_types.specs.declared.entry.What.TheVariants as what
 use Rattle.napi_types.specs.declared.status.Status.{Status}
@@ -33,7 +33,7 @@ use Rattle.napi_types.specs.hub.HubSteps.{IsHubNext, hub_step, hub_step_of, hub_
 use Rattle.napi_types.specs.hub.Replays.{HubReplays}
 use Rattle.napi_types.proofs.plain.Found.{has-found}
 use Rattle.napi_types.proofs.hub.Executions.{loses-one, wins-one, left-one, HoldsOfHub, step-holds, led-holds}
-use Rattle.napi_types.proofs.hub.HubCases.{HubCase, hub-case, asks, creates_work, deletes_work, cancels_work, queues_work, creates_function, alters, goes, ends_loop, drains, comes_to_finals, delivers, closes, finishes, ends, thread_ends, worker_ends, starts, finishes_work, Alters, calls, acquires, releases, references, unreferences}
+use Rattle.napi_types.proofs.hub.HubCases.{HubCase, hub-case, asks, creates_work, deletes_work, cancels_work, queues_work, creates_function, alters, goes, ends_loop, drains, comes_to_finals, delivers, closes, finishes, ends, thread_ends, worker_ends, starts, finishes_work, Alters, calls, acquires, releases}
 use Rattle.napi_types.proofs.hub.HubFunctions.{IsAmong, found-among}
 use Rattle.napi_types.proofs.hub.HubKeeps.{other-calls}
 
@@ -102,9 +102,7 @@ same-lowers-nothing h = by (reserved_history h)
 -- A FUNCTION
 closed-state-lowers-nothing : (finalizer : Option ℕ) (s : TsfnState) → state_places finalizer s ≤ state_places finalizer (closed_state s) + 1
 closed-state-lowers-nothing finalizer Open = omega arith
-closed-state-lowers-nothing finalizer Closing = omega arith
-closed-state-lowers-nothing finalizer Finished = omega arith
-closed-state-lowers-nothing finalizer Done = omega arith
+closed-state-lowers-nothing finalizer _ = omega arith
 
 item-lowers-nothing : (p n m : ℕ) → m ≡ n + 1 → p + 2 * n ≤ p + 2 * m + 1
 item-lowers-nothing p n m e = omega (arith, e)
@@ -129,8 +127,7 @@ alters-lowers-nothing : (f : FunctionState) (c : Call) (change : FunctionState �
 alters-lowers-nothing f _ _ (calls n payload m who s tells) = called-lowers-nothing f payload s
 alters-lowers-nothing f _ _ (acquires n) = acquired-lowers-nothing f (acquire_status f)
 alters-lowers-nothing f _ _ (releases n m) = released-lowers-nothing f (release_status f) m
-alters-lowers-nothing f _ _ (references n) = omega arith
-alters-lowers-nothing f _ _ (unreferences n) = omega arith
+alters-lowers-nothing f _ _ _ = omega arith
 
 function-lowers-nothing : (late : Bool) (h : Hub) (f : FunctionState) (change : FunctionState → FunctionState) → IsAmong late 1 h.functions f
     → function_places f ≤ function_places (change f) + 1 → LowersNothing h (in_function f.id change h)

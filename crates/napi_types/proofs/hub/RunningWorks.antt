@@ -385,9 +385,7 @@ drains-well p sound =
 
 duty-well : (d : Duty) (h : Hub) → IsSoundPool h.pool → StepsWell h.pool (without_duty d h).pool
 duty-well (duty.Work n) h sound = completes h.pool sound
-duty-well (duty.Item f n) h sound = still h.pool sound
-duty-well (duty.Function f) h sound = still h.pool sound
-duty-well (duty.Ticket t) h sound = still h.pool sound
+duty-well _ h sound = still h.pool sound
 
 -- AN ENTRY
 -- an entry that creates a work has a number that was never issued, unless it changes nothing

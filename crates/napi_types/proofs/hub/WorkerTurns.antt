@@ -92,9 +92,7 @@ is_event_of_others _ = false
 
 duty-leaves : (w : ℕ) (d : Duty) (h : Hub) → LeavesWorker w h (without_duty d h)
 duty-leaves w (duty.Work n) h = record { executed = refl; gone = λ g. g }
-duty-leaves w (duty.Item f n) h = record { executed = refl; gone = λ g. g }
-duty-leaves w (duty.Function f) h = record { executed = refl; gone = λ g. g }
-duty-leaves w (duty.Ticket t) h = record { executed = refl; gone = λ g. g }
+duty-leaves w _ h = record { executed = refl; gone = λ g. g }
 
 never : (x : Entry) (it : What) → x.what ≡ it → is_event_of_others it ≡ true → is_event_of_others x.what ≡ false → ⊥
 never x it is its other = let no : true ≡ false = sym its ∙ sym (ap is_event_of_others is) ∙ other in cc

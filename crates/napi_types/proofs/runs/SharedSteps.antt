@@ -52,22 +52,18 @@ end-stage h x who is = ap (λ (s : HubStep). s.after.stage) (hub_step-end h x wh
 
 -- a move leaves it
 begin-stage : (h : Hub) (x : Entry) (o : Option HubMove) → (begin_step h x o).after.stage ≡ h.stage
-begin-stage h x None = refl
 begin-stage h x (Some (Delivers d)) = duty-stage d.duty h
-begin-stage h x (Some (Closes n)) = refl
-begin-stage h x (Some (Finishes n)) = refl
+begin-stage h x _ = refl
 
 close-stage : (h : Hub) (x : Entry) (o : Option HubMove) → (close_step h x o).after.stage ≡ h.stage
 close-stage h x None = refl
 close-stage h x (Some (Delivers d)) = refl
-close-stage h x (Some (Closes n)) = refl
-close-stage h x (Some (Finishes n)) = refl
+close-stage h x _ = refl
 
 finish-stage : (h : Hub) (x : Entry) (o : Option HubMove) → (finish_step h x o).after.stage ≡ h.stage
 finish-stage h x None = refl
 finish-stage h x (Some (Delivers d)) = refl
-finish-stage h x (Some (Closes n)) = refl
-finish-stage h x (Some (Finishes n)) = refl
+finish-stage h x _ = refl
 
 -- WHAT STANDS STILL
 -- the hub's stage and the phase stay, and so does what is registered and what it hangs on
