@@ -60,12 +60,11 @@ looped-bare h x (out.Ended w) bare = record { closing = bare.closing; pool = bar
 looped-bare h x _ bare = bare
 
 passed-bare : (h : Hub) (p : Phase) (o : Out) → IsBare h → IsBare (hub_step h (host_entry (event_before p) o)).after
-passed-bare h phase.Init o bare = bare
 passed-bare h phase.Live o bare = record { closing = bare.closing; pool = bare.pool; functions = bare.functions }
 passed-bare h phase.Hooks o bare = looped-bare h (host_entry host.LoopEnd o) o bare
 passed-bare h phase.Drain o bare = record { closing = true; pool = ap drained bare.pool; functions = ap (map closed) bare.functions }
 passed-bare h phase.Finals o bare = record { closing = bare.closing; pool = bare.pool; functions = bare.functions }
-passed-bare h phase.Gone o bare = bare
+passed-bare h _ o bare = bare
 
 -- THE ENTRIES OF OTHERS
 thread_event-bare : (h : Hub) (t : ℕ) (x : Entry) (event : HostStep) → IsBare h → IsBare (thread_event h t x event).after

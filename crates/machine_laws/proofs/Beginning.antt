@@ -47,10 +47,7 @@ lowest-chosen : (e : Environment) (p : Phase) (n : ℕ) (o : Option Event) → b
     → option_or (local_choice_in e p) o ≡ Some (Tickets n)
 lowest-chosen e phase.Live n o begins lowest = rw (not-true e.exit_asked begins, lowest) refl
 lowest-chosen e phase.Finals n o begins lowest = rw lowest refl
-lowest-chosen e phase.Init n o begins lowest = cc
-lowest-chosen e phase.Hooks n o begins lowest = cc
-lowest-chosen e phase.Drain n o begins lowest = cc
-lowest-chosen e phase.Gone n o begins lowest = cc
+lowest-chosen e _ n o begins lowest = cc
 
 pub lowest-first : LowestDueTicketComesFirst
 lowest-first m n a x alone begins lowest who next =

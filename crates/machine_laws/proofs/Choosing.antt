@@ -39,7 +39,7 @@ use Rattle.napi_types.specs.runs.Step.{Step, locally, ticket_step, event_step, c
 use Rattle.napi_types.proofs.runs.SharedSteps.{is_of_others, others-none}
 use Rattle.napi_types.proofs.all_runs.ScriptAddons.{chosen-move}
 use Rattle.machine_laws.specs.Choices.{is_of_frames, NoneIsChosenInFrames, TellsFrame, BeginsTellTheirFrames, may_come_to, OwnEventsComeFirst, HubEventsComeLast, MayGo, GoComesAfterInitFrames, GoneComesAfterFinals, HubIsInPhase, GoComesOnlyAfterInitFrames, DrainComesOnlyAfterHooks, FinalsComeOnlyOnceAllEnded}
-use Rattle.machine_laws.proofs.Chosen.{OwnChoice, opens, inits, exits, due_in_loop, hooks, due_at_end, ends, own-choice, NoChoice, begun, unhooked, no-choice, HubChoice, goes, drains, finals, hub-choice, chosen-by}
+use Rattle.machine_laws.proofs.Chosen.{OwnChoice, inits, exits, due_in_loop, hooks, due_at_end, ends, own-choice, NoChoice, begun, unhooked, no-choice, HubChoice, goes, drains, finals, hub-choice, chosen-by}
 use Rattle.machine_laws.proofs.Forms.{Form, form-of, shared-what, ended-what, event_what, event-what, other-what, by-env, frame-next, chosen-next}
 use Rattle.machine_laws.proofs.Forms as form
 use Rattle.machine_laws.proofs.OrderlyRuns.{orderly-run}
@@ -167,13 +167,11 @@ ticket-next m h n (Some r) x next = next
 
 own-next : (m : Machine) (h : Hub) (p : Phase) (v : Event) (x : Entry) → OwnChoice m.env p v → may_come_to h v ≡ true → (x ≡ (event_step m v).entry) × IsTrue (event_step m v).may
     → (x ≡ (event_step (record m { hub = h }) v).entry) × IsTrue (event_step (record m { hub = h }) v).may
-own-next m h _ _ x (opens unopened) comes n = n
-own-next m h _ _ x (inits opened left) comes n = n
 own-next m h _ _ x (exits asked) comes n = (n.0, comes)
 own-next m h _ _ x (due_in_loop k unasked lowest) comes n = ticket-next m h k (registration_at m.env.book k) x n
 own-next m h _ _ x (hooks k last) comes n = ticket-next m h k.ticket (registration_at m.env.book k.ticket) x n
 own-next m h _ _ x (due_at_end k lowest) comes n = ticket-next m h k (registration_at m.env.book k) x n
-own-next m h _ _ x (ends none) comes n = n
+own-next m h _ _ x _ comes n = n
 
 pub own-first : OwnEventsComeFirst
 own-first m v a x alone chosen_own who next =
@@ -285,11 +283,7 @@ hub-in-phase s bs xs run = (orderly-run s bs xs run).stage
 
 before-init : (p : Phase) → Before ≡ stage_of p → p ≡ phase.Init
 before-init phase.Init h = refl
-before-init phase.Live h = cc
-before-init phase.Hooks h = cc
-before-init phase.Drain h = cc
-before-init phase.Finals h = cc
-before-init phase.Gone h = cc
+before-init _ h = cc
 
 pub go-of-runs : GoComesOnlyAfterInitFrames
 go-of-runs s bs xs a x run next is =
@@ -331,11 +325,7 @@ chosen-drain m is = by (chosen-by m Drains is)
 
 looped-hooks : (p : Phase) → Looped ≡ stage_of p → p ≡ phase.Hooks
 looped-hooks phase.Hooks h = refl
-looped-hooks phase.Init h = cc
-looped-hooks phase.Live h = cc
-looped-hooks phase.Drain h = cc
-looped-hooks phase.Finals h = cc
-looped-hooks phase.Gone h = cc
+looped-hooks _ h = cc
 
 none-left : (e : Environment) (p : Phase) → p ≡ phase.Hooks → NoChoice e p → e.hooks ≡ []
 none-left e _ here (unhooked none) = none
@@ -386,11 +376,7 @@ chosen-finals m is = by (chosen-by m FinalsCome is)
 
 drained-phase : (p : Phase) → Drained ≡ stage_of p → p ≡ phase.Drain
 drained-phase phase.Drain h = refl
-drained-phase phase.Init h = cc
-drained-phase phase.Live h = cc
-drained-phase phase.Hooks h = cc
-drained-phase phase.Finals h = cc
-drained-phase phase.Gone h = cc
+drained-phase _ h = cc
 
 pub finals-of-runs : FinalsComeOnlyOnceAllEnded
 finals-of-runs s bs xs a x run next is =

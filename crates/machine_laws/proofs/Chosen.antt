@@ -49,8 +49,7 @@ own-choice e phase.Init v is = init-own e e.opened (nat_lt e.inits e.addons) v r
 own-choice e phase.Live v is = loop-own e e.exit_asked (lowest_due e.book) v refl refl is
 own-choice e phase.Hooks v is = hooks-own e (last_hook e.hooks) v refl is
 own-choice e phase.Finals v is = finals-own e (lowest_due e.book) v refl is
-own-choice e phase.Drain v is = cc
-own-choice e phase.Gone v is = cc
+own-choice e _ v is = cc
 
 -- where it decides nothing alone, in this phase
 pub data NoChoice (e : Environment) : Phase → Type 0 where

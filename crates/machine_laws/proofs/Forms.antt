@@ -69,8 +69,7 @@ env-form m a o (f ∷ fs) stands may = frame-form m f fs stands a o (cut_of o)
 
 of-form : (m : Machine) (a : Ask) (x : Entry) (who : Actor) → x.actor ≡ who → IsTrue (step_of m a x who).may → Form m (step_of m a x who)
 of-form m a x actor.Env is may = env-form m a x.reply.out m.env.frames refl may
-of-form m a x (actor.Thread t) is may = others x (ap is_environment is)
-of-form m a x (actor.Worker w) is may = others x (ap is_environment is)
+of-form m a x _ is may = others x (ap is_environment is)
 
 pub form-of : (m : Machine) (a : Ask) (x : Entry) → IsNext m a x → Form m (step m a x)
 form-of m a x next = of-form m a x x.actor refl next.1
@@ -138,8 +137,7 @@ by-env m a x next ours = by x.actor next.1 refl
 
     by : (who : Actor) → IsTrue (step_of m a x who).may → x.actor ≡ who → who ≡ actor.Env
     by actor.Env may is = refl
-    by (actor.Thread t) may is = absurd (theirs (ap is_environment is) may)
-    by (actor.Worker w) may is = absurd (theirs (ap is_environment is) may)
+    by _ may is = absurd (theirs (ap is_environment is) may)
 
 -- where a frame stands the environment's step is the frame's, ..
 pub frame-next : (m : Machine) (a : Ask) (x : Entry) (f : Frame) (fs : List Frame) → x.actor ≡ actor.Env → m.env.frames ≡ f ∷ fs

@@ -25,7 +25,7 @@ use Rattle.napi_types.specs.environment.Hooked.{is_late}
 use Rattle.napi_types.specs.hub.Hub.{stage_of}
 use Rattle.napi_types.specs.hub.HubMoves.{HubMove, Delivers, Closes, Finishes, hub_move}
 use Rattle.napi_types.specs.runs.Choice.{choice}
-use Rattle.napi_types.specs.runs.Loop.{Event, Opens, Inits, Tickets, Moves, Goes, EndsLoop, Drains, FinalsCome, IsGone}
+use Rattle.napi_types.specs.runs.Loop.{Event, Inits, Tickets, Moves, Goes, EndsLoop, Drains, FinalsCome}
 use Rattle.napi_types.specs.runs.Machine.{Machine}
 use Rattle.napi_types.specs.runs.Run.{IsNext, IsRunBy, after, final}
 use Rattle.napi_types.specs.runs.Setting.{Setting, opening_of, final_of}
@@ -84,7 +84,6 @@ move-nested m (Closes n) next none here = here
 move-nested m (Finishes n) next none here = record { frames = here.frames; uncalled = here.uncalled }
 
 event-nested : (m : Machine) (v : Event) → choice m ≡ Some v → m.env.frames ≡ [] → IsNested m.env → IsNested (event_step m v).after.env
-event-nested m Opens next none here = record { frames = here.frames; uncalled = here.uncalled }
 event-nested m (Inits n) next none here = record { frames = nested-init n m.env none; uncalled = here.uncalled }
 event-nested m (Tickets n) next none here = ticket-nested m n (registration_at m.env.book n) refl none here
 event-nested m (Moves move) next none here = move-nested m move (chosen-move m move next) none here
@@ -92,7 +91,7 @@ event-nested m Goes next none here = phase-nested phase.Live m.env here
 event-nested m (EndsLoop w) next none here = phase-nested phase.Hooks m.env here
 event-nested m Drains next none here = phase-nested phase.Drain m.env here
 event-nested m FinalsCome next none here = phase-nested phase.Finals m.env here
-event-nested m IsGone next none here = record { frames = here.frames; uncalled = here.uncalled }
+event-nested m _ next none here = record { frames = here.frames; uncalled = here.uncalled }
 
 pub form-nested : (m : Machine) (t : Step) → Form m t → IsNested m.env → IsNested t.after.env
 form-nested m _ (form.calls f fs stands c o alone) here = asked-nested m.env c (number_of o) (some-stand f fs m.env.frames stands) here

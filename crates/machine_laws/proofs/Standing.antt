@@ -27,7 +27,7 @@ use Rattle.napi_types.specs.hub.Hub.{Hub}
 use Rattle.napi_types.specs.hub.HubMoves.{HubMove, Delivers, Closes, Finishes, hub_move}
 use Rattle.napi_types.specs.hub.HubSteps.{HubStep, hub_step, begin_step, close_step, finish_step, frame_end_step, delivery_entry}
 use Rattle.napi_types.specs.runs.Choice.{choice}
-use Rattle.napi_types.specs.runs.Loop.{Event, Opens, Inits, Tickets, Moves, Goes, EndsLoop, Drains, FinalsCome, IsGone}
+use Rattle.napi_types.specs.runs.Loop.{Event, Tickets, Moves}
 use Rattle.napi_types.specs.runs.Machine.{Machine}
 use Rattle.napi_types.specs.runs.Run.{IsRunBy, after, final}
 use Rattle.napi_types.specs.runs.Setting.{Setting, opening_of, final_of}
@@ -123,15 +123,9 @@ move-alike m (Finishes n) next alone alike =
     alike ∙ sym (ap (λ o. standing_duties (finish_step m.hub (host_entry host.FinishTsfn (out.Function (record { 0 = n }))) o).after) next)
 
 event-alike : (m : Machine) (v : Event) → choice m ≡ Some v → m.env.frames ≡ [] → StandsAlike m.env m.hub → Alike (event_step m v)
-event-alike m Opens next alone alike = alike
-event-alike m (Inits n) next alone alike = alike
 event-alike m (Tickets n) next alone alike = ticket-alike m n (registration_at m.env.book n) alike
 event-alike m (Moves move) next alone alike = move-alike m move (chosen-move m move next) alone alike
-event-alike m Goes next alone alike = alike
-event-alike m (EndsLoop w) next alone alike = alike
-event-alike m Drains next alone alike = alike
-event-alike m FinalsCome next alone alike = alike
-event-alike m IsGone next alone alike = alike
+event-alike m _ next alone alike = alike
 
 form-alike : (m : Machine) (t : Step) → Form m t → IsTrue t.may → AreNested m.env.frames → StandsAlike m.env m.hub → Alike t
 form-alike m _ (form.calls f fs stands c o alone) may nested alike =

@@ -8,7 +8,7 @@ use Rattle.napi_types.specs.runs.Loop.{Event, Tickets, Moves}
 use Rattle.napi_types.specs.runs.Machine.{Machine}
 use Rattle.napi_types.specs.runs.Step.{Step, ticket_step, event_step, end_step_on, step}
 use Rattle.machine_laws.specs.RunLaws.{GrowsOn, EntriesCountOnTheirList}
-use Rattle.machine_laws.proofs.Forms.{Form, calls, shares, ends, happens, others, form-of}
+use Rattle.machine_laws.proofs.Forms.{Form, ends, happens, form-of}
 use Rattle.machine_laws.proofs.runs.entries_count_on_their_list.Goals as goal
 
 -- a step that may stand leaves one entry more on its list
@@ -31,11 +31,9 @@ end-counts m v cut may false t = (refl, refl)
 end-counts m v cut may true t = (refl, refl)
 
 form-counts : (m : Machine) (s : Step) → Form m s → Counts m s
-form-counts m _ (calls f fs stands c o alone) t = (refl, refl)
-form-counts m _ (shares f fs stands c o shared) t = (refl, refl)
 form-counts m _ (ends f fs stands v cut may ours is) t = end-counts m v cut may ours t
 form-counts m _ (happens alone event next) t = event-counts m event t
-form-counts m _ (others x other) t = (refl, refl)
+form-counts m _ _ t = (refl, refl)
 
 law : EntriesCountOnTheirList
 law m a x next = form-counts m (step m a x) (form-of m a x next) next.1
