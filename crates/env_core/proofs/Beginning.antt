@@ -14,7 +14,7 @@ use Rattle.napi_types.specs.declared.entry.Phase.TheVariants as phase
 use Rattle.napi_types.specs.declared.entry.Why.{Why}
 use Rattle.napi_types.specs.plain.Lists.{tail}
 use Rattle.napi_types.specs.parts.Attachments.{Wrapped, Attached, Attachments}
-use Rattle.napi_types.specs.parts.Book.{Book, Registration, TicketState, Registered, Due, Begun, Ended, Withdrawn, is_registered, is_begun, is_at, registration_at, due_info, made_due, made_withdrawn, made_due_and_begun, made_ended, moved, moved_at, moved_where, due_where, with_registration, begun_in}
+use Rattle.napi_types.specs.parts.Book.{Book, Registration, TicketState, Registered, is_registered, is_begun, is_at, registration_at, due_info, made_due, made_withdrawn, made_due_and_begun, made_ended, moved, moved_at, moved_where, due_where, with_registration, begun_in}
 use Rattle.napi_types.specs.parts.Duties.{duties_of}
 use Rattle.napi_types.specs.parts.Frames.{Frame, duty_of, frame_of_duty, ask_counted, is_hub_duty}
 use Rattle.napi_types.specs.parts.Graph.{StoreState, IsLive}
@@ -85,17 +85,11 @@ moved-stays move keeps test book n is = ap has_begun (registration_at-moved_wher
 
 withdrawn-keeps : (s : TicketState) → is_begun s ≡ true → is_begun (made_withdrawn s) ≡ true
 withdrawn-keeps Registered is = cc
-withdrawn-keeps Due is = is
-withdrawn-keeps Begun is = is
-withdrawn-keeps Ended is = is
-withdrawn-keeps Withdrawn is = is
+withdrawn-keeps _ is = is
 
 due-keeps : (s : TicketState) → is_begun s ≡ true → is_begun (made_due s) ≡ true
 due-keeps Registered is = cc
-due-keeps Due is = is
-due-keeps Begun is = is
-due-keeps Ended is = is
-due-keeps Withdrawn is = is
+due-keeps _ is = is
 
 moved-book : (frames : List Frame) (move : TicketState → TicketState) → ((s : TicketState) → is_begun s ≡ true → is_begun (move s) ≡ true) → (test : ℕ → Bool) (old new : Book)
     → new ≡ moved_where move test old → IsBookOf frames old → IsBookOf frames new
@@ -146,9 +140,7 @@ book-left frames left book is k = let P : List Frame → Type 0 = λ fs. IsBookO
 
 uncalled-ended : (d : Duty) (book : Book) → All (λ r. r.cause ≢ cause.Call) book → All (λ r. r.cause ≢ cause.Call) (duty_ended (Some d) book)
 uncalled-ended (duty.Ticket t) book all = moved-uncalled made_ended (λ m. m == t.0) book all
-uncalled-ended (duty.Work n) book all = all
-uncalled-ended (duty.Item f n) book all = all
-uncalled-ended (duty.Function f) book all = all
+uncalled-ended _ book all = all
 
 -- the only frame is gone, and its duty has ended
 pub book-ended : (frames left : List Frame) (old new : Book) (d : Duty) → left ≡ [] → new ≡ duty_ended (Some d) old → IsBookOf frames old → IsBookOf left new
@@ -196,10 +188,7 @@ last-registered e n hooked early is = by (last_hook e.hooks) refl is
 -- a hook that is registered falls due and begins
 hook-begins : (s : TicketState) → is_registered s ≡ true → is_begun (made_due_and_begun s) ≡ true
 hook-begins Registered is = refl
-hook-begins Due is = let no : ⊥ = cc in absurd no
-hook-begins Begun is = let no : ⊥ = cc in absurd no
-hook-begins Ended is = let no : ⊥ = cc in absurd no
-hook-begins Withdrawn is = let no : ⊥ = cc in absurd no
+hook-begins _ is = cc
 
 pub hook-begun : (old new : Book) (n : ℕ) (r : Registration) → registration_at old n ≡ Some r → is_registered r.state ≡ true → new ≡ moved_at made_due_and_begun n old → is_at is_begun new n ≡ true
 hook-begun old new n r there registered is =
@@ -253,25 +242,19 @@ innermost-begun (f ∷ frames) book d has begun =
 -- and its ticket ends with the frame
 pub duty_ticket : (d : Duty) (book : Book) → is_at is_begun book (ticket_number d) ≡ true → moved_at made_ended (ticket_number d) book ≡ duty_ended (Some d) book
 duty_ticket (duty.Ticket t) book begun = refl
-duty_ticket (duty.Work n) book begun = let no : ⊥ = cc in absurd no
-duty_ticket (duty.Item f n) book begun = let no : ⊥ = cc in absurd no
-duty_ticket (duty.Function f) book begun = let no : ⊥ = cc in absurd no
+duty_ticket _ book begun = cc
 
 -- so it is none of the hub
 pub begun-local : (d : Duty) (book : Book) → is_at is_begun book (ticket_number d) ≡ true → is_hub_duty (Some d) ≡ false
 begun-local (duty.Ticket t) book begun = refl
-begun-local (duty.Work n) book begun = let no : ⊥ = cc in absurd no
-begun-local (duty.Item f n) book begun = let no : ⊥ = cc in absurd no
-begun-local (duty.Function f) book begun = let no : ⊥ = cc in absurd no
+begun-local _ book begun = cc
 
-length-duty : (d : Duty) (book : Book) → length (duty_ended (Some d) book) ≡ length book
-length-duty (duty.Ticket t) book = length-moved made_ended (λ m. m == t.0) book
-length-duty (duty.Work n) book = refl
-length-duty (duty.Item f n) book = refl
-length-duty (duty.Function f) book = refl
+pub length-duty : (d : Option Duty) (book : Book) → length (duty_ended d book) ≡ length book
+length-duty (Some (duty.Ticket t)) book = length-moved made_ended (λ m. m == t.0) book
+length-duty _ book = refl
 
 pub attached-ended : (s : StoreState) (a : Attachments) (old new : Book) (d : Duty) → new ≡ duty_ended (Some d) old → IsAttached s a old → IsAttached s a new
-attached-ended s a old new d is i = attached-moved s a old new (ap length is ∙ length-duty d old) i
+attached-ended s a old new d is i = attached-moved s a old new (ap length is ∙ length-duty (Some d) old) i
 
 -- the environment as such a frame has ended
 pub left-with : (e mid new : Environment) (cut : Option Why) (d : Duty) → mid ≡ record e { pending = None } → duty_of e.frames ≡ Some d

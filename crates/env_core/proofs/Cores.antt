@@ -19,12 +19,12 @@ use Rattle.napi_types.specs.plain.Built.{is_calling}
 use Rattle.napi_types.specs.plain.Lists.{tail}
 use Rattle.napi_types.specs.plain.Phases.{next_phase}
 use Rattle.napi_types.specs.plain.Room.{one_if, need, is_full}
-use Rattle.napi_types.specs.parts.Book.{Book, Registration, is_registered, is_due, registration_at, lowest_due, owed_tickets, made_due, made_ended, moved_at, begun_in, may_begin_in}
+use Rattle.napi_types.specs.parts.Book.{Book, Registration, is_registered, is_due, registration_at, lowest_due, owed_tickets, made_due, moved_at, begun_in, may_begin_in}
 use Rattle.napi_types.specs.parts.Frames.{Frame, caller_of, cause_of, duty_of, is_hub_duty, local_frames}
 use Rattle.napi_types.specs.parts.Hooks.{last_hook}
 use Rattle.napi_types.specs.environment.Calls.{answer_unless_deep}
 use Rattle.napi_types.specs.environment.Changes.{call_change, number_of, book_in, in_phase}
-use Rattle.napi_types.specs.environment.Ends.{duty_ended, end_change_by, outermost_end_change, end_change}
+use Rattle.napi_types.specs.environment.Ends.{end_change_by, outermost_end_change, end_change}
 use Rattle.napi_types.specs.environment.Entering.{is_entering}
 use Rattle.napi_types.specs.environment.Environment.{Environment}
 use Rattle.napi_types.specs.environment.Hooked.{is_late, IsHooked}
@@ -41,7 +41,7 @@ use Rattle.env_core.specs.Journal.{Pages}
 use Rattle.env_core.specs.Core.{Core, IsCore, after_change, room_in}
 use Rattle.env_core.specs.State.{Calls}
 use Rattle.env_core.specs.Steps.{Replies}
-use Rattle.env_core.proofs.Beginning.{IsUnder, last-registered}
+use Rattle.env_core.proofs.Beginning.{IsUnder, last-registered, length-duty}
 
 -- the core of an environment and a journal
 abbrev pub core_of : Environment → Pages → Core
@@ -130,13 +130,6 @@ length-left (f ∷ fs) h local = by (is_hub_duty f.duty) local
     by true local = let no : ⊥ = cc in absurd no
     by false local = omega arith
 
-length-duty : (d : Option Duty) (book : Book) → length (duty_ended d book) ≡ length book
-length-duty (Some (duty.Ticket t)) book = length-moved made_ended (λ m. m == t.0) book
-length-duty (Some (duty.Work n)) book = refl
-length-duty (Some (duty.Item f n)) book = refl
-length-duty (Some (duty.Function f)) book = refl
-length-duty None book = refl
-
 length-book_left : (c : Cause) (d : Option Duty) (book : Book) → length (book_left c d book) ≡ length book
 length-book_left cause.Call d book = refl
 length-book_left _ d book = length-duty d book
@@ -193,9 +186,7 @@ next-may e n r hooked next there = by e.phase refl next
     by phase.Live at is = due is
     by phase.Hooks at is = hook at is
     by phase.Finals at is = due is
-    by phase.Init at is = let no : ⊥ = cc in absurd no
-    by phase.Drain at is = let no : ⊥ = cc in absurd no
-    by phase.Gone at is = let no : ⊥ = cc in absurd no
+    by _ at is = cc
 
 pub core-begun : (old new : Environment) (pages after : Pages) (x : Entry) (n : ℕ) (r : Registration) → IsCore old pages → next_ticket old ≡ Some n → registration_at old.book n ≡ Some r
     → new ≡ (ticket_change n r old).after → after ≡ written x (pages.promised - 1) pages → IsCore new after

@@ -36,6 +36,7 @@ use Rattle.napi_types.specs.environment.Registering.{finalizer_of, finalizer_if,
 use Rattle.napi_types.specs.environment.WrapCalls.{referring_if}
 use Rattle.napi_types.proofs.plain.Maps.{All-with_record, map-with_record}
 use Rattle.napi_types.proofs.plain.Lists.{length-changed}
+use Rattle.napi_types.proofs.plain.Found.{apart-below}
 use Rattle.napi_types.proofs.parts.Books.{length-moved}
 use Rattle.handle_scope.specs.HandleScopes.{HandleScopes}
 use Rattle.env_values.specs.Seen.{seen_frame, heap_of}
@@ -68,14 +69,12 @@ given-new None book = tt
 given-new (Some r) book = (omega arith, omega (arith, length-append book (r ∷ [])))
 
 -- before, it is attached to no value
-apart-above : (n m : ℕ) → n ≤ m → (n == m + 1) ≡ false
-apart-above n m h = grind arith
-
 ticket-free : (book : Book) (xs : List Attached) → All (λ t. IsGiven book t.ticket) xs → has (λ t. t.ticket) (new_ticket book) xs ≡ false
 ticket-free book [] all = refl
 ticket-free book (t ∷ ts) all =
     let P : Attached → Type 0 = λ x. IsGiven book x.ticket in
-    or_from (t.ticket == new_ticket book) (has (λ x. x.ticket) (new_ticket book) ts) (apart-above t.ticket (length book) (All-head P t ts all).1) (ticket-free book ts (All-tail P t ts all))
+    or_from (t.ticket == new_ticket book) (has (λ x. x.ticket) (new_ticket book) ts)
+    (apart-below t.ticket (new_ticket book) (omega (arith, (All-head P t ts all).1))) (ticket-free book ts (All-tail P t ts all))
 
 pub next-free : (s : StoreState) (a : Attachments) (book : Book) (f : Option Registration) (o : Option Ticket) → IsAttached s a book → option_map (λ (t : Ticket). t.0) o ≡ ticket_for book f
     → IfSome o (λ t. has (λ x. x.ticket) t.0 a.tickets ≡ false)
