@@ -46,10 +46,8 @@ use Rattle.env_loop.proofs.Turns.{after_change-turn}
 ticket-first : (e : Environment) (p : Phase) (n : ℕ) → (p ≡ phase.Live → e.exit_asked ≡ false) → ticket_in e p ≡ Some n → local_choice_in e p ≡ Some (Tickets n)
 ticket-first e phase.Live n unasked is = ap (λ b. cond b (Some (EndsLoop loop_end.Exit)) (option_map Tickets (lowest_due e.book))) (unasked refl) ∙ ap (option_map Tickets) is
 ticket-first e phase.Finals n unasked is = ap (λ o. option_or (option_map Tickets o) (Some IsGone)) is
-ticket-first e phase.Init n unasked is = cc
 ticket-first e phase.Hooks n unasked is = ap (option_map Tickets) is
-ticket-first e phase.Drain n unasked is = cc
-ticket-first e phase.Gone n unasked is = cc
+ticket-first e _ n unasked is = cc
 
 ticket-chosen : (m : Machine) (n : ℕ) → (m.env.phase ≡ phase.Live → m.env.exit_asked ≡ false) → next_ticket m.env ≡ Some n → choice m ≡ Some (Tickets n)
 ticket-chosen m n unasked is = ap (λ o. option_or o (hub_choice m.hub)) (ticket-first m.env m.env.phase n unasked is)
@@ -128,8 +126,4 @@ ticket-turn ps all now core new due info sound alone unasked begins enough as_ma
   where
     not-gone : (p : Phase) → p ≡ phase.Gone → ticket_in core.env p ≡ Some begins.ticket → ⊥
     not-gone phase.Gone g is = cc
-    not-gone phase.Init g is = cc
-    not-gone phase.Live g is = cc
-    not-gone phase.Hooks g is = cc
-    not-gone phase.Drain g is = cc
-    not-gone phase.Finals g is = cc
+    not-gone _ g is = cc

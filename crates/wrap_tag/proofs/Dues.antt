@@ -8,7 +8,7 @@ use Rattle.std.proofs.lemmas.List.Elements.{All-head, All-tail}
 use Rattle.std.proofs.lemmas.List.Folds.{list_any-append}
 use Rattle.std.proofs.lemmas.Map.Views.{All-from_any}
 use Rattle.napi_types.specs.plain.Lists.{has_number}
-use Rattle.napi_types.specs.parts.Book.{TicketState, Registered, Due, Begun, Ended, Withdrawn, Registration, Book, made_due, moved, moved_from, due_where}
+use Rattle.napi_types.specs.parts.Book.{TicketState, Registered, Registration, Book, made_due, moved, moved_from, due_where}
 use Rattle.napi_types.proofs.plain.Found.{same-tells}
 use Rattle.finalizer_queue.proofs.Moves.{length-due_where}
 use Rattle.wrap_tag.specs.Wraps.{AreGiven}
@@ -16,10 +16,7 @@ use Rattle.wrap_tag.specs.Wraps.{AreGiven}
 -- a registration that was due stays so
 due-due : (s : TicketState) → made_due (made_due s) ≡ made_due s
 due-due Registered = refl
-due-due Due = refl
-due-due Begun = refl
-due-due Ended = refl
-due-due Withdrawn = refl
+due-due _ = refl
 
 due-moved : (r : Registration) → moved made_due (moved made_due r) ≡ moved made_due r
 due-moved r = ap (λ s. record r { state = s }) (due-due r.state)
