@@ -6,6 +6,7 @@ use Rattle.std.specs.Option.{option_map_or}
 use Rattle.std.proofs.lemmas.Bool.Decides.{nat_tests}
 use Rattle.std.proofs.lemmas.List.Elements.{All-head, All-tail, All-nil, All-cons, All-filter, All-map, All-weaker}
 use Rattle.std.proofs.lemmas.List.Folds.{list_any-append}
+use Rattle.std.proofs.lemmas.Bool.{or_right}
 use Rattle.napi_types.specs.declared.call.Call.{Call}
 use Rattle.napi_types.specs.declared.call.Call.TheVariants as call
 use Rattle.napi_types.specs.declared.call.JobSpec.{JobSpec}
@@ -188,11 +189,7 @@ creates p id spec addon entry payload fresh sound = record {
         (parts-rising (λ (w : Work). w.id) id p.works sound.rises (absent-work p.issued id p.works sound.issued (new (0 == id) (has_number id p.issued) fresh)))
 
     more : (w : Work) → has_number w.id p.issued ≡ true → has_number w.id (with_number id p.issued) ≡ true
-    more w there = has-with_number w.id id p.issued ∙ ap (λ c. (id == w.id) || c) there ∙ either (id == w.id)
-      where
-        either : (c : Bool) → (c || true) ≡ true
-        either true = refl
-        either false = refl
+    more w there = has-with_number w.id id p.issued ∙ or_right (id == w.id) (has_number w.id p.issued) there
 
 -- A WORK IS DELETED
 deletes : (p : WorkPool) (id : ℕ) → IsWork is_deletable p id → IsSoundPool p → StepsWell p (without_work id p)

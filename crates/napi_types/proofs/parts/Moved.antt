@@ -1,11 +1,11 @@
 -- What is under a ticket, and what after the book has changed.
-use Rattle.std.proofs.Common.{◌≡◌, ◌∙◌, ℕ, zero, suc, ◌+◌, ◌<◌, ◌==◌, ◌⊎◌, ◌∷◌, ◌++◌, Bool, true, false, cond, List, [], length, slice_get, Option, Some, None, option_map, inl, inr, refl, sym, ap, arith}
+use Rattle.std.proofs.Common.{◌≡◌, ◌∙◌, ℕ, zero, suc, ◌+◌, ◌<◌, ◌==◌, ◌⊎◌, ◌∷◌, ◌++◌, Bool, true, false, cond, List, [], length, slice_get, Option, Some, None, option_map, inl, inr, refl, sym, ap, arith, add-one}
 use Rattle.std.specs.Option.{unwrap_or}
 use Rattle.std.proofs.lemmas.Bool.{eqb-true}
 use Rattle.std.proofs.lemmas.Option.{same_Some, slice_get_within}
 use Rattle.napi_types.specs.declared.entry.Cause.{Cause}
 use Rattle.napi_types.specs.parts.Book.{Book, Registration, TicketState, is_at, moved, moved_from, moved_where, registration_at, new_ticket, with_registration, cause_at}
-use Rattle.napi_types.proofs.plain.Found.{apart-below}
+use Rattle.napi_types.proofs.plain.Found.{apart-below, next-same}
 
 -- A TICKET THAT WAS GIVEN
 pub at-state : (test : TicketState → Bool) (book : Book) (n : ℕ) (r : Registration) → registration_at book n ≡ Some r → is_at test book n ≡ test r.state
@@ -85,17 +85,11 @@ slice_get-before : (rs : List Registration) (r : Registration) (p : ℕ) → (p 
 slice_get-before [] r zero apart = cc
 slice_get-before [] r (suc p) apart = refl
 slice_get-before (q ∷ rs) r zero apart = refl
-slice_get-before (q ∷ rs) r (suc p) apart = slice_get-before rs r p (next p (length rs) apart)
-  where
-    next : (p n : ℕ) → (suc p == suc n) ≡ false → (p == n) ≡ false
-    next p n h = grind arith
+slice_get-before (q ∷ rs) r (suc p) apart = slice_get-before rs r p (sym (next-same p (length rs)) ∙ apart)
 
 -- the new ticket has it
 pub registration_at-new : (book : Book) (r : Registration) → registration_at (with_registration r book) (new_ticket book) ≡ Some r
-registration_at-new book r = ap (λ n. registration_at (book ++ r ∷ []) n) (next (length book)) ∙ slice_get-pushed book r
-  where
-    next : (n : ℕ) → n + 1 ≡ suc n
-    next n = omega arith
+registration_at-new book r = ap (λ n. registration_at (book ++ r ∷ []) n) (add-one (length book)) ∙ slice_get-pushed book r
 
 -- and every other ticket what it had
 pub registration_at-old : (book : Book) (r : Registration) (n : ℕ) → (n == new_ticket book) ≡ false → registration_at (with_registration r book) n ≡ registration_at book n

@@ -1,11 +1,12 @@
 -- Numbers that count up from 1, as they are issued.
-use Rattle.std.proofs.Common.{◌≡◌, ◌∙◌, ◌<◌, ◌≤◌, ℕ, zero, suc, ◌+◌, ◌==◌, Bool, true, false, ◌||◌, not, List, [], ◌∷◌, ◌++◌, length}
+use Rattle.std.proofs.Common.{◌≡◌, ◌∙◌, ◌<◌, ◌≤◌, ℕ, zero, suc, ◌+◌, ◌==◌, true, false, ◌||◌, not, List, [], ◌∷◌, ◌++◌, length}
 use Rattle.std.proofs.Common.{refl, ap, sym, arith, add-one}
 use Rattle.std.specs.List.{All, range_with_len}
 use Rattle.std.proofs.lemmas.List.FromFn.{get_or-range_with_len, length-range_with_len}
 use Rattle.std.proofs.lemmas.List.Folds.{list_any_none}
 use Rattle.napi_types.specs.plain.Lists.{has_number, with_number, up_to}
-use Rattle.napi_types.proofs.plain.Maps.{with_record-last}
+use Rattle.napi_types.proofs.plain.Maps.{with_record-last, swapped}
+use Rattle.napi_types.proofs.plain.Found.{apart-below}
 
 pub length-up_to : (n : ℕ) → length (up_to n) ≡ n
 length-up_to n = length-range_with_len 1 n
@@ -38,10 +39,7 @@ up_to-more n =
 
 -- and is none of them, nor 0
 pub above-up_to : (m n : ℕ) → n < m → has_number m (up_to n) ≡ false
-above-up_to m n h = list_any_none (λ k. k == m) (up_to n) (λ k d inside. apart _ m (omega (arith, h, up_to-within n k d inside)))
-  where
-    apart : (k m : ℕ) → k < m → (k == m) ≡ false
-    apart k m h = grind arith
+above-up_to m n h = list_any_none (λ k. k == m) (up_to n) (λ k d inside. apart-below _ m (omega (arith, h, up_to-within n k d inside)))
 
 pub fresh_number : (n : ℕ) → not (has_number (n + 1) (0 ∷ up_to n)) ≡ true
 fresh_number n = rw (apart n, above-up_to (n + 1) n (omega arith)) refl
@@ -56,12 +54,6 @@ has-up_to k n = ap (has_number k) (range-more 1 n) ∙ has-last k (1 + n) (up_to
     next : (n : ℕ) → 1 + n ≡ suc n
     next n = omega arith
 
-    swap : (a b c : Bool) → (a || (b || c)) ≡ (b || (a || c))
-    swap true true c = refl
-    swap true false c = refl
-    swap false true c = refl
-    swap false false c = refl
-
     has-last : (k m : ℕ) (ms : List ℕ) → has_number k (ms ++ m ∷ []) ≡ ((m == k) || has_number k ms)
     has-last k m [] = refl
-    has-last k m (x ∷ ms) = rw (has-last k m ms) (swap (x == k) (m == k) (has_number k ms))
+    has-last k m (x ∷ ms) = rw (has-last k m ms) (swapped (x == k) (m == k) (has_number k ms))

@@ -20,7 +20,7 @@ filter_none p [] all = refl
 filter_none p (x ∷ xs) all =
     ap (λ b. cond b (x ∷ filter p xs) (filter p xs)) (All-head (λ y. p y ≡ false) x xs all) ∙ filter_none p xs (All-tail (λ y. p y ≡ false) x xs all)
 
-swapped : (a b c : Bool) → (a || (b || c)) ≡ (b || (a || c))
+pub swapped : (a b c : Bool) → (a || (b || c)) ≡ (b || (a || c))
 swapped true true c = refl
 swapped true false c = refl
 swapped false b c = refl
