@@ -35,9 +35,9 @@ use Rattle.napi_types.proofs.plain.Lists.{find-passes, find-first}
 use Rattle.napi_types.proofs.parts.Books.{IsDueAt, lowest-due}
 use Rattle.napi_types.proofs.hub.HubDuties.{delivery-of_hub}
 use Rattle.napi_types.proofs.runs.SharedSteps.{others-none}
+use Rattle.napi_types.proofs.runs.Chosen.{OwnChoice, opens, inits, exits, due_in_loop, hooks, due_at_end, ends, own-choice, HubChoice, goes, idles, quiets, drains, finals, moves_in_loop, moves_at_end, hub-choice, chosen-by}
 use Rattle.machine_laws.specs.Choices.{begins_due_tickets_in, LowestDueTicketComesFirst, IsOfHook, LastHookComesFirst, BeginsLowest, BeginsLastHook, BeginsOfHub, TicketsBeginAtTheirMoments, LowestDueIsLowest}
 use Rattle.machine_laws.proofs.Choosing.{Happens}
-use Rattle.machine_laws.proofs.Chosen.{OwnChoice, opens, inits, exits, due_in_loop, hooks, due_at_end, ends, own-choice, HubChoice, goes, idles, quiets, drains, finals, moves_in_loop, moves_at_end, hub-choice, chosen-by}
 use Rattle.machine_laws.proofs.Forms as form
 use Rattle.machine_laws.proofs.Forms.{Form, form-of, shared-what, ended-what, event-what, other-what, chosen-next}
 

@@ -54,13 +54,13 @@ use Rattle.napi_types.proofs.environment.FrameEnds.{ended-ends}
 use Rattle.napi_types.proofs.hub.HubKeeps.{hub_step-what}
 use Rattle.napi_types.proofs.runs.SharedSteps.{is_of_others, others-told, after_shared-alone}
 use Rattle.napi_types.proofs.runs.StepCases.{StepCase, calls, ends, opens, inits, begins, vanishes, shares, leaves, passes, moves, others, event_before, InPhase, step-case}
+use Rattle.napi_types.proofs.runs.Chosen.{OwnChoice, exits, own-choice, NoChoice, waits, no-choice, HubChoice, idles, quiets, hub-choice, chosen-by}
 use Rattle.napi_types.proofs.all_runs.Orderly.{Orderly, orderly-step, orderly-opens}
 use Rattle.machine_laws.specs.Choices.{begins_due_tickets_in, is_of_frames, BeginsLowest, BeginsLastHook, BeginsOfHub}
 use Rattle.machine_laws.specs.ExitLaws.{asks_exit, has_exit, reason_of, ExitIsAskedByItsCall, EndsByReason, TheLoopEndsByItsReason, TheLoopEndsByExitOrIdle, WhatIsDueWaitsForFinalsOnceExitWasAsked}
 use Rattle.machine_laws.proofs.Bare.{IsBare, bare-run, bare-idle}
 use Rattle.machine_laws.proofs.Beginning.{tickets-begin}
 use Rattle.machine_laws.proofs.Choosing.{Happens, happens-next, happens-what, hub-in-phase}
-use Rattle.machine_laws.proofs.Chosen.{OwnChoice, exits, own-choice, NoChoice, waits, no-choice, HubChoice, idles, quiets, hub-choice, chosen-by}
 use Rattle.machine_laws.proofs.Forms.{event_what}
 
 -- WHAT ASKS IT

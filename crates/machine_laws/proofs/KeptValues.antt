@@ -46,7 +46,7 @@ use Rattle.napi_types.specs.runs.Machine.{Machine}
 use Rattle.napi_types.specs.runs.Run.{after, final}
 use Rattle.napi_types.specs.runs.Step.{Step, ticket_step, move_step, event_step, shared_call_step, end_step_on, step}
 use Rattle.napi_types.proofs.runs.SharedSteps.{is_of_others}
-use Rattle.napi_types.proofs.all_runs.ScriptAddons.{chosen-move}
+use Rattle.napi_types.proofs.runs.Chosen.{chosen-move}
 use Rattle.machine_laws.specs.FunctionRoots.{kept_by, is_finish_of, tells_finish, KeepsOn, NewFunctionsKeepTheirValue, FunctionsKeepUntilTheyFinish, FinishedFunctionsKeepNone}
 use Rattle.machine_laws.proofs.Forms as form
 use Rattle.machine_laws.proofs.Forms.{Form, form-of, shared-what, ended-what, event_what, event-what, other-what}

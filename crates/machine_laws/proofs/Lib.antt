@@ -5,7 +5,6 @@ mod Beginning
 mod Causes
 mod Children
 mod Choosing
-mod Chosen
 mod Collected
 mod Computing
 mod ConsistentAnswers

@@ -36,7 +36,7 @@ use Rattle.napi_types.proofs.environment.Registrations.{registered-holds, AreUnc
 use Rattle.napi_types.proofs.environment.StandingFrames.{counted-nested, nested-asked, nested-ended, nested-first, nested-ticket, nested-init}
 use Rattle.napi_types.proofs.hub.HubDuties.{delivery-of_hub}
 use Rattle.napi_types.proofs.runs.SharedSteps.{is_of_others, after_shared-alone}
-use Rattle.napi_types.proofs.all_runs.ScriptAddons.{chosen-move}
+use Rattle.napi_types.proofs.runs.Chosen.{chosen-move}
 use Rattle.machine_laws.specs.Choices.{begins_due_tickets_in, IsOfTicket, GoneComesOnlyAfterFinals}
 use Rattle.machine_laws.specs.FinalizerLaws.{OnlyTheOutermostFrameHasADuty, NoneIsRegisteredFromFinalsOn}
 use Rattle.machine_laws.proofs.Beginning.{lowest-first}

@@ -39,7 +39,7 @@ use Rattle.napi_types.proofs.environment.StandingFrames.{counted-duties, duties-
 use Rattle.napi_types.proofs.hub.HubDuties.{delivery-of_hub}
 use Rattle.napi_types.proofs.hub.HubKeeps.{given-keeps, other-keeps}
 use Rattle.napi_types.proofs.runs.SharedSteps.{hub_step-end, after_shared-alone}
-use Rattle.napi_types.proofs.all_runs.ScriptAddons.{chosen-move}
+use Rattle.napi_types.proofs.runs.Chosen.{chosen-move}
 use Rattle.machine_laws.specs.Cuts.{StandsInHub, hub_duties, standing_duties, FramesStandInTheHub, HubDutiesStandInTheHub}
 use Rattle.machine_laws.proofs.Forms as form
 use Rattle.machine_laws.proofs.Forms.{Form, form-of}

@@ -1,5 +1,6 @@
 -- On steps and runs: the cases of a step, and a run that is longer by one entry.
 pub mod CallRooms
+pub mod Chosen
 pub mod Runs
 pub mod SharedSteps
 pub mod StepCases

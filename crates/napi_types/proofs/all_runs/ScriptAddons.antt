@@ -1,8 +1,7 @@
 -- In every run the addons of frames, functions, tickets, works and thread-safe functions are those of the script.
-use Rattle.std.proofs.Common.{◌≡◌, ◌≢◌, ◌∙◌, ◌<◌, ℕ, nat_lt, Bool, true, false, cond, List, [], ◌∷◌, length, IsTrue, refl, ap, sym, subst, Option, Some, None, option_map, arith}
-use Rattle.std.specs.Option.{option_or, unwrap_or}
+use Rattle.std.proofs.Common.{◌≡◌, ◌≢◌, ◌∙◌, ◌<◌, ℕ, Bool, true, false, List, [], ◌∷◌, length, IsTrue, refl, ap, sym, subst, Option, Some, None, arith}
+use Rattle.std.specs.Option.{unwrap_or}
 use Rattle.std.proofs.lemmas.List.Elements.{All-nil, All-cons}
-use Rattle.std.proofs.lemmas.Bool.{ltb-true}
 use Rattle.napi_types.specs.declared.call.Ask.{Ask}
 use Rattle.napi_types.specs.declared.call.Ask.TheVariants as ask
 use Rattle.napi_types.specs.declared.call.Call.{Call}
@@ -26,11 +25,10 @@ use Rattle.napi_types.specs.declared.status.Status.TheVariants as status
 use Rattle.napi_types.specs.plain.Entries.{host_entry, is_environment, cut_of}
 use Rattle.napi_types.specs.plain.Guards.{is_shared}
 use Rattle.napi_types.specs.parts.Bodies.{is_function}
-use Rattle.napi_types.specs.parts.Book.{Registration, registration_at, lowest_due}
+use Rattle.napi_types.specs.parts.Book.{Registration, registration_at}
 use Rattle.napi_types.specs.parts.ExpectedKinds.{expects_if}
 use Rattle.napi_types.specs.parts.Frames.{Frame, frame_of_duty, caller_of, duty_of, is_hub_duty}
 use Rattle.napi_types.specs.parts.Heap.{handle_body}
-use Rattle.napi_types.specs.parts.Hooks.{Hook, last_hook}
 use Rattle.napi_types.specs.environment.Changes.{number_of, may_ask, with_noted_status}
 use Rattle.napi_types.specs.environment.Ends.{end_change}
 use Rattle.napi_types.specs.environment.Entering.{asked_change}
@@ -38,13 +36,13 @@ use Rattle.napi_types.specs.environment.Environment.{Environment}
 use Rattle.napi_types.specs.environment.Owners.{IsOwned}
 use Rattle.napi_types.specs.environment.Refusals.{refusal}
 use Rattle.napi_types.specs.environment.SharedCalls.{target_of, target_unless, given_of, shared_entry, with_root}
-use Rattle.napi_types.specs.hub.Hub.{Hub, Stage, Before, Going, Looped, Drained, Final, is_spent}
+use Rattle.napi_types.specs.hub.Hub.{Hub}
 use Rattle.napi_types.specs.hub.HubCalls.{no_target}
 use Rattle.napi_types.specs.hub.HubMoves.{HubMove, Delivers, Closes, Finishes, hub_move}
 use Rattle.napi_types.specs.hub.HubOwners.{IsFunctionOf, IsOwnedHub}
 use Rattle.napi_types.specs.hub.HubSteps.{HubStep, environment_step, thread_step, worker_step, hub_step, hub_step_of, delivery_entry}
-use Rattle.napi_types.specs.runs.Choice.{local_choice_in, idle_choice, finals_choice, is_idle, is_quiet, hub_choice_at, choice}
-use Rattle.napi_types.specs.runs.Loop.{Event, Opens, Inits, Tickets, Moves, Goes, EndsLoop, Drains, FinalsCome, IsGone}
+use Rattle.napi_types.specs.runs.Choice.{choice}
+use Rattle.napi_types.specs.runs.Loop.{Event, Inits, Tickets, Moves, Goes, EndsLoop, Drains, FinalsCome}
 use Rattle.napi_types.specs.runs.Machine.{Machine}
 use Rattle.napi_types.specs.runs.Run.{IsRunBy, after, final}
 use Rattle.napi_types.specs.runs.Setting.{opening_of}
@@ -57,112 +55,7 @@ use Rattle.napi_types.proofs.environment.FrameChanges.{ended-keeps, asked_change
 use Rattle.napi_types.proofs.environment.FrameEnds.{ended-ends}
 use Rattle.napi_types.proofs.environment.Owners.{Below, body-owned, caller-owned, counted-owned, row-unrefused, owned-asked, owned-ended, owned-init, owned-ticket, owned-phase, owned-opening}
 use Rattle.napi_types.proofs.hub.HubOwners.{MoveOwned, GivesOwned, is_creating_call, given-owned, others-owned, event-owned, thread_event-owned, worker-owned, move-owned}
-
--- WHICH EVENT COMES
--- what is chosen of the hub is its next move
-from-hub : (e : Environment) (p : Phase) (o : Option Event) (move : HubMove) → option_or (local_choice_in e p) o ≡ Some (Moves move) → o ≡ Some (Moves move)
-from-hub e phase.Init o move is = by e.opened (nat_lt e.inits e.addons) is
-  where
-    by : (b c : Bool) → option_or (cond b (cond c (Some (Inits e.inits)) None) (Some Opens)) o ≡ Some (Moves move) → o ≡ Some (Moves move)
-    by false c is = cc
-    by true true is = cc
-    by true false is = is
-from-hub e phase.Live o move is = by e.exit_asked (lowest_due e.book) is
-  where
-    by : (b : Bool) (t : Option ℕ) → option_or (cond b (Some (EndsLoop loop_end.Exit)) (option_map Tickets t)) o ≡ Some (Moves move) → o ≡ Some (Moves move)
-    by true t is = cc
-    by false (Some t) is = cc
-    by false None is = is
-from-hub e phase.Hooks o move is = by (option_map (λ (h : Hook). h.ticket) (last_hook e.hooks)) is
-  where
-    by : (t : Option ℕ) → option_or (option_map Tickets t) o ≡ Some (Moves move) → o ≡ Some (Moves move)
-    by (Some t) is = cc
-    by None is = is
-from-hub e phase.Drain o move is = is
-from-hub e phase.Finals o move is = by (lowest_due e.book) is
-  where
-    by : (t : Option ℕ) → option_or (option_or (option_map Tickets t) (Some IsGone)) o ≡ Some (Moves move) → o ≡ Some (Moves move)
-    by (Some t) is = cc
-    by None is = cc
-from-hub e phase.Gone o move is = is
-
-moves-first : (o : Option HubMove) (later : Option Event) (move : HubMove) → (later ≡ Some (Moves move) → ⊥) → option_or (option_map Moves o) later ≡ Some (Moves move) → o ≡ Some move
-moves-first None later move never is = absurd (never is)
-moves-first (Some m) later move never is = let same : m ≡ move = cc in ap Some same
-
-hub-moves : (h : Hub) (t : Stage) (move : HubMove) → hub_choice_at h t ≡ Some (Moves move) → hub_move h ≡ Some move
-hub-moves h Before move is = cc
-hub-moves h Going move is = moves-first (hub_move h) (idle_choice h) move (by (is_idle h) (is_quiet h)) is
-  where
-    by : (b c : Bool) → cond b (Some (EndsLoop loop_end.Idle)) (cond c (Some (EndsLoop loop_end.Quiet)) None) ≡ Some (Moves move) → ⊥
-    by true c is = cc
-    by false true is = cc
-    by false false is = cc
-hub-moves h Looped move is = cc
-hub-moves h Drained move is = moves-first (hub_move h) (finals_choice h) move (by (is_spent h)) is
-  where
-    by : (b : Bool) → cond b (Some FinalsCome) None ≡ Some (Moves move) → ⊥
-    by true is = cc
-    by false is = cc
-hub-moves h Final move is = cc
-
-pub chosen-move : (m : Machine) (move : HubMove) → choice m ≡ Some (Moves move) → hub_move m.hub ≡ Some move
-chosen-move m move is = hub-moves m.hub m.hub.stage move (from-hub m.env m.env.phase (hub_choice_at m.hub m.hub.stage) move is)
-
--- the hub begins no init frame
-hub-no-init : (h : Hub) (t : Stage) (k : ℕ) → hub_choice_at h t ≡ Some (Inits k) → ⊥
-hub-no-init h Before k is = cc
-hub-no-init h Going k is = by (hub_move h) (is_idle h) (is_quiet h) is
-  where
-    by : (o : Option HubMove) (b c : Bool)
-        → option_or (option_map Moves o) (cond b (Some (EndsLoop loop_end.Idle)) (cond c (Some (EndsLoop loop_end.Quiet)) None)) ≡ Some (Inits k) → ⊥
-    by (Some m) b c is = cc
-    by None true c is = cc
-    by None false true is = cc
-    by None false false is = cc
-hub-no-init h Looped k is = cc
-hub-no-init h Drained k is = by (hub_move h) (is_spent h) is
-  where
-    by : (o : Option HubMove) (b : Bool) → option_or (option_map Moves o) (cond b (Some FinalsCome) None) ≡ Some (Inits k) → ⊥
-    by (Some m) b is = cc
-    by None true is = cc
-    by None false is = cc
-hub-no-init h Final k is = cc
-
--- an init frame is that of an addon that is there
-pub chosen-init : (m : Machine) (k : ℕ) → choice m ≡ Some (Inits k) → k < m.env.addons
-chosen-init m k is = by m.env.phase is
-  where
-    hub : Option Event
-    hub = hub_choice_at m.hub m.hub.stage
-
-    no : (o : Option Event) → o ≡ hub → o ≡ Some (Inits k) → k < m.env.addons
-    no o same is = absurd (hub-no-init m.hub m.hub.stage k (sym same ∙ is))
-
-    init : (b c : Bool) → nat_lt m.env.inits m.env.addons ≡ c → option_or (cond b (cond c (Some (Inits m.env.inits)) None) (Some Opens)) hub ≡ Some (Inits k) → k < m.env.addons
-    init false c here is = cc
-    init true true here is = let same : m.env.inits ≡ k = cc in subst (λ i. i < m.env.addons) same (ltb-true m.env.inits m.env.addons here)
-    init true false here is = no hub refl is
-
-    live : (b : Bool) (t : Option ℕ) → option_or (cond b (Some (EndsLoop loop_end.Exit)) (option_map Tickets t)) hub ≡ Some (Inits k) → k < m.env.addons
-    live true t is = cc
-    live false (Some t) is = cc
-    live false None is = no hub refl is
-
-    hooks : (t : Option ℕ) → option_or (option_map Tickets t) hub ≡ Some (Inits k) → k < m.env.addons
-    hooks (Some t) is = cc
-    hooks None is = no hub refl is
-
-    finals : (t : Option ℕ) → option_or (option_or (option_map Tickets t) (Some IsGone)) hub ≡ Some (Inits k) → k < m.env.addons
-    finals (Some t) is = cc
-    finals None is = cc
-
-    by : (p : Phase) → option_or (local_choice_in m.env p) hub ≡ Some (Inits k) → k < m.env.addons
-    by phase.Init is = init m.env.opened (nat_lt m.env.inits m.env.addons) refl is
-    by phase.Live is = live m.env.exit_asked (lowest_due m.env.book) is
-    by phase.Hooks is = hooks (option_map (λ (h : Hook). h.ticket) (last_hook m.env.hooks)) is
-    by phase.Finals is = finals (lowest_due m.env.book) is
-    by _ is = no hub refl is
+use Rattle.napi_types.proofs.runs.Chosen.{chosen-move, chosen-init}
 
 -- THE HUB AT AN EVENT
 abbrev step_by : Hub → Entry → Actor → What → HubStep

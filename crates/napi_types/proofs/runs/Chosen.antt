@@ -1,5 +1,6 @@
 -- When each event is chosen, and what it says that nothing is.
-use Rattle.std.proofs.Common.{◌≡◌, ◌∙◌, ℕ, nat_lt, Bool, true, false, cond, List, [], ◌∷◌, refl, Option, Some, None, option_map, ◌⊎◌, inl, inr, subst}
+use Rattle.std.proofs.Common.{◌≡◌, ◌∙◌, ℕ, nat_lt, Bool, true, false, cond, List, [], ◌∷◌, refl, Option, Some, None, option_map, ◌⊎◌, inl, inr, subst, ◌<◌}
+use Rattle.std.proofs.lemmas.Bool.{ltb-true}
 use Rattle.std.specs.Option.{option_or}
 use Rattle.napi_types.specs.declared.entry.LoopEnd.TheVariants as loop_end
 use Rattle.napi_types.specs.declared.entry.Phase.{Phase}
@@ -132,3 +133,32 @@ chosen-by m v is = by (local_choice m.env) refl is
         → (local_choice m.env ≡ Some v) ⊎ ((local_choice m.env ≡ None) × (hub_choice m.hub ≡ Some v))
     by (Some w) here is = inl (here ∙ is)
     by None here is = inr (here, is)
+
+-- a move is the hub's next one
+pub chosen-move : (m : Machine) (move : HubMove) → choice m ≡ Some (Moves move) → hub_move m.hub ≡ Some move
+chosen-move m move is = by (chosen-by m (Moves move) is)
+  where
+    own : (p : Phase) → OwnChoice m.env p (Moves move) → ⊥
+    own p o = elim o [ ]
+
+    of-hub : (s : Stage) → HubChoice m.hub s (Moves move) → hub_move m.hub ≡ Some move
+    of-hub _ (moves_in_loop _ next) = next
+    of-hub _ (moves_at_end _ next) = next
+
+    by : (local_choice m.env ≡ Some (Moves move)) ⊎ ((local_choice m.env ≡ None) × (hub_choice m.hub ≡ Some (Moves move))) → hub_move m.hub ≡ Some move
+    by (inl is) = absurd (own m.env.phase (own-choice m.env m.env.phase (Moves move) is))
+    by (inr is) = of-hub m.hub.stage (hub-choice m.hub m.hub.stage (Moves move) is.1)
+
+-- an init frame is that of an addon that is there
+own-init : (e : Environment) (p : Phase) (k : ℕ) → OwnChoice e p (Inits k) → k < e.addons
+own-init e _ _ (inits opened left) = ltb-true e.inits e.addons left
+
+pub chosen-init : (m : Machine) (k : ℕ) → choice m ≡ Some (Inits k) → k < m.env.addons
+chosen-init m k is = by (chosen-by m (Inits k) is)
+  where
+    of-hub : (s : Stage) → HubChoice m.hub s (Inits k) → ⊥
+    of-hub s c = elim c [ ]
+
+    by : (local_choice m.env ≡ Some (Inits k)) ⊎ ((local_choice m.env ≡ None) × (hub_choice m.hub ≡ Some (Inits k))) → k < m.env.addons
+    by (inl is) = own-init m.env m.env.phase k (own-choice m.env m.env.phase (Inits k) is)
+    by (inr is) = absurd (of-hub m.hub.stage (hub-choice m.hub m.hub.stage (Inits k) is.1))
