@@ -1,5 +1,6 @@
 -- A core stays one where an entry is written.
-use Rattle.std.proofs.Common.{◌≡◌, ◌≤◌, ◌≢◌, ℕ, ◌+◌, ◌-◌, ◌*◌, ◌==◌, nat_lt, Bool, true, false, not, cond, ◌&&◌, IsTrue, List, [], ◌∷◌, ◌++◌, length, Option, Some, None, is_none, is_some, option_map, subst, sym, ap, ◌∙◌, arith, length-append, refl}
+use Rattle.std.proofs.Common.{◌≡◌, ◌≤◌, ◌≢◌, ℕ, ◌+◌, ◌-◌, ◌*◌, ◌==◌, Bool, true, false, not, cond, ◌&&◌, IsTrue, List, [], ◌∷◌, ◌++◌, length, Option, Some, None, is_none, is_some, option_map, subst, sym, ap, ◌∙◌, arith, length-append, refl}
+use Rattle.std.proofs.lemmas.Bool.{le-ltb}
 use Rattle.napi_types.specs.declared.call.Args.{Args}
 use Rattle.napi_types.specs.declared.call.Call.{Call}
 use Rattle.napi_types.specs.declared.call.Call.TheVariants as call
@@ -234,14 +235,11 @@ core-phase old new pages after p n c next stays is e =
 pub other-at-once : (e : Environment) (c : Call) → is_calling c ≡ false → is_entering e c ≡ false
 other-at-once e c h = ap (λ b. b && is_none (refusal e c)) h
 
-not-lt : (a b : ℕ) → b ≤ a → nat_lt a b ≡ false
-not-lt a b h = grind arith
-
 -- a call fits where its places were promised
 pub fits-in : (e : Environment) (pages : Pages) (c : Call) (n : ℕ) → IsCore e pages → need c ≡ n → length pages.entries + pages.promised + n ≤ pages.limit
     → is_full (room_in (core_of e pages)) c ≡ false
 fits-in e pages c n k same room =
-    not-lt pages.limit (length pages.entries + reserved_journal e + need c) (omega (arith, k.reserved, same, room))
+    le-ltb pages.limit (length pages.entries + reserved_journal e + need c) (omega (arith, k.reserved, same, room))
 
 pub never-full : {X : Type 0} (b : Bool) → b ≡ false → IsTrue b → X
 never-full true h t = cc

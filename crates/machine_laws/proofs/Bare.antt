@@ -1,5 +1,6 @@
 -- A hub of which no work and no thread-safe function was asked never has anything to do.
-use Rattle.std.proofs.Common.{◌≡◌, ◌∙◌, ℕ, Bool, true, false, ◌||◌, List, [], ◌∷◌, map, IsTrue, refl, ap, sym, subst, Option, Some, None}
+use Rattle.std.proofs.Common.{◌≡◌, ◌∙◌, ℕ, Bool, true, false, List, [], ◌∷◌, map, IsTrue, refl, ap, sym, subst, Option, Some, None}
+use Rattle.std.proofs.lemmas.Bool.{or_parts}
 use Rattle.napi_types.specs.declared.call.Ask.{Ask}
 use Rattle.napi_types.specs.declared.call.Call.{Call}
 use Rattle.napi_types.specs.declared.call.Call.TheVariants as call
@@ -121,14 +122,10 @@ step-bare m _ (others x other) comes none bare =
     others-bare m.hub x other (and-right (has_room m x.what) (hub_step m.hub x).may comes) (sym (ap is_shared_call (hub_step-what m.hub x)) ∙ none) bare
 
 -- RUNS
-or-none : (a b : Bool) → (a || b) ≡ false → (a ≡ false) × (b ≡ false)
-or-none true b is = cc
-or-none false b is = (refl, is)
-
 run-bare : (m : Machine) (bs : List Ask) (xs : List Entry) → Orderly m → IsBare m.hub → IsRunBy m bs xs → has_shared xs ≡ false → IsBare (final m bs xs).hub
 run-bare m (a ∷ bs) (x ∷ xs) orderly bare run none =
     let s : StepCase m (step m a x) = step-case m a x orderly.stage run.0.1 in
-    let both : (is_shared_call x.what ≡ false) × (has_shared xs ≡ false) = or-none (is_shared_call x.what) (has_shared xs) none in
+    let both : (is_shared_call x.what ≡ false) × (has_shared xs ≡ false) = or_parts (is_shared_call x.what) (has_shared xs) none in
     let here : is_shared_call (step m a x).entry.what ≡ false = sym (ap (λ (y : Entry). is_shared_call y.what) run.0.0) ∙ both.0 in
     run-bare (after m a x) bs xs (orderly-step m (step m a x) orderly s) (step-bare m (step m a x) s run.0.1 here bare) run.1 both.1
 run-bare m [] [] orderly bare run none = bare

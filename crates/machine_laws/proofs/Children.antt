@@ -7,6 +7,7 @@ use Rattle.std.proofs.lemmas.List.{get_or_past}
 use Rattle.std.proofs.lemmas.List.Elements.{All-nil, All-cons, All-head, All-tail, All-append, All-set, All-replicate, All-get_or}
 use Rattle.napi_types.specs.parts.Properties.{Property, property_at, property_set, property_removed, element_at, element_set}
 use Rattle.napi_types.specs.parts.Values.{Value, children, with_property, without_property, with_element, properties_of, elements_of}
+use Rattle.napi_types.proofs.plain.Lists.{All-left, All-right}
 
 -- the numbers that properties, and elements, name
 abbrev pub named : List Property → List ℕ
@@ -29,19 +30,11 @@ OfChildren P v = All P (children v)
 pub children-of : (P : ℕ → Type 0) (v : Value) → OfProperties P v.properties → OfElements P v.elements → OfChildren P v
 children-of P v ps es = All-append P (named v.properties) (present v.elements) ps es
 
-append-left : (P : ℕ → Type 0) (ms ns : List ℕ) → All P (ms ++ ns) → All P ms
-append-left P [] ns all = All-nil P
-append-left P (m ∷ ms) ns all = All-cons P m ms (All-head P m (ms ++ ns) all) (append-left P ms ns (All-tail P m (ms ++ ns) all))
-
-append-right : (P : ℕ → Type 0) (ms ns : List ℕ) → All P (ms ++ ns) → All P ns
-append-right P [] ns all = all
-append-right P (m ∷ ms) ns all = append-right P ms ns (All-tail P m (ms ++ ns) all)
-
 properties-of : (P : ℕ → Type 0) (v : Value) → OfChildren P v → OfProperties P v.properties
-properties-of P v all = append-left P (named v.properties) (present v.elements) all
+properties-of P v all = All-left P (named v.properties) (present v.elements) all
 
 elements-of : (P : ℕ → Type 0) (v : Value) → OfChildren P v → OfElements P v.elements
-elements-of P v all = append-right P (named v.properties) (present v.elements) all
+elements-of P v all = All-right P (named v.properties) (present v.elements) all
 
 -- ELEMENTS
 -- an element is a hole, or names such a number

@@ -1,5 +1,6 @@
 -- What may come where no frame stands, and where one does.
-use Rattle.std.proofs.Common.{◌≡◌, ◌≤◌, ℕ, nat_lt, Bool, true, false, List, [], ◌∷◌, IsTrue, refl, ap, sym, ◌∙◌, subst, Option, Some, None, ◌⊎◌, inl, inr, arith}
+use Rattle.std.proofs.Common.{◌≡◌, ◌≤◌, ℕ, Bool, true, false, List, [], ◌∷◌, IsTrue, refl, ap, sym, ◌∙◌, subst, Option, Some, None, ◌⊎◌, inl, inr}
+use Rattle.std.proofs.lemmas.Bool.{ltb-false}
 use Rattle.std.specs.Option.{option_or}
 use Rattle.napi_types.specs.declared.call.Ask.{Ask}
 use Rattle.napi_types.specs.declared.call.Ask.TheVariants as ask
@@ -227,11 +228,8 @@ go-from m a x next is =
     let h : Happens m x = happens-next m a x (ap is_of_others is) (ap (λ w. is_of_frames w x.reply.out) is) next in
     chosen-go m h.alone (h.next ∙ ap Some (is-go h.event (happens-what m x host.Go is h)))
 
-not-less : (a b : ℕ) → nat_lt a b ≡ false → b ≤ a
-not-less a b h = grind arith
-
 all-begun : (e : Environment) (p : Phase) → p ≡ phase.Init → NoChoice e p → (e.opened ≡ true) × (e.addons ≤ e.inits)
-all-begun e _ here (begun opened left) = (opened, not-less e.inits e.addons left)
+all-begun e _ here (begun opened left) = (opened, ltb-false e.inits e.addons left)
 all-begun e phase.Live here _ = cc
 all-begun e phase.Hooks here _ = cc
 all-begun e phase.Drain here _ = cc

@@ -1,5 +1,5 @@
 -- Where a frame stands: what may come next.
-use Rattle.std.proofs.Common.{◌≡◌, ◌≢◌, ◌<◌, ℕ, ◌==◌, ◌&&◌, ◌||◌, ◌⊎◌, inl, inr, false, cond, List, ◌∷◌, IsTrue, refl, ap, sym, ◌∙◌, subst, Option, Some, None, IsSome, arith, ◌≤◌, ◌+◌, Bool, true, not, nat_lt}
+use Rattle.std.proofs.Common.{◌≡◌, ◌≢◌, ◌<◌, ℕ, ◌==◌, ◌&&◌, ◌||◌, ◌⊎◌, inl, inr, false, cond, List, ◌∷◌, IsTrue, refl, ap, sym, ◌∙◌, subst, Option, Some, None, IsSome, arith, ◌+◌, Bool, true, not, nat_lt}
 use Rattle.napi_types.specs.declared.call.Ask.{Ask}
 use Rattle.napi_types.specs.declared.call.Ask.TheVariants as ask
 use Rattle.napi_types.specs.declared.call.Call.{Call}
@@ -35,7 +35,7 @@ use Rattle.napi_types.proofs.plain.CallFacts.{needs-place}
 use Rattle.napi_types.proofs.environment.FrameEnds.{Ends, ended-ends}
 use Rattle.napi_types.proofs.runs.SharedSteps.{hub_step-end}
 use Rattle.machine_laws.specs.Cuts.{cut_by, StandsInHub, IsCutFull, first_called, two_left}
-use Rattle.std.proofs.lemmas.Bool.{or_left, or_right}
+use Rattle.std.proofs.lemmas.Bool.{or_left, or_right, lt-ltb}
 use Rattle.machine_laws.proofs.Forms.{frame-next}
 use Rattle.machine_laws.proofs.Others.{by-env-alone}
 
@@ -181,9 +181,6 @@ asks-next m f fs a e fits s =
 pub not-last : (n : ℕ) → n < 65536 → IsTrue (n == 65536) → ⊥
 not-last n h k = grind arith
 
-pub below-last : (n : ℕ) → n < 65536 → nat_lt n 65536 ≡ true
-below-last n h = grind arith
-
 -- the cut after the last ask does not come before it
 told-cut : (c : Cause) (w : Why) → cut_of (cut_by c w).reply.out ≡ Some w
 told-cut cause.Call w = refl
@@ -204,11 +201,8 @@ early-none m f fs a e h n =
 
 -- WHERE A CALL IS FULL
 -- it is where the places of its list are taken
-past : (limit n : ℕ) → 1 ≤ n → nat_lt limit (limit + n) ≡ true
-past limit n h = grind arith
-
 pub taken-full : (limit : ℕ) (c : Call) → is_full (record { limit = limit; occupied = limit }) c ≡ true
-taken-full limit c = past limit (need c) (needs-place c)
+taken-full limit c = lt-ltb limit (limit + need c) (omega (arith, needs-place c))
 
 both-full : (b : Bool) (history journal : Room) (c : Call) → is_full history c ≡ true → is_full journal c ≡ true → is_full (cond b history journal) c ≡ true
 both-full true history journal c one two = one
@@ -216,7 +210,7 @@ both-full false history journal c one two = two
 
 -- and it may want memory in a list of few places
 pub taken-wants : (c : Call) → may_want_memory (record { limit = 4; occupied = 4 }) c ≡ true
-taken-wants c = or_right (is_growing c) (nat_lt 4 (4 + need c)) (past 4 (need c) (needs-place c))
+taken-wants c = or_right (is_growing c) (nat_lt 4 (4 + need c)) (lt-ltb 4 (4 + need c) (omega (arith, needs-place c)))
 
 pub full-there : (c : Call) → is_full (room_of first_called c) c ≡ true
 full-there c = both-full (is_shared c) (history_room first_called.hub 0 4) (journal_room first_called.env 3 5) c (taken-full 4 c) (taken-full 5 c)

@@ -10,6 +10,7 @@ use Rattle.napi_types.specs.plain.Lists.{has_number}
 use Rattle.napi_types.specs.parts.NewValues.{made_after}
 use Rattle.napi_types.specs.parts.Reach.{numbers}
 use Rattle.napi_types.specs.parts.Values.{Value, value_changed}
+use Rattle.napi_types.proofs.plain.Maps.{all-among}
 use Rattle.machine_laws.specs.Consistency.{IsLiveAmong}
 use Rattle.machine_laws.proofs.Children.{OfChildren, Keeps}
 use Rattle.machine_laws.proofs.Counting.{Within, within-map, count-append}
@@ -36,11 +37,7 @@ within-pushed vs v n same =
 
 -- the numbers of a list are all in it
 pub all-there : (ns : List ℕ) → All (λ n. has_number n ns ≡ true) ns
-all-there [] = All-nil (λ n. has_number n [] ≡ true)
-all-there (m ∷ ns) =
-    let P : ℕ → Type 0 = λ n. has_number n (m ∷ ns) ≡ true in
-    All-cons P m ns (or_left (m == m) (has_number m ns) (eq-eqb m m refl))
-    (All-weaker (λ n. has_number n ns ≡ true) P (λ n h. or_right (m == n) (has_number n ns) h) ns (all-there ns))
+all-there ns = all-among (λ n. has_number n ns ≡ true) ns (λ n here. here)
 
 numbers-made : (n : ℕ) (bs : List Body) → numbers (made_after n bs) ≡ range_with_len (n + 1) (length bs)
 numbers-made n [] = refl

@@ -1,4 +1,5 @@
 use Rattle.std.proofs.Common.{◌≡◌, ◌<◌, ◌==◌, Bool, false, cond, List, ◌∷◌, IsTrue, refl, ap, ◌∙◌, subst, Option, Some, None}
+use Rattle.std.proofs.lemmas.Bool.{lt-ltb}
 use Rattle.napi_types.specs.declared.call.Ask.{Ask}
 use Rattle.napi_types.specs.declared.call.Ask.TheVariants as ask
 use Rattle.napi_types.specs.declared.call.Call.{Call}
@@ -22,7 +23,7 @@ use Rattle.napi_types.specs.runs.Run.{IsNext}
 use Rattle.napi_types.specs.runs.Step.{Step, may_cut, frame_step, step}
 use Rattle.napi_types.proofs.plain.Conditions.{and-right}
 use Rattle.machine_laws.specs.Cuts.{IsOnlyOfEnvironment, StandsInHub, OnlyLeavesWithoutAsks}
-use Rattle.machine_laws.proofs.Cutting.{only-in-frame, call-may, cut-may, end-may, end-entry, ours-of, left-next, not-last, below-last}
+use Rattle.machine_laws.proofs.Cutting.{only-in-frame, call-may, cut-may, end-may, end-entry, ours-of, left-next, not-last}
 use Rattle.machine_laws.proofs.Forms.{frame-next}
 use Rattle.machine_laws.proofs.cuts.only_leaves_without_asks.Goals as goal
 
@@ -75,7 +76,7 @@ only-end m f fs stands fits below v o (Some why.Memory) h = let no : IsTrue fals
 leaves : (m : Machine) (f : Frame) (fs : List Frame) → m.env.frames ≡ f ∷ fs → StandsInHub m.hub f → f.asks < 65536 → (v : Option HandleId)
     → IsOnlyOfEnvironment m (ask.Leave v) (end_change v None m.env).entry
 leaves m f fs stands fits below v = (
-  left-next m f fs (ask.Leave v) v None (may_ask m.env) stands fits refl (rw stands (below-last f.asks below)),
+  left-next m f fs (ask.Leave v) v None (may_ask m.env) stands fits refl (rw stands (lt-ltb f.asks 65536 below)),
   only-in-frame m (ask.Leave v) f fs (end_change v None m.env).entry stands (only-end m f fs stands fits below v),
 )
 
