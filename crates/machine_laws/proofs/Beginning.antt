@@ -1,5 +1,5 @@
 -- Which ticket begins next, and where a duty may begin.
-use Rattle.std.proofs.Common.{◌≡◌, ◌<◌, ◌∙◌, ℕ, zero, suc, true, false, not, [], length, IsTrue, refl, ap, sym, subst, Option, Some, None, inl, inr, ◌⊎◌, arith}
+use Rattle.std.proofs.Common.{◌≡◌, ◌∙◌, ℕ, true, false, not, [], length, IsTrue, refl, ap, sym, subst, Option, Some, None, inl, inr, ◌⊎◌}
 use Rattle.std.specs.Option.{option_or}
 use Rattle.std.proofs.lemmas.Bool.{not-true}
 use Rattle.napi_types.specs.declared.call.Args.{Args}
@@ -31,8 +31,8 @@ use Rattle.napi_types.specs.runs.Choice.{local_choice, local_choice_in, hub_choi
 use Rattle.napi_types.specs.runs.Loop.{Event, Tickets, Moves, Goes, EndsLoop, Drains, FinalsCome}
 use Rattle.napi_types.specs.runs.Machine.{Machine}
 use Rattle.napi_types.specs.runs.Step.{Step, ticket_step, move_step, event_step, chosen, step}
-use Rattle.napi_types.proofs.plain.Lists.{find-passes, find-first}
-use Rattle.napi_types.proofs.parts.Books.{IsDueAt, lowest-due}
+use Rattle.napi_types.proofs.plain.Lists.{find-passes}
+use Rattle.napi_types.proofs.parts.Books.{IsDueAt, lowest-due, lowest-below}
 use Rattle.napi_types.proofs.hub.HubDuties.{delivery-of_hub}
 use Rattle.napi_types.proofs.runs.SharedSteps.{others-none}
 use Rattle.napi_types.proofs.runs.Chosen.{OwnChoice, opens, inits, exits, due_in_loop, hooks, due_at_end, ends, own-choice, HubChoice, goes, idles, quiets, drains, finals, moves_in_loop, moves_at_end, hub-choice, chosen-by}
@@ -198,8 +198,4 @@ tickets-begin m a x c addon entry d next is told = form-begins m (step m a x) d 
 
 -- THE LOWEST IS THE LOWEST
 pub lowest-lowest : LowestDueIsLowest
-lowest-lowest book n is = record { due = find-passes (is_at is_due book) (up_to (length book)) n is; below = below }
-  where
-    below : (k : ℕ) → k < n → is_at is_due book k ≡ false
-    below zero low = refl
-    below (suc k) low = find-first (is_at is_due book) 1 (length book) n (suc k) is (omega arith) low
+lowest-lowest book n is = record { due = find-passes (is_at is_due book) (up_to (length book)) n is; below = λ k low. lowest-below book n k is low }

@@ -1,5 +1,5 @@
 -- What the events of the teardown make of the book: no ticket is given any more, and from `finals` on none falls due.
-use Rattle.std.proofs.Common.{◌≡◌, ◌∙◌, ◌<◌, ◌≤◌, ℕ, zero, suc, ◌+◌, ◌==◌, Bool, true, false, cond, length, refl, ap, sym, subst, Option, Some, None, option_map, ◌⊎◌, inl, inr, arith}
+use Rattle.std.proofs.Common.{◌≡◌, ◌∙◌, ◌<◌, ◌≤◌, ℕ, ◌+◌, ◌==◌, Bool, true, false, cond, refl, ap, sym, subst, Option, Some, None, option_map, ◌⊎◌, inl, inr, arith}
 use Rattle.std.specs.Option.{unwrap_or}
 use Rattle.std.proofs.lemmas.Bool.{cases_lt, cases_eq}
 use Rattle.napi_types.specs.declared.call.Args.{Args}
@@ -20,9 +20,8 @@ use Rattle.napi_types.specs.environment.Environment.{Environment}
 use Rattle.napi_types.specs.environment.Moments.{is_tearing}
 use Rattle.napi_types.specs.environment.Refusals.{refusal}
 use Rattle.napi_types.proofs.plain.Found.{same-self, next-above}
-use Rattle.napi_types.proofs.plain.Lists.{find-first}
 use Rattle.napi_types.proofs.parts.BookSteps.{BookStep, stays, drops, collects}
-use Rattle.napi_types.proofs.parts.Books.{NoneRegistered}
+use Rattle.napi_types.proofs.parts.Books.{NoneRegistered, lowest-below}
 use Rattle.napi_types.proofs.parts.Moved.{registration_at-moved_where, cause_at-moved_where}
 use Rattle.napi_types.proofs.parts.Moves.{Move, Falls, Withdraws, Begins, Ends, next, registered-before, due-moved}
 use Rattle.napi_types.proofs.environment.Answers.{call_change-keeps, torn-makes-none}
@@ -100,14 +99,7 @@ left-more cause.Call d book = same-more book book refl
 left-more _ d book = duty-more d book
 
 -- THE LOWEST TICKET BEGINS
-none-below : (book : Book) (n k : ℕ) → lowest_due book ≡ Some n → is_at is_due book k ≡ true → k < n → ⊥
-none-below book n zero lowest due below = cc
-none-below book n (suc k) lowest due below =
-    let no : is_at is_due book (suc k) ≡ false = find-first (is_at is_due book) 1 (length book) n (suc k) lowest (omega arith) below in
-    let z : true ≡ false = sym due ∙ no in
-    cc
-
--- and it is not due any more
+-- it is not due any more
 not-due : (n : ℕ) (book : Book) → is_at is_due (moved_at made_begun n book) n ≡ false
 not-due n book = ap (tells is_due) (registration_at-moved_where made_begun (λ m. m == n) book n) ∙ by (n == n) (same-self n) (registration_at book n)
   where
@@ -125,7 +117,7 @@ pub left-above : (book : Book) (n k : ℕ) → lowest_due book ≡ Some n → No
 left-above book n k lowest none due =
     let before : is_at is_due book k ≡ true = (begun-more n book).due none k due in
     elim (cases_lt k n) [
-      | inl less ↦ absurd (none-below book n k lowest before less)
+      | inl less ↦ let no : true ≡ false = sym before ∙ lowest-below book n k lowest less in cc
       | inr from ↦ apart from (cases_eq n k)
     ]
   where

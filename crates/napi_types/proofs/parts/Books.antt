@@ -12,7 +12,7 @@ use Rattle.napi_types.specs.plain.Room.{one_if}
 use Rattle.napi_types.specs.parts.Book.{Book, Registration, TicketState, Registered, Due, is_registered, is_due, is_owed, is_at, made_due, made_withdrawn, made_begun, made_due_and_begun, made_ended, moved, moved_from, moved_where, moved_at, due_where, all_due, registration_at, lowest_due, owed_tickets, with_registration, begun_in, may_begin_in}
 use Rattle.napi_types.proofs.plain.Issued.{has-up_to}
 use Rattle.napi_types.proofs.plain.Found.{apart-below, apart-above}
-use Rattle.napi_types.proofs.plain.Lists.{find-passes}
+use Rattle.napi_types.proofs.plain.Lists.{find-passes, find-first}
 
 -- ONE MORE
 pub owed-cons : (r : Registration) (rs : Book) → owed_tickets (r ∷ rs) ≡ one_if (is_owed r.state) + owed_tickets rs
@@ -149,6 +149,11 @@ lowest-due book n lowest = by (registration_at book n) refl (find-passes (is_at 
     by : (o : Option Registration) → registration_at book n ≡ o → unwrap_or (option_map (λ (r : Registration). is_due r.state) o) false ≡ true → IsDueAt book n
     by None there is = let no : ⊥ = cc in absurd no
     by (Some r) there is = record { registration = r; there = there; due = is }
+
+-- none below it is
+pub lowest-below : (book : Book) (n k : ℕ) → lowest_due book ≡ Some n → k < n → is_at is_due book k ≡ false
+lowest-below book n zero lowest below = refl
+lowest-below book n (suc k) lowest below = find-first (is_at is_due book) 1 (length book) n (suc k) lowest (omega arith) below
 
 -- ALL OF THEM
 -- what holds of every registration, and is kept by a move
