@@ -3,6 +3,7 @@ use Rattle.std.proofs.Common.{◌≡◌, ◌∙◌, ℕ, ◌≤◌, ◌==◌, �
 use Rattle.std.specs.List.{All, list_any, filter_map, cons_option}
 use Rattle.std.proofs.lemmas.List.Elements.{All-head, All-tail, All-cons, All-nil, All-append, All-filter, All-map}
 use Rattle.std.proofs.lemmas.List.Folds.{list_any-append}
+use Rattle.std.proofs.lemmas.Bool.{not-true}
 use Rattle.napi_types.specs.plain.Lists.{has_number}
 use Rattle.napi_types.specs.parts.Attachments.{Wrapped, Tagged, Attached, Attachments, left_on, tickets_where, hangs_on}
 use Rattle.napi_types.specs.parts.Book.{Book, due_where}
@@ -49,11 +50,7 @@ any-filter p f q (x ∷ xs) = by (q x) (any-filter p f q xs)
 -- WHAT IS FREED
 module _ (s t : StoreState) (ids freed alive : List ℕ) (c : FreesOthers s t ids freed alive) (sound : IsSoundStore s) (a : Attachments) (book : Book) (i : IsAttached s a book) where
   not-freed : (id : ℕ) → not (has_number id freed) ≡ true → has_number id freed ≡ false
-  not-freed id is = by (has_number id freed) is
-    where
-      by : (b : Bool) → not b ≡ true → b ≡ false
-      by true e = cc
-      by false e = refl
+  not-freed id is = not-true (has_number id freed) is
 
   told : (id : ℕ) → IsLive s id → not (is_freed alive (number_in s id)) ≡ not (has_number id freed)
   told id live = ap not (sym (c.told id live))

@@ -1,10 +1,9 @@
 -- The roots of the store's state are the machine's.
-use Rattle.std.proofs.Common.{◌≡◌, ℕ, zero, suc, ◌+◌, ◌<◌, arith, append_assoc, length, take, get_or, slice_index_or, ◌==◌, ◌||◌, Bool, true, false, cond, inl, inr, List, [], ◌∷◌, ◌++◌, map, filter_map, Option, Some, None, option_map, IfSome, refl, ap, sym, ◌∙◌}
+use Rattle.std.proofs.Common.{◌≡◌, ℕ, zero, suc, ◌+◌, ◌<◌, arith, append_assoc, length, take, get_or, slice_index_or, ◌==◌, ◌||◌, Bool, true, false, cond, List, [], ◌∷◌, ◌++◌, map, filter_map, Option, Some, None, option_map, IfSome, refl, ap, sym, ◌∙◌, subst}
 use Rattle.std.specs.List.{All, cons_option}
 use Rattle.std.proofs.lemmas.List.{map-append, append-nil, take_more}
 use Rattle.std.proofs.lemmas.List.Elements.{filter_map-append, All-nil, All-cons, All-append, All-map}
 use Rattle.std.proofs.lemmas.List.Folds.{list_any-append}
-use Rattle.std.proofs.lemmas.Bool.{or_cases, or_left, or_right, eqb-true, eq-eqb}
 use Rattle.std.specs.Option.{option_to_list}
 use Rattle.napi_types.specs.plain.Lists.{has_number, HaveSameNumbers}
 use Rattle.napi_types.specs.parts.Graph.{StoreState, IsLive, number_in}
@@ -16,6 +15,7 @@ use Rattle.napi_types.specs.environment.Environment.{Environment}
 use Rattle.napi_types.specs.environment.Roots.{roots}
 use Rattle.napi_types.proofs.plain.Maps.{among-holds, all-among}
 use Rattle.napi_types.proofs.plain.Conditions.{alike}
+use Rattle.trace_collect.proofs.Members.{has-map, from-map}
 use Rattle.handle_scope.specs.HandleScopes.{HandleScopes, held_places, free_place, frame_places, handle_places}
 use Rattle.env_values.specs.Seen.{seen_held, seen_scope, seen_frame, heap_of, HoldsLive}
 use Rattle.napi_reference.specs.Places.{strong_in}
@@ -27,21 +27,10 @@ use Rattle.env_core.specs.State.{pending_seen}
 
 -- THE SAME NUMBERS
 -- what some of these numbers give, the others give
-mapped-among : (f : ℕ → ℕ) (m k : ℕ) (ns : List ℕ) → has_number m ns ≡ true → f m ≡ k → has_number k (map f ns) ≡ true
-mapped-among f m k [] h e = cc
-mapped-among f m k (n ∷ ns) h e =
-    elim (or_cases (n == m) (has_number m ns) h) [
-      | inl same ↦ or_left (f n == k) (has_number k (map f ns)) (eq-eqb (f n) k (ap f (eqb-true n m same) ∙ e))
-      | inr later ↦ or_right (f n == k) (has_number k (map f ns)) (mapped-among f m k ns later e)
-    ]
-
 mapped-within : (f : ℕ → ℕ) (ms ns : List ℕ) → ((n : ℕ) → has_number n ms ≡ true → has_number n ns ≡ true) → (k : ℕ) → has_number k (map f ms) ≡ true → has_number k (map f ns) ≡ true
-mapped-within f [] ns within k h = cc
-mapped-within f (m ∷ ms) ns within k h =
-    elim (or_cases (f m == k) (has_number k (map f ms)) h) [
-      | inl same ↦ mapped-among f m k ns (within m (or_left (m == m) (has_number m ms) (eq-eqb m m refl))) (eqb-true (f m) k same)
-      | inr later ↦ mapped-within f ms ns (λ n here. within n (or_right (m == n) (has_number n ms) here)) k later
-    ]
+mapped-within f ms ns within k h =
+    let r = from-map f ms k h in
+    subst (λ j. has_number j (map f ns) ≡ true) r.2 (has-map f ns r.0 (within r.0 r.1))
 
 pub same-mapped : (f : ℕ → ℕ) (ms ns : List ℕ) → HaveSameNumbers ms ns → HaveSameNumbers (map f ms) (map f ns)
 same-mapped f ms ns same =
