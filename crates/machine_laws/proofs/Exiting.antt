@@ -23,23 +23,14 @@ use Rattle.napi_types.specs.declared.status.Status.{Status}
 use Rattle.napi_types.specs.plain.Built.{is_exiting}
 use Rattle.napi_types.specs.plain.Entries.{host_entry}
 use Rattle.napi_types.specs.plain.Guards.{is_shared}
-use Rattle.napi_types.specs.plain.Replies.{Answer}
-use Rattle.napi_types.specs.parts.Attachments.{wrap_ticket}
-use Rattle.napi_types.specs.parts.Book.{Registration, lowest_due}
-use Rattle.napi_types.specs.parts.Frames.{caller_of, cause_of}
-use Rattle.napi_types.specs.parts.Heap.{handle_value}
-use Rattle.napi_types.specs.parts.Hooks.{hook_ticket}
-use Rattle.napi_types.specs.parts.InstanceData.{instance_ticket}
-use Rattle.napi_types.specs.parts.References.{referred_value}
-use Rattle.napi_types.specs.environment.Calls.{effect, answer_unless, answer_unless_deep, answer}
+use Rattle.napi_types.specs.parts.Book.{lowest_due}
+use Rattle.napi_types.specs.parts.Frames.{cause_of}
+use Rattle.napi_types.specs.environment.Calls.{answer}
 use Rattle.napi_types.specs.environment.Ends.{end_change_by, uncut_call_end, end_change}
 use Rattle.napi_types.specs.environment.Entering.{function_change, asked_change}
 use Rattle.napi_types.specs.environment.Environment.{Environment}
-use Rattle.napi_types.specs.environment.ReferenceCalls.{counted_up, value_told}
-use Rattle.napi_types.specs.environment.Refusals.{early_refusal, depth_refusal, refusal}
-use Rattle.napi_types.specs.environment.Registering.{finalizer_if, registering_if, registered_only, withdrawing}
+use Rattle.napi_types.specs.environment.Refusals.{refusal}
 use Rattle.napi_types.specs.environment.SharedCalls.{shared_entry}
-use Rattle.napi_types.specs.environment.WrapCalls.{referring_if}
 use Rattle.napi_types.specs.hub.Hub.{stage_of, Stage, Before, Going, Looped, Drained, Final}
 use Rattle.napi_types.specs.hub.HubMoves.{HubMove, Delivers, Closes, Finishes, hub_move}
 use Rattle.napi_types.specs.hub.HubSteps.{hub_step, delivery_entry}
@@ -49,6 +40,7 @@ use Rattle.napi_types.specs.runs.Machine.{Machine}
 use Rattle.napi_types.specs.runs.Run.{IsRunBy, after, final}
 use Rattle.napi_types.specs.runs.Setting.{opening_of, final_of}
 use Rattle.napi_types.specs.runs.Step.{Step, locally, shared, move_step, event_step, answered_by, has_room, step}
+use Rattle.napi_types.proofs.environment.Changed.{Ignores, changed-keeps, answer-changed}
 use Rattle.napi_types.proofs.plain.Conditions.{and-right}
 use Rattle.napi_types.proofs.environment.FrameEnds.{ended-ends}
 use Rattle.napi_types.proofs.hub.HubKeeps.{hub_step-what}
@@ -65,55 +57,28 @@ use Rattle.machine_laws.proofs.Forms.{event_what}
 
 -- WHAT ASKS IT
 -- no part of an answer changes whether exit was asked, ..
-counted-asked : (r : ℕ) (e : Environment) (o : Option ℕ) → (counted_up r e o).after.exit_asked ≡ e.exit_asked
-counted-asked r e None = refl
-counted-asked r e (Some v) = refl
-
-told-asked : (e : Environment) (o : Option ℕ) → (value_told e o).after.exit_asked ≡ e.exit_asked
-told-asked e None = refl
-told-asked e (Some v) = refl
-
-referring-asked : (wanted : Bool) (n v : ℕ) (e : Environment) → (referring_if wanted n v e).after.exit_asked ≡ e.exit_asked
-referring-asked false n v e = refl
-referring-asked true n v e = refl
-
-registering-asked : (o : Option Registration) (a : Answer Environment) → (registering_if o a).after.exit_asked ≡ a.after.exit_asked
-registering-asked None a = refl
-registering-asked (Some r) a = refl
-
-withdrawing-asked : (o : Option ℕ) (a : Answer Environment) → (withdrawing o a).after.exit_asked ≡ a.after.exit_asked
-withdrawing-asked None a = refl
-withdrawing-asked (Some n) a = refl
+asked-ignored : Ignores (λ (e : Environment). e.exit_asked)
+asked-ignored = record {
+  heap = λ d x. refl;
+  frames = λ d x. refl;
+  references = λ d x. refl;
+  attachments = λ d x. refl;
+  book = λ d x. refl;
+  hooks = λ d x. refl;
+  instances = λ d x. refl;
+  pending = λ d x. refl;
+  last = λ d x. refl;
+}
 
 -- .. so no call but `exit` does
-effect-asked : (e : Environment) (c : Call) (n : ℕ) → is_exiting c ≡ false → (effect e c n).after.exit_asked ≡ e.exit_asked
-effect-asked e (call.ReferenceRef r) n other = counted-asked r.0 e (referred_value e.references r.0)
-effect-asked e (call.GetReferenceValue r) n other = told-asked e (referred_value e.references r.0)
-effect-asked e (call.Wrap v payload entry hint wanted) n other =
-    registering-asked (finalizer_if e payload entry hint) _ ∙ referring-asked wanted n (handle_value e.heap v.0) _
-effect-asked e (call.RemoveWrap v) n other = withdrawing-asked (registered_only e.book (wrap_ticket e.attachments (handle_value e.heap v.0))) _
-effect-asked e (call.AddFinalizer v payload entry hint wanted) n other = referring-asked wanted n (handle_value e.heap v.0) _
-effect-asked e (call.CreateExternal payload entry hint) n other = registering-asked (finalizer_if e payload entry hint) _
-effect-asked e (call.SetInstanceData payload entry hint) n other =
-    registering-asked (finalizer_if e payload entry hint) _ ∙ withdrawing-asked (registered_only e.book (instance_ticket e.instances (caller_of e.frames))) _
-effect-asked e (call.RemoveEnvCleanupHook entry argument) n other =
-    withdrawing-asked (registered_only e.book (hook_ticket (caller_of e.frames) entry argument e.hooks)) _
-effect-asked e call.Exit n other = cc
-effect-asked e c n other = refl
-
-given-asked : (e : Environment) (c : Call) (n : ℕ) (s : Option Status) → is_exiting c ≡ false → (answer_unless e c n s).after.exit_asked ≡ e.exit_asked
-given-asked e c n (Some s) other = refl
-given-asked e c n None other = effect-asked e c n other
-
-at-asked : (e : Environment) (c : Call) (n : ℕ) (early deep : Option Status) → is_exiting c ≡ false
-    → (answer_unless_deep e c n early deep).after.exit_asked ≡ e.exit_asked
-at-asked e c n early None other = given-asked e c n early other
-at-asked e c n (Some r) (Some s) other = refl
-at-asked e c n None (Some s) other = refl
+at-asked : (e : Environment) (c : Call) (n : ℕ) → is_exiting c ≡ false → (answer e c n).after.exit_asked ≡ e.exit_asked
+at-asked e c n other =
+    changed-keeps (λ (d : Environment). d.exit_asked) c e (answer e c n).after asked-ignored
+    (λ is g. let no : true ≡ false = sym (ap is_exiting is) ∙ other in cc) (answer-changed e c n)
 
 answer-asked : (e : Environment) (c : Call) (n : ℕ) → (answer e c n).after.exit_asked ≡ (is_exiting c || e.exit_asked)
 answer-asked e call.Exit n = refl
-answer-asked e c n = at-asked e c n (early_refusal e c) (depth_refusal e.frames c) refl
+answer-asked e c n = at-asked e c n refl
 
 -- STEPS
 -- after the step exit was asked where it was before, or where the entry of the step asks it

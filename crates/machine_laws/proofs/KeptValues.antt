@@ -3,11 +3,8 @@ use Rattle.std.proofs.Common.{◌≡◌, ◌∙◌, ℕ, ◌==◌, Bool, true, f
 use Rattle.std.proofs.lemmas.Bool.{eqb-true, eq-eqb, true≢false}
 use Rattle.std.proofs.lemmas.List.{append-nil, append_assoc, map-append}
 use Rattle.std.proofs.lemmas.List.Elements.{All-head, All-tail, filter-append}
-use Rattle.napi_types.specs.declared.call.Args.{Args}
 use Rattle.napi_types.specs.declared.call.Call.{Call}
 use Rattle.napi_types.specs.declared.call.Call.TheVariants as call
-use Rattle.napi_types.specs.declared.entry.Cause.{Cause}
-use Rattle.napi_types.specs.declared.entry.Cause.TheVariants as cause
 use Rattle.napi_types.specs.declared.entry.Entry.{Entry}
 use Rattle.napi_types.specs.declared.entry.HostStep.TheVariants as host
 use Rattle.napi_types.specs.declared.entry.Out.{Out}
@@ -22,22 +19,14 @@ use Rattle.napi_types.specs.declared.status.Status.{Status}
 use Rattle.napi_types.specs.plain.Entries.{host_entry}
 use Rattle.napi_types.specs.plain.Guards.{is_shared}
 use Rattle.napi_types.specs.plain.Lists.{one}
-use Rattle.napi_types.specs.plain.Replies.{Answer}
 use Rattle.napi_types.specs.parts.Book.{Registration, registration_at}
-use Rattle.napi_types.specs.parts.Frames.{caller_of, cause_of}
 use Rattle.napi_types.specs.parts.Heap.{handle_value}
-use Rattle.napi_types.specs.parts.InstanceData.{instance_ticket}
-use Rattle.napi_types.specs.parts.References.{referred_value}
-use Rattle.napi_types.specs.environment.Calls.{effect, answer_unless, answer_unless_deep}
-use Rattle.napi_types.specs.environment.Changes.{call_change, number_of}
-use Rattle.napi_types.specs.environment.Ends.{uncut_call_end, end_change_by, end_change}
+use Rattle.napi_types.specs.environment.Changes.{number_of}
+use Rattle.napi_types.specs.environment.Ends.{end_change}
 use Rattle.napi_types.specs.environment.Entering.{function_change, asked_change}
 use Rattle.napi_types.specs.environment.Environment.{Environment, FunctionRoot}
-use Rattle.napi_types.specs.environment.ReferenceCalls.{value_told, counted_up}
-use Rattle.napi_types.specs.environment.Refusals.{early_refusal, depth_refusal, refusal}
-use Rattle.napi_types.specs.environment.Registering.{finalizer_if, registering_if, registered_only, withdrawing}
+use Rattle.napi_types.specs.environment.Refusals.{refusal}
 use Rattle.napi_types.specs.environment.SharedCalls.{with_root, without_root, shared_entry}
-use Rattle.napi_types.specs.environment.WrapCalls.{wrapping, finalizing}
 use Rattle.napi_types.specs.hub.HubMoves.{HubMove, Delivers, Closes, Finishes, hub_move}
 use Rattle.napi_types.specs.hub.HubSteps.{hub_step, finish_step}
 use Rattle.napi_types.specs.runs.Choice.{choice}
@@ -45,6 +34,7 @@ use Rattle.napi_types.specs.runs.Loop.{Event, Opens, Inits, Tickets, Moves, Goes
 use Rattle.napi_types.specs.runs.Machine.{Machine}
 use Rattle.napi_types.specs.runs.Run.{after, final}
 use Rattle.napi_types.specs.runs.Step.{Step, ticket_step, move_step, event_step, shared_call_step, end_step_on, step}
+use Rattle.napi_types.proofs.environment.Changed.{Ignores, changed-keeps, asked-changed, ended-changed}
 use Rattle.napi_types.proofs.runs.SharedSteps.{is_of_others}
 use Rattle.napi_types.proofs.runs.Chosen.{chosen-move}
 use Rattle.machine_laws.specs.FunctionRoots.{kept_by, is_finish_of, tells_finish, KeepsOn, NewFunctionsKeepTheirValue, FunctionsKeepUntilTheyFinish, FinishedFunctionsKeepNone}
@@ -56,76 +46,24 @@ use Rattle.machine_laws.proofs.Forms.{Form, form-of, shared-what, ended-what, ev
 abbrev Roots : Environment → List FunctionRoot
 Roots e = e.function_roots
 
-counted-roots : (r : ℕ) (e : Environment) (v : Option ℕ) → Roots (counted_up r e v).after ≡ Roots e
-counted-roots r e None = refl
-counted-roots r e (Some v) = refl
-
-told-roots : (e : Environment) (v : Option ℕ) → Roots (value_told e v).after ≡ Roots e
-told-roots e None = refl
-told-roots e (Some v) = refl
-
-wrapping-roots : (e : Environment) (v payload : ℕ) (entry : Option ℕ) (hint : ℕ) (wanted : Bool) (n : ℕ) → Roots (wrapping e v payload entry hint wanted n).after ≡ Roots e
-wrapping-roots e v payload None hint false n = refl
-wrapping-roots e v payload None hint true n = refl
-wrapping-roots e v payload (Some entry) hint false n = refl
-wrapping-roots e v payload (Some entry) hint true n = refl
-
-finalizing-roots : (e : Environment) (v payload entry hint : ℕ) (wanted : Bool) (n : ℕ) → Roots (finalizing e v payload entry hint wanted n).after ≡ Roots e
-finalizing-roots e v payload entry hint false n = refl
-finalizing-roots e v payload entry hint true n = refl
-
-withdrawing-roots : (t : Option ℕ) (a : Answer Environment) → Roots (withdrawing t a).after ≡ Roots a.after
-withdrawing-roots None a = refl
-withdrawing-roots (Some n) a = refl
-
-registering-roots : (e : Environment) (payload : ℕ) (entry : Option ℕ) (hint : ℕ) (a : Answer Environment)
-    → Roots (registering_if (finalizer_if e payload entry hint) a).after ≡ Roots a.after
-registering-roots e payload None hint a = refl
-registering-roots e payload (Some entry) hint a = refl
-
-effect-roots : (e : Environment) (c : Call) (n : ℕ) → Roots (effect e c n).after ≡ Roots e
-effect-roots e (call.ReferenceRef r) n = counted-roots r.0 e (referred_value e.references r.0)
-effect-roots e (call.GetReferenceValue r) n = told-roots e (referred_value e.references r.0)
-effect-roots e (call.Wrap v payload entry hint wanted) n = wrapping-roots e (handle_value e.heap v.0) payload entry hint wanted n
-effect-roots e (call.RemoveWrap v) n = withdrawing-roots _ _
-effect-roots e (call.AddFinalizer v payload entry hint wanted) n = finalizing-roots e (handle_value e.heap v.0) payload entry hint wanted n
-effect-roots e (call.CreateExternal payload entry hint) n = registering-roots e payload entry hint _
-effect-roots e (call.SetInstanceData payload entry hint) n = registering-roots e payload entry hint _ ∙ withdrawing-roots (registered_only e.book (instance_ticket e.instances (caller_of e.frames))) _
-effect-roots e (call.RemoveEnvCleanupHook entry argument) n = withdrawing-roots _ _
-effect-roots e c n = refl
-
-given-roots : (e : Environment) (c : Call) (n : ℕ) (s : Option Status) → Roots (answer_unless e c n s).after ≡ Roots e
-given-roots e c n None = effect-roots e c n
-given-roots e c n (Some s) = refl
-
-answered-roots : (e : Environment) (c : Call) (n : ℕ) (early deep : Option Status) → Roots (answer_unless_deep e c n early deep).after ≡ Roots e
-answered-roots e c n early None = given-roots e c n early
-answered-roots e c n None (Some s) = refl
-answered-roots e c n (Some r) (Some s) = refl
-
-call-roots : (e : Environment) (c : Call) (n : ℕ) → Roots (call_change e c n).after ≡ Roots e
-call-roots e c n = answered-roots e c n (early_refusal e c) (depth_refusal e.frames c)
-
-function-roots : (receiver : Option HandleId) (f : HandleId) (args : Args) (n : ℕ) (e : Environment) (s : Option Status)
-    → Roots (function_change receiver f args n e s).after ≡ Roots e
-function-roots receiver f args n e None = refl
-function-roots receiver f args n e (Some s) = call-roots e (call.CallFunction receiver f args) n
+roots-ignored : Ignores Roots
+roots-ignored = record {
+  heap = λ d x. refl;
+  frames = λ d x. refl;
+  references = λ d x. refl;
+  attachments = λ d x. refl;
+  book = λ d x. refl;
+  hooks = λ d x. refl;
+  instances = λ d x. refl;
+  pending = λ d x. refl;
+  last = λ d x. refl;
+}
 
 asked-roots : (e : Environment) (c : Call) (n : ℕ) → Roots (asked_change e c n).after ≡ Roots e
-asked-roots e (call.CallFunction receiver f args) n = function-roots receiver f args n e (refusal e (call.CallFunction receiver f args))
-asked-roots e c n = call-roots e c n
-
-left-roots : (v : Option HandleId) (e : Environment) (pending : Option ℕ) → Roots (uncut_call_end v e pending).after ≡ Roots e
-left-roots v e (Some p) = refl
-left-roots v e None = refl
+asked-roots e c n = changed-keeps Roots c e (asked_change e c n).after roots-ignored (λ is g. refl) (asked-changed e c n)
 
 ended-roots : (v : Option HandleId) (cut : Option Why) (e : Environment) → Roots (end_change v cut e).after ≡ Roots e
-ended-roots v cut e = by cut (cause_of e.frames)
-  where
-    by : (cut : Option Why) (c : Cause) → Roots (end_change_by v cut e c).after ≡ Roots e
-    by (Some w) cause.Call = refl
-    by None cause.Call = left-roots v e e.pending
-    by cut _ = refl
+ended-roots v cut e = changed-keeps Roots call.Exit e (end_change v cut e).after roots-ignored (λ is g. refl) (ended-changed call.Exit v cut e)
 
 -- WHAT A FUNCTION KEEPS
 keeps-same : (n : ℕ) (old new : Environment) → Roots new ≡ Roots old → KeepsOn n old new
