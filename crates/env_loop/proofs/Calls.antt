@@ -21,7 +21,6 @@ use Rattle.napi_types.specs.scripts.Plans.{Plan, plan_of, registers_of}
 use Rattle.napi_types.specs.scripts.Registers.{registers_after_reply}
 use Rattle.napi_types.specs.environment.Changes.{Change, number_of, is_fresh_result, call_change}
 use Rattle.napi_types.specs.environment.Entering.{enter_change, asked_change}
-use Rattle.napi_types.specs.environment.Refusals.{early_refusal, depth_refusal}
 use Rattle.napi_types.specs.hub.Hub.{stage_of}
 use Rattle.napi_types.specs.runs.CallRoom.{room_of}
 use Rattle.napi_types.specs.runs.Machine.{Machine}
@@ -60,7 +59,7 @@ call_change-goes {ps} {core} {all} {f} {a} i c r new now below made reply told s
     let fresh_o : is_fresh_result core.env o ≡ true = ap (is_fresh_result core.env) (sym same_out) ∙ reply.fresh in
     let room : is_full (room_of m c) c ≡ false = ap (λ x. is_full x c) (sym (same-room s core hub history c (taken-built a c made) rec.limit)) ∙ reply.fits in
     let told_here : IsTold ps all.registers core.env.frames change.entry.reply now.registers = subst (λ (x : Reply). IsTold ps all.registers core.env.frames x now.registers) reply.answer told in
-    let tells : TellsNoFrame o = reply-tells core.env c k (early_refusal core.env c) (depth_refusal core.env.frames c) in
+    let tells : TellsNoFrame o = reply-tells core.env c k in
     let next : Kept s.plans now.registers (caller_after_reply s.plans rec.own core.env.frames change.entry.reply) =
     registers_after_reply-in s ps core hub history all firsts now.registers core.env.frames change.entry.reply of rec i.sound.owned.frames told_here in
     local-grown s core hub history all firsts rec (built_ask is_built a) change (caller_after_reply s.plans rec.own core.env.frames change.entry.reply) now

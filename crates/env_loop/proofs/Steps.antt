@@ -5,13 +5,10 @@ use Rattle.napi_types.specs.declared.call.Ask.TheVariants as ask
 use Rattle.napi_types.specs.declared.call.Call.{Call}
 use Rattle.napi_types.specs.declared.call.Call.TheVariants as call
 use Rattle.napi_types.specs.declared.entry.Actor.TheVariants as actor
-use Rattle.napi_types.specs.declared.entry.Cause.{Cause}
-use Rattle.napi_types.specs.declared.entry.Cause.TheVariants as cause
 use Rattle.napi_types.specs.declared.entry.Entry.{Entry}
 use Rattle.napi_types.specs.declared.entry.Out.{Out}
 use Rattle.napi_types.specs.declared.entry.Out.TheVariants as out
 use Rattle.napi_types.specs.declared.entry.Why.{Why}
-use Rattle.napi_types.specs.declared.status.Status.{Status}
 use Rattle.napi_types.specs.declared.ids.HandleId.{HandleId}
 use Rattle.napi_types.specs.plain.Built.{is_built, built_ask}
 use Rattle.napi_types.specs.plain.Entries.{cut_of}
@@ -20,15 +17,15 @@ use Rattle.napi_types.specs.plain.Replies.{Answer, accepts}
 use Rattle.napi_types.specs.plain.Room.{is_full}
 use Rattle.napi_types.specs.parts.Attachments.{wrap_payload, wrap_ticket, with_wrap, without_wrap}
 use Rattle.napi_types.specs.parts.Book.{Registration}
-use Rattle.napi_types.specs.parts.Frames.{Frame, caller_of, cause_of, duty_of, is_hub_duty}
+use Rattle.napi_types.specs.parts.Frames.{Frame, caller_of, duty_of, is_hub_duty}
 use Rattle.napi_types.specs.parts.Heap.{Heap, handle_value}
 use Rattle.napi_types.specs.parts.HeapCalls.{addon_effect}
 use Rattle.napi_types.specs.parts.Hooks.{hook_ticket}
 use Rattle.napi_types.specs.parts.InstanceData.{instance_ticket, with_instance}
 use Rattle.napi_types.specs.parts.References.{referred_value}
-use Rattle.napi_types.specs.environment.Calls.{effect, answer_unless, answer_unless_deep}
+use Rattle.napi_types.specs.environment.Calls.{effect, answer}
 use Rattle.napi_types.specs.environment.Changes.{number_of, is_fresh_result, may_ask, may_call}
-use Rattle.napi_types.specs.environment.Ends.{end_out, uncut_call_end, end_change_by, end_change}
+use Rattle.napi_types.specs.environment.Ends.{end_out, end_change}
 use Rattle.napi_types.specs.environment.Entering.{asked_change}
 use Rattle.napi_types.specs.environment.Environment.{Environment}
 use Rattle.napi_types.specs.environment.HookCalls.{unhooked, unhooking}
@@ -43,6 +40,7 @@ use Rattle.napi_types.specs.runs.CallRoom.{room_of}
 use Rattle.napi_types.specs.runs.Machine.{Machine}
 use Rattle.napi_types.specs.runs.Setting.{Setting}
 use Rattle.napi_types.specs.runs.Step.{Step, step, step_of, locally, env_step, frame_step, call_step_on, end_step_on, may_cut}
+use Rattle.napi_types.proofs.environment.Cases.{answer-by, ended-by}
 use Rattle.napi_types.proofs.all_runs.Rooms.{built-room}
 use Rattle.env_core.specs.Core.{Core, room_in}
 use Rattle.env_loop.specs.Recording.{machine_of}
@@ -114,14 +112,10 @@ by-tells e (call.SetInstanceData payload entry hint) n = setting-tells e (caller
 by-tells e (call.RemoveEnvCleanupHook entry argument) n = unhooking-tells e (hook_ticket (caller_of e.frames) entry argument e.hooks)
 by-tells e c n = record { uncut = refl; untold = λ m. refl }
 
-given-tells : (e : Environment) (c : Call) (n : ℕ) (x : Option Status) → TellsNoFrame (answer_unless e c n x).reply.out
-given-tells e c n (Some x) = record { uncut = refl; untold = λ m. refl }
-given-tells e c n None = by-tells e c n
-
-pub reply-tells : (e : Environment) (c : Call) (n : ℕ) (early deep : Option Status) → TellsNoFrame (answer_unless_deep e c n early deep).reply.out
-reply-tells e c n early None = given-tells e c n early
-reply-tells e c n None (Some d) = record { uncut = refl; untold = λ m. refl }
-reply-tells e c n (Some s) (Some d) = record { uncut = refl; untold = λ m. refl }
+pub reply-tells : (e : Environment) (c : Call) (n : ℕ) → TellsNoFrame (answer e c n).reply.out
+reply-tells e c n =
+    let none : TellsNoFrame out.Nothing = record { uncut = refl; untold = λ m. refl } in
+    answer-by e c n (λ a. TellsNoFrame a.reply.out) (λ s. none) (λ s. none) (λ taken. by-tells e c n)
 
 -- and so does the end of a frame tell of no duty that begins
 end-untold : (m : Machine) (cut : Option Why) (p : Option ℕ) → told_at m (end_out cut p) ≡ None
@@ -129,17 +123,8 @@ end-untold m (Some w) p = refl
 end-untold m None None = refl
 end-untold m None (Some v) = refl
 
-left-untold : (m : Machine) (v : Option HandleId) (e : Environment) (p : Option ℕ) → told_at m (uncut_call_end v e p).entry.reply.out ≡ None
-left-untold m v e None = refl
-left-untold m v e (Some p) = refl
-
-by-untold : (m : Machine) (v : Option HandleId) (cut : Option Why) (e : Environment) (c : Cause) → told_at m (end_change_by v cut e c).entry.reply.out ≡ None
-by-untold m v (Some w) e cause.Call = refl
-by-untold m v None e cause.Call = left-untold m v e e.pending
-by-untold m v cut e _ = end-untold m cut e.pending
-
 pub ended-untold : (m : Machine) (v : Option HandleId) (cut : Option Why) (e : Environment) → told_at m (end_change v cut e).entry.reply.out ≡ None
-ended-untold m v cut e = by-untold m v cut e (cause_of e.frames)
+ended-untold m v cut e = ended-by v cut e (λ why d. told_at m d.entry.reply.out ≡ None) (λ w. refl) (λ p. refl) refl (end-untold m cut e.pending)
 
 -- STEPS
 pub two_may : (a b : Bool) → a ≡ true → b ≡ true → (a && b) ≡ true

@@ -3,11 +3,9 @@ use Rattle.std.proofs.Common.{◌≡◌, ◌∙◌, ℕ, Bool, true, false, cond
 use Rattle.std.specs.List.{All}
 use Rattle.std.specs.Option.{unwrap_or}
 use Rattle.std.proofs.lemmas.List.Elements.{All-nil, All-cons}
-use Rattle.napi_types.specs.declared.call.Args.{Args}
 use Rattle.napi_types.specs.declared.call.Ask.{Ask}
 use Rattle.napi_types.specs.declared.call.Ask.TheVariants as ask
 use Rattle.napi_types.specs.declared.call.Call.{Call}
-use Rattle.napi_types.specs.declared.call.Call.TheVariants as call
 use Rattle.napi_types.specs.declared.entry.Actor.TheVariants as actor
 use Rattle.napi_types.specs.declared.entry.Entry.{Entry}
 use Rattle.napi_types.specs.declared.entry.HostStep.TheVariants as host
@@ -15,7 +13,6 @@ use Rattle.napi_types.specs.declared.entry.Out.{Out}
 use Rattle.napi_types.specs.declared.entry.What.TheVariants as what
 use Rattle.napi_types.specs.declared.entry.Why.{Why}
 use Rattle.napi_types.specs.declared.ids.HandleId.{HandleId}
-use Rattle.napi_types.specs.declared.status.Status.{Status}
 use Rattle.napi_types.specs.plain.Built.{built_ask}
 use Rattle.napi_types.specs.plain.Entries.{cut_of}
 use Rattle.napi_types.specs.plain.Guards.{is_shared}
@@ -24,14 +21,14 @@ use Rattle.napi_types.specs.parts.Frames.{Frame, duty_of, is_hub_duty}
 use Rattle.napi_types.specs.scripts.Plans.{Plan, plan_of, Registers, registers_of, loaded_registers}
 use Rattle.napi_types.specs.environment.Changes.{number_of, may_ask}
 use Rattle.napi_types.specs.environment.Ends.{end_change}
-use Rattle.napi_types.specs.environment.Entering.{function_change, asked_change}
+use Rattle.napi_types.specs.environment.Entering.{asked_change}
 use Rattle.napi_types.specs.environment.Environment.{Environment}
-use Rattle.napi_types.specs.environment.Refusals.{refusal}
 use Rattle.napi_types.specs.runs.Machine.{Machine}
 use Rattle.napi_types.specs.runs.Plan.{frame_ask, frames_ask, asked, asked_along, registers_after}
 use Rattle.napi_types.specs.runs.Run.{after, IsNext, IsRunBy}
 use Rattle.napi_types.specs.runs.Setting.{opening_of}
 use Rattle.napi_types.specs.runs.Step.{Step, may_cut, call_step_on, end_step_on, frame_step, step}
+use Rattle.napi_types.proofs.environment.Cases.{asked-by}
 use Rattle.machine_laws.specs.Cuts.{CallsBuilt, UnbuiltCallsAreNeverMade}
 use Rattle.machine_laws.proofs.Choosing.{Happens, happens-alone}
 use Rattle.machine_laws.proofs.Forms.{shared-what, ended-what, event_what, event-what, frame-next}
@@ -41,14 +38,8 @@ use Rattle.machine_laws.proofs.Forms.{shared-what, ended-what, event_what, event
 end-call : (m : Machine) (v : Option HandleId) (cut : Option Why) (may ours : Bool) (c : Call) → (end_step_on ours m (end_change v cut m.env) may).entry.what ≡ what.Call c → ⊥
 end-call m v cut may ours c is = let no : what.Host host.End ≡ what.Call c = sym (ended-what m v cut may ours) ∙ is in cc
 
-function-call : (e : Environment) (receiver : Option HandleId) (f : HandleId) (args : Args) (n : ℕ) (s : Option Status) (c : Call)
-    → (function_change receiver f args n e s).entry.what ≡ what.Call c → call.CallFunction receiver f args ≡ c
-function-call e receiver f args n None c is = cc
-function-call e receiver f args n (Some s) c is = cc
-
 asked-call : (e : Environment) (d : Call) (n : ℕ) (c : Call) → (asked_change e d n).entry.what ≡ what.Call c → d ≡ c
-asked-call e (call.CallFunction receiver f args) n c is = function-call e receiver f args n (refusal e (call.CallFunction receiver f args)) c is
-asked-call e d n c is = cc
+asked-call e d n c = asked-by e d n (λ x. x.entry.what ≡ what.Call c → d ≡ c) (λ is. cc) (λ receiver f args none is. cc)
 
 made-call : (m : Machine) (d : Call) (o : Out) (b : Bool) (c : Call) → (call_step_on b m d o).entry.what ≡ what.Call c → d ≡ c
 made-call m d o false c is = asked-call m.env d (number_of o) c is

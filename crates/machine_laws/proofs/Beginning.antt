@@ -2,9 +2,7 @@
 use Rattle.std.proofs.Common.{◌≡◌, ◌∙◌, ℕ, true, false, not, [], length, IsTrue, refl, ap, sym, subst, Option, Some, None, inl, inr, ◌⊎◌}
 use Rattle.std.specs.Option.{option_or}
 use Rattle.std.proofs.lemmas.Bool.{not-true}
-use Rattle.napi_types.specs.declared.call.Args.{Args}
 use Rattle.napi_types.specs.declared.call.Call.{Call}
-use Rattle.napi_types.specs.declared.call.Call.TheVariants as call
 use Rattle.napi_types.specs.declared.entry.Duty.{Duty}
 use Rattle.napi_types.specs.declared.entry.Entry.{Entry}
 use Rattle.napi_types.specs.declared.entry.HostStep.TheVariants as host
@@ -13,17 +11,14 @@ use Rattle.napi_types.specs.declared.entry.Phase.{Phase}
 use Rattle.napi_types.specs.declared.entry.Phase.TheVariants as phase
 use Rattle.napi_types.specs.declared.entry.What.{What}
 use Rattle.napi_types.specs.declared.entry.What.TheVariants as what
-use Rattle.napi_types.specs.declared.ids.HandleId.{HandleId}
-use Rattle.napi_types.specs.declared.status.Status.{Status}
 use Rattle.napi_types.specs.plain.Entries.{is_begin, told_duty}
 use Rattle.napi_types.specs.plain.Lists.{up_to}
 use Rattle.napi_types.specs.parts.Book.{Registration, is_due, is_at, registration_at, lowest_due, ticket_duty, may_begin_in}
 use Rattle.napi_types.specs.parts.Frames.{is_hub_duty}
 use Rattle.napi_types.specs.parts.Hooks.{Hook, last_hook}
-use Rattle.napi_types.specs.environment.Changes.{number_of}
-use Rattle.napi_types.specs.environment.Entering.{function_change, asked_change}
+use Rattle.napi_types.specs.environment.Changes.{number_of, call_change}
+use Rattle.napi_types.specs.environment.Entering.{asked_change}
 use Rattle.napi_types.specs.environment.Environment.{Environment}
-use Rattle.napi_types.specs.environment.Refusals.{refusal}
 use Rattle.napi_types.specs.hub.Hub.{Stage, Going, Drained}
 use Rattle.napi_types.specs.hub.HubMoves.{HubMove, Delivers, Closes, Finishes, hub_move}
 use Rattle.napi_types.specs.hub.HubSteps.{begin_step, delivery_entry}
@@ -33,6 +28,7 @@ use Rattle.napi_types.specs.runs.Machine.{Machine}
 use Rattle.napi_types.specs.runs.Step.{Step, ticket_step, move_step, event_step, chosen, step}
 use Rattle.napi_types.proofs.plain.Lists.{find-passes}
 use Rattle.napi_types.proofs.parts.Books.{IsDueAt, lowest-due, lowest-below}
+use Rattle.napi_types.proofs.environment.Cases.{asked-by}
 use Rattle.napi_types.proofs.hub.HubDuties.{delivery-of_hub}
 use Rattle.napi_types.proofs.runs.SharedSteps.{others-none}
 use Rattle.napi_types.proofs.runs.Chosen.{OwnChoice, opens, inits, exits, due_in_loop, hooks, due_at_end, ends, own-choice, HubChoice, goes, idles, quiets, drains, finals, moves_in_loop, moves_at_end, hub-choice, chosen-by}
@@ -87,15 +83,9 @@ none-begins : (x : Entry) (w : What) (d : Duty) → x.what ≡ w → is_begin w 
 none-begins x w d same other begins = let z : true ≡ false = ap is_begin (sym begins.0 ∙ same) ∙ other in cc
 
 -- a call of a frame begins no duty
-function_change-begins : (receiver : Option HandleId) (f : HandleId) (args : Args) (n : ℕ) (e : Environment) (s : Option Status) (d : Duty)
-    → Begins (function_change receiver f args n e s).entry d → ⊥
-function_change-begins receiver f args n e None d begins = let z : None ≡ Some d = begins.1 in cc
-function_change-begins receiver f args n e (Some s) d begins =
-    none-begins (function_change receiver f args n e (Some s)).entry (what.Call (call.CallFunction receiver f args)) d refl refl begins
-
 asked-begins : (e : Environment) (c : Call) (n : ℕ) (d : Duty) → Begins (asked_change e c n).entry d → ⊥
-asked-begins e (call.CallFunction receiver f args) n d begins = function_change-begins receiver f args n e (refusal e (call.CallFunction receiver f args)) d begins
-asked-begins e c n d begins = none-begins (asked_change e c n).entry (what.Call c) d refl refl begins
+asked-begins e c n d = asked-by e c n (λ x. Begins x.entry d → ⊥) (λ begins. none-begins (call_change e c n).entry (what.Call c) d refl refl begins)
+    (λ receiver f args none begins. let z : None ≡ Some d = begins.1 in cc)
 
 -- a ticket's frame tells its duty
 ticket-duty : (m : Machine) (n : ℕ) (r : Option Registration) (d : Duty) → Begins (ticket_step m n r).entry d → d ≡ ticket_duty n

@@ -4,9 +4,7 @@ use Rattle.std.proofs.lemmas.Bool.{ltb-false}
 use Rattle.std.specs.Option.{option_or}
 use Rattle.napi_types.specs.declared.call.Ask.{Ask}
 use Rattle.napi_types.specs.declared.call.Ask.TheVariants as ask
-use Rattle.napi_types.specs.declared.call.Args.{Args}
 use Rattle.napi_types.specs.declared.call.Call.{Call}
-use Rattle.napi_types.specs.declared.call.Call.TheVariants as call
 use Rattle.napi_types.specs.declared.entry.Actor.TheVariants as actor
 use Rattle.napi_types.specs.declared.entry.Entry.{Entry}
 use Rattle.napi_types.specs.declared.entry.HostStep.{HostStep}
@@ -18,16 +16,14 @@ use Rattle.napi_types.specs.declared.entry.What.{What}
 use Rattle.napi_types.specs.declared.entry.What.TheVariants as what
 use Rattle.napi_types.specs.declared.entry.Why.{Why}
 use Rattle.napi_types.specs.declared.ids.HandleId.{HandleId}
-use Rattle.napi_types.specs.declared.status.Status.{Status}
 use Rattle.napi_types.specs.plain.Entries.{cut_of, is_begin}
 use Rattle.napi_types.specs.plain.Guards.{is_shared}
 use Rattle.napi_types.specs.parts.Book.{Registration, registration_at}
 use Rattle.napi_types.specs.parts.Frames.{Frame, duty_of, is_hub_duty}
 use Rattle.napi_types.specs.environment.Changes.{number_of, may_ask}
 use Rattle.napi_types.specs.environment.Ends.{end_change}
-use Rattle.napi_types.specs.environment.Entering.{function_change, asked_change}
+use Rattle.napi_types.specs.environment.Entering.{asked_change}
 use Rattle.napi_types.specs.environment.Environment.{Environment}
-use Rattle.napi_types.specs.environment.Refusals.{refusal}
 use Rattle.napi_types.specs.hub.Hub.{stage_of, Hub, Stage, Before, Looped, Drained, is_spent}
 use Rattle.napi_types.specs.hub.HubMoves.{Delivers, Closes, Finishes, hub_move}
 use Rattle.napi_types.specs.hub.HubSteps.{begin_step, delivery_entry}
@@ -37,6 +33,7 @@ use Rattle.napi_types.specs.runs.Machine.{Machine}
 use Rattle.napi_types.specs.runs.Run.{IsNext, after}
 use Rattle.napi_types.specs.runs.Setting.{final_of}
 use Rattle.napi_types.specs.runs.Step.{Step, locally, ticket_step, event_step, chosen, may_cut, call_step_on, end_step_on, frame_step, step}
+use Rattle.napi_types.proofs.environment.Cases.{asked-by}
 use Rattle.napi_types.proofs.runs.SharedSteps.{is_of_others, others-none}
 use Rattle.napi_types.proofs.runs.Chosen.{chosen-move, OwnChoice, inits, exits, due_in_loop, hooks, due_at_end, ends, own-choice, NoChoice, begun, unhooked, no-choice, HubChoice, goes, drains, finals, hub-choice, chosen-by}
 use Rattle.machine_laws.specs.Choices.{is_of_frames, NoneIsChosenInFrames, TellsFrame, BeginsTellTheirFrames, may_come_to, OwnEventsComeFirst, HubEventsComeLast, MayGo, GoComesAfterInitFrames, GoneComesAfterFinals, HubIsInPhase, GoComesOnlyAfterInitFrames, DrainComesOnlyAfterHooks, FinalsComeOnlyOnceAllEnded}
@@ -52,13 +49,8 @@ OfFrames x = is_of_frames x.what x.reply.out ≡ true
 ended-of : (m : Machine) (v : Option HandleId) (cut : Option Why) (may ours : Bool) → OfFrames (end_step_on ours m (end_change v cut m.env) may).entry
 ended-of m v cut may ours = ap (λ w. is_of_frames w (end_step_on ours m (end_change v cut m.env) may).entry.reply.out) (ended-what m v cut may ours)
 
-function_change-of : (receiver : Option HandleId) (f : HandleId) (args : Args) (n : ℕ) (e : Environment) (s : Option Status) → OfFrames (function_change receiver f args n e s).entry
-function_change-of receiver f args n e None = refl
-function_change-of receiver f args n e (Some s) = refl
-
 asked-of : (e : Environment) (c : Call) (n : ℕ) → OfFrames (asked_change e c n).entry
-asked-of e (call.CallFunction receiver f args) n = function_change-of receiver f args n e (refusal e (call.CallFunction receiver f args))
-asked-of e c n = refl
+asked-of e c n = asked-by e c n (λ d. OfFrames d.entry) refl (λ receiver f args none. refl)
 
 called-of : (m : Machine) (c : Call) (o : Out) (b : Bool) → OfFrames (call_step_on b m c o).entry
 called-of m c o false = asked-of m.env c (number_of o)
@@ -84,14 +76,9 @@ Tells t = t.entry.what ≡ what.Host host.Begin → TellsFrame t.entry t.after
 other-tells : (t : Step) (w : What) → t.entry.what ≡ w → is_begin w ≡ false → Tells t
 other-tells t w same other is = let z : true ≡ false = ap is_begin (sym is ∙ same) ∙ other in cc
 
-function_change-tells : (m : Machine) (receiver : Option HandleId) (f : HandleId) (args : Args) (n : ℕ) (s : Option Status)
-    → Tells (locally m (function_change receiver f args n m.env s) true)
-function_change-tells m receiver f args n None is = record { frame = _; outer = _; stands = refl; told = refl }
-function_change-tells m receiver f args n (Some s) is = cc
-
 asked-tells : (m : Machine) (c : Call) (n : ℕ) → Tells (locally m (asked_change m.env c n) true)
-asked-tells m (call.CallFunction receiver f args) n is = function_change-tells m receiver f args n (refusal m.env (call.CallFunction receiver f args)) is
-asked-tells m c n is = cc
+asked-tells m c n =
+    asked-by m.env c n (λ d. Tells (locally m d true)) (λ is. cc) (λ receiver f args none is. record { frame = _; outer = _; stands = refl; told = refl })
 
 ticket-tells : (m : Machine) (n : ℕ) (r : Option Registration) → Tells (ticket_step m n r)
 ticket-tells m n None is = cc

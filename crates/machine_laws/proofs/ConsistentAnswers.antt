@@ -8,7 +8,6 @@ use Rattle.napi_types.specs.declared.body.Body.TheVariants as body
 use Rattle.napi_types.specs.declared.call.Call.{Call}
 use Rattle.napi_types.specs.declared.call.Call.TheVariants as call
 use Rattle.napi_types.specs.declared.ids.TextNo.{TextNo}
-use Rattle.napi_types.specs.declared.status.Status.{Status}
 use Rattle.napi_types.specs.plain.Lists.{found}
 use Rattle.napi_types.specs.plain.Replies.{Answer}
 use Rattle.napi_types.specs.parts.Attachments.{Attachments, wrap_ticket, with_attached}
@@ -20,15 +19,15 @@ use Rattle.napi_types.specs.parts.Hooks.{Hook, hook_ticket}
 use Rattle.napi_types.specs.parts.InstanceData.{Instances, instance_ticket}
 use Rattle.napi_types.specs.parts.References.{Reference, ReferenceMap, referred_value, with_reference, without_reference, with_count}
 use Rattle.napi_types.specs.parts.Values.{undefined_value}
-use Rattle.napi_types.specs.environment.Calls.{effect, answer_unless, answer_unless_deep}
+use Rattle.napi_types.specs.environment.Calls.{effect, answer}
 use Rattle.napi_types.specs.environment.Changes.{call_change}
 use Rattle.napi_types.specs.environment.Environment.{FunctionRoot, Environment, with_heap}
 use Rattle.napi_types.specs.environment.ExceptionCalls.{with_pending, with_thrown_error}
 use Rattle.napi_types.specs.environment.ReferenceCalls.{with_references, counted_up, value_told}
-use Rattle.napi_types.specs.environment.Refusals.{early_refusal, depth_refusal}
 use Rattle.napi_types.specs.environment.Registering.{finalizer_if, registering_if, registered_only, withdrawing}
 use Rattle.napi_types.specs.environment.WrapCalls.{with_attachments, referring_if}
 use Rattle.napi_types.proofs.environment.Answers.{KeepsButAsk, call_change-keeps}
+use Rattle.napi_types.proofs.environment.Cases.{answer-by}
 use Rattle.machine_laws.specs.Consistency.{IsConsistent, IsLiveAmong, IsMap}
 use Rattle.machine_laws.proofs.Collected.{heap-kept, referred-kept, pending-kept, rooted-kept}
 use Rattle.machine_laws.proofs.ConsistentCalls.{heap-call, handle-live, or-undefined}
@@ -252,14 +251,8 @@ by-call e call.Exit k g =
     record { good = record { heap = g.heap; referred = g.referred; references = g.references; pending = g.pending; rooted = g.rooted }; stay = stays e.heap }
 by-call e c k g = in-heap e _ g (heap-call (caller_of e.frames) e.heap c k g.heap)
 
-given-good : (e : Environment) (c : Call) (k : ℕ) (s : Option Status) → IsConsistentButFrames e → LeadsTo e (answer_unless e c k s).after
-given-good e c k (Some s) g = unmoved e g
-given-good e c k None g = by-call e c k g
-
-at-good : (e : Environment) (c : Call) (k : ℕ) (early deep : Option Status) → IsConsistentButFrames e → LeadsTo e (answer_unless_deep e c k early deep).after
-at-good e c k early None g = given-good e c k early g
-at-good e c k (Some r) (Some s) g = unmoved e g
-at-good e c k None (Some s) g = thrown-good e None _ g
+answer-good : (e : Environment) (c : Call) (k : ℕ) → IsConsistentButFrames e → LeadsTo e (answer e c k).after
+answer-good e c k g = answer-by e c k (λ a. LeadsTo e a.after) (λ s. unmoved e g) (λ s. thrown-good e None _ g) (λ none. by-call e c k g)
 
 -- one environment leads to another, which is consistent
 pub record Follows (old new : Environment) : Type 0 where
@@ -268,7 +261,7 @@ pub record Follows (old new : Environment) : Type 0 where
 
 pub call_change-follows : (e : Environment) (c : Call) (k : ℕ) → IsConsistent e → Follows e (call_change e c k).after
 call_change-follows e c k old =
-    let led : LeadsTo e _ = at-good e c k (early_refusal e c) (depth_refusal e.frames c) (parts-of e old) in
+    let led : LeadsTo e _ = answer-good e c k (parts-of e old) in
     let new : Environment = (call_change e c k).after in
     let keeps : KeepsButAsk c e (call_change e c k).entry.reply new = call_change-keeps e c k in
     let good : IsConsistentButFrames new = record {

@@ -10,7 +10,6 @@ use Rattle.napi_types.specs.declared.call.Call.{Call}
 use Rattle.napi_types.specs.declared.call.Call.TheVariants as call
 use Rattle.napi_types.specs.declared.entry.Actor.{Actor}
 use Rattle.napi_types.specs.declared.entry.Actor.TheVariants as actor
-use Rattle.napi_types.specs.declared.entry.Cause.{Cause}
 use Rattle.napi_types.specs.declared.entry.Cause.TheVariants as cause
 use Rattle.napi_types.specs.declared.entry.Entry.{Entry}
 use Rattle.napi_types.specs.declared.entry.Out.{Out}
@@ -26,15 +25,15 @@ use Rattle.napi_types.specs.plain.Entries.{cut_of}
 use Rattle.napi_types.specs.plain.Guards.{is_shared}
 use Rattle.napi_types.specs.plain.Lists.{tail}
 use Rattle.napi_types.specs.parts.Book.{Book, Registration, due_info, moved_at, registration_at, begun_in}
-use Rattle.napi_types.specs.parts.Frames.{Frame, frame_of, frame_of_duty, cause_of, duty_of, is_hub_duty, most_frames, ask_counted}
+use Rattle.napi_types.specs.parts.Frames.{Frame, frame_of, frame_of_duty, duty_of, is_hub_duty, most_frames, ask_counted}
 use Rattle.napi_types.specs.parts.FunctionCalls.{left_value, with_receiver}
 use Rattle.napi_types.specs.parts.Heap.{Heap, handle_value}
 use Rattle.napi_types.specs.parts.HeapChanges.{with_handle, with_frame, without_frame}
 use Rattle.napi_types.specs.parts.Hooks.{Hook}
 use Rattle.napi_types.specs.parts.Values.{undefined_value}
 use Rattle.napi_types.specs.environment.Changes.{opening_change, gone_change, in_phase, number_of, may_ask, with_noted_status}
-use Rattle.napi_types.specs.environment.Ends.{end_change_by, uncut_call_end, end_change}
-use Rattle.napi_types.specs.environment.Entering.{enter_change, function_change, asked_change}
+use Rattle.napi_types.specs.environment.Ends.{uncut_call_end, end_change, outermost_end_change}
+use Rattle.napi_types.specs.environment.Entering.{enter_change, asked_change}
 use Rattle.napi_types.specs.environment.Environment.{Environment, FunctionRoot}
 use Rattle.napi_types.specs.environment.Refusals.{refusal, early_refusal, depth_refusal}
 use Rattle.napi_types.specs.environment.SharedCalls.{with_root, without_root, after_shared}
@@ -45,6 +44,7 @@ use Rattle.napi_types.specs.runs.Machine.{Machine}
 use Rattle.napi_types.specs.runs.Run.{after, final}
 use Rattle.napi_types.specs.runs.Step.{Step, ticket_step, move_step, event_step, chosen, may_cut, call_step_on, end_step_on, asked_step, frame_step, env_step, step_of}
 use Rattle.napi_types.proofs.plain.Lists.{length-changed, length-tail, none-last, not-when}
+use Rattle.napi_types.proofs.environment.Cases.{asked-by, ended-by}
 use Rattle.napi_types.proofs.runs.SharedSteps.{after_shared-alone}
 use Rattle.machine_laws.specs.Consistency.{IsConsistent, IsLiveAmong}
 use Rattle.machine_laws.proofs.ConsistentAnswers.{IsConsistentButFrames, Follows, parts-of, whole-of, in-heap, call_change-follows}
@@ -86,25 +86,25 @@ left-live : (e : Environment) (v : Option HandleId) → IsConsistentHeap e.heap 
 left-live e None g = g.starting 0 0 (omega arith)
 left-live e (Some h) g = handle-live e.heap h.0 g
 
-left-follows : (v : Option HandleId) (e : Environment) (pending : Option ℕ) → IsConsistent e → Follows e (uncut_call_end v e pending).after
-left-follows v e (Some p) c = kept-ended e (without_frame e.heap) status.PendingException c (without-frame e.heap (parts-of e c).heap) refl
-left-follows v e None c =
+left-follows : (v : Option HandleId) (e : Environment) → IsConsistent e → Follows e (uncut_call_end v e None).after
+left-follows v e c =
     let good : IsConsistentHeap e.heap = (parts-of e c).heap in
     let left : ComesTo e.heap (without_frame e.heap) = without-frame e.heap good in
     let heap : Heap = with_handle (left_value e.heap v) (without_frame e.heap) in
     let given : ComesTo (without_frame e.heap) heap = with-handle (without_frame e.heap) (left_value e.heap v) left.good (left-live e v good) in
     kept-ended e heap status.Ok c (and-then e.heap (without_frame e.heap) heap left given) (length-changed _ (tail e.heap.scopes))
 
-by-cause : (v : Option HandleId) (cut : Option Why) (e : Environment) (why : Cause) → IsConsistent e → Follows e (end_change_by v cut e why).after
-by-cause v (Some w) e cause.Call c = kept-ended e (without_frame e.heap) status.GenericFailure c (without-frame e.heap (parts-of e c).heap) refl
-by-cause v None e cause.Call c = left-follows v e e.pending c
-by-cause v cut e _ c =
+outermost-follows : (cut : Option Why) (e : Environment) → IsConsistent e → Follows e (outermost_end_change cut e).after
+outermost-follows cut e c =
     let left : ComesTo e.heap (without_frame e.heap) = without-frame e.heap (parts-of e c).heap in
     let g : IsConsistentButFrames (record e { heap = without_frame e.heap }) = (in-heap e (without_frame e.heap) (parts-of e c) left).good in
     ended-follows e (without_frame e.heap) None e.last _ c left refl (record { heap = g.heap; referred = g.referred; references = g.references; pending = tt; rooted = g.rooted })
 
 frame-follows : (v : Option HandleId) (cut : Option Why) (e : Environment) → IsConsistent e → Follows e (end_change v cut e).after
-frame-follows v cut e c = by-cause v cut e (cause_of e.frames) c
+frame-follows v cut e c =
+    let cut_short : (s : Status) → Follows e (record e { heap = without_frame e.heap; frames = tail e.frames; last = s }) =
+    λ s. kept-ended e (without_frame e.heap) s c (without-frame e.heap (parts-of e c).heap) refl in
+    ended-by v cut e (λ why d. Follows e d.after) (λ w. cut_short _) (λ p. cut_short _) (left-follows v e c) (outermost-follows cut e c)
 
 -- THE BEGIN OF A FRAME
 with-receiver : (heap : Heap) (receiver : Option HandleId) → IsConsistentHeap heap → ComesTo heap (with_receiver receiver heap)
@@ -141,14 +141,9 @@ enter_change-follows e receiver f args h c =
       stay = comes.stay;
     }
 
-function_change-follows : (e : Environment) (receiver : Option HandleId) (f : HandleId) (args : Args) (k : ℕ) (s : Option Status)
-    → refusal e (call.CallFunction receiver f args) ≡ s → IsConsistent e → Follows e (function_change receiver f args k e s).after
-function_change-follows e receiver f args k None h c = enter_change-follows e receiver f args h c
-function_change-follows e receiver f args k (Some s) h c = call_change-follows e (call.CallFunction receiver f args) k c
-
 asked-follows : (e : Environment) (c : Call) (k : ℕ) → IsConsistent e → Follows e (asked_change e c k).after
-asked-follows e (call.CallFunction receiver f args) k c = function_change-follows e receiver f args k (refusal e (call.CallFunction receiver f args)) refl c
-asked-follows e c k old = call_change-follows e c k old
+asked-follows e c k old =
+    asked-by e c k (λ d. Follows e d.after) (call_change-follows e c k old) (λ receiver f args none. enter_change-follows e receiver f args none old)
 
 -- EVENTS WHERE NO FRAME STANDS
 -- what is neither heap, references, pending exception nor frames may change

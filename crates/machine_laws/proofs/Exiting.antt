@@ -1,12 +1,9 @@
 -- What asks to exit, and what comes of it in a run.
 use Rattle.std.proofs.Common.{◌≡◌, ◌∙◌, ℕ, Bool, true, false, not, ◌||◌, List, [], ◌∷◌, IsTrue, refl, ap, sym, subst, Option, Some, None, ◌⊎◌, inl, inr}
 use Rattle.std.proofs.Math.Bool.{or-false}
-use Rattle.napi_types.specs.declared.call.Args.{Args}
 use Rattle.napi_types.specs.declared.call.Ask.{Ask}
 use Rattle.napi_types.specs.declared.call.Call.{Call}
 use Rattle.napi_types.specs.declared.call.Call.TheVariants as call
-use Rattle.napi_types.specs.declared.entry.Cause.{Cause}
-use Rattle.napi_types.specs.declared.entry.Cause.TheVariants as cause
 use Rattle.napi_types.specs.declared.entry.Entry.{Entry}
 use Rattle.napi_types.specs.declared.entry.HostStep.TheVariants as host
 use Rattle.napi_types.specs.declared.entry.LoopEnd.{LoopEnd}
@@ -19,17 +16,14 @@ use Rattle.napi_types.specs.declared.entry.What.{What}
 use Rattle.napi_types.specs.declared.entry.What.TheVariants as what
 use Rattle.napi_types.specs.declared.entry.Why.{Why}
 use Rattle.napi_types.specs.declared.ids.HandleId.{HandleId}
-use Rattle.napi_types.specs.declared.status.Status.{Status}
 use Rattle.napi_types.specs.plain.Built.{is_exiting}
 use Rattle.napi_types.specs.plain.Entries.{host_entry}
 use Rattle.napi_types.specs.plain.Guards.{is_shared}
 use Rattle.napi_types.specs.parts.Book.{lowest_due}
-use Rattle.napi_types.specs.parts.Frames.{cause_of}
 use Rattle.napi_types.specs.environment.Calls.{answer}
-use Rattle.napi_types.specs.environment.Ends.{end_change_by, uncut_call_end, end_change}
-use Rattle.napi_types.specs.environment.Entering.{function_change, asked_change}
+use Rattle.napi_types.specs.environment.Ends.{end_change}
+use Rattle.napi_types.specs.environment.Entering.{asked_change}
 use Rattle.napi_types.specs.environment.Environment.{Environment}
-use Rattle.napi_types.specs.environment.Refusals.{refusal}
 use Rattle.napi_types.specs.environment.SharedCalls.{shared_entry}
 use Rattle.napi_types.specs.hub.Hub.{stage_of, Stage, Before, Going, Looped, Drained, Final}
 use Rattle.napi_types.specs.hub.HubMoves.{HubMove, Delivers, Closes, Finishes, hub_move}
@@ -43,6 +37,7 @@ use Rattle.napi_types.specs.runs.Step.{Step, locally, shared, move_step, event_s
 use Rattle.napi_types.proofs.environment.Changed.{Ignores, changed-keeps, answer-changed}
 use Rattle.napi_types.proofs.plain.Conditions.{and-right}
 use Rattle.napi_types.proofs.environment.FrameEnds.{ended-ends}
+use Rattle.napi_types.proofs.environment.Cases.{asked-by, ended-by}
 use Rattle.napi_types.proofs.hub.HubKeeps.{hub_step-what}
 use Rattle.napi_types.proofs.runs.SharedSteps.{is_of_others, others-told, after_shared-alone}
 use Rattle.napi_types.proofs.runs.StepCases.{StepCase, calls, ends, opens, inits, begins, vanishes, shares, leaves, passes, moves, others, event_before, InPhase, step-case}
@@ -85,26 +80,11 @@ answer-asked e c n = at-asked e c n refl
 abbrev Notes : Machine → Step → Type 0
 Notes m t = t.after.env.exit_asked ≡ (asks_exit t.entry.what || m.env.exit_asked)
 
-left-notes : (m : Machine) (v : Option HandleId) (pending : Option ℕ) → Notes m (locally m (uncut_call_end v m.env pending) true)
-left-notes m v None = refl
-left-notes m v (Some p) = refl
-
-ended-notes-by : (m : Machine) (v : Option HandleId) (cut : Option Why) (c : Cause) → Notes m (locally m (end_change_by v cut m.env c) true)
-ended-notes-by m v (Some w) cause.Call = refl
-ended-notes-by m v None cause.Call = left-notes m v m.env.pending
-ended-notes-by m v cut _ = refl
-
 ended-notes : (m : Machine) (v : Option HandleId) (cut : Option Why) → Notes m (locally m (end_change v cut m.env) true)
-ended-notes m v cut = ended-notes-by m v cut (cause_of m.env.frames)
-
-function_change-notes : (m : Machine) (receiver : Option HandleId) (f : HandleId) (args : Args) (n : ℕ) (s : Option Status)
-    → Notes m (locally m (function_change receiver f args n m.env s) true)
-function_change-notes m receiver f args n None = refl
-function_change-notes m receiver f args n (Some s) = answer-asked m.env (call.CallFunction receiver f args) n
+ended-notes m v cut = ended-by v cut m.env (λ why d. Notes m (locally m d true)) (λ w. refl) (λ p. refl) refl refl
 
 asked-notes : (m : Machine) (c : Call) (n : ℕ) → Notes m (locally m (asked_change m.env c n) true)
-asked-notes m (call.CallFunction receiver f args) n = function_change-notes m receiver f args n (refusal m.env (call.CallFunction receiver f args))
-asked-notes m c n = answer-asked m.env c n
+asked-notes m c n = asked-by m.env c n (λ d. Notes m (locally m d true)) (answer-asked m.env c n) (λ receiver f args none. refl)
 
 -- a shared call is none that asks it, and changes nothing of it
 shared-exits : (c : Call) → is_shared c ≡ true → is_exiting c ≡ false

@@ -15,7 +15,6 @@ use Rattle.napi_types.specs.declared.entry.What.TheVariants as what
 use Rattle.napi_types.specs.declared.entry.Why.{Why}
 use Rattle.napi_types.specs.declared.ids.HandleId.{HandleId}
 use Rattle.napi_types.specs.declared.ids.TsfnId.{TsfnId}
-use Rattle.napi_types.specs.declared.status.Status.{Status}
 use Rattle.napi_types.specs.plain.Entries.{host_entry}
 use Rattle.napi_types.specs.plain.Guards.{is_shared}
 use Rattle.napi_types.specs.plain.Lists.{one}
@@ -23,9 +22,8 @@ use Rattle.napi_types.specs.parts.Book.{Registration, registration_at}
 use Rattle.napi_types.specs.parts.Heap.{handle_value}
 use Rattle.napi_types.specs.environment.Changes.{number_of}
 use Rattle.napi_types.specs.environment.Ends.{end_change}
-use Rattle.napi_types.specs.environment.Entering.{function_change, asked_change}
+use Rattle.napi_types.specs.environment.Entering.{asked_change}
 use Rattle.napi_types.specs.environment.Environment.{Environment, FunctionRoot}
-use Rattle.napi_types.specs.environment.Refusals.{refusal}
 use Rattle.napi_types.specs.environment.SharedCalls.{with_root, without_root, shared_entry}
 use Rattle.napi_types.specs.hub.HubMoves.{HubMove, Delivers, Closes, Finishes, hub_move}
 use Rattle.napi_types.specs.hub.HubSteps.{hub_step, finish_step}
@@ -35,6 +33,7 @@ use Rattle.napi_types.specs.runs.Machine.{Machine}
 use Rattle.napi_types.specs.runs.Run.{after, final}
 use Rattle.napi_types.specs.runs.Step.{Step, ticket_step, move_step, event_step, shared_call_step, end_step_on, step}
 use Rattle.napi_types.proofs.environment.Changed.{Ignores, changed-keeps, asked-changed, ended-changed}
+use Rattle.napi_types.proofs.environment.Cases.{asked-by}
 use Rattle.napi_types.proofs.runs.SharedSteps.{is_of_others}
 use Rattle.napi_types.proofs.runs.Chosen.{chosen-move}
 use Rattle.machine_laws.specs.FunctionRoots.{kept_by, is_finish_of, tells_finish, KeepsOn, NewFunctionsKeepTheirValue, FunctionsKeepUntilTheyFinish, FinishedFunctionsKeepNone}
@@ -189,13 +188,7 @@ keep-until-they-finish m (a ∷ bs) [] n run none = absurd run
 -- A NEW FUNCTION
 -- the entry of a local call is the call, or the begin of a frame
 asked-what : (e : Environment) (c : Call) (n : ℕ) → ((asked_change e c n).entry.what ≡ what.Call c) ⊎ ((asked_change e c n).entry.what ≡ what.Host host.Begin)
-asked-what e (call.CallFunction receiver f args) n = by (refusal e (call.CallFunction receiver f args))
-  where
-    by : (s : Option Status) → ((function_change receiver f args n e s).entry.what ≡ what.Call (call.CallFunction receiver f args))
-        ⊎ ((function_change receiver f args n e s).entry.what ≡ what.Host host.Begin)
-    by None = inr refl
-    by (Some s) = inl refl
-asked-what e c n = inl refl
+asked-what e c n = asked-by e c n (λ d. (d.entry.what ≡ what.Call c) ⊎ (d.entry.what ≡ what.Host host.Begin)) (inl refl) (λ receiver f args none. inr refl)
 
 module _ (m : Machine) (f : HandleId) (entry : Option ℕ) (maximum count : ℕ) (finalizer : Option ℕ) (context : ℕ) (n : TsfnId) where
   abbrev creation : Call

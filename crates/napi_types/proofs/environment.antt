@@ -1,5 +1,6 @@
 -- On the environment: what its calls and the ends of its frames keep.
 pub mod Answers
+pub mod Cases
 pub mod Changed
 pub mod FrameChanges
 pub mod FrameEnds

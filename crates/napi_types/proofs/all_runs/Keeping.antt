@@ -1,14 +1,11 @@
 -- Each collection of a run keeps exactly what the roots reach.
 use Rattle.std.proofs.Common.{◌≡◌, ℕ, Bool, true, false, IsTrue, length, List, [], ◌∷◌, Option, Some, None, refl, sym, ◌∙◌, ap, subst}
-use Rattle.napi_types.specs.declared.call.Args.{Args}
 use Rattle.napi_types.specs.declared.call.Ask.{Ask}
 use Rattle.napi_types.specs.declared.call.Ask.TheVariants as ask
 use Rattle.napi_types.specs.declared.call.Call.{Call}
 use Rattle.napi_types.specs.declared.call.Call.TheVariants as call
 use Rattle.napi_types.specs.declared.entry.Actor.{Actor}
 use Rattle.napi_types.specs.declared.entry.Actor.TheVariants as actor
-use Rattle.napi_types.specs.declared.entry.Cause.{Cause}
-use Rattle.napi_types.specs.declared.entry.Cause.TheVariants as cause
 use Rattle.napi_types.specs.declared.entry.Entry.{Entry}
 use Rattle.napi_types.specs.declared.entry.HostStep.{HostStep}
 use Rattle.napi_types.specs.declared.entry.HostStep.TheVariants as host
@@ -19,16 +16,14 @@ use Rattle.napi_types.specs.declared.entry.Phase.TheVariants as phase
 use Rattle.napi_types.specs.declared.entry.What.TheVariants as what
 use Rattle.napi_types.specs.declared.entry.Why.{Why}
 use Rattle.napi_types.specs.declared.ids.HandleId.{HandleId}
-use Rattle.napi_types.specs.declared.status.Status.{Status}
 use Rattle.napi_types.specs.plain.Entries.{host_entry, is_environment, cut_of}
 use Rattle.napi_types.specs.plain.Guards.{is_shared}
 use Rattle.napi_types.specs.parts.Book.{Registration, registration_at}
-use Rattle.napi_types.specs.parts.Frames.{Frame, cause_of, duty_of, is_hub_duty}
+use Rattle.napi_types.specs.parts.Frames.{Frame, duty_of, is_hub_duty}
 use Rattle.napi_types.specs.environment.Changes.{number_of, may_ask}
-use Rattle.napi_types.specs.environment.Ends.{uncut_call_end, call_end_change, end_change_by, end_change}
-use Rattle.napi_types.specs.environment.Entering.{function_change, asked_change}
+use Rattle.napi_types.specs.environment.Ends.{end_change}
+use Rattle.napi_types.specs.environment.Entering.{asked_change}
 use Rattle.napi_types.specs.environment.Environment.{Environment}
-use Rattle.napi_types.specs.environment.Refusals.{refusal}
 use Rattle.napi_types.specs.environment.Roots.{roots}
 use Rattle.napi_types.specs.environment.SharedCalls.{shared_entry}
 use Rattle.napi_types.specs.hub.HubCalls.{is_thread_call}
@@ -42,6 +37,7 @@ use Rattle.napi_types.specs.runs.Step.{Step, by_hub, ticket_step, move_step, eve
 use Rattle.napi_types.specs.all_runs.CollectionLaw.{Collects, KeepsReached}
 use Rattle.napi_types.proofs.plain.Conditions.{and-right}
 use Rattle.napi_types.proofs.parts.Reaching.{numbers-kept}
+use Rattle.napi_types.proofs.environment.Cases.{asked-by, ended-by}
 use Rattle.napi_types.proofs.hub.HubKeeps.{hub_step-what, other-calls}
 
 -- an entry of a collection
@@ -78,26 +74,14 @@ chosen-other : (m : Machine) (event : Option Event) → IsCollection (chosen m e
 chosen-other m None is = cc
 chosen-other m (Some event) is = event-other m event is
 
-left-other : (v : Option HandleId) (e : Environment) (pending : Option ℕ) → IsCollection (uncut_call_end v e pending).entry → ⊥
-left-other v e None is = cc
-left-other v e (Some p) is = cc
-
-over-other : (v : Option HandleId) (cut : Option Why) (e : Environment) → IsCollection (call_end_change v cut e).entry → ⊥
-over-other v None e is = left-other v e e.pending is
-over-other v (Some w) e is = cc
-
-ended-other : (v : Option HandleId) (cut : Option Why) (e : Environment) (c : Cause) → IsCollection (end_change_by v cut e c).entry → ⊥
-ended-other v cut e cause.Call is = over-other v cut e is
-ended-other v cut e _ is = cc
-
-function_change-other : (receiver : Option HandleId) (f : HandleId) (args : Args) (n : ℕ) (e : Environment) (s : Option Status) → IsCollection (function_change receiver f args n e s).entry → ⊥
-function_change-other receiver f args n e None is = cc
-function_change-other receiver f args n e (Some s) is = cc
+ended-other : (v : Option HandleId) (cut : Option Why) (e : Environment) → IsCollection (end_change v cut e).entry → ⊥
+ended-other v cut e = ended-by v cut e (λ why d. IsCollection d.entry → ⊥) (λ w is. cc) (λ p is. cc) (λ is. cc) (λ is. cc)
 
 -- COLLECTIONS
 -- nothing refuses one
 asked-kept : (e : Environment) (c : Call) (n : ℕ) → IsCollection (asked_change e c n).entry → Collects e (asked_change e c n).after (asked_change e c n).entry
-asked-kept e (call.CallFunction receiver f args) n is = absurd (function_change-other receiver f args n e (refusal e (call.CallFunction receiver f args)) is)
+asked-kept e (call.CallFunction receiver f args) n is =
+    absurd (asked-by e (call.CallFunction receiver f args) n (λ d. IsCollection d.entry → ⊥) (λ collects. cc) (λ r g given none collects. cc) is)
 asked-kept e call.Collect n is = record { values = numbers-kept e.heap.values (roots e); unchanged = refl; references = refl; attachments = refl; book = refl; told = refl }
 asked-kept e c n is = cc
 
@@ -118,8 +102,8 @@ call-step-kept m c o false shares may is = asked-kept m.env c (number_of o) is
 call-step-kept m c o true shares may is = absurd (shared-other m c o shares is)
 
 end-step-kept : (m : Machine) (v : Option HandleId) (cut : Option Why) (may : Bool) (b : Bool) → StepKeeps m (end_step_on b m (end_change v cut m.env) may)
-end-step-kept m v cut may false m' is = absurd (ended-other v cut m.env (cause_of m.env.frames) is)
-end-step-kept m v cut may true m' is = absurd (hub-other m (end_change v cut m.env).entry (ended-other v cut m.env (cause_of m.env.frames)) is)
+end-step-kept m v cut may false m' is = absurd (ended-other v cut m.env is)
+end-step-kept m v cut may true m' is = absurd (hub-other m (end_change v cut m.env).entry (ended-other v cut m.env) is)
 
 asked-step-kept : (m : Machine) (a : Ask) (o : Out) → StepKeeps m (asked_step m a o)
 asked-step-kept m (ask.Do c) o may is = call-step-kept m c o (is_shared c) refl may is

@@ -5,10 +5,8 @@ use Rattle.std.specs.Option.{unwrap_or}
 use Rattle.std.proofs.lemmas.Bool.{eqb-true}
 use Rattle.std.proofs.lemmas.List.Sums.{sum_by-cons}
 use Rattle.std.proofs.lemmas.Option.{slice_get_past}
-use Rattle.napi_types.specs.declared.call.Args.{Args}
 use Rattle.napi_types.specs.declared.call.Ask.{Ask}
 use Rattle.napi_types.specs.declared.call.Call.{Call}
-use Rattle.napi_types.specs.declared.call.Call.TheVariants as call
 use Rattle.napi_types.specs.declared.entry.Cause.{Cause}
 use Rattle.napi_types.specs.declared.entry.Cause.TheVariants as cause
 use Rattle.napi_types.specs.declared.entry.Duty.{Duty}
@@ -21,16 +19,14 @@ use Rattle.napi_types.specs.declared.entry.Phase.{Phase}
 use Rattle.napi_types.specs.declared.entry.Phase.TheVariants as phase
 use Rattle.napi_types.specs.declared.entry.Why.{Why}
 use Rattle.napi_types.specs.declared.ids.HandleId.{HandleId}
-use Rattle.napi_types.specs.declared.status.Status.{Status}
 use Rattle.napi_types.specs.plain.Entries.{host_entry, begun_duty}
 use Rattle.napi_types.specs.plain.Room.{one_if, is_full}
 use Rattle.napi_types.specs.parts.Book.{Book, Registration, TicketState, Registered, is_registered, is_owed, is_at, made_due, made_withdrawn, made_ended, moved, moved_where, moved_at, due_where, registration_at, owed_tickets, ticket_duty, new_ticket, with_registration, begun_in, may_begin_in}
 use Rattle.napi_types.specs.parts.Frames.{caller_of, cause_of, duty_of, is_hub_duty}
 use Rattle.napi_types.specs.environment.Changes.{Change, may_call, book_in}
-use Rattle.napi_types.specs.environment.Ends.{duty_ended, uncut_call_end, end_change_by, end_change}
-use Rattle.napi_types.specs.environment.Entering.{enter_change, function_change, asked_change}
+use Rattle.napi_types.specs.environment.Ends.{duty_ended, end_change}
+use Rattle.napi_types.specs.environment.Entering.{enter_change, asked_change}
 use Rattle.napi_types.specs.environment.Environment.{Environment}
-use Rattle.napi_types.specs.environment.Refusals.{refusal}
 use Rattle.napi_types.specs.environment.SharedCalls.{shared_entry}
 use Rattle.napi_types.specs.hub.Hub.{Hub}
 use Rattle.napi_types.specs.hub.HubMoves.{HubMove, Delivers, Closes, Finishes}
@@ -49,6 +45,7 @@ use Rattle.napi_types.proofs.parts.Books.{owed-cons, Leaves, withdrawn-leaves, l
 use Rattle.napi_types.proofs.parts.Moved.{registration_at-moved_where, registration_at-new, registration_at-old}
 use Rattle.napi_types.proofs.environment.Answers.{call_change-keeps}
 use Rattle.napi_types.proofs.environment.FrameChanges.{book_left, ended-keeps as end_change-keeps, enter_change-keeps, hangings-parts}
+use Rattle.napi_types.proofs.environment.Cases.{asked-by, ended-by}
 use Rattle.napi_types.proofs.hub.HubDuties.{OfHub, SparesTickets, hub_step-spares}
 use Rattle.napi_types.proofs.runs.SharedSteps.{StandsStill, shares-still}
 use Rattle.napi_types.proofs.runs.StepCases.{StepCase, calls, ends, opens, inits, begins, vanishes, shares, leaves, passes, moves, others, event_before}
@@ -105,18 +102,10 @@ duty-is (Some (duty.Item f n)) b = nothing b b refl
 duty-is (Some (duty.Function f)) b = nothing b b refl
 duty-is None b = nothing b b refl
 
-left-is : (v : Option HandleId) (e : Environment) (p : Option ℕ) → EntryTickets e.book (uncut_call_end v e p).entry (uncut_call_end v e p).after.book
-left-is v e None = nothing e.book e.book refl
-left-is v e (Some p) = nothing e.book e.book refl
-
-end-by : (v : Option HandleId) (cut : Option Why) (e : Environment) (c : Cause)
-    → EntryTickets e.book (end_change_by v cut e c).entry (end_change_by v cut e c).after.book
-end-by v (Some w) e cause.Call = nothing e.book e.book refl
-end-by v None e cause.Call = left-is v e e.pending
-end-by v cut e _ = duty-is (duty_of e.frames) e.book
-
 pub end-is : (v : Option HandleId) (cut : Option Why) (e : Environment) → EntryTickets e.book (end_change v cut e).entry (end_change v cut e).after.book
-end-is v cut e = end-by v cut e (cause_of e.frames)
+end-is v cut e =
+    let none : TicketStep e.book None None None e.book = nothing e.book e.book refl in
+    ended-by v cut e (λ why d. EntryTickets e.book d.entry d.after.book) (λ w. none) (λ p. none) none (duty-is (duty_of e.frames) e.book)
 
 -- that of the hub's own frames ends no ticket
 hub-ended : (d : Option Duty) (b : Book) → is_hub_duty d ≡ true → duty_ended d b ≡ b
@@ -131,16 +120,10 @@ hub-left cause.Call d b ours = refl
 hub-left _ d b ours = hub-ended d b ours
 
 -- a call
-function-is : (receiver : Option HandleId) (f : HandleId) (args : Args) (n : ℕ) (e : Environment) (s : Option Status)
-    → EntryTickets e.book (function_change receiver f args n e s).entry (function_change receiver f args n e s).after.book
-function-is receiver f args n e (Some s) = called (caller_of e.frames) _ _ _ (call_change-keeps e (call.CallFunction receiver f args) n).book
-function-is receiver f args n e None =
-    let after : Environment = (enter_change receiver f args e).after in
-    nothing e.book after.book (hangings-parts e after (enter_change-keeps receiver f args e).hangings).book
-
 pub asked-is : (e : Environment) (c : Call) (n : ℕ) → EntryTickets e.book (asked_change e c n).entry (asked_change e c n).after.book
-asked-is e (call.CallFunction receiver f args) n = function-is receiver f args n e (refusal e (call.CallFunction receiver f args))
-asked-is e c n = called (caller_of e.frames) _ _ _ (call_change-keeps e c n).book
+asked-is e c n =
+    asked-by e c n (λ d. EntryTickets e.book d.entry d.after.book) (called (caller_of e.frames) _ _ _ (call_change-keeps e c n).book)
+    (λ receiver f args none. nothing _ _ (hangings-parts e (enter_change receiver f args e).after (enter_change-keeps receiver f args e).hangings).book)
 
 -- an entry of the hub
 hub-is : (b : Book) (h : Hub) (x : Entry) (c : Book) → IsTrue (hub_step h x).may → c ≡ b → EntryDuties b (hub_step h x).entry c

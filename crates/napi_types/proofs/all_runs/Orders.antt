@@ -5,10 +5,8 @@ use Rattle.std.specs.Option.{unwrap_or}
 use Rattle.std.proofs.lemmas.Bool.{eqb-true, eq-eqb, or_cases, or_left, or_right}
 use Rattle.std.proofs.lemmas.List.Elements.{All-nil, All-cons, All-head, All-tail, All-weaker}
 use Rattle.std.proofs.lemmas.Option.{same_Some}
-use Rattle.napi_types.specs.declared.call.Args.{Args}
 use Rattle.napi_types.specs.declared.call.Ask.{Ask}
 use Rattle.napi_types.specs.declared.call.Call.{Call}
-use Rattle.napi_types.specs.declared.call.Call.TheVariants as call
 use Rattle.napi_types.specs.declared.entry.Cause.{Cause}
 use Rattle.napi_types.specs.declared.entry.Cause.TheVariants as cause
 use Rattle.napi_types.specs.declared.duties.DueInfo.{DueInfo}
@@ -24,7 +22,6 @@ use Rattle.napi_types.specs.declared.entry.What.{What}
 use Rattle.napi_types.specs.declared.entry.What.TheVariants as what
 use Rattle.napi_types.specs.declared.entry.Why.{Why}
 use Rattle.napi_types.specs.declared.ids.HandleId.{HandleId}
-use Rattle.napi_types.specs.declared.status.Status.{Status}
 use Rattle.napi_types.specs.plain.Entries.{host_entry, is_environment, is_begin, is_finals}
 use Rattle.napi_types.specs.plain.Lists.{found, has}
 use Rattle.napi_types.specs.plain.Phases.{next_phase}
@@ -32,11 +29,10 @@ use Rattle.napi_types.specs.parts.Book.{Book, Registration, TicketState, Registe
 use Rattle.napi_types.specs.parts.Frames.{cause_of, duty_of, is_hub_duty}
 use Rattle.napi_types.specs.parts.Hooks.{Hook, last_hook, without_hook}
 use Rattle.napi_types.specs.environment.Ends.{end_change}
-use Rattle.napi_types.specs.environment.Entering.{function_change, asked_change}
+use Rattle.napi_types.specs.environment.Entering.{asked_change}
 use Rattle.napi_types.specs.environment.Environment.{Environment}
 use Rattle.napi_types.specs.environment.Hooked.{is_late, StandsIn, IsHooked}
 use Rattle.napi_types.specs.environment.Moments.{is_tearing}
-use Rattle.napi_types.specs.environment.Refusals.{refusal}
 use Rattle.napi_types.specs.environment.SharedCalls.{shared_entry}
 use Rattle.napi_types.specs.environment.Tickets.{hooks_left, ticket_in}
 use Rattle.napi_types.specs.hub.Hub.{Hub}
@@ -56,6 +52,7 @@ use Rattle.napi_types.proofs.environment.FrameChanges.{SameHangings, hangings-pa
 use Rattle.napi_types.proofs.environment.FrameEnds.{ended-ends}
 use Rattle.napi_types.proofs.environment.Registrations.{registered-holds}
 use Rattle.napi_types.proofs.environment.TornBooks.{NoneMore, asked-more, left-more, begun-more, left-above}
+use Rattle.napi_types.proofs.environment.Cases.{asked-by}
 use Rattle.napi_types.proofs.hub.HubDuties.{IsOfHub, delivery-of_hub}
 use Rattle.napi_types.proofs.hub.HubKeeps.{hub_step-what}
 use Rattle.napi_types.proofs.runs.SharedSteps.{StandsStill, shares-still, moves-still, others-still, IsNoEvent, others-told, others-none}
@@ -147,13 +144,10 @@ record IsPlain (x : Entry) : Type 0 where
   pub hooks : hooks_told x ≡ []
   pub finals : is_finals x.what ≡ false
 
-function-plain : (receiver : Option HandleId) (f : HandleId) (args : Args) (n : ℕ) (e : Environment) (s : Option Status) → IsPlain (function_change receiver f args n e s).entry
-function-plain receiver f args n e None = record { tickets = refl; hooks = refl; finals = refl }
-function-plain receiver f args n e (Some s) = record { tickets = refl; hooks = refl; finals = refl }
-
 asked-plain : (e : Environment) (c : Call) (n : ℕ) → IsPlain (asked_change e c n).entry
-asked-plain e (call.CallFunction receiver f args) n = function-plain receiver f args n e (refusal e (call.CallFunction receiver f args))
-asked-plain e c n = record { tickets = refl; hooks = refl; finals = refl }
+asked-plain e c n =
+    asked-by e c n (λ d. IsPlain d.entry) (record { tickets = refl; hooks = refl; finals = refl })
+    (λ receiver f args none. record { tickets = refl; hooks = refl; finals = refl })
 
 -- an entry that is no begin, and not `finals`
 plain-by : (x : Entry) (w : What) → x.what ≡ w → IsNoEvent w → IsPlain x

@@ -3,7 +3,6 @@ use Rattle.std.proofs.Common.{◌≡◌, ◌∙◌, ℕ, ◌+◌, nat_lt, Bool, 
 use Rattle.std.specs.List.{All}
 use Rattle.std.specs.Option.{option_or}
 use Rattle.std.proofs.lemmas.List.Elements.{All-nil, All-cons, All-head, All-tail}
-use Rattle.napi_types.specs.declared.call.Args.{Args}
 use Rattle.napi_types.specs.declared.call.Ask.{Ask}
 use Rattle.napi_types.specs.declared.call.Ask.TheVariants as ask
 use Rattle.napi_types.specs.declared.call.Call.{Call}
@@ -25,7 +24,7 @@ use Rattle.napi_types.specs.declared.entry.What.TheVariants as what
 use Rattle.napi_types.specs.declared.entry.Why.{Why}
 use Rattle.napi_types.specs.declared.ids.HandleId.{HandleId}
 use Rattle.napi_types.specs.declared.status.Status.{Status}
-use Rattle.napi_types.specs.plain.Built.{built_ask}
+use Rattle.napi_types.specs.plain.Built.{built_ask, is_built}
 use Rattle.napi_types.specs.plain.Entries.{is_environment, cut_of, begun_duty}
 use Rattle.napi_types.specs.plain.Guards.{is_shared}
 use Rattle.napi_types.specs.plain.Lists.{tail}
@@ -37,9 +36,8 @@ use Rattle.napi_types.specs.scripts.Plans.{Plan, Registers, loaded_registers, pl
 use Rattle.napi_types.specs.environment.Calls.{answer}
 use Rattle.napi_types.specs.environment.Changes.{Change, call_change, opening_change, init_change, gone_change, number_of, may_ask}
 use Rattle.napi_types.specs.environment.Ends.{end_change}
-use Rattle.napi_types.specs.environment.Entering.{enter_change, function_change, asked_change}
+use Rattle.napi_types.specs.environment.Entering.{asked_change}
 use Rattle.napi_types.specs.environment.Environment.{Environment}
-use Rattle.napi_types.specs.environment.Refusals.{refusal}
 use Rattle.napi_types.specs.environment.Tickets.{ticket_change}
 use Rattle.napi_types.specs.hub.Hub.{Hub, Stage, Before, Going, Looped, Drained, Final, stage_after, quiet_hub}
 use Rattle.napi_types.specs.hub.HubCalls.{is_thread_call, hub_answer}
@@ -58,8 +56,9 @@ use Rattle.napi_types.specs.all_runs.Laws.{RunsAloneAreQuiet, OnlyTicketsAreMade
 use Rattle.napi_types.proofs.plain.Conditions.{and-left, and-right}
 use Rattle.napi_types.proofs.parts.BookSteps.{BookStep, stays}
 use Rattle.napi_types.proofs.environment.Answers.{answer-keeps}
-use Rattle.napi_types.proofs.environment.FrameChanges.{ended-keeps, KeepsAndEnters, enter_change-keeps}
+use Rattle.napi_types.proofs.environment.FrameChanges.{ended-keeps, enter_change-keeps}
 use Rattle.napi_types.proofs.environment.FrameEnds.{Ends, ended-ends}
+use Rattle.napi_types.proofs.environment.Cases.{asked-by}
 use Rattle.napi_types.proofs.hub.HubKeeps.{answered-may}
 use Rattle.napi_types.proofs.all_runs.Onces.{TicketStep, called, began, EntryTickets, nothing, phase-is, end-is, asked-is, made-cons, dropped-cons, begun-cons}
 
@@ -152,16 +151,9 @@ counted-local (f ∷ fs) all = All-cons IsLocal (record f { asks = f.asks + 1 })
 called-local : (e : Environment) (c : Call) (n : ℕ) → All IsLocal e.frames → All IsLocal (call_change e c n).after.frames
 called-local e c n all = counted-local (answer e c n).after.frames (subst (λ fs. All IsLocal fs) (sym (answer-keeps e c n).frames) all)
 
-function-local : (receiver : Option HandleId) (f : HandleId) (args : Args) (n : ℕ) (e : Environment) (s : Option Status) → All IsLocal e.frames
-    → All IsLocal (function_change receiver f args n e s).after.frames
-function-local receiver f args n e (Some s) all = called-local e (call.CallFunction receiver f args) n all
-function-local receiver f args n e None all =
-    let k : KeepsAndEnters e (enter_change receiver f args e).after f = enter_change-keeps receiver f args e in
-    subst (λ fs. All IsLocal fs) (sym k.frames) (All-cons IsLocal _ (ask_counted e.frames) refl (counted-local e.frames all))
-
 asked-local : (e : Environment) (c : Call) (n : ℕ) → All IsLocal e.frames → All IsLocal (asked_change e c n).after.frames
-asked-local e (call.CallFunction receiver f args) n all = function-local receiver f args n e (refusal e (call.CallFunction receiver f args)) all
-asked-local e c n all = called-local e c n all
+asked-local e c n all = asked-by e c n (λ d. All IsLocal d.after.frames) (called-local e c n all)
+    (λ receiver f args none. subst (λ fs. All IsLocal fs) (sym (enter_change-keeps receiver f args e).frames) (All-cons IsLocal _ _ refl (counted-local e.frames all)))
 
 ended-local : (v : Option HandleId) (cut : Option Why) (e : Environment) → All IsLocal e.frames → All IsLocal (end_change v cut e).after.frames
 ended-local v cut e all = subst (λ fs. All IsLocal fs) (sym (ended-keeps v cut e).frames) (tail-local e.frames all)
@@ -181,14 +173,9 @@ is_of_shared (what.Host event) = false
 called-tells : (e : Environment) (c : Call) (n : ℕ) → is_shared c ≡ false → TellsQuiet (call_change e c n).entry
 called-tells e c n alone = record { actor = refl; unshared = λ d is. ap is_of_shared (sym is) ∙ alone; loop_ended = λ is. cc; drained = λ is. cc }
 
-function-tells : (receiver : Option HandleId) (f : HandleId) (args : Args) (n : ℕ) (e : Environment) (s : Option Status)
-    → TellsQuiet (function_change receiver f args n e s).entry
-function-tells receiver f args n e (Some s) = called-tells e (call.CallFunction receiver f args) n refl
-function-tells receiver f args n e None = record { actor = refl; unshared = λ c is. cc; loop_ended = λ is. cc; drained = λ is. cc }
-
 asked-tells : (e : Environment) (c : Call) (n : ℕ) → is_shared c ≡ false → TellsQuiet (asked_change e c n).entry
-asked-tells e (call.CallFunction receiver f args) n alone = function-tells receiver f args n e (refusal e (call.CallFunction receiver f args))
-asked-tells e c n alone = called-tells e c n alone
+asked-tells e c n alone = asked-by e c n (λ d. TellsQuiet d.entry) (called-tells e c n alone)
+    (λ receiver f args none. record { actor = refl; unshared = λ c is. cc; loop_ended = λ is. cc; drained = λ is. cc })
 
 ended-tells : (v : Option HandleId) (cut : Option Why) (e : Environment) → TellsQuiet (end_change v cut e).entry
 ended-tells v cut e =

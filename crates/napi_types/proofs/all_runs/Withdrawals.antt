@@ -2,12 +2,9 @@
 use Rattle.std.proofs.Common.{◌≡◌, ℕ, Bool, true, false, not, ◌&&◌, List, [], ◌∷◌, IsTrue, refl, sym, subst, Option, Some, None, is_some, arith}
 use Rattle.std.specs.List.{All}
 use Rattle.std.proofs.lemmas.List.Elements.{All-nil, All-cons}
-use Rattle.napi_types.specs.declared.call.Args.{Args}
 use Rattle.napi_types.specs.declared.call.Ask.{Ask}
 use Rattle.napi_types.specs.declared.call.Call.{Call}
 use Rattle.napi_types.specs.declared.call.Call.TheVariants as call
-use Rattle.napi_types.specs.declared.entry.Cause.{Cause}
-use Rattle.napi_types.specs.declared.entry.Cause.TheVariants as cause
 use Rattle.napi_types.specs.declared.entry.Duty.{Duty}
 use Rattle.napi_types.specs.declared.entry.Duty.TheVariants as duty
 use Rattle.napi_types.specs.declared.entry.Entry.{Entry}
@@ -18,25 +15,23 @@ use Rattle.napi_types.specs.declared.entry.What.{What}
 use Rattle.napi_types.specs.declared.entry.What.TheVariants as what
 use Rattle.napi_types.specs.declared.entry.Why.{Why}
 use Rattle.napi_types.specs.declared.ids.HandleId.{HandleId}
-use Rattle.napi_types.specs.declared.status.Status.{Status}
 use Rattle.napi_types.specs.declared.status.Status.TheVariants as status
 use Rattle.napi_types.specs.plain.Entries.{host_entry}
 use Rattle.napi_types.specs.plain.Replies.{Answer}
 use Rattle.napi_types.specs.plain.Room.{is_full}
 use Rattle.napi_types.specs.parts.Attachments.{wrap_ticket}
 use Rattle.napi_types.specs.parts.Book.{Registration}
-use Rattle.napi_types.specs.parts.Frames.{caller_of, cause_of}
+use Rattle.napi_types.specs.parts.Frames.{caller_of}
 use Rattle.napi_types.specs.parts.Heap.{handle_value}
 use Rattle.napi_types.specs.parts.Hooks.{hook_ticket}
 use Rattle.napi_types.specs.parts.InstanceData.{instance_ticket}
 use Rattle.napi_types.specs.parts.References.{referred_value}
-use Rattle.napi_types.specs.environment.Calls.{effect, answer_unless, answer_unless_deep}
+use Rattle.napi_types.specs.environment.Calls.{effect, answer}
 use Rattle.napi_types.specs.environment.Changes.{may_call}
-use Rattle.napi_types.specs.environment.Ends.{uncut_call_end, end_change_by, end_change}
-use Rattle.napi_types.specs.environment.Entering.{function_change, asked_change}
+use Rattle.napi_types.specs.environment.Ends.{end_change}
+use Rattle.napi_types.specs.environment.Entering.{asked_change}
 use Rattle.napi_types.specs.environment.Environment.{Environment}
 use Rattle.napi_types.specs.environment.ReferenceCalls.{value_told, counted_up}
-use Rattle.napi_types.specs.environment.Refusals.{refusal, early_refusal, depth_refusal}
 use Rattle.napi_types.specs.environment.Registering.{finalizer_if, registering_if, registered_only, withdrawing}
 use Rattle.napi_types.specs.environment.SharedCalls.{shared_entry}
 use Rattle.napi_types.specs.environment.WrapCalls.{referring_if}
@@ -51,6 +46,7 @@ use Rattle.napi_types.specs.runs.Step.{Step, move_step, has_room, step}
 use Rattle.napi_types.specs.all_runs.Counts.{made, dropped, begun, IsOnce, may_withdraw, WithdrawsRightly}
 use Rattle.napi_types.specs.all_runs.Laws.{WithdrawnByTheirCalls, EveryDutyIsOnce, is_ticket}
 use Rattle.napi_types.proofs.plain.Conditions.{and-right}
+use Rattle.napi_types.proofs.environment.Cases.{answer-by, asked-by, ended-by}
 use Rattle.napi_types.proofs.hub.HubDuties.{hub_step-spares}
 use Rattle.napi_types.proofs.runs.StepCases.{StepCase, calls, ends, opens, inits, begins, vanishes, shares, leaves, passes, moves, others, step-case}
 use Rattle.napi_types.proofs.all_runs.Onces.{tickets-are-once}
@@ -107,14 +103,8 @@ effect-rightly e (call.RemoveEnvCleanupHook entry argument) n =
     withdrawing-rightly _ None (registered_only e.book (hook_ticket (caller_of e.frames) entry argument e.hooks)) _ refl refl refl
 effect-rightly e c n = nothing (what.Call c) _ refl
 
-given-rightly : (e : Environment) (c : Call) (n : ℕ) (s : Option Status) → Rightly (what.Call c) (answer_unless e c n s).reply
-given-rightly e c n None = effect-rightly e c n
-given-rightly e c n (Some s) = nothing (what.Call c) _ refl
-
-answer-rightly : (e : Environment) (c : Call) (n : ℕ) (early deep : Option Status) → Rightly (what.Call c) (answer_unless_deep e c n early deep).reply
-answer-rightly e c n early None = given-rightly e c n early
-answer-rightly e c n None (Some s) = nothing (what.Call c) _ refl
-answer-rightly e c n (Some r) (Some s) = nothing (what.Call c) _ refl
+answer-rightly : (e : Environment) (c : Call) (n : ℕ) → Rightly (what.Call c) (answer e c n).reply
+answer-rightly e c n = answer-by e c n (λ a. Rightly (what.Call c) a.reply) (λ s. nothing _ _ refl) (λ s. nothing _ _ refl) (λ none. effect-rightly e c n)
 
 -- EVERY ENTRY OF A RUN
 abbrev EntryRightly : Entry → Type 0
@@ -129,29 +119,15 @@ move-rightly m (Delivers d) may = hub-rightly m.hub (delivery_entry d) may
 move-rightly m (Closes n) may = hub-rightly m.hub (host_entry host.CloseTsfn (out.Function (record { 0 = n }))) may
 move-rightly m (Finishes n) may = hub-rightly m.hub (host_entry host.FinishTsfn (out.Function (record { 0 = n }))) may
 
-left-rightly : (v : Option HandleId) (e : Environment) (p : Option ℕ) → EntryRightly (uncut_call_end v e p).entry
-left-rightly v e None = nothing _ _ refl
-left-rightly v e (Some p) = nothing _ _ refl
-
-end-rightly : (v : Option HandleId) (cut : Option Why) (e : Environment) (c : Cause) → EntryRightly (end_change_by v cut e c).entry
-end-rightly v (Some w) e cause.Call = nothing _ _ refl
-end-rightly v None e cause.Call = left-rightly v e e.pending
-end-rightly v cut e _ = nothing _ _ refl
-
-function-rightly : (receiver : Option HandleId) (f : HandleId) (args : Args) (n : ℕ) (e : Environment) (s : Option Status)
-    → EntryRightly (function_change receiver f args n e s).entry
-function-rightly receiver f args n e (Some s) =
-    let c : Call = call.CallFunction receiver f args in
-    answer-rightly e c n (early_refusal e c) (depth_refusal e.frames c)
-function-rightly receiver f args n e None = nothing _ _ refl
+end-rightly : (v : Option HandleId) (cut : Option Why) (e : Environment) → EntryRightly (end_change v cut e).entry
+end-rightly v cut e = ended-by v cut e (λ why d. EntryRightly d.entry) (λ w. nothing _ _ refl) (λ p. nothing _ _ refl) (nothing _ _ refl) (nothing _ _ refl)
 
 asked-rightly : (e : Environment) (c : Call) (n : ℕ) → EntryRightly (asked_change e c n).entry
-asked-rightly e (call.CallFunction receiver f args) n = function-rightly receiver f args n e (refusal e (call.CallFunction receiver f args))
-asked-rightly e c n = answer-rightly e c n (early_refusal e c) (depth_refusal e.frames c)
+asked-rightly e c n = asked-by e c n (λ d. EntryRightly d.entry) (answer-rightly e c n) (λ receiver f args none. nothing _ _ refl)
 
 step-rightly : (m : Machine) (s : Step) → StepCase m s → IsTrue s.may → EntryRightly s.entry
 step-rightly m _ (calls c n may alone) ok = asked-rightly m.env c n
-step-rightly m _ (ends v cut may alone) ok = end-rightly v cut m.env (cause_of m.env.frames)
+step-rightly m _ (ends v cut may alone) ok = end-rightly v cut m.env
 step-rightly m _ opens ok = nothing _ _ refl
 step-rightly m _ (inits n) ok = nothing _ _ refl
 step-rightly m _ (begins n r there next may) ok = nothing _ _ refl

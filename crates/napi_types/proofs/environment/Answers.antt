@@ -33,7 +33,7 @@ use Rattle.napi_types.specs.parts.OwnRefusals.{row_refusal}
 use Rattle.napi_types.specs.parts.PropertyCalls.{names_of}
 use Rattle.napi_types.specs.parts.ReferenceRefusals.{reference_refusal}
 use Rattle.napi_types.specs.parts.References.{ReferenceMap, referred_value}
-use Rattle.napi_types.specs.environment.Calls.{effect, answer_unless, answer_unless_deep, with_depth_error, answer}
+use Rattle.napi_types.specs.environment.Calls.{effect, with_depth_error, answer}
 use Rattle.napi_types.specs.environment.Changes.{call_change}
 use Rattle.napi_types.specs.environment.Collection.{collected}
 use Rattle.napi_types.specs.environment.Environment.{Environment, in_heap}
@@ -43,7 +43,7 @@ use Rattle.napi_types.specs.environment.InstanceCalls.{setting_instance}
 use Rattle.napi_types.specs.environment.JournalRoom.{reserved_journal}
 use Rattle.napi_types.specs.environment.Moments.{is_tearing, guard_refusal, registering_refusal, moment_refusal}
 use Rattle.napi_types.specs.environment.ReferenceCalls.{value_told, counted_up}
-use Rattle.napi_types.specs.environment.Refusals.{attached_refusal, timely_refusal, early_refusal, depth_refusal}
+use Rattle.napi_types.specs.environment.Refusals.{attached_refusal, timely_refusal, early_refusal}
 use Rattle.napi_types.specs.environment.Registering.{finalizer_if, ticket_if, registering_if, registered_only, withdrawing}
 use Rattle.napi_types.specs.environment.Roots.{reach}
 use Rattle.napi_types.specs.environment.WrapCalls.{referring_if, wrapping, finalizing}
@@ -51,6 +51,7 @@ use Rattle.napi_types.proofs.plain.Maps.{length-with_record}
 use Rattle.napi_types.proofs.plain.Lists.{length-changed, not-when, none-first, none-last}
 use Rattle.napi_types.proofs.plain.CallFacts.{needs-place}
 use Rattle.napi_types.proofs.parts.BookSteps.{BookStep, stays, adds, drops, collects, swaps, step-owed}
+use Rattle.napi_types.proofs.environment.Cases.{answer-by}
 
 -- what a call keeps of a heap: how many frames have scopes. It issues one number of each kind at most, and makes as many values as an array of names has, with the array
 pub record HeapKeeps (old new : Heap) : Type 0 where
@@ -294,24 +295,19 @@ effect-keeps e call.Collect n h = collected-keeps e (reach e) _
 effect-keeps e call.Exit n h = record { course = refl; frames = refl; heap = same e.heap; references = omega arith; book = stays e.book refl }
 effect-keeps e c n h = keeps-heap e c n h
 
-given-keeps : (e : Environment) (c : Call) (n : ℕ) (s : Option Status) → early_refusal e c ≡ s → Keeps e (answer_unless e c n s)
-given-keeps e c n None h =
+-- a call that nothing refuses early is not refused by what it reads in the heap
+unrefused : (e : Environment) (c : Call) → early_refusal e c ≡ None → refusal_in e.texts e.heap c ≡ None
+unrefused e c h =
     let timely : timely_refusal e c ≡ None = none-last (moment_refusal e c) (timely_refusal e c) h in
     let named : option_or (reference_refusal e.references c) (attached_refusal e c) ≡ None = none-last (hook_refusal (caller_of e.frames) e.hooks c) _ timely in
     let later : attached_refusal e c ≡ None = none-last (reference_refusal e.references c) _ named in
-    effect-keeps e c n (none-first (refusal_in e.texts e.heap c) (attachment_refusal e.attachments e.heap c) later)
-given-keeps e c n (Some s) h = refuses-all e s
+    none-first (refusal_in e.texts e.heap c) (attachment_refusal e.attachments e.heap c) later
 
 limit-keeps : (e : Environment) (s : Status) → Keeps e (refuses s (with_depth_error e))
 limit-keeps e s = record { course = refl; frames = refl; heap = thrown-keeps e.heap None _; references = omega arith; book = stays e.book refl }
 
-at-keeps : (e : Environment) (c : Call) (n : ℕ) (early deep : Option Status) → early_refusal e c ≡ early → Keeps e (answer_unless_deep e c n early deep)
-at-keeps e c n early None h = given-keeps e c n early h
-at-keeps e c n None (Some s) h = limit-keeps e s
-at-keeps e c n (Some r) (Some s) h = refuses-all e r
-
 pub answer-keeps : (e : Environment) (c : Call) (n : ℕ) → Keeps e (answer e c n)
-answer-keeps e c n = at-keeps e c n (early_refusal e c) (depth_refusal e.frames c) refl
+answer-keeps e c n = answer-by e c n (Keeps e) (refuses-all e) (limit-keeps e) (λ none. effect-keeps e c n (unrefused e c none))
 
 -- WHAT IS MADE
 -- a call that makes a duty has places for its frame, and is one that registers
@@ -359,17 +355,10 @@ effect-makes e (call.RemoveEnvCleanupHook entry argument) n =
     makes-none (call.RemoveEnvCleanupHook entry argument) _ (omega arith) (dropping-none (registered_only e.book (hook_ticket (caller_of e.frames) entry argument e.hooks)) _ refl)
 effect-makes e c n = makes-none c _ (needs-place c) refl
 
-given-makes : (e : Environment) (c : Call) (n : ℕ) (s : Option Status) → MakesFor c (answer_unless e c n s).reply.made
-given-makes e c n None = effect-makes e c n
-given-makes e c n (Some s) = makes-none c _ (needs-place c) refl
-
-at-makes : (e : Environment) (c : Call) (n : ℕ) (early deep : Option Status) → MakesFor c (answer_unless_deep e c n early deep).reply.made
-at-makes e c n early None = given-makes e c n early
-at-makes e c n None (Some s) = makes-none c _ (needs-place c) refl
-at-makes e c n (Some r) (Some s) = makes-none c _ (needs-place c) refl
-
 pub answer-makes : (e : Environment) (c : Call) (n : ℕ) → MakesFor c (answer e c n).reply.made
-answer-makes e c n = at-makes e c n (early_refusal e c) (depth_refusal e.frames c)
+answer-makes e c n =
+    let none : MakesFor c None = makes-none c None (needs-place c) refl in
+    answer-by e c n (λ a. MakesFor c a.reply.made) (λ s. none) (λ s. none) (λ taken. effect-makes e c n)
 
 -- in the teardown a call that registers is refused, so no duty is made
 torn : (e : Environment) (c : Call) → is_tearing e.phase ≡ true → is_registering c ≡ true → moment_refusal e c ≡ None → ⊥
@@ -383,18 +372,10 @@ not-some : (o : Option Duty) → (is_some o ≡ true → ⊥) → o ≡ None
 not-some None h = refl
 not-some (Some d) h = absurd (h refl)
 
-torn-given : (e : Environment) (c : Call) (n : ℕ) (s : Option Status) → is_tearing e.phase ≡ true → early_refusal e c ≡ s → (answer_unless e c n s).reply.made ≡ None
-torn-given e c n (Some s) tearing is = refl
-torn-given e c n None tearing is =
-    not-some (effect e c n).reply.made (λ some. torn e c tearing ((effect-makes e c n).registers some) (none-first (moment_refusal e c) (timely_refusal e c) is))
-
-torn-at : (e : Environment) (c : Call) (n : ℕ) (early deep : Option Status) → is_tearing e.phase ≡ true → early_refusal e c ≡ early → (answer_unless_deep e c n early deep).reply.made ≡ None
-torn-at e c n early None tearing is = torn-given e c n early tearing is
-torn-at e c n None (Some s) tearing is = refl
-torn-at e c n (Some r) (Some s) tearing is = refl
-
 pub torn-makes-none : (e : Environment) (c : Call) (n : ℕ) → is_tearing e.phase ≡ true → (answer e c n).reply.made ≡ None
-torn-makes-none e c n tearing = torn-at e c n (early_refusal e c) (depth_refusal e.frames c) tearing refl
+torn-makes-none e c n tearing =
+    answer-by e c n (λ a. a.reply.made ≡ None) (λ s. refl) (λ s. refl)
+    (λ is. not-some _ (λ some. torn e c tearing ((effect-makes e c n).registers some) (none-first (moment_refusal e c) (timely_refusal e c) is)))
 
 -- A CALL'S ENTRY
 -- what a call of this entry keeps: the addons, the opening, the init frames that began, the phase, and how many frames stand; one of them has made one ask more. The

@@ -1,30 +1,28 @@
 -- How a local call and the end of a frame change the environment: one part of it after another. What does not read those parts is kept by all of them.
 use Rattle.std.proofs.Common.{◌≡◌, ◌∙◌, ℕ, Bool, true, false, List, refl, Option, Some, None}
-use Rattle.napi_types.specs.declared.call.Args.{Args}
 use Rattle.napi_types.specs.declared.call.Call.{Call}
 use Rattle.napi_types.specs.declared.call.Call.TheVariants as call
-use Rattle.napi_types.specs.declared.entry.Cause.{Cause}
-use Rattle.napi_types.specs.declared.entry.Cause.TheVariants as cause
 use Rattle.napi_types.specs.declared.entry.Why.{Why}
 use Rattle.napi_types.specs.declared.ids.HandleId.{HandleId}
 use Rattle.napi_types.specs.declared.status.Status.{Status}
 use Rattle.napi_types.specs.plain.Replies.{Answer}
+use Rattle.napi_types.specs.plain.Lists.{tail}
 use Rattle.napi_types.specs.parts.Attachments.{Attachments, with_attached}
 use Rattle.napi_types.specs.parts.Book.{Book, Registration, new_ticket}
-use Rattle.napi_types.specs.parts.Frames.{Frame, cause_of}
+use Rattle.napi_types.specs.parts.Frames.{Frame}
 use Rattle.napi_types.specs.parts.Heap.{Heap, handle_value}
 use Rattle.napi_types.specs.parts.Hooks.{Hook}
 use Rattle.napi_types.specs.parts.InstanceData.{Instances}
 use Rattle.napi_types.specs.parts.References.{ReferenceMap, referred_value}
-use Rattle.napi_types.specs.environment.Calls.{effect, answer_unless, answer_unless_deep, answer}
+use Rattle.napi_types.specs.environment.Calls.{effect, answer}
 use Rattle.napi_types.specs.environment.Changes.{call_change}
-use Rattle.napi_types.specs.environment.Ends.{uncut_call_end, end_change_by, end_change}
-use Rattle.napi_types.specs.environment.Entering.{function_change, asked_change}
+use Rattle.napi_types.specs.environment.Ends.{end_change}
+use Rattle.napi_types.specs.environment.Entering.{asked_change}
 use Rattle.napi_types.specs.environment.Environment.{Environment}
 use Rattle.napi_types.specs.environment.ReferenceCalls.{value_told, counted_up}
-use Rattle.napi_types.specs.environment.Refusals.{early_refusal, depth_refusal, refusal}
 use Rattle.napi_types.specs.environment.Registering.{finalizer_if, registering_if, withdrawing}
 use Rattle.napi_types.specs.environment.WrapCalls.{with_attachments, referring_if}
+use Rattle.napi_types.proofs.environment.Cases.{answer-by, asked-by, ended-by}
 
 -- what the call may make of the environment
 pub data Changed (c : Call) (e : Environment) : Environment → Type 0 where
@@ -122,42 +120,20 @@ effect-changed e call.Collect n =
 effect-changed e call.Exit n = exits e refl stays
 effect-changed e c n = heap e _ stays
 
-given-changed : (e : Environment) (c : Call) (n : ℕ) (s : Option Status) → Changed c e (answer_unless e c n s).after
-given-changed e c n None = effect-changed e c n
-given-changed e c n (Some s) = stays
-
-at-changed : (e : Environment) (c : Call) (n : ℕ) (early deep : Option Status) → Changed c e (answer_unless_deep e c n early deep).after
-at-changed e c n early None = given-changed e c n early
-at-changed e c n (Some r) (Some s) = stays
-at-changed e c n None (Some s) = pending (record e { heap = _ }) _ (heap e _ stays)
-
 pub answer-changed : (e : Environment) (c : Call) (n : ℕ) → Changed c e (answer e c n).after
-answer-changed e c n = at-changed e c n (early_refusal e c) (depth_refusal e.frames c)
+answer-changed e c n = answer-by e c n (λ a. Changed c e a.after) (λ s. stays) (λ s. pending (record e { heap = _ }) _ (heap e _ stays)) (λ none. effect-changed e c n)
 
 pub call-changed : (e : Environment) (c : Call) (n : ℕ) → Changed c e (call_change e c n).after
-call-changed e c n =
-    let d : Environment = (answer_unless_deep e c n (early_refusal e c) (depth_refusal e.frames c)).after in
-    frames (record d { last = _ }) _ (last d _ (at-changed e c n (early_refusal e c) (depth_refusal e.frames c)))
-
-function-changed : (receiver : Option HandleId) (f : HandleId) (args : Args) (n : ℕ) (e : Environment) (s : Option Status)
-    → Changed (call.CallFunction receiver f args) e (function_change receiver f args n e s).after
-function-changed receiver f args n e (Some s) = call-changed e (call.CallFunction receiver f args) n
-function-changed receiver f args n e None = frames (record e { heap = _; last = _ }) _ (last (record e { heap = _ }) _ (heap e _ stays))
+call-changed e c n = frames (record (answer e c n).after { last = _ }) _ (last (answer e c n).after _ (answer-changed e c n))
 
 pub asked-changed : (e : Environment) (c : Call) (n : ℕ) → Changed c e (asked_change e c n).after
-asked-changed e (call.CallFunction receiver f args) n = function-changed receiver f args n e (refusal e (call.CallFunction receiver f args))
-asked-changed e c n = call-changed e c n
+asked-changed e c n = asked-by e c n (λ d. Changed c e d.after) (call-changed e c n)
+    (λ receiver f args none. frames (record e { heap = _; last = _ }) _ (last (record e { heap = _ }) _ (heap e _ stays)))
 
 -- AND EACH END OF A FRAME
 pub ended-changed : (c : Call) (v : Option HandleId) (cut : Option Why) (e : Environment) → Changed c e (end_change v cut e).after
-ended-changed c v cut e = by cut (cause_of e.frames)
-  where
-    called : (p : Option ℕ) → Changed c e (uncut_call_end v e p).after
-    called (Some p) = last (record e { heap = _; frames = _ }) _ (frames (record e { heap = _ }) _ (heap e _ stays))
-    called None = last (record e { heap = _; frames = _ }) _ (frames (record e { heap = _ }) _ (heap e _ stays))
-
-    by : (cut : Option Why) (b : Cause) → Changed c e (end_change_by v cut e b).after
-    by (Some w) cause.Call = last (record e { heap = _; frames = _ }) _ (frames (record e { heap = _ }) _ (heap e _ stays))
-    by None cause.Call = called e.pending
-    by cut _ = book (record e { heap = _; frames = _; pending = _ }) _
-        (pending (record e { heap = _; frames = _ }) _ (frames (record e { heap = _ }) _ (heap e _ stays)))
+ended-changed c v cut e =
+    let left : (h : Heap) → Changed c e (record e { heap = h; frames = tail e.frames }) = λ h. frames (record e { heap = h }) _ (heap e h stays) in
+    let ends : (h : Heap) (s : Status) → Changed c e (record e { heap = h; frames = tail e.frames; last = s }) = λ h s. last (record e { heap = h; frames = tail e.frames }) s (left h) in
+    ended-by v cut e (λ why d. Changed c e d.after) (λ w. ends _ _) (λ p. ends _ _) (ends _ _)
+    (book (record e { heap = _; frames = _; pending = _ }) _ (pending (record e { heap = _; frames = _ }) _ (left _)))

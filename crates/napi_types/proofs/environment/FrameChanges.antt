@@ -59,22 +59,8 @@ abbrev pub book_left : Cause → Option Duty → Book → Book
 book_left cause.Call d book = book
 book_left _ d book = duty_ended d book
 
--- what the end of a frame keeps: all but its frame and its scopes, its duty, the pending exception and the last status; it issues one handle at most
-pub record KeepsButFrame (old new : Environment) : Type 0 where
-  pub course : course_of new ≡ course_of old
-  pub frames : new.frames ≡ tail old.frames
-  pub values : new.heap.values ≡ old.heap.values
-  pub made : new.heap.made ≡ old.heap.made
-  pub handles : new.heap.handles ≤ old.heap.handles + 1
-  pub scope_numbers : new.heap.scope_numbers ≡ old.heap.scope_numbers
-  pub references : new.references ≡ old.references
-  pub attachments : new.attachments ≡ old.attachments
-  pub book : new.book ≡ book_left (cause_of old.frames) (duty_of old.frames) old.book
-  pub hooks : new.hooks ≡ old.hooks
-  pub instances : new.instances ≡ old.instances
-
--- the same, where the frame began for this reason
-record KeepsButFrameBy (c : Cause) (old new : Environment) : Type 0 where
+-- what the end of a frame keeps: all but its frame and its scopes, its duty, the pending exception and the last status; it issues one handle at most. The frame began for this reason
+pub record KeepsButFrameBy (c : Cause) (old new : Environment) : Type 0 where
   pub course : course_of new ≡ course_of old
   pub frames : new.frames ≡ tail old.frames
   pub values : new.heap.values ≡ old.heap.values
@@ -87,6 +73,10 @@ record KeepsButFrameBy (c : Cause) (old new : Environment) : Type 0 where
   pub hooks : new.hooks ≡ old.hooks
   pub instances : new.instances ≡ old.instances
 
+-- the same, for the reason for which the innermost one began
+abbrev pub KeepsButFrame : Environment → Environment → Type 0
+KeepsButFrame old new = KeepsButFrameBy (cause_of old.frames) old new
+
 left-keeps : (v : Option HandleId) (e : Environment) (pending : Option ℕ) → KeepsButFrameBy cause.Call e (uncut_call_end v e pending).after
 left-keeps v e (Some p) = record { course = refl; frames = refl; values = refl; made = refl; handles = omega arith; scope_numbers = refl; references = refl; attachments = refl; book = refl; hooks = refl; instances = refl }
 left-keeps v e None = record { course = refl; frames = refl; values = refl; made = refl; handles = omega arith; scope_numbers = refl; references = refl; attachments = refl; book = refl; hooks = refl; instances = refl }
@@ -98,21 +88,7 @@ by-cause v None e cause.Call = left-keeps v e e.pending
 by-cause v cut e _ = record { course = refl; frames = refl; values = refl; made = refl; handles = omega arith; scope_numbers = refl; references = refl; attachments = refl; book = refl; hooks = refl; instances = refl }
 
 pub ended-keeps : (v : Option HandleId) (cut : Option Why) (e : Environment) → KeepsButFrame e (end_change v cut e).after
-ended-keeps v cut e =
-    let k : KeepsButFrameBy (cause_of e.frames) e (end_change v cut e).after = by-cause v cut e (cause_of e.frames) in
-    record {
-      course = k.course;
-      frames = k.frames;
-      values = k.values;
-      made = k.made;
-      handles = k.handles;
-      scope_numbers = k.scope_numbers;
-      references = k.references;
-      attachments = k.attachments;
-      book = k.book;
-      hooks = k.hooks;
-      instances = k.instances;
-    }
+ended-keeps v cut e = by-cause v cut e (cause_of e.frames)
 
 -- no ticket comes or goes with the end of a frame
 owed-duty : (d : Option Duty) (book : Book) → owed_tickets (duty_ended d book) ≡ owed_tickets book

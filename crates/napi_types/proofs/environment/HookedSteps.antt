@@ -15,7 +15,6 @@ use Rattle.napi_types.specs.declared.entry.Phase.{Phase}
 use Rattle.napi_types.specs.declared.entry.Phase.TheVariants as phase
 use Rattle.napi_types.specs.declared.entry.Why.{Why}
 use Rattle.napi_types.specs.declared.ids.HandleId.{HandleId}
-use Rattle.napi_types.specs.declared.status.Status.{Status}
 use Rattle.napi_types.specs.plain.Phases.{next_phase}
 use Rattle.napi_types.specs.plain.Replies.{accepts}
 use Rattle.napi_types.specs.parts.Attachments.{Attachments, hangs_on, left_on, wrap_payload, wrap_ticket, with_wrap, without_wrap, with_attached}
@@ -25,17 +24,16 @@ use Rattle.napi_types.specs.parts.Heap.{handle_value}
 use Rattle.napi_types.specs.parts.Hooks.{Hook, is_hook, hook_ticket, last_hook, without_hook}
 use Rattle.napi_types.specs.parts.InstanceData.{InstanceData, Instances, instance_ticket, with_instance}
 use Rattle.napi_types.specs.parts.References.{referred_value}
-use Rattle.napi_types.specs.environment.Calls.{effect, answer_unless, answer_unless_deep}
+use Rattle.napi_types.specs.environment.Calls.{effect, answer}
 use Rattle.napi_types.specs.environment.Changes.{opening_change, init_change, call_change, book_in, in_phase, gone_change}
 use Rattle.napi_types.specs.environment.Collection.{collected, is_freed}
 use Rattle.napi_types.specs.environment.Ends.{end_change}
-use Rattle.napi_types.specs.environment.Entering.{enter_change, function_change, asked_change}
+use Rattle.napi_types.specs.environment.Entering.{enter_change, asked_change}
 use Rattle.napi_types.specs.environment.Environment.{Environment, new_environment}
 use Rattle.napi_types.specs.environment.HookCalls.{hook_registration, hooking, unhooking}
 use Rattle.napi_types.specs.environment.Hooked.{is_late, StandsIn, HasFinalizer, IsHooked}
 use Rattle.napi_types.specs.environment.InstanceCalls.{setting_instance}
 use Rattle.napi_types.specs.environment.ReferenceCalls.{counted_up, value_told}
-use Rattle.napi_types.specs.environment.Refusals.{early_refusal, depth_refusal, refusal}
 use Rattle.napi_types.specs.environment.Registering.{finalizer_of, finalizer_if, ticket_if, registering_if, registered_only, withdrawing}
 use Rattle.napi_types.specs.environment.Roots.{reach}
 use Rattle.napi_types.specs.environment.Tickets.{hooks_left, ticket_change}
@@ -47,6 +45,7 @@ use Rattle.napi_types.proofs.parts.Moved.{at-state}
 use Rattle.napi_types.proofs.environment.Answers.{course-parts}
 use Rattle.napi_types.proofs.environment.FrameChanges.{hangings_of, hangings-parts, SameHangings, book_left, KeepsButFrame, ended-keeps, KeepsAndEnters, enter_change-keeps}
 use Rattle.napi_types.proofs.environment.HookedBooks.{KeepsCauses, BookGoes, every, all_but_ticket, Listed, goes-nowhere, late-goes, push-goes, push-causes, new-cause, moved-causes, finalizers-go, begun-goes, left-goes, ticket-goes, listed-goes, listed-push, listed-within}
+use Rattle.napi_types.proofs.environment.Cases.{answer-by, asked-by}
 
 -- FINALIZERS
 -- a ticket is that of a finalizer
@@ -287,17 +286,11 @@ effect-hooked e (call.RemoveEnvCleanupHook entry argument) n h =
 effect-hooked e call.Collect n h = collected-hooked e (reach e) h
 effect-hooked e c n h = unchanged e _ refl refl h
 
-given-hooked : (e : Environment) (c : Call) (n : ℕ) (s : Option Status) → IsHooked e → IsHooked (answer_unless e c n s).after
-given-hooked e c n None h = effect-hooked e c n h
-given-hooked e c n (Some s) h = h
-
-at-hooked : (e : Environment) (c : Call) (n : ℕ) (early deep : Option Status) → IsHooked e → IsHooked (answer_unless_deep e c n early deep).after
-at-hooked e c n early None h = given-hooked e c n early h
-at-hooked e c n (Some r) (Some s) h = h
-at-hooked e c n None (Some s) h = unchanged e _ refl refl h
-
 pub hooked-called : (e : Environment) (c : Call) (n : ℕ) → IsHooked e → IsHooked (call_change e c n).after
-hooked-called e c n h = unchanged _ (call_change e c n).after refl refl (at-hooked e c n (early_refusal e c) (depth_refusal e.frames c) h)
+hooked-called e c n h =
+    let answered : IsHooked (answer e c n).after =
+    answer-by e c n (λ a. IsHooked a.after) (λ s. h) (λ s. unchanged e _ refl refl h) (λ none. effect-hooked e c n h) in
+    unchanged _ (call_change e c n).after refl refl answered
 
 pub hooked-entered : (receiver : Option HandleId) (f : HandleId) (args : Args) (e : Environment) → IsHooked e → IsHooked (enter_change receiver f args e).after
 hooked-entered receiver f args e h =
@@ -305,13 +298,8 @@ hooked-entered receiver f args e h =
     let k : KeepsAndEnters e new f = enter_change-keeps receiver f args e in
     unchanged e new (course-parts e new k.course).phase k.hangings h
 
-function-hooked : (receiver : Option HandleId) (f : HandleId) (args : Args) (n : ℕ) (e : Environment) (s : Option Status) → IsHooked e → IsHooked (function_change receiver f args n e s).after
-function-hooked receiver f args n e (Some s) h = hooked-called e (call.CallFunction receiver f args) n h
-function-hooked receiver f args n e None h = hooked-entered receiver f args e h
-
 pub hooked-asked : (e : Environment) (c : Call) (n : ℕ) → IsHooked e → IsHooked (asked_change e c n).after
-hooked-asked e (call.CallFunction receiver f args) n h = function-hooked receiver f args n e (refusal e (call.CallFunction receiver f args)) h
-hooked-asked e c n h = hooked-called e c n h
+hooked-asked e c n h = asked-by e c n (λ d. IsHooked d.after) (hooked-called e c n h) (λ receiver f args none. hooked-entered receiver f args e h)
 
 -- EVERY OTHER EVENT
 none-given : (n : ℕ) (why : Cause) → cause_at [] n ≡ Some why → ⊥

@@ -40,10 +40,10 @@ use Rattle.napi_types.specs.parts.ReferenceRefusals.{reference_refusal}
 use Rattle.napi_types.specs.parts.References.{referred_value}
 use Rattle.napi_types.specs.parts.Values.{Value, fresh_value, starting_values, value_changed, body_of, those_of}
 use Rattle.napi_types.specs.environment.Asks.{AsksWithin}
-use Rattle.napi_types.specs.environment.Calls.{effect, answer_unless, answer_unless_deep}
+use Rattle.napi_types.specs.environment.Calls.{effect, answer}
 use Rattle.napi_types.specs.environment.Changes.{call_change, init_change, in_phase}
 use Rattle.napi_types.specs.environment.Ends.{end_change}
-use Rattle.napi_types.specs.environment.Entering.{enter_change, function_change, asked_change}
+use Rattle.napi_types.specs.environment.Entering.{enter_change, asked_change}
 use Rattle.napi_types.specs.environment.Environment.{Environment}
 use Rattle.napi_types.specs.environment.Moments.{moment_refusal}
 use Rattle.napi_types.specs.environment.Owners.{BelongsTo, IsOwned}
@@ -59,6 +59,7 @@ use Rattle.napi_types.proofs.parts.Moves.{KeptByMoves}
 use Rattle.napi_types.proofs.environment.Answers.{answer-keeps}
 use Rattle.napi_types.proofs.environment.FrameChanges.{KeepsButFrame, ended-keeps, KeepsAndEnters, enter_change-keeps, hangings-parts}
 use Rattle.napi_types.proofs.environment.Registrations.{registered-holds, call-all, ended-all, begun-all, phase-all}
+use Rattle.napi_types.proofs.environment.Cases.{answer-by, asked-by}
 
 -- VALUES
 abbrev Ours : ℕ → Value → Type 0
@@ -205,15 +206,9 @@ by-owned n e (call.AddEnvCleanupHook entry argument) k there all = all
 by-owned n e (call.RemoveEnvCleanupHook entry argument) k there all = dropping-owned n (registered_only e.book (hook_ticket (caller_of e.frames) entry argument e.hooks)) _ all
 by-owned n e c k there all = heap-owned n (caller_of e.frames) e.heap c k there all
 
-given-owned : (n : ℕ) (e : Environment) (c : Call) (k : ℕ) (s : Option Status) → caller_of e.frames < n → AreOwned n e.heap.values → AreOwned n (answer_unless e c k s).after.heap.values
-given-owned n e c k (Some s) there all = all
-given-owned n e c k None there all = by-owned n e c k there all
-
-at-owned : (n : ℕ) (e : Environment) (c : Call) (k : ℕ) (early deep : Option Status) → caller_of e.frames < n → AreOwned n e.heap.values
-    → AreOwned n (answer_unless_deep e c k early deep).after.heap.values
-at-owned n e c k early None there all = given-owned n e c k early there all
-at-owned n e c k (Some r) (Some s) there all = all
-at-owned n e c k None (Some s) there all = thrown-owned n e.heap None _ all
+answer-owned : (n : ℕ) (e : Environment) (c : Call) (k : ℕ) → caller_of e.frames < n → AreOwned n e.heap.values → AreOwned n (answer e c k).after.heap.values
+answer-owned n e c k there all =
+    answer-by e c k (λ a. AreOwned n a.after.heap.values) (λ s. all) (λ s. thrown-owned n e.heap None _ all) (λ none. by-owned n e c k there all)
 
 -- FRAMES
 pub counted-owned : (n : ℕ) (fs : List Frame) → All (Below n) fs → All (Below n) (ask_counted fs)
@@ -233,7 +228,7 @@ call_change-owned n e c k stands o =
     let P : List Frame → Type 0 = λ fs. All (Below n) (ask_counted fs) in
     record {
       frames = subst P (sym (answer-keeps e c k).frames) (counted-owned n e.frames o.frames);
-      functions = at-owned n e c k (early_refusal e c) (depth_refusal e.frames c) (caller-owned n e.frames stands o.frames) o.functions;
+      functions = answer-owned n e c k (caller-owned n e.frames stands o.frames) o.functions;
       tickets = call-all (Entered n) (entered-kept n) e c k (λ made r who why. subst (λ a. a < n) (sym who) (caller-owned n e.frames stands o.frames)) o.tickets;
     }
 
@@ -270,15 +265,10 @@ enter_change-owned n e receiver f args h o =
       tickets = subst (λ b. All (Entered n) b) (sym (hangings-parts e (enter_change receiver f args e).after k.hangings).book) o.tickets;
     }
 
-function_change-owned : (n : ℕ) (e : Environment) (receiver : Option HandleId) (f : HandleId) (args : Args) (k : ℕ) (s : Option Status)
-    → refusal e (call.CallFunction receiver f args) ≡ s → e.frames ≢ [] → IsOwned n e → IsOwned n (function_change receiver f args k e s).after
-function_change-owned n e receiver f args k None h stands o = enter_change-owned n e receiver f args h o
-function_change-owned n e receiver f args k (Some s) h stands o = call_change-owned n e (call.CallFunction receiver f args) k stands o
-
 -- EVERY EVENT
 pub owned-asked : (n : ℕ) (e : Environment) (c : Call) (k : ℕ) → e.frames ≢ [] → IsOwned n e → IsOwned n (asked_change e c k).after
-owned-asked n e (call.CallFunction receiver f args) k stands o = function_change-owned n e receiver f args k (refusal e (call.CallFunction receiver f args)) refl stands o
-owned-asked n e c k stands o = call_change-owned n e c k stands o
+owned-asked n e c k stands o =
+    asked-by e c k (λ d. IsOwned n d.after) (call_change-owned n e c k stands o) (λ receiver f args none. enter_change-owned n e receiver f args none o)
 
 pub owned-ended : (n : ℕ) (e : Environment) (v : Option HandleId) (cut : Option Why) → IsOwned n e → IsOwned n (end_change v cut e).after
 owned-ended n e v cut o =
@@ -335,16 +325,14 @@ call_change-within e c k below all =
     let P : List Frame → Type 0 = λ fs. All Spare (ask_counted fs) in
     subst P (sym (answer-keeps e c k).frames) (counted-within e.frames below all)
 
-function_change-within : (e : Environment) (receiver : Option HandleId) (f : HandleId) (args : Args) (k : ℕ) (s : Option Status) → asks_made e.frames < most_asks → AsksWithin e
-    → AsksWithin (function_change receiver f args k e s).after
-function_change-within e receiver f args k (Some s) below all = call_change-within e (call.CallFunction receiver f args) k below all
-function_change-within e receiver f args k None below all =
-    let P : List Frame → Type 0 = λ fs. All Spare fs in
-    subst P (sym (enter_change-keeps receiver f args e).frames) (All-cons Spare (callee_of e.heap f) (ask_counted e.frames) (omega arith) (counted-within e.frames below all))
-
 pub within-asked : (e : Environment) (c : Call) (k : ℕ) → asks_made e.frames < most_asks → AsksWithin e → AsksWithin (asked_change e c k).after
-within-asked e (call.CallFunction receiver f args) k below all = function_change-within e receiver f args k (refusal e (call.CallFunction receiver f args)) below all
-within-asked e c k below all = call_change-within e c k below all
+within-asked e c k below all = asked-by e c k (λ d. AsksWithin d.after) (call_change-within e c k below all) (λ receiver f args none. entered receiver f args)
+  where
+    entered : (receiver : Option HandleId) (f : HandleId) (args : Args) → AsksWithin (enter_change receiver f args e).after
+    entered receiver f args =
+        let P : List Frame → Type 0 = λ fs. All Spare fs in
+        let more : All Spare (callee_of e.heap f ∷ ask_counted e.frames) = All-cons Spare (callee_of e.heap f) _ (omega arith) (counted-within e.frames below all) in
+        subst P (sym (enter_change-keeps receiver f args e).frames) more
 
 pub within-ended : (e : Environment) (v : Option HandleId) (cut : Option Why) → AsksWithin e → AsksWithin (end_change v cut e).after
 within-ended e v cut all =

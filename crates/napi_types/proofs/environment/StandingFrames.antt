@@ -1,14 +1,11 @@
 -- Only the outermost frame is one that no call began: every event keeps it, and the duties of the frames that stand.
 use Rattle.std.proofs.Common.{◌≡◌, ◌≢◌, ◌∙◌, ℕ, List, [], ◌∷◌, Option, Some, None, refl, sym, ap, subst}
 use Rattle.std.specs.List.{cons_option}
-use Rattle.napi_types.specs.declared.call.Args.{Args}
 use Rattle.napi_types.specs.declared.call.Call.{Call}
-use Rattle.napi_types.specs.declared.call.Call.TheVariants as call
 use Rattle.napi_types.specs.declared.entry.Cause.TheVariants as cause
 use Rattle.napi_types.specs.declared.entry.Duty.{Duty}
 use Rattle.napi_types.specs.declared.entry.Why.{Why}
 use Rattle.napi_types.specs.declared.ids.HandleId.{HandleId}
-use Rattle.napi_types.specs.declared.status.Status.{Status}
 use Rattle.napi_types.specs.plain.Lists.{tail}
 use Rattle.napi_types.specs.parts.Book.{Registration, registration_at, due_info}
 use Rattle.napi_types.specs.parts.Duties.{duties_of, AreNested}
@@ -16,13 +13,13 @@ use Rattle.napi_types.specs.parts.Frames.{Frame, frame_of, frame_of_duty, cause_
 use Rattle.napi_types.specs.parts.FunctionCalls.{callee_of}
 use Rattle.napi_types.specs.environment.Changes.{call_change, init_change}
 use Rattle.napi_types.specs.environment.Ends.{end_change}
-use Rattle.napi_types.specs.environment.Entering.{function_change, asked_change}
+use Rattle.napi_types.specs.environment.Entering.{asked_change}
 use Rattle.napi_types.specs.environment.Environment.{Environment}
-use Rattle.napi_types.specs.environment.Refusals.{refusal}
 use Rattle.napi_types.specs.environment.Tickets.{ticket_change}
 use Rattle.napi_types.proofs.environment.Answers.{answer-keeps}
 use Rattle.napi_types.proofs.environment.FrameChanges.{ended-keeps, enter_change-keeps}
 use Rattle.napi_types.proofs.environment.Registrations.{registered-holds, AreUncalled}
+use Rattle.napi_types.proofs.environment.Cases.{asked-by}
 
 -- ONE MORE ASK
 pub counted-nested : (fs : List Frame) → AreNested fs → AreNested (ask_counted fs)
@@ -80,26 +77,15 @@ call_change-nested e c n alone =
 call_change-duties : (e : Environment) (c : Call) (n : ℕ) → duties_of (call_change e c n).after.frames ≡ duties_of e.frames
 call_change-duties e c n = ap (λ fs. duties_of (ask_counted fs)) (answer-keeps e c n).frames ∙ counted-duties e.frames
 
-function_change-nested : (receiver : Option HandleId) (f : HandleId) (args : Args) (n : ℕ) (e : Environment) (s : Option Status) → e.frames ≢ [] → AreNested e.frames
-    → AreNested (function_change receiver f args n e s).after.frames
-function_change-nested receiver f args n e (Some s) stands alone = call_change-nested e (call.CallFunction receiver f args) n alone
-function_change-nested receiver f args n e None stands alone =
-    let P : List Frame → Type 0 = λ fs. AreNested fs in
-    subst P (sym (enter_change-keeps receiver f args e).frames)
-    (called-nested (callee_of e.heap f) (ask_counted e.frames) (stands-counted e.frames stands) refl refl (counted-nested e.frames alone))
-
-function_change-duties : (receiver : Option HandleId) (f : HandleId) (args : Args) (n : ℕ) (e : Environment) (s : Option Status)
-    → duties_of (function_change receiver f args n e s).after.frames ≡ duties_of e.frames
-function_change-duties receiver f args n e (Some s) = call_change-duties e (call.CallFunction receiver f args) n
-function_change-duties receiver f args n e None = ap duties_of (enter_change-keeps receiver f args e).frames ∙ counted-duties e.frames
-
 pub nested-asked : (e : Environment) (c : Call) (n : ℕ) → e.frames ≢ [] → AreNested e.frames → AreNested (asked_change e c n).after.frames
-nested-asked e (call.CallFunction receiver f args) n stands alone = function_change-nested receiver f args n e (refusal e (call.CallFunction receiver f args)) stands alone
-nested-asked e c n stands alone = call_change-nested e c n alone
+nested-asked e c n stands alone =
+    let P : List Frame → Type 0 = λ fs. AreNested fs in
+    asked-by e c n (λ d. AreNested d.after.frames) (call_change-nested e c n alone) (λ receiver f args none. subst P (sym (enter_change-keeps receiver f args e).frames)
+    (called-nested (callee_of e.heap f) (ask_counted e.frames) (stands-counted e.frames stands) refl refl (counted-nested e.frames alone)))
 
 pub duties-asked : (e : Environment) (c : Call) (n : ℕ) → duties_of (asked_change e c n).after.frames ≡ duties_of e.frames
-duties-asked e (call.CallFunction receiver f args) n = function_change-duties receiver f args n e (refusal e (call.CallFunction receiver f args))
-duties-asked e c n = call_change-duties e c n
+duties-asked e c n = asked-by e c n (λ d. duties_of d.after.frames ≡ duties_of e.frames) (call_change-duties e c n)
+    (λ receiver f args none. ap duties_of (enter_change-keeps receiver f args e).frames ∙ counted-duties e.frames)
 
 pub nested-ended : (e : Environment) (v : Option HandleId) (cut : Option Why) → AreNested e.frames → AreNested (end_change v cut e).after.frames
 nested-ended e v cut alone =
