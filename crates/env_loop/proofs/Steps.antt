@@ -3,7 +3,6 @@ use Rattle.std.proofs.Common.{◌≡◌, ℕ, ◌&&◌, not, Bool, true, false, 
 use Rattle.napi_types.specs.declared.call.Ask.{Ask}
 use Rattle.napi_types.specs.declared.call.Ask.TheVariants as ask
 use Rattle.napi_types.specs.declared.call.Call.{Call}
-use Rattle.napi_types.specs.declared.call.Call.TheVariants as call
 use Rattle.napi_types.specs.declared.entry.Actor.TheVariants as actor
 use Rattle.napi_types.specs.declared.entry.Entry.{Entry}
 use Rattle.napi_types.specs.declared.entry.Out.{Out}
@@ -13,34 +12,22 @@ use Rattle.napi_types.specs.declared.ids.HandleId.{HandleId}
 use Rattle.napi_types.specs.plain.Built.{is_built, built_ask}
 use Rattle.napi_types.specs.plain.Entries.{cut_of}
 use Rattle.napi_types.specs.plain.Guards.{is_shared}
-use Rattle.napi_types.specs.plain.Replies.{Answer, accepts}
 use Rattle.napi_types.specs.plain.Room.{is_full}
-use Rattle.napi_types.specs.parts.Attachments.{wrap_payload, wrap_ticket, with_wrap, without_wrap}
-use Rattle.napi_types.specs.parts.Book.{Registration}
-use Rattle.napi_types.specs.parts.Frames.{Frame, caller_of, duty_of, is_hub_duty}
-use Rattle.napi_types.specs.parts.Heap.{Heap, handle_value}
-use Rattle.napi_types.specs.parts.HeapCalls.{addon_effect}
-use Rattle.napi_types.specs.parts.Hooks.{hook_ticket}
-use Rattle.napi_types.specs.parts.InstanceData.{instance_ticket, with_instance}
-use Rattle.napi_types.specs.parts.References.{referred_value}
-use Rattle.napi_types.specs.environment.Calls.{effect, answer}
+use Rattle.napi_types.specs.parts.Frames.{Frame, duty_of, is_hub_duty}
+use Rattle.napi_types.specs.environment.Calls.{answer}
 use Rattle.napi_types.specs.environment.Changes.{number_of, is_fresh_result, may_ask, may_call}
 use Rattle.napi_types.specs.environment.Ends.{end_out, end_change}
 use Rattle.napi_types.specs.environment.Entering.{asked_change}
 use Rattle.napi_types.specs.environment.Environment.{Environment}
-use Rattle.napi_types.specs.environment.HookCalls.{unhooked, unhooking}
-use Rattle.napi_types.specs.environment.InstanceCalls.{setting_instance}
 use Rattle.napi_types.specs.environment.JournalRoom.{journal_room}
-use Rattle.napi_types.specs.environment.ReferenceCalls.{counted_up, value_told}
-use Rattle.napi_types.specs.environment.Registering.{finalizer_if, ticket_if, registering_if, registered_only, withdrawing}
-use Rattle.napi_types.specs.environment.WrapCalls.{with_attachments, referring_if, wrapping, finalizing, unwrapping}
 use Rattle.napi_types.specs.hub.Hub.{Hub}
 use Rattle.napi_types.specs.runs.Begins.{told_at}
 use Rattle.napi_types.specs.runs.CallRoom.{room_of}
 use Rattle.napi_types.specs.runs.Machine.{Machine}
 use Rattle.napi_types.specs.runs.Setting.{Setting}
 use Rattle.napi_types.specs.runs.Step.{Step, step, step_of, locally, env_step, frame_step, call_step_on, end_step_on, may_cut}
-use Rattle.napi_types.proofs.environment.Cases.{answer-by, ended-by}
+use Rattle.napi_types.proofs.environment.Cases.{ended-by}
+use Rattle.napi_types.proofs.environment.Told.{tells_frame, told-unframed, answer-told}
 use Rattle.napi_types.proofs.all_runs.Rooms.{built-room}
 use Rattle.env_core.specs.Core.{Core, room_in}
 use Rattle.env_loop.specs.Recording.{machine_of}
@@ -51,71 +38,14 @@ pub record TellsNoFrame (o : Out) : Type 0 where
   pub uncut : cut_of o ≡ None
   pub untold : (m : Machine) → told_at m o ≡ None
 
--- what a call answers is so
-heap-tells : (addon : ℕ) (heap : Heap) (c : Call) (n : ℕ) → TellsNoFrame (addon_effect addon heap c n).reply.out
-heap-tells addon heap call.OpenHandleScope n = record { uncut = refl; untold = λ m. refl }
-heap-tells addon heap _ n = record { uncut = refl; untold = λ m. refl }
-
-raised-tells : (r : ℕ) (e : Environment) (v : Option ℕ) → TellsNoFrame (counted_up r e v).reply.out
-raised-tells r e None = record { uncut = refl; untold = λ m. refl }
-raised-tells r e (Some v) = record { uncut = refl; untold = λ m. refl }
-
-told-tells : (e : Environment) (v : Option ℕ) → TellsNoFrame (value_told e v).reply.out
-told-tells e None = record { uncut = refl; untold = λ m. refl }
-told-tells e (Some v) = record { uncut = refl; untold = λ m. refl }
-
-referring-tells : (wanted : Bool) (n v : ℕ) (e : Environment) → TellsNoFrame (referring_if wanted n v e).reply.out
-referring-tells false n v e = record { uncut = refl; untold = λ m. refl }
-referring-tells true n v e = record { uncut = refl; untold = λ m. refl }
-
-registering-tells : (r : Option Registration) (a : Answer Environment) → TellsNoFrame a.reply.out → TellsNoFrame (registering_if r a).reply.out
-registering-tells None a tells = tells
-registering-tells (Some r) a tells = record { uncut = tells.uncut; untold = tells.untold }
-
-withdrawing-tells : (n : Option ℕ) (a : Answer Environment) → TellsNoFrame a.reply.out → TellsNoFrame (withdrawing n a).reply.out
-withdrawing-tells None a tells = tells
-withdrawing-tells (Some n) a tells = record { uncut = tells.uncut; untold = tells.untold }
-
-wrapping-tells : (e : Environment) (v payload : ℕ) (entry : Option ℕ) (hint : ℕ) (wanted : Bool) (n : ℕ) → TellsNoFrame (wrapping e v payload entry hint wanted n).reply.out
-wrapping-tells e v payload entry hint wanted n =
-    let wrapped : Environment = with_attachments (with_wrap v payload (ticket_if e.book entry) e.attachments) e in
-    registering-tells (finalizer_if e payload entry hint) (referring_if wanted n v wrapped) (referring-tells wanted n v wrapped)
-
-finalizing-tells : (e : Environment) (v payload entry hint : ℕ) (wanted : Bool) (n : ℕ) → TellsNoFrame (finalizing e v payload entry hint wanted n).reply.out
-finalizing-tells e v payload entry hint true n = record { uncut = refl; untold = λ m. refl }
-finalizing-tells e v payload entry hint false n = record { uncut = refl; untold = λ m. refl }
-
-unwrapping-tells : (e : Environment) (v : ℕ) → TellsNoFrame (unwrapping e v).reply.out
-unwrapping-tells e v =
-    withdrawing-tells (registered_only e.book (wrap_ticket e.attachments v))
-    (accepts (out.Unsigned (wrap_payload e.attachments v)) (with_attachments (without_wrap v e.attachments) e)) (record { uncut = refl; untold = λ m. refl })
-
-setting-tells : (e : Environment) (addon payload : ℕ) (entry : Option ℕ) (hint : ℕ) → TellsNoFrame (setting_instance e addon payload entry hint).reply.out
-setting-tells e addon payload entry hint =
-    let set : Environment = record e { instances = with_instance addon (record { payload = payload; ticket = ticket_if e.book entry }) e.instances } in
-    registering-tells (finalizer_if e payload entry hint) (withdrawing (registered_only e.book (instance_ticket e.instances addon)) (accepts out.Nothing set))
-    (withdrawing-tells (registered_only e.book (instance_ticket e.instances addon)) (accepts out.Nothing set) (record { uncut = refl; untold = λ m. refl }))
-
-unhooking-tells : (e : Environment) (ticket : Option ℕ) → TellsNoFrame (unhooking e ticket).reply.out
-unhooking-tells e ticket =
-    withdrawing-tells (registered_only e.book ticket) (accepts out.Nothing (record e { hooks = unhooked ticket e.hooks })) (record { uncut = refl; untold = λ m. refl })
-
-by-tells : (e : Environment) (c : Call) (n : ℕ) → TellsNoFrame (effect e c n).reply.out
-by-tells e (call.ReferenceRef r) n = raised-tells r.0 e (referred_value e.references r.0)
-by-tells e (call.GetReferenceValue r) n = told-tells e (referred_value e.references r.0)
-by-tells e (call.Wrap object payload entry hint wanted) n = wrapping-tells e (handle_value e.heap object.0) payload entry hint wanted n
-by-tells e (call.AddFinalizer object payload entry hint wanted) n = finalizing-tells e (handle_value e.heap object.0) payload entry hint wanted n
-by-tells e (call.RemoveWrap object) n = unwrapping-tells e (handle_value e.heap object.0)
-by-tells e (call.CreateExternal payload None hint) n = record { uncut = refl; untold = λ m. refl }
-by-tells e (call.CreateExternal payload (Some entry) hint) n = record { uncut = refl; untold = λ m. refl }
-by-tells e (call.SetInstanceData payload entry hint) n = setting-tells e (caller_of e.frames) payload entry hint
-by-tells e (call.RemoveEnvCleanupHook entry argument) n = unhooking-tells e (hook_ticket (caller_of e.frames) entry argument e.hooks)
-by-tells e c n = record { uncut = refl; untold = λ m. refl }
+-- what tells of no frame is so, and what a call answers
+no-frame : (o : Out) → tells_frame o ≡ false → TellsNoFrame o
+no-frame (out.Begin why addon entry duty) unframed = cc
+no-frame (out.Cut why) unframed = cc
+no-frame o unframed = record { uncut = refl; untold = λ m. refl }
 
 pub reply-tells : (e : Environment) (c : Call) (n : ℕ) → TellsNoFrame (answer e c n).reply.out
-reply-tells e c n =
-    let none : TellsNoFrame out.Nothing = record { uncut = refl; untold = λ m. refl } in
-    answer-by e c n (λ a. TellsNoFrame a.reply.out) (λ s. none) (λ s. none) (λ taken. by-tells e c n)
+reply-tells e c n = no-frame (answer e c n).reply.out (told-unframed c (answer e c n).reply (answer-told e c n))
 
 -- and so does the end of a frame tell of no duty that begins
 end-untold : (m : Machine) (cut : Option Why) (p : Option ℕ) → told_at m (end_out cut p) ≡ None

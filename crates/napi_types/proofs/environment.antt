@@ -9,4 +9,5 @@ pub mod HookedSteps
 pub mod Owners
 pub mod Registrations
 pub mod StandingFrames
+pub mod Told
 pub mod TornBooks

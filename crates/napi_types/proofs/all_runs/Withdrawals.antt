@@ -17,24 +17,12 @@ use Rattle.napi_types.specs.declared.entry.Why.{Why}
 use Rattle.napi_types.specs.declared.ids.HandleId.{HandleId}
 use Rattle.napi_types.specs.declared.status.Status.TheVariants as status
 use Rattle.napi_types.specs.plain.Entries.{host_entry}
-use Rattle.napi_types.specs.plain.Replies.{Answer}
 use Rattle.napi_types.specs.plain.Room.{is_full}
-use Rattle.napi_types.specs.parts.Attachments.{wrap_ticket}
-use Rattle.napi_types.specs.parts.Book.{Registration}
-use Rattle.napi_types.specs.parts.Frames.{caller_of}
-use Rattle.napi_types.specs.parts.Heap.{handle_value}
-use Rattle.napi_types.specs.parts.Hooks.{hook_ticket}
-use Rattle.napi_types.specs.parts.InstanceData.{instance_ticket}
-use Rattle.napi_types.specs.parts.References.{referred_value}
-use Rattle.napi_types.specs.environment.Calls.{effect, answer}
 use Rattle.napi_types.specs.environment.Changes.{may_call}
 use Rattle.napi_types.specs.environment.Ends.{end_change}
 use Rattle.napi_types.specs.environment.Entering.{asked_change}
 use Rattle.napi_types.specs.environment.Environment.{Environment}
-use Rattle.napi_types.specs.environment.ReferenceCalls.{value_told, counted_up}
-use Rattle.napi_types.specs.environment.Registering.{finalizer_if, registering_if, registered_only, withdrawing}
 use Rattle.napi_types.specs.environment.SharedCalls.{shared_entry}
-use Rattle.napi_types.specs.environment.WrapCalls.{referring_if}
 use Rattle.napi_types.specs.hub.Hub.{Hub}
 use Rattle.napi_types.specs.hub.HubMoves.{HubMove, Delivers, Closes, Finishes}
 use Rattle.napi_types.specs.hub.HubSteps.{hub_step, delivery_entry}
@@ -46,7 +34,8 @@ use Rattle.napi_types.specs.runs.Step.{Step, move_step, has_room, step}
 use Rattle.napi_types.specs.all_runs.Counts.{made, dropped, begun, IsOnce, may_withdraw, WithdrawsRightly}
 use Rattle.napi_types.specs.all_runs.Laws.{WithdrawnByTheirCalls, EveryDutyIsOnce, is_ticket}
 use Rattle.napi_types.proofs.plain.Conditions.{and-right}
-use Rattle.napi_types.proofs.environment.Cases.{answer-by, asked-by, ended-by}
+use Rattle.napi_types.proofs.environment.Cases.{asked-by, ended-by}
+use Rattle.napi_types.proofs.environment.Told.{Told, told_plain, told_made, told_dropped, withdraws, answer-told}
 use Rattle.napi_types.proofs.hub.HubDuties.{hub_step-spares}
 use Rattle.napi_types.proofs.runs.StepCases.{StepCase, calls, ends, opens, inits, begins, vanishes, shares, leaves, passes, moves, others, step-case}
 use Rattle.napi_types.proofs.all_runs.Onces.{tickets-are-once}
@@ -66,45 +55,16 @@ nothing w r none = record { call = λ some. absurd (no r.dropped none some); acc
     no None h some = cc
     no (Some d) h some = cc
 
-counted-rightly : (w : What) (r : ℕ) (e : Environment) (v : Option ℕ) → Rightly w (counted_up r e v).reply
-counted-rightly w r e None = nothing w _ refl
-counted-rightly w r e (Some v) = nothing w _ refl
+may-withdraw : (c : Call) → withdraws c ≡ true → may_withdraw (what.Call c) ≡ true
+may-withdraw (call.RemoveWrap v) may = refl
+may-withdraw (call.SetInstanceData payload entry hint) may = refl
+may-withdraw (call.RemoveEnvCleanupHook entry argument) may = refl
+may-withdraw c may = cc
 
-told-rightly : (w : What) (e : Environment) (v : Option ℕ) → Rightly w (value_told e v).reply
-told-rightly w e None = nothing w _ refl
-told-rightly w e (Some v) = nothing w _ refl
-
-referring-rightly : (w : What) (f : Option Registration) (wanted : Bool) (n v : ℕ) (e : Environment)
-    → Rightly w (registering_if f (referring_if wanted n v e)).reply
-referring-rightly w None true n v e = nothing w _ refl
-referring-rightly w None false n v e = nothing w _ refl
-referring-rightly w (Some r) true n v e = nothing w _ refl
-referring-rightly w (Some r) false n v e = nothing w _ refl
-
-withdrawing-rightly : (w : What) (f : Option Registration) (t : Option ℕ) (a : Answer Environment) → may_withdraw w ≡ true
-    → a.reply.status ≡ status.Ok → a.reply.dropped ≡ None → Rightly w (registering_if f (withdrawing t a)).reply
-withdrawing-rightly w None None a may accepted none = nothing w _ none
-withdrawing-rightly w None (Some n) a may accepted none = record { call = λ some. may; accepted = λ some. accepted }
-withdrawing-rightly w (Some r) None a may accepted none = nothing w _ none
-withdrawing-rightly w (Some r) (Some n) a may accepted none = record { call = λ some. may; accepted = λ some. accepted }
-
-effect-rightly : (e : Environment) (c : Call) (n : ℕ) → Rightly (what.Call c) (effect e c n).reply
-effect-rightly e (call.ReferenceRef r) n = counted-rightly _ r.0 e (referred_value e.references r.0)
-effect-rightly e (call.GetReferenceValue r) n = told-rightly _ e (referred_value e.references r.0)
-effect-rightly e (call.Wrap v payload entry hint wanted) n = referring-rightly _ (finalizer_if e payload entry hint) wanted n _ _
-effect-rightly e (call.RemoveWrap v) n =
-    withdrawing-rightly _ None (registered_only e.book (wrap_ticket e.attachments (handle_value e.heap v.0))) _ refl refl refl
-effect-rightly e (call.AddFinalizer v payload entry hint wanted) n = referring-rightly _ (finalizer_if e payload (Some entry) hint) wanted n _ _
-effect-rightly e (call.CreateExternal payload None hint) n = nothing _ _ refl
-effect-rightly e (call.CreateExternal payload (Some entry) hint) n = nothing _ _ refl
-effect-rightly e (call.SetInstanceData payload entry hint) n =
-    withdrawing-rightly _ (finalizer_if e payload entry hint) (registered_only e.book (instance_ticket e.instances (caller_of e.frames))) _ refl refl refl
-effect-rightly e (call.RemoveEnvCleanupHook entry argument) n =
-    withdrawing-rightly _ None (registered_only e.book (hook_ticket (caller_of e.frames) entry argument e.hooks)) _ refl refl refl
-effect-rightly e c n = nothing (what.Call c) _ refl
-
-answer-rightly : (e : Environment) (c : Call) (n : ℕ) → Rightly (what.Call c) (answer e c n).reply
-answer-rightly e c n = answer-by e c n (λ a. Rightly (what.Call c) a.reply) (λ s. nothing _ _ refl) (λ s. nothing _ _ refl) (λ none. effect-rightly e c n)
+told-rightly : (c : Call) (r : Reply) → Told c r → Rightly (what.Call c) r
+told-rightly c _ (told_plain r unframed none kept) = nothing (what.Call c) r kept
+told-rightly c _ (told_made r d registers places t) = record { call = (told-rightly c r t).call; accepted = (told-rightly c r t).accepted }
+told-rightly c _ (told_dropped r d may accepted t) = record { call = λ some. may-withdraw c may; accepted = λ some. accepted }
 
 -- EVERY ENTRY OF A RUN
 abbrev EntryRightly : Entry → Type 0
@@ -123,7 +83,7 @@ end-rightly : (v : Option HandleId) (cut : Option Why) (e : Environment) → Ent
 end-rightly v cut e = ended-by v cut e (λ why d. EntryRightly d.entry) (λ w. nothing _ _ refl) (λ p. nothing _ _ refl) (nothing _ _ refl) (nothing _ _ refl)
 
 asked-rightly : (e : Environment) (c : Call) (n : ℕ) → EntryRightly (asked_change e c n).entry
-asked-rightly e c n = asked-by e c n (λ d. EntryRightly d.entry) (answer-rightly e c n) (λ receiver f args none. nothing _ _ refl)
+asked-rightly e c n = asked-by e c n (λ d. EntryRightly d.entry) (told-rightly c _ (answer-told e c n)) (λ receiver f args none. nothing _ _ refl)
 
 step-rightly : (m : Machine) (s : Step) → StepCase m s → IsTrue s.may → EntryRightly s.entry
 step-rightly m _ (calls c n may alone) ok = asked-rightly m.env c n

@@ -46,12 +46,13 @@ use Rattle.napi_types.specs.environment.ReferenceCalls.{value_told, counted_up}
 use Rattle.napi_types.specs.environment.Refusals.{attached_refusal, timely_refusal, early_refusal}
 use Rattle.napi_types.specs.environment.Registering.{finalizer_if, ticket_if, registering_if, registered_only, withdrawing}
 use Rattle.napi_types.specs.environment.Roots.{reach}
-use Rattle.napi_types.specs.environment.WrapCalls.{referring_if, wrapping, finalizing}
+use Rattle.napi_types.specs.environment.WrapCalls.{wrapping, finalizing}
 use Rattle.napi_types.proofs.plain.Maps.{length-with_record}
 use Rattle.napi_types.proofs.plain.Lists.{length-changed, not-when, none-first, none-last}
 use Rattle.napi_types.proofs.plain.CallFacts.{needs-place}
 use Rattle.napi_types.proofs.parts.BookSteps.{BookStep, stays, adds, drops, collects, swaps, step-owed}
 use Rattle.napi_types.proofs.environment.Cases.{answer-by}
+use Rattle.napi_types.proofs.environment.Told.{Told, told_plain, told_made, told_dropped, effect-told, answer-told}
 
 -- what a call keeps of a heap: how many frames have scopes. It issues one number of each kind at most, and makes as many values as an array of names has, with the array
 pub record HeapKeeps (old new : Heap) : Type 0 where
@@ -315,50 +316,16 @@ pub record MakesFor (c : Call) (made : Option Duty) : Type 0 where
   pub places : 1 + 2 * one_if (is_some made) ≤ need c
   pub registers : is_some made ≡ true → is_registering c ≡ true
 
-no-cut : (b : Bool) → b ≡ false → b ≡ true → ⊥
-no-cut true h k = cc
-no-cut false h k = cc
-
 makes-none : (c : Call) (made : Option Duty) → 1 ≤ need c → made ≡ None → MakesFor c made
 makes-none c made one none = rw none (record { places = omega (arith, one); registers = λ h. cc })
 
-dropping-none : (t : Option ℕ) (a : Answer Environment) → a.reply.made ≡ None → (withdrawing t a).reply.made ≡ None
-dropping-none None a h = h
-dropping-none (Some n) a h = h
-
-counted-none : (r : ℕ) (e : Environment) (v : Option ℕ) → (counted_up r e v).reply.made ≡ None
-counted-none r e None = refl
-counted-none r e (Some v) = refl
-
-value-none : (e : Environment) (v : Option ℕ) → (value_told e v).reply.made ≡ None
-value-none e None = refl
-value-none e (Some v) = refl
-
-referring-none : (wanted : Bool) (n v : ℕ) (e : Environment) → (referring_if wanted n v e).reply.made ≡ None
-referring-none true n v e = refl
-referring-none false n v e = refl
-
-effect-makes : (e : Environment) (c : Call) (n : ℕ) → MakesFor c (effect e c n).reply.made
-effect-makes e (call.ReferenceRef r) n = makes-none (call.ReferenceRef r) _ (omega arith) (counted-none r.0 e (referred_value e.references r.0))
-effect-makes e (call.GetReferenceValue r) n = makes-none (call.GetReferenceValue r) _ (omega arith) (value-none e (referred_value e.references r.0))
-effect-makes e (call.Wrap v payload None hint wanted) n = makes-none (call.Wrap v payload None hint wanted) _ (omega arith) (referring-none wanted n _ _)
-effect-makes e (call.Wrap v payload (Some entry) hint wanted) n = record { places = omega arith; registers = λ h. refl }
-effect-makes e (call.RemoveWrap v) n = makes-none (call.RemoveWrap v) _ (omega arith) (dropping-none (registered_only e.book (wrap_ticket e.attachments (handle_value e.heap v.0))) _ refl)
-effect-makes e (call.AddFinalizer v payload entry hint wanted) n = record { places = omega arith; registers = λ h. refl }
-effect-makes e (call.CreateExternal payload None hint) n = makes-none (call.CreateExternal payload None hint) _ (omega arith) refl
-effect-makes e (call.CreateExternal payload (Some entry) hint) n = record { places = omega arith; registers = λ h. refl }
-effect-makes e (call.SetInstanceData payload None hint) n =
-    makes-none (call.SetInstanceData payload None hint) _ (omega arith) (dropping-none (registered_only e.book (instance_ticket e.instances (caller_of e.frames))) _ refl)
-effect-makes e (call.SetInstanceData payload (Some entry) hint) n = record { places = omega arith; registers = λ h. refl }
-effect-makes e (call.AddEnvCleanupHook entry argument) n = record { places = omega arith; registers = λ h. refl }
-effect-makes e (call.RemoveEnvCleanupHook entry argument) n =
-    makes-none (call.RemoveEnvCleanupHook entry argument) _ (omega arith) (dropping-none (registered_only e.book (hook_ticket (caller_of e.frames) entry argument e.hooks)) _ refl)
-effect-makes e c n = makes-none c _ (needs-place c) refl
+told-makes : (c : Call) (r : Reply) → Told c r → MakesFor c r.made
+told-makes c _ (told_plain r unframed none kept) = makes-none c r.made (needs-place c) none
+told-makes c _ (told_made r d registers places t) = record { places = omega (arith, places); registers = λ h. registers }
+told-makes c _ (told_dropped r d may accepted t) = told-makes c r t
 
 pub answer-makes : (e : Environment) (c : Call) (n : ℕ) → MakesFor c (answer e c n).reply.made
-answer-makes e c n =
-    let none : MakesFor c None = makes-none c None (needs-place c) refl in
-    answer-by e c n (λ a. MakesFor c a.reply.made) (λ s. none) (λ s. none) (λ taken. effect-makes e c n)
+answer-makes e c n = told-makes c (answer e c n).reply (answer-told e c n)
 
 -- in the teardown a call that registers is refused, so no duty is made
 torn : (e : Environment) (c : Call) → is_tearing e.phase ≡ true → is_registering c ≡ true → moment_refusal e c ≡ None → ⊥
@@ -375,7 +342,7 @@ not-some (Some d) h = absurd (h refl)
 pub torn-makes-none : (e : Environment) (c : Call) (n : ℕ) → is_tearing e.phase ≡ true → (answer e c n).reply.made ≡ None
 torn-makes-none e c n tearing =
     answer-by e c n (λ a. a.reply.made ≡ None) (λ s. refl) (λ s. refl)
-    (λ is. not-some _ (λ some. torn e c tearing ((effect-makes e c n).registers some) (none-first (moment_refusal e c) (timely_refusal e c) is)))
+    (λ is. not-some _ (λ some. torn e c tearing ((told-makes c (effect e c n).reply (effect-told e c n)).registers some) (none-first (moment_refusal e c) (timely_refusal e c) is)))
 
 -- A CALL'S ENTRY
 -- what a call of this entry keeps: the addons, the opening, the init frames that began, the phase, and how many frames stand; one of them has made one ask more. The
