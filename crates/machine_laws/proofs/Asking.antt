@@ -25,10 +25,11 @@ use Rattle.napi_types.specs.environment.Entering.{asked_change}
 use Rattle.napi_types.specs.environment.Environment.{Environment}
 use Rattle.napi_types.specs.runs.Machine.{Machine}
 use Rattle.napi_types.specs.runs.Plan.{frame_ask, frames_ask, asked, asked_along, registers_after}
-use Rattle.napi_types.specs.runs.Run.{after, IsNext, IsRunBy}
+use Rattle.napi_types.specs.runs.Run.{IsNext, IsRunBy}
 use Rattle.napi_types.specs.runs.Setting.{opening_of}
 use Rattle.napi_types.specs.runs.Step.{Step, may_cut, call_step_on, end_step_on, frame_step, step}
 use Rattle.napi_types.proofs.environment.Cases.{asked-by}
+use Rattle.napi_types.proofs.runs.Runs.{along-entries}
 use Rattle.machine_laws.specs.Cuts.{CallsBuilt, UnbuiltCallsAreNeverMade}
 use Rattle.machine_laws.proofs.Choosing.{Happens, happens-alone}
 use Rattle.machine_laws.proofs.Forms.{shared-what, ended-what, event_what, event-what, frame-next}
@@ -85,12 +86,10 @@ here-built built ps rss m a x next asks c who is =
 
 run-built : (built : Call → Bool) (ps : List Plan) (rss : Registers) (m : Machine) (bs : List Ask) (xs : List Entry) → IsRunBy m bs xs
     → bs ≡ asked_along built ps rss m bs xs → All (CallsBuilt built) xs
-run-built built ps rss m (b ∷ bs) (x ∷ xs) run asks =
-    All-cons (CallsBuilt built) x xs (here-built built ps rss m b x run.0 (ap (λ l. unwrap_or (head l) b) asks))
-    (run-built built ps (registers_after ps rss m b x) (after m b x) bs xs run.1 (ap tail asks))
-run-built built ps rss m [] [] run asks = All-nil (CallsBuilt built)
-run-built built ps rss m [] (x ∷ xs) run asks = absurd run
-run-built built ps rss m (b ∷ bs) [] run asks = absurd run
+run-built built ps rss m bs xs run =
+    along-entries (λ m bs xs. (rss : Registers) → bs ≡ asked_along built ps rss m bs xs → All (CallsBuilt built) xs) (λ m rss asks. All-nil (CallsBuilt built))
+    (λ m b bs x xs next rest rss asks.
+    All-cons (CallsBuilt built) x xs (here-built built ps rss m b x next (ap (λ l. unwrap_or (head l) b) asks)) (rest (registers_after ps rss m b x) (ap tail asks))) m bs xs run rss
 
 pub unbuilt-never : UnbuiltCallsAreNeverMade
 unbuilt-never s bs xs run = run-built s.built s.plans (loaded_registers s.plans) (opening_of s) bs xs run.steps run.asked

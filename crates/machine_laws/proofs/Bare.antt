@@ -33,8 +33,8 @@ use Rattle.napi_types.proofs.plain.Conditions.{and-right}
 use Rattle.napi_types.proofs.environment.FrameEnds.{ended-ends}
 use Rattle.napi_types.proofs.hub.HubKeeps.{hub_step-what, other-calls, thread-shared}
 use Rattle.napi_types.proofs.runs.SharedSteps.{hub_step-end}
-use Rattle.napi_types.proofs.runs.StepCases.{StepCase, calls, ends, opens, inits, begins, vanishes, shares, leaves, passes, moves, others, event_before, step-case}
-use Rattle.napi_types.proofs.all_runs.Orderly.{Orderly, orderly-step, orderly-opens}
+use Rattle.napi_types.proofs.runs.StepCases.{StepCase, calls, ends, opens, inits, begins, vanishes, shares, leaves, passes, moves, others, event_before}
+use Rattle.napi_types.proofs.all_runs.Orderly.{Orderly, orderly-opens, along-orderly}
 use Rattle.machine_laws.specs.ExitLaws.{is_shared_call, has_shared}
 use Rattle.machine_laws.proofs.Forms.{shared-what}
 
@@ -122,15 +122,12 @@ step-bare m _ (others x other) comes none bare =
     others-bare m.hub x other (and-right (has_room m x.what) (hub_step m.hub x).may comes) (sym (ap is_shared_call (hub_step-what m.hub x)) ∙ none) bare
 
 -- RUNS
-run-bare : (m : Machine) (bs : List Ask) (xs : List Entry) → Orderly m → IsBare m.hub → IsRunBy m bs xs → has_shared xs ≡ false → IsBare (final m bs xs).hub
-run-bare m (a ∷ bs) (x ∷ xs) orderly bare run none =
-    let s : StepCase m (step m a x) = step-case m a x orderly.stage run.0.1 in
+run-bare : (m : Machine) (bs : List Ask) (xs : List Entry) → Orderly m → IsRunBy m bs xs → has_shared xs ≡ false → IsBare m.hub → IsBare (final m bs xs).hub
+run-bare = along-orderly (λ m bs xs. has_shared xs ≡ false → IsBare m.hub → IsBare (final m bs xs).hub) (λ m none bare. bare)
+    (λ m a bs x xs h next s k rest none bare.
     let both : (is_shared_call x.what ≡ false) × (has_shared xs ≡ false) = or_parts (is_shared_call x.what) (has_shared xs) none in
-    let here : is_shared_call (step m a x).entry.what ≡ false = sym (ap (λ (y : Entry). is_shared_call y.what) run.0.0) ∙ both.0 in
-    run-bare (after m a x) bs xs (orderly-step m (step m a x) orderly s) (step-bare m (step m a x) s run.0.1 here bare) run.1 both.1
-run-bare m [] [] orderly bare run none = bare
-run-bare m [] (x ∷ xs) orderly bare run none = absurd run
-run-bare m (a ∷ bs) [] orderly bare run none = absurd run
+    let here : is_shared_call (step m a x).entry.what ≡ false = sym (ap (λ (y : Entry). is_shared_call y.what) next.0) ∙ both.0 in
+    rest both.1 (step-bare m (step m a x) s next.1 here bare))
 
 pub bare-run : (s : Setting) (bs : List Ask) (xs : List Entry) → IsRunBy (opening_of s) bs xs → has_shared xs ≡ false → IsBare (final_of s bs xs).hub
-bare-run s bs xs run none = run-bare (opening_of s) bs xs (orderly-opens s) (record { closing = false; pool = refl; functions = refl }) run none
+bare-run s bs xs run none = run-bare (opening_of s) bs xs (orderly-opens s) run none (record { closing = false; pool = refl; functions = refl })

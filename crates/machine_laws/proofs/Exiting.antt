@@ -1,5 +1,5 @@
 -- What asks to exit, and what comes of it in a run.
-use Rattle.std.proofs.Common.{◌≡◌, ◌∙◌, ℕ, Bool, true, false, not, ◌||◌, List, [], ◌∷◌, IsTrue, refl, ap, sym, subst, Option, Some, None, ◌⊎◌, inl, inr}
+use Rattle.std.proofs.Common.{◌≡◌, ◌∙◌, ℕ, Bool, true, false, not, ◌||◌, List, IsTrue, refl, ap, sym, subst, Option, Some, None, ◌⊎◌, inl, inr}
 use Rattle.std.proofs.Math.Bool.{or-false}
 use Rattle.napi_types.specs.declared.call.Ask.{Ask}
 use Rattle.napi_types.specs.declared.call.Call.{Call}
@@ -40,9 +40,9 @@ use Rattle.napi_types.proofs.environment.FrameEnds.{ended-ends}
 use Rattle.napi_types.proofs.environment.Cases.{asked-by, ended-by}
 use Rattle.napi_types.proofs.hub.HubKeeps.{hub_step-what}
 use Rattle.napi_types.proofs.runs.SharedSteps.{is_of_others, others-told, after_shared-alone}
-use Rattle.napi_types.proofs.runs.StepCases.{StepCase, calls, ends, opens, inits, begins, vanishes, shares, leaves, passes, moves, others, event_before, InPhase, step-case}
+use Rattle.napi_types.proofs.runs.StepCases.{StepCase, calls, ends, opens, inits, begins, vanishes, shares, leaves, passes, moves, others, event_before, InPhase}
 use Rattle.napi_types.proofs.runs.Chosen.{OwnChoice, exits, own-choice, NoChoice, waits, no-choice, HubChoice, idles, quiets, hub-choice, chosen-by}
-use Rattle.napi_types.proofs.all_runs.Orderly.{Orderly, orderly-step, orderly-opens}
+use Rattle.napi_types.proofs.all_runs.Orderly.{Orderly, orderly-opens, along-orderly}
 use Rattle.machine_laws.specs.Choices.{begins_due_tickets_in, is_of_frames, BeginsLowest, BeginsLastHook, BeginsOfHub}
 use Rattle.machine_laws.specs.ExitLaws.{asks_exit, has_exit, reason_of, ExitIsAskedByItsCall, EndsByReason, TheLoopEndsByItsReason, TheLoopEndsByExitOrIdle, WhatIsDueWaitsForFinalsOnceExitWasAsked}
 use Rattle.machine_laws.proofs.Bare.{IsBare, bare-run, bare-idle}
@@ -144,15 +144,11 @@ turned false true c = refl
 turned false false c = refl
 
 run-notes : (m : Machine) (bs : List Ask) (xs : List Entry) → Orderly m → IsRunBy m bs xs → (final m bs xs).env.exit_asked ≡ (has_exit xs || m.env.exit_asked)
-run-notes m (a ∷ bs) (x ∷ xs) orderly run =
-    let s : StepCase m (step m a x) = step-case m a x orderly.stage run.0.1 in
+run-notes = along-orderly (λ m bs xs. (final m bs xs).env.exit_asked ≡ (has_exit xs || m.env.exit_asked)) (λ m. refl)
+    (λ m a bs x xs h next s k rest.
     let here : (after m a x).env.exit_asked ≡ (asks_exit x.what || m.env.exit_asked) =
-    step-notes m (step m a x) s run.0.1 ∙ sym (ap (λ (y : Entry). asks_exit y.what || m.env.exit_asked) run.0.0) in
-    run-notes (after m a x) bs xs (orderly-step m (step m a x) orderly s) run.1
-    ∙ ap (λ b. has_exit xs || b) here ∙ turned (has_exit xs) (asks_exit x.what) m.env.exit_asked
-run-notes m [] [] orderly run = refl
-run-notes m [] (x ∷ xs) orderly run = absurd run
-run-notes m (a ∷ bs) [] orderly run = absurd run
+    step-notes m (step m a x) s next.1 ∙ sym (ap (λ (y : Entry). asks_exit y.what || m.env.exit_asked) next.0) in
+    rest ∙ ap (λ b. has_exit xs || b) here ∙ turned (has_exit xs) (asks_exit x.what) m.env.exit_asked)
 
 pub exit-by-call : ExitIsAskedByItsCall
 exit-by-call s bs xs run = run-notes (opening_of s) bs xs (orderly-opens s) run ∙ or-false (has_exit xs)

@@ -1,5 +1,5 @@
 -- What thread-safe functions keep alive changes with their creation and with their finish alone.
-use Rattle.std.proofs.Common.{◌≡◌, ◌∙◌, ℕ, ◌==◌, Bool, true, false, not, cond, List, [], ◌∷◌, ◌++◌, map, filter, IsTrue, refl, ap, sym, subst, Option, Some, None, ◌⊎◌, inl, inr}
+use Rattle.std.proofs.Common.{◌≡◌, ◌∙◌, ℕ, ◌==◌, Bool, true, false, not, cond, List, [], ◌∷◌, ◌++◌, map, filter, IsTrue, refl, ap, sym, subst, Option, Some, None, ◌⊎◌, inl, inr, All}
 use Rattle.std.proofs.lemmas.Bool.{eqb-true, eq-eqb, true≢false}
 use Rattle.std.proofs.lemmas.List.{append-nil, append_assoc, map-append}
 use Rattle.std.proofs.lemmas.List.Elements.{All-head, All-tail, filter-append}
@@ -36,6 +36,7 @@ use Rattle.napi_types.proofs.environment.Changed.{Ignores, changed-keeps, asked-
 use Rattle.napi_types.proofs.environment.Cases.{asked-by}
 use Rattle.napi_types.proofs.runs.SharedSteps.{is_of_others}
 use Rattle.napi_types.proofs.runs.Chosen.{chosen-move}
+use Rattle.napi_types.proofs.runs.Runs.{along-entries}
 use Rattle.machine_laws.specs.FunctionRoots.{kept_by, is_finish_of, tells_finish, KeepsOn, NewFunctionsKeepTheirValue, FunctionsKeepUntilTheyFinish, FinishedFunctionsKeepNone}
 use Rattle.machine_laws.proofs.Forms as form
 use Rattle.machine_laws.proofs.Forms.{Form, form-of, shared-what, ended-what, event_what, event-what, other-what}
@@ -177,13 +178,12 @@ module _ (n : ℕ) (m : Machine) where
 
 -- RUNS
 pub keep-until-they-finish : FunctionsKeepUntilTheyFinish
-keep-until-they-finish m (a ∷ bs) (x ∷ xs) n run none =
-    let here : is_finish_of n (step m a x).entry ≡ false = subst (λ y. is_finish_of n y ≡ false) run.0.0 (All-head (λ y. is_finish_of n y ≡ false) x xs none) in
-    keeps-then n m.env (after m a x).env (final (after m a x) bs xs).env (form-keeps n m (step m a x) (form-of m a x run.0) here)
-    (keep-until-they-finish (after m a x) bs xs n run.1 (All-tail (λ y. is_finish_of n y ≡ false) x xs none))
-keep-until-they-finish m [] [] n run none = keeps-same n m.env m.env refl
-keep-until-they-finish m [] (x ∷ xs) n run none = absurd run
-keep-until-they-finish m (a ∷ bs) [] n run none = absurd run
+keep-until-they-finish m bs xs n run =
+    along-entries (λ m bs xs. All (λ y. is_finish_of n y ≡ false) xs → KeepsOn n m.env (final m bs xs).env) (λ m none. keeps-same n m.env m.env refl)
+    (λ m a bs x xs next rest none.
+    let here : is_finish_of n (step m a x).entry ≡ false = subst (λ y. is_finish_of n y ≡ false) next.0 (All-head (λ y. is_finish_of n y ≡ false) x xs none) in
+    keeps-then n m.env (after m a x).env (final (after m a x) bs xs).env (form-keeps n m (step m a x) (form-of m a x next) here)
+    (rest (All-tail (λ y. is_finish_of n y ≡ false) x xs none))) m bs xs run
 
 -- A NEW FUNCTION
 -- the entry of a local call is the call, or the begin of a frame

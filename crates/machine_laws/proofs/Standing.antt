@@ -29,7 +29,7 @@ use Rattle.napi_types.specs.hub.HubSteps.{HubStep, hub_step, begin_step, close_s
 use Rattle.napi_types.specs.runs.Choice.{choice}
 use Rattle.napi_types.specs.runs.Loop.{Event, Tickets, Moves}
 use Rattle.napi_types.specs.runs.Machine.{Machine}
-use Rattle.napi_types.specs.runs.Run.{IsRunBy, after, final}
+use Rattle.napi_types.specs.runs.Run.{IsRunBy, after, IsNext}
 use Rattle.napi_types.specs.runs.Setting.{Setting, opening_of, final_of}
 use Rattle.napi_types.specs.runs.Step.{Step, ticket_step, event_step, shared_call_step, end_step_on, step}
 use Rattle.napi_types.proofs.plain.Conditions.{and-right}
@@ -40,6 +40,7 @@ use Rattle.napi_types.proofs.hub.HubDuties.{delivery-of_hub}
 use Rattle.napi_types.proofs.hub.HubKeeps.{given-keeps, other-keeps}
 use Rattle.napi_types.proofs.runs.SharedSteps.{hub_step-end, after_shared-alone}
 use Rattle.napi_types.proofs.runs.Chosen.{chosen-move}
+use Rattle.napi_types.proofs.runs.Runs.{along-run}
 use Rattle.machine_laws.specs.Cuts.{StandsInHub, hub_duties, standing_duties, FramesStandInTheHub, HubDutiesStandInTheHub}
 use Rattle.machine_laws.proofs.Forms as form
 use Rattle.machine_laws.proofs.Forms.{Form, form-of}
@@ -141,20 +142,13 @@ record Stands (m : Machine) : Type 0 where
   pub nested : IsNested m.env
   pub alike : StandsAlike m.env m.hub
 
-run-stands : (m : Machine) (bs : List Ask) (xs : List Entry) → Stands m → IsRunBy m bs xs → Stands (final m bs xs)
-run-stands m (a ∷ bs) (x ∷ xs) here run =
-    let f : Form m (step m a x) = form-of m a x run.0 in
-    let next : Stands (after m a x) = record {
-      nested = form-nested m (step m a x) f here.nested;
-      alike = form-alike m (step m a x) f run.0.1 here.nested.frames here.alike;
-    } in
-    run-stands (after m a x) bs xs next run.1
-run-stands m [] [] here run = here
-run-stands m [] (x ∷ xs) here run = absurd run
-run-stands m (a ∷ bs) [] here run = absurd run
+step-stands : (m : Machine) (a : Ask) (x : Entry) → IsNext m a x → Stands m → Stands (after m a x)
+step-stands m a x next here =
+    let f : Form m (step m a x) = form-of m a x next in
+    record { nested = form-nested m (step m a x) f here.nested; alike = form-alike m (step m a x) f next.1 here.nested.frames here.alike }
 
 stands-run : (s : Setting) (bs : List Ask) (xs : List Entry) → IsRunBy (opening_of s) bs xs → Stands (final_of s bs xs)
-stands-run s bs xs run = run-stands (opening_of s) bs xs (record { nested = opens-nested s; alike = refl }) run
+stands-run s bs xs run = along-run Stands step-stands (opening_of s) bs xs run (record { nested = opens-nested s; alike = refl })
 
 pub hub-duties-stand : HubDutiesStandInTheHub
 hub-duties-stand s bs xs run = (stands-run s bs xs run).alike

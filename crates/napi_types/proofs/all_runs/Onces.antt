@@ -48,8 +48,8 @@ use Rattle.napi_types.proofs.environment.FrameChanges.{book_left, ended-keeps as
 use Rattle.napi_types.proofs.environment.Cases.{asked-by, ended-by}
 use Rattle.napi_types.proofs.hub.HubDuties.{OfHub, SparesTickets, hub_step-spares}
 use Rattle.napi_types.proofs.runs.SharedSteps.{StandsStill, shares-still}
-use Rattle.napi_types.proofs.runs.StepCases.{StepCase, calls, ends, opens, inits, begins, vanishes, shares, leaves, passes, moves, others, event_before}
-use Rattle.napi_types.proofs.all_runs.Orderly.{Orderly, orderly-step, orderly-opens, next-case}
+use Rattle.napi_types.proofs.runs.StepCases.{StepCase, calls, ends, opens, inits, begins, vanishes, shares, leaves, passes, moves, others, event_before, step-case}
+use Rattle.napi_types.proofs.all_runs.Orderly.{Orderly, orderly-step, orderly-opens, next-case, along-orderly}
 use Rattle.napi_types.proofs.all_runs.Rooms.{none-left}
 
 -- WHAT A STEP DOES
@@ -366,35 +366,34 @@ pub begun-cons : (d : Duty) (x : Entry) (xs : List Entry) → begun d (x ∷ xs)
 begun-cons d x xs = sum_by-cons (λ (y : Entry). as_one (is_duty d (begun_duty y.what y.reply.out))) x xs
 
 run-account : (t : ℕ) (m : Machine) (bs : List Ask) (xs : List Entry) → Orderly m → IsRunBy m bs xs → RunAccount t m.env.book xs (final m bs xs).env.book
-run-account t m [] [] h run = record { given = none (given_at t m.env.book); owed = nones (owed_at t m.env.book) }
-  where
-    none : (n : ℕ) → n ≡ n + 0
-    none n = omega arith
-
-    nones : (n : ℕ) → n + 0 + 0 ≡ n + 0
-    nones n = omega arith
-run-account t m (a ∷ bs) (x ∷ xs) h run =
+run-account t =
+    along-orderly (λ m bs xs. RunAccount t m.env.book xs (final m bs xs).env.book)
+    (λ m. record { given = none (given_at t m.env.book); owed = nones (owed_at t m.env.book) })
+    (λ m a bs x xs h next s k later.
     let d : Duty = ticket_duty t in
     let b : Book = m.env.book in
     let c : Book = (after m a x).env.book in
-    let e : Book = (final m (a ∷ bs) (x ∷ xs)).env.book in
-    let first : Account t b x.reply.made x.reply.dropped (begun_duty x.what x.reply.out) c = duty-account t b _ _ _ c (next-is m a x h run.0) in
-    let later : RunAccount t c xs e = run-account t (after m a x) bs xs (orderly-step m (step m a x) h (next-case m a x h run.0)) run.1 in
+    let e : Book = (final (after m a x) bs xs).env.book in
+    let first : Account t b x.reply.made x.reply.dropped (begun_duty x.what x.reply.out) c = duty-account t b _ _ _ c (next-is m a x h next) in
     record {
       given = givens (given_at t b) (given_at t c) (given_at t e) (named t x.reply.made) (made d xs) (made d (x ∷ xs))
           first.given later.given (made-cons d x xs);
       owed = oweds (owed_at t b) (owed_at t c) (owed_at t e) (named t x.reply.made) (made d xs) (made d (x ∷ xs))
           (named t (begun_duty x.what x.reply.out)) (begun d xs) (begun d (x ∷ xs))
           (named t x.reply.dropped) (dropped d xs) (dropped d (x ∷ xs)) first.owed later.owed (made-cons d x xs) (begun-cons d x xs) (dropped-cons d x xs);
-    }
+    })
   where
+    none : (n : ℕ) → n ≡ n + 0
+    none n = omega arith
+
+    nones : (n : ℕ) → n + 0 + 0 ≡ n + 0
+    nones n = omega arith
+
     givens : (b c e k n m : ℕ) → c ≡ b + k → e ≡ c + n → m ≡ k + n → e ≡ b + m
     givens b c e k n m h j i = omega (arith, h, j, i)
 
     oweds : (b c e k n m l o p q r s : ℕ) → c + l + q ≡ b + k → e + o + r ≡ c + n → m ≡ k + n → p ≡ l + o → s ≡ q + r → e + p + s ≡ b + m
     oweds b c e k n m l o p q r s h j x y z = omega (arith, h, j, x, y, z)
-run-account t m [] (x ∷ xs) h run = absurd run
-run-account t m (a ∷ bs) [] h run = absurd run
 
 -- THE TICKETS THAT ARE MADE
 -- a step makes the next ticket, or none
@@ -441,12 +440,8 @@ counts-cons b _ _ ts (unmade made c no_ticket same) later = rw no_ticket (later 
 counts-cons b _ _ ts (making c longer) later = ap (λ us. (length b + 1) ∷ us) (later ∙ ap (λ n. range_with_len (n + 1) (length ts)) longer)
 
 run-counts : (m : Machine) (bs : List Ask) (xs : List Entry) → Orderly m → IsRunBy m bs xs → CountsFrom (length m.env.book) (tickets_made xs)
-run-counts m [] [] h run = refl
-run-counts m (a ∷ bs) (x ∷ xs) h run =
-    counts-cons m.env.book x.reply.made (after m a x).env.book (tickets_made xs) (duty-makes m.env.book _ _ _ _ (next-is m a x h run.0))
-    (run-counts (after m a x) bs xs (orderly-step m (step m a x) h (next-case m a x h run.0)) run.1)
-run-counts m [] (x ∷ xs) h run = absurd run
-run-counts m (a ∷ bs) [] h run = absurd run
+run-counts = along-orderly (λ m bs xs. CountsFrom (length m.env.book) (tickets_made xs)) (λ m. refl) (λ m a bs x xs h next s k rest.
+    counts-cons m.env.book x.reply.made (after m a x).env.book (tickets_made xs) (duty-makes m.env.book _ _ _ _ (next-is m a x h next)) rest)
 
 pub tickets-counted : TicketsAreCounted
 tickets-counted s bs xs run = run-counts (opening_of s) bs xs (orderly-opens s) run.steps

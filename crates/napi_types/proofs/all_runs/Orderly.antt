@@ -1,5 +1,5 @@
 -- What holds at every moment of a run of the tickets that are still to begin.
-use Rattle.std.proofs.Common.{◌≡◌, ◌≢◌, ◌∙◌, ℕ, suc, Bool, true, false, [], length, get_or, refl, ap, sym, Option, Some, subst, ◌⊎◌, inl, inr}
+use Rattle.std.proofs.Common.{◌≡◌, ◌≢◌, ◌∙◌, ℕ, suc, Bool, true, false, [], length, get_or, refl, ap, sym, Option, Some, None, is_some, subst, ◌⊎◌, inl, inr, List, ◌∷◌}
 use Rattle.std.specs.List.{All}
 use Rattle.std.proofs.lemmas.Option.{slice_get-get_or}
 use Rattle.napi_types.specs.declared.call.Call.{Call}
@@ -9,6 +9,7 @@ use Rattle.napi_types.specs.declared.entry.Phase.{Phase}
 use Rattle.napi_types.specs.declared.entry.Phase.TheVariants as phase
 use Rattle.napi_types.specs.declared.entry.Why.{Why}
 use Rattle.napi_types.specs.declared.ids.HandleId.{HandleId}
+use Rattle.napi_types.specs.declared.call.Ask.{Ask}
 use Rattle.napi_types.specs.plain.Lists.{has}
 use Rattle.napi_types.specs.plain.Phases.{next_phase}
 use Rattle.napi_types.specs.parts.Book.{Book, Registration, is_owed, registration_at}
@@ -24,8 +25,7 @@ use Rattle.napi_types.specs.hub.Hub.{stage_of}
 use Rattle.napi_types.specs.runs.Machine.{Machine}
 use Rattle.napi_types.specs.runs.Setting.{Setting, opening_of}
 use Rattle.napi_types.specs.runs.Step.{Step, step}
-use Rattle.napi_types.specs.declared.call.Ask.{Ask}
-use Rattle.napi_types.specs.runs.Run.{IsNext}
+use Rattle.napi_types.specs.runs.Run.{IsNext, IsRunBy, after}
 use Rattle.napi_types.proofs.plain.Lists.{none-there}
 use Rattle.napi_types.proofs.parts.Books.{NoneRegistered, all_due-none}
 use Rattle.napi_types.proofs.parts.Moved.{at-state, at-cause}
@@ -37,6 +37,7 @@ use Rattle.napi_types.proofs.environment.HookedSteps.{unchanged, hooked-opening,
 use Rattle.napi_types.proofs.environment.Registrations.{asked-all, ended-all, begun-all, phase-all, none-asked, none-ended, none-begun}
 use Rattle.napi_types.proofs.runs.SharedSteps.{StandsStill, shares-still, moves-still, others-still, end-stage}
 use Rattle.napi_types.proofs.runs.StepCases.{StepCase, calls, ends, opens, inits, begins, vanishes, shares, leaves, passes, moves, others, InPhase, step-case}
+use Rattle.napi_types.proofs.runs.Runs.{along-entries}
 
 -- WHAT HOLDS
 -- the drain has come
@@ -176,6 +177,17 @@ orderly-step m _ h (passes p o q) = record {
 }
 orderly-step m s h (moves move next moving alone) = orderly-still m s.after (moves-still m move) h
 orderly-step m s h (others x other) = orderly-still m s.after (others-still m x other) h
+
+-- what the empty run has, and each run that is longer by an entry at its start, every run has that starts orderly
+pub along-orderly : (Q : Machine → List Ask → List Entry → Type 0) → ((m : Machine) → Q m [] [])
+    → ((m : Machine) (a : Ask) (bs : List Ask) (x : Entry) (xs : List Entry) → Orderly m → IsNext m a x → StepCase m (step m a x) → Orderly (after m a x)
+    → Q (after m a x) bs xs → Q m (a ∷ bs) (x ∷ xs))
+    → (m : Machine) (bs : List Ask) (xs : List Entry) → Orderly m → IsRunBy m bs xs → Q m bs xs
+along-orderly Q none more m bs xs h run =
+    along-entries (λ m bs xs. Orderly m → Q m bs xs) (λ m h. none m) (λ m a bs x xs next rest h.
+    let s : StepCase m (step m a x) = step-case m a x h.stage next.1 in
+    let k : Orderly (after m a x) = orderly-step m (step m a x) h s in
+    more m a bs x xs h next s k (rest k)) m bs xs run h
 
 pub orderly-opens : (s : Setting) → Orderly (opening_of s)
 orderly-opens s = record { stage = refl; hooked = hooked-opening (length s.plans) s.texts; settled = λ p. cc; spent = λ p. cc }

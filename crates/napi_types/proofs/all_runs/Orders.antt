@@ -56,8 +56,8 @@ use Rattle.napi_types.proofs.environment.Cases.{asked-by}
 use Rattle.napi_types.proofs.hub.HubDuties.{IsOfHub, delivery-of_hub}
 use Rattle.napi_types.proofs.hub.HubKeeps.{hub_step-what}
 use Rattle.napi_types.proofs.runs.SharedSteps.{StandsStill, shares-still, moves-still, others-still, IsNoEvent, others-told, others-none}
-use Rattle.napi_types.proofs.runs.StepCases.{StepCase, calls, ends, opens, inits, begins, vanishes, shares, leaves, passes, moves, others, event_before}
-use Rattle.napi_types.proofs.all_runs.Orderly.{IsSpent, Orderly, late-tears, is_drained, orderly-step, orderly-opens, next-case}
+use Rattle.napi_types.proofs.runs.StepCases.{StepCase, calls, ends, opens, inits, begins, vanishes, shares, leaves, passes, moves, others, event_before, step-case}
+use Rattle.napi_types.proofs.all_runs.Orderly.{IsSpent, Orderly, late-tears, is_drained, orderly-step, orderly-opens, along-orderly, next-case}
 
 -- LISTS OF TICKETS
 -- a list of one ticket of which this holds, or of none
@@ -458,27 +458,22 @@ finals-start m _ (others x other) comes is = let no : true ≡ false = sym is �
 
 -- RUNS
 run-hooks : (m : Machine) (bs : List Ask) (xs : List Entry) → Orderly m → IsRunBy m bs xs → TicketsFall (hooks_begun xs) × All (MayBeginAt m.env) (hooks_begun xs)
-run-hooks m (a ∷ bs) (x ∷ xs) h run =
-    let s : StepCase m (step m a x) = next-case m a x h run.0 in
-    let k : Orderly (after m a x) = orderly-step m (step m a x) h s in
+run-hooks = along-orderly (λ m bs xs. TicketsFall (hooks_begun xs) × All (MayBeginAt m.env) (hooks_begun xs)) (λ m. (tt, All-nil (MayBeginAt m.env)))
+    (λ m a bs x xs h next s k rest.
     let told : AtMostOne (IsNextHook m.env (after m a x).env) (hooks_told x) =
-    subst (λ (y : Entry). AtMostOne (IsNextHook m.env (after m a x).env) (hooks_told y)) (sym run.0.0) (hooks-next m (step m a x) h s run.0.1) in
-    fall-more (MayBeginAt m.env) (MayBeginAt (after m a x).env) (hooks_told x) (hooks_begun xs) (hooks-fewer m (step m a x) h k s) told (run-hooks (after m a x) bs xs k run.1)
-run-hooks m [] [] h run = (tt, All-nil (MayBeginAt m.env))
-run-hooks m [] (x ∷ xs) h run = absurd run
-run-hooks m (a ∷ bs) [] h run = absurd run
+    subst (λ (y : Entry). AtMostOne (IsNextHook m.env (after m a x).env) (hooks_told y)) (sym next.0) (hooks-next m (step m a x) h s next.1) in
+    fall-more (MayBeginAt m.env) (MayBeginAt (after m a x).env) (hooks_told x) (hooks_begun xs) (hooks-fewer m (step m a x) h k s) told rest)
 
-run-late : (m : Machine) (bs : List Ask) (xs : List Entry) → Orderly m → is_late m.env.phase ≡ true → IsRunBy m bs xs
+run-late : (m : Machine) (bs : List Ask) (xs : List Entry) → Orderly m → IsRunBy m bs xs → is_late m.env.phase ≡ true
     → TicketsRise (tickets_begun xs) × All (λ n. is_at is_due m.env.book n ≡ true) (tickets_begun xs)
-run-late m (a ∷ bs) (x ∷ xs) h late run =
-    let s : StepCase m (step m a x) = next-case m a x h run.0 in
+run-late =
+    along-orderly (λ m bs xs. is_late m.env.phase ≡ true → TicketsRise (tickets_begun xs) × All (λ n. is_at is_due m.env.book n ≡ true) (tickets_begun xs))
+    (λ m late. (tt, All-nil (λ n. is_at is_due m.env.book n ≡ true)))
+    (λ m a bs x xs h next s k rest late.
     let told : AtMostOne (IsNextDue m.env (after m a x).env) (tickets_told x) =
-    subst (λ (y : Entry). AtMostOne (IsNextDue m.env (after m a x).env) (tickets_told y)) (sym run.0.0) (due-next m (step m a x) h s run.0.1 late) in
-    rise-more (λ n. is_at is_due m.env.book n ≡ true) (λ n. is_at is_due (after m a x).env.book n ≡ true) (tickets_told x) (tickets_begun xs) (due-fewer m (step m a x) h s late) told
-    (run-late (after m a x) bs xs (orderly-step m (step m a x) h s) (late-stays m (step m a x) s late) run.1)
-run-late m [] [] h late run = (tt, All-nil (λ n. is_at is_due m.env.book n ≡ true))
-run-late m [] (x ∷ xs) h late run = absurd run
-run-late m (a ∷ bs) [] h late run = absurd run
+    subst (λ (y : Entry). AtMostOne (IsNextDue m.env (after m a x).env) (tickets_told y)) (sym next.0) (due-next m (step m a x) h s next.1 late) in
+    rise-more (λ n. is_at is_due m.env.book n ≡ true) (λ n. is_at is_due (after m a x).env.book n ≡ true) (tickets_told x) (tickets_begun xs)
+    (due-fewer m (step m a x) h s late) told (rest (late-stays m (step m a x) s late)))
 
 run-finals : (m : Machine) (bs : List Ask) (xs : List Entry) → Orderly m → IsRunBy m bs xs → FinalsRise xs
 run-finals m (a ∷ bs) (x ∷ xs) h run =
@@ -487,7 +482,7 @@ run-finals m (a ∷ bs) (x ∷ xs) h run =
     by (is_finals x.what) (λ is. finals-start m (step m a x) s run.0.1 (sym (ap (λ (y : Entry). is_finals y.what) run.0.0) ∙ is)) k (run-finals (after m a x) bs xs k run.1)
   where
     by : (b : Bool) → (b ≡ true → is_late (after m a x).env.phase ≡ true) → Orderly (after m a x) → FinalsRise xs → TicketsRise (cond b (tickets_begun xs) (finals_begun xs))
-    by true late k rest = (run-late (after m a x) bs xs k (late refl) run.1).0
+    by true late k rest = (run-late (after m a x) bs xs k run.1 (late refl)).0
     by false late k rest = rest
 run-finals m [] [] h run = tt
 run-finals m [] (x ∷ xs) h run = absurd run

@@ -60,6 +60,7 @@ use Rattle.napi_types.proofs.environment.FrameChanges.{ended-keeps, enter_change
 use Rattle.napi_types.proofs.environment.FrameEnds.{Ends, ended-ends}
 use Rattle.napi_types.proofs.environment.Cases.{asked-by}
 use Rattle.napi_types.proofs.hub.HubKeeps.{answered-may}
+use Rattle.napi_types.proofs.runs.Runs.{along-entries}
 use Rattle.napi_types.proofs.all_runs.Onces.{TicketStep, called, began, EntryTickets, nothing, phase-is, end-is, asked-is, made-cons, dropped-cons, begun-cons}
 
 -- THE HUB
@@ -381,13 +382,12 @@ next-quiet m a x q alone next =
     (subst IsQuietEntry (sym next.0) s.entry, s.after)
 
 pub run-quiet : (m : Machine) (bs : List Ask) (xs : List Entry) → IsQuiet m → All (λ a. is_shared_ask a ≡ false) bs → IsRunBy m bs xs → StaysQuiet m bs xs
-run-quiet m [] [] q alone run = record { entries = All-nil IsQuietEntry; quiet = q }
-run-quiet m (a ∷ bs) (x ∷ xs) q alone run =
-    let first : IsQuietEntry x × IsQuiet (after m a x) = next-quiet m a x q (All-head IsUnshared a bs alone) run.0 in
-    let later : StaysQuiet (after m a x) bs xs = run-quiet (after m a x) bs xs first.1 (All-tail IsUnshared a bs alone) run.1 in
-    record { entries = All-cons IsQuietEntry x xs first.0 later.entries; quiet = later.quiet }
-run-quiet m [] (x ∷ xs) q alone run = absurd run
-run-quiet m (a ∷ bs) [] q alone run = absurd run
+run-quiet m bs xs q alone run =
+    along-entries (λ m bs xs. IsQuiet m → All IsUnshared bs → StaysQuiet m bs xs) (λ m q alone. record { entries = All-nil IsQuietEntry; quiet = q })
+    (λ m a bs x xs next rest q alone.
+    let first : IsQuietEntry x × IsQuiet (after m a x) = next-quiet m a x q (All-head IsUnshared a bs alone) next in
+    let later : StaysQuiet (after m a x) bs xs = rest first.1 (All-tail IsUnshared a bs alone) in
+    record { entries = All-cons IsQuietEntry x xs first.0 later.entries; quiet = later.quiet }) m bs xs run q alone
 
 -- SETTINGS
 -- what the plans ask, where no call that is built is shared

@@ -56,6 +56,7 @@ use Rattle.napi_types.proofs.environment.FrameEnds.{ended-ends}
 use Rattle.napi_types.proofs.environment.Owners.{Below, body-owned, caller-owned, counted-owned, row-unrefused, owned-asked, owned-ended, owned-init, owned-ticket, owned-phase, owned-opening}
 use Rattle.napi_types.proofs.hub.HubOwners.{MoveOwned, GivesOwned, is_creating_call, given-owned, others-owned, event-owned, thread_event-owned, worker-owned, move-owned}
 use Rattle.napi_types.proofs.runs.Chosen.{chosen-move, chosen-init}
+use Rattle.napi_types.proofs.runs.Runs.{along-run}
 
 -- THE HUB AT AN EVENT
 abbrev step_by : Hub → Entry → Actor → What → HubStep
@@ -209,10 +210,7 @@ step-owned n m a x actor.Env is may k = env-owned n m a x.reply.out m.env.frames
 step-owned n m a x _ is may k = other-owned n m x (ap is_environment is) may k
 
 run-owned : (n : ℕ) (m : Machine) (bs : List Ask) (xs : List Entry) → IsRunBy m bs xs → AreOfScript n m → AreOfScript n (final m bs xs)
-run-owned n m (a ∷ bs) (x ∷ xs) run k = run-owned n (after m a x) bs xs run.1 (step-owned n m a x x.actor refl run.0.1 k)
-run-owned n m [] [] run k = k
-run-owned n m [] (x ∷ xs) run k = absurd run
-run-owned n m (a ∷ bs) [] run k = absurd run
+run-owned n = along-run (λ m. AreOfScript n m) (λ m a x next k. step-owned n m a x x.actor refl next.1 k)
 
 pub addons-are-the-scripts : AddonsAreTheScripts
 addons-are-the-scripts s bs xs run = run-owned (length s.plans) (opening_of s) bs xs run (record {

@@ -1,5 +1,5 @@
 -- Only an accepted call of its own withdraws a duty; and what becomes of all duties of a run alone.
-use Rattle.std.proofs.Common.{◌≡◌, ℕ, Bool, true, false, not, ◌&&◌, List, [], ◌∷◌, IsTrue, refl, sym, subst, Option, Some, None, is_some, arith}
+use Rattle.std.proofs.Common.{◌≡◌, ℕ, Bool, true, false, not, ◌&&◌, List, IsTrue, refl, sym, subst, Option, Some, None, is_some, arith}
 use Rattle.std.specs.List.{All}
 use Rattle.std.proofs.lemmas.List.Elements.{All-nil, All-cons}
 use Rattle.napi_types.specs.declared.call.Ask.{Ask}
@@ -28,7 +28,7 @@ use Rattle.napi_types.specs.hub.HubMoves.{HubMove, Delivers, Closes, Finishes}
 use Rattle.napi_types.specs.hub.HubSteps.{hub_step, delivery_entry}
 use Rattle.napi_types.specs.runs.CallRoom.{room_of}
 use Rattle.napi_types.specs.runs.Machine.{Machine}
-use Rattle.napi_types.specs.runs.Run.{IsNext, IsRunBy, after}
+use Rattle.napi_types.specs.runs.Run.{IsNext, IsRunBy}
 use Rattle.napi_types.specs.runs.Setting.{opening_of}
 use Rattle.napi_types.specs.runs.Step.{Step, move_step, has_room, step}
 use Rattle.napi_types.specs.all_runs.Counts.{made, dropped, begun, IsOnce, may_withdraw, WithdrawsRightly}
@@ -39,7 +39,7 @@ use Rattle.napi_types.proofs.environment.Told.{Told, told_plain, told_made, told
 use Rattle.napi_types.proofs.hub.HubDuties.{hub_step-spares}
 use Rattle.napi_types.proofs.runs.StepCases.{StepCase, calls, ends, opens, inits, begins, vanishes, shares, leaves, passes, moves, others, step-case}
 use Rattle.napi_types.proofs.all_runs.Onces.{tickets-are-once}
-use Rattle.napi_types.proofs.all_runs.Orderly.{Orderly, orderly-step, orderly-opens}
+use Rattle.napi_types.proofs.all_runs.Orderly.{Orderly, orderly-opens, along-orderly}
 use Rattle.napi_types.proofs.all_runs.QuietRuns.{only-tickets}
 
 -- WHAT A CALL WITHDRAWS
@@ -108,12 +108,8 @@ next-rightly m a x h next =
     record { call = r.call; accepted = r.accepted }
 
 run-rightly : (m : Machine) (bs : List Ask) (xs : List Entry) → Orderly m → IsRunBy m bs xs → All WithdrawsRightly xs
-run-rightly m [] [] h run = All-nil WithdrawsRightly
-run-rightly m (a ∷ bs) (x ∷ xs) h run =
-    All-cons WithdrawsRightly x xs (next-rightly m a x h run.0)
-    (run-rightly (after m a x) bs xs (orderly-step m (step m a x) h (step-case m a x h.stage run.0.1)) run.1)
-run-rightly m [] (x ∷ xs) h run = absurd run
-run-rightly m (a ∷ bs) [] h run = absurd run
+run-rightly = along-orderly (λ m bs xs. All WithdrawsRightly xs) (λ m. All-nil WithdrawsRightly)
+    (λ m a bs x xs h next s k rest. All-cons WithdrawsRightly x xs (next-rightly m a x h next) rest)
 
 pub withdrawn-rightly : WithdrawnByTheirCalls
 withdrawn-rightly s bs xs run = run-rightly (opening_of s) bs xs (orderly-opens s) run.steps

@@ -15,20 +15,33 @@ use Rattle.napi_types.specs.runs.Plan.{asked, asked_along, registers_along, regi
 use Rattle.napi_types.specs.runs.Run.{after, IsNext, IsRunBy, final}
 use Rattle.napi_types.specs.runs.Step.{step}
 
+-- ALONG A RUN
+-- what the empty run has, and each run that is longer by an entry at its start, every run has
+pub along-entries : (Q : Machine → List Ask → List Entry → Type 0) → ((m : Machine) → Q m [] [])
+    → ((m : Machine) (a : Ask) (bs : List Ask) (x : Entry) (xs : List Entry) → IsNext m a x → Q (after m a x) bs xs → Q m (a ∷ bs) (x ∷ xs))
+    → (m : Machine) (bs : List Ask) (xs : List Entry) → IsRunBy m bs xs → Q m bs xs
+along-entries Q none more m [] [] run = none m
+along-entries Q none more m (a ∷ bs) (x ∷ xs) run = more m a bs x xs run.0 (along-entries Q none more (after m a x) bs xs run.1)
+along-entries Q none more m [] (x ∷ xs) run = absurd run
+along-entries Q none more m (a ∷ bs) [] run = absurd run
+
+-- what each step keeps, every run keeps
+pub along-run : (P : Machine → Type 0) → ((m : Machine) (a : Ask) (x : Entry) → IsNext m a x → P m → P (after m a x))
+    → (m : Machine) (bs : List Ask) (xs : List Entry) → IsRunBy m bs xs → P m → P (final m bs xs)
+along-run P keeps = along-entries (λ m bs xs. P m → P (final m bs xs)) (λ m p. p) (λ m a bs x xs next rest p. rest (keeps m a x next p))
+
+-- AT ITS END
+
 -- a run has one entry more at its end
 pub run-more : (m : Machine) (bs : List Ask) (xs : List Entry) (a : Ask) (x : Entry)
     → IsRunBy m bs xs → IsNext (final m bs xs) a x → IsRunBy m (bs ++ a ∷ []) (xs ++ x ∷ [])
-run-more m [] [] a x r n = (n, tt)
-run-more m (b ∷ bs) (y ∷ ys) a x r n = (r.0, run-more (after m b y) bs ys a x r.1 n)
-run-more m [] (y ∷ ys) a x r n = absurd r
-run-more m (b ∷ bs) [] a x r n = absurd r
+run-more m bs xs a x r n =
+    along-entries (λ m bs xs. IsNext (final m bs xs) a x → IsRunBy m (bs ++ a ∷ []) (xs ++ x ∷ [])) (λ m n. (n, tt)) (λ m b bs y ys here rest n. (here, rest n)) m bs xs r n
 
 pub final-more : (m : Machine) (bs : List Ask) (xs : List Entry) (a : Ask) (x : Entry)
     → IsRunBy m bs xs → final m (bs ++ a ∷ []) (xs ++ x ∷ []) ≡ after (final m bs xs) a x
-final-more m [] [] a x r = refl
-final-more m (b ∷ bs) (y ∷ ys) a x r = final-more (after m b y) bs ys a x r.1
-final-more m [] (y ∷ ys) a x r = absurd r
-final-more m (b ∷ bs) [] a x r = absurd r
+final-more m bs xs a x r =
+    along-entries (λ m bs xs. final m (bs ++ a ∷ []) (xs ++ x ∷ []) ≡ after (final m bs xs) a x) (λ m. refl) (λ m b bs y ys here rest. rest) m bs xs r
 
 -- and so have its asks and its registers
 pub asked-more : (built : Call → Bool) (ps : List Plan) (rss : Registers) (m : Machine) (bs : List Ask) (xs : List Entry) (a : Ask) (x : Entry)
@@ -42,18 +55,17 @@ asked-more built ps rss m (b ∷ bs) [] a x r = absurd r
 pub registers-more : (ps : List Plan) (rss : Registers) (m : Machine) (bs : List Ask) (xs : List Entry) (a : Ask) (x : Entry)
     → IsRunBy m bs xs
     → registers_along ps rss m (bs ++ a ∷ []) (xs ++ x ∷ []) ≡ registers_after ps (registers_along ps rss m bs xs) (final m bs xs) a x
-registers-more ps rss m [] [] a x r = refl
-registers-more ps rss m (b ∷ bs) (y ∷ ys) a x r = registers-more ps (registers_after ps rss m b y) (after m b y) bs ys a x r.1
-registers-more ps rss m [] (y ∷ ys) a x r = absurd r
-registers-more ps rss m (b ∷ bs) [] a x r = absurd r
+registers-more ps rss m bs xs a x r =
+    along-entries (λ m bs xs. (rss : Registers)
+    → registers_along ps rss m (bs ++ a ∷ []) (xs ++ x ∷ []) ≡ registers_after ps (registers_along ps rss m bs xs) (final m bs xs) a x)
+    (λ m rss. refl) (λ m b bs y ys here rest rss. rest (registers_after ps rss m b y)) m bs xs r rss
 
 -- and so have the lists on which its entries stand
 pub sides-more : (m : Machine) (bs : List Ask) (xs : List Entry) (a : Ask) (x : Entry)
     → IsRunBy m bs xs → sides_along m (bs ++ a ∷ []) (xs ++ x ∷ []) ≡ sides_along m bs xs ++ (step (final m bs xs) a x).side ∷ []
-sides-more m [] [] a x r = refl
-sides-more m (b ∷ bs) (y ∷ ys) a x r = ap (λ l. (step m b y).side ∷ l) (sides-more (after m b y) bs ys a x r.1)
-sides-more m [] (y ∷ ys) a x r = absurd r
-sides-more m (b ∷ bs) [] a x r = absurd r
+sides-more m bs xs a x r =
+    along-entries (λ m bs xs. sides_along m (bs ++ a ∷ []) (xs ++ x ∷ []) ≡ sides_along m bs xs ++ (step (final m bs xs) a x).side ∷ [])
+    (λ m. refl) (λ m b bs y ys here rest. ap (λ l. (step m b y).side ∷ l) rest) m bs xs r
 
 -- and so have the duties whose frames begin along it
 pub begun-more : (m : Machine) (bs : List Ask) (xs : List Entry) (a : Ask) (x : Entry)
