@@ -35,7 +35,7 @@ use Rattle.napi_types.specs.runs.Setting.{final_of}
 use Rattle.napi_types.specs.runs.Step.{Step, locally, ticket_step, event_step, chosen, may_cut, call_step_on, end_step_on, frame_step, step}
 use Rattle.napi_types.proofs.environment.Cases.{asked-by}
 use Rattle.napi_types.proofs.runs.SharedSteps.{is_of_others, others-none}
-use Rattle.napi_types.proofs.runs.Chosen.{chosen-move, OwnChoice, inits, exits, due_in_loop, hooks, due_at_end, ends, own-choice, NoChoice, begun, unhooked, no-choice, HubChoice, goes, drains, finals, hub-choice, chosen-by}
+use Rattle.napi_types.proofs.runs.Chosen.{chosen-move, OwnChoice, exits, due_in_loop, hooks, due_at_end, ends, own-choice, NoChoice, begun, unhooked, no-choice, HubChoice, goes, drains, finals, hub-choice, chosen-by}
 use Rattle.machine_laws.specs.Choices.{is_of_frames, NoneIsChosenInFrames, TellsFrame, BeginsTellTheirFrames, may_come_to, OwnEventsComeFirst, HubEventsComeLast, MayGo, GoComesAfterInitFrames, GoneComesAfterFinals, HubIsInPhase, GoComesOnlyAfterInitFrames, DrainComesOnlyAfterHooks, FinalsComeOnlyOnceAllEnded}
 use Rattle.machine_laws.proofs.Forms.{Form, form-of, shared-what, ended-what, event_what, event-what, other-what, by-env, frame-next, chosen-next}
 use Rattle.machine_laws.proofs.Forms as form

@@ -52,7 +52,7 @@ use Rattle.napi_types.proofs.environment.Registrations.{none-asked, none-ended, 
 use Rattle.napi_types.proofs.hub.HubDuties.{delivery-of_hub}
 use Rattle.napi_types.proofs.runs.CallRooms.{local-room, not-full}
 use Rattle.napi_types.proofs.runs.SharedSteps.{after_shared-alone, shares-still, moves-still, others-still, end-stage}
-use Rattle.napi_types.proofs.runs.StepCases.{StepCase, ends, inits, begins, shares, leaves, passes, moves, others, stage-moved, step-case}
+use Rattle.napi_types.proofs.runs.StepCases.{StepCase, shares, leaves, passes, moves, others, stage-moved, step-case}
 
 abbrev pub is_init : Phase → Bool
 is_init phase.Init = true

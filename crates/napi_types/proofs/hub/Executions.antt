@@ -17,7 +17,7 @@ use Rattle.napi_types.specs.hub.HubSteps.{IsHubNext, hub_step, hub_along}
 use Rattle.napi_types.specs.hub.Replays.{HubReplays}
 use Rattle.napi_types.proofs.plain.Found.{IsRising, same-tells, apart-above, rising-filter, rising-with_record}
 use Rattle.napi_types.proofs.plain.Maps.{filter_all, one-below}
-use Rattle.napi_types.proofs.hub.HubCases.{HubCase, hub-case, cancels_work, delivers, ends, starts, finishes_work}
+use Rattle.napi_types.proofs.hub.HubCases.{HubCase, hub-case, cancels_work, delivers, starts, finishes_work}
 use Rattle.napi_types.proofs.hub.HubHolds.{AreSound, functions-sound}
 use Rattle.napi_types.proofs.hub.HubRooms.{left-without}
 

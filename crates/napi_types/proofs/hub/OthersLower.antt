@@ -13,7 +13,7 @@ use Rattle.napi_types.specs.declared.entry.Out.{Out}
 use Rattle.napi_types.specs.declared.entry.HostStep.{HostStep}
 use Rattle.napi_types.specs.declared.entry.HostStep.TheVariants as host
 use Rattle.napi_types.specs.declared.entry.TsfnState.{TsfnState}
-use Rattle.napi_types.specs.declared.entry.TsfnState.TheVariants.{Open, Closing}
+use Rattle.napi_types.specs.declared.entry.TsfnState.TheVariants.{Open}
 use Rattle.napi_types.specs.declared.entry.What.{What}
 use Rattle.napi_types.specs.declared.entry.What.TheVariants as what
 use Rattle.napi_types.specs.declared.status.Status.{Status}
