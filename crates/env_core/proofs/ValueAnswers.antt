@@ -63,30 +63,8 @@ answer-fresh e texts addon heap c n h = by-fresh e addon heap c n (refusal_in te
 
 -- such a call answers in the environment what it answers in the heap
 accepted-in_heap : (e : Environment) (c : Call) (n : ℕ) → is_value_call c ≡ true → effect e c n ≡ in_heap e (addon_effect (caller_of e.frames) e.heap c n)
-accepted-in_heap e (call.Throw h) n v = cc
-accepted-in_heap e (call.ThrowError code message) n v = cc
-accepted-in_heap e call.IsExceptionPending n v = cc
-accepted-in_heap e call.GetAndClearLastException n v = cc
-accepted-in_heap e call.GetLastErrorInfo n v = cc
-accepted-in_heap e (call.CreateReference h count) n v = cc
-accepted-in_heap e (call.DeleteReference r) n v = cc
-accepted-in_heap e (call.ReferenceRef r) n v = cc
-accepted-in_heap e (call.ReferenceUnref r) n v = cc
-accepted-in_heap e (call.GetReferenceValue r) n v = cc
-accepted-in_heap e (call.Wrap object payload finalizer hint wanted) n v = cc
-accepted-in_heap e (call.Unwrap object) n v = cc
-accepted-in_heap e (call.RemoveWrap object) n v = cc
-accepted-in_heap e (call.TypeTagObject object lower upper) n v = cc
-accepted-in_heap e (call.CheckObjectTypeTag object lower upper) n v = cc
-accepted-in_heap e (call.AddFinalizer object payload entry hint wanted) n v = cc
-accepted-in_heap e (call.CreateExternal payload finalizer hint) n v = cc
-accepted-in_heap e (call.SetInstanceData payload entry hint) n v = cc
-accepted-in_heap e call.GetInstanceData n v = cc
-accepted-in_heap e (call.AddEnvCleanupHook entry argument) n v = cc
-accepted-in_heap e (call.RemoveEnvCleanupHook entry argument) n v = cc
-accepted-in_heap e call.Collect n v = cc
 accepted-in_heap e call.Exit n v = cc
-accepted-in_heap e _ n v = refl
+accepted-in_heap e _ n v = cc
 
 given-in_heap : (e : Environment) (c : Call) (n : ℕ) (s : Option Status) → is_value_call c ≡ true → answer_unless e c n s ≡ in_heap e (heap_answer_unless (caller_of e.frames) e.heap c n s)
 given-in_heap e c n None v = accepted-in_heap e c n v
@@ -94,25 +72,18 @@ given-in_heap e c n (Some s) v = refl
 
 -- it names no hook, so none of these refusals applies
 no-hook : (addon : ℕ) (hooks : List Hook) (c : Call) → is_value_call c ≡ true → hook_refusal addon hooks c ≡ None
-no-hook addon hooks (call.AddEnvCleanupHook entry argument) h = cc
-no-hook addon hooks (call.RemoveEnvCleanupHook entry argument) h = cc
-no-hook addon hooks _ h = refl
+no-hook addon hooks call.Exit h = cc
+no-hook addon hooks _ h = cc
 
 -- nor a reference
 no-reference : (m : ReferenceMap) (c : Call) → is_value_call c ≡ true → reference_refusal m c ≡ None
-no-reference m (call.DeleteReference r) h = cc
-no-reference m (call.ReferenceRef r) h = cc
-no-reference m (call.ReferenceUnref r) h = cc
-no-reference m (call.GetReferenceValue r) h = cc
-no-reference m _ h = refl
+no-reference m call.Exit h = cc
+no-reference m _ h = cc
 
 -- nor does it read what is attached to values
 no-attachment : (a : Attachments) (heap : Heap) (c : Call) → is_value_call c ≡ true → attachment_refusal a heap c ≡ None
-no-attachment a heap (call.Wrap object payload finalizer hint wanted) h = cc
-no-attachment a heap (call.Unwrap object) h = cc
-no-attachment a heap (call.RemoveWrap object) h = cc
-no-attachment a heap (call.TypeTagObject object lower upper) h = cc
-no-attachment a heap _ h = refl
+no-attachment a heap call.Exit h = cc
+no-attachment a heap _ h = cc
 
 pub timely-value : (e : Environment) (c : Call) → is_value_call c ≡ true → timely_refusal e c ≡ refusal_in e.texts e.heap c
 timely-value e c h =

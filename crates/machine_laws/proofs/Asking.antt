@@ -89,7 +89,8 @@ run-built : (built : Call → Bool) (ps : List Plan) (rss : Registers) (m : Mach
 run-built built ps rss m bs xs run =
     along-entries (λ m bs xs. (rss : Registers) → bs ≡ asked_along built ps rss m bs xs → All (CallsBuilt built) xs) (λ m rss asks. All-nil (CallsBuilt built))
     (λ m b bs x xs next rest rss asks.
-    All-cons (CallsBuilt built) x xs (here-built built ps rss m b x next (ap (λ l. unwrap_or (head l) b) asks)) (rest (registers_after ps rss m b x) (ap tail asks))) m bs xs run rss
+    All-cons (CallsBuilt built) x xs (here-built built ps rss m b x next (ap (λ l. unwrap_or (head l) b) asks))
+    (rest (registers_after ps rss m b x) (ap tail asks))) m bs xs run rss
 
 pub unbuilt-never : UnbuiltCallsAreNeverMade
 unbuilt-never s bs xs run = run-built s.built s.plans (loaded_registers s.plans) (opening_of s) bs xs run.steps run.asked

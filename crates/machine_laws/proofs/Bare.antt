@@ -25,14 +25,14 @@ use Rattle.napi_types.specs.hub.HubMoves.{hub_move}
 use Rattle.napi_types.specs.hub.HubSteps.{HubStep, hub_step, hub_step_of, loop_end_step, frame_end_step, thread_step, thread_event, worker_step, worker_event, start_step, work_end_step}
 use Rattle.napi_types.specs.runs.Choice.{is_idle}
 use Rattle.napi_types.specs.runs.Machine.{Machine}
-use Rattle.napi_types.specs.runs.Run.{IsRunBy, after, final}
+use Rattle.napi_types.specs.runs.Run.{IsRunBy, final}
 use Rattle.napi_types.specs.runs.Setting.{Setting, opening_of, final_of}
 use Rattle.napi_types.specs.runs.Step.{Step, has_room, step}
 use Rattle.napi_types.proofs.plain.Conditions.{and-right}
 use Rattle.napi_types.proofs.environment.FrameEnds.{ended-ends}
 use Rattle.napi_types.proofs.hub.HubKeeps.{hub_step-what, other-calls, thread-shared}
 use Rattle.napi_types.proofs.runs.SharedSteps.{hub_step-end}
-use Rattle.napi_types.proofs.runs.StepCases.{StepCase, calls, ends, opens, inits, begins, vanishes, shares, leaves, passes, moves, others, event_before}
+use Rattle.napi_types.proofs.runs.StepCases.{StepCase, shares, leaves, passes, moves, others, event_before}
 use Rattle.napi_types.proofs.all_runs.Orderly.{Orderly, orderly-opens, along-orderly}
 use Rattle.machine_laws.specs.ExitLaws.{is_shared_call, has_shared}
 use Rattle.machine_laws.proofs.Forms.{shared-what}
@@ -104,12 +104,6 @@ others-bare h x other may none bare = by x.actor other
 
 -- EVERY STEP
 step-bare : (m : Machine) (t : Step) → StepCase m t → IsTrue t.may → is_shared_call t.entry.what ≡ false → IsBare m.hub → IsBare t.after.hub
-step-bare m _ (calls c n may alone) comes none bare = bare
-step-bare m _ (ends v cut may alone) comes none bare = bare
-step-bare m _ opens comes none bare = bare
-step-bare m _ (inits n) comes none bare = bare
-step-bare m _ (begins n r there next may) comes none bare = bare
-step-bare m _ (vanishes last) comes none bare = bare
 step-bare m _ (shares c o shared) comes none bare =
     let no : false ≡ true = sym none ∙ ap is_shared_call (shared-what m c o) ∙ shared in cc
 step-bare m _ (leaves v cut may ours) comes none bare =
@@ -119,6 +113,7 @@ step-bare m _ (passes p o q) comes none bare = passed-bare m.hub p o bare
 step-bare m _ (moves move next moving alone) comes none bare = let no : None ≡ Some move = sym (bare-move m.hub bare) ∙ next in cc
 step-bare m _ (others x other) comes none bare =
     others-bare m.hub x other (and-right (has_room m x.what) (hub_step m.hub x).may comes) (sym (ap is_shared_call (hub_step-what m.hub x)) ∙ none) bare
+step-bare m _ _ comes none bare = bare
 
 -- RUNS
 run-bare : (m : Machine) (bs : List Ask) (xs : List Entry) → Orderly m → IsRunBy m bs xs → has_shared xs ≡ false → IsBare m.hub → IsBare (final m bs xs).hub

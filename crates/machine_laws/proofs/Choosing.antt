@@ -181,16 +181,8 @@ hub-last m a x alone none who next =
 -- it is the hub's first event, and no event that the environment decides alone
 is-go : (v : Event) → event_what v ≡ host.Go → v ≡ Goes
 is-go Goes is = refl
-is-go Opens is = cc
-is-go (Inits n) is = cc
-is-go (Tickets n) is = cc
 is-go (Moves (Delivers d)) is = cc
-is-go (Moves (Closes n)) is = cc
-is-go (Moves (Finishes n)) is = cc
-is-go (EndsLoop w) is = cc
-is-go Drains is = cc
-is-go FinalsCome is = cc
-is-go IsGone is = cc
+is-go _ is = cc
 
 record GoesFrom (m : Machine) : Type 0 where
   pub alone : m.env.frames ≡ []
@@ -217,10 +209,7 @@ go-from m a x next is =
 
 all-begun : (e : Environment) (p : Phase) → p ≡ phase.Init → NoChoice e p → (e.opened ≡ true) × (e.addons ≤ e.inits)
 all-begun e _ here (begun opened left) = (opened, ltb-false e.inits e.addons left)
-all-begun e phase.Live here _ = cc
-all-begun e phase.Hooks here _ = cc
-all-begun e phase.Drain here _ = cc
-all-begun e phase.Gone here _ = cc
+all-begun e _ here _ = cc
 
 pub go-last : GoComesAfterInitFrames
 go-last m a x next is =
@@ -232,16 +221,8 @@ go-last m a x next is =
 -- GONE
 is-gone : (v : Event) → event_what v ≡ host.Gone → v ≡ IsGone
 is-gone IsGone is = refl
-is-gone Opens is = cc
-is-gone (Inits n) is = cc
-is-gone (Tickets n) is = cc
 is-gone (Moves (Delivers d)) is = cc
-is-gone (Moves (Closes n)) is = cc
-is-gone (Moves (Finishes n)) is = cc
-is-gone Goes is = cc
-is-gone (EndsLoop w) is = cc
-is-gone Drains is = cc
-is-gone FinalsCome is = cc
+is-gone _ is = cc
 
 chosen-gone : (m : Machine) → choice m ≡ Some IsGone → m.env.phase ≡ phase.Finals
 chosen-gone m is = by (chosen-by m IsGone is)
@@ -279,16 +260,8 @@ go-of-runs s bs xs a x run next is =
 -- `drain` is the hub's event in the phase of the hooks
 is-drain : (v : Event) → event_what v ≡ host.Drain → v ≡ Drains
 is-drain Drains is = refl
-is-drain Opens is = cc
-is-drain (Inits n) is = cc
-is-drain (Tickets n) is = cc
 is-drain (Moves (Delivers d)) is = cc
-is-drain (Moves (Closes n)) is = cc
-is-drain (Moves (Finishes n)) is = cc
-is-drain Goes is = cc
-is-drain (EndsLoop w) is = cc
-is-drain FinalsCome is = cc
-is-drain IsGone is = cc
+is-drain _ is = cc
 
 record DrainsFrom (m : Machine) : Type 0 where
   pub none : local_choice m.env ≡ None
@@ -313,10 +286,7 @@ looped-hooks _ h = cc
 
 none-left : (e : Environment) (p : Phase) → p ≡ phase.Hooks → NoChoice e p → e.hooks ≡ []
 none-left e _ here (unhooked none) = none
-none-left e phase.Init here _ = cc
-none-left e phase.Live here _ = cc
-none-left e phase.Drain here _ = cc
-none-left e phase.Gone here _ = cc
+none-left e _ here _ = cc
 
 pub drain-of-runs : DrainComesOnlyAfterHooks
 drain-of-runs s bs xs a x run next is =
@@ -329,16 +299,8 @@ drain-of-runs s bs xs a x run next is =
 -- `finals` is the hub's event in the phase of the drain
 is-finals : (v : Event) → event_what v ≡ host.Finals → v ≡ FinalsCome
 is-finals FinalsCome is = refl
-is-finals Opens is = cc
-is-finals (Inits n) is = cc
-is-finals (Tickets n) is = cc
 is-finals (Moves (Delivers d)) is = cc
-is-finals (Moves (Closes n)) is = cc
-is-finals (Moves (Finishes n)) is = cc
-is-finals Goes is = cc
-is-finals (EndsLoop w) is = cc
-is-finals Drains is = cc
-is-finals IsGone is = cc
+is-finals _ is = cc
 
 record FinalsFrom (m : Machine) : Type 0 where
   pub stage : m.hub.stage ≡ Drained

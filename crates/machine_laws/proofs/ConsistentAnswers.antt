@@ -200,8 +200,6 @@ made-good e a heap g comes =
 by-call : (e : Environment) (c : Call) (k : ℕ) → IsConsistentButFrames e → LeadsTo e (effect e c k).after
 by-call e (call.Throw v) k g = record { good = with-pending e (Some (handle_value e.heap v.0)) g (handle-live e.heap v.0 g.heap); stay = stays e.heap }
 by-call e (call.ThrowError code message) k g = thrown-good e code message g
-by-call e call.IsExceptionPending k g = unmoved e g
-by-call e call.GetLastErrorInfo k g = unmoved e g
 by-call e call.GetAndClearLastException k g =
     let none : IsConsistentButFrames (with_pending None e) = with-pending e None g tt in
     let v : ℕ = unwrap_or e.pending undefined_value in
@@ -219,7 +217,6 @@ by-call e (call.GetReferenceValue r) k g =
     told-good e (referred_value e.references r.0) (row-of (λ o. IfSome o (IsLiveAmong e.heap.values)) r.0 e.references.rows tt g.referred) g
 by-call e (call.Wrap v payload entry hint wanted) k g =
     registered-good e (finalizer_if e payload entry hint) _ (attached-good e _ wanted k (handle_value e.heap v.0) (handle-live e.heap v.0 g.heap) g)
-by-call e (call.Unwrap v) k g = unmoved e g
 by-call e (call.RemoveWrap v) k g = withdrawn-good e (registered_only e.book (wrap_ticket e.attachments (handle_value e.heap v.0))) _ (attaching e _ g)
 by-call e (call.AddFinalizer v payload entry hint wanted) k g =
     let a : Attachments = with_attached (handle_value e.heap v.0) (new_ticket e.book) e.attachments in
@@ -227,13 +224,11 @@ by-call e (call.AddFinalizer v payload entry hint wanted) k g =
     attached-good e a wanted k (handle_value e.heap v.0) (handle-live e.heap v.0 g.heap) g in
     booked e _ _ led
 by-call e (call.TypeTagObject v lower upper) k g = attaching e _ g
-by-call e (call.CheckObjectTypeTag v lower upper) k g = unmoved e g
 by-call e (call.CreateExternal payload entry hint) k g =
     registered-good e (finalizer_if e payload entry hint) _ (made-good e _ _ g (with-new e.heap (body.External payload) g.heap))
 by-call e (call.SetInstanceData payload entry hint) k g =
     registered-good e (finalizer_if e payload entry hint) _
     (withdrawn-good e (registered_only e.book (instance_ticket e.instances (caller_of e.frames))) _ (instanced e _ g))
-by-call e call.GetInstanceData k g = unmoved e g
 by-call e (call.AddEnvCleanupHook entry argument) k g = booked e _ _ (hooked e _ g)
 by-call e (call.RemoveEnvCleanupHook entry argument) k g =
     withdrawn-good e (registered_only e.book (hook_ticket (caller_of e.frames) entry argument e.hooks)) _ (hooked e _ g)

@@ -29,7 +29,7 @@ use Rattle.napi_types.specs.hub.Hub.{stage_of, Stage, Before, Going, Looped, Dra
 use Rattle.napi_types.specs.hub.HubMoves.{HubMove, Delivers, Closes, Finishes, hub_move}
 use Rattle.napi_types.specs.hub.HubSteps.{hub_step, delivery_entry}
 use Rattle.napi_types.specs.runs.Choice.{local_choice, hub_choice, choice, is_idle, is_quiet}
-use Rattle.napi_types.specs.runs.Loop.{Event, Opens, Inits, Tickets, Moves, Goes, EndsLoop, Drains, FinalsCome, IsGone}
+use Rattle.napi_types.specs.runs.Loop.{Event, Moves, EndsLoop}
 use Rattle.napi_types.specs.runs.Machine.{Machine}
 use Rattle.napi_types.specs.runs.Run.{IsRunBy, after, final}
 use Rattle.napi_types.specs.runs.Setting.{opening_of, final_of}
@@ -124,10 +124,6 @@ others-exit (what.Host s) theirs = refl
 step-notes : (m : Machine) (s : Step) → StepCase m s → IsTrue s.may → Notes m s
 step-notes m _ (calls c n may alone) comes = asked-notes m c n
 step-notes m _ (ends v cut may alone) comes = ended-notes m v cut
-step-notes m _ opens comes = refl
-step-notes m _ (inits n) comes = refl
-step-notes m _ (begins n r there next may) comes = refl
-step-notes m _ (vanishes last) comes = refl
 step-notes m _ (shares c o shared) comes = shares-notes m c o shared
 step-notes m _ (leaves v cut may ours) comes = leaves-notes m v cut may
 step-notes m s (passes p o q) comes = none-notes m s (what.Host (event_before p)) refl (ap (λ (y : Entry). y.what) q.entry) refl
@@ -135,6 +131,7 @@ step-notes m _ (moves move next moving alone) comes = move-notes m move
 step-notes m s (others x other) comes =
     none-notes m s x.what refl (hub_step-what m.hub x)
     (others-exit x.what (others-told m.hub x other (and-right (has_room m x.what) (hub_step m.hub x).may comes)))
+step-notes m _ _ comes = refl
 
 -- RUNS
 turned : (a b c : Bool) → (a || (b || c)) ≡ ((b || a) || c)
@@ -157,16 +154,8 @@ exit-by-call s bs xs run = run-notes (opening_of s) bs xs (orderly-opens s) run 
 -- it tells its reason
 is-loop_end : (v : Event) → event_what v ≡ host.LoopEnd → (reason : LoopEnd) × (v ≡ EndsLoop reason)
 is-loop_end (EndsLoop reason) is = (reason, refl)
-is-loop_end Opens is = cc
-is-loop_end (Inits n) is = cc
-is-loop_end (Tickets n) is = cc
 is-loop_end (Moves (Delivers d)) is = cc
-is-loop_end (Moves (Closes n)) is = cc
-is-loop_end (Moves (Finishes n)) is = cc
-is-loop_end Goes is = cc
-is-loop_end Drains is = cc
-is-loop_end FinalsCome is = cc
-is-loop_end IsGone is = cc
+is-loop_end _ is = cc
 
 -- why it was chosen: exit was asked, or it was not, no ticket is due and the hub is idle or quiet
 record IsReason (m : Machine) (exit : Bool) (reason : LoopEnd) : Type 0 where
@@ -185,10 +174,7 @@ own-reason m _ _ (exits asked) = by-exit m m.env.exit_asked asked
 -- where the hub ends the loop the environment is in it, and decided nothing
 in-loop : (m : Machine) (p : Phase) → Going ≡ stage_of p → NoChoice m.env p → (m.env.exit_asked ≡ false) × (lowest_due m.env.book ≡ None)
 in-loop m _ here (waits unasked lowest) = (unasked, lowest)
-in-loop m phase.Init here _ = cc
-in-loop m phase.Hooks here _ = cc
-in-loop m phase.Drain here _ = cc
-in-loop m phase.Gone here _ = cc
+in-loop m _ here _ = cc
 
 hub-reason : (m : Machine) (s : Stage) (reason : LoopEnd) → m.hub.stage ≡ s → InPhase m → NoChoice m.env m.env.phase → HubChoice m.hub s (EndsLoop reason)
     → IsReason m m.env.exit_asked reason
@@ -241,10 +227,7 @@ ends-by-exit-or-idle s bs xs a x run none next is =
 late : (e : Environment) (p : Phase) → e.exit_asked ≡ true → begins_due_tickets_in e p ≡ true → p ≡ phase.Finals
 late e phase.Live asked moment = let z : false ≡ true = ap not (sym asked) ∙ moment in cc
 late e phase.Finals asked moment = refl
-late e phase.Init asked moment = cc
-late e phase.Hooks asked moment = cc
-late e phase.Drain asked moment = cc
-late e phase.Gone asked moment = cc
+late e _ asked moment = cc
 
 -- the hub delivers nothing in the loop once exit was asked
 drain-delivers : (m : Machine) (p : Phase) → InPhase m → m.env.phase ≡ p → m.env.exit_asked ≡ true → NoChoice m.env p → (m.hub.stage ≡ Going) ⊎ (m.hub.stage ≡ Drained)

@@ -108,8 +108,6 @@ ticket-what m n None may = cc
 ticket-what m n (Some r) may = refl
 
 pub event-what : (m : Machine) (event : Event) → IsTrue (event_step m event).may → (event_step m event).entry.what ≡ what.Host (event_what event)
-event-what m Opens may = refl
-event-what m (Inits n) may = refl
 event-what m (Tickets n) may = ticket-what m n (registration_at m.env.book n) may
 event-what m (Moves (Delivers d)) may = hub_step-what m.hub (delivery_entry d)
 event-what m (Moves (Closes n)) may = hub_step-what m.hub (host_entry host.CloseTsfn (out.Function (record { 0 = n })))
@@ -118,7 +116,7 @@ event-what m Goes may = by_hub-what m host.Go phase.Live out.Nothing
 event-what m (EndsLoop w) may = by_hub-what m host.LoopEnd phase.Hooks (out.Ended w)
 event-what m Drains may = by_hub-what m host.Drain phase.Drain (out.Unsigned (length m.hub.pool.queued))
 event-what m FinalsCome may = by_hub-what m host.Finals phase.Finals out.Nothing
-event-what m IsGone may = refl
+event-what m _ may = refl
 
 -- that of a thread or a worker is one of theirs
 pub other-what : (m : Machine) (x : Entry) → is_environment x.actor ≡ false → IsTrue (other_step m x).may → is_of_others (other_step m x).entry.what ≡ true

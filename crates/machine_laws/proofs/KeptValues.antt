@@ -254,15 +254,7 @@ module _ (n : ℕ) (m : Machine) where
       let same : (k == n) ≡ true = sym (ap (λ o. is_finish_of n (finish_step m.hub x o).entry) (chosen-move m (Finishes k) next)) ∙ finish in
       ap (map (λ (r : FunctionRoot). r.value)) (lost-own n k same m.env.function_roots)
   event-none (Moves (Delivers d)) next is finish = cc
-  event-none (Moves (Closes k)) next is finish = cc
-  event-none Opens next is finish = cc
-  event-none (Inits k) next is finish = cc
-  event-none (Tickets t) next is finish = cc
-  event-none Goes next is finish = cc
-  event-none (EndsLoop w) next is finish = cc
-  event-none Drains next is finish = cc
-  event-none FinalsCome next is finish = cc
-  event-none IsGone next is finish = cc
+  event-none _ next is finish = cc
 
   local-none : (c : Call) (k : ℕ) → (asked_change m.env c k).entry.what ≡ what.Host host.FinishTsfn → ⊥
   local-none c k is = by (asked-what m.env c k)

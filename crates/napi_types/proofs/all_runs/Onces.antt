@@ -80,27 +80,16 @@ nothing b c same = called 0 None None c (stays c same)
 -- a phase starts
 pub phase-is : (p : Phase) (b : Book) → TicketStep b None None None (book_in p b)
 phase-is phase.Finals b = called 0 None None _ (collects (λ n. true) _ refl)
-phase-is phase.Init b = nothing b b refl
-phase-is phase.Live b = nothing b b refl
-phase-is phase.Hooks b = nothing b b refl
-phase-is phase.Drain b = nothing b b refl
-phase-is phase.Gone b = nothing b b refl
+phase-is _ b = nothing b b refl
 
 passed-is : (p : Phase) (o : Out) (b : Book) → EntryTickets b (host_entry (event_before p) o) (book_in p b)
 passed-is phase.Init o b = phase-is phase.Init b
-passed-is phase.Live o b = phase-is phase.Live b
-passed-is phase.Hooks o b = phase-is phase.Hooks b
-passed-is phase.Drain o b = phase-is phase.Drain b
-passed-is phase.Finals o b = phase-is phase.Finals b
-passed-is phase.Gone o b = phase-is phase.Gone b
+passed-is p o b = phase-is p b
 
 -- the end of a frame
 duty-is : (d : Option Duty) (b : Book) → TicketStep b None None None (duty_ended d b)
 duty-is (Some (duty.Ticket t)) b = ended t.0 _ refl
-duty-is (Some (duty.Work n)) b = nothing b b refl
-duty-is (Some (duty.Item f n)) b = nothing b b refl
-duty-is (Some (duty.Function f)) b = nothing b b refl
-duty-is None b = nothing b b refl
+duty-is _ b = nothing b b refl
 
 pub end-is : (v : Option HandleId) (cut : Option Why) (e : Environment) → EntryTickets e.book (end_change v cut e).entry (end_change v cut e).after.book
 end-is v cut e =
@@ -109,11 +98,8 @@ end-is v cut e =
 
 -- that of the hub's own frames ends no ticket
 hub-ended : (d : Option Duty) (b : Book) → is_hub_duty d ≡ true → duty_ended d b ≡ b
-hub-ended None b ours = refl
 hub-ended (Some (duty.Ticket t)) b ours = cc
-hub-ended (Some (duty.Work n)) b ours = refl
-hub-ended (Some (duty.Item f n)) b ours = refl
-hub-ended (Some (duty.Function f)) b ours = refl
+hub-ended _ b ours = refl
 
 hub-left : (c : Cause) (d : Option Duty) (b : Book) → is_hub_duty d ≡ true → book_left c d b ≡ b
 hub-left cause.Call d b ours = refl
@@ -145,10 +131,7 @@ move-is m (Finishes n) may = hub-is m.env.book m.hub (host_entry host.FinishTsfn
 step-is : (m : Machine) (s : Step) → StepCase m s → IsTrue s.may → EntryDuties m.env.book s.entry s.after.env.book
 step-is m s (calls c n may alone) ok = tickets-alone m.env.book s.entry s.after.env.book (asked-is m.env c n)
 step-is m s (ends v cut may alone) ok = tickets-alone m.env.book s.entry s.after.env.book (end-is v cut m.env)
-step-is m s opens ok = tickets-alone m.env.book s.entry s.after.env.book (nothing m.env.book m.env.book refl)
-step-is m s (inits n) ok = tickets-alone m.env.book s.entry s.after.env.book (nothing m.env.book m.env.book refl)
 step-is m s (begins n r there next may) ok = tickets-alone m.env.book s.entry s.after.env.book (began m.env.phase n r s.after.env.book there may refl)
-step-is m s (vanishes last) ok = tickets-alone m.env.book s.entry s.after.env.book (nothing m.env.book m.env.book refl)
 step-is m s (shares c o shared) ok =
     hub-is m.env.book m.hub (shared_entry m.env c o) s.after.env.book
     (and-right (may_call m.env && not (is_full (room_of m c) c)) (hub_step m.hub (shared_entry m.env c o)).may ok) (still-is m s.after (shares-still m c o))
@@ -161,6 +144,7 @@ step-is m s (passes p o q) ok =
     (subst (λ y. EntryTickets m.env.book y (book_in p m.env.book)) (sym q.entry) (passed-is p o m.env.book))
 step-is m s (moves move next moving alone) ok = move-is m move ok
 step-is m s (others x other) ok = hub-is m.env.book m.hub x m.env.book (and-right (has_room m x.what) (hub_step m.hub x).may ok) refl
+step-is m s _ ok = tickets-alone m.env.book s.entry s.after.env.book (nothing m.env.book m.env.book refl)
 
 next-is : (m : Machine) (a : Ask) (x : Entry) → Orderly m → IsNext m a x → EntryDuties m.env.book x (after m a x).env.book
 next-is m a x h next =
@@ -326,11 +310,8 @@ account t b _ _ _ _ (began p n r c there may e) =
 
 -- no duty of the hub is this ticket
 hub-unnamed : (t : ℕ) (o : Option Duty) → OfHub o → named t o ≡ 0
-hub-unnamed t None ours = refl
 hub-unnamed t (Some (duty.Ticket u)) ours = cc
-hub-unnamed t (Some (duty.Work n)) ours = refl
-hub-unnamed t (Some (duty.Item f n)) ours = refl
-hub-unnamed t (Some (duty.Function f)) ours = refl
+hub-unnamed t _ ours = refl
 
 hub-account : (t : ℕ) (b : Book) (made begun : Option Duty) (c : Book) → OfHub made → OfHub begun → c ≡ b → Account t b made None begun c
 hub-account t b made begun c ours its same =
@@ -420,11 +401,8 @@ step-makes b _ _ _ _ (began p n r c there may e) = unmade None c refl (ap length
 step-makes b _ _ _ _ (ended n c e) = unmade None c refl (ap length e ∙ length-moved made_ended (λ m. m == n) b)
 
 hub-makes : (o : Option Duty) → OfHub o → made_ticket o ≡ []
-hub-makes None ours = refl
 hub-makes (Some (duty.Ticket t)) ours = cc
-hub-makes (Some (duty.Work n)) ours = refl
-hub-makes (Some (duty.Item f n)) ours = refl
-hub-makes (Some (duty.Function f)) ours = refl
+hub-makes _ ours = refl
 
 duty-makes : (b : Book) (made dropped begun : Option Duty) (c : Book) → DutyStep b made dropped begun c → Makes b made c
 duty-makes b _ _ _ _ (of_tickets made dropped begun c s) = step-makes b made dropped begun c s

@@ -25,7 +25,7 @@ use Rattle.napi_types.specs.declared.ids.HandleId.{HandleId}
 use Rattle.napi_types.specs.plain.Entries.{host_entry, is_environment, is_begin, is_finals}
 use Rattle.napi_types.specs.plain.Lists.{found, has}
 use Rattle.napi_types.specs.plain.Phases.{next_phase}
-use Rattle.napi_types.specs.parts.Book.{Book, Registration, TicketState, Registered, Due, Begun, Ended, Withdrawn, is_registered, is_due, is_owed, is_at, made_begun, moved_at, registration_at, TicketsRise, TicketsFall, begun_in, may_begin_in, cause_at}
+use Rattle.napi_types.specs.parts.Book.{Book, Registration, TicketState, Due, is_registered, is_due, is_owed, is_at, made_begun, moved_at, registration_at, TicketsRise, TicketsFall, begun_in, may_begin_in, cause_at}
 use Rattle.napi_types.specs.parts.Frames.{cause_of, duty_of, is_hub_duty}
 use Rattle.napi_types.specs.parts.Hooks.{Hook, last_hook, without_hook}
 use Rattle.napi_types.specs.environment.Ends.{end_change}
@@ -173,15 +173,11 @@ leaves-plain m v cut = hub-plain m.hub (end_change v cut m.env).entry (what.Host
 -- a duty of the hub has no ticket
 delivered-ticket : (why : Cause) (addon entry : ℕ) (d : Duty) → is_hub_duty (Some d) ≡ true → told_ticket (out.Begin why addon entry (Some d)) ≡ []
 delivered-ticket why addon entry (duty.Ticket t) ours = cc
-delivered-ticket why addon entry (duty.Work n) ours = refl
-delivered-ticket why addon entry (duty.Item f n) ours = refl
-delivered-ticket why addon entry (duty.Function f) ours = refl
+delivered-ticket why addon entry _ ours = refl
 
 delivered-hook : (why : Cause) (addon entry : ℕ) (d : Duty) → is_hub_duty (Some d) ≡ true → told_hook (out.Begin why addon entry (Some d)) ≡ []
 delivered-hook why addon entry (duty.Ticket t) ours = cc
-delivered-hook why addon entry (duty.Work n) ours = refl
-delivered-hook why addon entry (duty.Item f n) ours = refl
-delivered-hook why addon entry (duty.Function f) ours = refl
+delivered-hook why addon entry _ ours = refl
 
 delivered-plain : (d : DueInfo) → IsOfHub d → IsPlain (delivery_entry d)
 delivered-plain d of =
@@ -201,19 +197,11 @@ others-plain m x other may = hub-plain m.hub x x.what refl (others-none x.what (
 
 passed-begins : (p : Phase) → is_begin (what.Host (event_before p)) ≡ false
 passed-begins phase.Init = refl
-passed-begins phase.Live = refl
-passed-begins phase.Hooks = refl
-passed-begins phase.Drain = refl
-passed-begins phase.Finals = refl
-passed-begins phase.Gone = refl
+passed-begins _ = refl
 
 passed-finals : (p : Phase) → is_finals (what.Host (event_before p)) ≡ true → is_late p ≡ true
 passed-finals phase.Finals is = refl
-passed-finals phase.Init is = cc
-passed-finals phase.Live is = cc
-passed-finals phase.Hooks is = cc
-passed-finals phase.Drain is = cc
-passed-finals phase.Gone is = cc
+passed-finals _ is = cc
 
 -- WHICH HOOKS MAY BEGIN
 -- up to the end of the loop each may, then those of the list, and from the drain on none
@@ -234,9 +222,7 @@ phase-stays p q old new n same fewer may = by p fewer (subst (λ r. MayBegin r n
     by phase.Init fewer may = tt
     by phase.Live fewer may = tt
     by phase.Hooks fewer may = fewer refl may
-    by phase.Drain fewer may = may
-    by phase.Finals fewer may = may
-    by phase.Gone fewer may = may
+    by _ fewer may = may
 
 phase-passed : (q p : Phase) (hooks : List Hook) (n : ℕ) → next_phase q ≡ Some p → MayBegin p hooks n → MayBegin q hooks n
 phase-passed phase.Init p hooks n next may = tt
@@ -308,19 +294,11 @@ IsNextHook e d n = MayBeginAt e n × ((k : ℕ) → MayBeginAt d k → k < n)
 
 is-hook : (c : Cause) → is_hook_cause c ≡ true → c ≡ cause.Hook
 is-hook cause.Hook is = refl
-is-hook cause.Init is = cc
-is-hook cause.Call is = cc
-is-hook cause.Finalize is = cc
-is-hook cause.Complete is = cc
-is-hook cause.Item is = cc
-is-hook cause.Torn is = cc
+is-hook _ is = cc
 
 due-apart : (s : TicketState) → is_due s ≡ true → is_registered s ≡ true → ⊥
 due-apart Due is also = cc
-due-apart Registered is also = cc
-due-apart Begun is also = cc
-due-apart Ended is also = cc
-due-apart Withdrawn is also = cc
+due-apart _ is also = cc
 
 -- up to `finals` no hook is due
 pub none-due : (e : Environment) (n : ℕ) (r : Registration) → IsHooked e → is_late e.phase ≡ false → registration_at e.book n ≡ Some r → r.cause ≡ cause.Hook → is_due r.state ≡ true → ⊥
@@ -331,15 +309,13 @@ none-due e n r hooked early there why due =
 
 next-hook : (m : Machine) (n : ℕ) (r : Registration) (p : Phase) → m.env.phase ≡ p → Orderly m → registration_at m.env.book n ≡ Some r → ticket_in m.env p ≡ Some n
     → may_begin_in p r.state ≡ true → r.cause ≡ cause.Hook → MayBegin p m.env.hooks n × ((k : ℕ) → MayBegin p (hooks_left p n m.env.hooks) k → k < n)
-next-hook m n r phase.Init here h there next may why = cc
 next-hook m n r phase.Live here h there next may why = absurd (none-due m.env n r h.hooked (ap is_late here) there why may)
 next-hook m n r phase.Hooks here h there next may why = (last-among m.env.hooks n next, left-below m.env.hooks n h.hooked.rise next)
-next-hook m n r phase.Drain here h there next may why = cc
 next-hook m n r phase.Finals here h there next may why =
     let over : is_owed r.state ≡ false = registered-holds IsSpent n m.env.book r there (h.spent (ap is_drained here)) why in
     let no : true ≡ false = sym ((leaves-in phase.Finals).before r.state may) ∙ over in
     cc
-next-hook m n r phase.Gone here h there next may why = cc
+next-hook m n r _ here h there next may why = cc
 
 hooks-next : (m : Machine) (s : Step) → Orderly m → StepCase m s → IsTrue s.may → AtMostOne (IsNextHook m.env s.after.env) (hooks_told s.entry)
 hooks-next m _ h (calls c n may alone) comes = none-told _ _ (asked-plain m.env c n).hooks
@@ -362,33 +338,23 @@ hooks-next m _ h (others x other) comes = none-told _ _ (others-plain m x other 
 -- the hub starts no phase after that of `finals`
 late-next : (q p : Phase) → next_phase q ≡ Some p → p ≢ phase.Gone → is_late q ≡ true → ⊥
 late-next phase.Finals p next never late = let same : phase.Gone ≡ p = cc in never (sym same)
-late-next phase.Gone p next never late = cc
-late-next phase.Init p next never late = cc
-late-next phase.Live p next never late = cc
-late-next phase.Hooks p next never late = cc
-late-next phase.Drain p next never late = cc
+late-next _ p next never late = cc
 
 -- what is late stays late, and what is due then was due before
 late-stays : (m : Machine) (s : Step) → StepCase m s → is_late m.env.phase ≡ true → is_late s.after.env.phase ≡ true
 late-stays m _ (calls c n may alone) late = ap is_late (course-parts m.env (asked_change m.env c n).after (asked_change-fits m.env c n).course).phase ∙ late
 late-stays m _ (ends v cut may alone) late = ap is_late (course-parts m.env (end_change v cut m.env).after (ended-keeps v cut m.env).course).phase ∙ late
-late-stays m _ opens late = late
-late-stays m _ (inits n) late = late
-late-stays m _ (begins n r there next may) late = late
 late-stays m _ (vanishes last) late = refl
 late-stays m _ (shares c o shared) late = ap is_late (shares-still m c o).phase ∙ late
 late-stays m _ (leaves v cut may ours) late = ap is_late (course-parts m.env (end_change v cut m.env).after (ended-keeps v cut m.env).course).phase ∙ late
 late-stays m _ (passes p o q) late = absurd (late-next m.env.phase p q.next q.never late)
 late-stays m _ (moves move next moving alone) late = ap is_late (moves-still m move).phase ∙ late
-late-stays m _ (others x other) late = late
+late-stays m _ _ late = late
 
 begun-late : (p : Phase) → is_late p ≡ true → begun_in p ≡ made_begun
 begun-late phase.Finals late = refl
 begun-late phase.Gone late = refl
-begun-late phase.Init late = cc
-begun-late phase.Live late = cc
-begun-late phase.Hooks late = cc
-begun-late phase.Drain late = cc
+begun-late _ late = cc
 
 ended-due : (e : Environment) (v : Option HandleId) (cut : Option Why) → NoneRegistered e.book → (n : ℕ) → is_at is_due (end_change v cut e).after.book n ≡ true → is_at is_due e.book n ≡ true
 ended-due e v cut none n due =
@@ -402,16 +368,13 @@ still-due m n still t due = ap (λ book. is_at is_due book t) (sym (hangings-par
 due-fewer : (m : Machine) (s : Step) → Orderly m → StepCase m s → is_late m.env.phase ≡ true → (n : ℕ) → is_at is_due s.after.env.book n ≡ true → is_at is_due m.env.book n ≡ true
 due-fewer m _ h (calls c n may alone) late = (asked-more m.env c n (late-tears m.env.phase late)).due (h.settled late)
 due-fewer m _ h (ends v cut may alone) late = ended-due m.env v cut (h.settled late)
-due-fewer m _ h opens late = λ t due. due
-due-fewer m _ h (inits n) late = λ t due. due
 due-fewer m _ h (begins n r there next may) late =
     λ t due. (begun-more n m.env.book).due (h.settled late) t (ap (λ move. is_at is_due (moved_at move n m.env.book) t) (sym (begun-late m.env.phase late)) ∙ due)
-due-fewer m _ h (vanishes last) late = λ t due. due
 due-fewer m s h (shares c o shared) late = still-due m s.after (shares-still m c o)
 due-fewer m _ h (leaves v cut may ours) late = ended-due m.env v cut (h.settled late)
 due-fewer m _ h (passes p o q) late = absurd (late-next m.env.phase p q.next q.never late)
 due-fewer m s h (moves move next moving alone) late = still-due m s.after (moves-still m move)
-due-fewer m _ h (others x other) late = λ t due. due
+due-fewer m _ h _ late = λ t due. due
 
 -- a ticket that is due, and below all that are due after it began
 abbrev IsNextDue : Environment → Environment → ℕ → Type 0
@@ -432,29 +395,24 @@ next-due m n r phase.Drain late none there next may = cc
 due-next : (m : Machine) (s : Step) → Orderly m → StepCase m s → IsTrue s.may → is_late m.env.phase ≡ true → AtMostOne (IsNextDue m.env s.after.env) (tickets_told s.entry)
 due-next m _ h (calls c n may alone) comes late = none-told _ _ (asked-plain m.env c n).tickets
 due-next m _ h (ends v cut may alone) comes late = none-told _ _ (ended-plain v cut m.env).tickets
-due-next m _ h opens comes late = no_ticket
-due-next m _ h (inits n) comes late = no_ticket
 due-next m _ h (begins n r there next may) comes late = one_ticket n (next-due m n r m.env.phase late (h.settled late) there next may)
-due-next m _ h (vanishes last) comes late = no_ticket
 due-next m _ h (shares c o shared) comes late = none-told _ _ (shares-plain m c o).tickets
 due-next m _ h (leaves v cut may ours) comes late = none-told _ _ (leaves-plain m v cut).tickets
 due-next m _ h (passes p o q) comes late = none-told _ _ (ap tickets_told q.entry ∙ ap (λ b. cond b (told_ticket o) []) (passed-begins p))
 due-next m _ h (moves move next moving alone) comes late = none-told _ _ (moves-plain m move next).tickets
 due-next m _ h (others x other) comes late = none-told _ _ (others-plain m x other comes).tickets
+due-next m _ h _ comes late = no_ticket
 
 -- it is late once `finals` has come
 finals-start : (m : Machine) (s : Step) → StepCase m s → IsTrue s.may → is_finals s.entry.what ≡ true → is_late s.after.env.phase ≡ true
 finals-start m _ (calls c n may alone) comes is = let no : true ≡ false = sym is ∙ (asked-plain m.env c n).finals in cc
 finals-start m _ (ends v cut may alone) comes is = let no : true ≡ false = sym is ∙ (ended-plain v cut m.env).finals in cc
-finals-start m _ opens comes is = cc
-finals-start m _ (inits n) comes is = cc
-finals-start m _ (begins n r there next may) comes is = cc
-finals-start m _ (vanishes last) comes is = cc
 finals-start m _ (shares c o shared) comes is = let no : true ≡ false = sym is ∙ (shares-plain m c o).finals in cc
 finals-start m _ (leaves v cut may ours) comes is = let no : true ≡ false = sym is ∙ (leaves-plain m v cut).finals in cc
 finals-start m _ (passes p o q) comes is = passed-finals p (sym (ap (λ (x : Entry). is_finals x.what) q.entry) ∙ is)
 finals-start m _ (moves move next moving alone) comes is = let no : true ≡ false = sym is ∙ (moves-plain m move next).finals in cc
 finals-start m _ (others x other) comes is = let no : true ≡ false = sym is ∙ (others-plain m x other comes).finals in cc
+finals-start m _ _ comes is = cc
 
 -- RUNS
 run-hooks : (m : Machine) (bs : List Ask) (xs : List Entry) → Orderly m → IsRunBy m bs xs → TicketsFall (hooks_begun xs) × All (MayBeginAt m.env) (hooks_begun xs)

@@ -6,7 +6,6 @@ use Rattle.std.proofs.lemmas.List.Elements.{All-nil, All-cons, All-head, All-tai
 use Rattle.napi_types.specs.declared.call.Ask.{Ask}
 use Rattle.napi_types.specs.declared.call.Ask.TheVariants as ask
 use Rattle.napi_types.specs.declared.call.Call.{Call}
-use Rattle.napi_types.specs.declared.call.Call.TheVariants as call
 use Rattle.napi_types.specs.declared.entry.Actor.{Actor}
 use Rattle.napi_types.specs.declared.entry.Actor.TheVariants as actor
 use Rattle.napi_types.specs.declared.entry.Duty.{Duty}
@@ -154,7 +153,8 @@ called-local e c n all = counted-local (answer e c n).after.frames (subst (λ fs
 
 asked-local : (e : Environment) (c : Call) (n : ℕ) → All IsLocal e.frames → All IsLocal (asked_change e c n).after.frames
 asked-local e c n all = asked-by e c n (λ d. All IsLocal d.after.frames) (called-local e c n all)
-    (λ receiver f args none. subst (λ fs. All IsLocal fs) (sym (enter_change-keeps receiver f args e).frames) (All-cons IsLocal _ _ refl (counted-local e.frames all)))
+    (λ receiver f args none. subst (λ fs. All IsLocal fs) (sym (enter_change-keeps receiver f args e).frames)
+    (All-cons IsLocal _ _ refl (counted-local e.frames all)))
 
 ended-local : (v : Option HandleId) (cut : Option Why) (e : Environment) → All IsLocal e.frames → All IsLocal (end_change v cut e).after.frames
 ended-local v cut e all = subst (λ fs. All IsLocal fs) (sym (ended-keeps v cut e).frames) (tail-local e.frames all)

@@ -43,7 +43,7 @@ use Rattle.napi_types.specs.hub.HubSteps.{HubStep, environment_step, thread_step
 use Rattle.napi_types.specs.runs.Choice.{choice}
 use Rattle.napi_types.specs.runs.Loop.{Event, Inits, Tickets, Moves, Goes, EndsLoop, Drains, FinalsCome}
 use Rattle.napi_types.specs.runs.Machine.{Machine}
-use Rattle.napi_types.specs.runs.Run.{IsRunBy, after, final}
+use Rattle.napi_types.specs.runs.Run.{IsRunBy, final}
 use Rattle.napi_types.specs.runs.Setting.{opening_of}
 use Rattle.napi_types.specs.runs.Step.{Step, by_hub, ticket_step, move_step, event_step, chosen, may_cut, call_step_on, end_step_on, frame_step, env_step, has_room, other_step, step_of}
 use Rattle.napi_types.specs.all_runs.HubLaws.{AreOfScript, AddonsAreTheScripts}

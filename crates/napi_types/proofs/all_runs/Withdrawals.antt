@@ -37,7 +37,7 @@ use Rattle.napi_types.proofs.plain.Conditions.{and-right}
 use Rattle.napi_types.proofs.environment.Cases.{asked-by, ended-by}
 use Rattle.napi_types.proofs.environment.Told.{Told, told_plain, told_made, told_dropped, withdraws, answer-told}
 use Rattle.napi_types.proofs.hub.HubDuties.{hub_step-spares}
-use Rattle.napi_types.proofs.runs.StepCases.{StepCase, calls, ends, opens, inits, begins, vanishes, shares, leaves, passes, moves, others, step-case}
+use Rattle.napi_types.proofs.runs.StepCases.{StepCase, calls, ends, shares, leaves, passes, moves, others, step-case}
 use Rattle.napi_types.proofs.all_runs.Onces.{tickets-are-once}
 use Rattle.napi_types.proofs.all_runs.Orderly.{Orderly, orderly-opens, along-orderly}
 use Rattle.napi_types.proofs.all_runs.QuietRuns.{only-tickets}
@@ -88,10 +88,6 @@ asked-rightly e c n = asked-by e c n (λ d. EntryRightly d.entry) (told-rightly 
 step-rightly : (m : Machine) (s : Step) → StepCase m s → IsTrue s.may → EntryRightly s.entry
 step-rightly m _ (calls c n may alone) ok = asked-rightly m.env c n
 step-rightly m _ (ends v cut may alone) ok = end-rightly v cut m.env
-step-rightly m _ opens ok = nothing _ _ refl
-step-rightly m _ (inits n) ok = nothing _ _ refl
-step-rightly m _ (begins n r there next may) ok = nothing _ _ refl
-step-rightly m _ (vanishes last) ok = nothing _ _ refl
 step-rightly m _ (shares c o shared) ok =
     let x : Entry = shared_entry m.env c o in
     hub-rightly m.hub x (and-right (may_call m.env && not (is_full (room_of m c) c)) (hub_step m.hub x).may ok)
@@ -101,6 +97,7 @@ step-rightly m _ (leaves v cut may ours) ok =
 step-rightly m _ (passes p o q) ok = subst EntryRightly (sym q.entry) (nothing _ _ refl)
 step-rightly m _ (moves move next moving alone) ok = move-rightly m move ok
 step-rightly m _ (others x other) ok = hub-rightly m.hub x (and-right (has_room m x.what) (hub_step m.hub x).may ok)
+step-rightly m _ _ ok = nothing _ _ refl
 
 next-rightly : (m : Machine) (a : Ask) (x : Entry) → Orderly m → IsNext m a x → WithdrawsRightly x
 next-rightly m a x h next =

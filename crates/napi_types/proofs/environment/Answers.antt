@@ -342,7 +342,8 @@ not-some (Some d) h = absurd (h refl)
 pub torn-makes-none : (e : Environment) (c : Call) (n : ℕ) → is_tearing e.phase ≡ true → (answer e c n).reply.made ≡ None
 torn-makes-none e c n tearing =
     answer-by e c n (λ a. a.reply.made ≡ None) (λ s. refl) (λ s. refl)
-    (λ is. not-some _ (λ some. torn e c tearing ((told-makes c (effect e c n).reply (effect-told e c n)).registers some) (none-first (moment_refusal e c) (timely_refusal e c) is)))
+    (λ is. not-some _ (λ some.
+    torn e c tearing ((told-makes c (effect e c n).reply (effect-told e c n)).registers some) (none-first (moment_refusal e c) (timely_refusal e c) is)))
 
 -- A CALL'S ENTRY
 -- what a call of this entry keeps: the addons, the opening, the init frames that began, the phase, and how many frames stand; one of them has made one ask more. The

@@ -121,7 +121,8 @@ effect-changed e call.Exit n = exits e refl stays
 effect-changed e c n = heap e _ stays
 
 pub answer-changed : (e : Environment) (c : Call) (n : ℕ) → Changed c e (answer e c n).after
-answer-changed e c n = answer-by e c n (λ a. Changed c e a.after) (λ s. stays) (λ s. pending (record e { heap = _ }) _ (heap e _ stays)) (λ none. effect-changed e c n)
+answer-changed e c n =
+    answer-by e c n (λ a. Changed c e a.after) (λ s. stays) (λ s. pending (record e { heap = _ }) _ (heap e _ stays)) (λ none. effect-changed e c n)
 
 pub call-changed : (e : Environment) (c : Call) (n : ℕ) → Changed c e (call_change e c n).after
 call-changed e c n = frames (record (answer e c n).after { last = _ }) _ (last (answer e c n).after _ (answer-changed e c n))
@@ -134,6 +135,7 @@ asked-changed e c n = asked-by e c n (λ d. Changed c e d.after) (call-changed e
 pub ended-changed : (c : Call) (v : Option HandleId) (cut : Option Why) (e : Environment) → Changed c e (end_change v cut e).after
 ended-changed c v cut e =
     let left : (h : Heap) → Changed c e (record e { heap = h; frames = tail e.frames }) = λ h. frames (record e { heap = h }) _ (heap e h stays) in
-    let ends : (h : Heap) (s : Status) → Changed c e (record e { heap = h; frames = tail e.frames; last = s }) = λ h s. last (record e { heap = h; frames = tail e.frames }) s (left h) in
+    let ends : (h : Heap) (s : Status) → Changed c e (record e { heap = h; frames = tail e.frames; last = s }) =
+    λ h s. last (record e { heap = h; frames = tail e.frames }) s (left h) in
     ended-by v cut e (λ why d. Changed c e d.after) (λ w. ends _ _) (λ p. ends _ _) (ends _ _)
     (book (record e { heap = _; frames = _; pending = _ }) _ (pending (record e { heap = _; frames = _ }) _ (left _)))

@@ -59,7 +59,8 @@ abbrev pub book_left : Cause → Option Duty → Book → Book
 book_left cause.Call d book = book
 book_left _ d book = duty_ended d book
 
--- what the end of a frame keeps: all but its frame and its scopes, its duty, the pending exception and the last status; it issues one handle at most. The frame began for this reason
+-- what the end of a frame keeps: all but its frame and its scopes, its duty, the pending exception and the last status; it issues one handle at most.
+-- The frame began for this reason
 pub record KeepsButFrameBy (c : Cause) (old new : Environment) : Type 0 where
   pub course : course_of new ≡ course_of old
   pub frames : new.frames ≡ tail old.frames

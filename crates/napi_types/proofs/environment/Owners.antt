@@ -179,30 +179,17 @@ set-owned n None (Some r) a all = all
 set-owned n (Some t) (Some r) a all = all
 
 by-owned : (n : ℕ) (e : Environment) (c : Call) (k : ℕ) → caller_of e.frames < n → AreOwned n e.heap.values → AreOwned n (effect e c k).after.heap.values
-by-owned n e (call.Throw v) k there all = all
 by-owned n e (call.ThrowError code message) k there all = thrown-owned n e.heap code message all
-by-owned n e call.IsExceptionPending k there all = all
-by-owned n e call.GetLastErrorInfo k there all = all
-by-owned n e call.GetAndClearLastException k there all = all
-by-owned n e (call.CreateReference v count) k there all = all
-by-owned n e (call.DeleteReference r) k there all = all
 by-owned n e (call.ReferenceRef r) k there all = counted-up-owned n r.0 e (referred_value e.references r.0) all
-by-owned n e (call.ReferenceUnref r) k there all = all
 by-owned n e (call.GetReferenceValue r) k there all = told-owned n e (referred_value e.references r.0) all
 by-owned n e (call.Wrap v payload entry hint wanted) k there all = wrapped-owned n e (handle_value e.heap v.0) payload entry hint wanted k all
-by-owned n e (call.Unwrap v) k there all = all
 by-owned n e (call.RemoveWrap v) k there all = dropping-owned n (registered_only e.book (wrap_ticket e.attachments (handle_value e.heap v.0))) _ all
-by-owned n e (call.TypeTagObject v lower upper) k there all = all
-by-owned n e (call.CheckObjectTypeTag v lower upper) k there all = all
 by-owned n e (call.AddFinalizer v payload entry hint false) k there all = all
 by-owned n e (call.AddFinalizer v payload entry hint true) k there all = all
 by-owned n e (call.CreateExternal payload None hint) k there all = one-more n _ _ e.heap.values all (no-function n (body.External payload) refl)
 by-owned n e (call.CreateExternal payload (Some entry) hint) k there all = one-more n _ _ e.heap.values all (no-function n (body.External payload) refl)
 by-owned n e call.Collect k there all = kept-owned n (reach e) e.heap.values all
-by-owned n e call.Exit k there all = all
 by-owned n e (call.SetInstanceData payload entry hint) k there all = set-owned n (registered_only e.book (instance_ticket e.instances (caller_of e.frames))) (finalizer_if e payload entry hint) _ all
-by-owned n e call.GetInstanceData k there all = all
-by-owned n e (call.AddEnvCleanupHook entry argument) k there all = all
 by-owned n e (call.RemoveEnvCleanupHook entry argument) k there all = dropping-owned n (registered_only e.book (hook_ticket (caller_of e.frames) entry argument e.hooks)) _ all
 by-owned n e c k there all = heap-owned n (caller_of e.frames) e.heap c k there all
 
@@ -331,7 +318,8 @@ within-asked e c k below all = asked-by e c k (λ d. AsksWithin d.after) (call_c
     entered : (receiver : Option HandleId) (f : HandleId) (args : Args) → AsksWithin (enter_change receiver f args e).after
     entered receiver f args =
         let P : List Frame → Type 0 = λ fs. All Spare fs in
-        let more : All Spare (callee_of e.heap f ∷ ask_counted e.frames) = All-cons Spare (callee_of e.heap f) _ (omega arith) (counted-within e.frames below all) in
+        let more : All Spare (callee_of e.heap f ∷ ask_counted e.frames) =
+        All-cons Spare (callee_of e.heap f) _ (omega arith) (counted-within e.frames below all) in
         subst P (sym (enter_change-keeps receiver f args e).frames) more
 
 pub within-ended : (e : Environment) (v : Option HandleId) (cut : Option Why) → AsksWithin e → AsksWithin (end_change v cut e).after

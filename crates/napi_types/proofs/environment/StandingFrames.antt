@@ -80,7 +80,8 @@ call_change-duties e c n = ap (λ fs. duties_of (ask_counted fs)) (answer-keeps 
 pub nested-asked : (e : Environment) (c : Call) (n : ℕ) → e.frames ≢ [] → AreNested e.frames → AreNested (asked_change e c n).after.frames
 nested-asked e c n stands alone =
     let P : List Frame → Type 0 = λ fs. AreNested fs in
-    asked-by e c n (λ d. AreNested d.after.frames) (call_change-nested e c n alone) (λ receiver f args none. subst P (sym (enter_change-keeps receiver f args e).frames)
+    asked-by e c n (λ d. AreNested d.after.frames) (call_change-nested e c n alone)
+    (λ receiver f args none. subst P (sym (enter_change-keeps receiver f args e).frames)
     (called-nested (callee_of e.heap f) (ask_counted e.frames) (stands-counted e.frames stands) refl refl (counted-nested e.frames alone)))
 
 pub duties-asked : (e : Environment) (c : Call) (n : ℕ) → duties_of (asked_change e c n).after.frames ≡ duties_of e.frames

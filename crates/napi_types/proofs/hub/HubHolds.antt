@@ -28,7 +28,7 @@ use Rattle.napi_types.specs.hub.HubCalls.{new_function_number}
 use Rattle.napi_types.specs.hub.HubMoves.{HubMove, Delivers, Closes, Finishes, function_move_in, function_move, first_move, hub_move, in_function, without_duty, with_delivered}
 use Rattle.napi_types.specs.hub.HubSteps.{is_looped, is_fresh_work, work_number, staged}
 use Rattle.napi_types.proofs.plain.Conditions.{and-left, and-right}
-use Rattle.napi_types.proofs.hub.HubCases.{HubCase, asks, creates_work, deletes_work, cancels_work, queues_work, creates_function, alters, goes, ends_loop, drains, comes_to_finals, delivers, closes, finishes, ends, thread_ends, worker_ends, starts, finishes_work}
+use Rattle.napi_types.proofs.hub.HubCases.{HubCase, creates_work, deletes_work, cancels_work, queues_work, creates_function, alters, goes, ends_loop, drains, comes_to_finals, delivers, closes, finishes, starts, finishes_work}
 use Rattle.napi_types.proofs.hub.HubFunctions.{is_over, IsSound, AreSoundFrom, fewer-sound, more-sound, IsAmong, found-among, Grows, alters-grows, all_closed-sound, DutyFalls, Moves, first-moves}
 use Rattle.napi_types.proofs.hub.HubPools.{PoolSound, created-sound, deleted-sound, cancelled-sound, queued-sound, started-sound, worked-sound, completed-sound, drained-sound, fewer-late, finished-there}
 use Rattle.napi_types.proofs.hub.HubRooms.{WhatMoves, what-moves, move-of_function, completion-completes, late-room}
@@ -106,16 +106,7 @@ functions-sound h x told _ sound (comes_to_finals is may) = staged-sound h host.
 functions-sound h x told _ sound (delivers d is next alone) = delivered-sound h d sound next
 functions-sound h x told _ sound (closes n is next) = closes-sound h n sound next
 functions-sound h x told _ sound (finishes n is next) = finishes-sound h n sound next
-functions-sound h x told _ sound (asks c is shared) = sound
-functions-sound h x told _ sound (creates_work job entry payload addon is fresh tells) = sound
-functions-sound h x told _ sound (deletes_work w is none) = sound
-functions-sound h x told _ sound (cancels_work w is none) = sound
-functions-sound h x told _ sound (queues_work w is none early) = sound
-functions-sound h x told _ sound (ends d is stands) = sound
-functions-sound h x told _ sound (thread_ends t is there) = sound
-functions-sound h x told _ sound (worker_ends w is there) = sound
-functions-sound h x told _ sound (starts w n later is waits free) = sound
-functions-sound h x told _ sound (finishes_work w n is runs) = sound
+functions-sound h x told _ sound _ = sound
 
 -- THE POOL
 pub record HubSound (h : Hub) : Type 0 where
@@ -164,14 +155,7 @@ pool-sound h x told _ given s (comes_to_finals is may) = staged-pool h host.Fina
 pool-sound h x told _ given s (delivers d is next alone) = delivered-pool h d s next
 pool-sound h x told _ given s (starts w n later is waits free) = started-sound (is_past_drain h.stage) h.pool w n later waits free s.pool
 pool-sound h x told _ given s (finishes_work w n is runs) = worked-sound (is_past_drain h.stage) h.pool w n runs s.pool
-pool-sound h x told _ given s (asks c is shared) = s.pool
-pool-sound h x told _ given s (creates_function f entry maximum count finalizer context addon target is early) = s.pool
-pool-sound h x told _ given s (alters c k f change is there how) = s.pool
-pool-sound h x told _ given s (closes n is next) = s.pool
-pool-sound h x told _ given s (finishes n is next) = s.pool
-pool-sound h x told _ given s (ends d is stands) = s.pool
-pool-sound h x told _ given s (thread_ends t is there) = s.pool
-pool-sound h x told _ given s (worker_ends w is there) = s.pool
+pool-sound h x told _ given s _ = s.pool
 
 pub hub-sound : (h : Hub) (x : Entry) (told : Out) (n : Hub) → ((c : Call) → x.what ≡ what.Call c → told ≡ x.reply.out) → HubSound h → HubCase h x told n → HubSound n
 hub-sound h x told n given s case = record { functions = functions-sound h x told n s.functions case; pool = pool-sound h x told n given s case }

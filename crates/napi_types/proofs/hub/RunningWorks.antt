@@ -424,7 +424,6 @@ create-fresh h x job entry payload is next = by x.actor next.entry next.may
 case-steps : (h : Hub) (x : Entry) (o : Out) (n : Hub)
     → ((job : JobSpec) (entry payload : ℕ) → x.what ≡ what.Call (call.CreateAsyncWork job entry payload) → IsFreshly h x n) → IsSoundPool h.pool
     → HubCase h x o n → StepsWell h.pool n.pool
-case-steps h x o _ fresh sound (asks c is shared) = still h.pool sound
 case-steps h x o _ fresh sound (creates_work job entry payload addon is told tells) = by (fresh job entry payload is)
   where
     by : IsFreshly h x (in_pool (with_work (work_number x.reply.out) job addon entry payload) h)
@@ -434,20 +433,11 @@ case-steps h x o _ fresh sound (creates_work job entry payload addon is told tel
 case-steps h x o _ fresh sound (deletes_work w is none) = deletes h.pool w.0 (not-refused is_deletable h.pool w.0 none) sound
 case-steps h x o _ fresh sound (cancels_work w is none) = cancels h.pool (number_of_work h.pool w.0) sound
 case-steps h x o _ fresh sound (queues_work w is none early) = queues h.pool w.0 (not-refused is_created h.pool w.0 none) sound
-case-steps h x o _ fresh sound (creates_function f entry maximum count finalizer context addon target is early) = still h.pool sound
-case-steps h x o _ fresh sound (alters c k f change is there how) = still h.pool sound
-case-steps h x o _ fresh sound (goes is may) = still h.pool sound
-case-steps h x o _ fresh sound (ends_loop is may) = still h.pool sound
 case-steps h x o _ fresh sound (drains is may) = drains-well h.pool sound
-case-steps h x o _ fresh sound (comes_to_finals is may) = still h.pool sound
 case-steps h x o _ fresh sound (delivers d is next alone) = duty-well d.duty h sound
-case-steps h x o _ fresh sound (closes n is next) = still h.pool sound
-case-steps h x o _ fresh sound (finishes n is next) = still h.pool sound
-case-steps h x o _ fresh sound (ends d is stands) = still h.pool sound
-case-steps h x o _ fresh sound (thread_ends t is there) = still h.pool sound
-case-steps h x o _ fresh sound (worker_ends w is there) = still h.pool sound
 case-steps h x o _ fresh sound (starts w n later is waits free) = starts-well h.pool h.pool.queued w refl sound
 case-steps h x o _ fresh sound (finishes_work w n is runs) = finishes-well h.pool w (executed_by h.pool w) sound
+case-steps h x o _ fresh sound _ = still h.pool sound
 
 pub next-steps : (h : Hub) (x : Entry) → IsHubNext h x → IsSoundPool h.pool → StepsWell h.pool (hub_step h x).after.pool
 next-steps h x next sound =

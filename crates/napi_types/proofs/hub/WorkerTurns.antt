@@ -98,27 +98,14 @@ never : (x : Entry) (it : What) → x.what ≡ it → is_event_of_others it ≡ 
 never x it is its other = let no : true ≡ false = sym its ∙ sym (ap is_event_of_others is) ∙ other in cc
 
 case-leaves : (w : ℕ) (h : Hub) (x : Entry) (told : Out) (n : Hub) → is_event_of_others x.what ≡ false → HubCase h x told n → LeavesWorker w h n
-case-leaves w h x told _ other (asks c is shared) = record { executed = refl; gone = λ g. g }
-case-leaves w h x told _ other (creates_work job entry payload addon is fresh tells) = record { executed = refl; gone = λ g. g }
-case-leaves w h x told _ other (deletes_work v is none) = record { executed = refl; gone = λ g. g }
 case-leaves w h x told _ other (cancels_work v is none) = record { executed = cancelled-executes (number_of_work h.pool v.0) w h.pool; gone = λ g. g }
-case-leaves w h x told _ other (queues_work v is none early) = record { executed = refl; gone = λ g. g }
-case-leaves w h x told _ other (creates_function f entry maximum count finalizer context addon target is early) = record { executed = refl; gone = λ g. g }
-case-leaves w h x told _ other (alters c k f change is there how) = record { executed = refl; gone = λ g. g }
-case-leaves w h x told _ other (goes is may) = record { executed = refl; gone = λ g. g }
-case-leaves w h x told _ other (ends_loop is may) = record { executed = refl; gone = λ g. g }
-case-leaves w h x told _ other (drains is may) = record { executed = refl; gone = λ g. g }
-case-leaves w h x told _ other (comes_to_finals is may) = record { executed = refl; gone = λ g. g }
 case-leaves w h x told _ other (delivers d is next alone) =
     let k : LeavesWorker w h (without_duty d.duty h) = duty-leaves w d.duty h in
     record { executed = k.executed; gone = k.gone }
-case-leaves w h x told _ other (closes n is next) = record { executed = refl; gone = λ g. g }
-case-leaves w h x told _ other (finishes n is next) = record { executed = refl; gone = λ g. g }
-case-leaves w h x told _ other (ends d is stands) = record { executed = refl; gone = λ g. g }
-case-leaves w h x told _ other (thread_ends t is there) = record { executed = refl; gone = λ g. g }
 case-leaves w h x told _ other (worker_ends v is there) = absurd (never x (what.Host host.ActorEnd) is refl other)
 case-leaves w h x told _ other (starts v n later is waits free) = absurd (never x (what.Host host.Start) is refl other)
 case-leaves w h x told _ other (finishes_work v n is runs) = absurd (never x (what.Host host.Finish) is refl other)
+case-leaves w h x told _ other _ = record { executed = refl; gone = λ g. g }
 
 -- the environment and threads
 environment-leaves : (w : ℕ) (h : Hub) (x : Entry) (it : What) → x.what ≡ it → IsTrue (environment_step h x it).may

@@ -31,12 +31,12 @@ pub along-run : (P : Machine → Type 0) → ((m : Machine) (a : Ask) (x : Entry
 along-run P keeps = along-entries (λ m bs xs. P m → P (final m bs xs)) (λ m p. p) (λ m a bs x xs next rest p. rest (keeps m a x next p))
 
 -- AT ITS END
-
 -- a run has one entry more at its end
 pub run-more : (m : Machine) (bs : List Ask) (xs : List Entry) (a : Ask) (x : Entry)
     → IsRunBy m bs xs → IsNext (final m bs xs) a x → IsRunBy m (bs ++ a ∷ []) (xs ++ x ∷ [])
 run-more m bs xs a x r n =
-    along-entries (λ m bs xs. IsNext (final m bs xs) a x → IsRunBy m (bs ++ a ∷ []) (xs ++ x ∷ [])) (λ m n. (n, tt)) (λ m b bs y ys here rest n. (here, rest n)) m bs xs r n
+    along-entries (λ m bs xs. IsNext (final m bs xs) a x → IsRunBy m (bs ++ a ∷ []) (xs ++ x ∷ []))
+    (λ m n. (n, tt)) (λ m b bs y ys here rest n. (here, rest n)) m bs xs r n
 
 pub final-more : (m : Machine) (bs : List Ask) (xs : List Entry) (a : Ask) (x : Entry)
     → IsRunBy m bs xs → final m (bs ++ a ∷ []) (xs ++ x ∷ []) ≡ after (final m bs xs) a x

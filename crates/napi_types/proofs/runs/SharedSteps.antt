@@ -56,12 +56,10 @@ begin-stage h x (Some (Delivers d)) = duty-stage d.duty h
 begin-stage h x _ = refl
 
 close-stage : (h : Hub) (x : Entry) (o : Option HubMove) → (close_step h x o).after.stage ≡ h.stage
-close-stage h x None = refl
 close-stage h x (Some (Delivers d)) = refl
 close-stage h x _ = refl
 
 finish-stage : (h : Hub) (x : Entry) (o : Option HubMove) → (finish_step h x o).after.stage ≡ h.stage
-finish-stage h x None = refl
 finish-stage h x (Some (Delivers d)) = refl
 finish-stage h x _ = refl
 
