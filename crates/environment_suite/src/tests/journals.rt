@@ -147,7 +147,7 @@ const DATA: Option<[Call; 3]> = Some([
 ]);
 
 /// How many places a journal has, and what its entries tell: of the example. A call of a function wants two places.
-static EXAMPLES: [(u32, &[Found]); 8] = [
+static OF_EXAMPLE: [(u32, &[Found]); 8] = [
     (4, &[OPENED, BEGUN, CUT, DONE]),
     (5, &[OPENED, BEGUN, HANDLE_1, CUT, DONE]),
     (
@@ -261,7 +261,7 @@ fn compare(rt: &impl Abort, alloc: Global, calls: Option<[Call; 3]>, journals: &
 
 #[test]
 fn the_first_call_without_a_place_cuts_its_frame(rt: HostRuntime) {
-    compare(&rt, rt.alloc(), None, &EXAMPLES);
+    compare(&rt, rt.alloc(), None, &OF_EXAMPLE);
     compare(&rt, rt.alloc(), FINALIZERS, &OF_FINALIZERS);
     compare(&rt, rt.alloc(), DATA, &OF_DATA);
 }

@@ -14,7 +14,7 @@ use std::alloc::Global;
 use std::process::Abort;
 
 /// An environment of one addon that is to run, whose journal has so many places.
-pub(super) fn opened(rt: &impl Abort, alloc: Global, journal: u32) -> EnvRun
+pub fn opened(rt: &impl Abort, alloc: Global, journal: u32) -> EnvRun
     requires least { 4 ≤ journal }
     requires most { journal ≤ most_entries }
     ensures { result ≡ opened_run (opened_core 1 0 journal) }
@@ -28,7 +28,7 @@ pub(super) fn opened(rt: &impl Abort, alloc: Global, journal: u32) -> EnvRun
 }
 
 /// A list of one addon.
-pub(super) fn list_of(rt: &impl Abort, alloc: Global, addon: Box<dyn Addon>) -> Vec<Box<dyn Addon>>
+pub fn list_of(rt: &impl Abort, alloc: Global, addon: Box<dyn Addon>) -> Vec<Box<dyn Addon>>
     ensures { length result.items ≡ 1 }
 {
     let mut addons = Vec::new(alloc);
@@ -38,7 +38,7 @@ pub(super) fn list_of(rt: &impl Abort, alloc: Global, addon: Box<dyn Addon>) -> 
 
 /// A list of one example addon. Its entry 0 makes an array and a reference to it, which it counts down from 2 until that is refused, and a
 /// function, which it calls with the array; the function sets an element of the array at 2, and leaves with it. Then entry 0 asks for its length.
-pub(super) fn examples(rt: &impl Abort, alloc: Global) -> Vec<Box<dyn Addon>>
+pub fn examples(rt: &impl Abort, alloc: Global) -> Vec<Box<dyn Addon>>
     ensures { length result.items ≡ 1 }
 {
     list_of(
