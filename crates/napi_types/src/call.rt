@@ -149,97 +149,53 @@ pub enum Call {
     Exit,
 }
 
+/// What is known of a call before it is made.
+#[derive(Clone, Copy)]
+struct Facts {
+    value: bool,
+    built: bool,
+    guarded: bool,
+    registering: bool,
+}
+
 impl Call {
     /// Whether the call is built so far. A call that is not built is never made: an addon that asks it is taken to leave its
     /// frame.
     pub fn is_built(&self) -> bool
         ensures { result ≡ is_built self.now }
     {
-        match self {
-            Call::OpenHandleScope
-            | Call::OpenEscapableHandleScope
-            | Call::CloseHandleScope(_)
-            | Call::CloseEscapableHandleScope(_)
-            | Call::EscapeHandle(..)
-            | Call::CallFunction(..)
-            | Call::Throw(_)
-            | Call::ThrowError(..)
-            | Call::IsExceptionPending
-            | Call::GetAndClearLastException
-            | Call::GetLastErrorInfo
-            | Call::CreateReference(..)
-            | Call::DeleteReference(_)
-            | Call::ReferenceRef(_)
-            | Call::ReferenceUnref(_)
-            | Call::GetReferenceValue(_)
-            | Call::CreateExternal(..)
-            | Call::Wrap(..)
-            | Call::Unwrap(_)
-            | Call::RemoveWrap(_)
-            | Call::TypeTagObject(..)
-            | Call::CheckObjectTypeTag(..)
-            | Call::AddFinalizer(..)
-            | Call::SetInstanceData(..)
-            | Call::GetInstanceData
-            | Call::AddEnvCleanupHook(..)
-            | Call::RemoveEnvCleanupHook(..)
-            | Call::Collect
-            | Call::Exit
-            | Call::GetVersion => true,
-            _ => self.is_value_call(),
-        }
+        self.facts().built
     }
 
     /// Whether the call is guarded: refused while an exception is pending, and in the teardown.
     pub fn is_guarded(&self) -> bool
         ensures { result ≡ is_guarded self.now }
     {
-        matches!(
-            self,
-            Call::CreateFunction(..)
-                | Call::StrictEquals(..)
-                | Call::SetNamedProperty(..)
-                | Call::GetNamedProperty(..)
-                | Call::HasNamedProperty(..)
-                | Call::DeleteProperty(..)
-                | Call::GetPropertyNames(_)
-                | Call::SetElement(..)
-                | Call::GetElement(..)
-                | Call::HasElement(..)
-                | Call::Wrap(..)
-                | Call::Unwrap(_)
-                | Call::RemoveWrap(_)
-                | Call::TypeTagObject(..)
-                | Call::CheckObjectTypeTag(..)
-                | Call::CallFunction(..)
-                | Call::Throw(_)
-                | Call::ThrowError(..)
-        )
+        self.facts().guarded
     }
 
     /// Whether the call registers something to be done later, and so is refused in the teardown.
     pub fn is_registering(&self) -> bool
         ensures { result ≡ is_registering self.now }
     {
-        match self {
-            Call::CreateExternal(_, finalizer, _)
-            | Call::Wrap(_, _, finalizer, _, _)
-            | Call::SetInstanceData(_, finalizer, _) => finalizer.is_some(),
-            Call::AddFinalizer(..)
-            | Call::AddEnvCleanupHook(..)
-            | Call::CreateAsyncWork(..)
-            | Call::QueueAsyncWork(_)
-            | Call::CreateThreadsafeFunction(..)
-            | Call::CallThreadsafeFunction(..) => true,
-            _ => false,
-        }
+        self.facts().registering
     }
 
     /// Whether the call is one on values, properties and elements that is built.
     pub fn is_value_call(&self) -> bool
         ensures { result ≡ is_value_call self.now }
     {
-        match self {
+        self.facts().value
+    }
+
+    /// The table of calls: whether each is one on values, is built, is guarded, and registers.
+    fn facts(&self) -> Facts
+        ensures value { result.value ≡ is_value_call self.now }
+        ensures built { result.built ≡ is_built self.now }
+        ensures guarded { result.guarded ≡ is_guarded self.now }
+        ensures registering { result.registering ≡ is_registering self.now }
+    {
+        let (value, built, guarded, registering) = match self {
             Call::GetUndefined
             | Call::GetNull
             | Call::GetGlobal
@@ -250,7 +206,6 @@ impl Call {
             | Call::CreateSymbol(_)
             | Call::CreateObject
             | Call::CreateArray
-            | Call::CreateFunction(..)
             | Call::CreateError(..)
             | Call::Typeof(_)
             | Call::IsArray(_)
@@ -260,7 +215,8 @@ impl Call {
             | Call::GetValueBool(_)
             | Call::GetValueStringUtf8(_)
             | Call::GetValueExternal(_)
-            | Call::GetArrayLength(_)
+            | Call::GetArrayLength(_) => (true, true, false, false),
+            Call::CreateFunction(..)
             | Call::StrictEquals(..)
             | Call::SetNamedProperty(..)
             | Call::GetNamedProperty(..)
@@ -269,8 +225,51 @@ impl Call {
             | Call::GetPropertyNames(_)
             | Call::SetElement(..)
             | Call::GetElement(..)
-            | Call::HasElement(..) => true,
-            _ => false,
+            | Call::HasElement(..) => (true, true, true, false),
+            Call::Unwrap(_)
+            | Call::RemoveWrap(_)
+            | Call::TypeTagObject(..)
+            | Call::CheckObjectTypeTag(..)
+            | Call::CallFunction(..)
+            | Call::Throw(_)
+            | Call::ThrowError(..) => (false, true, true, false),
+            Call::Wrap(_, _, finalizer, _, _) => (false, true, true, finalizer.is_some()),
+            Call::CreateExternal(_, finalizer, _) | Call::SetInstanceData(_, finalizer, _) => (
+                false,
+                true,
+                false,
+                finalizer.is_some(),
+            ),
+            Call::AddFinalizer(..) | Call::AddEnvCleanupHook(..) => (false, true, false, true),
+            Call::OpenHandleScope
+            | Call::OpenEscapableHandleScope
+            | Call::CloseHandleScope(_)
+            | Call::CloseEscapableHandleScope(_)
+            | Call::EscapeHandle(..)
+            | Call::CreateReference(..)
+            | Call::DeleteReference(_)
+            | Call::ReferenceRef(_)
+            | Call::ReferenceUnref(_)
+            | Call::GetReferenceValue(_)
+            | Call::IsExceptionPending
+            | Call::GetAndClearLastException
+            | Call::GetLastErrorInfo
+            | Call::GetInstanceData
+            | Call::RemoveEnvCleanupHook(..)
+            | Call::Collect
+            | Call::Exit
+            | Call::GetVersion => (false, true, false, false),
+            Call::CreateAsyncWork(..)
+            | Call::QueueAsyncWork(_)
+            | Call::CreateThreadsafeFunction(..)
+            | Call::CallThreadsafeFunction(..) => (false, false, false, true),
+            _ => (false, false, false, false),
+        };
+        Facts {
+            value,
+            built,
+            guarded,
+            registering,
         }
     }
 }
