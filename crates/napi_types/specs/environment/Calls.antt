@@ -9,7 +9,7 @@ use Rattle.napi_types.specs.plain.Replies.{Answer, accepts, refuses}
 use Rattle.napi_types.specs.plain.Texts.{depth_text}
 use Rattle.napi_types.specs.parts.Frames.{caller_of}
 use Rattle.napi_types.specs.parts.FunctionCalls.{on_functions}
-use Rattle.napi_types.specs.parts.HeapCalls.{heap_groups}
+use Rattle.napi_types.specs.parts.HeapCalls.{HeapGroup, heap_call_groups}
 use Rattle.napi_types.specs.environment.Collection.{on_collection}
 use Rattle.napi_types.specs.environment.Environment.{Environment, in_heap}
 use Rattle.napi_types.specs.environment.ExceptionCalls.{on_exceptions, with_thrown_error}
@@ -21,19 +21,32 @@ use Rattle.napi_types.specs.environment.Refusals.{early_refusal, depth_refusal}
 use Rattle.napi_types.specs.environment.RunCalls.{on_run}
 use Rattle.napi_types.specs.environment.WrapCalls.{on_wraps}
 
+-- GROUPS OF CALLS
+-- a group: what it answers to a call of its own, and leaves, where n is the number that the call newly gives
+pub record Group : Type 0 where
+  pub answers : Environment → Call → ℕ → Option (Answer Environment)
+
+-- one that the heap tells
+abbrev pub heap_group : HeapGroup → Group
+heap_group g = record { answers = λ e c n. option_map (in_heap e) (g.answers e.heap c n) }
+
+-- all groups. A new one joins this list, or where the heap tells it that of its like
+abbrev pub call_groups : List Group
+call_groups =
+    record { answers = λ e c n. on_exceptions e c }
+    ∷ record { answers = on_references }
+    ∷ record { answers = on_wraps }
+    ∷ record { answers = λ e c n. on_externals e c }
+    ∷ record { answers = λ e c n. on_instances e c }
+    ∷ record { answers = λ e c n. on_hooks e c }
+    ∷ record { answers = λ e c n. on_collection e c }
+    ∷ record { answers = λ e c n. on_run e c }
+    ∷ record { answers = λ e c n. option_map (in_heap e) (on_functions (caller_of e.frames) e.heap c) }
+    ∷ map heap_group heap_call_groups
+
 -- what each group of calls says
 abbrev pub groups : Environment → Call → ℕ → List (Option (Answer Environment))
-groups e c n =
-    on_exceptions e c
-    ∷ on_references e c n
-    ∷ on_wraps e c n
-    ∷ on_externals e c
-    ∷ on_instances e c
-    ∷ on_hooks e c
-    ∷ on_collection e c
-    ∷ on_run e c
-    ∷ option_map (in_heap e) (on_functions (caller_of e.frames) e.heap c)
-    ∷ map (option_map (in_heap e)) (heap_groups e.heap c n)
+groups e c n = map (λ (g : Group). g.answers e c n) call_groups
 
 -- what an accepted call answers and leaves
 abbrev pub effect : Environment → Call → ℕ → Answer Environment

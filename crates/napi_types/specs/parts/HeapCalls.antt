@@ -1,5 +1,5 @@
 -- What a call answers and leaves that is told of the heap: one on values, properties or scopes, or that makes a function.
-use Rattle.std.specs.Prelude.{ℕ, Option, Some, None, List, [], ◌∷◌}
+use Rattle.std.specs.Prelude.{ℕ, Option, Some, None, List, [], ◌∷◌, map}
 use Rattle.std.specs.Option.{unwrap_or}
 use Rattle.napi_types.specs.declared.call.Call.{Call}
 use Rattle.napi_types.specs.declared.entry.Out.TheVariants as out
@@ -14,9 +14,22 @@ use Rattle.napi_types.specs.parts.ScopeCalls.{on_scopes}
 use Rattle.napi_types.specs.parts.ValueCalls.{on_values}
 use Rattle.napi_types.specs.parts.VersionCall.{on_version}
 
--- what each group of calls on values, properties and scopes says of a call, and the group of the others, where n is the number that it newly gives
+-- a group of calls that the heap tells: what it answers to a call of its own, and leaves, where n is the number that the call newly gives
+pub record HeapGroup : Type 0 where
+  pub answers : Heap → Call → ℕ → Option (Answer Heap)
+
+-- those of them that do not ask which addon calls
+abbrev pub heap_call_groups : List HeapGroup
+heap_call_groups =
+    record { answers = λ heap c n. on_values heap c }
+    ∷ record { answers = λ heap c n. on_properties heap c }
+    ∷ record { answers = on_scopes }
+    ∷ record { answers = λ heap c n. on_version heap c }
+    ∷ []
+
+-- what each of these groups says of a call
 abbrev pub heap_groups : Heap → Call → ℕ → List (Option (Answer Heap))
-heap_groups heap c n = on_values heap c ∷ on_properties heap c ∷ on_scopes heap c n ∷ on_version heap c ∷ []
+heap_groups heap c n = map (λ (g : HeapGroup). g.answers heap c n) heap_call_groups
 
 -- what an accepted call of these groups answers and leaves
 abbrev pub heap_effect : Heap → Call → ℕ → Answer Heap
