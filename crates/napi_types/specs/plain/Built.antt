@@ -4,6 +4,7 @@ use Rattle.napi_types.specs.declared.call.Ask.{Ask}
 use Rattle.napi_types.specs.declared.call.Ask.TheVariants as ask
 use Rattle.napi_types.specs.declared.call.Call.{Call}
 use Rattle.napi_types.specs.declared.call.Call.TheVariants as call
+use Rattle.napi_types.specs.plain.CallFacts.{facts_of}
 
 -- the calls on values that give a handle of a starting value, or create a value
 abbrev pub is_creating : Call → Bool
@@ -51,66 +52,6 @@ is_other_value_call _ = false
 abbrev pub is_value_call : Call → Bool
 is_value_call c = is_creating c || is_telling c || is_other_value_call c
 
--- the calls on scopes, and the version
-abbrev pub is_scope_or_version : Call → Bool
-is_scope_or_version call.OpenHandleScope = true
-is_scope_or_version call.OpenEscapableHandleScope = true
-is_scope_or_version (call.CloseHandleScope _) = true
-is_scope_or_version (call.CloseEscapableHandleScope _) = true
-is_scope_or_version (call.EscapeHandle _ _) = true
-is_scope_or_version call.GetVersion = true
-is_scope_or_version _ = false
-
--- the calls on exceptions and on the last status
-abbrev pub is_exception_call : Call → Bool
-is_exception_call (call.Throw _) = true
-is_exception_call (call.ThrowError _ _) = true
-is_exception_call call.IsExceptionPending = true
-is_exception_call call.GetAndClearLastException = true
-is_exception_call call.GetLastErrorInfo = true
-is_exception_call _ = false
-
--- the calls on references
-abbrev pub is_reference_call : Call → Bool
-is_reference_call (call.CreateReference _ _) = true
-is_reference_call (call.DeleteReference _) = true
-is_reference_call (call.ReferenceRef _) = true
-is_reference_call (call.ReferenceUnref _) = true
-is_reference_call (call.GetReferenceValue _) = true
-is_reference_call _ = false
-
--- the calls on wraps, type tags and finalizers
-abbrev pub is_wrap_call : Call → Bool
-is_wrap_call (call.Wrap _ _ _ _ _) = true
-is_wrap_call (call.Unwrap _) = true
-is_wrap_call (call.RemoveWrap _) = true
-is_wrap_call (call.TypeTagObject _ _ _) = true
-is_wrap_call (call.CheckObjectTypeTag _ _ _) = true
-is_wrap_call (call.AddFinalizer _ _ _ _ _) = true
-is_wrap_call _ = false
-
--- the call that creates an external
-abbrev pub is_external_call : Call → Bool
-is_external_call (call.CreateExternal _ _ _) = true
-is_external_call _ = false
-
--- the calls on instance data
-abbrev pub is_instance_call : Call → Bool
-is_instance_call (call.SetInstanceData _ _ _) = true
-is_instance_call call.GetInstanceData = true
-is_instance_call _ = false
-
--- the calls on cleanup hooks
-abbrev pub is_hook_call : Call → Bool
-is_hook_call (call.AddEnvCleanupHook _ _) = true
-is_hook_call (call.RemoveEnvCleanupHook _ _) = true
-is_hook_call _ = false
-
--- the collection
-abbrev pub is_collecting : Call → Bool
-is_collecting call.Collect = true
-is_collecting _ = false
-
 -- the call that asks that the loop ends
 abbrev pub is_exiting : Call → Bool
 is_exiting call.Exit = true
@@ -123,9 +64,7 @@ is_calling _ = false
 
 -- the calls that are built
 abbrev pub is_built : Call → Bool
-is_built c =
-    is_scope_or_version c || is_exception_call c || is_reference_call c || is_wrap_call c || is_external_call c || is_instance_call c || is_hook_call c || is_collecting c
-    || is_exiting c || is_calling c || is_value_call c
+is_built c = (facts_of c).built
 
 -- what an addon is taken to ask where these calls are built: another call is never made, and the addon that asks it is taken to leave
 abbrev pub built_ask : (Call → Bool) → Ask → Ask

@@ -7,9 +7,10 @@ use Rattle.napi_types.specs.declared.ids.TextNo.{TextNo}
 use Rattle.napi_types.specs.plain.Arguments.{argument_handles}
 use Rattle.napi_types.specs.plain.Lists.{one}
 
--- whether the call is guarded, whether it registers something, whether its entry stands in the history, and whether it takes memory beside that of its places; how
--- many places it needs; and the handles, the texts and the references that it names
+-- whether the call is built so far, whether it is guarded, whether it registers something, whether its entry stands in the history, and whether it takes memory
+-- beside that of its places; how many places it needs; and the handles, the texts and the references that it names
 pub record CallFacts : Type 0 where
+  pub built : Bool
   pub guarded : Bool
   pub registers : Bool
   pub shared : Bool
@@ -19,9 +20,9 @@ pub record CallFacts : Type 0 where
   pub texts : List ℕ
   pub references : List ℕ
 
--- a call of which none of this holds: it needs the place of its entry alone
+-- a call that is built, and of which no more of this holds: it needs the place of its entry alone
 abbrev pub no_facts : CallFacts
-no_facts = record { guarded = false; registers = false; shared = false; grows = false; need = 1; handles = []; texts = []; references = [] }
+no_facts = record { built = true; guarded = false; registers = false; shared = false; grows = false; need = 1; handles = []; texts = []; references = [] }
 
 -- the handle of an argument that may be left out
 abbrev pub handle_if : Option HandleId → List ℕ
@@ -41,6 +42,10 @@ duty_places = 2
 abbrev pub finalizer_places : Option ℕ → ℕ
 finalizer_places None = 0
 finalizer_places (Some entry) = duty_places
+
+-- the same of a shared call: none is built so far
+abbrev pub shared_facts : CallFacts
+shared_facts = record no_facts { built = false; shared = true }
 
 -- the table
 abbrev pub facts_of : Call → CallFacts
@@ -101,17 +106,17 @@ facts_of (call.SetInstanceData _ finalizer _) = record no_facts { registers = is
 facts_of call.GetInstanceData = no_facts
 facts_of (call.AddEnvCleanupHook _ _) = record no_facts { registers = true; grows = true; need = 1 + duty_places }
 facts_of (call.RemoveEnvCleanupHook _ _) = no_facts
-facts_of (call.CreateAsyncWork _ _ _) = record no_facts { registers = true; shared = true; grows = true }
-facts_of (call.DeleteAsyncWork _) = record no_facts { shared = true }
-facts_of (call.CancelAsyncWork _) = record no_facts { shared = true }
-facts_of (call.QueueAsyncWork _) = record no_facts { registers = true; shared = true; need = 3 + duty_places }
-facts_of (call.CreateThreadsafeFunction f _ _ _ finalizer _) = record no_facts { registers = true; shared = true; grows = true; need = 3 + finalizer_places finalizer; handles = handle_if f }
-facts_of (call.CallThreadsafeFunction _ _ _) = record no_facts { registers = true; shared = true; grows = true; need = 1 + duty_places }
-facts_of (call.AcquireThreadsafeFunction _) = record no_facts { shared = true }
-facts_of (call.ReleaseThreadsafeFunction _ _) = record no_facts { shared = true }
-facts_of (call.RefThreadsafeFunction _) = record no_facts { shared = true }
-facts_of (call.UnrefThreadsafeFunction _) = record no_facts { shared = true }
-facts_of (call.GetThreadsafeFunctionContext _) = record no_facts { shared = true }
+facts_of (call.CreateAsyncWork _ _ _) = record shared_facts { registers = true; grows = true }
+facts_of (call.DeleteAsyncWork _) = shared_facts
+facts_of (call.CancelAsyncWork _) = shared_facts
+facts_of (call.QueueAsyncWork _) = record shared_facts { registers = true; need = 3 + duty_places }
+facts_of (call.CreateThreadsafeFunction f _ _ _ finalizer _) = record shared_facts { registers = true; grows = true; need = 3 + finalizer_places finalizer; handles = handle_if f }
+facts_of (call.CallThreadsafeFunction _ _ _) = record shared_facts { registers = true; grows = true; need = 1 + duty_places }
+facts_of (call.AcquireThreadsafeFunction _) = shared_facts
+facts_of (call.ReleaseThreadsafeFunction _ _) = shared_facts
+facts_of (call.RefThreadsafeFunction _) = shared_facts
+facts_of (call.UnrefThreadsafeFunction _) = shared_facts
+facts_of (call.GetThreadsafeFunctionContext _) = shared_facts
 facts_of call.GetVersion = no_facts
 facts_of call.Collect = record no_facts { grows = true }
 facts_of call.Exit = no_facts
