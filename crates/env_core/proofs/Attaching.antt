@@ -13,7 +13,7 @@ use Rattle.napi_types.specs.plain.Lists.{as_map, when, unless}
 use Rattle.napi_types.specs.plain.Replies.{accepts, plain}
 use Rattle.napi_types.specs.parts.Attachments.{Wrapped, Tagged, Attached, Attachments, no_attachments, wrap_of, tag_of, is_wrapped, is_tagged, wrap_payload, has_tag, with_wrap, without_wrap, with_tag}
 use Rattle.napi_types.specs.parts.Book.{Book}
-use Rattle.napi_types.specs.parts.ExpectedKinds.{expects}
+use Rattle.napi_types.specs.parts.Kinds.{expects}
 use Rattle.napi_types.specs.parts.Graph.{StoreState, IsSoundStore, IsLive, value_of, number_in}
 use Rattle.napi_types.specs.parts.Heap.{handle_value}
 use Rattle.napi_types.specs.parts.Scopes.{gives}

@@ -6,7 +6,7 @@ use Rattle.napi_types.specs.declared.ids.HandleId.{HandleId}
 use Rattle.napi_types.specs.declared.ids.ValueId.{ValueId}
 use Rattle.napi_types.specs.declared.status.Status.TheVariants as status
 use Rattle.napi_types.specs.plain.Lists.{unless}
-use Rattle.napi_types.specs.parts.ExpectedKinds.{expects}
+use Rattle.napi_types.specs.parts.Kinds.{expects}
 use Rattle.napi_types.specs.parts.Graph.{StoreState, IsLive, number_in, value_of, graph_of, renamed}
 use Rattle.napi_types.specs.parts.Heap.{handle_value, handle_body}
 use Rattle.napi_types.specs.parts.Scopes.{gives}

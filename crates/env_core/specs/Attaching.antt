@@ -10,7 +10,7 @@ use Rattle.napi_types.specs.plain.Lists.{as_map, unless}
 use Rattle.napi_types.specs.parts.Attachments.{Attachments, Wrapped, Tagged, Attached}
 use Rattle.napi_types.specs.parts.Bodies.{is_object_like, is_taggable}
 use Rattle.napi_types.specs.parts.Book.{Book}
-use Rattle.napi_types.specs.parts.ExpectedKinds.{expects}
+use Rattle.napi_types.specs.parts.Kinds.{expects}
 use Rattle.napi_types.specs.parts.Graph.{StoreState, IsLive, number_in}
 use Rattle.napi_types.specs.parts.Heap.{Heap}
 use Rattle.napi_types.specs.parts.Scopes.{gives}

@@ -12,11 +12,13 @@ pub mod Graph
 pub mod Heap
 pub mod HeapCalls
 pub mod HeapChanges
+pub mod HeapGroups
 pub mod HeapRefusals
 pub mod HookRefusals
 pub mod Hooks
 pub mod InstanceData
 pub mod Jobs
+pub mod Kinds
 pub mod NamedNumbers
 pub mod NewValues
 pub mod OwnRefusals

@@ -25,7 +25,7 @@ use Rattle.napi_types.specs.plain.Entries.{host_entry, is_environment, cut_of}
 use Rattle.napi_types.specs.plain.Guards.{is_shared}
 use Rattle.napi_types.specs.parts.Bodies.{is_function}
 use Rattle.napi_types.specs.parts.Book.{Registration, registration_at}
-use Rattle.napi_types.specs.parts.ExpectedKinds.{expects_if}
+use Rattle.napi_types.specs.parts.Kinds.{expects_if}
 use Rattle.napi_types.specs.parts.Frames.{Frame, frame_of_duty, caller_of, duty_of, is_hub_duty}
 use Rattle.napi_types.specs.parts.Heap.{handle_body}
 use Rattle.napi_types.specs.environment.Changes.{number_of, may_ask, with_noted_status}

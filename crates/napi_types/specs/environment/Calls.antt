@@ -9,7 +9,7 @@ use Rattle.napi_types.specs.plain.Replies.{Answer, accepts, refuses}
 use Rattle.napi_types.specs.plain.Texts.{depth_text}
 use Rattle.napi_types.specs.parts.Frames.{caller_of}
 use Rattle.napi_types.specs.parts.FunctionCalls.{on_functions}
-use Rattle.napi_types.specs.parts.HeapCalls.{HeapGroup, heap_call_groups}
+use Rattle.napi_types.specs.parts.HeapGroups.{HeapGroup, heap_call_groups}
 use Rattle.napi_types.specs.environment.Collection.{on_collection}
 use Rattle.napi_types.specs.environment.Environment.{Environment, in_heap}
 use Rattle.napi_types.specs.environment.ExceptionCalls.{on_exceptions, with_thrown_error}

@@ -1,17 +1,22 @@
 -- Functions: what makes one, and what a call of one gives the frame that it enters, and its caller.
-use Rattle.std.specs.Prelude.{ℕ, ◌+◌, List, [], ◌∷◌, length, take, replicate, ◌++◌, Option, Some, None}
+use Rattle.std.specs.Option.{option_or}
+use Rattle.std.specs.Prelude.{ℕ, ◌+◌, List, [], ◌∷◌, length, take, replicate, ◌++◌, Option, Some, None, ◌&&◌, ◌||◌, ◌==◌, is_none}
 use Rattle.napi_types.specs.declared.body.Body.TheVariants as body
 use Rattle.napi_types.specs.declared.call.Args.{Args}
 use Rattle.napi_types.specs.declared.call.Call.{Call}
 use Rattle.napi_types.specs.declared.call.Call.TheVariants as call
 use Rattle.napi_types.specs.declared.entry.Cause.TheVariants as cause
 use Rattle.napi_types.specs.declared.ids.HandleId.{HandleId}
+use Rattle.napi_types.specs.declared.status.Status.{Status}
+use Rattle.napi_types.specs.declared.status.Status.TheVariants as status
 use Rattle.napi_types.specs.plain.Arguments.{argument_handles}
+use Rattle.napi_types.specs.plain.Lists.{when, unless}
 use Rattle.napi_types.specs.plain.Replies.{Answer}
-use Rattle.napi_types.specs.parts.Bodies.{function_addon, function_entry, function_payload}
+use Rattle.napi_types.specs.parts.Bodies.{function_addon, function_entry, function_payload, is_function}
 use Rattle.napi_types.specs.parts.Frames.{Frame, frame_of}
 use Rattle.napi_types.specs.parts.Heap.{Heap, handle_value, handle_body}
 use Rattle.napi_types.specs.parts.HeapChanges.{new_value, with_handle}
+use Rattle.napi_types.specs.parts.Kinds.{expects_if}
 use Rattle.napi_types.specs.parts.Values.{undefined_value}
 
 -- `create_function` makes a function: an entry of the calling addon, with a payload that its frames are given
@@ -42,3 +47,12 @@ call_gifts heap receiver f args =
 abbrev pub left_value : Heap → Option HandleId → ℕ
 left_value heap None = undefined_value
 left_value heap (Some h) = handle_value heap h.0
+
+-- THEIR OWN REFUSALS
+-- only a function is called. A thread-safe function is made of a function where a value is named, has a function or a call-js entry, and is held by a
+-- thread at least
+abbrev pub function_refusal : Heap → Call → Option (Option Status)
+function_refusal heap (call.CallFunction _ f _) = Some (unless (is_function (handle_body heap f.0)) status.InvalidArg)
+function_refusal heap (call.CreateThreadsafeFunction f entry _ count _ _) =
+    Some (option_or (expects_if heap f is_function status.InvalidArg) (when ((is_none f && is_none entry) || (count == 0)) status.InvalidArg))
+function_refusal heap _ = None

@@ -1,6 +1,6 @@
 -- What a call answers and leaves that is told of the heap: one on values, properties or scopes, or that makes a function.
-use Rattle.std.specs.Prelude.{ℕ, Option, Some, None, List, [], ◌∷◌, map}
 use Rattle.std.specs.Option.{unwrap_or}
+use Rattle.std.specs.Prelude.{ℕ, Option, Some, None, List, map}
 use Rattle.napi_types.specs.declared.call.Call.{Call}
 use Rattle.napi_types.specs.declared.entry.Out.TheVariants as out
 use Rattle.napi_types.specs.declared.status.Status.{Status}
@@ -8,24 +8,8 @@ use Rattle.napi_types.specs.plain.Lists.{first_some}
 use Rattle.napi_types.specs.plain.Replies.{Answer, accepts, refuses}
 use Rattle.napi_types.specs.parts.FunctionCalls.{on_functions}
 use Rattle.napi_types.specs.parts.Heap.{Heap}
+use Rattle.napi_types.specs.parts.HeapGroups.{HeapGroup, heap_call_groups}
 use Rattle.napi_types.specs.parts.HeapRefusals.{refusal_in}
-use Rattle.napi_types.specs.parts.PropertyCalls.{on_properties}
-use Rattle.napi_types.specs.parts.ScopeCalls.{on_scopes}
-use Rattle.napi_types.specs.parts.ValueCalls.{on_values}
-use Rattle.napi_types.specs.parts.VersionCall.{on_version}
-
--- a group of calls that the heap tells: what it answers to a call of its own, and leaves, where n is the number that the call newly gives
-pub record HeapGroup : Type 0 where
-  pub answers : Heap → Call → ℕ → Option (Answer Heap)
-
--- those of them that do not ask which addon calls
-abbrev pub heap_call_groups : List HeapGroup
-heap_call_groups =
-    record { answers = λ heap c n. on_values heap c }
-    ∷ record { answers = λ heap c n. on_properties heap c }
-    ∷ record { answers = on_scopes }
-    ∷ record { answers = λ heap c n. on_version heap c }
-    ∷ []
 
 -- what each of these groups says of a call
 abbrev pub heap_groups : Heap → Call → ℕ → List (Option (Answer Heap))

@@ -1,13 +1,15 @@
 -- The refusals of the calls on references.
-use Rattle.std.specs.Prelude.{ℕ, ◌==◌, ◌&&◌, List, Option, None, is_some}
 use Rattle.std.specs.List.{list_all}
 use Rattle.std.specs.Option.{option_or}
+use Rattle.std.specs.Prelude.{ℕ, ◌==◌, ◌&&◌, List, Option, None, is_some, Some}
 use Rattle.napi_types.specs.declared.call.Call.{Call}
 use Rattle.napi_types.specs.declared.status.Status.{Status}
 use Rattle.napi_types.specs.declared.call.Call.TheVariants as call
 use Rattle.napi_types.specs.declared.status.Status.TheVariants as status
 use Rattle.napi_types.specs.plain.CallFacts.{facts_of}
 use Rattle.napi_types.specs.plain.Lists.{when, unless}
+use Rattle.napi_types.specs.parts.Bodies.{is_referable}
+use Rattle.napi_types.specs.parts.Heap.{Heap, handle_body}
 use Rattle.napi_types.specs.parts.References.{ReferenceMap, has_reference, referred_value, reference_count, most_count}
 
 -- REFERENCES
@@ -28,3 +30,9 @@ count_refusal m _ = None
 -- the first of both that applies
 abbrev pub reference_refusal : ReferenceMap → Call → Option Status
 reference_refusal m c = option_or (unknown_reference m c) (count_refusal m c)
+
+-- WHAT THE HEAP TELLS
+-- a reference is to an object, a function, an external or a symbol
+abbrev pub referring_refusal : Heap → Call → Option (Option Status)
+referring_refusal heap (call.CreateReference h _) = Some (unless (is_referable (handle_body heap h.0)) status.InvalidArg)
+referring_refusal heap _ = None

@@ -1,15 +1,18 @@
--- What the calls on scopes answer and leave where nothing refuses them.
+-- The calls on scopes: what they answer and leave where nothing refuses them, and their own refusals.
 use Rattle.std.specs.Prelude.{ℕ, ◌+◌, Option, Some, None}
 use Rattle.napi_types.specs.declared.call.Call.{Call}
 use Rattle.napi_types.specs.declared.call.Call.TheVariants as call
 use Rattle.napi_types.specs.declared.entry.Out.TheVariants as out
 use Rattle.napi_types.specs.declared.ids.ScopeKind.{ScopeKind}
 use Rattle.napi_types.specs.declared.ids.ScopeKind.TheVariants as scope_kind
+use Rattle.napi_types.specs.declared.status.Status.{Status}
 use Rattle.napi_types.specs.plain.Lists.{with_number}
 use Rattle.napi_types.specs.plain.Replies.{Answer, accepts}
 use Rattle.napi_types.specs.parts.Heap.{Heap, handle_value}
 use Rattle.napi_types.specs.parts.HeapChanges.{in_scopes}
 use Rattle.napi_types.specs.parts.ScopeChanges.{open_in, close_in, escape_in}
+use Rattle.napi_types.specs.parts.ScopeRefusals.{closing, escaping}
+use Rattle.napi_types.specs.parts.Scopes.{opened_scopes}
 
 -- a scope of this kind and the number n is open inside the innermost one
 abbrev pub with_scope : ScopeKind → ℕ → Heap → Heap
@@ -28,3 +31,11 @@ on_scopes heap (call.CloseHandleScope s) n = Some (accepts out.Nothing (in_scope
 on_scopes heap (call.CloseEscapableHandleScope s) n = Some (accepts out.Nothing (in_scopes close_in heap))
 on_scopes heap (call.EscapeHandle s h) n = Some (accepts (out.Handle (record { 0 = heap.handles + 1 })) (with_escaped s.0 (handle_value heap h.0) heap))
 on_scopes heap _ n = None
+
+-- THEIR OWN REFUSALS
+-- scopes close innermost first, and one handle escapes from an escapable scope
+abbrev pub scope_refusal : Heap → Call → Option (Option Status)
+scope_refusal heap (call.CloseHandleScope s) = Some (closing s.0 scope_kind.Plain (opened_scopes heap.scopes))
+scope_refusal heap (call.CloseEscapableHandleScope s) = Some (closing s.0 scope_kind.Escapable (opened_scopes heap.scopes))
+scope_refusal heap (call.EscapeHandle s _) = Some (escaping s.0 (opened_scopes heap.scopes))
+scope_refusal heap _ = None
