@@ -21,7 +21,7 @@ use Rattle.napi_types.specs.environment.Entering.{asked_change}
 use Rattle.napi_types.specs.environment.Environment.{Environment}
 use Rattle.napi_types.specs.hub.Hub.{Stage, Going, Drained}
 use Rattle.napi_types.specs.hub.HubMoves.{HubMove, Delivers, Closes, Finishes, hub_move}
-use Rattle.napi_types.specs.hub.HubSteps.{begin_step, delivery_entry}
+use Rattle.napi_types.specs.hub.HubEvents.{begin_step, delivery_entry}
 use Rattle.napi_types.specs.runs.Choice.{local_choice, local_choice_in, hub_choice}
 use Rattle.napi_types.specs.runs.Loop.{Event, Tickets, Moves, Goes, EndsLoop, Drains, FinalsCome}
 use Rattle.napi_types.specs.runs.Machine.{Machine}

@@ -25,7 +25,9 @@ use Rattle.napi_types.specs.environment.JournalRoom.{journal_room}
 use Rattle.napi_types.specs.environment.SharedCalls.{shared_entry}
 use Rattle.napi_types.specs.hub.HistoryRoom.{history_room}
 use Rattle.napi_types.specs.hub.Hub.{Hub}
-use Rattle.napi_types.specs.hub.HubSteps.{HubStep, hub_step, is_frame_end, frame_end_step}
+use Rattle.napi_types.specs.hub.HubStep.{HubStep}
+use Rattle.napi_types.specs.hub.HubEvents.{is_frame_end, frame_end_step}
+use Rattle.napi_types.specs.hub.HubSteps.{hub_step}
 use Rattle.napi_types.specs.runs.CallRoom.{room_of}
 use Rattle.napi_types.specs.runs.Machine.{Machine}
 use Rattle.napi_types.specs.runs.Run.{IsNext}

@@ -27,7 +27,8 @@ use Rattle.napi_types.specs.environment.Environment.{Environment}
 use Rattle.napi_types.specs.environment.SharedCalls.{shared_entry}
 use Rattle.napi_types.specs.hub.Hub.{stage_of, Stage, Before, Going, Looped, Drained, Final}
 use Rattle.napi_types.specs.hub.HubMoves.{HubMove, Delivers, Closes, Finishes, hub_move}
-use Rattle.napi_types.specs.hub.HubSteps.{hub_step, delivery_entry}
+use Rattle.napi_types.specs.hub.HubEvents.{delivery_entry}
+use Rattle.napi_types.specs.hub.HubSteps.{hub_step}
 use Rattle.napi_types.specs.runs.Choice.{local_choice, hub_choice, choice, is_idle, is_quiet}
 use Rattle.napi_types.specs.runs.Loop.{Event, Moves, EndsLoop}
 use Rattle.napi_types.specs.runs.Machine.{Machine}

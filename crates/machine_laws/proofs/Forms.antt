@@ -23,7 +23,8 @@ use Rattle.napi_types.specs.environment.Changes.{may_ask}
 use Rattle.napi_types.specs.environment.Ends.{end_change}
 use Rattle.napi_types.specs.environment.SharedCalls.{shared_entry}
 use Rattle.napi_types.specs.hub.HubMoves.{HubMove, Delivers, Closes, Finishes}
-use Rattle.napi_types.specs.hub.HubSteps.{hub_step, delivery_entry}
+use Rattle.napi_types.specs.hub.HubEvents.{delivery_entry}
+use Rattle.napi_types.specs.hub.HubSteps.{hub_step}
 use Rattle.napi_types.specs.runs.Choice.{choice}
 use Rattle.napi_types.specs.runs.Loop.{Event, Opens, Inits, Tickets, Moves, Goes, EndsLoop, Drains, FinalsCome, IsGone}
 use Rattle.napi_types.specs.runs.Machine.{Machine}

@@ -24,7 +24,9 @@ use Rattle.napi_types.specs.parts.Pool.{executed_by}
 use Rattle.napi_types.specs.scripts.Plans.{loaded_registers}
 use Rattle.napi_types.specs.hub.Hub.{Hub, Final, threads_left, workers_left}
 use Rattle.napi_types.specs.hub.HubCalls.{hub_answer, is_thread_call}
-use Rattle.napi_types.specs.hub.HubSteps.{hub_step, hub_step_of, is_gone_on, is_thread_there, is_thread_end, nothing_given, thread_step, is_worker_there, start_step, work_end_step, worker_step}
+use Rattle.napi_types.specs.hub.ThreadSteps.{is_gone_on, is_thread_there, is_thread_end, nothing_given, thread_step}
+use Rattle.napi_types.specs.hub.WorkerSteps.{is_worker_there, start_step, work_end_step, worker_step}
+use Rattle.napi_types.specs.hub.HubSteps.{hub_step, hub_step_of}
 use Rattle.napi_types.specs.runs.Machine.{Machine}
 use Rattle.napi_types.specs.runs.Run.{IsNext, IsRunBy}
 use Rattle.napi_types.specs.runs.Setting.{Setting, opening_of}

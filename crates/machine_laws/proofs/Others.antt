@@ -12,7 +12,9 @@ use Rattle.napi_types.specs.plain.Lists.{has_number}
 use Rattle.napi_types.specs.parts.Pool.{executed_by}
 use Rattle.napi_types.specs.hub.Hub.{Hub, left_of}
 use Rattle.napi_types.specs.hub.HubCalls.{hub_answer, is_thread_call}
-use Rattle.napi_types.specs.hub.HubSteps.{hub_step, hub_step_of, is_gone_on, is_thread_there, is_worker_there, nothing_given, is_thread_end, thread_step, thread_event, worker_step, worker_event, start_step, work_end_step}
+use Rattle.napi_types.specs.hub.ThreadSteps.{is_gone_on, is_thread_there, nothing_given, is_thread_end, thread_step, thread_event}
+use Rattle.napi_types.specs.hub.WorkerSteps.{is_worker_there, worker_step, worker_event, start_step, work_end_step}
+use Rattle.napi_types.specs.hub.HubSteps.{hub_step, hub_step_of}
 use Rattle.napi_types.specs.runs.Machine.{Machine}
 use Rattle.napi_types.specs.runs.Run.{IsNext}
 use Rattle.napi_types.specs.runs.Step.{has_room, step_of}

@@ -25,7 +25,9 @@ use Rattle.napi_types.specs.environment.Environment.{Environment}
 use Rattle.napi_types.specs.environment.SharedCalls.{shared_entry}
 use Rattle.napi_types.specs.hub.Hub.{Hub}
 use Rattle.napi_types.specs.hub.HubMoves.{HubMove, Delivers, Closes, Finishes, hub_move}
-use Rattle.napi_types.specs.hub.HubSteps.{HubStep, hub_step, begin_step, close_step, finish_step, frame_end_step, delivery_entry}
+use Rattle.napi_types.specs.hub.HubStep.{HubStep}
+use Rattle.napi_types.specs.hub.HubEvents.{begin_step, close_step, finish_step, frame_end_step, delivery_entry}
+use Rattle.napi_types.specs.hub.HubSteps.{hub_step}
 use Rattle.napi_types.specs.runs.Choice.{choice}
 use Rattle.napi_types.specs.runs.Loop.{Event, Tickets, Moves}
 use Rattle.napi_types.specs.runs.Machine.{Machine}

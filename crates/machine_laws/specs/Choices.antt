@@ -23,7 +23,9 @@ use Rattle.napi_types.specs.environment.Environment.{Environment}
 use Rattle.napi_types.specs.hub.Hub.{stage_of, Hub, Going, Drained, Final, stage_after, is_spent}
 use Rattle.napi_types.specs.hub.HubCalls.{is_thread_call}
 use Rattle.napi_types.specs.hub.HubMoves.{Delivers, hub_move}
-use Rattle.napi_types.specs.hub.HubSteps.{delivery_entry, is_thread_there, is_worker_there}
+use Rattle.napi_types.specs.hub.HubEvents.{delivery_entry}
+use Rattle.napi_types.specs.hub.ThreadSteps.{is_thread_there}
+use Rattle.napi_types.specs.hub.WorkerSteps.{is_worker_there}
 use Rattle.napi_types.specs.runs.Choice.{local_choice, hub_choice}
 use Rattle.napi_types.specs.runs.Loop.{Event, EndsLoop}
 use Rattle.napi_types.specs.runs.Machine.{Machine}

@@ -1,10 +1,15 @@
 -- The hub: its state, its answers to calls, what it does of its own, and its histories.
-pub mod Actors
-pub mod HistoryLaws
-pub mod HistoryRoom
 pub mod Hub
 pub mod HubCalls
 pub mod HubMoves
-pub mod HubOwners
+pub mod HubStep
+pub mod GivenSteps
+pub mod HubEvents
+pub mod ThreadSteps
+pub mod WorkerSteps
 pub mod HubSteps
+pub mod HubOwners
+pub mod Actors
+pub mod HistoryLaws
+pub mod HistoryRoom
 pub mod Replays

@@ -34,7 +34,10 @@ use Rattle.napi_types.specs.environment.SharedCalls.{shared_entry}
 use Rattle.napi_types.specs.hub.HistoryRoom.{history_room, reserved_history}
 use Rattle.napi_types.specs.hub.Hub.{Hub, is_past_drain, Stage, Before, Going, Looped, Drained, Final, left_of, is_spent}
 use Rattle.napi_types.specs.hub.HubMoves.{HubMove, Delivers, Closes, Finishes, hub_move}
-use Rattle.napi_types.specs.hub.HubSteps.{hub_step, hub_step_of, thread_step, worker_step, delivery_entry}
+use Rattle.napi_types.specs.hub.HubEvents.{delivery_entry}
+use Rattle.napi_types.specs.hub.ThreadSteps.{thread_step}
+use Rattle.napi_types.specs.hub.WorkerSteps.{worker_step}
+use Rattle.napi_types.specs.hub.HubSteps.{hub_step, hub_step_of}
 use Rattle.napi_types.specs.runs.CallRoom.{room_of}
 use Rattle.napi_types.specs.runs.Choice.{local_choice, local_choice_in, hub_choice_at, hub_choice, choice, is_idle, is_quiet}
 use Rattle.napi_types.specs.runs.Loop.{Event, Inits, Opens, Tickets, Moves, Goes, EndsLoop, Drains, FinalsCome, IsGone}

@@ -28,7 +28,8 @@ use Rattle.napi_types.specs.environment.Roots.{roots}
 use Rattle.napi_types.specs.environment.SharedCalls.{shared_entry}
 use Rattle.napi_types.specs.hub.HubCalls.{is_thread_call}
 use Rattle.napi_types.specs.hub.HubMoves.{HubMove, Delivers, Closes, Finishes}
-use Rattle.napi_types.specs.hub.HubSteps.{hub_step, delivery_entry}
+use Rattle.napi_types.specs.hub.HubEvents.{delivery_entry}
+use Rattle.napi_types.specs.hub.HubSteps.{hub_step}
 use Rattle.napi_types.specs.runs.Choice.{choice}
 use Rattle.napi_types.specs.runs.Loop.{Event, Tickets, Moves, Goes, EndsLoop, Drains, FinalsCome}
 use Rattle.napi_types.specs.runs.Machine.{Machine}

@@ -37,7 +37,8 @@ use Rattle.napi_types.specs.environment.SharedCalls.{shared_entry}
 use Rattle.napi_types.specs.environment.Tickets.{hooks_left, ticket_in}
 use Rattle.napi_types.specs.hub.Hub.{Hub}
 use Rattle.napi_types.specs.hub.HubMoves.{HubMove, Delivers, Closes, Finishes, hub_move}
-use Rattle.napi_types.specs.hub.HubSteps.{hub_step, begin_step, delivery_entry}
+use Rattle.napi_types.specs.hub.HubEvents.{begin_step, delivery_entry}
+use Rattle.napi_types.specs.hub.HubSteps.{hub_step}
 use Rattle.napi_types.specs.runs.Machine.{Machine}
 use Rattle.napi_types.specs.runs.Run.{IsRunBy, after}
 use Rattle.napi_types.specs.runs.Setting.{Setting, opening_of}

@@ -41,7 +41,10 @@ use Rattle.napi_types.specs.environment.Tickets.{ticket_change}
 use Rattle.napi_types.specs.hub.Hub.{Hub, Stage, Before, Going, Looped, Drained, Final, stage_after, quiet_hub}
 use Rattle.napi_types.specs.hub.HubCalls.{is_thread_call, hub_answer}
 use Rattle.napi_types.specs.hub.HubMoves.{hub_move}
-use Rattle.napi_types.specs.hub.HubSteps.{hub_step, hub_step_of, staged, drained_hub, is_thread_there, nothing_given, is_thread_end, thread_step, thread_event, is_worker_there, worker_step, worker_event, start_step, work_end_step}
+use Rattle.napi_types.specs.hub.HubEvents.{staged, drained_hub}
+use Rattle.napi_types.specs.hub.ThreadSteps.{is_thread_there, nothing_given, is_thread_end, thread_step, thread_event}
+use Rattle.napi_types.specs.hub.WorkerSteps.{is_worker_there, worker_step, worker_event, start_step, work_end_step}
+use Rattle.napi_types.specs.hub.HubSteps.{hub_step, hub_step_of}
 use Rattle.napi_types.specs.runs.Choice.{local_choice_in, local_choice, hub_choice_at, hub_choice, choice}
 use Rattle.napi_types.specs.runs.Loop.{Event, Opens, Inits, Tickets, Moves, Goes, EndsLoop, Drains, FinalsCome, IsGone}
 use Rattle.napi_types.specs.runs.Machine.{Machine}

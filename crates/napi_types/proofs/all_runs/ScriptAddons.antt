@@ -39,7 +39,11 @@ use Rattle.napi_types.specs.hub.Hub.{Hub}
 use Rattle.napi_types.specs.hub.HubCalls.{no_target}
 use Rattle.napi_types.specs.hub.HubMoves.{HubMove, Delivers, Closes, Finishes, hub_move}
 use Rattle.napi_types.specs.hub.HubOwners.{IsFunctionOf, IsOwnedHub}
-use Rattle.napi_types.specs.hub.HubSteps.{HubStep, environment_step, thread_step, worker_step, hub_step, hub_step_of, delivery_entry}
+use Rattle.napi_types.specs.hub.HubStep.{HubStep}
+use Rattle.napi_types.specs.hub.HubEvents.{delivery_entry}
+use Rattle.napi_types.specs.hub.ThreadSteps.{thread_step}
+use Rattle.napi_types.specs.hub.WorkerSteps.{worker_step}
+use Rattle.napi_types.specs.hub.HubSteps.{environment_step, hub_step, hub_step_of}
 use Rattle.napi_types.specs.runs.Choice.{choice}
 use Rattle.napi_types.specs.runs.Loop.{Event, Inits, Tickets, Moves, Goes, EndsLoop, Drains, FinalsCome}
 use Rattle.napi_types.specs.runs.Machine.{Machine}

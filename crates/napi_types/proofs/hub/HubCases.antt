@@ -30,7 +30,12 @@ use Rattle.napi_types.specs.parts.Works.{is_created, is_queued, is_deletable}
 use Rattle.napi_types.specs.hub.Hub.{Hub, stage_after, threads_left, workers_left}
 use Rattle.napi_types.specs.hub.HubCalls.{unless_refused, on_function, function_at, call_answer, called_answer, with_function, hub_answer, is_thread_call}
 use Rattle.napi_types.specs.hub.HubMoves.{HubMove, Delivers, Closes, Finishes, hub_move, in_pool, in_function, with_delivered}
-use Rattle.napi_types.specs.hub.HubSteps.{HubStep, hub_step, hub_step_of, environment_step, environment_event, is_looped, is_failure, is_timely, is_fresh_work, work_number, answer_unless_given, given_step, answered_step, staged, drained_hub, loop_end_step, begin_step, close_step, finish_step, frame_end_step, is_thread_there, nothing_given, thread_step, thread_event, worker_step, worker_event, start_step, work_end_step}
+use Rattle.napi_types.specs.hub.HubStep.{HubStep, answered_step}
+use Rattle.napi_types.specs.hub.GivenSteps.{is_looped, is_failure, is_timely, is_fresh_work, work_number, answer_unless_given, given_step}
+use Rattle.napi_types.specs.hub.HubEvents.{environment_event, staged, drained_hub, loop_end_step, begin_step, close_step, finish_step, frame_end_step}
+use Rattle.napi_types.specs.hub.ThreadSteps.{is_thread_there, nothing_given, thread_step, thread_event}
+use Rattle.napi_types.specs.hub.WorkerSteps.{worker_step, worker_event, start_step, work_end_step}
+use Rattle.napi_types.specs.hub.HubSteps.{hub_step, hub_step_of, environment_step}
 use Rattle.napi_types.proofs.plain.Conditions.{and-left, and-right}
 
 -- how a call changes the function that it names

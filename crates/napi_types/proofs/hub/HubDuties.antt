@@ -32,7 +32,12 @@ use Rattle.napi_types.specs.parts.Works.{is_created, is_queued, is_deletable, Wo
 use Rattle.napi_types.specs.hub.Hub.{Hub}
 use Rattle.napi_types.specs.hub.HubCalls.{is_thread_call, hub_answer, unless_refused, on_function, function_at, item_made, call_answer, called_answer, finalizer_duty, new_function_number}
 use Rattle.napi_types.specs.hub.HubMoves.{HubMove, Delivers, Closes, Finishes, hub_move, function_move, function_move_in, first_move}
-use Rattle.napi_types.specs.hub.HubSteps.{hub_step, hub_step_of, environment_step, environment_event, loop_end_step, begin_step, close_step, finish_step, frame_end_step, answered_step, given_step, work_number, is_thread_there, nothing_given, answer_unless_given, thread_step, thread_event, worker_step, worker_event, start_step, work_end_step}
+use Rattle.napi_types.specs.hub.HubStep.{answered_step}
+use Rattle.napi_types.specs.hub.GivenSteps.{given_step, work_number, answer_unless_given}
+use Rattle.napi_types.specs.hub.HubEvents.{environment_event, loop_end_step, begin_step, close_step, finish_step, frame_end_step}
+use Rattle.napi_types.specs.hub.ThreadSteps.{is_thread_there, nothing_given, thread_step, thread_event}
+use Rattle.napi_types.specs.hub.WorkerSteps.{worker_step, worker_event, start_step, work_end_step}
+use Rattle.napi_types.specs.hub.HubSteps.{hub_step, hub_step_of, environment_step}
 
 -- WHAT A MOVE DELIVERS
 -- a duty of the hub, and never a ticket: neither a call nor a hook begins its frame

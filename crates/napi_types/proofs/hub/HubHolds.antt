@@ -26,7 +26,8 @@ use Rattle.napi_types.specs.hub.HistoryRoom.{function_places, reserved_history}
 use Rattle.napi_types.specs.hub.Hub.{stage_places, Hub, Stage, Before, Going, Looped, Drained, Final, new_hub, stage_after, is_past_drain, threads_left, workers_left, is_spent}
 use Rattle.napi_types.specs.hub.HubCalls.{new_function_number}
 use Rattle.napi_types.specs.hub.HubMoves.{HubMove, Delivers, Closes, Finishes, function_move_in, function_move, first_move, hub_move, in_function, without_duty, with_delivered}
-use Rattle.napi_types.specs.hub.HubSteps.{is_looped, is_fresh_work, work_number, staged}
+use Rattle.napi_types.specs.hub.GivenSteps.{is_looped, is_fresh_work, work_number}
+use Rattle.napi_types.specs.hub.HubEvents.{staged}
 use Rattle.napi_types.proofs.plain.Conditions.{and-left, and-right}
 use Rattle.napi_types.proofs.hub.HubCases.{HubCase, creates_work, deletes_work, cancels_work, queues_work, creates_function, alters, goes, ends_loop, drains, comes_to_finals, delivers, closes, finishes, starts, finishes_work}
 use Rattle.napi_types.proofs.hub.HubFunctions.{is_over, IsSound, AreSoundFrom, fewer-sound, more-sound, IsAmong, found-among, Grows, alters-grows, all_closed-sound, DutyFalls, Moves, first-moves}

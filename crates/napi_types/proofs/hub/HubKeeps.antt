@@ -24,7 +24,12 @@ use Rattle.napi_types.specs.hub.HistoryLaws.{KeepsStanding}
 use Rattle.napi_types.specs.hub.Hub.{Hub}
 use Rattle.napi_types.specs.hub.HubCalls.{is_thread_call, hub_answer, unless_refused, on_function, function_at, call_answer, called_answer}
 use Rattle.napi_types.specs.hub.HubMoves.{HubMove, Delivers, Closes, Finishes, hub_move}
-use Rattle.napi_types.specs.hub.HubSteps.{hub_step, hub_step_of, environment_step, environment_event, loop_end_step, begin_step, close_step, finish_step, frame_end_step, answered_step, given_step, work_number, is_thread_there, nothing_given, answer_unless_given, thread_step, thread_event, worker_step, worker_event, start_step, work_end_step}
+use Rattle.napi_types.specs.hub.HubStep.{answered_step}
+use Rattle.napi_types.specs.hub.GivenSteps.{given_step, work_number, answer_unless_given}
+use Rattle.napi_types.specs.hub.HubEvents.{environment_event, loop_end_step, begin_step, close_step, finish_step, frame_end_step}
+use Rattle.napi_types.specs.hub.ThreadSteps.{is_thread_there, nothing_given, thread_step, thread_event}
+use Rattle.napi_types.specs.hub.WorkerSteps.{worker_step, worker_event, start_step, work_end_step}
+use Rattle.napi_types.specs.hub.HubSteps.{hub_step, hub_step_of, environment_step}
 use Rattle.napi_types.specs.plain.Guards.{is_shared}
 use Rattle.napi_types.proofs.plain.Conditions.{and-right}
 

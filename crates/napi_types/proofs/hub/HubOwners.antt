@@ -37,7 +37,12 @@ use Rattle.napi_types.specs.hub.Hub.{Hub}
 use Rattle.napi_types.specs.hub.HubCalls.{hub_answer, unless_refused, on_function, function_at, call_answer, called_answer, no_target, is_thread_call}
 use Rattle.napi_types.specs.hub.HubMoves.{HubMove, Delivers, Closes, Finishes, function_move_in, first_move, hub_move, in_function, without_duty}
 use Rattle.napi_types.specs.hub.HubOwners.{IsFunctionOf, IsOwnedHub}
-use Rattle.napi_types.specs.hub.HubSteps.{answered_step, given_step, answer_unless_given, work_number, is_thread_there, nothing_given, thread_call_step, thread_event, thread_step, start_step, work_end_step, worker_step, hub_step_of, hub_step, begin_step, close_step, finish_step, frame_end_step, loop_end_step, environment_event}
+use Rattle.napi_types.specs.hub.HubStep.{answered_step}
+use Rattle.napi_types.specs.hub.GivenSteps.{given_step, answer_unless_given, work_number}
+use Rattle.napi_types.specs.hub.HubEvents.{begin_step, close_step, finish_step, frame_end_step, loop_end_step, environment_event}
+use Rattle.napi_types.specs.hub.ThreadSteps.{is_thread_there, nothing_given, thread_call_step, thread_event, thread_step}
+use Rattle.napi_types.specs.hub.WorkerSteps.{start_step, work_end_step, worker_step}
+use Rattle.napi_types.specs.hub.HubSteps.{hub_step_of, hub_step}
 use Rattle.napi_types.proofs.plain.Conditions.{and-right}
 use Rattle.napi_types.proofs.plain.Maps.{All-with_record}
 use Rattle.napi_types.proofs.hub.HubKeeps.{answered-may}

@@ -25,7 +25,8 @@ use Rattle.napi_types.specs.hub.HistoryRoom.{work_places, function_places, reser
 use Rattle.napi_types.specs.hub.Hub.{stage_places, Hub, Stage, Before, Going, Looped, Drained, stage_after, left_of, threads_left, workers_left}
 use Rattle.napi_types.specs.hub.HubCalls.{new_function_number}
 use Rattle.napi_types.specs.hub.HubMoves.{HubMove, Delivers, Closes, Finishes, first_move, hub_move, in_pool, in_function, without_duty, with_delivered}
-use Rattle.napi_types.specs.hub.HubSteps.{is_looped, work_number, staged, drained_hub}
+use Rattle.napi_types.specs.hub.GivenSteps.{is_looped, work_number}
+use Rattle.napi_types.specs.hub.HubEvents.{staged, drained_hub}
 use Rattle.napi_types.proofs.plain.Conditions.{and-left}
 use Rattle.napi_types.proofs.plain.Found.{has-found, has-with_number, turned}
 use Rattle.napi_types.proofs.plain.Maps.{length-with_record}

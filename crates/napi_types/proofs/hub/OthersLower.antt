@@ -29,7 +29,9 @@ use Rattle.napi_types.specs.hub.HistoryRoom.{history_room, state_places, work_pl
 use Rattle.napi_types.specs.hub.Hub.{stage_places, Hub, left_of, threads_left, workers_left, is_past_drain}
 use Rattle.napi_types.specs.hub.HubCalls.{is_thread_call}
 use Rattle.napi_types.specs.hub.HubMoves.{in_function}
-use Rattle.napi_types.specs.hub.HubSteps.{IsHubNext, hub_step, hub_step_of, hub_along, thread_step, thread_event, worker_step, worker_event}
+use Rattle.napi_types.specs.hub.ThreadSteps.{thread_step, thread_event}
+use Rattle.napi_types.specs.hub.WorkerSteps.{worker_step, worker_event}
+use Rattle.napi_types.specs.hub.HubSteps.{IsHubNext, hub_step, hub_step_of, hub_along}
 use Rattle.napi_types.specs.hub.Replays.{HubReplays}
 use Rattle.napi_types.proofs.plain.Found.{has-found}
 use Rattle.napi_types.proofs.hub.Executions.{loses-one, wins-one, left-one, HoldsOfHub, step-holds, led-holds}

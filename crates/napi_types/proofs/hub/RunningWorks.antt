@@ -29,7 +29,11 @@ use Rattle.napi_types.specs.hub.Actors.{is_worker}
 use Rattle.napi_types.specs.hub.HistoryLaws.{StaysRunning, RunningStaysRunning}
 use Rattle.napi_types.specs.hub.Hub.{Hub, new_hub}
 use Rattle.napi_types.specs.hub.HubMoves.{in_pool, without_duty}
-use Rattle.napi_types.specs.hub.HubSteps.{HubStep, IsHubNext, hub_along, hub_step, hub_step_of, environment_step, given_step, answered_step, answer_unless_given, is_timely, is_fresh_work, work_number, thread_step, is_thread_there, worker_step}
+use Rattle.napi_types.specs.hub.HubStep.{HubStep, answered_step}
+use Rattle.napi_types.specs.hub.GivenSteps.{given_step, answer_unless_given, is_timely, is_fresh_work, work_number}
+use Rattle.napi_types.specs.hub.ThreadSteps.{thread_step, is_thread_there}
+use Rattle.napi_types.specs.hub.WorkerSteps.{worker_step}
+use Rattle.napi_types.specs.hub.HubSteps.{IsHubNext, hub_along, hub_step, hub_step_of, environment_step}
 use Rattle.napi_types.specs.hub.Replays.{HubReplays}
 use Rattle.napi_types.proofs.plain.Conditions.{and-right}
 use Rattle.napi_types.proofs.plain.Found.{IsRising, same-tells, same-self, apart-below, found-first, found-later, parts-rising, rising-filter, rising-with_record, rising-changed, has-with_number}

@@ -17,7 +17,9 @@ use Rattle.napi_types.specs.hub.Actors.{is_worker, WorkerState, Free, Working, O
 use Rattle.napi_types.specs.hub.HistoryLaws.{WorkersTakeTurns}
 use Rattle.napi_types.specs.hub.Hub.{Hub, new_hub, left_of, workers_left}
 use Rattle.napi_types.specs.hub.HubMoves.{without_duty}
-use Rattle.napi_types.specs.hub.HubSteps.{hub_step, hub_step_of, environment_step, is_worker_there, thread_step, worker_step, start_step, work_end_step}
+use Rattle.napi_types.specs.hub.ThreadSteps.{thread_step}
+use Rattle.napi_types.specs.hub.WorkerSteps.{is_worker_there, worker_step, start_step, work_end_step}
+use Rattle.napi_types.specs.hub.HubSteps.{hub_step, hub_step_of, environment_step}
 use Rattle.napi_types.specs.hub.Replays.{HubReplays}
 use Rattle.napi_types.proofs.plain.Conditions.{and-left, and-right}
 use Rattle.napi_types.proofs.plain.Found.{same-tells, same-self, found-filter, found-with_record, turned}

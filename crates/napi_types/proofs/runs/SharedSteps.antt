@@ -20,7 +20,11 @@ use Rattle.napi_types.specs.environment.SharedCalls.{shared_entry, with_root, af
 use Rattle.napi_types.specs.hub.Hub.{Hub}
 use Rattle.napi_types.specs.hub.HubCalls.{is_thread_call}
 use Rattle.napi_types.specs.hub.HubMoves.{HubMove, Delivers, Closes, Finishes, hub_move}
-use Rattle.napi_types.specs.hub.HubSteps.{HubStep, hub_step, hub_step_of, environment_step, begin_step, close_step, finish_step, frame_end_step, delivery_entry, thread_step, thread_event, worker_step, worker_event}
+use Rattle.napi_types.specs.hub.HubStep.{HubStep}
+use Rattle.napi_types.specs.hub.HubEvents.{begin_step, close_step, finish_step, frame_end_step, delivery_entry}
+use Rattle.napi_types.specs.hub.ThreadSteps.{thread_step, thread_event}
+use Rattle.napi_types.specs.hub.WorkerSteps.{worker_step, worker_event}
+use Rattle.napi_types.specs.hub.HubSteps.{hub_step, hub_step_of, environment_step}
 use Rattle.napi_types.specs.runs.Machine.{Machine}
 use Rattle.napi_types.specs.runs.Step.{answered_by, move_step, other_step}
 use Rattle.napi_types.proofs.environment.FrameChanges.{hangings_of}

@@ -30,7 +30,8 @@ use Rattle.napi_types.specs.environment.SharedCalls.{shared_entry}
 use Rattle.napi_types.specs.environment.Tickets.{ticket_change, ticket_in, next_ticket}
 use Rattle.napi_types.specs.hub.Hub.{stage_of, Stage, Before, Going, Looped, Drained, Final, stage_after, is_spent}
 use Rattle.napi_types.specs.hub.HubMoves.{HubMove, hub_move}
-use Rattle.napi_types.specs.hub.HubSteps.{hub_step, is_moving}
+use Rattle.napi_types.specs.hub.HubEvents.{is_moving}
+use Rattle.napi_types.specs.hub.HubSteps.{hub_step}
 use Rattle.napi_types.specs.runs.Choice.{local_choice, local_choice_in, idle_choice, is_idle, is_quiet, finals_choice, hub_choice_at}
 use Rattle.napi_types.specs.runs.Loop.{Inits, Opens, Tickets, Moves, Goes, EndsLoop, FinalsCome, IsGone}
 use Rattle.napi_types.specs.runs.Machine.{Machine}

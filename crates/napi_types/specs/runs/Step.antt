@@ -29,7 +29,9 @@ use Rattle.napi_types.specs.environment.SharedCalls.{shared_entry, after_shared,
 use Rattle.napi_types.specs.environment.Tickets.{ticket_change}
 use Rattle.napi_types.specs.hub.HistoryRoom.{history_room}
 use Rattle.napi_types.specs.hub.HubMoves.{HubMove, Delivers, Closes, Finishes}
-use Rattle.napi_types.specs.hub.HubSteps.{HubStep, hub_step, delivery_entry}
+use Rattle.napi_types.specs.hub.HubStep.{HubStep}
+use Rattle.napi_types.specs.hub.HubEvents.{delivery_entry}
+use Rattle.napi_types.specs.hub.HubSteps.{hub_step}
 use Rattle.napi_types.specs.runs.CallRoom.{room_of}
 use Rattle.napi_types.specs.runs.Choice.{choice}
 use Rattle.napi_types.specs.runs.Loop.{Event, Opens, Inits, Tickets, Moves, Goes, EndsLoop, Drains, FinalsCome, IsGone}
