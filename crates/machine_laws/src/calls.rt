@@ -4,59 +4,57 @@ ghost use Rattle.machine_laws.specs.CallLaws.{OnlyFunctionsAreServed, EachDutyHa
 ghost use Rattle.machine_laws.specs.CallLaws.{EveryCallHasARow, RefusedCallsChangeNothing, ErrorNamesAreFixed, ReferencesAreNamedAlone, HooksAreNamedAlone};
 ghost use Rattle.machine_laws.specs.CallLaws.{ExitChangesNothingElse};
 
-/// A refused call answers the first refusal that applies and changes nothing, but that the depth limit leaves its error pending.
-pub fn refused_calls_change_nothing()
-    ensures { RefusedCallsChangeNothing }
-{}
+/// What refuses a call, and what a refused call changes.
+pub fn refusals()
+    // A refused call answers the first refusal that applies and changes nothing, but that the depth limit leaves its error pending.
+    ensures nothing { RefusedCallsChangeNothing }
 
-/// A handle that no open scope holds is an invalid argument, and each call that names it changes nothing.
-pub fn refuses_unknown_handles()
+    // A handle that no open scope holds is an invalid argument, and each call that names it changes nothing.
     ensures unknown { RefusesUnknownHandles }
     ensures rows { RefusesUnknownInEachRow }
+
+    // A call of which all handles and texts are known is not refused for one.
     ensures known { TakesKnownHandles }
+
+    // A call that names a reference names no handle and no text, so that the order of their refusals shows nowhere.
+    ensures references { ReferencesAreNamedAlone }
+
+    // A call on hooks names no reference, no handle and no text, so that the order of its refusals shows nowhere.
+    ensures hooks { HooksAreNamedAlone }
 {}
 
-/// An external is no object: only a type tag may be on it. It is read as an external, and a number is not.
-pub fn tells_externals_from_objects()
+/// Which kinds of values calls take.
+pub fn kinds()
+    // An external is no object: only a type tag may be on it.
     ensures tagged { ExternalsAreTaggedOnly }
+
+    // It is read as an external, and a number is not.
     ensures read { OnlyExternalsAreRead }
+
+    // A thread-safe function is made of a function, or of none with a call-js entry, where a thread holds it. It is not made of a number, with
+    // neither, or held by none.
+    ensures served { OnlyFunctionsAreServed }
 {}
 
-/// A thread-safe function is made of a function, or of none with a call-js entry, where a thread holds it. It is not made of a number, with neither,
-/// or held by none.
-pub fn serves_functions_only()
-    ensures { OnlyFunctionsAreServed }
-{}
-
-/// A local call that registers something has places for its frame, and each call that registers grows, but the one that queues a work.
-pub fn each_duty_has_places()
+/// What calls need, and which of them grow.
+pub fn needs()
+    // A local call that registers something has places for its frame.
     ensures places { EachDutyHasPlaces }
+
+    // Each call that registers grows, but the one that queues a work.
     ensures memory { RegisteringCallsGrow }
+
+    // What calls on works and on thread-safe functions need, and which calls grow.
+    ensures shared { NeedsAndGrowth }
 {}
 
-/// What calls on works and on thread-safe functions need, and which calls grow.
-pub fn needs_and_growth()
-    ensures { NeedsAndGrowth }
-{}
+/// Which group of calls answers a call.
+pub fn rows()
+    // Each call but that of a function, which enters a frame, is answered by exactly one group of calls.
+    ensures one { EveryCallHasARow }
 
-/// Each call but that of a function, which enters a frame, is answered by exactly one group of calls.
-pub fn every_call_has_a_row()
-    ensures { EveryCallHasARow }
-{}
-
-/// An error's properties are named by the texts `message` and `code`.
-pub fn error_names_are_fixed()
-    ensures { ErrorNamesAreFixed }
-{}
-
-/// A call that names a reference names no handle and no text, so that the order of their refusals shows nowhere.
-pub fn references_are_named_alone()
-    ensures { ReferencesAreNamedAlone }
-{}
-
-/// A call on hooks names no reference, no handle and no text, so that the order of its refusals shows nowhere.
-pub fn hooks_are_named_alone()
-    ensures { HooksAreNamedAlone }
+    // An error's properties are named by the texts `message` and `code`.
+    ensures names { ErrorNamesAreFixed }
 {}
 
 /// `exit` is never refused and ends no frame. It changes nothing but that exit was asked, the last status and the count of asks.

@@ -2,22 +2,20 @@
 ghost use Rattle.machine_laws.specs.ConsistencyMisses.{IsStrict};
 ghost use Rattle.machine_laws.specs.HandleLaws.{EnvironmentsAreConsistent, AcceptedHandlesAreOpen, HandlesAreStable};
 
-/// At every moment of a run handles, values and frames fit together.
+/// Handles, values and frames fit together.
 pub fn environments_are_consistent()
-    ensures { EnvironmentsAreConsistent }
+    // At every moment of a run handles, values and frames fit together.
+    ensures runs { EnvironmentsAreConsistent }
+
+    // Environments that miss one fact of a consistent one are not consistent, and those that they are made of are.
+    ensures strict { IsStrict }
 {}
 
-/// Environments that miss one fact of a consistent one are not consistent, and those that they are made of are.
-pub fn consistency_is_strict()
-    ensures { IsStrict }
-{}
-
-/// A handle that an accepted call names lies in an open scope.
-pub fn accepted_handles_are_open()
-    ensures { AcceptedHandlesAreOpen }
-{}
-
-/// At any two moments of a run at which an open scope holds a handle, it gives the same value.
+/// What a handle gives.
 pub fn handles_are_stable()
-    ensures { HandlesAreStable }
+    // A handle that an accepted call names lies in an open scope.
+    ensures open { AcceptedHandlesAreOpen }
+
+    // At any two moments of a run at which an open scope holds a handle, it gives the same value.
+    ensures stable { HandlesAreStable }
 {}

@@ -1,4 +1,4 @@
-//! What the machine's definitions come to, as laws: each function does nothing, and its contract states a law.
+//! What the machine's definitions come to, as laws: each function does nothing, and each clause of its contract states a law.
 //! Worked runs of scripts are such laws, and so is what holds over all calls and all runs. No crate stands on this one,
 //! so that a definition's change proves no more than the laws of it. The laws that proofs above cite stand in `napi_types`.
 #![tactic(auto)]

@@ -2,24 +2,19 @@
 ghost use Rattle.machine_laws.specs.FunctionRoots.{NewFunctionsKeepTheirValue, FunctionsKeepUntilTheyFinish, FinishedFunctionsKeepNone};
 ghost use Rattle.machine_laws.specs.RunLaws.{FrontsAreRuns, RunsAreComputed, EntriesCountOnTheirList, OthersLeaveRegisters, ReachIsLeast};
 
-/// A run, and what computes to be one, are the same.
-pub fn runs_are_computed()
-    ensures { RunsAreComputed }
-{}
+/// What a run is made of.
+pub fn runs()
+    // A run, and what computes to be one, are the same.
+    ensures computed { RunsAreComputed }
 
-/// What came of a run up to any moment is a run.
-pub fn fronts_are_runs()
-    ensures { FrontsAreRuns }
-{}
+    // What came of a run up to any moment is a run.
+    ensures fronts { FrontsAreRuns }
 
-/// Each entry is counted on the list on which it stands, and on no other.
-pub fn entries_count_on_their_list()
-    ensures { EntriesCountOnTheirList }
-{}
+    // Each entry is counted on the list on which it stands, and on no other.
+    ensures lists { EntriesCountOnTheirList }
 
-/// Entries of threads and workers ask nothing of an addon and change no register.
-pub fn others_leave_registers()
-    ensures { OthersLeaveRegisters }
+    // Entries of threads and workers ask nothing of an addon and change no register.
+    ensures registers { OthersLeaveRegisters }
 {}
 
 /// What roots reach is the least set of the numbers of values that has each root and each child of its members.

@@ -1,0 +1,137 @@
+use Rattle.std.proofs.Common.{◌≡◌, ℕ, ◌∙◌, ap, refl, Option, Some, None, ◌==◌, arith, true, false, ◌&&◌, is_some, nat_lt}
+use Rattle.std.specs.Option.{option_or, unwrap_or}
+use Rattle.std.specs.List.{list_all}
+use Rattle.napi_types.specs.declared.call.Call.{Call}
+use Rattle.napi_types.specs.declared.call.Call.TheVariants as call
+use Rattle.napi_types.specs.declared.entry.Out.TheVariants as out
+use Rattle.napi_types.specs.declared.status.Status.{Status}
+use Rattle.napi_types.specs.declared.status.Status.TheVariants as status
+use Rattle.napi_types.specs.plain.Lists.{has_number, one, unless}
+use Rattle.napi_types.specs.plain.Replies.{plain}
+use Rattle.napi_types.specs.parts.AttachmentRefusals.{attachment_refusal}
+use Rattle.napi_types.specs.parts.ExpectedKinds.{kind_refusal}
+use Rattle.napi_types.specs.parts.Frames.{caller_of}
+use Rattle.napi_types.specs.parts.HeapRefusals.{refusal_in}
+use Rattle.napi_types.specs.parts.HookRefusals.{hook_refusal}
+use Rattle.napi_types.specs.parts.NamedNumbers.{handles_of, texts_of, unknown_refusal}
+use Rattle.napi_types.specs.parts.OwnRefusals.{row_refusal}
+use Rattle.napi_types.specs.parts.ReferenceRefusals.{reference_refusal}
+use Rattle.napi_types.specs.parts.Scopes.{gives}
+use Rattle.napi_types.specs.environment.Calls.{answer_unless_deep}
+use Rattle.napi_types.specs.environment.Environment.{Environment}
+use Rattle.napi_types.specs.environment.Moments.{moment_refusal}
+use Rattle.napi_types.specs.environment.Refusals.{early_refusal, depth_refusal, attached_refusal, timely_refusal}
+use Rattle.machine_laws.specs.CallLaws.{RefusedCallsChangeNothing, RefusesUnknownHandles, RefusesUnknownInEachRow, TakesKnownHandles}
+use Rattle.machine_laws.proofs.Naming.{named-alone, hooks-alone, fails-all, passes-all}
+use Rattle.machine_laws.proofs.calls.refusals.Goals as goal
+
+reply-of : (e : Environment) (c : Call) (n : ℕ) (early deep : Option Status) (s : Status) → option_or early deep ≡ Some s → (answer_unless_deep e c n early deep).reply ≡ plain s out.Nothing
+reply-of e c n (Some r) None s h = ap (λ o. (answer_unless_deep e c n o None).reply) h
+reply-of e c n (Some r) (Some d) s h = ap (λ o. (answer_unless_deep e c n o (Some d)).reply) h
+reply-of e c n None (Some d) s h = ap (λ o. (answer_unless_deep e c n None o).reply) h
+reply-of e c n None None s h = cc
+
+same-after : (e : Environment) (c : Call) (n : ℕ) (s : Status) (deep : Option Status) → (answer_unless_deep e c n (Some s) deep).after ≡ e
+same-after e c n s None = refl
+same-after e c n s (Some d) = refl
+
+law : RefusedCallsChangeNothing
+law e c n s = record {
+  reply = reply-of e c n (early_refusal e c) (depth_refusal e.frames c) s;
+  after = λ h. ap (λ o. (answer_unless_deep e c n o (depth_refusal e.frames c)).after) h ∙ same-after e c n s (depth_refusal e.frames c);
+  depth = λ none deep. ap (λ o. (answer_unless_deep e c n o (depth_refusal e.frames c)).after) none ∙ ap (λ o. (answer_unless_deep e c n None o).after) deep;
+}
+
+pub returns-clause-nothing : goal.returns-clause-nothing
+returns-clause-nothing c = law
+
+first-of : (moment deep : Option Status) (s : Status) → option_or (option_or moment (Some s)) deep ≡ Some (unwrap_or moment s)
+first-of None deep s = refl
+first-of (Some m) deep s = refl
+
+-- what a call answers that is refused before the depth limit
+early-reply : (e : Environment) (c : Call) (n : ℕ) (moment deep : Option Status) (s : Status)
+    → (answer_unless_deep e c n (option_or moment (Some s)) deep).reply ≡ plain (unwrap_or moment s) out.Nothing
+early-reply e c n None None s = refl
+early-reply e c n None (Some d) s = refl
+early-reply e c n (Some m) None s = refl
+early-reply e c n (Some m) (Some d) s = refl
+
+after-of : (e : Environment) (c : Call) (n : ℕ) (moment deep : Option Status) (s : Status) → (answer_unless_deep e c n (option_or moment (Some s)) deep).after ≡ e
+after-of e c n None None s = refl
+after-of e c n None (Some d) s = refl
+after-of e c n (Some m) None s = refl
+after-of e c n (Some m) (Some d) s = refl
+
+-- the first of the tables of references and of the heap that refuses does so whatever is attached
+before-attached : (a b c : Option Status) (s : Status) → option_or a b ≡ Some s → option_or a (option_or b c) ≡ Some s
+before-attached (Some r) b c s h = h
+before-attached None (Some r) c s h = h
+before-attached None None c s h = cc
+
+-- a handle is unknown, so the first refusal of one that comes at a right moment is that of its arguments
+unknown-first : (e : Environment) (c : Call) (h : ℕ) → has_number h (handles_of c) ≡ true → gives e.heap.scopes h ≡ None
+    → timely_refusal e c ≡ Some status.InvalidArg
+unknown-first e c h here none =
+    let all : list_all (λ n. is_some (gives e.heap.scopes n)) (handles_of c) ≡ false =
+    fails-all (λ n. is_some (gives e.heap.scopes n)) (handles_of c) h here (ap is_some none) in
+    let unknown : unknown_refusal e.texts e.heap c ≡ Some status.InvalidArg =
+    ap (λ b. unless (b && list_all (λ t. nat_lt t e.texts) (texts_of c)) status.InvalidArg) all in
+    let first : option_or (reference_refusal e.references c) (refusal_in e.texts e.heap c) ≡ Some status.InvalidArg =
+    (named-alone e c).order
+    ∙ ap (λ s. option_or (option_or s (option_or (kind_refusal e.heap c) (row_refusal e.heap c))) (reference_refusal e.references c)) unknown in
+    let named : option_or (reference_refusal e.references c) (attached_refusal e c) ≡ Some status.InvalidArg =
+    before-attached (reference_refusal e.references c) (refusal_in e.texts e.heap c) (attachment_refusal e.attachments e.heap c) status.InvalidArg first in
+    (hooks-alone e c).order ∙ ap (λ s. option_or s (hook_refusal (caller_of e.frames) e.hooks c)) named
+
+unknown : RefusesUnknownHandles
+unknown e c h here none =
+    let first : timely_refusal e c ≡ Some status.InvalidArg = unknown-first e c h here none in
+    let deep : Option Status = depth_refusal e.frames c in
+    record {
+      refusal = ap (λ s. option_or (option_or (moment_refusal e c) s) deep) first ∙ first-of (moment_refusal e c) deep status.InvalidArg;
+      reply = λ n. ap (λ s. (answer_unless_deep e c n (option_or (moment_refusal e c) s) deep).reply) first ∙ early-reply e c n (moment_refusal e c) deep status.InvalidArg;
+      after = λ n. ap (λ s. (answer_unless_deep e c n (option_or (moment_refusal e c) s) deep).after) first ∙ after-of e c n (moment_refusal e c) deep status.InvalidArg;
+    }
+
+-- a handle is among those of a call that names it alone
+named : (h : ℕ) → has_number h (one h) ≡ true
+named h = rw (itself h) refl
+  where
+    itself : (h : ℕ) → (h == h) ≡ true
+    itself h = grind arith
+
+rows : RefusesUnknownInEachRow
+rows e h none = record {
+  typeof = unknown e (call.Typeof h) h.0 (named h.0) none;
+  external = unknown e (call.GetValueExternal h) h.0 (named h.0) none;
+  wrap = λ payload finalizer hint ref. unknown e (call.Wrap h payload finalizer hint ref) h.0 (named h.0) none;
+  unwrap = unknown e (call.Unwrap h) h.0 (named h.0) none;
+  remove = unknown e (call.RemoveWrap h) h.0 (named h.0) none;
+  tag = λ lower upper. unknown e (call.TypeTagObject h lower upper) h.0 (named h.0) none;
+  check = λ lower upper. unknown e (call.CheckObjectTypeTag h lower upper) h.0 (named h.0) none;
+  finalizer = λ payload finalizer hint ref. unknown e (call.AddFinalizer h payload finalizer hint ref) h.0 (named h.0) none;
+  function = λ entry most initial finalizer context.
+      unknown e (call.CreateThreadsafeFunction (Some h) entry most initial finalizer context) h.0 (named h.0) none;
+}
+
+known : TakesKnownHandles
+known e c handles texts =
+    ap (λ b. unless (b && list_all (λ t. nat_lt t e.texts) (texts_of c)) status.InvalidArg)
+    (passes-all (λ h. is_some (gives e.heap.scopes h)) (handles_of c) handles)
+    ∙ ap (λ b. unless b status.InvalidArg) (passes-all (λ t. nat_lt t e.texts) (texts_of c) texts)
+
+pub returns-clause-unknown : goal.returns-clause-unknown
+returns-clause-unknown c = unknown
+
+pub returns-clause-rows : goal.returns-clause-rows
+returns-clause-rows c = rows
+
+pub returns-clause-known : goal.returns-clause-known
+returns-clause-known c = known
+
+pub returns-clause-references : goal.returns-clause-references
+returns-clause-references c = named-alone
+
+pub returns-clause-hooks : goal.returns-clause-hooks
+returns-clause-hooks c = hooks-alone

@@ -1,0 +1,21 @@
+use Rattle.machine_laws.proofs.Choosing.{go-last, gone-last, go-of-runs, drain-of-runs, finals-of-runs}
+use Rattle.machine_laws.proofs.Settling.{gone-of-runs}
+use Rattle.machine_laws.proofs.choices.great_events.Goals as goal
+
+pub returns-clause-go : goal.returns-clause-go
+returns-clause-go c = go-last
+
+pub returns-clause-gone : goal.returns-clause-gone
+returns-clause-gone c = gone-last
+
+pub returns-clause-go_only : goal.returns-clause-go_only
+returns-clause-go_only c = go-of-runs
+
+pub returns-clause-drain_only : goal.returns-clause-drain_only
+returns-clause-drain_only c = drain-of-runs
+
+pub returns-clause-finals_only : goal.returns-clause-finals_only
+returns-clause-finals_only c = finals-of-runs
+
+pub returns-clause-gone_only : goal.returns-clause-gone_only
+returns-clause-gone_only c = gone-of-runs

@@ -1,7 +1,0 @@
-use Rattle.std.proofs.Common.{refl}
-use Rattle.std.specs.Fmt.{digits}
-use Rattle.machine_laws.proofs.exits.exit_before_due_prints.Goals as goal
-
-pub returns : goal.returns
-unfolding digits
-returns c = refl
