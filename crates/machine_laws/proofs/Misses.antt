@@ -108,6 +108,15 @@ abbrev pub told_work : ℕ → Out → ℕ
 told_work d (out.Duty due) = work_of d due
 told_work d _ = d
 
+-- the work whose completion begins
+abbrev completed_of : ℕ → Option Duty → ℕ
+completed_of d (Some (duty.Work n)) = n
+completed_of d _ = d
+
+abbrev pub told_completed : ℕ → Out → ℕ
+told_completed d (out.Begin cause addon entry due) = completed_of d due
+told_completed d _ = d
+
 -- the target that the environment handed to the hub
 abbrev target_or : Target → Option Target → Target
 target_or d (Some t) = t

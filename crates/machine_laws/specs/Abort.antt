@@ -18,7 +18,7 @@ use Rattle.napi_types.specs.plain.Weave.{weave}
 use Rattle.napi_types.specs.scripts.Text.{text}
 use Rattle.napi_types.specs.runs.Setting.{Setting}
 use Rattle.machine_laws.specs.HubWords.{shared_journal, script_for, next_after, item, finalizer, function, shared_at, shared_making, target_of, function_created, calls_function, releases, begins, item_begins, runs_empty, function_closes, function_finishes}
-use Rattle.machine_laws.specs.RunWords.{loop_ended, go_entry, ending_events, opening_lines}
+use Rattle.machine_laws.specs.RunWords.{loop_ended, go_entry, ending_events, left_out, opening_lines}
 use Rattle.machine_laws.specs.Told.{IsRun}
 
 -- the script: a function with a call-js entry and a finalizer, for three threads, without a maximum, is called three times and aborted; then it is called three
@@ -108,6 +108,10 @@ Prints = text fixed_texts trace ≡
     ++ codes "26 env finals 0 -\n"
     ++ codes "27 env gone 0 -\n"
 
+-- the same entries without the frame of the finalizer
+abbrev pub unfinalized : List Entry
+unfinalized = left_out 21 (left_out 21 trace)
+
 -- NEAR MISSES
 pub record IsStrict : Type 0 where
   -- a call behind the abort is refused so, and makes no item; ..
@@ -120,3 +124,5 @@ pub record IsStrict : Type 0 where
   pub close : IsRun setting (next_after 20 trace function_closes) → ⊥
   -- .. and the loop does not end, for whatever reason, before its finalizer has begun
   pub done : (r : LoopEnd) → IsRun setting (next_after 21 trace (loop_ended r)) → ⊥
+  -- so there is no run in which it never begins
+  pub never : IsRun setting unfinalized → ⊥

@@ -134,6 +134,10 @@ Prints = text fixed_texts trace ≡
     ++ codes "32 env end 0 -\n"
     ++ codes "33 env gone 0 -\n"
 
+-- the entries up to the thread's call, and without the work's finish and all that is of it up to `finals`
+abbrev pub unfinished : List Entry
+unfinished = take 21 trace ++ thread_ends 0 out.Nothing ∷ runs_empty (item_begins cause.Torn 1) ++ function_finishes ∷ finals ∷ []
+
 -- NEAR MISSES
 pub record IsStrict : Type 0 where
   -- the loop ends for no other reason: nothing that waits is begun before
@@ -146,5 +150,6 @@ pub record IsStrict : Type 0 where
   pub waits : (s : Status) (d : Option Duty) → IsRun setting (next_after 19 trace (thread_call s d)) → ⊥
   -- the item that waits is torn
   pub torn : (c : Cause) (n : ℕ) → IsRun setting (next_after 26 trace (item_begins c n)) → (c ≡ cause.Torn) × (n ≡ 1)
-  -- `finals` does not come before the thread has ended
+  -- `finals` does not come before the thread has ended, nor while the work runs
   pub finals : IsRun setting (take 29 (left_out 23 trace)) → ⊥
+  pub runs : IsRun setting unfinished → ⊥

@@ -1,5 +1,5 @@
 -- A queue of one item is full: the environment's calls are refused, by their mode, and a thread's call waits until the item is taken out.
-use Rattle.std.specs.Prelude.{◌≡◌, List, [], ◌∷◌, ◌++◌, Option, Some, None, codes}
+use Rattle.std.specs.Prelude.{◌≡◌, ℕ, List, [], ◌∷◌, ◌++◌, Option, Some, None, codes}
 use Rattle.napi_types.specs.declared.call.Call.TheVariants as call
 use Rattle.napi_types.specs.declared.call.Mode.TheVariants as mode
 use Rattle.napi_types.specs.declared.call.Release.TheVariants as release
@@ -109,6 +109,8 @@ pub record IsStrict : Type 0 where
   pub full : (s : Status) (d : Option Duty) → IsRun setting (next_after 4 trace (second_call s d)) → (s ≡ status.QueueFull) × (d ≡ None)
   -- .. and a blocking one of the environment, which would wait for itself
   pub deadlock : (s : Status) (d : Option Duty) → IsRun setting (next_after 5 trace (third_call s d)) → (s ≡ status.WouldDeadlock) × (d ≡ None)
+  -- an item begins once: behind its frame the first does not begin again
+  pub again : (n : ℕ) → IsRun setting (next_after 12 trace (item_begins cause.Item n)) → n ≡ 2
   -- that of a thread waits: it has no answer before the item is taken out
   pub waits : (s : Status) (d : Option Duty) → IsRun setting (next_after 8 trace (thread_call s d)) → ⊥
   -- nor does the thread call before `go`

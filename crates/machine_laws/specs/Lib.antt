@@ -3,6 +3,7 @@ pub mod CallAndError
 pub mod CallLaws
 pub mod CancelAfterStart
 pub mod CancelBeforeStart
+pub mod CancelBehindFinished
 pub mod Choices
 pub mod Computing
 pub mod Consistency
@@ -11,6 +12,7 @@ pub mod Cuts
 pub mod Cycle
 pub mod Depth
 pub mod DoubledHooks
+pub mod DrainBehindFinished
 pub mod EscapeTwice
 pub mod ExitBeforeDue
 pub mod ExitInInitAndInAFinalizer
@@ -33,6 +35,7 @@ pub mod NextHandle
 pub mod OnceMisses
 pub mod OrderOfScopes
 pub mod PendingException
+pub mod PlacesAlong
 pub mod PlacesOfWorks
 pub mod PropertiesAndElements
 pub mod RealisticAddon

@@ -1,5 +1,5 @@
 -- A thread-safe function is released by the last that holds it: no further call is accepted, and what waits is delivered in its order before it closes.
-use Rattle.std.specs.Prelude.{◌≡◌, ℕ, List, [], ◌∷◌, ◌++◌, Option, Some, None, codes}
+use Rattle.std.specs.Prelude.{◌≡◌, ℕ, List, [], ◌∷◌, ◌++◌, set, Option, Some, None, codes}
 use Rattle.napi_types.specs.declared.call.Call.TheVariants as call
 use Rattle.napi_types.specs.declared.call.Mode.TheVariants as mode
 use Rattle.napi_types.specs.declared.call.Release.TheVariants as release
@@ -82,12 +82,23 @@ Prints = text fixed_texts trace ≡
     ++ codes "18 env finals 0 -\n"
     ++ codes "19 env gone 0 -\n"
 
+-- the same entries, but the first item begins again where the second one would, ..
+abbrev pub first_twice : List Entry
+first_twice = set trace 11 (item_begins cause.Item 1)
+
+-- .. or the second one begins before the first
+abbrev pub second_first : List Entry
+second_first = set (set trace 9 (item_begins cause.Item 2)) 11 (item_begins cause.Item 1)
+
 -- NEAR MISSES
 pub record IsStrict : Type 0 where
   -- the call behind the release is refused so, and makes no item
   pub released : (s : Status) (d : Option Duty) → IsRun setting (next_after 6 trace (last_call s d)) → (s ≡ status.InvalidArg) × (d ≡ None)
   -- the first item begins first, and it is not torn
   pub order : (c : Cause) (n : ℕ) → IsRun setting (next_after 9 trace (item_begins c n)) → (c ≡ cause.Item) × (n ≡ 1)
+  -- no item begins twice, and none before one that was accepted earlier
+  pub twice : IsRun setting first_twice → ⊥
+  pub earlier : IsRun setting second_first → ⊥
   -- the function does not close while one waits, ..
   pub close : IsRun setting (next_after 11 trace function_closes) → ⊥
   -- .. and the loop does not end, for whatever reason, before the function is done

@@ -5,6 +5,8 @@ ghost use Rattle.machine_laws.specs.Told.{EndsOnItsLists};
 ghost use Rattle.machine_laws.specs.RealisticAddon as realistic_addon;
 ghost use Rattle.machine_laws.specs.CancelBeforeStart as cancel_before_start;
 ghost use Rattle.machine_laws.specs.CancelAfterStart as cancel_after_start;
+ghost use Rattle.machine_laws.specs.CancelBehindFinished as cancel_behind_finished;
+ghost use Rattle.machine_laws.specs.DrainBehindFinished as drain_behind_finished;
 ghost use Rattle.machine_laws.specs.WorkWithoutWorkers as work_without_workers;
 ghost use Rattle.machine_laws.specs.TwoWorks as two_works;
 ghost use Rattle.machine_laws.specs.FullQueue as full_queue;
@@ -37,6 +39,20 @@ pub fn cancel_after_start_runs()
     ensures prints { cancel_after_start.Prints }
     ensures registers { cancel_after_start.Keeps }
     ensures strict { cancel_after_start.IsStrict }
+{}
+
+/// A work is cancelled while another one is finished: its completion begins behind that one's.
+pub fn cancel_behind_finished_runs()
+    ensures ends { EndsOnItsLists cancel_behind_finished.setting cancel_behind_finished.journal cancel_behind_finished.history }
+    ensures prints { cancel_behind_finished.Prints }
+    ensures strict { cancel_behind_finished.IsStrict }
+{}
+
+/// The drain cancels a work while another one is finished: its completion begins behind that one's.
+pub fn drain_behind_finished_runs()
+    ensures ends { EndsOnItsLists drain_behind_finished.setting drain_behind_finished.journal drain_behind_finished.history }
+    ensures prints { drain_behind_finished.Prints }
+    ensures strict { drain_behind_finished.IsStrict }
 {}
 
 /// A work is queued where there is no worker: the loop ends, and the drain cancels it.

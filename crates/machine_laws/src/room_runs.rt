@@ -6,6 +6,7 @@ ghost use Rattle.machine_laws.specs.FrameCutFull as frame_cut_full;
 ghost use Rattle.machine_laws.specs.FrameCutForMemory as frame_cut_for_memory;
 ghost use Rattle.machine_laws.specs.FrameCutInJournal as frame_cut_in_journal;
 ghost use Rattle.machine_laws.specs.PlacesOfWorks as places_of_works;
+ghost use Rattle.machine_laws.specs.PlacesAlong.{OweInOrder};
 
 /// A thread is cut where the history has no room for its call.
 pub fn thread_cut_full_runs()
@@ -39,4 +40,9 @@ pub fn places_of_works_run()
     ensures ends { EndsOnItsLists places_of_works.setting places_of_works.journal places_of_works.history }
     ensures actors { places_of_works.ActInOrder }
     ensures strict { places_of_works.IsStrict }
+{}
+
+/// The places that the history still owes after each entry of five runs, in which works, items and functions come and go.
+pub fn places_are_owed_along_runs()
+    ensures { OweInOrder }
 {}

@@ -8,7 +8,7 @@ use Rattle.napi_types.specs.declared.entry.LoopEnd.{LoopEnd}
 use Rattle.napi_types.specs.declared.entry.What.TheVariants as what
 use Rattle.napi_types.specs.declared.status.Status.{Status}
 use Rattle.napi_types.specs.declared.status.Status.TheVariants as status
-use Rattle.machine_laws.specs.Abort.{setting, late_call, history, journal, trace}
+use Rattle.machine_laws.specs.Abort.{setting, late_call, history, journal, trace, unfinalized}
 use Rattle.machine_laws.specs.HubWords.{next_after, item_begins, function_closes}
 use Rattle.machine_laws.specs.RunWords.{loop_ended}
 use Rattle.machine_laws.specs.Told.{IsRun}
@@ -39,5 +39,8 @@ no-close r = let w : what.Host host.CloseTsfn ≡ what.Host host.FinishTsfn = ap
 not-done : (e : LoopEnd) → IsRun setting (next_after 21 trace (loop_ended e)) → ⊥
 not-done e r = let w : what.Host host.LoopEnd ≡ what.Host host.Begin = ap (λ x. x.what) (told-entry setting _ 21 refl r) in cc
 
+not-never : IsRun setting unfinalized → ⊥
+not-never r = let w : what.Host host.LoopEnd ≡ what.Host host.Begin = ap (λ x. x.what) (told-entry setting unfinalized 21 refl r) in cc
+
 pub returns-clause-strict : goal.returns-clause-strict
-returns-clause-strict c = record { closing = is-closing; counted = is-counted; torn = first-torn; close = no-close; done = not-done }
+returns-clause-strict c = record { closing = is-closing; counted = is-counted; torn = first-torn; close = no-close; done = not-done; never = not-never }

@@ -4,7 +4,7 @@ use Rattle.napi_types.specs.declared.entry.Actor.TheVariants as actor
 use Rattle.napi_types.specs.declared.entry.Entry.{Entry}
 use Rattle.napi_types.specs.declared.status.Status.{Status}
 use Rattle.napi_types.specs.declared.status.Status.TheVariants as status
-use Rattle.machine_laws.specs.CancelAfterStart.{setting, cancelled, history, journal, trace}
+use Rattle.machine_laws.specs.CancelAfterStart.{setting, cancelled, history, journal, trace, completed_as}
 use Rattle.machine_laws.specs.HubWords.{next_after, worker_finishes, worker_ends}
 use Rattle.machine_laws.specs.RunWords.{go_entry}
 use Rattle.machine_laws.specs.Told.{IsRun}
@@ -28,8 +28,11 @@ no-other-value n r = ap (λ x. told_number n x.reply.out) (told-entry setting _ 
 runs-on : (x : Entry) → IsRun setting (take 7 trace ++ go_entry ∷ record x { actor = actor.Env } ∷ []) → ⊥
 runs-on x r = let z : _ = told-may setting _ refl r in cc
 
+is-completed : (s : Status) → IsRun setting (completed_as s) → s ≡ status.Ok
+is-completed s r = ap (λ x. x.reply.status) (told-entry setting (completed_as s) 9 refl r)
+
 no-end : IsRun setting (next_after 12 trace (worker_ends 0)) → ⊥
 no-end r = let z : _ = told-may setting _ refl r in cc
 
 pub returns-clause-strict : goal.returns-clause-strict
-returns-clause-strict c = record { late = is-late; value = no-other-value; runs = runs-on; end = no-end }
+returns-clause-strict c = record { late = is-late; value = no-other-value; runs = runs-on; completion = is-completed; end = no-end }

@@ -9,7 +9,7 @@ use Rattle.napi_types.specs.declared.entry.LoopEnd.TheVariants as loop_end
 use Rattle.napi_types.specs.declared.entry.What.TheVariants as what
 use Rattle.napi_types.specs.declared.status.Status.{Status}
 use Rattle.napi_types.specs.declared.status.Status.TheVariants as status
-use Rattle.machine_laws.specs.ExitInTheMiddle.{setting, thread_call, history, journal, trace}
+use Rattle.machine_laws.specs.ExitInTheMiddle.{setting, thread_call, history, journal, trace, unfinished}
 use Rattle.machine_laws.specs.HubWords.{next_after, item_begins, drains}
 use Rattle.machine_laws.specs.RunWords.{loop_ended, left_out}
 use Rattle.machine_laws.specs.Told.{IsRun}
@@ -49,5 +49,16 @@ is-torn c n r =
 not-finals : IsRun setting (take 29 (left_out 23 trace)) → ⊥
 not-finals r = let z : _ = told-may setting _ refl r in cc
 
+not-while-running : IsRun setting unfinished → ⊥
+not-while-running r = let z : _ = told-may setting _ refl r in cc
+
 pub returns-clause-strict : goal.returns-clause-strict
-returns-clause-strict c = record { reason = no-other-reason; drain = no-drain; closing = is-closing; waits = waits; torn = is-torn; finals = not-finals }
+returns-clause-strict c = record {
+  reason = no-other-reason;
+  drain = no-drain;
+  closing = is-closing;
+  waits = waits;
+  torn = is-torn;
+  finals = not-finals;
+  runs = not-while-running;
+}

@@ -1,5 +1,6 @@
-use Rattle.std.proofs.Common.{◌≡◌, ap, refl, Option, None}
+use Rattle.std.proofs.Common.{◌≡◌, ℕ, ap, refl, Option, None}
 use Rattle.std.specs.Fmt.{digits}
+use Rattle.napi_types.specs.declared.entry.Cause.TheVariants as cause
 use Rattle.napi_types.specs.declared.entry.Duty.{Duty}
 use Rattle.napi_types.specs.declared.status.Status.{Status}
 use Rattle.napi_types.specs.declared.status.Status.TheVariants as status
@@ -9,10 +10,10 @@ use Rattle.napi_types.specs.declared.call.Release.TheVariants as release
 use Rattle.napi_types.specs.declared.entry.Out.{Out}
 use Rattle.napi_types.specs.declared.entry.Out.TheVariants as out
 use Rattle.napi_types.specs.all_runs.HubLaws.{KeepsScript}
-use Rattle.machine_laws.specs.HubWords.{next_after, by_thread, thread_ends, releases, calls_function}
+use Rattle.machine_laws.specs.HubWords.{next_after, item_begins, by_thread, thread_ends, releases, calls_function}
 use Rattle.machine_laws.specs.Told.{IsRun}
 use Rattle.machine_laws.proofs.KeptScripts.{keeps-script}
-use Rattle.machine_laws.proofs.Misses.{told-entry, told-may}
+use Rattle.machine_laws.proofs.Misses.{told_item, told-entry, told-may}
 use Rattle.machine_laws.proofs.Rows.{ends-on-lists, runs-as-told}
 use Rattle.machine_laws.proofs.hub_runs.full_queue_runs.Goals as goal
 
@@ -31,6 +32,9 @@ is-full s d r = let same : second_call s d ≡ _ = told-entry setting _ 4 refl r
 
 would-deadlock : (s : Status) (d : Option Duty) → IsRun setting (next_after 5 trace (third_call s d)) → (s ≡ status.WouldDeadlock) × (d ≡ None)
 would-deadlock s d r = let same : third_call s d ≡ _ = told-entry setting _ 5 refl r in (ap (λ x. x.reply.status) same, ap (λ x. x.reply.made) same)
+
+not-again : (n : ℕ) → IsRun setting (next_after 12 trace (item_begins cause.Item n)) → n ≡ 2
+not-again n r = ap (λ x. told_item n x.reply.out) (told-entry setting _ 12 refl r)
 
 waits : (s : Status) (d : Option Duty) → IsRun setting (next_after 8 trace (thread_call s d)) → ⊥
 waits s d r = let z : _ = told-may setting _ refl r in cc
@@ -51,6 +55,7 @@ pub returns-clause-strict : goal.returns-clause-strict
 returns-clause-strict c = record {
   full = is-full;
   deadlock = would-deadlock;
+  again = not-again;
   waits = waits;
   before = not-before;
   first = call-first;
