@@ -17,6 +17,7 @@ use Rattle.napi_types.specs.plain.Texts.{fixed_texts}
 use Rattle.napi_types.specs.plain.Weave.{weave}
 use Rattle.napi_types.specs.scripts.Text.{text}
 use Rattle.napi_types.specs.runs.Setting.{Setting}
+use Rattle.napi_types.specs.all_runs.Counts.{Once}
 use Rattle.machine_laws.specs.HubWords.{shared_journal, script_for, next_after, item, finalizer, function, shared_at, shared_making, target_of, function_created, calls_function, releases, begins, item_begins, runs_empty, function_closes, function_finishes}
 use Rattle.machine_laws.specs.RunWords.{loop_ended, go_entry, ending_events, left_out, opening_lines}
 use Rattle.machine_laws.specs.Told.{IsRun}
@@ -124,5 +125,6 @@ pub record IsStrict : Type 0 where
   pub close : IsRun setting (next_after 20 trace function_closes) → ⊥
   -- .. and the loop does not end, for whatever reason, before its finalizer has begun
   pub done : (r : LoopEnd) → IsRun setting (next_after 21 trace (loop_ended r)) → ⊥
-  -- so there is no run in which it never begins
+  -- so it does not happen that it never begins: it would not be once, and that is no run
+  pub once : Once unfinalized → ⊥
   pub never : IsRun setting unfinalized → ⊥

@@ -17,6 +17,7 @@ use Rattle.napi_types.specs.plain.Texts.{fixed_texts}
 use Rattle.napi_types.specs.plain.Weave.{weave}
 use Rattle.napi_types.specs.scripts.Text.{text}
 use Rattle.napi_types.specs.runs.Setting.{Setting}
+use Rattle.napi_types.specs.all_runs.Counts.{Once}
 use Rattle.machine_laws.specs.HubWords.{function_lines, shared_journal, script_for, next_after, item, shared_at, shared_making, target_of, function_created, calls_function, releases, item_begins, runs_empty, function_closes, function_finishes}
 use Rattle.machine_laws.specs.RunWords.{loop_ended, go_entry, ending_events}
 use Rattle.machine_laws.specs.Told.{IsRun}
@@ -96,8 +97,10 @@ pub record IsStrict : Type 0 where
   pub released : (s : Status) (d : Option Duty) → IsRun setting (next_after 6 trace (last_call s d)) → (s ≡ status.InvalidArg) × (d ≡ None)
   -- the first item begins first, and it is not torn
   pub order : (c : Cause) (n : ℕ) → IsRun setting (next_after 9 trace (item_begins c n)) → (c ≡ cause.Item) × (n ≡ 1)
-  -- no item begins twice, and none before one that was accepted earlier
+  -- no item begins twice: it would not be once, and it is no run
+  pub once : Once first_twice → ⊥
   pub twice : IsRun setting first_twice → ⊥
+  -- none begins before one that was accepted earlier
   pub earlier : IsRun setting second_first → ⊥
   -- the function does not close while one waits, ..
   pub close : IsRun setting (next_after 11 trace function_closes) → ⊥
