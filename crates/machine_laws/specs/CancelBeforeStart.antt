@@ -1,5 +1,5 @@
 -- A work is cancelled before it starts: it never starts, its completion says so, and only then is it deleted.
-use Rattle.std.specs.Prelude.{◌≡◌, List, [], ◌∷◌, ◌++◌, set, take, drop, replicate, Option, None, codes}
+use Rattle.std.specs.Prelude.{◌≡◌, List, [], ◌∷◌, ◌++◌, replicate, Option, None, codes}
 use Rattle.napi_types.specs.declared.call.Call.TheVariants as call
 use Rattle.napi_types.specs.declared.call.JobSpec.TheVariants as job
 use Rattle.napi_types.specs.declared.entry.Duty.{Duty}
@@ -83,21 +83,13 @@ Prints = text fixed_texts trace ≡
 abbrev pub Keeps : Type 0
 Keeps = registers_of (final_registers setting (told_asks setting trace) trace) 0 ≡ 1 ∷ replicate 23 0 ++ 11 ∷ 0 ∷ 9 ∷ replicate 5 0
 
--- the same entries, but a worker starts the work right behind the cancelling, ..
-abbrev pub started_late : List Entry
-started_late = take 5 trace ++ worker_starts 0 1 ∷ drop 5 trace
-
--- .. or its completion begins with this status
-abbrev pub completed_as : Status → List Entry
-completed_as s = set trace 9 (completion_begins 1 s 1)
-
 -- NEAR MISSES
 pub record IsStrict : Type 0 where
   -- it is not queued again: the call is refused so
   pub again : (s : Status) (d : Option Duty) → IsRun setting (next_after 5 trace (queued_again s d)) → (s ≡ status.GenericFailure) × (d ≡ None)
   -- no worker starts it
-  pub start : IsRun setting started_late → ⊥
+  pub start : IsRun setting (next_after 5 trace (worker_starts 0 1)) → ⊥
   -- its completion begins with no other status: not with that of a work that ran
-  pub completion : (s : Status) → IsRun setting (completed_as s) → s ≡ status.Cancelled
+  pub completion : (s : Status) → IsRun setting (next_after 9 trace (completion_begins 1 s 1)) → s ≡ status.Cancelled
   -- `finals` does not come before the worker has ended
   pub finals : IsRun setting (next_after 14 trace finals) → ⊥
