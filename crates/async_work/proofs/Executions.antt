@@ -6,7 +6,8 @@ use Rattle.napi_types.specs.plain.Lists.{found, has, with_record, as_map}
 use Rattle.napi_types.specs.parts.Works.{Execution}
 use Rattle.napi_types.proofs.plain.Found.{same-self, same-tells, found-same, found-with_record, found-as_map, found-filter, found-number, found-All, rising-with_record, rising-as_map, rising-filter, has-found}
 use Rattle.async_work.specs.Line.{Done, InLine, runner, entry_at, runner_at, listed_execution, executions_listed, executions}
-use Rattle.async_work.proofs.Counting.{listed-All, listed-rising, found-listed, found-other, has-as_map, length-without, some}
+use Rattle.napi_types.proofs.plain.Counted.{listed-All, listed-rising, found-listed}
+use Rattle.async_work.proofs.Counting.{found-other, has-as_map, length-without, some}
 
 abbrev worker : Execution → ℕ
 worker x = x.worker

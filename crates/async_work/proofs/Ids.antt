@@ -1,22 +1,22 @@
 -- The works by their ids.
-use Rattle.std.proofs.Common.{◌≡◌, ◌∙◌, ℕ, zero, suc, ◌+◌, ◌-◌, ◌<◌, ◌≤◌, ◌==◌, nat_lt, Bool, true, false, not, cond, List, [], ◌∷◌, ◌++◌, length, map, filter, set, get_or, find, Option, Some, None, option_map, refl, ap, sym, arith, length-append, Bor}
-use Rattle.std.specs.List.{All, slice_get}
+use Rattle.std.proofs.Common.{◌≡◌, ◌∙◌, ℕ, zero, suc, ◌+◌, ◌-◌, ◌≤◌, ◌==◌, nat_lt, Bool, true, false, not, cond, List, [], ◌∷◌, ◌++◌, length, map, filter, set, get_or, find, Option, Some, None, option_map, refl, ap, sym, arith, length-append, Bor}
+use Rattle.std.specs.List.{slice_get}
 use Rattle.std.specs.Option.{option_and_then, option_copied}
 use Rattle.std.proofs.lemmas.Bool.{ltb-true}
 use Rattle.std.proofs.lemmas.List.{length-set, length-map, map-set}
-use Rattle.std.proofs.lemmas.List.Elements.{All-head, All-tail, All-cons, All-nil}
 use Rattle.std.proofs.lemmas.Option.{slice_get-get_or}
 use Rattle.napi_types.specs.declared.call.JobSpec.{JobSpec}
 use Rattle.napi_types.specs.plain.Lists.{found, has_number, with_record, with_number, up_to}
 use Rattle.napi_types.specs.parts.Works.{Work, is_number, has_work_number}
-use Rattle.napi_types.proofs.plain.Found.{IsRising, same-self, same-tells, apart-above, found-same, found-with_record, found-filter, rising-with_record, rising-filter, turned}
+use Rattle.napi_types.proofs.plain.Found.{same-self, same-tells, apart-above, turned}
 use Rattle.napi_types.proofs.plain.Issued.{above-up_to, up_to-more}
-use Rattle.async_work.specs.Counted.{element}
+use Rattle.napi_types.specs.plain.Counted.{element}
 use Rattle.async_work.specs.declared.place.Place.{Place}
 use Rattle.async_work.specs.declared.place.Standing.{Standing}
 use Rattle.async_work.specs.declared.place.Standing.TheVariants as standing
 use Rattle.async_work.specs.Places.{Placed, standing_number, place_seen, places_seen, place_at, with_place_number, work_of, listed_work, works_of}
-use Rattle.async_work.proofs.Counting.{element-within, element-set, element-push, element-map, listed-All, listed-rising, found-listed, find-only}
+use Rattle.napi_types.proofs.plain.Counted.{element-within, element-set, element-push, element-map, listed-All, found-listed, listed-more, listed-without, listed-changed}
+use Rattle.async_work.proofs.Counting.{find-only}
 
 pub seen_of : {X Y : Type 0} (f : X → Y) (o : Option (Bor X)) → option_map (λ p. f p.now) o ≡ option_map f (option_copied o)
 seen_of f None = refl
@@ -68,9 +68,6 @@ keeps-id : (n : ℕ) (place : Option Placed) (w : Work) → listed_work n place 
 keeps-id n None w is = let no : ⊥ = cc in absurd no
 keeps-id n (Some p) w is = let same : work_of n p ≡ w = cc in ap (λ (v : Work). v.id) (sym same)
 
-pub rising-works : (places : List (Option Placed)) → IsRising (λ (w : Work). w.id) (works_of places)
-rising-works places = listed-rising listed_work (λ (w : Work). w.id) keeps-id 1 places
-
 pub found-works : (places : List (Option Placed)) (id : ℕ) → found (λ (w : Work). w.id) id (works_of places) ≡ option_map (work_of id) (place_at places id)
 found-works places id = found-listed listed_work (λ (w : Work). w.id) keeps-id id places ∙ by (element places id)
   where
@@ -83,16 +80,8 @@ found-works places id = found-listed listed_work (λ (w : Work). w.id) keeps-id 
 pub works-made : (places : List (Option Placed)) (id : ℕ) (p : Placed) → id ≡ length places + 1
     → works_of (places ++ Some p ∷ []) ≡ with_record (λ (w : Work). w.id) (work_of id p) (works_of places)
 works-made places id p is =
-    found-same (λ (w : Work). w.id) (works_of (places ++ Some p ∷ [])) (with_record (λ (w : Work). w.id) (work_of id p) (works_of places))
-    (rising-works (places ++ Some p ∷ [])) (rising-with_record (λ (w : Work). w.id) (work_of id p) (works_of places) (rising-works places))
-    (λ m. found-works (places ++ Some p ∷ []) m ∙ ap (option_map (work_of m)) (place_at-push places (Some p) m
-    ∙ ap (λ k. cond (k == m) (Some p) (place_at places m)) (sym is)) ∙ by m (id == m) refl
-    ∙ ap (cond (id == m) (Some (work_of id p))) (sym (found-works places m)) ∙ sym (found-with_record (λ (w : Work). w.id) m (work_of id p) (works_of places)))
-  where
-    by : (m : ℕ) (b : Bool) → (id == m) ≡ b → option_map (work_of m) (cond b (Some p) (place_at places m)) ≡ cond b (Some (work_of id p)) (option_map
-        (work_of m) (place_at places m))
-    by m true same = ap (λ k. Some (work_of k p)) (sym (same-tells id m same))
-    by m false same = refl
+    listed-more listed_work (λ (w : Work). w.id) keeps-id places (Some p) (work_of (length places + 1) p) refl
+    ∙ ap (λ n. with_record (λ (w : Work). w.id) (work_of n p) (works_of places)) (sym is)
 
 pub issued-made : (places : List (Option Placed)) (place : Option Placed) (id : ℕ) → id ≡ length places + 1
     → up_to (length (places ++ place ∷ [])) ≡ with_number id (up_to (length places))
@@ -106,73 +95,17 @@ issued-fresh places id is = rw (apart-below-zero, above-up_to id (length places)
     apart-below-zero = rw is (turned 0 (length places + 1) ∙ apart-above 0 (length places + 1) (omega arith))
 
 -- one is deleted
-pub works-deleted : (places others : List (Option Placed)) (id : ℕ) → Replaced places others id None
-    → works_of others ≡ filter (λ w. not (w.id == id)) (works_of places)
-works-deleted places others id change =
-    found-same (λ (w : Work). w.id) (works_of others) (filter (λ w. not (w.id == id)) (works_of places))
-    (rising-works others) (rising-filter (λ (w : Work). w.id) (λ w. not (w.id == id)) (works_of places) (rising-works places))
-    (λ m. found-works others m ∙ ap (option_map (work_of m)) (change.at m) ∙ ap (λ b. option_map (work_of m) (cond b None (place_at places m)))
-    (turned id m) ∙ by m (m == id)
-    ∙ ap (λ o. cond (not (m == id)) o None) (sym (found-works places m)) ∙ sym (found-filter (λ (w : Work). w.id) (λ k. not (k == id)) m (works_of places)))
-  where
-    by : (m : ℕ) (b : Bool) → option_map (work_of m) (cond b None (place_at places m)) ≡ cond (not b) (option_map (work_of m) (place_at places m)) None
-    by m true = refl
-    by m false = refl
-
--- works that are changed and keep their ids
-module _ (change : Work → Work) (keeps : (w : Work) → (change w).id ≡ w.id) where
-  rising-changed : (ws : List Work) → IsRising (λ (w : Work). w.id) ws → IsRising (λ (w : Work). w.id) (map change ws)
-  rising-changed [] rises = tt
-  rising-changed (w ∷ ws) rises = (above ws rises.0, rising-changed ws rises.1)
-    where
-      above : (vs : List Work) → All (λ v. w.id < v.id) vs → All (λ v. (change w).id < v.id) (map change vs)
-      above [] all = All-nil (λ v. (change w).id < v.id)
-      above (v ∷ vs) all =
-          let here : w.id < v.id = All-head (λ v. w.id < v.id) v vs all in
-          let one : (change w).id ≡ w.id = keeps w in
-          let other : (change v).id ≡ v.id = keeps v in
-          All-cons (λ v. (change w).id < v.id) (change v) (map change vs) (omega (arith, here, one, other)) (above vs (All-tail (λ v. w.id < v.id) v vs all))
-
-  found-changed : (n : ℕ) (ws : List Work) → found (λ (w : Work). w.id) n (map change ws) ≡ option_map change (found (λ (w : Work). w.id) n ws)
-  found-changed n [] = refl
-  found-changed n (w ∷ ws) = ap (λ k. cond (k == n) (Some (change w)) (found (λ (w : Work). w.id) n (map change ws))) (keeps w)
-      ∙ by (w.id == n) (found-changed n ws)
-    where
-      by : (b : Bool) → found (λ (w : Work). w.id) n (map change ws) ≡ option_map change (found (λ (w : Work). w.id) n ws)
-          → cond b (Some (change w)) (found (λ (w : Work). w.id) n (map change ws)) ≡ option_map change (cond b (Some w) (found (λ (w : Work). w.id) n ws))
-      by true rest = refl
-      by false rest = rest
+pub works-deleted : (places : List (Option Placed)) (id : ℕ) (p : Placed) → place_at places id ≡ Some p
+    → works_of (set places (id - 1) None) ≡ filter (λ w. not (w.id == id)) (works_of places)
+works-deleted places id p is = listed-without listed_work (λ (w : Work). w.id) keeps-id places id (Some p) None (element-place places id p is) refl
 
 -- one is queued
-abbrev numbers_work : ℕ → ℕ → Work → Work
-numbers_work id n w = cond (w.id == id) (record w { number = Some n }) w
-
-pub works-queued : (places others : List (Option Placed)) (id n : ℕ) (p : Placed) → place_at places id ≡ Some p
-    → Replaced places others id (Some (with_place_number n p))
-    → works_of others ≡ map (λ (w : Work). cond (w.id == id) (record w { number = Some n }) w) (works_of places)
-works-queued places others id n p is change =
-    found-same (λ (w : Work). w.id) (works_of others) (map (numbers_work id n) (works_of places))
-    (rising-works others) (rising-changed (numbers_work id n) keeps (works_of places) (rising-works places))
-    (λ m. found-works others m ∙ ap (option_map (work_of m)) (change.at m) ∙ by m (id == m) refl
-    ∙ ap (option_map (numbers_work id n)) (sym (found-works places m)) ∙ sym (found-changed (numbers_work id n) keeps m (works_of places)))
-  where
-    keeps : (w : Work) → (numbers_work id n w).id ≡ w.id
-    keeps w = case (w.id == id)
-      where
-        case : (b : Bool) → (let v : Work = cond b (record w { number = Some n }) w in v.id) ≡ w.id
-        case true = refl
-        case false = refl
-
-    other : (m : ℕ) (o : Option Placed) → (m == id) ≡ false → option_map (work_of m) o ≡ option_map (numbers_work id n) (option_map (work_of m) o)
-    other m None apart = refl
-    other m (Some q) apart = rw apart refl
-
-    by : (m : ℕ) (b : Bool) → (id == m) ≡ b → option_map (work_of m) (cond b (Some (with_place_number n p)) (place_at places m)) ≡ option_map
-        (numbers_work id n) (option_map (work_of m) (place_at places m))
-    by m true same =
-        let here : place_at places m ≡ Some p = ap (place_at places) (sym (same-tells id m same)) ∙ is in
-        rw (here, turned m id, same) refl
-    by m false same = other m (place_at places m) (turned m id ∙ same)
+pub works-queued : (places : List (Option Placed)) (id n : ℕ) (p : Placed) → place_at places id ≡ Some p
+    → works_of (set places (id - 1) (Some (with_place_number n p))) ≡ map (λ (w : Work). cond (w.id == id) (record w { number = Some n }) w) (works_of places)
+works-queued places id n p is =
+    listed-changed listed_work (λ (w : Work). w.id) keeps-id (λ (w : Work). record w { number = Some n }) (λ w. refl) places id (Some p)
+    (Some (with_place_number n p))
+    (element-place places id p is) refl
 
 -- the work of a number, which no other work has
 pub numbered-work : (places : List (Option Placed)) (id n : ℕ) (p : Placed) → place_at places id ≡ Some p → p.number ≡ Some n

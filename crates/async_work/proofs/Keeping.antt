@@ -10,12 +10,12 @@ use Rattle.napi_types.specs.declared.call.JobSpec.{JobSpec}
 use Rattle.napi_types.specs.plain.Lists.{found, has_number, with_record, one, head, tail}
 use Rattle.napi_types.proofs.plain.Found.{IsRising, same-self, same-tells, apart-above}
 use Rattle.napi_types.proofs.plain.Maps.{filter_all}
-use Rattle.async_work.specs.Counted.{element}
+use Rattle.napi_types.specs.plain.Counted.{element}
 use Rattle.async_work.specs.declared.line.Numbered.{Numbered}
 use Rattle.async_work.specs.Places.{Placed, place_at, is_held, with_place_number}
 use Rattle.async_work.specs.Line.{LineStage, Waits, Runs, Ended, Done, InLine, CameOut, entry_seen, line_seen, waiting_job, runner, has_ended, is_done, with_stage, entry_at, stage_at, waits, runner_at, ended_at, waiting, executions}
 use Rattle.async_work.specs.Kept.{Stands, spec_at, IsTold, IsLine, CameOutOnce, AreKept}
-use Rattle.async_work.proofs.Counting.{element-within}
+use Rattle.napi_types.proofs.plain.Counted.{element-within}
 use Rattle.async_work.proofs.Ids.{Replaced, replaced, element-place}
 use Rattle.async_work.proofs.Queueing.{Restaged, restaged, stage-restaged, stage-push, stage-past, waiting-same, waiting-less, waiting-more, waiting-none, waiting-first, has-waiting, length-less, read-at, bounds-at}
 use Rattle.async_work.proofs.Executions.{AreApart, apart-less, apart-started, executions-same, executions-started, executions-finished, length-finished, idle-worker}

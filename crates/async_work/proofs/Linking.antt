@@ -6,11 +6,11 @@ use Rattle.std.proofs.lemmas.List.Sums.{sum_by-cons, sum_by-append, get_or-le-su
 use Rattle.std.proofs.lemmas.List.Elements.{All-append, All-cons, All-nil, All-head, All-tail}
 use Rattle.napi_types.specs.declared.call.JobSpec.{JobSpec}
 use Rattle.napi_types.proofs.plain.Found.{same-self, same-tells, apart-above}
-use Rattle.async_work.specs.Counted.{element}
+use Rattle.napi_types.specs.plain.Counted.{element}
 use Rattle.async_work.specs.Places.{Placed, place_at, with_place_number}
 use Rattle.async_work.specs.Line.{LineStage, Waits, Runs, Ended, Done, InLine, CameOut, waiting_job, has_ended, is_done, with_stage, entry_at, stage_at, id_at, ended_at}
 use Rattle.async_work.specs.Kept.{Stands, spec_at, IsTold, AreLinked, CameOutOnce}
-use Rattle.async_work.proofs.Counting.{element-within}
+use Rattle.napi_types.proofs.plain.Counted.{element-within}
 use Rattle.async_work.proofs.Ids.{Replaced, place_at-push}
 use Rattle.async_work.proofs.Queueing.{Restaged, stage-restaged, id-restaged, entry-push, stage-push, stage-past}
 

@@ -15,7 +15,8 @@ use Rattle.async_work.specs.declared.line.Outcome as code
 use Rattle.async_work.specs.declared.line.Stage.{Stage}
 use Rattle.async_work.specs.declared.line.Stage.TheVariants as stage
 use Rattle.async_work.specs.Line.{LineStage, Done, InLine, stage_seen, entry_seen, line_seen, outcome_seen, outcomes_seen, waiting_job, with_stage, entry_at, stage_at, id_at, waits, listed_number, waiting}
-use Rattle.async_work.proofs.Counting.{element-set, element-push, element-map, element-past, element-within, listed-push, listed-rising, found-listed, length-without}
+use Rattle.napi_types.proofs.plain.Counted.{element-set, element-push, element-map, element-past, element-within, listed-push, listed-rising, found-listed}
+use Rattle.async_work.proofs.Counting.{length-without}
 
 -- what is read at a place of the line is the work of its number
 pub entry_at-read : {J : Type 0} (spec : J → JobSpec) (line : List (Numbered J)) (n at : ℕ) (x : Numbered J) → n ≡ at + 1 → at < length line

@@ -34,7 +34,7 @@ pub view-deleted : (places others : List (Option Placed)) (line : List InLine) (
     → pool_of others line finished closing ≡ without_work id (pool_of places line finished closing)
 view-deleted places others line finished closing id p is at =
     let change = replaced places id p None at in
-    rw is (same-pool _ _ _ _ _ _ _ _ _ _ _ _ _ _ (works-deleted places (set places (id - 1) None) id change) (ap up_to change.long) refl refl refl refl refl)
+    rw is (same-pool _ _ _ _ _ _ _ _ _ _ _ _ _ _ (works-deleted places id p at) (ap up_to change.long) refl refl refl refl refl)
 
 pub view-queued : (places others : List (Option Placed)) (line lines : List InLine) (finished : List CameOut) (closing : Bool) (id n : ℕ) (p : Placed)
     (e : InLine) → others ≡ set places (id - 1) (Some (with_place_number n p)) → lines ≡ line ++ e ∷ []
@@ -43,7 +43,7 @@ pub view-queued : (places others : List (Option Placed)) (line lines : List InLi
 view-queued places others line lines finished closing id n p e places_are line_is at number waits_for =
     let change = replaced places id p (Some (with_place_number n p)) at in
     rw (places_are, line_is) (same-pool _ _ _ _ _ _ _ _ _ _ _ _ _ _
-    (works-queued places (set places (id - 1) (Some (with_place_number n p))) id n p at change
+    (works-queued places id n p at
     ∙ ap (λ k. map (λ (w : Work). cond (w.id == id) (record w { number = Some k }) w) (works_of places)) number)
     (ap up_to change.long) (length-append line (e ∷ [])) (waiting-more line e p.spec waits_for)
     (executions-same line (line ++ e ∷ []) (runner-queued line e p.spec waits_for)) refl refl)

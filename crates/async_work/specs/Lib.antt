@@ -1,4 +1,3 @@
-pub mod Counted
 pub mod Draining
 pub mod Executing
 pub mod Kept

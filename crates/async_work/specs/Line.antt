@@ -6,7 +6,7 @@ use Rattle.napi_types.specs.declared.status.Status.{Status}
 use Rattle.napi_types.specs.declared.status.Status.TheVariants as status
 use Rattle.napi_types.specs.plain.Lists.{as_map}
 use Rattle.napi_types.specs.parts.Works.{WorkState, Queued, Running, Finished, Completed, Execution, Outcome}
-use Rattle.async_work.specs.Counted.{element, listed}
+use Rattle.napi_types.specs.plain.Counted.{element, listed}
 use Rattle.async_work.specs.declared.line.Ending.{Ending}
 use Rattle.async_work.specs.declared.line.Ending.TheVariants as ending
 use Rattle.async_work.specs.declared.line.Numbered.{Numbered}

@@ -3,7 +3,7 @@ use Rattle.std.specs.Prelude.{ℕ, Bool, List, map, Option, Some, None, is_some,
 use Rattle.std.specs.Option.{option_and_then}
 use Rattle.napi_types.specs.declared.call.JobSpec.{JobSpec}
 use Rattle.napi_types.specs.parts.Works.{Work}
-use Rattle.async_work.specs.Counted.{element, listed}
+use Rattle.napi_types.specs.plain.Counted.{element, listed}
 use Rattle.async_work.specs.declared.place.Place.{Place}
 use Rattle.async_work.specs.declared.place.Standing.{Standing}
 use Rattle.async_work.specs.declared.place.Standing.TheVariants as standing

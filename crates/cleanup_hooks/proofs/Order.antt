@@ -12,6 +12,7 @@ use Rattle.napi_types.specs.parts.Hooks.{Hook, last_hook, without_hook}
 use Rattle.cleanup_hooks.specs.declared.key.HookKey.{HookKey}
 use Rattle.cleanup_hooks.specs.Kept.{hook_of, hooks_of}
 use Rattle.cleanup_hooks.proofs.Keys.{number-decides}
+use Rattle.napi_types.proofs.plain.Found.{same-self}
 
 -- the ticket of a hook is below n
 abbrev IsBelow : ℕ → Hook → Type 0
@@ -63,10 +64,7 @@ hooks_of_remove_entry (e ∷ es) n rising = by (is_eq (nat_cmp n e.0)) refl (hoo
 
 -- the last entry is the hook of its ticket
 pub without_hook_push : (es : List (ℕ × HookKey)) (n : ℕ) (k : HookKey) → All (λ m. nat_cmp m n ≡ Less) (keys_of es) → without_hook n (hooks_of (es ++ (n, k) ∷ [])) ≡ hooks_of es
-without_hook_push [] n k below = rw (itself n) refl
-  where
-    itself : (n : ℕ) → (n == n) ≡ true
-    itself n = grind arith
+without_hook_push [] n k below = rw (same-self n) refl
 without_hook_push (e ∷ es) n k below =
     let other : (e.0 == n) ≡ false = apart e.0 n (All-head (λ m. nat_cmp m n ≡ Less) e.0 (keys_of es) below) in
     rw other (ap (λ hs. hook_of e ∷ hs) (without_hook_push es n k (All-tail (λ m. nat_cmp m n ≡ Less) e.0 (keys_of es) below)))

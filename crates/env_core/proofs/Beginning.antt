@@ -1,7 +1,6 @@
 -- The tickets of the frames that stand have begun, and stay so until they end.
-use Rattle.std.proofs.Common.{◌≡◌, ◌≢◌, ◌∙◌, ℕ, zero, suc, ◌==◌, Bool, true, false, cond, List, [], ◌∷◌, ◌++◌, get_or, slice_get, length, map, ◌≤◌, Option, Some, None, IfSome, option_map, refl, sym, ap, subst}
+use Rattle.std.proofs.Common.{◌≡◌, ◌≢◌, ◌∙◌, ℕ, suc, ◌==◌, Bool, true, false, cond, List, [], ◌∷◌, get_or, length, map, ◌≤◌, Option, Some, None, IfSome, option_map, refl, sym, ap, subst}
 use Rattle.std.specs.List.{All, cons_option}
-use Rattle.std.specs.Option.{unwrap_or}
 use Rattle.std.proofs.lemmas.List.{append-nil}
 use Rattle.std.proofs.lemmas.List.Elements.{All-head, All-tail, All-cons, All-nil, All-push}
 use Rattle.napi_types.specs.declared.duties.DueInfo.{DueInfo}
@@ -14,7 +13,7 @@ use Rattle.napi_types.specs.declared.entry.Phase.TheVariants as phase
 use Rattle.napi_types.specs.declared.entry.Why.{Why}
 use Rattle.napi_types.specs.plain.Lists.{tail}
 use Rattle.napi_types.specs.parts.Attachments.{Wrapped, Attached, Attachments}
-use Rattle.napi_types.specs.parts.Book.{Book, Registration, TicketState, Registered, is_registered, is_begun, is_at, registration_at, due_info, made_due, made_withdrawn, made_due_and_begun, made_ended, moved, moved_at, moved_where, due_where, with_registration, begun_in}
+use Rattle.napi_types.specs.parts.Book.{Book, Registration, TicketState, Registered, is_registered, is_begun, is_at, registration_at, due_info, made_due_and_begun, made_ended, moved_at, moved_where, with_registration, begun_in}
 use Rattle.napi_types.specs.parts.Duties.{duties_of}
 use Rattle.napi_types.specs.parts.Frames.{Frame, duty_of, frame_of_duty, ask_counted, is_hub_duty}
 use Rattle.napi_types.specs.parts.Graph.{StoreState, IsLive}
@@ -29,18 +28,15 @@ use Rattle.napi_types.specs.environment.Hooked.{is_late, IsHooked}
 use Rattle.napi_types.specs.environment.Tickets.{hooks_left, ticket_change}
 use Rattle.napi_types.proofs.plain.Found.{same-self}
 use Rattle.napi_types.proofs.parts.Books.{length-moved, All-moved}
-use Rattle.napi_types.proofs.parts.Moved.{registration_at-moved_where}
+use Rattle.napi_types.proofs.parts.Moved.{IsUnder, PassesTest, under-ticket, is_at-moved_where, is_at-before}
+use Rattle.napi_types.proofs.parts.Moves.{Move, Ends, next, begun-moved}
 use Rattle.napi_types.proofs.environment.HookedSteps.{hook-registered}
-use Rattle.napi_types.proofs.environment.Registrations.{registered-holds}
+use Rattle.napi_types.proofs.environment.Registrations.{registered-holds, left-kept, AreUncalled}
 use Rattle.finalizer_queue.specs.Kept.{ticket_number}
 use Rattle.handle_scope.specs.HandleScopes.{HandleScopes, with_frame_scopes}
 use Rattle.env_core.specs.Attaching.{IsAttached}
 use Rattle.env_core.specs.Beginning.{AreBegun, IsBookOf}
 use Rattle.env_core.specs.State.{IsState, is_by_call}
-
--- what is under a ticket has begun
-abbrev has_begun : Option Registration → Bool
-has_begun o = unwrap_or (option_map (λ (r : Registration). is_begun r.state) o) false
 
 -- THE BOOK CHANGES
 -- every ticket that has begun is still one that has
@@ -57,14 +53,9 @@ moved-uncalled : (move : TicketState → TicketState) (test : ℕ → Bool) (boo
 moved-uncalled move test book all = All-moved (λ (r : Registration). r.cause ≢ cause.Call) move (λ r h. h) test book all
 
 -- one registration more
-found-before : (r : Registration) (rs : List Registration) (p : ℕ) → has_begun (slice_get rs p) ≡ true → slice_get (rs ++ r ∷ []) p ≡ slice_get rs p
-found-before r [] p is = let no : ⊥ = cc in absurd no
-found-before r (q ∷ rs) zero is = refl
-found-before r (q ∷ rs) (suc p) is = found-before r rs p is
-
 registered-stays : (r : Registration) (book : Book) → StayBegun book (with_registration r book)
-registered-stays r book zero is = is
-registered-stays r book (suc p) is = ap has_begun (found-before r book p is) ∙ is
+registered-stays r book n is =
+    let u : IsUnder (PassesTest is_begun) book n = under-ticket is_begun book n is in is_at-before is_begun book r n u.registration u.there ∙ is
 
 pub book-registered : (frames : List Frame) (old new : Book) (r : Registration) → new ≡ with_registration r old → r.cause ≢ cause.Call → IsBookOf frames old → IsBookOf frames new
 book-registered frames old new r is uncalled book =
@@ -73,37 +64,24 @@ book-registered frames old new r is uncalled book =
       uncalled = All-push (λ (q : Registration). q.cause ≢ cause.Call) old r book.uncalled uncalled;
     })
 
--- a move that a ticket does not make once it has begun
-moved-begun : (move : TicketState → TicketState) → ((s : TicketState) → is_begun s ≡ true → is_begun (move s) ≡ true) → (b : Bool) (o : Option Registration) → has_begun o ≡ true
-    → has_begun (option_map (λ r. cond b (moved move r) r) o) ≡ true
-moved-begun move keeps b None is = is
-moved-begun move keeps true (Some r) is = keeps r.state is
-moved-begun move keeps false (Some r) is = is
+-- a move that a ticket makes, other than its end
+moved-stays : (move : Move) → move ≢ Ends → (test : ℕ → Bool) (book : Book) → StayBegun book (moved_where (next move) test book)
+moved-stays move goes test book n is = is_at-moved_where is_begun (next move) test book n u.registration u.there ∙ by (test n)
+  where
+    u : IsUnder (PassesTest is_begun) book n
+    u = under-ticket is_begun book n is
 
-moved-stays : (move : TicketState → TicketState) → ((s : TicketState) → is_begun s ≡ true → is_begun (move s) ≡ true) → (test : ℕ → Bool) (book : Book) → StayBegun book (moved_where move test book)
-moved-stays move keeps test book n is = ap has_begun (registration_at-moved_where move test book n) ∙ moved-begun move keeps (test n) (registration_at book n) is
+    by : (b : Bool) → is_begun (cond b (next move u.registration.state) u.registration.state) ≡ true
+    by true = begun-moved move goes u.registration.state u.holds
+    by false = u.holds
 
-withdrawn-keeps : (s : TicketState) → is_begun s ≡ true → is_begun (made_withdrawn s) ≡ true
-withdrawn-keeps Registered is = cc
-withdrawn-keeps _ is = is
-
-due-keeps : (s : TicketState) → is_begun s ≡ true → is_begun (made_due s) ≡ true
-due-keeps Registered is = cc
-due-keeps _ is = is
-
-moved-book : (frames : List Frame) (move : TicketState → TicketState) → ((s : TicketState) → is_begun s ≡ true → is_begun (move s) ≡ true) → (test : ℕ → Bool) (old new : Book)
-    → new ≡ moved_where move test old → IsBookOf frames old → IsBookOf frames new
-moved-book frames move keeps test old new is book =
-    same-book frames (moved_where move test old) new is (record {
-      begun = stays-begun frames old (moved_where move test old) (moved-stays move keeps test old) book.begun;
-      uncalled = moved-uncalled move test old book.uncalled;
+pub book-moved : (frames : List Frame) (move : Move) → move ≢ Ends → (old new : Book) (test : ℕ → Bool) → new ≡ moved_where (next move) test old
+    → IsBookOf frames old → IsBookOf frames new
+book-moved frames move goes old new test is book =
+    same-book frames (moved_where (next move) test old) new is (record {
+      begun = stays-begun frames old (moved_where (next move) test old) (moved-stays move goes test old) book.begun;
+      uncalled = moved-uncalled (next move) test old book.uncalled;
     })
-
-pub book-withdrawn : (frames : List Frame) (old new : Book) (n : ℕ) → new ≡ moved_at made_withdrawn n old → IsBookOf frames old → IsBookOf frames new
-book-withdrawn frames old new n is book = moved-book frames made_withdrawn withdrawn-keeps (λ m. m == n) old new is book
-
-pub book-due : (frames : List Frame) (old new : Book) (test : ℕ → Bool) → new ≡ due_where test old → IsBookOf frames old → IsBookOf frames new
-book-due frames old new test is book = moved-book frames made_due due-keeps test old new is book
 
 -- the book gave what it gave before, however its tickets moved
 pub attached-moved : (s : StoreState) (a : Attachments) (old new : Book) → length new ≡ length old → IsAttached s a old → IsAttached s a new
@@ -138,17 +116,13 @@ book-left frames left book is k = let P : List Frame → Type 0 = λ fs. IsBookO
     fewer [] all = all
     fewer (f ∷ fs) all = less-begun (λ d. is_at is_begun book (ticket_number d) ≡ true) f.duty (duties_of fs) all
 
-uncalled-ended : (d : Duty) (book : Book) → All (λ r. r.cause ≢ cause.Call) book → All (λ r. r.cause ≢ cause.Call) (duty_ended (Some d) book)
-uncalled-ended (duty.Ticket t) book all = moved-uncalled made_ended (λ m. m == t.0) book all
-uncalled-ended _ book all = all
-
 -- the only frame is gone, and its duty has ended
 pub book-ended : (frames left : List Frame) (old new : Book) (d : Duty) → left ≡ [] → new ≡ duty_ended (Some d) old → IsBookOf frames old → IsBookOf left new
 book-ended frames left old new d none is book =
     let P : List Frame → Type 0 = λ fs. IsBookOf fs new in
     subst P (sym none) (same-book [] (duty_ended (Some d) old) new is (record {
       begun = All-nil (λ (q : Duty). is_at is_begun (duty_ended (Some d) old) (ticket_number q) ≡ true);
-      uncalled = uncalled-ended d old book.uncalled;
+      uncalled = left-kept AreUncalled old (λ t. moved-uncalled made_ended (λ m. m == t) old book.uncalled) cause.Init (Some d) book.uncalled;
     }))
 
 -- the frame of a ticket that begins stands alone
@@ -164,24 +138,12 @@ book-begun frames left old new f d move n none moves is of begun book =
       uncalled = subst R (sym moves) (moved-uncalled move (λ m. m == n) old book.uncalled);
     })
 
--- what is under a ticket that passes a test
-pub record IsUnder (test : TicketState → Bool) (book : Book) (n : ℕ) : Type 0 where
-  pub registration : Registration
-  pub there : registration_at book n ≡ Some registration
-  pub passes : test registration.state ≡ true
-
-pub under-ticket : (test : TicketState → Bool) (book : Book) (n : ℕ) → is_at test book n ≡ true → IsUnder test book n
-under-ticket test book n is = by (registration_at book n) refl is
-  where
-    by : (o : Option Registration) → registration_at book n ≡ o → unwrap_or (option_map (λ (r : Registration). test r.state) o) false ≡ true → IsUnder test book n
-    by None there is = let no : ⊥ = cc in absurd no
-    by (Some r) there is = record { registration = r; there = there; passes = is }
-
 -- before `finals` the ticket of the hook that was added last is registered
-pub last-registered : (e : Environment) (n : ℕ) → IsHooked e → is_late e.phase ≡ false → Some n ≡ option_map (λ h. h.ticket) (last_hook e.hooks) → IsUnder is_registered e.book n
+pub last-registered : (e : Environment) (n : ℕ) → IsHooked e → is_late e.phase ≡ false → Some n ≡ option_map (λ h. h.ticket) (last_hook e.hooks)
+    → IsUnder (PassesTest is_registered) e.book n
 last-registered e n hooked early is = by (last_hook e.hooks) refl is
   where
-    by : (o : Option Hook) → last_hook e.hooks ≡ o → Some n ≡ option_map (λ h. h.ticket) o → IsUnder is_registered e.book n
+    by : (o : Option Hook) → last_hook e.hooks ≡ o → Some n ≡ option_map (λ h. h.ticket) o → IsUnder (PassesTest is_registered) e.book n
     by None last is = let no : ⊥ = cc in absurd no
     by (Some h) last is = under-ticket is_registered e.book n (ap (is_at is_registered e.book) (cc) ∙ hook-registered e h hooked early last)
 
@@ -192,10 +154,8 @@ hook-begins _ is = cc
 
 pub hook-begun : (old new : Book) (n : ℕ) (r : Registration) → registration_at old n ≡ Some r → is_registered r.state ≡ true → new ≡ moved_at made_due_and_begun n old → is_at is_begun new n ≡ true
 hook-begun old new n r there registered is =
-    ap (λ (b : Book). is_at is_begun b n) is ∙ ap has_begun (registration_at-moved_where made_due_and_begun (λ m. m == n) old n)
-    ∙ ap (λ o. has_begun (option_map (λ q. cond (n == n) (moved made_due_and_begun q) q) o)) there
-    ∙ ap (λ b. has_begun (Some (cond b (moved made_due_and_begun r) r))) (same-self n)
-    ∙ hook-begins r.state registered
+    ap (λ (b : Book). is_at is_begun b n) is ∙ is_at-moved_where is_begun made_due_and_begun (λ m. m == n) old n r there
+    ∙ ap (λ b. is_begun (cond b (made_due_and_begun r.state) r.state)) (same-self n) ∙ hook-begins r.state registered
 
 -- the environment after the begin, by the phase
 abbrev begun_as : Phase → ℕ → Registration → Environment → Environment

@@ -33,7 +33,8 @@ use Rattle.napi_types.specs.environment.JournalRoom.{gone_place, reserved_journa
 use Rattle.napi_types.specs.environment.Refusals.{refusal, early_refusal, depth_refusal}
 use Rattle.napi_types.specs.environment.Tickets.{ticket_change, ticket_in, next_ticket}
 use Rattle.napi_types.proofs.parts.BookSteps.{step-length}
-use Rattle.napi_types.proofs.parts.Books.{owed-begun, IsDueAt, lowest-due, length-moved}
+use Rattle.napi_types.proofs.parts.Books.{owed-begun, lowest-due, length-moved}
+use Rattle.napi_types.proofs.parts.Moved.{IsUnder, PassesTest}
 use Rattle.napi_types.proofs.environment.Answers.{course-parts, KeepsButAsk, call_change-keeps, call-reserved}
 use Rattle.napi_types.proofs.environment.FrameChanges.{book_left, owed-left, KeepsButFrame, ended-keeps}
 use Rattle.napi_types.proofs.environment.HookedSteps.{hooked-called, hooked-ended, hooked-begun, hooked-phase}
@@ -42,7 +43,7 @@ use Rattle.env_core.specs.Journal.{Pages}
 use Rattle.env_core.specs.Core.{Core, IsCore, after_change, room_in}
 use Rattle.env_core.specs.State.{Calls}
 use Rattle.env_core.specs.Steps.{Replies}
-use Rattle.env_core.proofs.Beginning.{IsUnder, last-registered, length-duty}
+use Rattle.env_core.proofs.Beginning.{last-registered, length-duty}
 
 -- the core of an environment and a journal
 abbrev pub core_of : Environment → Pages → Core
@@ -173,15 +174,15 @@ next-may e n r hooked next there = by e.phase refl next
   where
     due : lowest_due e.book ≡ Some n → is_due r.state ≡ true
     due lowest =
-        let d : IsDueAt e.book n = lowest-due e.book n lowest in
+        let d : IsUnder (PassesTest is_due) e.book n = lowest-due e.book n lowest in
         let same : r ≡ d.registration = cc in
-        ap (λ (q : Registration). is_due q.state) same ∙ d.due
+        ap (λ (q : Registration). is_due q.state) same ∙ d.holds
 
     hook : e.phase ≡ phase.Hooks → option_map (λ h. h.ticket) (last_hook e.hooks) ≡ Some n → is_registered r.state ≡ true
     hook at is =
-        let u : IsUnder is_registered e.book n = last-registered e n hooked (ap is_late at) (sym is) in
+        let u : IsUnder (PassesTest is_registered) e.book n = last-registered e n hooked (ap is_late at) (sym is) in
         let same : r ≡ u.registration = cc in
-        ap (λ (q : Registration). is_registered q.state) same ∙ u.passes
+        ap (λ (q : Registration). is_registered q.state) same ∙ u.holds
 
     by : (p : Phase) → e.phase ≡ p → ticket_in e p ≡ Some n → may_begin_in p r.state ≡ true
     by phase.Live at is = due is

@@ -38,6 +38,7 @@ use Rattle.napi_types.proofs.plain.Maps.{All-with_record, map-with_record}
 use Rattle.napi_types.proofs.plain.Lists.{length-changed}
 use Rattle.napi_types.proofs.plain.Found.{apart-below}
 use Rattle.napi_types.proofs.parts.Books.{length-moved}
+use Rattle.napi_types.proofs.parts.Moves.{Withdraws}
 use Rattle.handle_scope.specs.HandleScopes.{HandleScopes}
 use Rattle.env_values.specs.Seen.{seen_frame, heap_of}
 use Rattle.env_core.specs.Attaching.{seen_wrap, seen_attached, attachments_seen, IsGiven, IsAttached, target_refusal}
@@ -48,7 +49,7 @@ use Rattle.env_core.specs.Referring.{references_seen, RefersToLive}
 use Rattle.env_core.specs.Registering.{ticket_for, with_registration_if, duty_if, withdrawn_if, RefersIf}
 use Rattle.env_core.specs.State.{AnswersInTime}
 use Rattle.env_core.proofs.Attaching.{seen-wrap_of, seen-with_wrap, seen-without_wrap, attached-with_wrap, seen-payload, wrap-free, target-taken, timely-finalizer}
-use Rattle.env_core.proofs.Beginning.{book-registered, book-withdrawn}
+use Rattle.env_core.proofs.Beginning.{book-registered, book-moved}
 use Rattle.env_core.proofs.Referring.{replied-timely, seen-with}
 
 -- THE BOOK
@@ -146,7 +147,7 @@ book-asked frames old new e payload hint (Some n) f is noted book =
 
 pub book-dropped : (frames : List Frame) (old new : Book) (t : Option ℕ) → new ≡ withdrawn_if t old → IsBookOf frames old → IsBookOf frames new
 book-dropped frames old new None is book = let P : Book → Type 0 = λ b. IsBookOf frames b in subst P (sym is) book
-book-dropped frames old new (Some n) is book = book-withdrawn frames old new n is book
+book-dropped frames old new (Some n) is book = book-moved frames Withdraws (λ h. cc) old new (λ m. m == n) is book
 
 -- WHAT IS SEEN
 pub seen-attached_if : (s : StoreState) (a : Attachments) (v : ℕ) (ticket : Option ℕ) → attachments_seen s (attached_if v ticket a) ≡ attached_if (number_in s v) ticket (attachments_seen s a)

@@ -6,9 +6,10 @@ use Rattle.std.specs.List.{sum_by}
 use Rattle.std.specs.Option.{unwrap_or, is_some}
 use Rattle.std.proofs.lemmas.List.{length-set, length-append, length-map}
 use Rattle.std.proofs.lemmas.List.Sums.{sum_by-set, sum_by-append, sum_by-cons, get_or-le-sum_by}
+use Rattle.std.proofs.lemmas.Bool.{or_parts}
 use Rattle.std.proofs.lemmas.Bool.Decides.{nat_tests}
 use Rattle.napi_types.specs.declared.duties.Slip.{Slip}
-use Rattle.napi_types.specs.parts.Book.{Registration, lowest_due, TicketState, Registered, Due, Begun, is_registered, is_due, is_begun, is_at, moved, made_due, made_withdrawn, made_begun, made_ended, made_due_and_begun}
+use Rattle.napi_types.specs.parts.Book.{Registration, lowest_due, TicketState, Registered, Due, Begun, is_registered, is_due, is_begun, is_owed, is_at, moved, made_due, made_begun, made_due_and_begun}
 use Rattle.napi_types.proofs.plain.Found.{apart-above}
 use Rattle.finalizer_queue.specs.declared.rows.Row.{Row}
 use Rattle.finalizer_queue.specs.declared.rows.RowState.{RowState}
@@ -18,6 +19,16 @@ use Rattle.finalizer_queue.proofs.Heaps.{times, times-moved, times-more, bound-t
 use Rattle.finalizer_queue.proofs.Lowest.{lowest-is, lowest-none, lowest-some}
 use Rattle.finalizer_queue.proofs.Moves.{IsRow, is_at-row, is_at-set, is_at-within}
 
+-- STATES
+pub registered-undue : (s : TicketState) → is_registered s ≡ true → is_due s ≡ false
+registered-undue Registered some = refl
+registered-undue _ some = cc
+
+pub begun-unowed : (s : TicketState) → is_begun s ≡ true → is_owed s ≡ false
+begun-unowed Begun is = refl
+begun-unowed _ is = cc
+
+-- THE HEAP
 itself : (n : ℕ) → ◌≡◌ {A = ℕ} (cond (n == n) 1 0) 1
 itself n = grind arith
 
@@ -70,54 +81,13 @@ kept-beside rows spare row_places count places ts kept n x y row as_due waits =
 state-moved : (move : TicketState → TicketState) (x y : Row) → row_registration y ≡ moved move (row_registration x) → state_of y.state ≡ move (state_of x.state)
 state-moved move x y is = ap (λ r. r.state) is
 
--- a ticket that is registered is withdrawn
-pub kept-withdrawn : (rows : List Row) (spare row_places count places : ℕ) (ts : List (Reverse ℕ)) → AreKept rows spare row_places ts count places
-    → (n : ℕ) (x y : Row) → IsRow rows n x
-    → row_registration y ≡ moved made_withdrawn (row_registration x) → AreKept (set rows (n - 1) y) spare row_places ts count places
-kept-withdrawn rows spare row_places count places ts kept n x y row is =
-    kept-beside rows spare row_places count places ts kept n x y row
-    (ap is_due (state-moved made_withdrawn x y is) ∙ as_due (state_of x.state))
-    (ap is_registered (state-moved made_withdrawn x y is) ∙ waits (state_of x.state))
-  where
-    as_due : (s : TicketState) → is_due (made_withdrawn s) ≡ is_due s
-    as_due Registered = refl
-    as_due _ = refl
-
-    waits : (s : TicketState) → is_registered (made_withdrawn s) ≡ false
-    waits Registered = refl
-    waits _ = refl
-
--- a ticket that has begun ends
-pub kept-ended : (rows : List Row) (spare row_places count places : ℕ) (ts : List (Reverse ℕ)) → AreKept rows spare row_places ts count places
-    → (n : ℕ) (x y : Row) → IsRow rows n x → is_registered (state_of x.state) ≡ false
-    → row_registration y ≡ moved made_ended (row_registration x) → AreKept (set rows (n - 1) y) spare row_places ts count places
-kept-ended rows spare row_places count places ts kept n x y row none is =
-    kept-beside rows spare row_places count places ts kept n x y row (ap is_due (state-moved made_ended x y is) ∙ as_due (state_of x.state))
-    (ap is_registered (state-moved made_ended x y is) ∙ waits (state_of x.state) ∙ none)
-  where
-    as_due : (s : TicketState) → is_due (made_ended s) ≡ is_due s
-    as_due Registered = refl
-    as_due _ = refl
-
-    waits : (s : TicketState) → is_registered (made_ended s) ≡ is_registered s
-    waits Registered = refl
-    waits _ = refl
-
--- a ticket that is registered falls due and begins
-pub kept-begun : (rows : List Row) (spare row_places count places : ℕ) (ts : List (Reverse ℕ)) → AreKept rows spare row_places ts count places
-    → (n : ℕ) (x y : Row) → IsRow rows n x → is_registered (state_of x.state) ≡ true
-    → row_registration y ≡ moved made_due_and_begun (row_registration x) → AreKept (set rows (n - 1) y) spare row_places ts count places
-kept-begun rows spare row_places count places ts kept n x y row some is =
-    kept-beside rows spare row_places count places ts kept n x y row (ap is_due (state-moved made_due_and_begun x y is) ∙ as_due (state_of x.state) some)
-    (ap is_registered (state-moved made_due_and_begun x y is) ∙ waits (state_of x.state))
-  where
-    as_due : (s : TicketState) → is_registered s ≡ true → is_due (made_due_and_begun s) ≡ is_due s
-    as_due Due some = cc
-    as_due _ some = refl
-
-    waits : (s : TicketState) → is_registered (made_due_and_begun s) ≡ false
-    waits Registered = refl
-    waits _ = refl
+-- a ticket that is not due is moved, and is then neither registered nor due
+pub kept-spent : (rows : List Row) (spare row_places count places : ℕ) (ts : List (Reverse ℕ)) → AreKept rows spare row_places ts count places
+    → (n : ℕ) (x y : Row) → IsRow rows n x → (move : TicketState → TicketState) → row_registration y ≡ moved move (row_registration x)
+    → is_due (state_of x.state) ≡ false → is_owed (move (state_of x.state)) ≡ false → AreKept (set rows (n - 1) y) spare row_places ts count places
+kept-spent rows spare row_places count places ts kept n x y row move is undue after =
+    let spent = or_parts (is_registered (state_of y.state)) (is_due (state_of y.state)) (ap is_owed (state-moved move x y is) ∙ after) in
+    kept-beside rows spare row_places count places ts kept n x y row (spent.1 ∙ sym undue) spent.0
 
 -- a ticket that is not registered does not fall due
 pub kept-stays : (rows : List Row) (spare row_places count places : ℕ) (ts : List (Reverse ℕ)) → AreKept rows spare row_places ts count places
@@ -153,7 +123,7 @@ pub kept-due : (rows : List Row) (spare row_places count places count_after plac
     → AreKept (set rows (n - 1) y) spare row_places us count_after places_after
 kept-due rows spare row_places count places count_after places_after ts us kept n x y row some is t named perm heap more wider =
     let due : state_of y.state ≡ Due = state-moved made_due x y is ∙ falls (state_of x.state) some in
-    let none : times n ts ≡ 0 = kept.once n ∙ ap (λ b. cond b 1 0) (is_at-row is_due rows n x row ∙ before (state_of x.state) some) in
+    let none : times n ts ≡ 0 = kept.once n ∙ ap (λ b. cond b 1 0) (is_at-row is_due rows n x row ∙ registered-undue (state_of x.state) some) in
     let has : (m : ℕ) → times m us ≡ cond (m == n) (cond (is_due (state_of y.state)) 1 0) (times m ts) =
     λ m. pushed-times m n t ts us named perm none ∙ ap (λ s. cond (m == n) (cond (is_due s) 1 0) (times m ts)) (sym due) in
     let after : ◌≡◌ {A = ℕ} (cond (is_registered (state_of y.state)) 1 0) 0 = ap (λ s. cond (is_registered s) 1 0) due in
@@ -162,12 +132,7 @@ kept-due rows spare row_places count places count_after places_after ts us kept 
   where
     falls : (s : TicketState) → is_registered s ≡ true → made_due s ≡ Due
     falls Registered some = refl
-    falls Due some = refl
     falls _ some = cc
-
-    before : (s : TicketState) → is_registered s ≡ true → is_due s ≡ false
-    before Due some = cc
-    before _ some = refl
 
 -- the heap has a ticket less, which was there once
 popped-times : (m n : ℕ) (t : Reverse ℕ) (ts us : List (Reverse ℕ)) → t.0 ≡ n → IsPermutation ts (t ∷ us) → times n ts ≡ 1 → times m us ≡ cond (m == n) 0 (times m ts)
@@ -304,17 +269,13 @@ pub never_refused : {V E : Type 0} (r : Result V E) (e : E) → r ≡ Err e → 
 never_refused (Ok v) e is ok = let no : ⊥ = cc in absurd no
 never_refused (Err f) e is ok = true≢false (sym ok)
 
--- STATES
+-- A TICKET THAT MAY BEGIN
 pub other-state : (s : RowState) → ((slip : Slip) → s ≡ state.Registered slip → ⊥) → is_registered (state_of s) ≡ false
 other-state (state.Registered slip) other = absurd (other slip refl)
 other-state (state.Due slip) other = refl
 other-state state.Begun other = refl
 other-state state.Ended other = refl
 other-state state.Withdrawn other = refl
-
-pub begun-unregistered : (s : TicketState) → is_begun s ≡ true → is_registered s ≡ false
-begun-unregistered Registered is = cc
-begun-unregistered _ is = refl
 
 pub registered-waits : (s : TicketState) → is_registered s ≡ true → (is_registered s || is_due s) ≡ true
 registered-waits s is = rw is refl

@@ -3,9 +3,10 @@ use Rattle.std.proofs.Common.{◌≡◌, ◌∙◌, ℕ, zero, suc, ◌+◌, ◌
 use Rattle.std.specs.Option.{unwrap_or}
 use Rattle.std.proofs.lemmas.List.{map-set, length-map}
 use Rattle.std.proofs.lemmas.Option.{slice_get-map, slice_get_read, slice_get_within, slice_get_past}
-use Rattle.std.proofs.lemmas.Bool.{eq-eqb}
+use Rattle.std.proofs.lemmas.Bool.{eq-eqb, le-ltb, lt-ltb}
 use Rattle.napi_types.specs.parts.Book.{Book, Registration, TicketState, made_due, moved, moved_from, moved_at, due_where, all_due, registration_at, is_at}
-use Rattle.napi_types.proofs.plain.Found.{apart-below, apart-above, next-same}
+use Rattle.napi_types.proofs.plain.Counted.{slice_get-set}
+use Rattle.napi_types.proofs.plain.Found.{apart-below, next-same, turned}
 use Rattle.napi_types.proofs.parts.Books.{moved_from-below, length-moved}
 use Rattle.finalizer_queue.specs.declared.rows.Row.{Row}
 use Rattle.finalizer_queue.specs.Rows.{row_registration, state_of, book_of}
@@ -36,13 +37,6 @@ book_of-moved move rows n x y row is =
     map-set row_registration rows (n - 1) y ∙ moved_from-at move 1 (n - 1) n (book_of rows) (row_registration x) (row_registration y) (omega (arith, row.above)) read is
 
 -- WHAT IS UNDER A TICKET
-pub slice_get-set : {X : Type 0} (xs : List X) (p q : ℕ) (y : X) → p < length xs → slice_get (set xs p y) q ≡ cond (q == p) (Some y) (slice_get xs q)
-slice_get-set [] p q y h = absurd (omega arith)
-slice_get-set (x ∷ xs) zero zero y h = refl
-slice_get-set (x ∷ xs) zero (suc q) y h = rw (apart-above 0 (suc q) (omega arith)) refl
-slice_get-set (x ∷ xs) (suc p) zero y h = rw (apart-below 0 (suc p) (omega arith)) refl
-slice_get-set (x ∷ xs) (suc p) (suc q) y h = rw (next-same q p) (slice_get-set xs p q y (omega arith))
-
 state-read : (test : TicketState → Bool) (b : Bool) (y : Row) (o : Option Row)
     → unwrap_or (option_map (λ (r : Registration). test r.state) (option_map row_registration (cond b (Some y) o))) false
     ≡ cond b (test (state_of y.state)) (unwrap_or (option_map (λ (r : Registration). test r.state) (option_map row_registration o)) false)
@@ -58,7 +52,7 @@ is_at-set test rows (suc p) (suc q) y above within =
     let place : suc p - 1 ≡ p = omega arith in
     let tells : Option Registration → Bool = λ o. unwrap_or (option_map (λ r. test r.state) o) false in
     rw (place, next-same q p) (
-    ap tells (slice_get-map row_registration (set rows p y) q ∙ ap (option_map row_registration) (slice_get-set rows p q y (omega arith)))
+    ap tells (slice_get-map row_registration (set rows p y) q ∙ ap (option_map row_registration) (slice_get-set rows p y q (omega arith) ∙ ap (λ b. cond b (Some y) (slice_get rows q)) (turned p q)))
     ∙ state-read test (q == p) y (slice_get rows q)
     ∙ ap (λ o. cond (q == p) (test (state_of y.state)) (tells o)) (sym (slice_get-map row_registration rows q)))
 
@@ -101,10 +95,7 @@ row-passes test rows book n x view is here =
 -- no ticket is below 1
 due-none : (k : ℕ) (rs : List Registration) → 1 ≤ k → moved_from k made_due (λ m. nat_lt m 1) rs ≡ rs
 due-none k [] h = refl
-due-none k (r ∷ rs) h = rw (over k h) (ap (λ qs. r ∷ qs) (due-none (suc k) rs (omega arith)))
-  where
-    over : (k : ℕ) → 1 ≤ k → nat_lt k 1 ≡ false
-    over k h = grind arith
+due-none k (r ∷ rs) h = rw (le-ltb k 1 h) (ap (λ qs. r ∷ qs) (due-none (suc k) rs (omega arith)))
 
 pub due_where-none : (book : Book) → book ≡ due_where (λ m. nat_lt m 1) book
 due_where-none book = sym (due-none 1 book (omega arith))
@@ -122,10 +113,7 @@ due_where-more book n = due-more 1 n book
 
 due-all : (k n : ℕ) (rs : List Registration) → k + length rs ≤ n → moved_from k made_due (λ m. nat_lt m n) rs ≡ moved_from k made_due (λ m. true) rs
 due-all k n [] h = refl
-due-all k n (r ∷ rs) h = rw (under k n (omega arith)) (ap (λ qs. moved made_due r ∷ qs) (due-all (suc k) n rs (omega arith)))
-  where
-    under : (k n : ℕ) → k < n → nat_lt k n ≡ true
-    under k n h = grind arith
+due-all k n (r ∷ rs) h = rw (lt-ltb k n (omega arith)) (ap (λ qs. moved made_due r ∷ qs) (due-all (suc k) n rs (omega arith)))
 
 -- and all are, once the last is
 pub due_where-all : (book : Book) (n : ℕ) → length book < n → due_where (λ m. nat_lt m n) book ≡ all_due book

@@ -27,7 +27,8 @@ use Rattle.napi_types.specs.runs.Loop.{Event, Tickets, Moves, Goes, EndsLoop, Dr
 use Rattle.napi_types.specs.runs.Machine.{Machine}
 use Rattle.napi_types.specs.runs.Step.{Step, ticket_step, move_step, event_step, chosen, step}
 use Rattle.napi_types.proofs.plain.Lists.{find-passes}
-use Rattle.napi_types.proofs.parts.Books.{IsDueAt, lowest-due, lowest-below}
+use Rattle.napi_types.proofs.parts.Books.{lowest-due, lowest-below}
+use Rattle.napi_types.proofs.parts.Moved.{IsUnder, PassesTest}
 use Rattle.napi_types.proofs.environment.Cases.{asked-by}
 use Rattle.napi_types.proofs.hub.HubDuties.{delivery-of_hub}
 use Rattle.napi_types.proofs.runs.SharedSteps.{others-none}
@@ -47,10 +48,10 @@ lowest-chosen e _ n o begins lowest = cc
 
 pub lowest-first : LowestDueTicketComesFirst
 lowest-first m n a x alone begins lowest who next =
-    let due : IsDueAt m.env.book n = lowest-due m.env.book n lowest in
+    let due : IsUnder (PassesTest is_due) m.env.book n = lowest-due m.env.book n lowest in
     let s : step m a x ≡ ticket_step m n (Some due.registration) =
     chosen-next m a x who alone ∙ ap (chosen m) (lowest-chosen m.env m.env.phase n (hub_choice m.hub) begins lowest) ∙ ap (ticket_step m n) due.there in
-    record { registration = due.registration; there = due.there; due = due.due; entry = next.0 ∙ ap (λ (t : Step). t.entry) s }
+    record { registration = due.registration; there = due.there; due = due.holds; entry = next.0 ∙ ap (λ (t : Step). t.entry) s }
 
 -- .. and in the phase of the hooks the last of them
 hook-chosen : (e : Environment) (h : Hook) (o : Option Event) → e.phase ≡ phase.Hooks → last_hook e.hooks ≡ Some h

@@ -4,12 +4,12 @@ use Rattle.std.specs.List.{All, filter_map, cons_option}
 use Rattle.std.proofs.lemmas.List.{length-map}
 use Rattle.std.proofs.lemmas.List.Elements.{All-head, All-tail}
 use Rattle.napi_types.specs.declared.ids.ValueId.{ValueId}
-use Rattle.napi_types.specs.plain.Lists.{as_map, up_to}
+use Rattle.napi_types.specs.plain.Lists.{up_to}
 use Rattle.napi_types.specs.parts.References.{Reference, strong_value, strong_values, value_left, emptied}
 use Rattle.napi_reference.specs.declared.rows.Row.{Row}
 use Rattle.napi_reference.specs.Places.{ReferencePlaces, map_of}
 use Rattle.napi_reference.specs.Rows.{reference_of, places_of, id_left, weak_emptied}
-use Rattle.napi_reference.proofs.Numbers.{listed_from, listed-map}
+use Rattle.napi_reference.proofs.Numbers.{listed_from, rows-listed}
 use Rattle.napi_reference.proofs.Changes.{same-map}
 
 -- one element more of a list is changed in its place
@@ -65,12 +65,12 @@ listed-emptied collected k (Some row ∷ rows) kept =
 pub rows-emptied : (collected : ℕ → Bool) (rows : List (Option Row)) (p : ReferencePlaces) → places_of rows ≡ p → All (λ v. collected v ≡ false) (strong_values (map_of p))
     → map_of (places_of (map (option_map (weak_emptied collected)) rows)) ≡ emptied collected (map_of p)
 rows-emptied collected rows p view kept =
-    let here : All (λ v. collected v ≡ false) (filter_map strong_value (as_map (λ r. r.number) (listed_from 1 rows))) =
+    let here : All (λ v. collected v ≡ false) (strong_values (map_of (places_of rows))) =
     subst (λ (q : ReferencePlaces). All (λ v. collected v ≡ false) (strong_values (map_of q))) (sym view) kept in
     let listed : All (λ v. collected v ≡ false) (filter_map strong_value (listed_from 1 rows)) =
-    subst (λ (rs : List Reference). All (λ v. collected v ≡ false) (filter_map strong_value rs)) (listed-map 1 rows) here in
+    subst (λ (rs : List Reference). All (λ v. collected v ≡ false) (filter_map strong_value rs)) (rows-listed rows) here in
     let after : List (Option Row) = map (option_map (weak_emptied collected)) rows in
     rw (← view)
     (same-map _ _ _ _
-    (listed-map 1 after ∙ sym (listed-emptied collected 1 rows listed) ∙ ap (map (λ (r : Reference). record r { value = value_left collected r.value })) (sym (listed-map 1 rows)))
+    (rows-listed after ∙ sym (listed-emptied collected 1 rows listed) ∙ ap (map (λ (r : Reference). record r { value = value_left collected r.value })) (sym (rows-listed rows)))
     (ap up_to (length-map rows (option_map (weak_emptied collected)))))

@@ -1,41 +1,37 @@
 -- The reference of a number stands at its place.
-use Rattle.std.proofs.Common.{◌≡◌, ◌∙◌, ℕ, zero, suc, ◌+◌, ◌<◌, ◌==◌, nat_eq, ◌||◌, ◌∷◌, Bool, true, false, cond, List, [], length, map, Option, Some, None, IsSome, is_some, option_map, slice_index_or, refl, ap, sym, arith}
-use Rattle.std.specs.List.{All, AllByRecursion, IsDistinct, filter_map}
-use Rattle.std.proofs.lemmas.List.Elements.{All-nil, All-cons}
+use Rattle.std.proofs.Common.{◌≡◌, ◌∙◌, ℕ, zero, suc, ◌<◌, nat_eq, ◌∷◌, true, false, List, [], length, map, Option, Some, None, IsSome, is_some, option_map, slice_index_or, refl, ap, sym, subst, arith}
+use Rattle.std.specs.List.{AllByRecursion, IsDistinct, cons_option, slice_get}
+use Rattle.std.specs.Option.{option_and_then}
 use Rattle.std.proofs.lemmas.Map.Keys.{IsDistinct-cons}
-use Rattle.std.proofs.lemmas.Bool.{eq-eqb}
 use Rattle.napi_types.specs.declared.ids.ValueId.{ValueId}
-use Rattle.napi_types.specs.plain.Lists.{found, has, with_record, as_map}
+use Rattle.napi_types.specs.plain.Counted.{element, listed}
+use Rattle.napi_types.specs.plain.Lists.{found, has, as_map}
 use Rattle.napi_types.specs.parts.References.{Reference, ReferenceMap, reference_at, has_reference, referred_value, reference_count}
-use Rattle.napi_types.proofs.plain.Maps.{with_record-first}
-use Rattle.napi_types.proofs.plain.Found.{apart-below, apart-above}
+use Rattle.napi_types.proofs.plain.Counted.{found-listed, listed-map}
+use Rattle.napi_types.proofs.plain.Found.{apart-below, found-as_map, has-found}
 use Rattle.napi_reference.specs.declared.rows.Row.{Row}
-use Rattle.napi_reference.specs.Places.{ReferencePlaces, map_of, EachReferenceStandsOnce}
+use Rattle.napi_reference.specs.Places.{ReferencePlaces, map_of, standing, EachReferenceStandsOnce}
 use Rattle.napi_reference.specs.Rows.{reference_of, references_from, places_of, row_of}
+
+-- the reference of a row of this number, where there is one
+abbrev pub referred : ℕ → Option Row → Option Reference
+referred n row = option_map (reference_of n) row
+
+pub keeps-number : (n : ℕ) (row : Option Row) (r : Reference) → referred n row ≡ Some r → r.number ≡ n
+keeps-number n None r is = let no : ⊥ = cc in absurd no
+keeps-number n (Some row) r is = let same : reference_of n row ≡ r = cc in ap (λ (q : Reference). q.number) (sym same)
 
 -- the references of rows whose numbers count up from this one
 abbrev pub listed_from : ℕ → List (Option Row) → List Reference
-listed_from k rows = filter_map (λ place. place) (references_from k rows)
+listed_from k rows = listed referred k rows
+
+standing-listed : (k : ℕ) (rows : List (Option Row)) → standing (references_from k rows) ≡ listed_from k rows
+standing-listed k [] = refl
+standing-listed k (row ∷ rows) = ap (cons_option (referred k row)) (standing-listed (suc k) rows)
 
 -- their numbers rise, so that they are a finite map as they lie
-listed-above : (n k : ℕ) (rows : List (Option Row)) → n < k → All (λ r. n < r.number) (listed_from k rows)
-listed-above n k [] h = All-nil (λ (r : Reference). n < r.number)
-listed-above n k (None ∷ rows) h = listed-above n (suc k) rows (omega arith)
-listed-above n k (Some row ∷ rows) h = All-cons (λ (r : Reference). n < r.number) (reference_of k row) (listed_from (suc k) rows) h (listed-above n (suc k) rows (omega arith))
-
-pub listed-below : (k : ℕ) (rows : List (Option Row)) → All (λ r. r.number < k + length rows) (listed_from k rows)
-listed-below k [] = All-nil (λ (r : Reference). r.number < k + 0)
-listed-below k (None ∷ rows) = λ i d inside. omega (arith, listed-below (suc k) rows i d inside)
-listed-below k (Some row ∷ rows) =
-    All-cons (λ (r : Reference). r.number < k + suc (length rows)) (reference_of k row) (listed_from (suc k) rows) (omega arith)
-    (λ i d inside. omega (arith, listed-below (suc k) rows i d inside))
-
-pub listed-map : (k : ℕ) (rows : List (Option Row)) → as_map (λ r. r.number) (listed_from k rows) ≡ listed_from k rows
-listed-map k [] = refl
-listed-map k (None ∷ rows) = listed-map (suc k) rows
-listed-map k (Some row ∷ rows) =
-    ap (with_record (λ r. r.number) (reference_of k row)) (listed-map (suc k) rows)
-    ∙ with_record-first (λ (r : Reference). r.number) (reference_of k row) (listed_from (suc k) rows) (listed-above k (suc k) rows (omega arith))
+pub rows-listed : (rows : List (Option Row)) → as_map (λ r. r.number) (standing (references_from 1 rows)) ≡ listed_from 1 rows
+rows-listed rows = ap (as_map (λ r. r.number)) (standing-listed 1 rows) ∙ listed-map referred (λ (r : Reference). r.number) keeps-number rows
 
 apart-listed : (n k : ℕ) (rows : List (Option Row)) → n < k → AllByRecursion (λ m. nat_eq n m ≡ false) (map (λ r. r.number) (listed_from k rows))
 apart-listed n k [] h = tt
@@ -51,41 +47,38 @@ listed-once k (Some row ∷ rows) =
 
 -- so each stands at exactly one place, whatever the rows are
 pub stands-once : (rows : List (Option Row)) → EachReferenceStandsOnce (places_of rows)
-stands-once rows = record { there = λ n. ap (found (λ r. r.number) n) (listed-map 1 rows); apart = listed-once 1 rows }
+stands-once rows = record {
+  there = λ n. found-as_map (λ (r : Reference). r.number) n (standing (references_from 1 rows));
+  apart = subst (λ (rs : List Reference). IsDistinct nat_eq (map (λ r. r.number) rs)) (sym (standing-listed 1 rows)) (listed-once 1 rows);
+}
 
 pub length-references_from : (k : ℕ) (rows : List (Option Row)) → length (references_from k rows) ≡ length rows
 length-references_from k [] = refl
 length-references_from k (row ∷ rows) = ap suc (length-references_from (suc k) rows)
 
-found-below : (k : ℕ) (rows : List (Option Row)) (n : ℕ) → n < k → found (λ r. r.number) n (listed_from k rows) ≡ None
-found-below k [] n h = refl
-found-below k (None ∷ rows) n h = found-below (suc k) rows n (omega arith)
-found-below k (Some row ∷ rows) n h = rw (apart-above n k h) (found-below (suc k) rows n (omega arith))
-
-found-at : (k : ℕ) (rows : List (Option Row)) (p n : ℕ) → n ≡ k + p → found (λ r. r.number) n (listed_from k rows) ≡ option_map (reference_of n) (slice_index_or rows p None)
-found-at k [] p n e = refl
-found-at k (None ∷ rows) zero n e = found-below (suc k) rows n (omega arith)
-found-at k (Some row ∷ rows) zero n e =
-    let same : k ≡ n = omega arith in
-    rw (eq-eqb k n same) (ap (λ m. Some (reference_of m row)) same)
-found-at k (None ∷ rows) (suc p) n e = found-at (suc k) rows p n (omega arith)
-found-at k (Some row ∷ rows) (suc p) n e = rw (apart-below k n (omega arith)) (found-at (suc k) rows p n (omega arith))
-
 -- the map from numbers to references is the list's
 pub reference_at-row : (rows : List (Option Row)) (n : ℕ) → reference_at (map_of (places_of rows)) n ≡ option_map (reference_of n) (row_of rows n)
-reference_at-row rows n = ap (found (λ r. r.number) n) (listed-map 1 rows) ∙ at n
+reference_at-row rows n =
+    ap (found (λ r. r.number) n) (rows-listed rows) ∙ found-listed referred (λ (r : Reference). r.number) keeps-number n rows ∙ at n
   where
-    at : (n : ℕ) → found (λ r. r.number) n (listed_from 1 rows) ≡ option_map (reference_of n) (row_of rows n)
-    at zero = found-below 1 rows zero (omega arith)
-    at (suc p) = found-at 1 rows p (suc p) (omega arith)
+    read : (n : ℕ) (rows : List (Option Row)) (p : ℕ) → option_and_then (referred n) (slice_get rows p) ≡ referred n (slice_index_or rows p None)
+    read n [] p = refl
+    read n (row ∷ rows) zero = refl
+    read n (row ∷ rows) (suc p) = read n rows p
 
-has-found : {A : Type 0} (number : A → ℕ) (n : ℕ) (xs : List A) → has number n xs ≡ is_some (found number n xs)
-has-found number n [] = refl
-has-found number n (x ∷ xs) = by (number x == n) (has-found number n xs)
+    at : (n : ℕ) → option_and_then (referred n) (element rows n) ≡ referred n (row_of rows n)
+    at zero = refl
+    at (suc p) = read (suc p) rows p
+
+-- a row that is read is an element of the list
+pub row-element : (rows : List (Option Row)) (n : ℕ) (row : Row) → Some row ≡ row_of rows n → element rows n ≡ Some (Some row)
+row-element rows zero row is = let no : ⊥ = cc in absurd no
+row-element rows (suc p) row is = by rows p is
   where
-    by : (b : Bool) → has number n xs ≡ is_some (found number n xs) → (b || has number n xs) ≡ is_some (cond b (Some x) (found number n xs))
-    by true rest = refl
-    by false rest = rest
+    by : (rows : List (Option Row)) (p : ℕ) → Some row ≡ slice_index_or rows p None → slice_get rows p ≡ Some (Some row)
+    by [] p is = let no : ⊥ = cc in absurd no
+    by (r ∷ rows) zero is = ap (λ o. Some o) (sym is)
+    by (r ∷ rows) (suc p) is = by rows p is
 
 -- what is told of a reference by its row
 pub record IsRow (m : ReferenceMap) (n : ℕ) (row : Row) : Type 0 where
@@ -99,7 +92,7 @@ row-read rows xs p view same n row is =
     let at : reference_at (map_of (places_of rows)) n ≡ Some (reference_of n row) = reference_at-row rows n ∙ ap (option_map (reference_of n)) (sym (rw same at is)) in
     let here : reference_at (map_of p) n ≡ Some (reference_of n row) = ap (λ q. reference_at (map_of q) n) (sym view) ∙ at in
     record {
-      there = has-found (λ r. r.number) n (map_of p).rows ∙ ap is_some here;
+      there = has-found (λ (r : Reference). r.number) n (map_of p).rows ∙ ap is_some here;
       value = rw here refl;
       count = rw here refl;
     }
@@ -108,7 +101,7 @@ pub none-read : (rows xs : List (Option Row)) (p : ReferencePlaces) → places_o
 none-read rows xs p view same n is =
     let at : reference_at (map_of (places_of rows)) n ≡ None = reference_at-row rows n ∙ ap (option_map (reference_of n)) (sym (rw same at is)) in
     let here : reference_at (map_of p) n ≡ None = ap (λ q. reference_at (map_of q) n) (sym view) ∙ at in
-    has-found (λ r. r.number) n (map_of p).rows ∙ ap is_some here
+    has-found (λ (r : Reference). r.number) n (map_of p).rows ∙ ap is_some here
 
 some-numbered : (o : Option ValueId) → is_some (option_map (λ v. v.0) o) ≡ is_some o
 some-numbered None = refl

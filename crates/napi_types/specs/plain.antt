@@ -2,6 +2,7 @@
 pub mod Arguments
 pub mod Built
 pub mod CallFacts
+pub mod Counted
 pub mod Edge
 pub mod Entries
 pub mod Guards

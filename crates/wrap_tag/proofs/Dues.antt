@@ -7,9 +7,10 @@ use Rattle.std.proofs.lemmas.Bool.Decides.{nat_tests}
 use Rattle.std.proofs.lemmas.List.Elements.{All-head, All-tail}
 use Rattle.std.proofs.lemmas.List.Folds.{list_any-append}
 use Rattle.std.proofs.lemmas.Map.Views.{All-from_any}
+use Rattle.std.proofs.lemmas.Bool.{or_right}
 use Rattle.napi_types.specs.plain.Lists.{has_number}
 use Rattle.napi_types.specs.parts.Book.{TicketState, Registered, Registration, Book, made_due, moved, moved_from, due_where}
-use Rattle.napi_types.proofs.plain.Found.{same-tells}
+use Rattle.napi_types.proofs.plain.Found.{same-tells, turned}
 use Rattle.finalizer_queue.proofs.Moves.{length-due_where}
 use Rattle.wrap_tag.specs.Wraps.{AreGiven}
 
@@ -55,10 +56,7 @@ due_where-none p book none = due_where-same p (λ m. false) book none ∙ from-n
 pub due_where-next : (t : ℕ) (ts : List ℕ) (book : Book) → due_where (λ n. has_number n ts) (due_where (λ n. n == t) book) ≡ due_where (λ n. has_number n (t ∷ ts)) book
 due_where-next t ts book =
     due_where-due_where (λ n. n == t) (λ n. has_number n ts) book
-    ∙ due_where-same (λ n. (n == t) || has_number n ts) (λ n. has_number n (t ∷ ts)) book (λ n. ap (λ b. b || has_number n ts) (flipped n t))
-  where
-    flipped : (n m : ℕ) → (n == m) ≡ (m == n)
-    flipped n m = grind (arith, nat_tests)
+    ∙ due_where-same (λ n. (n == t) || has_number n ts) (λ n. has_number n (t ∷ ts)) book (λ n. ap (λ b. b || has_number n ts) (turned n t))
 
 -- the book gave them, and so it did once some are due
 pub given-due : (ts : List ℕ) (p : ℕ → Bool) (book : Book) → AreGiven ts book → AreGiven ts (due_where p book)
@@ -101,11 +99,7 @@ pub given-row : (t : Option ℕ) (ts : List ℕ) (book between : Book) → betwe
 given-row t ts book between due given =
     let P : Book → Type 0 = AreGiven ts in
     subst P (sym due) (given-due ts (λ n. has_number n (option_to_list t)) book
-    (given-among (option_to_list t ++ ts) ts book (λ n is. list_any-append (λ m. m == n) (option_to_list t) ts ∙ ap (λ b. has_number n (option_to_list t) || b) is ∙ or_true (has_number n (option_to_list t))) given))
-  where
-    or_true : (b : Bool) → (b || true) ≡ true
-    or_true true = refl
-    or_true false = refl
+    (given-among (option_to_list t ++ ts) ts book (λ n is. list_any-append (λ m. m == n) (option_to_list t) ts ∙ ap (λ b. has_number n (option_to_list t) || b) is ∙ or_right (has_number n (option_to_list t)) true refl) given))
 
 -- a ticket alone
 pub due_where-one : (t : ℕ) (book : Book) → due_where (λ n. n == t) book ≡ due_where (λ n. has_number n (t ∷ [])) book

@@ -7,11 +7,13 @@ use Rattle.std.proofs.lemmas.List.Folds.{list_any-append}
 use Rattle.std.proofs.lemmas.List.{map-append, take-append-drop}
 use Rattle.std.proofs.Math.Seq.{take-suc}
 use Rattle.std.proofs.lemmas.Bool.Decides.{nat_tests}
+use Rattle.std.proofs.lemmas.Bool.{or_right}
 use Rattle.napi_types.specs.declared.ids.ValueId.{ValueId}
 use Rattle.napi_types.specs.plain.Lists.{found, has, has_number, as_map}
 use Rattle.napi_types.specs.parts.Attachments.{Attachments, Wrapped, Tagged, Attached, tickets_of, tickets_where, hangs_on, left_on}
 use Rattle.napi_types.specs.parts.Book.{Book, due_where}
 use Rattle.napi_types.proofs.plain.Found.{IsRising, same-tells, same-self, apart-above, has-found, found-kept, rising-as_map}
+use Rattle.napi_types.proofs.plain.Maps.{swapped, joined}
 use Rattle.wrap_tag.specs.declared.row.Row.{Row}
 use Rattle.wrap_tag.specs.declared.row.Wrap.{Wrap}
 use Rattle.wrap_tag.specs.Rows.{tickets_of_chain, tickets_of_row, ticket_of_wrap, tickets_beside, blank_row, wrapped_as, wrap_in, row_of, is_attached, attachments_of, AreRows}
@@ -130,21 +132,13 @@ any-parted : {A : Type 0} (p q c : A → Bool) (xs : List A)
 any-parted p q c [] = refl
 any-parted p q c (x ∷ xs) = by (p x) (q x && c x) (c x) refl (any-parted p q c xs)
   where
-    move : (a b d : Bool) → (a || (b || d)) ≡ (b || (a || d))
-    move true true d = refl
-    move true false d = refl
-    move false b d = refl
-
-    lone : (a b d : Bool) → (a || (b || d)) ≡ ((a || b) || d)
-    lone true b d = refl
-    lone false b d = refl
-
     by : (a b d : Bool) → (q x && c x) ≡ b
         → list_any (λ y. (p y || q y) && c y) xs ≡ (list_any (λ y. p y && c y) xs || list_any (λ y. q y && c y) (filter (λ y. not (p y)) xs))
         → (((a || q x) && c x) || list_any (λ y. (p y || q y) && c y) xs)
         ≡ (((a && c x) || list_any (λ y. p y && c y) xs) || list_any (λ y. q y && c y) (cond (not a) (x ∷ filter (λ y. not (p y)) xs) (filter (λ y. not (p y)) xs)))
-    by true b d is rest = ap (λ r. c x || r) rest ∙ lone (c x) (list_any (λ y. p y && c y) xs) (list_any (λ y. q y && c y) (filter (λ y. not (p y)) xs))
-    by false b d is rest = ap (λ r. (q x && c x) || r) rest ∙ move (q x && c x) (list_any (λ y. p y && c y) xs) (list_any (λ y. q y && c y) (filter (λ y. not (p y)) xs))
+    by true b d is rest = ap (λ r. c x || r) rest ∙ joined (c x) (list_any (λ y. p y && c y) xs) (list_any (λ y. q y && c y) (filter (λ y. not (p y)) xs))
+    by false b d is rest =
+        ap (λ r. (q x && c x) || r) rest ∙ swapped (q x && c x) (list_any (λ y. p y && c y) xs) (list_any (λ y. q y && c y) (filter (λ y. not (p y)) xs))
 
 -- the same, of the tickets of values
 in_wraps : (n : ℕ) (test : ℕ → Bool) (ws : List Wrapped) → has_number n (filter_map (λ w. cond (test w.value) w.ticket None) ws) ≡ list_any (λ w. test w.value && has_number n (option_to_list w.ticket)) ws
@@ -264,11 +258,7 @@ given-value values i d within a now book between was due given =
     subst P (sym due) (given-due (tickets_of now (get_or values i d).0) (hangs_on (among (take i values)) a) book
     (given-among (tickets_where (among values) a) (tickets_of now (get_or values i d).0) book (λ n is. one n is) given))
   where
-    or_true : (b : Bool) → (b || true) ≡ true
-    or_true true = refl
-    or_true false = refl
-
     one : (n : ℕ) → has_number n (tickets_of now (get_or values i d).0) ≡ true → hangs_on (among values) a n ≡ true
     one n is =
         hangs-all n (take (i + 1) values) (drop (i + 1) values) values a (take-append-drop (i + 1) values)
-        (ap (λ vs. hangs_on (among vs) a n) (take-next values i d within) ∙ sym (hangs-more n (take i values) (get_or values i d) a now was) ∙ ap (λ b. hangs_on (among (take i values)) a n || b) is ∙ or_true (hangs_on (among (take i values)) a n))
+        (ap (λ vs. hangs_on (among vs) a n) (take-next values i d within) ∙ sym (hangs-more n (take i values) (get_or values i d) a now was) ∙ ap (λ b. hangs_on (among (take i values)) a n || b) is ∙ or_right (hangs_on (among (take i values)) a n) true refl)

@@ -45,14 +45,14 @@ use Rattle.napi_types.specs.runs.Machine.{Machine}
 use Rattle.napi_types.specs.runs.Run.{IsRunBy, after, final}
 use Rattle.napi_types.specs.runs.Setting.{Setting, opening_of}
 use Rattle.napi_types.specs.runs.Step.{ticket_step, move_step, event_step, chosen, call_step_on, end_step_on, may_cut, asked_step, frame_step, env_step, has_room, other_step, step_of}
-use Rattle.napi_types.proofs.plain.Conditions.{and-left, and-right}
+use Rattle.napi_types.proofs.plain.Conditions.{and-left, and-right, not-true}
 use Rattle.napi_types.proofs.plain.Maps.{filter_all}
 use Rattle.napi_types.proofs.environment.FrameEnds.{ended-ends}
 use Rattle.napi_types.proofs.hub.HubCases.{HubCase, hub-case}
 use Rattle.napi_types.proofs.hub.HubHolds.{HubSound, hub-sound, spent-holds, opening-sound}
 use Rattle.napi_types.proofs.hub.HubKeeps.{other-calls, thread-shared}
 use Rattle.napi_types.proofs.hub.HubRooms.{places_of, hub-room}
-use Rattle.napi_types.proofs.runs.CallRooms.{shared-room, not-full}
+use Rattle.napi_types.proofs.runs.CallRooms.{shared-room}
 
 -- THE HISTORY
 -- the hub holds what holds of it, and the history is within its limit, where the limits suffice; once `finals` has come it owes nothing
@@ -221,7 +221,7 @@ call-hub : (Enough : Type 0) (l : Limits) (m : Machine) (c : Call) (o : Out) (b 
 call-hub Enough l m c o false is told may r = hub-stays Enough l m _ refl refl refl r
 call-hub Enough l m c o true is told may r =
     let x : Entry = shared_entry m.env c o in
-    let free : is_full (room_of m c) c ≡ false = not-full (is_full (room_of m c) c) (and-right (may_call m.env) (not (is_full (room_of m c) c)) (and-left _ (hub_step m.hub x).may may)) in
+    let free : is_full (room_of m c) c ≡ false = not-true (is_full (room_of m c) c) (and-right (may_call m.env) (not (is_full (room_of m c) c)) (and-left _ (hub_step m.hub x).may may)) in
     hub-stepped Enough l m _ x (record {
       limits = refl;
       hub = refl;
@@ -272,7 +272,7 @@ other-hub Enough l m x other is may r =
       free = λ c calls.
           let room : IsTrue (has_room m (what.Call c)) = subst (λ w. IsTrue (has_room m w)) calls (and-left (has_room m x.what) (hub_step m.hub x).may may) in
           let shares : is_shared c ≡ true = thread-shared c (other-calls m.hub x c other calls moves) in
-          (shares, ap (λ (r : Room). is_full r c) (shared-room m c shares) ∙ not-full (is_full (history_room m.hub m.history_length m.limits.history) c) room);
+          (shares, ap (λ (r : Room). is_full r c) (shared-room m c shares) ∙ not-true (is_full (history_room m.hub m.history_length m.limits.history) c) room);
       told = λ c calls. sym (ap (λ (y : Entry). y.reply.out) is);
       finals = λ comes. absurd (others-finals m.hub x x.actor other comes moves);
     }) r

@@ -43,14 +43,14 @@ use Rattle.napi_types.specs.runs.Machine.{Machine}
 use Rattle.napi_types.specs.runs.Run.{IsRunBy, after, final}
 use Rattle.napi_types.specs.runs.Setting.{Setting, final_of, opening_of}
 use Rattle.napi_types.specs.runs.Step.{Step, by_hub, ticket_step, move_step, event_step, chosen, call_step_on, end_step_on, asked_step, frame_step, env_step, other_step, step_of, step}
-use Rattle.napi_types.proofs.plain.Conditions.{and-right}
+use Rattle.napi_types.proofs.plain.Conditions.{and-right, not-true}
 use Rattle.napi_types.proofs.parts.Books.{owed-begun, NoneRegistered, all_due-none, none-owed_tickets}
 use Rattle.napi_types.proofs.environment.Answers.{SameCourse, course_of, course-parts, local-counted}
 use Rattle.napi_types.proofs.environment.FrameChanges.{KeepsButFrame, ended-keeps, owed-left, KeepsButFrames, asked_change-fits}
 use Rattle.napi_types.proofs.environment.FrameEnds.{Ends, ended-ends}
 use Rattle.napi_types.proofs.environment.Registrations.{none-asked, none-ended, none-begun, owed-in}
 use Rattle.napi_types.proofs.hub.HubDuties.{delivery-of_hub}
-use Rattle.napi_types.proofs.runs.CallRooms.{local-room, not-full}
+use Rattle.napi_types.proofs.runs.CallRooms.{local-room}
 use Rattle.napi_types.proofs.runs.SharedSteps.{after_shared-alone, shares-still, moves-still, others-still, end-stage}
 use Rattle.napi_types.proofs.runs.StepCases.{StepCase, shares, leaves, passes, moves, others, stage-moved, step-case}
 
@@ -119,7 +119,7 @@ call-room Enough l m c o f fs false local e r h =
     let k : KeepsButFrames m.env d (need c) = asked_change-fits m.env c n in
     let course : SameCourse m.env d = course-parts m.env d k.course in
     let free : is_full (journal_room m.env m.journal_length m.limits.journal) c ≡ false =
-    ap (λ x. is_full x c) (sym (local-room m c local)) ∙ not-full _ (and-right (may_call m.env && is_fresh_result m.env o) (not (is_full (room_of m c) c)) h) in
+    ap (λ x. is_full x c) (sym (local-room m c local)) ∙ not-true _ (and-right (may_call m.env && is_fresh_result m.env o) (not (is_full (room_of m c) c)) h) in
     let fits : m.journal_length + 1 + reserved_journal d ≤ m.limits.journal =
     rw (same-others d m.env course)
     (call-fits m.journal_length (other_places m.env) (length (local_frames d.frames)) (length (local_frames m.env.frames)) (owed_tickets d.book) (owed_tickets m.env.book) (need c)

@@ -49,8 +49,8 @@ use Rattle.napi_types.proofs.environment.FrameChanges.{book_left, ended-keeps as
 use Rattle.napi_types.proofs.environment.Cases.{asked-by, ended-by}
 use Rattle.napi_types.proofs.hub.HubDuties.{OfHub, SparesTickets, hub_step-spares}
 use Rattle.napi_types.proofs.runs.SharedSteps.{StandsStill, shares-still}
-use Rattle.napi_types.proofs.runs.StepCases.{StepCase, calls, ends, opens, inits, begins, vanishes, shares, leaves, passes, moves, others, event_before, step-case}
-use Rattle.napi_types.proofs.all_runs.Orderly.{Orderly, orderly-step, orderly-opens, next-case, along-orderly}
+use Rattle.napi_types.proofs.runs.StepCases.{StepCase, calls, ends, begins, shares, leaves, passes, moves, others, event_before}
+use Rattle.napi_types.proofs.all_runs.Orderly.{Orderly, orderly-opens, next-case, along-orderly}
 use Rattle.napi_types.proofs.all_runs.Rooms.{none-left}
 
 -- WHAT A STEP DOES

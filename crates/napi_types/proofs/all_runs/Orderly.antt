@@ -1,5 +1,5 @@
 -- What holds at every moment of a run of the tickets that are still to begin.
-use Rattle.std.proofs.Common.{◌≡◌, ◌≢◌, ◌∙◌, ℕ, suc, Bool, true, false, [], length, get_or, refl, ap, sym, Option, Some, None, is_some, subst, ◌⊎◌, inl, inr, List, ◌∷◌}
+use Rattle.std.proofs.Common.{◌≡◌, ◌≢◌, ◌∙◌, ℕ, suc, Bool, true, false, [], length, get_or, refl, ap, sym, Option, Some, subst, ◌⊎◌, inl, inr, List, ◌∷◌}
 use Rattle.std.specs.List.{All}
 use Rattle.std.proofs.lemmas.Option.{slice_get-get_or}
 use Rattle.napi_types.specs.declared.call.Call.{Call}
@@ -14,7 +14,6 @@ use Rattle.napi_types.specs.plain.Lists.{has}
 use Rattle.napi_types.specs.plain.Phases.{next_phase}
 use Rattle.napi_types.specs.parts.Book.{Book, Registration, is_owed, registration_at}
 use Rattle.napi_types.specs.parts.Hooks.{Hook}
-use Rattle.napi_types.specs.environment.Calls.{answer}
 use Rattle.napi_types.specs.environment.Changes.{book_in}
 use Rattle.napi_types.specs.environment.Ends.{end_change}
 use Rattle.napi_types.specs.environment.Entering.{asked_change}
@@ -26,15 +25,14 @@ use Rattle.napi_types.specs.runs.Machine.{Machine}
 use Rattle.napi_types.specs.runs.Setting.{Setting, opening_of}
 use Rattle.napi_types.specs.runs.Step.{Step, step}
 use Rattle.napi_types.specs.runs.Run.{IsNext, IsRunBy, after}
-use Rattle.napi_types.proofs.plain.Lists.{none-there}
 use Rattle.napi_types.proofs.parts.Books.{NoneRegistered, all_due-none}
 use Rattle.napi_types.proofs.parts.Moved.{at-state, at-cause}
-use Rattle.napi_types.proofs.parts.Moves.{KeptByMoves, unowed-moved}
-use Rattle.napi_types.proofs.environment.Answers.{SameCourse, course-parts, torn-makes-none}
+use Rattle.napi_types.proofs.parts.Moves.{MovesKeep, each-kept, unowed-moved}
+use Rattle.napi_types.proofs.environment.Answers.{SameCourse, course-parts}
 use Rattle.napi_types.proofs.environment.FrameChanges.{SameHangings, hangings-parts, ended-keeps, asked_change-fits}
 use Rattle.napi_types.proofs.environment.FrameEnds.{ended-ends}
 use Rattle.napi_types.proofs.environment.HookedSteps.{unchanged, hooked-opening, hooked-opened, hooked-init, hooked-asked, hooked-ended, hooked-begun, hooked-phase, hooked-gone}
-use Rattle.napi_types.proofs.environment.Registrations.{asked-all, ended-all, begun-all, phase-all, none-asked, none-ended, none-begun}
+use Rattle.napi_types.proofs.environment.Registrations.{asked-kept, ended-kept, begun-kept, phase-kept, torn-new, none-asked, none-ended, none-begun}
 use Rattle.napi_types.proofs.runs.SharedSteps.{StandsStill, shares-still, moves-still, others-still, end-stage}
 use Rattle.napi_types.proofs.runs.StepCases.{StepCase, calls, ends, opens, inits, begins, vanishes, shares, leaves, passes, moves, others, InPhase, step-case}
 use Rattle.napi_types.proofs.runs.Runs.{along-entries}
@@ -51,8 +49,8 @@ is_drained _ = false
 abbrev pub IsSpent : Registration → Type 0
 IsSpent r = r.cause ≡ cause.Hook → is_owed r.state ≡ false
 
-spent-kept : KeptByMoves IsSpent
-spent-kept move r spent hook = unowed-moved move r.state (spent hook)
+spent-kept : MovesKeep (All IsSpent)
+spent-kept = each-kept IsSpent (λ move r spent hook. unowed-moved move r.state (spent hook))
 
 -- the hub is as far as the phase says; from `finals` on none is registered, and once the drain has come no hook is registered or due
 pub record Orderly (m : Machine) : Type 0 where
@@ -105,15 +103,14 @@ settled-passed _ book never late = cc
 
 spent-passed : (e : Environment) (p : Phase) → next_phase e.phase ≡ Some p → (p ≡ phase.Drain → e.hooks ≡ []) → IsHooked e → (is_drained e.phase ≡ true → All IsSpent e.book)
     → is_drained p ≡ true → All IsSpent (book_in p e.book)
-spent-passed e p next left hooked spent is = phase-all IsSpent spent-kept p e.book (by (drain-next e.phase p next is))
+spent-passed e p next left hooked spent is = phase-kept (All IsSpent) spent-kept p e.book (by (drain-next e.phase p next is))
   where
     by : (p ≡ phase.Drain) × (is_late e.phase ≡ false) ⊎ is_drained e.phase ≡ true → All IsSpent e.book
     by (inl h) = all-spent e hooked h.1 (left h.0)
     by (inr h) = spent h
 
 spent-asked : (e : Environment) (c : Call) (n : ℕ) → is_tearing e.phase ≡ true → All IsSpent e.book → All IsSpent (asked_change e c n).after.book
-spent-asked e c n tearing all =
-    asked-all IsSpent spent-kept e c n (λ made r who why. absurd (none-there (answer e c n).reply.made (torn-makes-none e c n tearing) made)) all
+spent-asked e c n tearing all = asked-kept (All IsSpent) spent-kept e c n (torn-new (All IsSpent) e c n tearing) all
 
 -- nothing of it changes
 orderly-still : (m n : Machine) → StandsStill m n → Orderly m → Orderly n
@@ -136,7 +133,9 @@ orderly-ended m n v cut far same h =
       stage = far ∙ h.stage ∙ ap stage_of (sym phase);
       hooked = subst IsHooked (sym same) (hooked-ended v cut m.env h.hooked);
       settled = λ p. subst (λ (e : Environment). NoneRegistered e.book) (sym same) (none-ended m.env v cut (h.settled (ap is_late (sym phase) ∙ p)));
-      spent = λ p. subst (λ (e : Environment). All IsSpent e.book) (sym same) (ended-all IsSpent spent-kept m.env v cut (h.spent (ap is_drained (sym phase) ∙ p)));
+      spent =
+          λ p. subst (λ (e : Environment). All IsSpent e.book) (sym same)
+          (ended-kept (All IsSpent) spent-kept m.env v cut (h.spent (ap is_drained (sym phase) ∙ p)));
     }
 
 -- each step keeps it
@@ -157,7 +156,7 @@ orderly-step m _ h (begins n r there next may) = record {
   stage = h.stage;
   hooked = hooked-begun n r m.env there may h.hooked;
   settled = λ p. none-begun m.env.phase n m.env.book (h.settled p);
-  spent = λ p. begun-all IsSpent spent-kept m.env.phase n m.env.book (h.spent p);
+  spent = λ p. begun-kept (All IsSpent) spent-kept m.env.phase n m.env.book (h.spent p);
 }
 orderly-step m _ h (vanishes last) = record {
   stage = h.stage ∙ ap stage_of last;

@@ -22,8 +22,7 @@ use Rattle.napi_types.specs.declared.entry.What.{What}
 use Rattle.napi_types.specs.declared.entry.What.TheVariants as what
 use Rattle.napi_types.specs.declared.entry.Why.{Why}
 use Rattle.napi_types.specs.declared.ids.HandleId.{HandleId}
-use Rattle.napi_types.specs.declared.status.Status.{Status}
-use Rattle.napi_types.specs.plain.Built.{built_ask, is_built}
+use Rattle.napi_types.specs.plain.Built.{built_ask}
 use Rattle.napi_types.specs.plain.Entries.{is_environment, cut_of, begun_duty}
 use Rattle.napi_types.specs.plain.Guards.{is_shared}
 use Rattle.napi_types.specs.plain.Lists.{tail}

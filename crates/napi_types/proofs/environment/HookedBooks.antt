@@ -9,16 +9,15 @@ use Rattle.std.proofs.lemmas.Map.Views.{any-filter_same}
 use Rattle.napi_types.specs.declared.entry.Cause.{Cause}
 use Rattle.napi_types.specs.declared.entry.Cause.TheVariants as cause
 use Rattle.napi_types.specs.declared.entry.Duty.{Duty}
-use Rattle.napi_types.specs.declared.entry.Duty.TheVariants as duty
 use Rattle.napi_types.specs.declared.entry.Phase.{Phase}
 use Rattle.napi_types.specs.plain.Lists.{has}
 use Rattle.napi_types.specs.parts.Book.{Book, Registration, TicketState, Registered, Due, Begun, is_registered, is_owed, is_at, made_begun, made_ended, moved_where, moved_at, new_ticket, registration_at, with_registration, TicketsRise, cause_at}
 use Rattle.napi_types.specs.parts.Hooks.{Hook}
-use Rattle.napi_types.specs.environment.Ends.{duty_ended}
 use Rattle.napi_types.specs.environment.Hooked.{is_late, StandsIn}
 use Rattle.napi_types.proofs.plain.Maps.{map-filter}
-use Rattle.napi_types.proofs.parts.Moved.{IsUnder, under, at-state, at-cause, registration-within, registration_at-before, registration_at-new, registration_at-either, cause_at-moved_where, is_at-moved_where}
+use Rattle.napi_types.proofs.parts.Moved.{IsUnder, BeginsFor, under, at-state, at-cause, registration-within, registration_at-before, registration_at-new, registration_at-either, cause_at-moved_where, is_at-moved_where, is_at-before}
 use Rattle.napi_types.proofs.environment.FrameChanges.{book_left}
+use Rattle.napi_types.proofs.environment.Registrations.{left-kept}
 
 -- RISING TICKETS
 pub rise-filter : (test : ℕ → Bool) (ns : List ℕ) → TicketsRise ns → TicketsRise (filter test ns)
@@ -65,31 +64,27 @@ goes-nowhere p book = record { causes = λ n why is. is; spares = λ early. reco
 -- ONE REGISTRATION MORE
 pub push-causes : (r : Registration) (book : Book) → KeepsCauses book (with_registration r book)
 push-causes r book n why is =
-    let u : IsUnder book n why = under book n why is in
-    at-cause (with_registration r book) n u.registration (registration_at-before book r n u.registration u.there) ∙ ap Some u.cause
+    let u : IsUnder (BeginsFor why) book n = under book n why is in
+    at-cause (with_registration r book) n u.registration (registration_at-before book r n u.registration u.there) ∙ ap Some u.holds
 
 pub new-cause : (r : Registration) (book : Book) → cause_at (with_registration r book) (new_ticket book) ≡ Some r.cause
 new-cause r book = at-cause (with_registration r book) (new_ticket book) r (registration_at-new book r)
-
--- a ticket that was given is in the state that it was in
-push-state : (test : TicketState → Bool) (r : Registration) (book : Book) (n : ℕ) (q : Registration) → registration_at book n ≡ Some q
-    → is_at test (with_registration r book) n ≡ is_at test book n
-push-state test r book n q there = at-state test (with_registration r book) n q (registration_at-before book r n q there) ∙ sym (at-state test book n q there)
 
 -- what is registered is no hook
 pub push-goes : (p : Phase) (r : Registration) (book : Book) → r.cause ≢ cause.Hook → BookGoes p every book (with_registration r book)
 push-goes p r book other = record { causes = push-causes r book; spares = λ early. record { registered = registered; owed = owed } }
   where
     registered : (n : ℕ) → every n ≡ true → cause_at book n ≡ Some cause.Hook → is_at is_registered book n ≡ true → is_at is_registered (with_registration r book) n ≡ true
-    registered n stays hook is = let u : IsUnder book n cause.Hook = under book n cause.Hook hook in push-state is_registered r book n u.registration u.there ∙ is
+    registered n stays hook is =
+        let u : IsUnder (BeginsFor cause.Hook) book n = under book n cause.Hook hook in is_at-before is_registered book r n u.registration u.there ∙ is
 
     owed : (n : ℕ) → cause_at (with_registration r book) n ≡ Some cause.Hook → is_at is_owed (with_registration r book) n ≡ true
         → (every n ≡ true) × (cause_at book n ≡ Some cause.Hook) × (is_at is_owed book n ≡ true)
     owed n hook is =
-        let u : IsUnder (with_registration r book) n cause.Hook = under (with_registration r book) n cause.Hook hook in
+        let u : IsUnder (BeginsFor cause.Hook) (with_registration r book) n = under (with_registration r book) n cause.Hook hook in
         ⊎_elim
-        (λ old. (refl, at-cause book n u.registration old ∙ ap Some u.cause, sym (push-state is_owed r book n u.registration old) ∙ is))
-        (λ new. absurd (other (ap (λ (q : Registration). q.cause) new.1 ∙ u.cause)))
+        (λ old. (refl, at-cause book n u.registration old ∙ ap Some u.holds, sym (is_at-before is_owed book r n u.registration old) ∙ is))
+        (λ new. absurd (other (ap (λ (q : Registration). q.cause) new.1 ∙ u.holds)))
         (registration_at-either book r n u.registration u.there)
 
 -- TICKETS ARE MOVED
@@ -111,16 +106,16 @@ moved-spares stays move test book each = record { registered = registered; owed 
   where
     registered : (n : ℕ) → stays n ≡ true → cause_at book n ≡ Some cause.Hook → is_at is_registered book n ≡ true → is_at is_registered (moved_where move test book) n ≡ true
     registered n passes hook is =
-        let u : IsUnder book n cause.Hook = under book n cause.Hook hook in
+        let u : IsUnder (BeginsFor cause.Hook) book n = under book n cause.Hook hook in
         is_at-moved_where is_registered move test book n u.registration u.there
-        ∙ (each n u.registration u.there u.cause).registered passes (sym (at-state is_registered book n u.registration u.there) ∙ is)
+        ∙ (each n u.registration u.there u.holds).registered passes (sym (at-state is_registered book n u.registration u.there) ∙ is)
 
     owed : (n : ℕ) → cause_at (moved_where move test book) n ≡ Some cause.Hook → is_at is_owed (moved_where move test book) n ≡ true
         → (stays n ≡ true) × (cause_at book n ≡ Some cause.Hook) × (is_at is_owed book n ≡ true)
     owed n hook is =
         let was : cause_at book n ≡ Some cause.Hook = sym (cause_at-moved_where move test book n) ∙ hook in
-        let u : IsUnder book n cause.Hook = under book n cause.Hook was in
-        let kept = (each n u.registration u.there u.cause).owed (sym (is_at-moved_where is_owed move test book n u.registration u.there) ∙ is) in
+        let u : IsUnder (BeginsFor cause.Hook) book n = under book n cause.Hook was in
+        let kept = (each n u.registration u.there u.holds).owed (sym (is_at-moved_where is_owed move test book n u.registration u.there) ∙ is) in
         (kept.0, was, at-state is_owed book n u.registration u.there ∙ kept.1)
 
 -- a move of finalizers alone
@@ -158,13 +153,8 @@ pub begun-goes : (p : Phase) (n : ℕ) (book : Book) → BookGoes p every book (
 begun-goes p n book = calm-goes p made_begun (λ m. m == n) book begun-calm
 
 -- the end of a frame
-duty-goes : (p : Phase) (d : Option Duty) (book : Book) → BookGoes p every book (duty_ended d book)
-duty-goes p (Some (duty.Ticket t)) book = calm-goes p made_ended (λ m. m == t.0) book ended-calm
-duty-goes p _ book = goes-nowhere p book
-
 pub left-goes : (p : Phase) (c : Cause) (d : Option Duty) (book : Book) → BookGoes p every book (book_left c d book)
-left-goes p cause.Call d book = goes-nowhere p book
-left-goes p _ d book = duty-goes p d book
+left-goes p c d book = left-kept (BookGoes p every book) book (λ t. calm-goes p made_ended (λ m. m == t) book ended-calm) c d (goes-nowhere p book)
 
 -- one ticket is moved, and is no longer registered or due
 pub ticket-goes : (p : Phase) (move : TicketState → TicketState) (t : ℕ) (book : Book) → ((r : Registration) → registration_at book t ≡ Some r → is_owed (move r.state) ≡ false)
@@ -207,7 +197,9 @@ pub listed-within : (p : Phase) (book : Book) (hooks : List Hook) → All (Stand
 listed-within p book hooks all = All-weaker (StandsIn p book) (λ h. h.ticket < new_ticket book) within hooks all
   where
     within : (h : Hook) → StandsIn p book h → h.ticket < new_ticket book
-    within h s = let u : IsUnder book h.ticket cause.Hook = under book h.ticket cause.Hook s.cause in registration-within book h.ticket u.registration u.there
+    within h s =
+        let u : IsUnder (BeginsFor cause.Hook) book h.ticket = under book h.ticket cause.Hook s.cause in
+        registration-within book h.ticket u.registration u.there
 
 -- a hook more, the last one
 pub listed-push : (p : Phase) (book : Book) (hooks : List Hook) (h : Hook) (r : Registration) → h.ticket ≡ new_ticket book → r.cause ≡ cause.Hook → r.state ≡ Registered → Listed p book hooks
@@ -226,8 +218,11 @@ listed-push p book hooks h r ticket hook state l = record {
 
     stands : (x : Hook) → StandsIn p book x → StandsIn p now x
     stands x s =
-        let u : IsUnder book x.ticket cause.Hook = under book x.ticket cause.Hook s.cause in
-        record { cause = push-causes r book x.ticket cause.Hook s.cause; registered = λ early. push-state is_registered r book x.ticket u.registration u.there ∙ s.registered early }
+        let u : IsUnder (BeginsFor cause.Hook) book x.ticket = under book x.ticket cause.Hook s.cause in
+        record {
+          cause = push-causes r book x.ticket cause.Hook s.cause;
+          registered = λ early. is_at-before is_registered book r x.ticket u.registration u.there ∙ s.registered early;
+        }
 
     there : registration_at now h.ticket ≡ Some r
     there = ap (registration_at now) ticket ∙ registration_at-new book r
@@ -237,9 +232,9 @@ listed-push p book hooks h r ticket hook state l = record {
 
     others : is_late p ≡ false → (n : ℕ) → cause_at now n ≡ Some cause.Hook → is_at is_owed now n ≡ true → has (λ x. x.ticket) n (hooks ++ h ∷ []) ≡ true
     others early n why is =
-        let u : IsUnder now n cause.Hook = under now n cause.Hook why in
+        let u : IsUnder (BeginsFor cause.Hook) now n = under now n cause.Hook why in
         list_any-append (λ (x : Hook). x.ticket == n) hooks (h ∷ [])
         ∙ ⊎_elim
-        (λ old. or_left _ _ (l.others early n (at-cause book n u.registration old ∙ ap Some u.cause) (sym (push-state is_owed r book n u.registration old) ∙ is)))
+        (λ old. or_left _ _ (l.others early n (at-cause book n u.registration old ∙ ap Some u.holds) (sym (is_at-before is_owed book r n u.registration old) ∙ is)))
         (λ new. or_right (has (λ x. x.ticket) n hooks) _ (or_left (h.ticket == n) false (eq-eqb h.ticket n (ticket ∙ sym new.0))))
         (registration_at-either book r n u.registration u.there)

@@ -11,7 +11,6 @@ use Rattle.napi_types.specs.declared.call.Call.TheVariants as call
 use Rattle.napi_types.specs.declared.entry.Why.{Why}
 use Rattle.napi_types.specs.declared.ids.HandleId.{HandleId}
 use Rattle.napi_types.specs.declared.ids.TextNo.{TextNo}
-use Rattle.napi_types.specs.declared.status.Status.{Status}
 use Rattle.napi_types.specs.declared.status.Status.TheVariants as status
 use Rattle.napi_types.specs.declared.entry.Phase.{Phase}
 use Rattle.napi_types.specs.declared.entry.Cause.TheVariants as cause
@@ -53,12 +52,12 @@ use Rattle.napi_types.specs.environment.Registering.{finalizer_if, registering_i
 use Rattle.napi_types.specs.environment.Roots.{reach}
 use Rattle.napi_types.specs.environment.Tickets.{ticket_change}
 use Rattle.napi_types.specs.environment.WrapCalls.{wrapping}
-use Rattle.napi_types.proofs.plain.Conditions.{and-left, and-right}
+use Rattle.napi_types.proofs.plain.Conditions.{and-left, and-right, not-true}
 use Rattle.napi_types.proofs.plain.Lists.{none-first, none-last, not-unless}
-use Rattle.napi_types.proofs.parts.Moves.{KeptByMoves}
+use Rattle.napi_types.proofs.parts.Moves.{MovesKeep, each-kept}
 use Rattle.napi_types.proofs.environment.Answers.{answer-keeps}
 use Rattle.napi_types.proofs.environment.FrameChanges.{KeepsButFrame, ended-keeps, KeepsAndEnters, enter_change-keeps, hangings-parts}
-use Rattle.napi_types.proofs.environment.Registrations.{registered-holds, call-all, ended-all, begun-all, phase-all}
+use Rattle.napi_types.proofs.environment.Registrations.{registered-holds, call-kept, ended-kept, begun-kept, phase-kept}
 use Rattle.napi_types.proofs.environment.Cases.{answer-by, asked-by}
 
 -- VALUES
@@ -72,8 +71,8 @@ Below n f = f.addon < n
 abbrev Entered : ℕ → Registration → Type 0
 Entered n r = r.addon < n
 
-entered-kept : (n : ℕ) → KeptByMoves (Entered n)
-entered-kept n move r entered = entered
+entered-kept : (n : ℕ) → MovesKeep (All (Entered n))
+entered-kept n = each-kept (Entered n) (λ move r entered. entered)
 
 abbrev NoFunction : Body → Type 0
 NoFunction b = is_function b ≡ false
@@ -216,7 +215,8 @@ call_change-owned n e c k stands o =
     record {
       frames = subst P (sym (answer-keeps e c k).frames) (counted-owned n e.frames o.frames);
       functions = answer-owned n e c k (caller-owned n e.frames stands o.frames) o.functions;
-      tickets = call-all (Entered n) (entered-kept n) e c k (λ made r who why. subst (λ a. a < n) (sym who) (caller-owned n e.frames stands o.frames)) o.tickets;
+      tickets = call-kept (All (Entered n)) (entered-kept n) e c k
+          (λ made r who why book old. All-push (Entered n) book r old (subst (λ a. a < n) (sym who) (caller-owned n e.frames stands o.frames))) o.tickets;
     }
 
 -- a call that nothing refuses is not refused by its row
@@ -265,7 +265,7 @@ owned-ended n e v cut o =
     record {
       frames = subst P (sym k.frames) (tail-owned n e.frames o.frames);
       functions = subst Q (sym k.values) o.functions;
-      tickets = ended-all (Entered n) (entered-kept n) e v cut o.tickets;
+      tickets = ended-kept (All (Entered n)) (entered-kept n) e v cut o.tickets;
     }
 
 pub owned-init : (n : ℕ) (e : Environment) (addon : ℕ) → addon < n → IsOwned n e → IsOwned n (init_change addon e).after
@@ -275,11 +275,11 @@ pub owned-ticket : (n : ℕ) (e : Environment) (t : ℕ) (r : Registration) → 
 owned-ticket n e t r there o = record {
   frames = All-cons (Below n) (frame_of_duty (due_info t r)) e.frames (registered-holds (Entered n) t e.book r there o.tickets) o.frames;
   functions = o.functions;
-  tickets = begun-all (Entered n) (entered-kept n) e.phase t e.book o.tickets;
+  tickets = begun-kept (All (Entered n)) (entered-kept n) e.phase t e.book o.tickets;
 }
 
 pub owned-phase : (n : ℕ) (e : Environment) (p : Phase) → IsOwned n e → IsOwned n (in_phase p e)
-owned-phase n e p o = record { frames = o.frames; functions = o.functions; tickets = phase-all (Entered n) (entered-kept n) p e.book o.tickets }
+owned-phase n e p o = record { frames = o.frames; functions = o.functions; tickets = phase-kept (All (Entered n)) (entered-kept n) p e.book o.tickets }
 
 -- the starting values are no functions
 none-owned : (n : ℕ) (vs : List Value) → IsTrue (list_all (λ v. not (is_function v.body)) vs) → AreOwned n vs
@@ -287,10 +287,6 @@ none-owned n [] none = All-nil (Ours n)
 none-owned n (v ∷ vs) none =
     All-cons (Ours n) v vs (no-function n v.body (not-true (is_function v.body) (and-left _ (list_all (λ x. not (is_function x.body)) vs) none)))
     (none-owned n vs (and-right (not (is_function v.body)) _ none))
-  where
-    not-true : (b : Bool) → IsTrue (not b) → b ≡ false
-    not-true true h = cc
-    not-true false h = refl
 
 pub owned-opening : (n : ℕ) → AreOwned n starting_values
 owned-opening n = none-owned n starting_values refl

@@ -22,14 +22,17 @@ use Rattle.napi_types.specs.plain.Room.{one_if}
 use Rattle.napi_types.specs.parts.Functions.{FunctionState, is_open, new_function, first_taken, closed, finished, done}
 use Rattle.napi_types.specs.parts.Pool.{work_numbered, completion_info, first_completion}
 use Rattle.napi_types.specs.parts.Works.{Work, Outcome}
+use Rattle.napi_types.specs.hub.HistoryLaws.{LeadsTo}
 use Rattle.napi_types.specs.hub.HistoryRoom.{function_places, reserved_history}
 use Rattle.napi_types.specs.hub.Hub.{stage_places, Hub, Stage, Before, Going, Looped, Drained, Final, new_hub, stage_after, is_past_drain, threads_left, workers_left, is_spent}
 use Rattle.napi_types.specs.hub.HubCalls.{new_function_number}
 use Rattle.napi_types.specs.hub.HubMoves.{HubMove, Delivers, Closes, Finishes, function_move_in, function_move, first_move, hub_move, in_function, without_duty, with_delivered}
 use Rattle.napi_types.specs.hub.GivenSteps.{is_looped, is_fresh_work, work_number}
 use Rattle.napi_types.specs.hub.HubEvents.{staged}
+use Rattle.napi_types.specs.hub.HubSteps.{IsHubNext, hub_step, hub_along}
+use Rattle.napi_types.specs.hub.Replays.{HubReplays}
 use Rattle.napi_types.proofs.plain.Conditions.{and-left, and-right}
-use Rattle.napi_types.proofs.hub.HubCases.{HubCase, creates_work, deletes_work, cancels_work, queues_work, creates_function, alters, goes, ends_loop, drains, comes_to_finals, delivers, closes, finishes, starts, finishes_work}
+use Rattle.napi_types.proofs.hub.HubCases.{HubCase, hub-case, creates_work, deletes_work, cancels_work, queues_work, creates_function, alters, goes, ends_loop, drains, comes_to_finals, delivers, closes, finishes, starts, finishes_work}
 use Rattle.napi_types.proofs.hub.HubFunctions.{is_over, IsSound, AreSoundFrom, fewer-sound, more-sound, IsAmong, found-among, Grows, alters-grows, all_closed-sound, DutyFalls, Moves, first-moves}
 use Rattle.napi_types.proofs.hub.HubPools.{PoolSound, created-sound, deleted-sound, cancelled-sound, queued-sound, started-sound, worked-sound, completed-sound, drained-sound, fewer-late, finished-there}
 use Rattle.napi_types.proofs.hub.HubRooms.{WhatMoves, what-moves, move-of_function, completion-completes, late-room}
@@ -137,7 +140,14 @@ delivered-pool h d s next =
 pub opening-sound : (threads workers : ℕ) → HubSound (new_hub threads workers)
 opening-sound threads workers = record {
   functions = tt;
-  pool = record { none = λ late. refl; rising = tt; issued = All-nil (λ (w : Work). has_number w.id [] ≡ true); there = λ n stands. let no : false ≡ true = stands in cc };
+  pool = record {
+    none = λ late. refl;
+    rising = tt;
+    issued = All-nil (λ (w : Work). has_number w.id [] ≡ true);
+    there = λ n stands. let no : false ≡ true = stands in cc;
+    given = λ n stands. let no : false ≡ true = stands in cc;
+    executes = tt;
+  };
 }
 
 -- where a call's entry tells what it is given to tell
@@ -160,6 +170,23 @@ pool-sound h x told _ given s _ = s.pool
 
 pub hub-sound : (h : Hub) (x : Entry) (told : Out) (n : Hub) → ((c : Call) → x.what ≡ what.Call c → told ≡ x.reply.out) → HubSound h → HubCase h x told n → HubSound n
 hub-sound h x told n given s case = record { functions = functions-sound h x told n s.functions case; pool = pool-sound h x told n given s case }
+
+-- ALONG A HISTORY
+-- the entry that comes next tells what the step tells
+pub next-told : (h : Hub) (x : Entry) → IsHubNext h x → (c : Call) → x.what ≡ what.Call c → (hub_step h x).entry.reply.out ≡ x.reply.out
+next-told h x next c is = sym (ap (λ (y : Entry). y.reply.out) next.entry)
+
+pub step-sound : (h : Hub) (x : Entry) → IsHubNext h x → HubSound h → HubSound (hub_step h x).after
+step-sound h x next s = hub-sound h x (hub_step h x).entry.reply.out (hub_step h x).after (next-told h x next) s (hub-case h x next.may)
+
+along-sound : (limit : ℕ) (h : Hub) (n : ℕ) (xs : List Entry) → HubReplays limit h n xs → HubSound h → HubSound (hub_along h xs)
+along-sound limit h n [] replays s = s
+along-sound limit h n (x ∷ xs) replays s = along-sound limit (hub_step h x).after (n + 1) xs replays.2 (step-sound h x replays.0 s)
+
+-- every hub to which a history leads
+pub led-sound : (limit threads workers : ℕ) (history : List Entry) (h : Hub) → LeadsTo limit threads workers history h → HubSound h
+led-sound limit threads workers history h led =
+    subst HubSound led.hub (along-sound limit (new_hub threads workers) 0 history led.replays (opening-sound threads workers))
 
 -- ONCE FINALS HAS COME
 -- nothing is left where nothing moves and nobody is left

@@ -1,17 +1,19 @@
--- The pool of works at every moment: each work that waits, runs or is finished is there, and none waits once the drain has come.
-use Rattle.std.proofs.Common.{◌≡◌, ◌∙◌, ℕ, ◌==◌, ◌||◌, Bool, true, false, not, cond, List, [], ◌∷◌, ◌++◌, map, filter, inl, inr, ◌⊎◌, refl, ap, sym, subst, arith, Option, Some, None, is_some, is_none, option_map}
+-- The pool of works at every moment: each work that waits, runs or is finished is there under its number, none waits once the drain has come, and each worker
+-- executes one at most.
+use Rattle.std.proofs.Common.{◌≡◌, ◌∙◌, ℕ, ◌≤◌, ◌==◌, ◌||◌, Bool, true, false, not, cond, List, [], ◌∷◌, ◌++◌, map, filter, inl, inr, ◌⊎◌, refl, ap, sym, subst, arith, Option, Some, None, is_some, is_none, option_map}
 use Rattle.std.specs.List.{All, find, list_any}
 use Rattle.std.specs.Option.{option_map_or, option_and_then}
-use Rattle.std.proofs.lemmas.Bool.{or_cases, or_left, or_right, or_parts}
+use Rattle.std.proofs.lemmas.Bool.{eq-eqb, or_cases, or_left, or_right, or_parts}
 use Rattle.std.proofs.lemmas.List.Elements.{All-head, All-tail, All-cons, All-nil, All-filter, All-map}
 use Rattle.std.proofs.lemmas.List.Folds.{list_any-append, list_any_none}
 use Rattle.napi_types.specs.declared.call.JobSpec.{JobSpec}
 use Rattle.napi_types.specs.plain.Lists.{found, has, has_number, with_number, with_record, tail, one}
-use Rattle.napi_types.specs.parts.Pool.{WorkPool, standing_at, work_state, work_refusal, number_of_work, executed_by, with_work, without_work, new_number, with_queued, cancelled_at, with_cancelled, started_from, with_started, finished_at, with_finished, with_completed, drained}
+use Rattle.napi_types.specs.parts.Pool.{WorkPool, work_numbered, standing_at, work_state, work_refusal, number_of_work, executed_by, with_work, without_work, new_number, with_queued, cancelled_at, with_cancelled, started_from, with_started, finished_at, with_finished, with_completed, drained}
 use Rattle.napi_types.specs.parts.Works.{Work, Created, Queued, Running, Finished, Completed, Execution, Outcome, is_created, is_queued, is_deletable, is_number, has_work_number, cancelled_outcome}
 use Rattle.napi_types.proofs.plain.Found.{IsRising, same-tells, apart-above, same-self, found-number, has-found, rising-filter, rising-with_record, rising-changed, has-with_number}
 use Rattle.napi_types.proofs.plain.Maps.{list_any-with_record, All-with_record}
 use Rattle.napi_types.proofs.plain.Lists.{any-map}
+use Rattle.napi_types.proofs.hub.Executions.{ExecutesOne}
 use Rattle.napi_types.proofs.hub.HubRooms.{IsWork, not-refused, Waits, queued-waits}
 
 -- TESTS ON LISTS
@@ -60,7 +62,8 @@ found-any number test n (y ∷ ys) x is passes = by (number y == n) is (found-an
     by false later rest = or_right (test y) (list_any test ys) (rest later passes)
 
 -- of rising records it is the only one of its number
-found-only : {A : Type 0} (number : A → ℕ) (n : ℕ) (xs : List A) (x : A) → IsRising number xs → found number n xs ≡ Some x → All (λ y. (number y == n) ≡ true → y ≡ x) xs
+pub found-only : {A : Type 0} (number : A → ℕ) (n : ℕ) (xs : List A) (x : A) → IsRising number xs → found number n xs ≡ Some x
+    → All (λ y. (number y == n) ≡ true → y ≡ x) xs
 found-only number n [] x rises is = All-nil (λ y. (number y == n) ≡ true → y ≡ x)
 found-only number n (y ∷ ys) x rises is = by (number y == n) refl is (found-only number n ys x rises.1)
   where
@@ -75,7 +78,7 @@ found-only number n (y ∷ ys) x rises is = by (number y == n) refl is (found-on
 
 -- WHAT HOLDS
 -- the work of this number waits, runs or is finished
-abbrev stands : WorkPool → ℕ → Bool
+abbrev pub stands : WorkPool → ℕ → Bool
 stands p n = has_number n p.queued || (has (λ (x : Execution). x.work) n p.executions || has (λ (o : Outcome). o.work) n p.finished)
 
 pub record PoolSound (late : Bool) (p : WorkPool) : Type 0 where
@@ -83,6 +86,8 @@ pub record PoolSound (late : Bool) (p : WorkPool) : Type 0 where
   pub rising : IsRising (λ (w : Work). w.id) p.works
   pub issued : All (λ (w : Work). has_number w.id p.issued ≡ true) p.works
   pub there : (n : ℕ) → stands p n ≡ true → list_any (has_work_number n) p.works ≡ true
+  pub given : (n : ℕ) → stands p n ≡ true → n ≤ p.numbered
+  pub executes : ExecutesOne p
 
 -- no more works stand, of the same ones
 abbrev StandsIn : WorkPool → WorkPool → Type 0
@@ -91,7 +96,7 @@ StandsIn p q = (n : ℕ) → stands q n ≡ true → stands p n ≡ true
 waits-stands : (p : WorkPool) (n : ℕ) → has_number n p.queued ≡ true → stands p n ≡ true
 waits-stands p n is = or_left (has_number n p.queued) _ is
 
-runs-stands : (p : WorkPool) (n : ℕ) → has (λ (x : Execution). x.work) n p.executions ≡ true → stands p n ≡ true
+pub runs-stands : (p : WorkPool) (n : ℕ) → has (λ (x : Execution). x.work) n p.executions ≡ true → stands p n ≡ true
 runs-stands p n is = or_right (has_number n p.queued) _ (or_left (has (λ (x : Execution). x.work) n p.executions) _ is)
 
 finished-stands : (p : WorkPool) (n : ℕ) → has (λ (o : Outcome). o.work) n p.finished ≡ true → stands p n ≡ true
@@ -108,10 +113,11 @@ by-standing q n P waits runs finishes is =
 
 -- what moves between the three leaves all works there
 kept-sound : (late after : Bool) (p : WorkPool) (queued : List ℕ) (executions : List Execution) (finished : List Outcome) (closing : Bool) → (after ≡ true → queued ≡ [])
-    → StandsIn p (record p { queued = queued; executions = executions; finished = finished; closing = closing }) → PoolSound late p
+    → StandsIn p (record p { queued = queued; executions = executions; finished = finished; closing = closing })
+    → IsRising (λ (x : Execution). x.worker) executions → PoolSound late p
     → PoolSound after (record p { queued = queued; executions = executions; finished = finished; closing = closing })
-kept-sound late after p queued executions finished closing none stood s =
-    record { none = none; rising = s.rising; issued = s.issued; there = λ n stands. s.there n (stood n stands) }
+kept-sound late after p queued executions finished closing none stood one s =
+    record { none = none; rising = s.rising; issued = s.issued; there = λ n is. s.there n (stood n is); given = λ n is. s.given n (stood n is); executes = one }
 
 or_false : (b : Bool) → (b || false) ≡ true → b ≡ true
 or_false true h = refl
@@ -126,20 +132,11 @@ last-finished os o n is =
     ]
 
 -- CALLS
-pub created-sound : (late : Bool) (p : WorkPool) (id : ℕ) (job : JobSpec) (addon entry payload : ℕ) → not (has_number id (0 ∷ p.issued)) ≡ true → PoolSound late p
-    → PoolSound late (with_work id job addon entry payload p)
-created-sound late p id job addon entry payload fresh s = record {
-  none = s.none;
-  rising = rising-with_record (λ (w : Work). w.id) new p.works s.rising;
-  issued =
-      All-with_record (λ (w : Work). w.id) new (λ (w : Work). has_number w.id (with_number id p.issued) ≡ true) p.works (has-with_number id id p.issued ∙ or_left (id == id) _ (same-self id))
-      (λ k d inside. has-with_number _ id p.issued ∙ or_right (id == _) _ (s.issued k d inside));
-  there = λ n stood. list_any-with_record (λ (w : Work). w.id) new (has_work_number n) p.works absent ∙ s.there n stood;
-}
+-- the id of a work that is created is that of no work
+pub created-absent : (late : Bool) (p : WorkPool) (id : ℕ) → not (has_number id (0 ∷ p.issued)) ≡ true → PoolSound late p
+    → has (λ (w : Work). w.id) id p.works ≡ false
+created-absent late p id fresh s = list_any_none (λ (w : Work). w.id == id) p.works (λ k d inside. apart _ (s.issued k d inside))
   where
-    new : Work
-    new = record { id = id; spec = job; addon = addon; entry = entry; payload = payload; number = None }
-
     negated : (b : Bool) → not b ≡ true → b ≡ false
     negated true h = cc
     negated false h = refl
@@ -154,8 +151,23 @@ created-sound late p id job addon entry payload fresh s = record {
         by true same = let no : true ≡ false = sym is ∙ ap (λ k. has_number k p.issued) (same-tells m id same) ∙ unissued in cc
         by false other = refl
 
-    absent : has (λ (w : Work). w.id) id p.works ≡ false
-    absent = list_any_none (λ (w : Work). w.id == id) p.works (λ k d inside. apart _ (s.issued k d inside))
+pub created-sound : (late : Bool) (p : WorkPool) (id : ℕ) (job : JobSpec) (addon entry payload : ℕ) → not (has_number id (0 ∷ p.issued)) ≡ true
+    → PoolSound late p
+    → PoolSound late (with_work id job addon entry payload p)
+created-sound late p id job addon entry payload fresh s = record {
+  none = s.none;
+  rising = rising-with_record (λ (w : Work). w.id) new p.works s.rising;
+  issued =
+      All-with_record (λ (w : Work). w.id) new (λ (w : Work). has_number w.id (with_number id p.issued) ≡ true) p.works
+      (has-with_number id id p.issued ∙ or_left (id == id) _ (same-self id))
+      (λ k d inside. has-with_number _ id p.issued ∙ or_right (id == _) _ (s.issued k d inside));
+  there = λ n stood. list_any-with_record (λ (w : Work). w.id) new (has_work_number n) p.works (created-absent late p id fresh s) ∙ s.there n stood;
+  given = s.given;
+  executes = s.executes;
+}
+  where
+    new : Work
+    new = record { id = id; spec = job; addon = addon; entry = entry; payload = payload; number = None }
 
 -- a work that may be deleted stands nowhere
 standing-deletable : (q x f : Bool) → (q || (x || f)) ≡ true → is_deletable (cond q Queued (cond x Running (cond f Finished Completed))) ≡ false
@@ -164,7 +176,7 @@ standing-deletable false true f is = refl
 standing-deletable false false true is = refl
 standing-deletable false false false is = cc
 
-deletable-apart : (p : WorkPool) (w : Work) (n : ℕ) → is_deletable (work_state p w) ≡ true → stands p n ≡ true → has_work_number n w ≡ false
+pub deletable-apart : (p : WorkPool) (w : Work) (n : ℕ) → is_deletable (work_state p w) ≡ true → stands p n ≡ true → has_work_number n w ≡ false
 deletable-apart p w n deletable is = by w.number refl deletable
   where
     numbered : (m : ℕ) (b : Bool) → (m == n) ≡ b → is_deletable (standing_at p m) ≡ true → b ≡ false
@@ -188,6 +200,8 @@ deleted-sound late p id none s =
       there =
           λ n stood. any-filter (has_work_number n) (λ (y : Work). not (y.id == id)) p.works
           (λ k d inside left. ap (has_work_number n) (only k d inside (negated _ left)) ∙ deletable-apart p w.work n w.state stood) (s.there n stood);
+      given = s.given;
+      executes = s.executes;
     }
   where
     negated : (b : Bool) → not b ≡ false → b ≡ true
@@ -201,7 +215,7 @@ cancelled-sound late p id none s =
     let number : number_of_work p id ≡ Some k.number = ap (λ o. option_and_then (λ (v : Work). v.number) o) w.there ∙ k.is in
     subst (λ o. PoolSound late (cancelled_at o p)) (sym number)
     (kept-sound late late p (filter (λ m. not (m == k.number)) p.queued) p.executions (p.finished ++ one (cancelled_outcome k.number)) p.closing
-    (λ l. ap (λ ns. filter (λ m. not (m == k.number)) ns) (s.none l)) (stood k.number k.waits) s)
+    (λ l. ap (λ ns. filter (λ m. not (m == k.number)) ns) (s.none l)) (stood k.number k.waits) s.executes s)
   where
     stood : (k : ℕ) → has_number k p.queued ≡ true → StandsIn p (cancelled_at (Some k) p)
     stood k waits n =
@@ -212,7 +226,7 @@ cancelled-sound late p id none s =
         ])
 
 -- a work that is not queued yet has no number
-created-none : (p : WorkPool) (w : Work) → is_created (work_state p w) ≡ true → w.number ≡ None
+pub created-none : (p : WorkPool) (w : Work) → is_created (work_state p w) ≡ true → w.number ≡ None
 created-none p w is = by w.number refl is
   where
     never : (q x f : Bool) → is_created (cond q Queued (cond x Running (cond f Finished Completed))) ≡ false
@@ -226,6 +240,16 @@ created-none p w is = by w.number refl is
     by (Some n) numbered is =
         let no : false ≡ true = sym (never (has_number n p.queued) (has (λ (x : Execution). x.work) n p.executions) (has (λ (o : Outcome). o.work) n p.finished)) ∙ is in cc
 
+-- one number more stands
+queued-standing : (p : WorkPool) (id n : ℕ) (P : Type 0) → (stands p n ≡ true → P) → (new_number p ≡ n → P) → stands (with_queued id p) n ≡ true → P
+queued-standing p id n P old new =
+    by-standing (with_queued id p) n P
+    (λ h. elim (or_cases (has_number n p.queued) ((new_number p == n) || false) (sym (list_any-append (λ m. m == n) p.queued (one (new_number p))) ∙ h)) [
+      | inl before ↦ old (waits-stands p n before)
+      | inr last ↦ new (same-tells (new_number p) n (or_false (new_number p == n) last))
+    ])
+    (λ h. old (runs-stands p n h)) (λ h. old (finished-stands p n h))
+
 pub queued-sound : (late : Bool) (p : WorkPool) (id : ℕ) → work_refusal is_created p id ≡ None → (late ≡ true → ⊥) → PoolSound late p → PoolSound late (with_queued id p)
 queued-sound late p id none early s =
     let w : IsWork is_created p id = not-refused is_created p id none in
@@ -237,13 +261,12 @@ queued-sound late p id none early s =
       there = λ n.
           let old : stands p n ≡ true → list_any (has_work_number n) (map numbered p.works) ≡ true =
           λ stood. any-mapped (has_work_number n) numbered p.works (λ k d inside. unnumbered n _ w.work (created-none p w.work w.state) (only k d inside)) (s.there n stood) in
-          by-standing (with_queued id p) n (list_any (has_work_number n) (map numbered p.works) ≡ true)
-          (λ h. elim (or_cases (has_number n p.queued) ((new_number p == n) || false) (sym (list_any-append (λ m. m == n) p.queued (one (new_number p))) ∙ h)) [
-            | inl before ↦ old (waits-stands p n before)
-            | inr last ↦ any-map (has_work_number n) numbered p.works
-                ∙ found-any (λ (y : Work). y.id) (λ y. has_work_number n (numbered y)) id p.works w.work w.there (passes n w.work w.there (or_false (new_number p == n) last))
-          ])
-          (λ h. old (runs-stands p n h)) (λ h. old (finished-stands p n h));
+          queued-standing p id n (list_any (has_work_number n) (map numbered p.works) ≡ true) old
+          (λ same. any-map (has_work_number n) numbered p.works
+          ∙ found-any (λ (y : Work). y.id) (λ y. has_work_number n (numbered y)) id p.works w.work w.there
+          (passes n w.work w.there (eq-eqb (new_number p) n same)));
+      given = λ n. queued-standing p id n (n ≤ new_number p) (λ stood. omega (arith, s.given n stood)) (λ same. omega (arith, same));
+      executes = s.executes;
     }
   where
     numbered : Work → Work
@@ -269,53 +292,61 @@ queued-sound late p id none early s =
         (ap (λ m. m == id) (found-number (λ (y : Work). y.id) id p.works v there) ∙ same-self id) ∙ is
 
 -- WORKERS
+-- a worker that executes nothing is not there
+pub executes-none : (p : WorkPool) (w : ℕ) → is_none (executed_by p w) ≡ true → has (λ (x : Execution). x.worker) w p.executions ≡ false
+executes-none p w free = has-found (λ (x : Execution). x.worker) w p.executions ∙ by (found (λ (x : Execution). x.worker) w p.executions) free
+  where
+    by : (o : Option Execution) → is_none (option_map (λ (x : Execution). x.work) o) ≡ true → is_some o ≡ false
+    by None free = refl
+    by (Some x) free = cc
+
 pub started-sound : (late : Bool) (p : WorkPool) (w n : ℕ) (later : List ℕ) → p.queued ≡ n ∷ later → is_none (executed_by p w) ≡ true → PoolSound late p → PoolSound late (with_started w p)
 started-sound late p w n later waits free s =
     subst (λ ns. PoolSound late (started_from ns w p)) (sym waits)
     (kept-sound late late p later (with_record (λ (x : Execution). x.worker) (record { worker = w; work = n }) p.executions) p.finished p.closing
-    (λ l. let no : n ∷ later ≡ [] = sym waits ∙ s.none l in cc) stood s)
+    (λ l. let no : n ∷ later ≡ [] = sym waits ∙ s.none l in cc) stood
+    (rising-with_record (λ (x : Execution). x.worker) (record { worker = w; work = n }) p.executions s.executes) s)
   where
-    unfound : (o : Option Execution) → is_none (option_map (λ (x : Execution). x.work) o) ≡ true → is_some o ≡ false
-    unfound None h = refl
-    unfound (Some x) h = cc
-
-    absent : has (λ (x : Execution). x.worker) w p.executions ≡ false
-    absent = has-found (λ (x : Execution). x.worker) w p.executions ∙ unfound (found (λ (x : Execution). x.worker) w p.executions) free
-
     stood : StandsIn p (started_from (n ∷ later) w p)
     stood m =
         by-standing (started_from (n ∷ later) w p) m (stands p m ≡ true) (λ h. waits-stands p m (ap (has_number m) waits ∙ or_right (n == m) (has_number m later) h))
         (λ h. elim (or_cases (n == m) (has (λ (x : Execution). x.work) m p.executions)
-        (sym (list_any-with_record (λ (x : Execution). x.worker) (record { worker = w; work = n }) (λ (x : Execution). x.work == m) p.executions absent) ∙ h)) [
+        (sym (list_any-with_record (λ (x : Execution). x.worker) (record { worker = w; work = n }) (λ (x : Execution). x.work == m) p.executions (executes-none p w free)) ∙ h)) [
           | inl same ↦ waits-stands p m (ap (has_number m) waits ∙ or_left (n == m) (has_number m later) same)
           | inr before ↦ runs-stands p m before
         ]) (finished-stands p m)
 
-pub worked-sound : (late : Bool) (p : WorkPool) (w n : ℕ) → executed_by p w ≡ Some n → PoolSound late p → PoolSound late (with_finished w p)
-worked-sound late p w n runs s =
-    subst (λ o. PoolSound late (finished_at w o p)) (sym runs)
-    (kept-sound late late p p.queued (filter (λ (x : Execution). not (x.worker == w)) p.executions) (finished_at w (Some n) p).finished p.closing s.none stood s)
+-- the work that a worker executes is one that runs
+pub executes-work : (p : WorkPool) (w n : ℕ) → executed_by p w ≡ Some n → has (λ (x : Execution). x.work) n p.executions ≡ true
+executes-work p w n runs = by (found (λ (x : Execution). x.worker) w p.executions) refl runs
   where
-    executed : (o : Option Execution) → found (λ (x : Execution). x.worker) w p.executions ≡ o → option_map (λ (x : Execution). x.work) o ≡ Some n → has (λ (x : Execution). x.work) n p.executions ≡ true
-    executed None is none = let no : ⊥ = cc in absurd no
-    executed (Some x) is some =
+    by : (o : Option Execution) → found (λ (x : Execution). x.worker) w p.executions ≡ o → option_map (λ (x : Execution). x.work) o ≡ Some n
+        → has (λ (x : Execution). x.work) n p.executions ≡ true
+    by None is none = let no : ⊥ = cc in absurd no
+    by (Some x) is some =
         let work : x.work ≡ n = cc in
         found-any (λ (y : Execution). y.worker) (λ (y : Execution). y.work == n) w p.executions x is (ap (λ m. m == n) work ∙ same-self n)
 
+pub worked-sound : (late : Bool) (p : WorkPool) (w n : ℕ) → executed_by p w ≡ Some n → PoolSound late p → PoolSound late (with_finished w p)
+worked-sound late p w n runs s =
+    subst (λ o. PoolSound late (finished_at w o p)) (sym runs)
+    (kept-sound late late p p.queued (filter (λ (x : Execution). not (x.worker == w)) p.executions) (finished_at w (Some n) p).finished p.closing s.none stood
+    (rising-filter (λ (x : Execution). x.worker) (λ x. not (x.worker == w)) p.executions s.executes) s)
+  where
     stood : StandsIn p (finished_at w (Some n) p)
     stood m =
         by-standing (finished_at w (Some n) p) m (stands p m ≡ true) (waits-stands p m)
         (λ h. runs-stands p m (any-of_filter (λ (x : Execution). x.work == m) (λ (x : Execution). not (x.worker == w)) p.executions h))
         (λ h. elim (last-finished p.finished _ m h) [
           | inl before ↦ finished-stands p m before
-          | inr same ↦ runs-stands p m (sym (ap (λ k. has (λ (x : Execution). x.work) k p.executions) same) ∙ executed (found (λ (x : Execution). x.worker) w p.executions) refl runs)
+          | inr same ↦ runs-stands p m (sym (ap (λ k. has (λ (x : Execution). x.work) k p.executions) same) ∙ executes-work p w n runs)
         ])
 
 -- COMPLETION, AND THE DRAIN
 pub completed-sound : (late : Bool) (p : WorkPool) → PoolSound late p → PoolSound late (with_completed p)
 completed-sound late p s =
     kept-sound late late p p.queued p.executions (tail p.finished) p.closing s.none
-    (λ m. by-standing (with_completed p) m (stands p m ≡ true) (waits-stands p m) (runs-stands p m) (λ h. finished-stands p m (rest (λ (o : Outcome). o.work == m) p.finished h))) s
+    (λ m. by-standing (with_completed p) m (stands p m ≡ true) (waits-stands p m) (runs-stands p m) (λ h. finished-stands p m (rest (λ (o : Outcome). o.work == m) p.finished h))) s.executes s
   where
     rest : (test : Outcome → Bool) (os : List Outcome) → list_any test (tail os) ≡ true → list_any test os ≡ true
     rest test [] h = h
@@ -329,16 +360,15 @@ drained-sound late after p s =
     (sym (list_any-append (λ (o : Outcome). o.work == m) p.finished (map cancelled_outcome p.queued)) ∙ h)) [
       | inl before ↦ finished-stands p m before
       | inr cancelled ↦ waits-stands p m (sym (any-map (λ (o : Outcome). o.work == m) cancelled_outcome p.queued) ∙ cancelled)
-    ])) s
+    ])) s.executes s
 
 pub fewer-late : (late early : Bool) (p : WorkPool) → (early ≡ true → late ≡ true) → PoolSound late p → PoolSound early p
-fewer-late late early p implies s = record { none = λ e. s.none (implies e); rising = s.rising; issued = s.issued; there = s.there }
+fewer-late late early p implies s =
+    record { none = λ e. s.none (implies e); rising = s.rising; issued = s.issued; there = s.there; given = s.given; executes = s.executes }
 
--- a work that is finished is there
-pub finished-there : (late : Bool) (p : WorkPool) (o : Outcome) (os : List Outcome) → p.finished ≡ o ∷ os → PoolSound late p → is_some (find (has_work_number o.work) p.works) ≡ true
-finished-there late p o os first s =
-    any-find (has_work_number o.work) p.works
-    (s.there o.work (finished-stands p o.work (ap (has (λ (x : Outcome). x.work) o.work) first ∙ or_left (o.work == o.work) (has (λ (x : Outcome). x.work) o.work os) (same-self o.work))))
+-- a work that stands is there
+pub stands-there : (late : Bool) (p : WorkPool) (n : ℕ) → stands p n ≡ true → PoolSound late p → is_some (work_numbered p n) ≡ true
+stands-there late p n stood s = any-find (has_work_number n) p.works (s.there n stood)
   where
     any-find : (test : Work → Bool) (ws : List Work) → list_any test ws ≡ true → is_some (find test ws) ≡ true
     any-find test [] there = there
@@ -347,3 +377,10 @@ finished-there late p o os first s =
         by : (b : Bool) → (b || list_any test ws) ≡ true → (list_any test ws ≡ true → is_some (find test ws) ≡ true) → is_some (cond b (Some w) (find test ws)) ≡ true
         by true there rest = refl
         by false there rest = rest there
+
+-- as is one that is finished
+pub finished-there : (late : Bool) (p : WorkPool) (o : Outcome) (os : List Outcome) → p.finished ≡ o ∷ os → PoolSound late p
+    → is_some (work_numbered p o.work) ≡ true
+finished-there late p o os first s =
+    stands-there late p o.work
+    (finished-stands p o.work (ap (has (λ (x : Outcome). x.work) o.work) first ∙ or_left (o.work == o.work) (has (λ (x : Outcome). x.work) o.work os) (same-self o.work))) s

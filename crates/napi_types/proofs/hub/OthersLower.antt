@@ -1,5 +1,5 @@
 -- No entry of a thread or a worker lowers the sum of the history's entries and reserved places, so a call that is full there stays full.
-use Rattle.std.proofs.Common.{◌≡◌, ◌∙◌, ℕ, suc, ◌+◌, ◌*◌, ◌≤◌, ◌<◌, Bool, true, false, List, [], ◌∷◌, ◌++◌, length, refl, ap, sym, subst, arith, length-append, Option, Some, None, is_some, is_none, option_map, IsTrue}
+use Rattle.std.proofs.Common.{◌≡◌, ◌∙◌, ℕ, suc, ◌+◌, ◌*◌, ◌≤◌, ◌<◌, Bool, true, false, List, [], ◌∷◌, ◌++◌, length, refl, ap, sym, subst, arith, length-append, Option, Some, is_some, is_none, IsTrue}
 use Rattle.std.specs.List.{All, sum_by}
 use Rattle.std.proofs.lemmas.Bool.{ltb-true, lt-ltb}
 use Rattle.std.proofs.lemmas.List.Elements.{All-head, All-tail}
@@ -19,7 +19,7 @@ use Rattle.napi_types.specs.declared.entry.What.TheVariants as what
 use Rattle.napi_types.specs.declared.status.Status.{Status}
 use Rattle.napi_types.specs.declared.status.Status.TheVariants as status
 use Rattle.napi_types.specs.plain.Entries.{is_environment}
-use Rattle.napi_types.specs.plain.Lists.{found, has, with_number, with_record, one}
+use Rattle.napi_types.specs.plain.Lists.{with_number, with_record, one}
 use Rattle.napi_types.specs.plain.Room.{is_full, need, one_if}
 use Rattle.napi_types.specs.parts.Functions.{FunctionState, called, acquire_status, acquired, release_status, closed_state, released}
 use Rattle.napi_types.specs.parts.Pool.{WorkPool, executed_by, with_started, started_from, with_finished, finished_at}
@@ -33,11 +33,12 @@ use Rattle.napi_types.specs.hub.ThreadSteps.{thread_step, thread_event}
 use Rattle.napi_types.specs.hub.WorkerSteps.{worker_step, worker_event}
 use Rattle.napi_types.specs.hub.HubSteps.{IsHubNext, hub_step, hub_step_of, hub_along}
 use Rattle.napi_types.specs.hub.Replays.{HubReplays}
-use Rattle.napi_types.proofs.plain.Found.{has-found}
-use Rattle.napi_types.proofs.hub.Executions.{loses-one, wins-one, left-one, HoldsOfHub, step-holds, led-holds}
+use Rattle.napi_types.proofs.hub.Executions.{loses-one, wins-one, left-one}
 use Rattle.napi_types.proofs.hub.HubCases.{HubCase, hub-case, asks, creates_work, deletes_work, cancels_work, queues_work, creates_function, alters, goes, ends_loop, drains, comes_to_finals, delivers, closes, finishes, ends, thread_ends, worker_ends, starts, finishes_work, Alters, calls, acquires, releases}
+use Rattle.napi_types.proofs.hub.HubHolds.{HubSound, step-sound, led-sound}
 use Rattle.napi_types.proofs.hub.HubFunctions.{IsAmong, found-among}
 use Rattle.napi_types.proofs.hub.HubKeeps.{other-calls}
+use Rattle.napi_types.proofs.hub.HubPools.{executes-none}
 
 -- WHAT OTHERS DO
 -- the events of threads and workers
@@ -142,14 +143,6 @@ function-lowers-nothing late h f change among fits =
     by s t p q same fits = omega (arith, same, fits)
 
 -- THE POOL
--- a worker that executes nothing is not there
-executes-none : (p : WorkPool) (w : ℕ) → is_none (executed_by p w) ≡ true → has (λ (x : Execution). x.worker) w p.executions ≡ false
-executes-none p w free = has-found (λ (x : Execution). x.worker) w p.executions ∙ by (found (λ (x : Execution). x.worker) w p.executions) free
-  where
-    by : (o : Option Execution) → is_none (option_map (λ (x : Execution). x.work) o) ≡ true → is_some o ≡ false
-    by None free = refl
-    by (Some x) free = cc
-
 started-lowers-nothing : (q e f q' e' : ℕ) → q ≡ suc q' → e + 1 ≤ e' → 4 * q + 3 * e + 2 * f ≤ 4 * q' + 3 * e' + 2 * f + 1
 started-lowers-nothing q e f q' e' less more = omega (arith, less, more)
 
@@ -164,11 +157,11 @@ starts-lowers-nothing p w n later waits free =
 finished-lowers-nothing : (q e f e' f' : ℕ) → e ≤ e' + 1 → f' ≡ f + 1 → 4 * q + 3 * e + 2 * f ≤ 4 * q + 3 * e' + 2 * f' + 1
 finished-lowers-nothing q e f e' f' less more = omega (arith, less, more)
 
-finishes-lowers-nothing : (h : Hub) (w n : ℕ) → HoldsOfHub h → executed_by h.pool w ≡ Some n → work_places h.pool ≤ work_places (with_finished w h.pool) + 1
+finishes-lowers-nothing : (h : Hub) (w n : ℕ) → HubSound h → executed_by h.pool w ≡ Some n → work_places h.pool ≤ work_places (with_finished w h.pool) + 1
 finishes-lowers-nothing h w n holds runs =
     subst (λ o. work_places h.pool ≤ work_places (finished_at w o h.pool) + 1) (sym runs)
     (finished-lowers-nothing (length h.pool.queued) (length h.pool.executions) (length h.pool.finished) (length (finished_at w (Some n) h.pool).executions)
-    (length (finished_at w (Some n) h.pool).finished) (loses-one (λ (x : Execution). x.worker) w h.pool.executions holds.executions)
+    (length (finished_at w (Some n) h.pool).finished) (loses-one (λ (x : Execution). x.worker) w h.pool.executions holds.pool.executes)
     (length-append h.pool.finished (one _)))
 
 -- AN ACTOR ENDS
@@ -192,7 +185,7 @@ worker-lowers-nothing h w =
 not-true : false ≡ true → ⊥
 not-true is = cc
 
-case-lowers-nothing : (h : Hub) (x : Entry) (told : Out) (n : Hub) → HoldsOfHub h → ((c : Call) → x.what ≡ what.Call c → is_thread_call c ≡ true)
+case-lowers-nothing : (h : Hub) (x : Entry) (told : Out) (n : Hub) → HubSound h → ((c : Call) → x.what ≡ what.Call c → is_thread_call c ≡ true)
     → ((event : HostStep) → x.what ≡ what.Host event → is_other_event event ≡ true) → HubCase h x told n → LowersNothing h n
 case-lowers-nothing h x told _ holds asked happens (asks c is shared) = same-lowers-nothing h
 case-lowers-nothing h x told _ holds asked happens (creates_work job entry payload addon is fresh tells) = absurd (not-true (asked _ is))
@@ -219,13 +212,13 @@ case-lowers-nothing h x told _ holds asked happens (starts w n later is waits fr
 case-lowers-nothing h x told _ holds asked happens (finishes_work w n is runs) =
     pool-lowers-nothing h (with_finished w h.pool) (finishes-lowers-nothing h w n holds runs)
 
-step-lowers-nothing : (h : Hub) (x : Entry) → HoldsOfHub h → is_environment x.actor ≡ false → IsHubNext h x → LowersNothing h (hub_step h x).after
+step-lowers-nothing : (h : Hub) (x : Entry) → HubSound h → is_environment x.actor ≡ false → IsHubNext h x → LowersNothing h (hub_step h x).after
 step-lowers-nothing h x holds other next =
     case-lowers-nothing h x (hub_step h x).entry.reply.out (hub_step h x).after holds (λ c is. other-calls h x c other is next.may)
     (λ event is. event-other h x x.actor event other is next.may) (hub-case h x next.may)
 
 pub others-lower-nothing : OthersLowerNothing
-others-lower-nothing limit threads workers history h x led other next = step-lowers-nothing h x (led-holds limit threads workers history h led) other next
+others-lower-nothing limit threads workers history h x led other next = step-lowers-nothing h x (led-sound limit threads workers history h led) other next
 
 -- A CALL THAT IS FULL
 full-stays : (h g : Hub) (n limit : ℕ) (c : Call) → LowersNothing h g → is_full (history_room h n limit) c ≡ true
@@ -237,7 +230,7 @@ full-stays h g n limit c low full =
     by : (r s k : ℕ) → r ≤ s + 1 → limit < n + r + k → limit < n + 1 + s + k
     by r s k low full = omega (arith, low, full)
 
-along-stays : (limit : ℕ) (h : Hub) (n : ℕ) (rest : List Entry) (c : Call) → HoldsOfHub h → All (λ x. is_environment x.actor ≡ false) rest
+along-stays : (limit : ℕ) (h : Hub) (n : ℕ) (rest : List Entry) (c : Call) → HubSound h → All (λ x. is_environment x.actor ≡ false) rest
     → HubReplays limit h n rest → is_full (history_room h n limit) c ≡ true → is_full (history_room (hub_along h rest) (n + length rest) limit) c ≡ true
 along-stays limit h n [] c holds others replays full = subst (λ m. is_full (history_room h m limit) c ≡ true) (sym (same n)) full
   where
@@ -246,7 +239,7 @@ along-stays limit h n [] c holds others replays full = subst (λ m. is_full (his
 along-stays limit h n (x ∷ xs) c holds others replays full =
     let other : is_environment x.actor ≡ false = All-head (λ (y : Entry). is_environment y.actor ≡ false) x xs others in
     subst (λ m. is_full (history_room (hub_along (hub_step h x).after xs) m limit) c ≡ true) (same n (length xs))
-    (along-stays limit (hub_step h x).after (n + 1) xs c (step-holds h x replays.0 holds)
+    (along-stays limit (hub_step h x).after (n + 1) xs c (step-sound h x replays.0 holds)
     (All-tail (λ (y : Entry). is_environment y.actor ≡ false) x xs others) replays.2
     (full-stays h (hub_step h x).after n limit c (step-lowers-nothing h x holds other replays.0) full))
   where
@@ -259,4 +252,4 @@ full-stays-full limit threads workers history h x n c led other next full =
 
 pub full-stays-along : FullStaysFullAsOthersGoOn
 full-stays-along limit threads workers history rest h n c led others replays full =
-    along-stays limit h n rest c (led-holds limit threads workers history h led) others replays full
+    along-stays limit h n rest c (led-sound limit threads workers history h led) others replays full

@@ -23,7 +23,7 @@ use Rattle.napi_types.specs.hub.HubSteps.{hub_step, hub_step_of, environment_ste
 use Rattle.napi_types.specs.hub.Replays.{HubReplays}
 use Rattle.napi_types.proofs.plain.Conditions.{and-left, and-right}
 use Rattle.napi_types.proofs.plain.Found.{same-tells, same-self, found-filter, found-with_record, turned}
-use Rattle.napi_types.proofs.hub.HubCases.{HubCase, asks, creates_work, deletes_work, cancels_work, queues_work, creates_function, alters, goes, ends_loop, drains, comes_to_finals, delivers, closes, finishes, ends, thread_ends, worker_ends, starts, finishes_work, hub-case}
+use Rattle.napi_types.proofs.hub.HubCases.{HubCase, cancels_work, delivers, worker_ends, starts, finishes_work, hub-case}
 use Rattle.napi_types.proofs.hub.HubRooms.{left-without}
 
 -- WHAT WORKERS EXECUTE

@@ -13,6 +13,7 @@ use Rattle.napi_types.specs.parts.Book.{Book, Registration, TicketState, Registe
 use Rattle.napi_types.proofs.plain.Issued.{has-up_to}
 use Rattle.napi_types.proofs.plain.Found.{apart-below, apart-above}
 use Rattle.napi_types.proofs.plain.Lists.{find-passes, find-first}
+use Rattle.napi_types.proofs.parts.Moved.{IsUnder, PassesTest, under-ticket}
 
 -- ONE MORE
 pub owed-cons : (r : Registration) (rs : Book) → owed_tickets (r ∷ rs) ≡ one_if (is_owed r.state) + owed_tickets rs
@@ -116,7 +117,7 @@ begun-leaves = record { before = before; after = after }
     after Due is = refl
     after _ is = cc
 
-hook-leaves : Leaves is_registered made_due_and_begun
+pub hook-leaves : Leaves is_registered made_due_and_begun
 hook-leaves = record { before = withdrawn-leaves.before; after = after }
   where
     after : (s : TicketState) → is_registered s ≡ true → is_owed (made_due_and_begun s) ≡ false
@@ -136,19 +137,9 @@ pub owed-begun : (p : Phase) (n : ℕ) (book : Book) (r : Registration) → regi
 owed-begun p n book r there is = moved_at-leaves (may_begin_in p) (begun_in p) (leaves-in p) n book (Some r) there is
 
 -- THE LOWEST
--- what is under a ticket that is due
-pub record IsDueAt (book : Book) (n : ℕ) : Type 0 where
-  pub registration : Registration
-  pub there : registration_at book n ≡ Some registration
-  pub due : is_due registration.state ≡ true
-
 -- the lowest due ticket was given, and is due
-pub lowest-due : (book : Book) (n : ℕ) → lowest_due book ≡ Some n → IsDueAt book n
-lowest-due book n lowest = by (registration_at book n) refl (find-passes (is_at is_due book) (up_to (length book)) n lowest)
-  where
-    by : (o : Option Registration) → registration_at book n ≡ o → unwrap_or (option_map (λ (r : Registration). is_due r.state) o) false ≡ true → IsDueAt book n
-    by None there is = let no : ⊥ = cc in absurd no
-    by (Some r) there is = record { registration = r; there = there; due = is }
+pub lowest-due : (book : Book) (n : ℕ) → lowest_due book ≡ Some n → IsUnder (PassesTest is_due) book n
+lowest-due book n lowest = under-ticket is_due book n (find-passes (is_at is_due book) (up_to (length book)) n lowest)
 
 -- none below it is
 pub lowest-below : (book : Book) (n k : ℕ) → lowest_due book ≡ Some n → k < n → is_at is_due book k ≡ false

@@ -1,11 +1,12 @@
 -- What is under a ticket, and what after the book has changed.
-use Rattle.std.proofs.Common.{◌≡◌, ◌∙◌, ℕ, zero, suc, ◌+◌, ◌<◌, ◌==◌, ◌⊎◌, ◌∷◌, ◌++◌, Bool, true, false, cond, List, [], length, slice_get, Option, Some, None, option_map, inl, inr, refl, sym, ap, arith, add-one}
+use Rattle.std.proofs.Common.{◌≡◌, ◌∙◌, ℕ, zero, suc, ◌+◌, ◌<◌, ◌==◌, ◌⊎◌, ◌∷◌, Bool, true, false, cond, List, [], slice_get, Option, Some, None, option_map, inl, inr, refl, sym, ap, arith}
 use Rattle.std.specs.Option.{unwrap_or}
 use Rattle.std.proofs.lemmas.Bool.{eqb-true}
 use Rattle.std.proofs.lemmas.Option.{same_Some, slice_get_within}
 use Rattle.napi_types.specs.declared.entry.Cause.{Cause}
 use Rattle.napi_types.specs.parts.Book.{Book, Registration, TicketState, is_at, moved, moved_from, moved_where, registration_at, new_ticket, with_registration, cause_at}
-use Rattle.napi_types.proofs.plain.Found.{apart-below, next-same}
+use Rattle.napi_types.proofs.plain.Counted.{element-push}
+use Rattle.napi_types.proofs.plain.Found.{apart-below, same-self, turned}
 
 -- A TICKET THAT WAS GIVEN
 pub at-state : (test : TicketState → Bool) (book : Book) (n : ℕ) (r : Registration) → registration_at book n ≡ Some r → is_at test book n ≡ test r.state
@@ -14,18 +15,34 @@ at-state test book n r there = ap (λ o. unwrap_or (option_map (λ (q : Registra
 pub at-cause : (book : Book) (n : ℕ) (r : Registration) → registration_at book n ≡ Some r → cause_at book n ≡ Some r.cause
 at-cause book n r there = ap (λ o. option_map (λ (q : Registration). q.cause) o) there
 
--- what was registered under a ticket, where this is why its frame begins
-pub record IsUnder (book : Book) (n : ℕ) (why : Cause) : Type 0 where
+-- what was registered under a ticket, of which this holds
+pub record IsUnder (P : Registration → Type 0) (book : Book) (n : ℕ) : Type 0 where
   pub registration : Registration
   pub there : registration_at book n ≡ Some registration
-  pub cause : registration.cause ≡ why
+  pub holds : P registration
 
-pub under : (book : Book) (n : ℕ) (why : Cause) → cause_at book n ≡ Some why → IsUnder book n why
+-- this is why its frame begins
+abbrev pub BeginsFor : Cause → Registration → Type 0
+BeginsFor why r = r.cause ≡ why
+
+pub under : (book : Book) (n : ℕ) (why : Cause) → cause_at book n ≡ Some why → IsUnder (BeginsFor why) book n
 under book n why is = by (registration_at book n) refl is
   where
-    by : (o : Option Registration) → registration_at book n ≡ o → option_map (λ (r : Registration). r.cause) o ≡ Some why → IsUnder book n why
+    by : (o : Option Registration) → registration_at book n ≡ o → option_map (λ (r : Registration). r.cause) o ≡ Some why → IsUnder (BeginsFor why) book n
     by None there told = let no : ⊥ = cc in absurd no
-    by (Some r) there told = record { registration = r; there = there; cause = same_Some r.cause why told }
+    by (Some r) there told = record { registration = r; there = there; holds = same_Some r.cause why told }
+
+-- its ticket passes a test
+abbrev pub PassesTest : (TicketState → Bool) → Registration → Type 0
+PassesTest test r = test r.state ≡ true
+
+pub under-ticket : (test : TicketState → Bool) (book : Book) (n : ℕ) → is_at test book n ≡ true → IsUnder (PassesTest test) book n
+under-ticket test book n is = by (registration_at book n) refl is
+  where
+    by : (o : Option Registration) → registration_at book n ≡ o → unwrap_or (option_map (λ (r : Registration). test r.state) o) false ≡ true
+        → IsUnder (PassesTest test) book n
+    by None there is = let no : ⊥ = cc in absurd no
+    by (Some r) there is = record { registration = r; there = there; holds = is }
 
 -- its ticket is below the one that the next registration gets
 pub registration-within : (book : Book) (n : ℕ) (r : Registration) → registration_at book n ≡ Some r → n < new_ticket book
@@ -77,32 +94,29 @@ is_at-moved_where passes move test book n r there =
     by false = refl
 
 -- A REGISTRATION MORE
-slice_get-pushed : (rs : List Registration) (r : Registration) → slice_get (rs ++ r ∷ []) (length rs) ≡ Some r
-slice_get-pushed [] r = refl
-slice_get-pushed (q ∷ rs) r = slice_get-pushed rs r
-
-slice_get-before : (rs : List Registration) (r : Registration) (p : ℕ) → (p == length rs) ≡ false → slice_get (rs ++ r ∷ []) p ≡ slice_get rs p
-slice_get-before [] r zero apart = cc
-slice_get-before [] r (suc p) apart = refl
-slice_get-before (q ∷ rs) r zero apart = refl
-slice_get-before (q ∷ rs) r (suc p) apart = slice_get-before rs r p (sym (next-same p (length rs)) ∙ apart)
+registration_at-pushed : (book : Book) (r : Registration) (n : ℕ)
+    → registration_at (with_registration r book) n ≡ cond (new_ticket book == n) (Some r) (registration_at book n)
+registration_at-pushed book r zero = element-push book r zero
+registration_at-pushed book r (suc p) = element-push book r (suc p)
 
 -- the new ticket has it
 pub registration_at-new : (book : Book) (r : Registration) → registration_at (with_registration r book) (new_ticket book) ≡ Some r
-registration_at-new book r = ap (λ n. registration_at (book ++ r ∷ []) n) (add-one (length book)) ∙ slice_get-pushed book r
+registration_at-new book r =
+    registration_at-pushed book r (new_ticket book) ∙ ap (λ b. cond b (Some r) (registration_at book (new_ticket book))) (same-self (new_ticket book))
 
 -- and every other ticket what it had
 pub registration_at-old : (book : Book) (r : Registration) (n : ℕ) → (n == new_ticket book) ≡ false → registration_at (with_registration r book) n ≡ registration_at book n
-registration_at-old book r zero apart = refl
-registration_at-old book r (suc p) apart = slice_get-before book r p (next p (length book) apart)
-  where
-    next : (p n : ℕ) → (suc p == n + 1) ≡ false → (p == n) ≡ false
-    next p n h = grind arith
+registration_at-old book r n apart = registration_at-pushed book r n ∙ ap (λ b. cond b (Some r) (registration_at book n)) (turned (new_ticket book) n ∙ apart)
 
 pub registration_at-before : (book : Book) (r : Registration) (n : ℕ) (q : Registration) → registration_at book n ≡ Some q → registration_at (with_registration r book) n ≡ Some q
 registration_at-before book r n q there = registration_at-old book r n (apart-below n (new_ticket book) (registration-within book n q there)) ∙ there
 
--- so what is under a ticket was there before, or is new
+-- so it is in the state that it was in
+pub is_at-before : (test : TicketState → Bool) (book : Book) (r : Registration) (n : ℕ) (q : Registration) → registration_at book n ≡ Some q
+    → is_at test (with_registration r book) n ≡ is_at test book n
+is_at-before test book r n q there = at-state test (with_registration r book) n q (registration_at-before book r n q there) ∙ sym (at-state test book n q there)
+
+-- and what is under a ticket was there before, or is new
 pub registration_at-either : (book : Book) (r : Registration) (n : ℕ) (q : Registration) → registration_at (with_registration r book) n ≡ Some q
     → (registration_at book n ≡ Some q) ⊎ ((n ≡ new_ticket book) × (r ≡ q))
 registration_at-either book r n q there = by (n == new_ticket book) refl

@@ -1,7 +1,9 @@
 -- The moves of a ticket, as one list, and what they keep.
-use Rattle.std.proofs.Common.{◌≡◌, true, false, refl, ◌∙◌, sym}
+use Rattle.std.proofs.Common.{◌≡◌, ◌≢◌, ℕ, suc, Bool, true, false, cond, ◌∷◌, [], refl, ◌∙◌, sym, ap}
+use Rattle.std.specs.List.{All}
 use Rattle.std.proofs.lemmas.Bool.{true_from_ne_false}
-use Rattle.napi_types.specs.parts.Book.{Registration, TicketState, Registered, Due, Begun, is_registered, is_due, is_owed, made_due, made_withdrawn, made_begun, made_ended, moved}
+use Rattle.napi_types.specs.parts.Book.{Registration, TicketState, Registered, Due, Begun, Book, is_registered, is_due, is_begun, is_owed, made_due, made_withdrawn, made_begun, made_ended, moved, moved_from, moved_where}
+use Rattle.napi_types.proofs.parts.Books.{All-moved}
 
 -- a ticket falls due, is withdrawn, begins or ends
 pub data Move : Type 0 where
@@ -19,6 +21,30 @@ next Ends s = made_ended s
 -- a fact of registrations that every move keeps
 abbrev pub KeptByMoves : (Registration → Type 0) → Type 0
 KeptByMoves P = (move : Move) (r : Registration) → P r → P (moved (next move) r)
+
+-- a statement on books that every move of tickets keeps
+abbrev pub MovesKeep : (Book → Type 0) → Type 0
+MovesKeep Q = (move : Move) (test : ℕ → Bool) (book : Book) → Q book → Q (moved_where (next move) test book)
+
+-- as is what holds of every registration
+pub each-kept : (P : Registration → Type 0) → KeptByMoves P → MovesKeep (λ book. All P book)
+each-kept P moves move test book all = All-moved P (next move) (moves move) test book all
+
+-- two moves, one after the other, are one
+moved_from-both : (first second : TicketState → TicketState) (test : ℕ → Bool) (k : ℕ) (rs : Book)
+    → moved_from k second test (moved_from k first test rs) ≡ moved_from k (λ s. second (first s)) test rs
+moved_from-both first second test k [] = refl
+moved_from-both first second test k (r ∷ rs) =
+    ap (λ q. q ∷ moved_from (suc k) second test (moved_from (suc k) first test rs)) (by (test k))
+    ∙ ap (λ qs. cond (test k) (moved (λ s. second (first s)) r) r ∷ qs) (moved_from-both first second test (suc k) rs)
+  where
+    by : (b : Bool) → cond b (moved second (cond b (moved first r) r)) (cond b (moved first r) r) ≡ cond b (moved (λ s. second (first s)) r) r
+    by true = refl
+    by false = refl
+
+pub moved-both : (first second : TicketState → TicketState) (test : ℕ → Bool) (book : Book)
+    → moved_where second test (moved_where first test book) ≡ moved_where (λ s. second (first s)) test book
+moved-both first second test book = moved_from-both first second test 1 book
 
 -- WHAT EVERY MOVE KEEPS
 -- none is registered that was not
@@ -40,6 +66,14 @@ unowed-moved Falls _ none = refl
 unowed-moved Withdraws _ none = refl
 unowed-moved Begins _ none = refl
 unowed-moved Ends _ none = refl
+
+-- a ticket that has begun is one that has until it ends
+pub begun-moved : (move : Move) → move ≢ Ends → (s : TicketState) → is_begun s ≡ true → is_begun (next move s) ≡ true
+begun-moved Ends goes s is = absurd (goes refl)
+begun-moved Falls goes Begun is = refl
+begun-moved Withdraws goes Begun is = refl
+begun-moved Begins goes Begun is = refl
+begun-moved move goes s is = cc
 
 -- and where it was not registered, none is due that was not
 pub due-moved : (move : Move) (s : TicketState) → is_registered s ≡ false → is_due (next move s) ≡ true → is_due s ≡ true

@@ -1,5 +1,5 @@
 -- Two conditions.
-use Rattle.std.proofs.Common.{◌≡◌, Bool, true, false, ◌&&◌, IsTrue, refl, sym}
+use Rattle.std.proofs.Common.{◌≡◌, Bool, true, false, not, ◌&&◌, IsTrue, refl, sym}
 
 pub and-left : (a b : Bool) → IsTrue (a && b) → IsTrue a
 and-left true b h = refl
@@ -12,6 +12,10 @@ and-right false b h = cc
 pub and-both : (a b : Bool) → IsTrue a → IsTrue b → IsTrue (a && b)
 and-both true b h k = k
 and-both false b h k = h
+
+pub not-true : (b : Bool) → IsTrue (not b) → b ≡ false
+not-true true h = cc
+not-true false h = refl
 
 -- they hold alike where each gives the other
 pub alike : (a b : Bool) → (a ≡ true → b ≡ true) → (b ≡ true → a ≡ true) → a ≡ b

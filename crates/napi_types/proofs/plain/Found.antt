@@ -1,5 +1,5 @@
 -- What is found in a finite map: a list of records by rising number.
-use Rattle.std.proofs.Common.{◌≡◌, ◌∙◌, ℕ, ◌<◌, ◌==◌, nat_lt, ◌||◌, Bool, true, false, not, cond, List, [], ◌∷◌, ◌++◌, filter, Option, Some, None, is_some, refl, ap, sym, subst, arith, suc, ◌+◌, ◌≤◌, inl, inr, map}
+use Rattle.std.proofs.Common.{◌≡◌, ◌∙◌, ℕ, ◌<◌, ◌==◌, nat_lt, ◌||◌, Bool, true, false, not, cond, List, [], ◌∷◌, ◌++◌, filter, Option, Some, None, is_some, option_map, refl, ap, sym, subst, arith, suc, ◌+◌, ◌≤◌, inl, inr, map}
 use Rattle.std.specs.List.{All}
 use Rattle.std.specs.Option.{option_or, option_and_then}
 use Rattle.std.proofs.lemmas.Bool.{ltb-true, lt-ltb, le-ltb, or_parts, cases_lt}
@@ -199,6 +199,16 @@ module _ {A : Type 0} (number : A → ℕ) where
   rising-changed f same [] rises = tt
   rising-changed f same (x ∷ xs) rises =
       (All-map (λ y. number (f x) < number y) f xs (λ k d inside. rw (same x, same _) (rises.0 k d inside)), rising-changed f same xs rises.1)
+
+  pub found-changed : (f : A → A) → ((x : A) → number (f x) ≡ number x) → (n : ℕ) (xs : List A) → found number n (map f xs) ≡ option_map f (found number n xs)
+  found-changed f same n [] = refl
+  found-changed f same n (x ∷ xs) =
+      ap (λ k. cond (k == n) (Some (f x)) (found number n (map f xs))) (same x) ∙ by (number x == n) (found-changed f same n xs)
+    where
+      by : (b : Bool) → found number n (map f xs) ≡ option_map f (found number n xs)
+          → cond b (Some (f x)) (found number n (map f xs)) ≡ option_map f (cond b (Some x) (found number n xs))
+      by true rest = refl
+      by false rest = rest
 
   pub rising-as_map : (xs : List A) → IsRising number (as_map number xs)
   rising-as_map [] = cc

@@ -25,6 +25,10 @@ swapped true true c = refl
 swapped true false c = refl
 swapped false b c = refl
 
+pub joined : (a b c : Bool) → (a || (b || c)) ≡ ((a || b) || c)
+joined true b c = refl
+joined false b c = refl
+
 -- of two numbers that are not the same one is below the other
 pub one-below : (m n : ℕ) → (m == n) ≡ false → nat_lt m n ≡ not (nat_lt n m)
 one-below m n apart = grind (arith, nat_tests)
@@ -75,14 +79,10 @@ module _ {A : Type 0} (number : A → ℕ) (x : A) where
       let parts = or_parts (number y == number x) (has number (number x) ys) absent in
       by (lower y) (higher y) (one-below (number y) (number x) parts.0) (parts-any p ys parts.1)
     where
-      first : (a b c : Bool) → (a || (b || c)) ≡ ((a || b) || c)
-      first true b c = refl
-      first false b c = refl
-
       by : (a b : Bool) → a ≡ not b → list_any p ys ≡ (list_any p (filter lower ys) || list_any p (filter higher ys))
           → (p y || list_any p ys) ≡ (list_any p (cond a (y ∷ filter lower ys) (filter lower ys)) || list_any p (cond b (y ∷ filter higher ys) (filter higher ys)))
       by true true e rest = cc
-      by true false e rest = ap (λ c. p y || c) rest ∙ first (p y) (list_any p (filter lower ys)) (list_any p (filter higher ys))
+      by true false e rest = ap (λ c. p y || c) rest ∙ joined (p y) (list_any p (filter lower ys)) (list_any p (filter higher ys))
       by false true e rest = ap (λ c. p y || c) rest ∙ swapped (p y) (list_any p (filter lower ys)) (list_any p (filter higher ys))
       by false false e rest = cc
 

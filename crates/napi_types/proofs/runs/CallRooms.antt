@@ -1,5 +1,5 @@
 -- In which list the entry of a call stands: a shared call has it in the history, and every other in the journal.
-use Rattle.std.proofs.Common.{◌≡◌, Bool, true, false, not, IsTrue, refl}
+use Rattle.std.proofs.Common.{◌≡◌, true, false, refl}
 use Rattle.napi_types.specs.declared.call.Call.{Call}
 use Rattle.napi_types.specs.plain.Built.{is_built}
 use Rattle.napi_types.specs.plain.Guards.{is_shared}
@@ -20,7 +20,3 @@ built-room m c built = local-room m c (built-local c built)
 -- a shared call has its entry in the history
 pub shared-room : (m : Machine) (c : Call) → is_shared c ≡ true → room_of m c ≡ history_room m.hub m.history_length m.limits.history
 shared-room m c is = rw is refl
-
-pub not-full : (b : Bool) → IsTrue (not b) → b ≡ false
-not-full true h = cc
-not-full false h = refl

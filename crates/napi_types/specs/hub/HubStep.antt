@@ -1,7 +1,6 @@
 -- A step of the hub: what it is, where nothing may come, the entry of a call, and that of an event of a thread or a worker.
 use Rattle.std.specs.Prelude.{Bool, false, Option, Some, None}
 use Rattle.napi_types.specs.declared.entry.Actor.{Actor}
-use Rattle.napi_types.specs.declared.entry.Actor.TheVariants as actor
 use Rattle.napi_types.specs.declared.entry.Entry.{Entry}
 use Rattle.napi_types.specs.declared.entry.HostStep.{HostStep}
 use Rattle.napi_types.specs.declared.entry.Out.{Out}

@@ -7,15 +7,16 @@ use Rattle.napi_types.specs.parts.Frames.{frame_of_duty, begin_told}
 use Rattle.napi_types.specs.environment.Environment.{Environment}
 use Rattle.napi_types.specs.environment.Hooked.{is_late}
 use Rattle.napi_types.specs.environment.Tickets.{ticket_in}
+use Rattle.napi_types.proofs.parts.Moved.{IsUnder, PassesTest}
 use Rattle.finalizer_queue.specs.Kept.{ticket_number}
 use Rattle.env_values.specs.Seen.{heap_of}
 use Rattle.env_core.specs.contracts.state.State.{the_view}
-use Rattle.env_core.proofs.Beginning.{IsUnder, last-registered, hook-begun, begun-hook, attached-at, book-begun, ticket-uncalled, state-begun}
+use Rattle.env_core.proofs.Beginning.{last-registered, hook-begun, begun-hook, attached-at, book-begun, ticket-uncalled, state-begun}
 use Rattle.env_core.proofs.state.State.begin_hook.Goals.{After-begin_frame-begin}
 use Rattle.env_core.proofs.state.State.begin_hook.Goals as goal
 
 -- what is under the ticket of the hook
-under : (c : After-begin_frame-begin) → IsUnder is_registered c.self.inside.book.book c.in_ok-ticket.ticket.0
+under : (c : After-begin_frame-begin) → IsUnder (PassesTest is_registered) c.self.inside.book.book c.in_ok-ticket.ticket.0
 under c =
     last-registered (the_view c.self.inside) c.in_ok-ticket.ticket.0 (rw (← c.self.view_is) at c.requires.hooked) (ap is_late (rw (← c.self.view_is) at c.requires.phase)) c.in_ok-ticket.ensures.last
 
@@ -38,7 +39,7 @@ invariant_of-self-2 c =
           (λ h. uncalled (sym (ap (λ (d : DueInfo). d.cause) (tells c)) ∙ h)),
       attached-at s.store s.wraps.attachments s.book.book book made_due_and_begun n c.take_ticket-due.ensures.begun c.self.invariant.1,
       book-begun s.frames f.new.frames s.book.book book _ c.info.result.now.duty made_due_and_begun n none c.take_ticket-due.ensures.begun f.ensures.frames refl
-          (ap (λ (d : DueInfo). is_at is_begun book (ticket_number d.duty)) (tells c) ∙ hook-begun s.book.book book n u.registration u.there u.passes c.take_ticket-due.ensures.begun)
+          (ap (λ (d : DueInfo). is_at is_begun book (ticket_number d.duty)) (tells c) ∙ hook-begun s.book.book book n u.registration u.there u.holds c.take_ticket-due.ensures.begun)
           c.self.invariant.2,
     )
 

@@ -4,12 +4,13 @@ use Rattle.napi_reference.specs.Places.{map_of}
 use Rattle.trace_collect.specs.Collects.{reached}
 use Rattle.env_core.specs.Rooting.{AreRoots}
 use Rattle.env_core.specs.contracts.state.State.{the_view}
-use Rattle.env_core.proofs.Beginning.{book-due}
+use Rattle.env_core.proofs.Beginning.{book-moved}
 use Rattle.env_core.proofs.Rooting.{roots-start}
 use Rattle.env_core.specs.Attaching.{attachments_seen}
 use Rattle.env_core.proofs.Freeing.{seen-left, due-seen, given-freed, attached-left}
 use Rattle.env_core.proofs.Collecting.{frees-others, strong-kept, state-collected, collected-answers}
 use Rattle.env_core.proofs.state.State.collect.Goals as goal
+use Rattle.napi_types.proofs.parts.Moves.{Falls}
 
 pub collect-requires-clause-starting : goal.collect-requires-clause-starting
 collect-requires-clause-starting c =
@@ -43,7 +44,7 @@ invariant_of-self-2 c =
           c.self.invariant.0 are others (rw c.deref-2.ensures.value at c.empty_of.ensures.emptied),
       rw (c.gone_all.ensures.forgotten, c.gone_all.ensures.due, c.deref-3.ensures.value)
           (attached-left s.store c.collect.new.store roots freed alive others c.recall.ensures s.wraps.attachments s.book.book c.self.invariant.1),
-      book-due s.frames s.book.book c.gone_all.new.book.book _ c.gone_all.ensures.due c.self.invariant.2,
+      book-moved s.frames Falls (λ h. cc) s.book.book c.gone_all.new.book.book _ c.gone_all.ensures.due c.self.invariant.2,
     )
 
 pub returns-clause-ok : goal.returns-clause-ok

@@ -1,9 +1,11 @@
 use Rattle.std.proofs.Common.{◌≡◌, ◌∙◌, true, sym, ap}
+use Rattle.std.proofs.lemmas.Bool.{or_parts}
 use Rattle.napi_types.specs.declared.duties.DueInfo.{DueInfo}
 use Rattle.napi_types.specs.parts.Book.{is_begun, is_at, made_ended, moved_at}
+use Rattle.napi_types.proofs.parts.Moves.{Ends, unowed-moved}
 use Rattle.finalizer_queue.specs.Kept.{ticket_number}
 use Rattle.finalizer_queue.specs.Rows.{state_of}
-use Rattle.finalizer_queue.proofs.Kept.{kept-ended, begun-unregistered}
+use Rattle.finalizer_queue.proofs.Kept.{kept-spent, begun-unowed}
 use Rattle.finalizer_queue.proofs.Moves.{IsRow, book_of-moved, row-passes}
 use Rattle.finalizer_queue.proofs.book.Book.done.Goals as goal
 use Rattle.finalizer_queue.proofs.book.Book.done.Goals.{After-index_mut}
@@ -21,7 +23,9 @@ end-requires-2 c = (row c).1
 pub invariant_of-self : goal.invariant_of-self
 invariant_of-self c =
     let before = (goal.at.invariant_of-self c).After-index_mut in
-    kept-ended _ _ _ _ _ _ c.self.invariant c.in-Ticket.ticket.0 _ _ (row before).0 (begun-unregistered _ (row before).1) c.end-2.ensures
+    let unowed = begun-unowed _ (row before).1 in
+    kept-spent _ _ _ _ _ _ c.self.invariant c.in-Ticket.ticket.0 _ _ (row before).0 made_ended c.end-2.ensures (or_parts _ _ unowed).1
+    (unowed-moved Ends _ unowed)
 
 pub returns-clause-ended : goal.returns-clause-ended
 returns-clause-ended c =

@@ -1,7 +1,8 @@
 use Rattle.std.proofs.Common.{◌≡◌, ◌∙◌, true, Some, sym, ap}
 use Rattle.napi_types.specs.parts.Book.{is_registered, registration_at, made_due_and_begun, moved_at}
+use Rattle.napi_types.proofs.parts.Books.{hook-leaves}
 use Rattle.finalizer_queue.specs.Rows.{state_of, row_registration}
-use Rattle.finalizer_queue.proofs.Kept.{kept-begun, registered-waits}
+use Rattle.finalizer_queue.proofs.Kept.{kept-spent, registered-undue, registered-waits}
 use Rattle.finalizer_queue.proofs.Moves.{IsRow, book_of-moved, registration_at-row, row-passes}
 use Rattle.finalizer_queue.proofs.book.Book.take_ticket.Goals as goal
 use Rattle.finalizer_queue.proofs.book.Book.take_ticket.Goals.{After-index_mut}
@@ -15,7 +16,8 @@ begin-requires c = registered-waits _ (row c).1
 pub invariant_of-self : goal.invariant_of-self
 invariant_of-self c =
     let is = row (goal.at.invariant_of-self c).After-index_mut in
-    kept-begun _ _ _ _ _ _ c.self.invariant c.args.ticket.0 _ _ is.0 is.1 c.begin.ensures.begun
+    kept-spent _ _ _ _ _ _ c.self.invariant c.args.ticket.0 _ _ is.0 made_due_and_begun c.begin.ensures.begun (registered-undue _ is.1)
+    (hook-leaves.after _ is.1)
 
 pub returns-clause-told : goal.returns-clause-told
 returns-clause-told c =

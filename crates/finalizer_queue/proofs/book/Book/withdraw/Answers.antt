@@ -1,6 +1,7 @@
 use Rattle.std.proofs.Common.{◌∙◌, ap}
 use Rattle.napi_types.specs.parts.Book.{is_registered, made_withdrawn, moved_at}
-use Rattle.finalizer_queue.proofs.Kept.{kept-withdrawn}
+use Rattle.napi_types.proofs.parts.Books.{withdrawn-leaves}
+use Rattle.finalizer_queue.proofs.Kept.{kept-spent, registered-undue}
 use Rattle.finalizer_queue.proofs.Moves.{book_of-moved, row-passes}
 use Rattle.finalizer_queue.proofs.book.Book.withdraw.Goals as goal
 
@@ -10,7 +11,8 @@ withdraw-requires c = (row-passes is_registered c.self.inside.rows.items _ c.arg
 pub invariant_of-self : goal.invariant_of-self
 invariant_of-self c =
     let row = row-passes is_registered c.self.inside.rows.items _ c.args.ticket.0 _ (ap (λ k. k.book) c.self.view_is) c.requires c.index_mut.ensures.value in
-    kept-withdrawn _ _ _ _ _ _ c.self.invariant c.args.ticket.0 _ _ row.0 c.withdraw.ensures
+    kept-spent _ _ _ _ _ _ c.self.invariant c.args.ticket.0 _ _ row.0 made_withdrawn c.withdraw.ensures (registered-undue _ row.1)
+    (withdrawn-leaves.after _ row.1)
 
 pub returns-clause-withdrawn : goal.returns-clause-withdrawn
 returns-clause-withdrawn c =
