@@ -5,7 +5,7 @@ use Rattle.std.specs.Option.{option_and_then}
 use Rattle.std.proofs.lemmas.Map.Keys.{IsDistinct-cons}
 use Rattle.napi_types.specs.declared.ids.ValueId.{ValueId}
 use Rattle.napi_types.specs.plain.Counted.{element, listed}
-use Rattle.napi_types.specs.plain.Lists.{found, has, as_map}
+use Rattle.napi_types.specs.plain.Lists.{found, as_map}
 use Rattle.napi_types.specs.parts.References.{Reference, ReferenceMap, reference_at, has_reference, referred_value, reference_count}
 use Rattle.napi_types.proofs.plain.Counted.{found-listed, listed-map}
 use Rattle.napi_types.proofs.plain.Found.{apart-below, found-as_map, has-found}
