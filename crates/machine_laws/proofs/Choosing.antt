@@ -36,10 +36,10 @@ use Rattle.napi_types.specs.runs.Step.{Step, locally, ticket_step, event_step, c
 use Rattle.napi_types.proofs.environment.Cases.{asked-by}
 use Rattle.napi_types.proofs.runs.SharedSteps.{is_of_others, others-none}
 use Rattle.napi_types.proofs.runs.Chosen.{chosen-move, OwnChoice, exits, due_in_loop, hooks, due_at_end, ends, own-choice, NoChoice, begun, unhooked, no-choice, HubChoice, goes, drains, finals, hub-choice, chosen-by}
+use Rattle.napi_types.proofs.all_runs.Orderly.{orderly-run}
 use Rattle.machine_laws.specs.Choices.{is_of_frames, NoneIsChosenInFrames, TellsFrame, BeginsTellTheirFrames, may_come_to, OwnEventsComeFirst, HubEventsComeLast, MayGo, GoComesAfterInitFrames, GoneComesAfterFinals, HubIsInPhase, GoComesOnlyAfterInitFrames, DrainComesOnlyAfterHooks, FinalsComeOnlyOnceAllEnded}
 use Rattle.machine_laws.proofs.Forms.{Form, form-of, shared-what, ended-what, event_what, event-what, other-what, by-env, frame-next, chosen-next}
 use Rattle.machine_laws.proofs.Forms as form
-use Rattle.machine_laws.proofs.OrderlyRuns.{orderly-run}
 
 -- IN A FRAME
 -- an entry of a frame

@@ -24,7 +24,6 @@ mod KeptValues
 mod LiveNumbers
 mod Misses
 mod Naming
-mod OrderlyRuns
 mod Others
 mod Rising
 mod Rows

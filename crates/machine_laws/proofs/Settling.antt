@@ -37,13 +37,13 @@ use Rattle.napi_types.proofs.environment.StandingFrames.{counted-nested, nested-
 use Rattle.napi_types.proofs.hub.HubDuties.{delivery-of_hub}
 use Rattle.napi_types.proofs.runs.SharedSteps.{is_of_others, after_shared-alone}
 use Rattle.napi_types.proofs.runs.Chosen.{chosen-move}
+use Rattle.napi_types.proofs.all_runs.Orderly.{orderly-run}
 use Rattle.machine_laws.specs.Choices.{begins_due_tickets_in, IsOfTicket, GoneComesOnlyAfterFinals}
 use Rattle.machine_laws.specs.FinalizerLaws.{OnlyTheOutermostFrameHasADuty, NoneIsRegisteredFromFinalsOn}
 use Rattle.machine_laws.proofs.Beginning.{lowest-first}
 use Rattle.machine_laws.proofs.Choosing.{gone-last, hub-in-phase}
 use Rattle.machine_laws.proofs.Forms as form
 use Rattle.machine_laws.proofs.Forms.{Form, form-of, by-env}
-use Rattle.machine_laws.proofs.OrderlyRuns.{orderly-run}
 
 -- ONLY THE OUTERMOST FRAME
 -- only the outermost frame is one that no call began, and no call will begin that of a ticket

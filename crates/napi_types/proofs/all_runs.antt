@@ -1,8 +1,18 @@
 -- The proofs of what holds of all runs.
+pub mod AcceptedCancels
+pub mod CancelledWorks
+pub mod DutySides
+pub mod FunctionAccounts
 pub mod HistoryRooms
+pub mod HubAccounts
+pub mod ItemOrders
 pub mod Joining
 pub mod JournalRooms
 pub mod Keeping
+pub mod NamedWorks
+pub mod NextEvents
+pub mod NoRefusals
+pub mod OncePlaces
 pub mod Onces
 pub mod Orderly
 pub mod Orders
@@ -11,3 +21,5 @@ pub mod Rooms
 pub mod ScriptAddons
 pub mod Scripts
 pub mod Withdrawals
+pub mod WorkAccounts
+pub mod WorkerEnds

@@ -2,6 +2,7 @@
 pub mod Executions
 pub mod HubCases
 pub mod HubDuties
+pub mod HubDutySteps
 pub mod HubFunctions
 pub mod HubHolds
 pub mod HubKeeps

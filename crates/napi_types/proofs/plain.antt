@@ -6,4 +6,5 @@ pub mod Found
 pub mod Issued
 pub mod Lists
 pub mod Maps
+pub mod Tallies
 pub mod Weaves

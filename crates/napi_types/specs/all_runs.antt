@@ -2,7 +2,10 @@
 pub mod Alone
 pub mod CollectionLaw
 pub mod Counts
+pub mod DutyPlaces
 pub mod HubLaws
+pub mod ItemOrder
 pub mod Joined
 pub mod Laws
+pub mod OnceLaws
 pub mod Order

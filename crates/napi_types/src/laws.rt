@@ -36,8 +36,8 @@ pub fn only_tickets_are_made()
     ensures { OnlyTicketsAreMade }
 {}
 
-/// So in every such run to its end each duty that is made and not withdrawn begins exactly once, and one that is withdrawn never. One is withdrawn by
-/// an accepted `remove_wrap`, `set_instance_data` or `remove_env_cleanup_hook` alone.
+/// In every run to its end, whatever threads and workers do, each duty that is made and not withdrawn begins exactly once, and one that is withdrawn
+/// never. One is withdrawn by an accepted `remove_wrap`, `set_instance_data` or `remove_env_cleanup_hook` alone.
 pub fn every_duty_is_once()
     ensures { EveryDutyIsOnce }
 {}

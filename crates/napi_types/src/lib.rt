@@ -15,6 +15,7 @@ mod ids;
 pub mod laws;
 mod lists;
 mod names;
+pub mod once_laws;
 mod op;
 mod script;
 mod status;

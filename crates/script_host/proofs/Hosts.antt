@@ -15,15 +15,14 @@ use Rattle.napi_types.specs.scripts.Plans.{Plan}
 use Rattle.napi_types.specs.scripts.Script.{IsWrong}
 use Rattle.napi_types.specs.scripts.ScriptReading.{IsNoJson}
 use Rattle.napi_types.specs.runs.Setting.{opening_of, final_of}
-use Rattle.napi_types.specs.all_runs.Alone.{IsAlone}
 use Rattle.napi_types.specs.all_runs.Laws.{HasRoom}
 use Rattle.napi_types.specs.all_runs.Order.{HooksFall, FinalsRise}
-use Rattle.napi_types.proofs.plain.CallFacts.{built-local}
+use Rattle.napi_types.proofs.all_runs.ItemOrders.{items-in-order}
 use Rattle.napi_types.proofs.all_runs.Keeping.{kept-run}
+use Rattle.napi_types.proofs.all_runs.OncePlaces.{each-once, starts-told}
 use Rattle.napi_types.proofs.all_runs.Onces.{tickets-counted}
 use Rattle.napi_types.proofs.all_runs.Orders.{order-holds}
 use Rattle.napi_types.proofs.all_runs.Rooms.{room-suffices}
-use Rattle.napi_types.proofs.all_runs.Withdrawals.{once-holds}
 use Rattle.env_loop.specs.Recording.{AddonStates, IsEnded}
 use Rattle.script_host.specs.Loading.{told_plans, setting_with}
 use Rattle.script_host.specs.declared.words.Line.{Line}
@@ -67,7 +66,6 @@ ran-of script texts handed after left counted enough ended loaded others =
     let e : IsEnded (setting_of script handed.plans) left.journal left.history states handed.seen = subst E counted ended in
     let order : HooksFall (weave left.journal left.history) × FinalsRise (weave left.journal left.history) =
     order-holds (setting_of script handed.plans) e.asks (weave left.journal left.history) e.ended.run.steps in
-    let alone : IsAlone (setting_of script handed.plans) = record { unshared = built-local; threads = refl; workers = refl } in
     record {
       enough = enough;
       run = record {
@@ -81,7 +79,9 @@ ran-of script texts handed after left counted enough ended loaded others =
         counted = tickets-counted (setting_of script handed.plans) e.asks (weave left.journal left.history) e.ended.run;
         hooks = order.0;
         finals = order.1;
-        once = once-holds (setting_of script handed.plans) e.asks (weave left.journal left.history) alone e.ended;
+        once = each-once (setting_of script handed.plans) e.asks (weave left.journal left.history) e.ended;
+        items = λ f. items-in-order (setting_of script handed.plans) e.asks (weave left.journal left.history) f e.ended.run;
+        completed = λ n. starts-told (setting_of script handed.plans) e.asks (weave left.journal left.history) n e.ended;
       };
       loaded = loaded;
       others = others;

@@ -4,6 +4,7 @@ use Rattle.std.specs.List.{list_any}
 use Rattle.std.specs.Io.KnownBytes.{prepend_known, append_known, IsAtEnd}
 use Rattle.napi_types.specs.declared.call.Ask.{Ask}
 use Rattle.napi_types.specs.declared.duties.DueInfo.{DueInfo}
+use Rattle.napi_types.specs.declared.entry.Duty.TheVariants as duty
 use Rattle.napi_types.specs.declared.lists.Record.{Record}
 use Rattle.napi_types.specs.declared.script.Script.{Script}
 use Rattle.napi_types.specs.declared.script.Wrong.{Wrong}
@@ -18,7 +19,8 @@ use Rattle.napi_types.specs.runs.Begins.{begun_along, of_addon}
 use Rattle.napi_types.specs.runs.Parting.{IsParted}
 use Rattle.napi_types.specs.runs.Setting.{Setting, EndsBy, opening_of, final_registers}
 use Rattle.napi_types.specs.all_runs.CollectionLaw.{KeepsReached}
-use Rattle.napi_types.specs.all_runs.Counts.{Once}
+use Rattle.napi_types.specs.all_runs.Counts.{Once, TellsStarts}
+use Rattle.napi_types.specs.all_runs.ItemOrder.{CountItems}
 use Rattle.napi_types.specs.all_runs.Order.{TicketsCount, HooksFall, FinalsRise}
 use Rattle.addon_trait.specs.Addons.{seen_of}
 use Rattle.script_host.specs.Reading.{longest_source, GaveTooMany}
@@ -56,9 +58,13 @@ pub record IsRunOf (script : Script) (handed : List Plan) (left : Record) (regis
   pub counted : TicketsCount (weave left.journal left.history)
   pub hooks : HooksFall (weave left.journal left.history)
   pub finals : FinalsRise (weave left.journal left.history)
-  -- each finalizer and each hook that was made and not withdrawn began exactly once, one that was withdrawn never, and no other duty began; none was made
-  -- twice, and only an accepted `remove_wrap`, `set_instance_data` or `remove_env_cleanup_hook` withdrew one
+  -- each completion, item, function's finalizer, finalizer and hook that was made and not withdrawn began exactly once, one that was withdrawn never, and no other
+  -- duty began; none was made twice, and only an accepted `remove_wrap`, `set_instance_data` or `remove_env_cleanup_hook` withdrew one
   pub once : Once (weave left.journal left.history)
+  -- the items of each thread-safe function count from 1 as they were accepted, and began in that order
+  pub items : (f : ℕ) → CountItems f (weave left.journal left.history)
+  -- the completion of each work began as cancelled exactly where the work never started
+  pub completed : (n : ℕ) → TellsStarts (duty.Work n) (weave left.journal left.history)
 
 -- what contracts see of the addons that were handed in: their plans, their registers, and what each has seen
 pub record Handed : Type 0 where

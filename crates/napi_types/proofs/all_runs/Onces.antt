@@ -1,5 +1,5 @@
 -- Each ticket that is made begins once or is withdrawn, by an account of its places over every run.
-use Rattle.std.proofs.Common.{◌≡◌, ◌∙◌, ℕ, zero, suc, ◌+◌, ◌<◌, ◌≤◌, ◌==◌, Bool, true, false, cond, not, ◌&&◌, List, [], ◌∷◌, ◌++◌, length, length-append, slice_get, IsTrue, refl, ap, sym, subst, Option, Some, None, option_map, is_some, arith}
+use Rattle.std.proofs.Common.{◌≡◌, ◌∙◌, ℕ, zero, suc, ◌+◌, ◌≤◌, ◌==◌, Bool, true, false, cond, not, ◌&&◌, List, [], ◌∷◌, ◌++◌, length, length-append, slice_get, IsTrue, refl, ap, sym, subst, Option, Some, None, option_map, is_some, arith}
 use Rattle.std.specs.List.{range_with_len}
 use Rattle.std.specs.Option.{unwrap_or}
 use Rattle.std.proofs.lemmas.Bool.{eqb-true}
@@ -35,10 +35,10 @@ use Rattle.napi_types.specs.hub.HubSteps.{hub_step}
 use Rattle.napi_types.specs.runs.CallRoom.{room_of}
 use Rattle.napi_types.specs.runs.Machine.{Machine}
 use Rattle.napi_types.specs.runs.Run.{IsNext, IsRunBy, after, final}
-use Rattle.napi_types.specs.runs.Setting.{final_of, opening_of}
+use Rattle.napi_types.specs.runs.Setting.{Setting, EndsBy, opening_of, final_of}
 use Rattle.napi_types.specs.runs.Step.{Step, move_step, has_room, step}
-use Rattle.napi_types.specs.all_runs.Counts.{is_duty, made, dropped, begun, IsOnce}
-use Rattle.napi_types.specs.all_runs.Laws.{TicketsAreOnce, TicketsAreCounted}
+use Rattle.napi_types.specs.all_runs.Counts.{is_duty, made, dropped, begun}
+use Rattle.napi_types.specs.all_runs.Laws.{TicketsAreCounted}
 use Rattle.napi_types.specs.all_runs.Order.{made_ticket, tickets_made}
 use Rattle.napi_types.proofs.plain.Conditions.{and-right}
 use Rattle.napi_types.proofs.parts.BookSteps.{BookStep, stays, adds, drops, collects, swaps}
@@ -153,14 +153,14 @@ next-is m a x h next =
 
 -- THE ACCOUNT OF A TICKET
 -- 1 where a test holds
-abbrev as_one : Bool → ℕ
+abbrev pub as_one : Bool → ℕ
 as_one b = cond b 1 0
 
 -- 1 where the ticket was given, and 1 where its frame is still to come
-abbrev given_at : ℕ → Book → ℕ
+abbrev pub given_at : ℕ → Book → ℕ
 given_at t b = as_one (is_some (registration_at b t))
 
-abbrev owed_at : ℕ → Book → ℕ
+abbrev pub owed_at : ℕ → Book → ℕ
 owed_at t b = as_one (is_at is_owed b t)
 
 -- 1 where it is this ticket's duty
@@ -334,7 +334,7 @@ duty-account t b _ _ _ _ (of_hub made begun c ours its same) = hub-account t b m
 
 -- OVER A RUN
 -- the account over all entries
-record RunAccount (t : ℕ) (b : Book) (xs : List Entry) (c : Book) : Type 0 where
+pub record RunAccount (t : ℕ) (b : Book) (xs : List Entry) (c : Book) : Type 0 where
   pub given : given_at t c ≡ given_at t b + made (ticket_duty t) xs
   pub owed : owed_at t c + begun (ticket_duty t) xs + dropped (ticket_duty t) xs ≡ owed_at t b + made (ticket_duty t) xs
 
@@ -347,7 +347,7 @@ dropped-cons d x xs = sum_by-cons (λ (y : Entry). as_one (is_duty d y.reply.dro
 pub begun-cons : (d : Duty) (x : Entry) (xs : List Entry) → begun d (x ∷ xs) ≡ as_one (is_duty d (begun_duty x.what x.reply.out)) + begun d xs
 begun-cons d x xs = sum_by-cons (λ (y : Entry). as_one (is_duty d (begun_duty y.what y.reply.out))) x xs
 
-run-account : (t : ℕ) (m : Machine) (bs : List Ask) (xs : List Entry) → Orderly m → IsRunBy m bs xs → RunAccount t m.env.book xs (final m bs xs).env.book
+pub run-account : (t : ℕ) (m : Machine) (bs : List Ask) (xs : List Entry) → Orderly m → IsRunBy m bs xs → RunAccount t m.env.book xs (final m bs xs).env.book
 run-account t =
     along-orderly (λ m bs xs. RunAccount t m.env.book xs (final m bs xs).env.book)
     (λ m. record { given = none (given_at t m.env.book); owed = nones (owed_at t m.env.book) })
@@ -447,57 +447,19 @@ owed-none t b none = by (is_at is_owed b t) refl
     by false is = refl
     by true is = let more : 1 ≤ owed_tickets b = owed-some t b is in absurd (omega (arith, more, none))
 
-at-most-one : (b : Bool) → as_one b ≤ 1
+pub at-most-one : (b : Bool) → as_one b ≤ 1
 at-most-one true = omega arith
 at-most-one false = omega arith
 
-of-account : (t : ℕ) (xs : List Entry) (c : Book) → RunAccount t [] xs c → owed_at t c ≡ 0 → IsOnce (ticket_duty t) xs
-of-account t xs c r none =
-    let d : Duty = ticket_duty t in
-    let one : given_at t c ≤ 1 = at-most-one (is_some (registration_at c t)) in
-    let start : given_at t [] ≡ 0 = nothing-given t in
-    let waits : owed_at t [] ≡ 0 = nothing-owed t in
-    let singly : made d xs ≤ 1 = at-most (given_at t c) (given_at t []) (made d xs) r.given start one in
-    let sum : begun d xs + dropped d xs ≡ made d xs = sums (owed_at t c) (owed_at t []) (begun d xs) (dropped d xs) (made d xs) r.owed none waits in
-    record {
-      singly = singly;
-      singly_dropped = once (begun d xs) (dropped d xs) (made d xs) sum singly;
-      kept = λ made_once undropped. kept (begun d xs) (dropped d xs) (made d xs) sum made_once undropped;
-      withdrawn = λ some. (withdrawn (begun d xs) (dropped d xs) (made d xs) sum singly some, never (begun d xs) (dropped d xs) (made d xs) sum singly some);
-      others = λ unmade. others (begun d xs) (dropped d xs) (made d xs) sum unmade;
-    }
-  where
-    nothing-given : (t : ℕ) → given_at t [] ≡ 0
-    nothing-given zero = refl
-    nothing-given (suc p) = refl
+-- before the first ticket
+pub nothing-given : (t : ℕ) → given_at t [] ≡ 0
+nothing-given zero = refl
+nothing-given (suc p) = refl
 
-    nothing-owed : (t : ℕ) → owed_at t [] ≡ 0
-    nothing-owed zero = refl
-    nothing-owed (suc p) = refl
+pub nothing-owed : (t : ℕ) → owed_at t [] ≡ 0
+nothing-owed zero = refl
+nothing-owed (suc p) = refl
 
-    at-most : (g s m : ℕ) → g ≡ s + m → s ≡ 0 → g ≤ 1 → m ≤ 1
-    at-most g s m h z one = omega (arith, h, z, one)
-
-    sums : (o s b d m : ℕ) → o + b + d ≡ s + m → o ≡ 0 → s ≡ 0 → b + d ≡ m
-    sums o s b d m h x y = omega (arith, h, x, y)
-
-    once : (b d m : ℕ) → b + d ≡ m → m ≤ 1 → d ≤ 1
-    once b d m h x = omega (arith, h, x)
-
-    kept : (b d m : ℕ) → b + d ≡ m → m ≡ 1 → d ≡ 0 → b ≡ 1
-    kept b d m h x y = omega (arith, h, x, y)
-
-    withdrawn : (b d m : ℕ) → b + d ≡ m → m ≤ 1 → 0 < d → m ≡ 1
-    withdrawn b d m h x y = omega (arith, h, x, y)
-
-    never : (b d m : ℕ) → b + d ≡ m → m ≤ 1 → 0 < d → b ≡ 0
-    never b d m h x y = omega (arith, h, x, y)
-
-    others : (b d m : ℕ) → b + d ≡ m → m ≡ 0 → b ≡ 0
-    others b d m h x = omega (arith, h, x)
-
-pub tickets-are-once : TicketsAreOnce
-tickets-are-once s bs xs whole t =
-    let c : Book = (final_of s bs xs).env.book in
-    of-account t.0 xs c (run-account t.0 (opening_of s) bs xs (orderly-opens s) whole.run.steps)
-    (owed-none t.0 c (none-left s bs xs whole.run.steps whole.gone))
+-- where no ticket has its frame to come, no place is left
+pub none-owed-at-end : (s : Setting) (bs : List Ask) (xs : List Entry) (t : ℕ) → EndsBy s bs xs → owed_at t (final_of s bs xs).env.book ≡ 0
+none-owed-at-end s bs xs t whole = owed-none t (final_of s bs xs).env.book (none-left s bs xs whole.run.steps whole.gone)

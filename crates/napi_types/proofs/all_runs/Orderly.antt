@@ -22,7 +22,7 @@ use Rattle.napi_types.specs.environment.Hooked.{is_late, IsHooked}
 use Rattle.napi_types.specs.environment.Moments.{is_tearing}
 use Rattle.napi_types.specs.hub.Hub.{stage_of}
 use Rattle.napi_types.specs.runs.Machine.{Machine}
-use Rattle.napi_types.specs.runs.Setting.{Setting, opening_of}
+use Rattle.napi_types.specs.runs.Setting.{Setting, opening_of, final_of}
 use Rattle.napi_types.specs.runs.Step.{Step, step}
 use Rattle.napi_types.specs.runs.Run.{IsNext, IsRunBy, after}
 use Rattle.napi_types.proofs.parts.Books.{NoneRegistered, all_due-none}
@@ -35,7 +35,7 @@ use Rattle.napi_types.proofs.environment.HookedSteps.{unchanged, hooked-opening,
 use Rattle.napi_types.proofs.environment.Registrations.{asked-kept, ended-kept, begun-kept, phase-kept, torn-new, none-asked, none-ended, none-begun}
 use Rattle.napi_types.proofs.runs.SharedSteps.{StandsStill, shares-still, moves-still, others-still, end-stage}
 use Rattle.napi_types.proofs.runs.StepCases.{StepCase, calls, ends, opens, inits, begins, vanishes, shares, leaves, passes, moves, others, InPhase, step-case}
-use Rattle.napi_types.proofs.runs.Runs.{along-entries}
+use Rattle.napi_types.proofs.runs.Runs.{along-entries, along-run}
 
 -- WHAT HOLDS
 -- the drain has come
@@ -194,3 +194,7 @@ orderly-opens s = record { stage = refl; hooked = hooked-opening (length s.plans
 -- the step that comes next in a run
 pub next-case : (m : Machine) (a : Ask) (x : Entry) → Orderly m → IsNext m a x → StepCase m (step m a x)
 next-case m a x h next = step-case m a x h.stage next.1
+
+-- every machine of a run is orderly
+pub orderly-run : (s : Setting) (bs : List Ask) (xs : List Entry) → IsRunBy (opening_of s) bs xs → Orderly (final_of s bs xs)
+orderly-run s bs xs run = along-run Orderly (λ m a x next h. orderly-step m (step m a x) h (next-case m a x h next)) (opening_of s) bs xs run (orderly-opens s)

@@ -1,12 +1,11 @@
 -- Only an accepted call of its own withdraws a duty; and what becomes of all duties of a run alone.
-use Rattle.std.proofs.Common.{◌≡◌, ℕ, Bool, true, false, not, ◌&&◌, List, IsTrue, refl, sym, subst, Option, Some, None, is_some, arith}
+use Rattle.std.proofs.Common.{◌≡◌, ℕ, true, not, ◌&&◌, List, IsTrue, refl, sym, subst, Option, Some, None, is_some}
 use Rattle.std.specs.List.{All}
 use Rattle.std.proofs.lemmas.List.Elements.{All-nil, All-cons}
 use Rattle.napi_types.specs.declared.call.Ask.{Ask}
 use Rattle.napi_types.specs.declared.call.Call.{Call}
 use Rattle.napi_types.specs.declared.call.Call.TheVariants as call
 use Rattle.napi_types.specs.declared.entry.Duty.{Duty}
-use Rattle.napi_types.specs.declared.entry.Duty.TheVariants as duty
 use Rattle.napi_types.specs.declared.entry.Entry.{Entry}
 use Rattle.napi_types.specs.declared.entry.HostStep.TheVariants as host
 use Rattle.napi_types.specs.declared.entry.Out.TheVariants as out
@@ -32,16 +31,14 @@ use Rattle.napi_types.specs.runs.Machine.{Machine}
 use Rattle.napi_types.specs.runs.Run.{IsNext, IsRunBy}
 use Rattle.napi_types.specs.runs.Setting.{opening_of}
 use Rattle.napi_types.specs.runs.Step.{Step, move_step, has_room, step}
-use Rattle.napi_types.specs.all_runs.Counts.{made, dropped, begun, IsOnce, may_withdraw, WithdrawsRightly}
-use Rattle.napi_types.specs.all_runs.Laws.{WithdrawnByTheirCalls, EveryDutyIsOnce, is_ticket}
+use Rattle.napi_types.specs.all_runs.Counts.{may_withdraw, WithdrawsRightly}
+use Rattle.napi_types.specs.all_runs.Laws.{WithdrawnByTheirCalls}
 use Rattle.napi_types.proofs.plain.Conditions.{and-right}
 use Rattle.napi_types.proofs.environment.Cases.{asked-by, ended-by}
 use Rattle.napi_types.proofs.environment.Told.{Told, told_plain, told_made, told_dropped, withdraws, answer-told}
 use Rattle.napi_types.proofs.hub.HubDuties.{hub_step-spares}
 use Rattle.napi_types.proofs.runs.StepCases.{StepCase, calls, ends, shares, leaves, passes, moves, others, step-case}
-use Rattle.napi_types.proofs.all_runs.Onces.{tickets-are-once}
 use Rattle.napi_types.proofs.all_runs.Orderly.{Orderly, orderly-opens, along-orderly}
-use Rattle.napi_types.proofs.all_runs.QuietRuns.{only-tickets}
 
 -- WHAT A CALL WITHDRAWS
 -- what happened withdraws nothing, or it may withdraw and was accepted
@@ -111,23 +108,3 @@ run-rightly = along-orderly (λ m bs xs. All WithdrawsRightly xs) (λ m. All-nil
 
 pub withdrawn-rightly : WithdrawnByTheirCalls
 withdrawn-rightly s bs xs run = run-rightly (opening_of s) bs xs (orderly-opens s) run.steps
-
--- ALL DUTIES
--- a duty that is no ticket, where none is made, withdrawn or begun
-spared-once : (d : Duty) (xs : List Entry) → (made d xs ≡ 0) × (dropped d xs ≡ 0) × (begun d xs ≡ 0) → IsOnce d xs
-spared-once d xs none = record {
-  singly = omega (arith, none.0);
-  singly_dropped = omega (arith, none.1);
-  kept = λ once undropped. absurd (omega (arith, none.0, once));
-  withdrawn = λ some. absurd (omega (arith, none.1, some));
-  others = λ unmade. none.2;
-}
-
--- each duty of a run alone to its end is made and begun once, or withdrawn by its own call
-pub once-holds : EveryDutyIsOnce
-once-holds s bs xs alone whole = record { each = λ d. of d (is_ticket d) refl; withdrawals = withdrawn-rightly s bs xs whole.run }
-  where
-    of : (d : Duty) (b : Bool) → is_ticket d ≡ b → IsOnce d xs
-    of (duty.Ticket t) b is = tickets-are-once s bs xs whole t
-    of d true is = cc
-    of d false is = spared-once d xs (only-tickets s bs xs alone whole.run d is)

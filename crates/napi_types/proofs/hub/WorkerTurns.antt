@@ -162,12 +162,12 @@ others-leave w h x other may = by x.actor other may (hub-case h x may)
 
 -- WHERE A WORKER STANDS
 -- a free one executes nothing, one that has a work executes it, and one that is over has ended
-abbrev Stands : ℕ → Hub → WorkerState → Type 0
+abbrev pub Stands : ℕ → Hub → WorkerState → Type 0
 Stands w h Free = executed_by h.pool w ≡ None
 Stands w h Working = is_some (executed_by h.pool w) ≡ true
 Stands w h Over = has_number w (workers_left h) ≡ false
 
-abbrev StandsSo : ℕ → Hub → Option WorkerState → Type 0
+abbrev pub StandsSo : ℕ → Hub → Option WorkerState → Type 0
 StandsSo w h None = ⊥
 StandsSo w h (Some s) = Stands w h s
 
@@ -218,7 +218,7 @@ own-stands w h x (what.Host host.ActorEnd) s stands may = own-end w h x s stands
 own-stands w h x (what.Host event) s stands may = cc
 
 -- EACH ENTRY
-next-stands : (w : ℕ) (h : Hub) (x : Entry) (s : WorkerState) → Stands w h s → IsTrue (hub_step h x).may
+pub next-stands : (w : ℕ) (h : Hub) (x : Entry) (s : WorkerState) → Stands w h s → IsTrue (hub_step h x).may
     → StandsSo w (hub_step h x).after (does_next w x (Some s))
 next-stands w h x s stands may = by (is_worker w x.actor) refl
   where

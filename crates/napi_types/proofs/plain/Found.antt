@@ -159,6 +159,16 @@ module _ {A : Type 0} (number : A → ℕ) where
   found-as_map n [] = refl
   found-as_map n (x ∷ xs) = found-with_record n x (as_map number xs) ∙ ap (λ o. cond (number x == n) (Some x) o) (found-as_map n xs)
 
+  -- among records that are changed and keep their numbers
+  pub found-map : (f : A → A) → ((x : A) → number (f x) ≡ number x) → (n : ℕ) (xs : List A) → found number n (map f xs) ≡ option_map f (found number n xs)
+  found-map f same n [] = refl
+  found-map f same n (x ∷ xs) = ap (λ k. cond (k == n) (Some (f x)) (found number n (map f xs))) (same x) ∙ by (number x == n) (found-map f same n xs)
+    where
+      by : (b : Bool) → found number n (map f xs) ≡ option_map f (found number n xs)
+          → cond b (Some (f x)) (found number n (map f xs)) ≡ option_map f (cond b (Some x) (found number n xs))
+      by true rest = refl
+      by false rest = rest
+
   -- RISING NUMBERS
   pub rising-filter : (p : A → Bool) (xs : List A) → IsRising number xs → IsRising number (filter p xs)
   rising-filter p [] rises = cc

@@ -1,5 +1,5 @@
--- How often a duty is made, withdrawn and begun along the entries of a run.
-use Rattle.std.specs.Prelude.{◌≡◌, ◌<◌, ◌≤◌, ℕ, ◌==◌, Bool, true, false, ◌&&◌, List, count_by, Option, Some, None, is_some}
+-- How often a duty is made, withdrawn and begun along the entries of a run, and how often its work starts.
+use Rattle.std.specs.Prelude.{◌≡◌, ◌<◌, ◌≤◌, ◌-◌, ℕ, ◌==◌, Bool, true, false, not, ◌&&◌, List, count_by, Option, Some, None, is_some}
 use Rattle.std.specs.List.{All}
 use Rattle.napi_types.specs.declared.call.Call.TheVariants as call
 use Rattle.napi_types.specs.declared.entry.Duty.{Duty}
@@ -8,7 +8,8 @@ use Rattle.napi_types.specs.declared.entry.Entry.{Entry}
 use Rattle.napi_types.specs.declared.entry.What.{What}
 use Rattle.napi_types.specs.declared.entry.What.TheVariants as what
 use Rattle.napi_types.specs.declared.status.Status.TheVariants as status
-use Rattle.napi_types.specs.plain.Entries.{begun_duty}
+use Rattle.napi_types.specs.plain.Entries.{begun_duty, started_duty}
+use Rattle.napi_types.specs.parts.Works.{is_cancelled}
 
 -- DUTIES
 -- whether both are the same ticket, work, item or function
@@ -34,6 +35,17 @@ dropped d xs = count_by (λ x. is_duty d x.reply.dropped) xs
 
 abbrev pub begun : Duty → List Entry → ℕ
 begun d xs = count_by (λ x. is_duty d (begun_duty x.what x.reply.out)) xs
+
+-- how often the work of a duty starts
+abbrev pub started : Duty → List Entry → ℕ
+started d xs = count_by (λ x. is_duty d (started_duty x.what x.reply.out)) xs
+
+-- how often its completion begins as one that was cancelled, and as one that was not
+abbrev pub begun_cancelled : Duty → List Entry → ℕ
+begun_cancelled d xs = count_by (λ x. is_duty d (begun_duty x.what x.reply.out) && is_cancelled x.reply.status) xs
+
+abbrev pub begun_uncancelled : Duty → List Entry → ℕ
+begun_uncancelled d xs = count_by (λ x. is_duty d (begun_duty x.what x.reply.out) && not (is_cancelled x.reply.status)) xs
 
 -- ONCE
 -- what becomes of a duty: it is made at most once, and withdrawn at most once; it begins exactly once where it is made and not withdrawn; where it is withdrawn it
@@ -61,3 +73,10 @@ pub record WithdrawsRightly (x : Entry) : Type 0 where
 pub record Once (xs : List Entry) : Type 0 where
   pub each : (d : Duty) → IsOnce d xs
   pub withdrawals : All WithdrawsRightly xs
+
+-- WORKS
+-- the completion of a duty's work begins as one that was not cancelled exactly as often as the work starts, and as cancelled exactly as often as the work was queued
+-- and never starts
+pub record TellsStarts (d : Duty) (xs : List Entry) : Type 0 where
+  pub uncancelled : begun_uncancelled d xs ≡ started d xs
+  pub cancelled : begun_cancelled d xs ≡ made d xs - started d xs

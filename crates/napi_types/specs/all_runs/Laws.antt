@@ -64,6 +64,7 @@ abbrev pub OnlyTicketsAreMade : Type 0
 OnlyTicketsAreMade = (s : Setting) (bs : List Ask) (xs : List Entry) → IsAlone s → RunsBy s bs xs
     → (d : Duty) → is_ticket d ≡ false → (made d xs ≡ 0) × (dropped d xs ≡ 0) × (begun d xs ≡ 0)
 
--- so in every such run to its end each duty that is made and not withdrawn begins exactly once, and one that is withdrawn never; those calls alone withdraw
+-- in every run to its end, whatever threads and workers do, each duty that is made and not withdrawn begins exactly once, and one that is withdrawn never; those
+-- calls alone withdraw
 abbrev pub EveryDutyIsOnce : Type 0
-EveryDutyIsOnce = (s : Setting) (bs : List Ask) (xs : List Entry) → IsAlone s → EndsBy s bs xs → Once xs
+EveryDutyIsOnce = (s : Setting) (bs : List Ask) (xs : List Entry) → EndsBy s bs xs → Once xs

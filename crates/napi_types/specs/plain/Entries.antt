@@ -50,3 +50,12 @@ told_duty _ = None
 abbrev pub begun_duty : What → Out → Option Duty
 begun_duty (what.Host host.Begin) o = told_duty o
 begun_duty _ o = None
+
+-- the duty of the work that starts with this result, where it is a start's
+abbrev pub told_start : Out → Option Duty
+told_start (out.Duty d) = Some d
+told_start _ = None
+
+abbrev pub started_duty : What → Out → Option Duty
+started_duty (what.Host host.Start) o = told_start o
+started_duty _ o = None

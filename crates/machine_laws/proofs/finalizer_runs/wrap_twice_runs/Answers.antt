@@ -1,17 +1,13 @@
-use Rattle.std.proofs.Common.{refl, ◌≡◌, ℕ, [], ◌++◌, ap, set, Option, None, arith, ◌≤◌, true, false, not}
+use Rattle.std.proofs.Common.{refl, ◌≡◌, ℕ, [], ◌++◌, ap, set, Option, None, arith, ◌≤◌, true, false}
 use Rattle.std.specs.Fmt.{digits}
-use Rattle.std.proofs.lemmas.Bool.{not-true}
 use Rattle.napi_types.specs.declared.entry.Duty.{Duty}
 use Rattle.napi_types.specs.declared.entry.HostStep.TheVariants as host
 use Rattle.napi_types.specs.declared.entry.What.TheVariants as what
 use Rattle.napi_types.specs.declared.status.Status.{Status}
 use Rattle.napi_types.specs.declared.status.Status.TheVariants as status
-use Rattle.napi_types.specs.plain.Guards.{is_shared}
 use Rattle.napi_types.specs.parts.Book.{ticket_duty}
-use Rattle.napi_types.specs.runs.Setting.{Setting}
-use Rattle.napi_types.specs.all_runs.Alone.{IsAlone}
 use Rattle.napi_types.specs.all_runs.Counts.{Once}
-use Rattle.napi_types.proofs.all_runs.Withdrawals.{once-holds}
+use Rattle.napi_types.proofs.all_runs.OncePlaces.{each-once}
 use Rattle.machine_laws.specs.Told.{told_asks, IsRun, EndsAsTold}
 use Rattle.machine_laws.specs.WrapTwice.{setting, trace, trace_with, wrapped_again, removed, wrapped_anew, unwrapped, runs}
 use Rattle.machine_laws.specs.RunWords.{ticket, gone_entry}
@@ -21,8 +17,11 @@ use Rattle.machine_laws.proofs.Asks.{told-run}
 use Rattle.machine_laws.proofs.Misses.{entry_at, told_number, told_ticket}
 use Rattle.machine_laws.proofs.finalizer_runs.wrap_twice_runs.Goals as goal
 
+ends : EndsAsTold setting trace
+ends = ends-of setting (told_asks setting trace) trace (refl, refl) refl refl
+
 pub returns-clause-ends : goal.returns-clause-ends
-returns-clause-ends c = ends-of setting (told_asks setting trace) trace (refl, refl) refl refl
+returns-clause-ends c = ends
 
 pub returns-clause-prints : goal.returns-clause-prints
 unfolding digits
@@ -74,16 +73,6 @@ returns-clause-strict c = record {
   never = not-never;
 }
 
--- the same script, of which no call that is built is shared
-abbrev alone : Setting
-alone = record setting { built = λ c. not (is_shared c) }
-
-is-alone : IsAlone alone
-is-alone = record { unshared = λ c built. not-true (is_shared c) built; threads = refl; workers = refl }
-
-ends : EndsAsTold alone trace
-ends = ends-of alone (told_asks alone trace) trace (refl, refl) refl refl
-
 once-not-twice : Once (trace_with (runs 2 ++ runs 2)) → ⊥
 once-not-twice once = let z : 2 ≡ 1 = (once.each (ticket_duty 2)).kept refl refl in absurd (omega (arith, z))
 
@@ -107,7 +96,7 @@ not-refused once = let z : status.InvalidArg ≡ status.Ok = (once.withdrawals 6
 
 pub returns-clause-once : goal.returns-clause-once
 returns-clause-once c = record {
-  run = once-holds alone (told_asks alone trace) trace is-alone ends;
+  run = each-once setting (told_asks setting trace) trace ends;
   twice = once-not-twice;
   never = once-not-never;
   withdrawn = not-withdrawn;

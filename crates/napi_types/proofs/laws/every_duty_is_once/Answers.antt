@@ -1,5 +1,5 @@
-use Rattle.napi_types.proofs.all_runs.Withdrawals.{once-holds}
+use Rattle.napi_types.proofs.all_runs.OncePlaces.{each-once}
 use Rattle.napi_types.proofs.laws.every_duty_is_once.Goals as goal
 
 pub returns : goal.returns
-returns c = once-holds
+returns c = each-once

@@ -1,0 +1,120 @@
+-- The event that is next where no frame stands may come.
+use Rattle.std.proofs.Common.{◌≡◌, ◌∙◌, ℕ, nat_lt, Bool, true, false, cond, ◌&&◌, IsTrue, refl, ap, sym, subst, Option, Some, None, is_some, is_none, option_map, IfSome}
+use Rattle.std.specs.Option.{option_or, unwrap_or}
+use Rattle.napi_types.specs.declared.entry.HostStep.{HostStep}
+use Rattle.napi_types.specs.declared.entry.HostStep.TheVariants as host
+use Rattle.napi_types.specs.declared.entry.LoopEnd.TheVariants as loop_end
+use Rattle.napi_types.specs.declared.entry.Out.TheVariants as out
+use Rattle.napi_types.specs.declared.entry.Phase.{Phase}
+use Rattle.napi_types.specs.declared.entry.Phase.TheVariants as phase
+use Rattle.napi_types.specs.plain.Entries.{host_entry}
+use Rattle.napi_types.specs.parts.Book.{Registration, TicketState, registration_at, lowest_due, is_at, is_due, may_begin_in}
+use Rattle.napi_types.specs.parts.Hooks.{Hook, last_hook}
+use Rattle.napi_types.specs.environment.Hooked.{is_late, IsHooked}
+use Rattle.napi_types.specs.hub.Hub.{is_spent, Stage, Before, Going, Looped, Drained, Final, stage_after, stage_of}
+use Rattle.napi_types.specs.hub.HubEvents.{begin_step, close_step, finish_step, delivery_entry, is_moving}
+use Rattle.napi_types.specs.hub.HubMoves.{HubMove, Delivers, Closes, Finishes, hub_move}
+use Rattle.napi_types.specs.runs.Choice.{choice, local_choice, local_choice_in, hub_choice_at, idle_choice, is_idle, is_quiet, finals_choice}
+use Rattle.napi_types.specs.runs.Loop.{Event, Opens, Inits, Tickets, Moves, Goes, EndsLoop, FinalsCome, IsGone}
+use Rattle.napi_types.specs.runs.Machine.{Machine}
+use Rattle.napi_types.specs.runs.Setting.{final_of}
+use Rattle.napi_types.specs.runs.Step.{ticket_step, move_step, event_step}
+use Rattle.napi_types.specs.all_runs.OnceLaws.{NextEventsMayCome}
+use Rattle.napi_types.proofs.parts.Books.{lowest-due}
+use Rattle.napi_types.proofs.parts.Moved.{IsUnder, PassesTest}
+use Rattle.napi_types.proofs.environment.HookedSteps.{hook-registered}
+use Rattle.napi_types.proofs.all_runs.Orderly.{Orderly, orderly-run}
+
+-- GREAT EVENTS
+great : (m : Machine) (event : HostStep) (s : Stage) → m.hub.stage ≡ s → m.hub.standing ≡ None → is_some (stage_after s event) ≡ true
+    → IsTrue (is_some (stage_after m.hub.stage event) && is_none m.hub.standing)
+great m event s far alone comes = rw (far, alone, comes) refl
+
+-- TICKETS
+at-may : (p : Phase) (m : Machine) (n : ℕ) (o : Option Registration) → registration_at m.env.book n ≡ o → m.env.phase ≡ p
+    → unwrap_or (option_map (λ (r : Registration). may_begin_in p r.state) o) false ≡ true → IsTrue (ticket_step m n o).may
+at-may p m n None there here may = let no : false ≡ true = may in cc
+at-may p m n (Some r) there here may = ap (λ q. may_begin_in q r.state) here ∙ may
+
+ticket-may : (p : Phase) (m : Machine) (n : ℕ) → m.env.phase ≡ p → is_at (may_begin_in p) m.env.book n ≡ true → IsTrue (event_step m (Tickets n)).may
+ticket-may p m n here may = at-may p m n (registration_at m.env.book n) refl here may
+
+due-may : (p : Phase) (m : Machine) (n : ℕ) → m.env.phase ≡ p → ((s : TicketState) → may_begin_in p s ≡ is_due s) → lowest_due m.env.book ≡ Some n
+    → IsTrue (event_step m (Tickets n)).may
+due-may p m n here same lowest =
+    let k : IsUnder (PassesTest is_due) m.env.book n = lowest-due m.env.book n lowest in
+    ticket-may p m n here (ap (λ o. unwrap_or (option_map (λ (r : Registration). may_begin_in p r.state) o) false) k.there ∙ same k.registration.state ∙ k.holds)
+
+-- MOVES
+move-may : (m : Machine) (move : HubMove) → hub_move m.hub ≡ Some move → is_moving m.hub.stage ≡ true → m.hub.standing ≡ None → IsTrue (move_step m move).may
+move-may m (Delivers d) next moving alone =
+    subst (λ o. IsTrue (begin_step m.hub (delivery_entry d) o).may) (sym next) (rw (moving, alone) refl)
+move-may m (Closes n) next moving alone =
+    subst (λ o. IsTrue (close_step m.hub (host_entry host.CloseTsfn (out.Function (record { 0 = n }))) o).may) (sym next) (rw (moving, alone) refl)
+move-may m (Finishes n) next moving alone =
+    subst (λ o. IsTrue (finish_step m.hub (host_entry host.FinishTsfn (out.Function (record { 0 = n }))) o).may) (sym next) (rw (moving, alone) refl)
+
+-- EACH PHASE
+abbrev May : Machine → Option Event → Type 0
+May m o = IfSome o (λ event. IsTrue (event_step m event).may)
+
+idle-may : (m : Machine) (idle quiet : Bool) → m.hub.stage ≡ Going → m.hub.standing ≡ None
+    → May m (cond idle (Some (EndsLoop loop_end.Idle)) (cond quiet (Some (EndsLoop loop_end.Quiet)) None))
+idle-may m true quiet far alone = great m host.LoopEnd Going far alone refl
+idle-may m false true far alone = great m host.LoopEnd Going far alone refl
+idle-may m false false far alone = tt
+
+going-may : (m : Machine) (o : Option HubMove) → hub_move m.hub ≡ o → m.hub.stage ≡ Going → m.hub.standing ≡ None
+    → May m (option_or (option_map Moves o) (idle_choice m.hub))
+going-may m (Some move) next far alone = move-may m move next (ap is_moving far) alone
+going-may m None next far alone = idle-may m (is_idle m.hub) (is_quiet m.hub) far alone
+
+init-may : (m : Machine) (b c : Bool) → m.hub.stage ≡ Before → m.hub.standing ≡ None
+    → May m (option_or (cond b (cond c (Some (Inits m.env.inits)) None) (Some Opens)) (Some Goes))
+init-may m false c far alone = refl
+init-may m true true far alone = refl
+init-may m true false far alone = great m host.Go Before far alone refl
+
+live-may : (m : Machine) (exit : Bool) (o : Option ℕ) → lowest_due m.env.book ≡ o → m.env.phase ≡ phase.Live → m.hub.stage ≡ Going → m.hub.standing ≡ None
+    → May m (option_or (cond exit (Some (EndsLoop loop_end.Exit)) (option_map Tickets o)) (hub_choice_at m.hub Going))
+live-may m true o lowest here far alone = great m host.LoopEnd Going far alone refl
+live-may m false (Some n) lowest here far alone = due-may phase.Live m n here (λ s. refl) lowest
+live-may m false None lowest here far alone = going-may m (hub_move m.hub) refl far alone
+
+hooks-may : (m : Machine) (o : Option Hook) → last_hook m.env.hooks ≡ o → IsHooked m.env → m.env.phase ≡ phase.Hooks → m.hub.stage ≡ Looped
+    → m.hub.standing ≡ None
+    → May m (option_or (option_map Tickets (option_map (λ (h : Hook). h.ticket) o)) (hub_choice_at m.hub Looped))
+hooks-may m (Some h) last hooked here far alone =
+    ticket-may phase.Hooks m h.ticket here (hook-registered m.env h hooked (ap is_late here) last)
+hooks-may m None last hooked here far alone = great m host.Drain Looped far alone refl
+
+drained-may : (m : Machine) (o : Option HubMove) → hub_move m.hub ≡ o → m.hub.stage ≡ Drained → m.hub.standing ≡ None
+    → May m (option_or (option_map Moves o) (finals_choice m.hub))
+drained-may m (Some move) next far alone = move-may m move next (ap is_moving far) alone
+drained-may m None next far alone = by (is_spent m.hub)
+  where
+    by : (b : Bool) → May m (cond b (Some FinalsCome) None)
+    by true = great m host.Finals Drained far alone refl
+    by false = tt
+
+finals-may : (m : Machine) (o : Option ℕ) → lowest_due m.env.book ≡ o → m.env.phase ≡ phase.Finals
+    → May m (option_or (option_or (option_map Tickets o) (Some IsGone)) (hub_choice_at m.hub Final))
+finals-may m (Some n) lowest here = due-may phase.Finals m n here (λ s. refl) lowest
+finals-may m None lowest here = refl
+
+phase-may : (m : Machine) (p : Phase) → m.env.phase ≡ p → m.hub.stage ≡ stage_of p → IsHooked m.env → m.hub.standing ≡ None
+    → May m (option_or (local_choice_in m.env p) (hub_choice_at m.hub (stage_of p)))
+phase-may m phase.Init here far hooked alone = init-may m m.env.opened (nat_lt m.env.inits m.env.addons) far alone
+phase-may m phase.Live here far hooked alone = live-may m m.env.exit_asked (lowest_due m.env.book) refl here far alone
+phase-may m phase.Hooks here far hooked alone = hooks-may m (last_hook m.env.hooks) refl hooked here far alone
+phase-may m phase.Drain here far hooked alone = drained-may m (hub_move m.hub) refl far alone
+phase-may m phase.Finals here far hooked alone = finals-may m (lowest_due m.env.book) refl here
+phase-may m phase.Gone here far hooked alone = tt
+
+choice-may : (m : Machine) → Orderly m → m.hub.standing ≡ None → May m (choice m)
+choice-may m k alone =
+    subst (λ t. May m (option_or (local_choice m.env) (hub_choice_at m.hub t))) (sym k.stage) (phase-may m m.env.phase refl k.stage k.hooked alone)
+
+pub next-may : NextEventsMayCome
+next-may s bs xs event run unframed alone next =
+    subst (λ o. May (final_of s bs xs) o) next (choice-may (final_of s bs xs) (orderly-run s bs xs run) alone)
