@@ -86,7 +86,7 @@ throw-refusal texts heap h false known = rw known refl
 pub unknown-throw : (e : Environment) (store : StoreState) (scopes : HandleScopes) (h : HandleId)
     → None ≡ gives scopes.frames h.0 → AnswersInTime (with_parts e store scopes) (call.Throw h) (plain status.InvalidArg out.Nothing) (with_parts e store scopes)
 unknown-throw e store scopes h none =
-    by-refusal e store scopes scopes (call.Throw h) status.InvalidArg refl (throw-refusal e.texts (heap_of store scopes) h false (unknown-handle store scopes.frames h.0 none)) refl
+    by-refusal e store scopes scopes (call.Throw h) status.InvalidArg (throw-refusal e.texts (heap_of store scopes) h false (unknown-handle store scopes.frames h.0 none)) refl
 
 pub accepted-throw : (e : Environment) (store : StoreState) (scopes : HandleScopes) (h : HandleId) (v : ℕ) → Some v ≡ gives scopes.frames h.0
     → AnswersInTime (with_parts e store scopes) (call.Throw h) (plain status.Ok out.Nothing) (with_pending (Some (number_in store v)) (with_parts e store scopes))
@@ -109,7 +109,7 @@ pub unknown-thrown : (e : Environment) (store : StoreState) (scopes : HandleScop
     → is_known e.texts (heap_of store scopes) (call.ThrowError code message) ≡ false
     → AnswersInTime (with_parts e store scopes) (call.ThrowError code message) (plain status.InvalidArg out.Nothing) (with_parts e store scopes)
 unknown-thrown e store scopes code message known =
-    by-refusal e store scopes scopes (call.ThrowError code message) status.InvalidArg refl (thrown-refusal e.texts (heap_of store scopes) code message false known) refl
+    by-refusal e store scopes scopes (call.ThrowError code message) status.InvalidArg (thrown-refusal e.texts (heap_of store scopes) code message false known) refl
 
 pub accepted-thrown : (e : Environment) (s t : StoreState) (scopes : HandleScopes) (code : Option TextNo) (message : TextNo) (id : ℕ)
     → is_known e.texts (heap_of s scopes) (call.ThrowError code message) ≡ true

@@ -26,7 +26,6 @@ use Rattle.napi_types.specs.environment.Environment.{Environment, in_heap}
 use Rattle.napi_types.specs.environment.ReferenceCalls.{counted_up, value_told}
 use Rattle.napi_types.specs.environment.Refusals.{timely_refusal}
 use Rattle.napi_types.proofs.plain.Maps.{map-filter, map-with_record}
-use Rattle.napi_types.proofs.plain.Lists.{option_or-none}
 use Rattle.handle_scope.specs.HandleScopes.{HandleScopes}
 use Rattle.env_values.specs.Seen.{heap_of}
 use Rattle.env_values.proofs.Giving.{given-answer}
@@ -132,10 +131,10 @@ accepted-timely e new c o none fresh is = replied-timely e new c (plain status.O
 
 -- a call that nothing else refuses is refused for its reference alone
 abbrev pub NamesReference : Environment → Call → Type 0
-NamesReference e c = timely_refusal e c ≡ option_or (reference_refusal e.references c) None
+NamesReference e c = timely_refusal e c ≡ reference_refusal e.references c
 
 pub by-reference : (e : Environment) (c : Call) (o : Option Status) → reference_refusal e.references c ≡ o → NamesReference e c → timely_refusal e c ≡ o
-by-reference e c o h only = only ∙ ap (λ x. option_or x None) h ∙ option_or-none o
+by-reference e c o h only = only ∙ h
 
 -- A CALL ON A REFERENCE
 -- the environment with these references

@@ -12,7 +12,6 @@ use Rattle.napi_types.specs.declared.status.Status.{Status}
 use Rattle.napi_types.specs.declared.status.Status.TheVariants as status
 use Rattle.napi_types.specs.plain.Lists.{unless}
 use Rattle.napi_types.specs.plain.Replies.{Answer, accepts, plain}
-use Rattle.napi_types.specs.parts.AttachmentRefusals.{attachment_refusal}
 use Rattle.napi_types.specs.parts.Frames.{Frame}
 use Rattle.napi_types.specs.parts.Graph.{StoreState, IsLive, number_in}
 use Rattle.napi_types.specs.parts.Heap.{Heap, handle_value}
@@ -26,7 +25,7 @@ use Rattle.napi_types.specs.parts.Scopes.{Held, FrameScopes, gives, opened_scope
 use Rattle.napi_types.specs.parts.Values.{undefined_value}
 use Rattle.napi_types.specs.environment.Calls.{effect, answer_unless}
 use Rattle.napi_types.specs.environment.Environment.{Environment, with_heap, in_heap}
-use Rattle.napi_types.specs.environment.Refusals.{attached_refusal, timely_refusal}
+use Rattle.napi_types.specs.environment.Refusals.{group_refusal, timely_refusal}
 use Rattle.napi_types.proofs.plain.Lists.{length-changed}
 use Rattle.handle_scope.specs.HandleScopes.{HandleScopes, is_fresh_scope, with_open_scope, without_innermost_scope, with_escaped_handle}
 use Rattle.env_values.specs.Seen.{heap_of}
@@ -65,11 +64,9 @@ accepted-open e store old new scope_kind.Escapable scope fresh opened = record {
 
 -- what a call on scopes answers whose first refusal is known
 pub by-refusal : (e : Environment) (store : StoreState) (old new : HandleScopes) (c : Call) (s : Status)
-    → timely_refusal (with_parts e store old) c ≡ attached_refusal (with_parts e store old) c → refusal_in e.texts (heap_of store old) c ≡ Some s → new ≡ old → AnswersInTime (with_parts e store old) c (plain s out.Nothing) (with_parts e store new)
-by-refusal e store old new c s only why same =
-    let later : Option Status = attachment_refusal e.attachments (heap_of store old) c in
-    let first : Some s ≡ timely_refusal (with_parts e store old) c =
-    sym (ap (λ o. option_or o later) why) ∙ sym only in
+    → refusal_in e.texts (heap_of store old) c ≡ Some s → new ≡ old → AnswersInTime (with_parts e store old) c (plain s out.Nothing) (with_parts e store new)
+by-refusal e store old new c s why same =
+    let first : Some s ≡ timely_refusal (with_parts e store old) c = sym (ap (λ o. option_or o (group_refusal (with_parts e store old) c)) why) in
     record {
       fresh = refl;
       reply = ap (λ (o : Option Status). (answer_unless (with_parts e store old) c 0 o).reply) first;
@@ -81,18 +78,17 @@ pub refused-close : (e : Environment) (store : StoreState) (old new : HandleScop
     → Some s ≡ closing scope.0 kind (opened_scopes old.frames) → new ≡ old
     → AnswersInTime (with_parts e store old) (closing_call kind scope) (plain s out.Nothing) (with_parts e store new)
 refused-close e store old new scope_kind.Plain scope s h same =
-    by-refusal e store old new (call.CloseHandleScope scope) s refl (closing-seen store scope.0 scope_kind.Plain old.frames ∙ sym h) same
+    by-refusal e store old new (call.CloseHandleScope scope) s (closing-seen store scope.0 scope_kind.Plain old.frames ∙ sym h) same
 refused-close e store old new scope_kind.Escapable scope s h same =
-    by-refusal e store old new (call.CloseEscapableHandleScope scope) s refl (closing-seen store scope.0 scope_kind.Escapable old.frames ∙ sym h) same
+    by-refusal e store old new (call.CloseEscapableHandleScope scope) s (closing-seen store scope.0 scope_kind.Escapable old.frames ∙ sym h) same
 
 -- what a close answers that nothing refuses
 by-close : (e : Environment) (store : StoreState) (old new : HandleScopes) (c : Call)
-    → timely_refusal (with_parts e store old) c ≡ attached_refusal (with_parts e store old) c → refusal_in e.texts (heap_of store old) c ≡ None → attachment_refusal e.attachments (heap_of store old) c ≡ None → effect (with_parts e store old) c 0 ≡ in_heap (with_parts e store old) (accepts out.Nothing (in_scopes close_in (heap_of store old))) → new ≡ without_innermost_scope old
+    → refusal_in e.texts (heap_of store old) c ≡ None → group_refusal (with_parts e store old) c ≡ None → effect (with_parts e store old) c 0 ≡ in_heap (with_parts e store old) (accepts out.Nothing (in_scopes close_in (heap_of store old))) → new ≡ without_innermost_scope old
     → AnswersInTime (with_parts e store old) c (plain status.Ok out.Nothing) (with_parts e store new)
-by-close e store old new c only why later is closed =
+by-close e store old new c why later is closed =
     let env : Environment = with_parts e store old in
-    let hung : Option Status = attachment_refusal e.attachments (heap_of store old) c in
-    let first : timely_refusal env c ≡ None = only ∙ ap (λ o. option_or o hung) why ∙ later in
+    let first : timely_refusal env c ≡ None = ap (λ o. option_or o (group_refusal env c)) why ∙ later in
     let answer : answer_unless env c 0 (timely_refusal env c) ≡ in_heap env (accepts out.Nothing (in_scopes close_in (heap_of store old))) =
     ap (answer_unless env c 0) first ∙ is in
     record {
@@ -109,9 +105,9 @@ pub accepted-close : (e : Environment) (store : StoreState) (old new : HandleSco
     → None ≡ closing scope.0 kind (opened_scopes old.frames) → new ≡ without_innermost_scope old
     → AnswersInTime (with_parts e store old) (closing_call kind scope) (plain status.Ok out.Nothing) (with_parts e store new)
 accepted-close e store old new scope_kind.Plain scope h closed =
-    by-close e store old new (call.CloseHandleScope scope) refl (closing-seen store scope.0 scope_kind.Plain old.frames ∙ sym h) refl refl closed
+    by-close e store old new (call.CloseHandleScope scope) (closing-seen store scope.0 scope_kind.Plain old.frames ∙ sym h) refl refl closed
 accepted-close e store old new scope_kind.Escapable scope h closed =
-    by-close e store old new (call.CloseEscapableHandleScope scope) refl (closing-seen store scope.0 scope_kind.Escapable old.frames ∙ sym h) refl refl closed
+    by-close e store old new (call.CloseEscapableHandleScope scope) (closing-seen store scope.0 scope_kind.Escapable old.frames ∙ sym h) refl refl closed
 
 -- the refusals of an escape: an unknown handle, and then those of its row
 escape-refusal : (texts : ℕ) (heap : Heap) (scope : ScopeId) (h : HandleId) (b : Bool) → is_some (gives heap.scopes h.0) ≡ b
@@ -123,7 +119,7 @@ escape-refusal texts heap scope h false known = rw known refl
 pub unknown-escape : (e : Environment) (store : StoreState) (scopes : HandleScopes) (scope : ScopeId) (h : HandleId)
     → None ≡ gives scopes.frames h.0 → AnswersInTime (with_parts e store scopes) (call.EscapeHandle scope h) (plain status.InvalidArg out.Nothing) (with_parts e store scopes)
 unknown-escape e store scopes scope h none =
-    by-refusal e store scopes scopes (call.EscapeHandle scope h) status.InvalidArg refl
+    by-refusal e store scopes scopes (call.EscapeHandle scope h) status.InvalidArg
     (escape-refusal e.texts (heap_of store scopes) scope h false (unknown-handle store scopes.frames h.0 none)) refl
 
 -- a known one is given by its value's creation number
@@ -135,7 +131,7 @@ pub refused-escape : (e : Environment) (store : StoreState) (old new : HandleSco
     → Some v ≡ gives old.frames h.0 → Some s ≡ escaping scope.0 (opened_scopes old.frames) → new ≡ old
     → AnswersInTime (with_parts e store old) (call.EscapeHandle scope h) (plain s out.Nothing) (with_parts e store new)
 refused-escape e store old new scope h v s given why same =
-    by-refusal e store old new (call.EscapeHandle scope h) s refl
+    by-refusal e store old new (call.EscapeHandle scope h) s
     (escape-refusal e.texts (heap_of store old) scope h true (ap is_some (known-handle store old h.0 v given)) ∙ escaping-seen store scope.0 old.frames ∙ sym why) same
 
 -- one that is accepted gives the next handle to the scope outside

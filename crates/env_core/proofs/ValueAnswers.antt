@@ -9,7 +9,6 @@ use Rattle.napi_types.specs.declared.status.Status.{Status}
 use Rattle.napi_types.specs.declared.entry.Reply.{Reply}
 use Rattle.napi_types.specs.plain.Built.{is_value_call}
 use Rattle.napi_types.specs.plain.Replies.{Answer}
-use Rattle.napi_types.specs.parts.AttachmentRefusals.{attachment_refusal}
 use Rattle.napi_types.specs.parts.Attachments.{Attachments}
 use Rattle.napi_types.specs.parts.Book.{Book}
 use Rattle.napi_types.specs.parts.Frames.{caller_of}
@@ -17,14 +16,11 @@ use Rattle.napi_types.specs.parts.Graph.{StoreState, IsLive}
 use Rattle.napi_types.specs.parts.Heap.{Heap}
 use Rattle.napi_types.specs.parts.HeapCalls.{addon_effect, heap_answer_unless, heap_answer}
 use Rattle.napi_types.specs.parts.HeapRefusals.{refusal_in}
-use Rattle.napi_types.specs.parts.HookRefusals.{hook_refusal}
-use Rattle.napi_types.specs.parts.Hooks.{Hook}
-use Rattle.napi_types.specs.parts.ReferenceRefusals.{reference_refusal}
 use Rattle.napi_types.specs.parts.References.{Reference, ReferenceMap}
 use Rattle.napi_types.specs.environment.Calls.{effect, answer_unless}
 use Rattle.napi_types.specs.environment.Changes.{is_fresh_result, number_of}
 use Rattle.napi_types.specs.environment.Environment.{Environment, with_heap, in_heap}
-use Rattle.napi_types.specs.environment.Refusals.{attached_refusal, timely_refusal}
+use Rattle.napi_types.specs.environment.Refusals.{group_refusal, timely_refusal}
 use Rattle.napi_types.proofs.plain.Lists.{option_or-none}
 use Rattle.napi_types.proofs.environment.Answers.{heap_answer-keeps}
 use Rattle.std.specs.Option.{option_or}
@@ -70,26 +66,13 @@ given-in_heap : (e : Environment) (c : Call) (n : ℕ) (s : Option Status) → i
 given-in_heap e c n None v = accepted-in_heap e c n v
 given-in_heap e c n (Some s) v = refl
 
--- it names no hook, so none of these refusals applies
-no-hook : (addon : ℕ) (hooks : List Hook) (c : Call) → is_value_call c ≡ true → hook_refusal addon hooks c ≡ None
-no-hook addon hooks call.Exit h = cc
-no-hook addon hooks _ h = cc
-
--- nor a reference
-no-reference : (m : ReferenceMap) (c : Call) → is_value_call c ≡ true → reference_refusal m c ≡ None
-no-reference m call.Exit h = cc
-no-reference m _ h = cc
-
--- nor does it read what is attached to values
-no-attachment : (a : Attachments) (heap : Heap) (c : Call) → is_value_call c ≡ true → attachment_refusal a heap c ≡ None
-no-attachment a heap call.Exit h = cc
-no-attachment a heap _ h = cc
+-- nothing beside the heap refuses it
+no-group : (e : Environment) (c : Call) → is_value_call c ≡ true → group_refusal e c ≡ None
+no-group e call.Exit h = cc
+no-group e _ h = cc
 
 pub timely-value : (e : Environment) (c : Call) → is_value_call c ≡ true → timely_refusal e c ≡ refusal_in e.texts e.heap c
-timely-value e c h =
-    ap (λ o. option_or o (option_or (reference_refusal e.references c) (attached_refusal e c))) (no-hook (caller_of e.frames) e.hooks c h)
-    ∙ ap (λ o. option_or o (attached_refusal e c)) (no-reference e.references c h)
-    ∙ ap (option_or (refusal_in e.texts e.heap c)) (no-attachment e.attachments e.heap c h) ∙ option_or-none (refusal_in e.texts e.heap c)
+timely-value e c h = ap (option_or (refusal_in e.texts e.heap c)) (no-group e c h) ∙ option_or-none (refusal_in e.texts e.heap c)
 
 -- the reply of such a call, and the heap that it leaves, are the machine's answer in the environment
 pub value-answers : {E : Type 0} (e : Environment) (addon : ℕ) (c : Call) (heap : Heap) (result : Result Reply E) → is_value_call c ≡ true → addon ≡ caller_of e.frames

@@ -1,18 +1,21 @@
 -- What a call names, and the first refusal for that.
-use Rattle.std.proofs.Common.{◌≡◌, ℕ, ◌==◌, ◌∙◌, ap, sym, refl, Bool, true, false, ◌&&◌, List, [], ◌∷◌, inl, inr}
+use Rattle.std.proofs.Common.{◌≡◌, ℕ, ◌==◌, ◌∙◌, ap, sym, refl, Bool, true, false, ◌&&◌, List, [], ◌∷◌, Option, None, inl, inr}
 use Rattle.std.proofs.Math.Bool.{and-false}
 use Rattle.std.proofs.lemmas.Bool.{eqb-true, eq-eqb, or_cases, or_left, or_right}
 use Rattle.std.specs.List.{list_all}
 use Rattle.std.specs.Option.{option_or}
+use Rattle.napi_types.specs.declared.call.Call.{Call}
 use Rattle.napi_types.specs.declared.call.Call.TheVariants as call
+use Rattle.napi_types.specs.declared.status.Status.{Status}
 use Rattle.napi_types.specs.plain.Lists.{has_number}
 use Rattle.napi_types.specs.parts.Frames.{caller_of}
 use Rattle.napi_types.specs.parts.HeapRefusals.{refusal_in}
-use Rattle.napi_types.specs.parts.HookRefusals.{hook_refusal}
 use Rattle.napi_types.specs.parts.ReferenceRefusals.{reference_refusal}
-use Rattle.napi_types.specs.environment.Refusals.{attached_refusal}
+use Rattle.napi_types.specs.environment.Environment.{Environment}
+use Rattle.napi_types.specs.environment.HookCalls.{hook_refusal}
+use Rattle.napi_types.specs.environment.Refusals.{timely_refusal}
 use Rattle.napi_types.proofs.plain.Lists.{option_or-none}
-use Rattle.machine_laws.specs.CallLaws.{ReferencesAreNamedAlone, HooksAreNamedAlone}
+use Rattle.machine_laws.specs.CallLaws.{attached_refusal, NamesHooksAlone, ReferencesAreNamedAlone, HooksAreNamedAlone}
 
 pub named-alone : ReferencesAreNamedAlone
 named-alone e (call.DeleteReference r) = record { alone = inr (refl, refl); order = option_or-none (reference_refusal e.references (call.DeleteReference r)) }
@@ -24,12 +27,34 @@ named-alone e (call.GetReferenceValue r) = record {
 }
 named-alone e c = record { alone = inl refl; order = sym (option_or-none (refusal_in e.texts e.heap c)) }
 
+-- a call that nothing but the references can refuse
+on-references : (e : Environment) (c : Call) → hook_refusal (caller_of e.frames) e.hooks c ≡ None → attached_refusal e c ≡ None
+    → timely_refusal e c ≡ reference_refusal e.references c → NamesHooksAlone e c
+on-references e c unhooked unattached alone =
+    let r : Option Status = reference_refusal e.references c in
+    let within : option_or r (attached_refusal e c) ≡ r = ap (option_or r) unattached ∙ option_or-none r in
+    record {
+      alone = inl unhooked;
+      first = alone ∙ sym (ap (λ o. option_or o (option_or r (attached_refusal e c))) unhooked ∙ within);
+      order = alone ∙ sym (ap (λ o. option_or o (hook_refusal (caller_of e.frames) e.hooks c)) within ∙ ap (option_or r) unhooked ∙ option_or-none r);
+    }
+
 pub hooks-alone : HooksAreNamedAlone
-hooks-alone e (call.AddEnvCleanupHook entry argument) =
-    record { alone = inr (refl, refl, refl); order = option_or-none (hook_refusal (caller_of e.frames) e.hooks (call.AddEnvCleanupHook entry argument)) }
-hooks-alone e (call.RemoveEnvCleanupHook entry argument) =
-    record { alone = inr (refl, refl, refl); order = option_or-none (hook_refusal (caller_of e.frames) e.hooks (call.RemoveEnvCleanupHook entry argument)) }
-hooks-alone e c = record { alone = inl refl; order = sym (option_or-none (option_or (reference_refusal e.references c) (attached_refusal e c))) }
+hooks-alone e (call.AddEnvCleanupHook entry argument) = record {
+  alone = inr (refl, refl, refl);
+  first = sym (option_or-none (hook_refusal (caller_of e.frames) e.hooks (call.AddEnvCleanupHook entry argument)));
+  order = refl;
+}
+hooks-alone e (call.RemoveEnvCleanupHook entry argument) = record {
+  alone = inr (refl, refl, refl);
+  first = sym (option_or-none (hook_refusal (caller_of e.frames) e.hooks (call.RemoveEnvCleanupHook entry argument)));
+  order = refl;
+}
+hooks-alone e (call.DeleteReference r) = on-references e (call.DeleteReference r) refl refl refl
+hooks-alone e (call.ReferenceRef r) = on-references e (call.ReferenceRef r) refl refl refl
+hooks-alone e (call.ReferenceUnref r) = on-references e (call.ReferenceUnref r) refl refl refl
+hooks-alone e (call.GetReferenceValue r) = on-references e (call.GetReferenceValue r) refl refl refl
+hooks-alone e c = record { alone = inl refl; first = refl; order = sym (option_or-none (option_or (reference_refusal e.references c) (attached_refusal e c))) }
 
 -- one of the list fails the test, so not all pass it
 pub fails-all : (p : ℕ → Bool) (ns : List ℕ) (n : ℕ) → has_number n ns ≡ true → p n ≡ false → list_all p ns ≡ false

@@ -1,6 +1,6 @@
 -- Laws over all calls in all environments.
 use Rattle.std.specs.Option.{option_or, unwrap_or}
-use Rattle.std.specs.Prelude.{◌≡◌, ◌<◌, ℕ, ℤ, ◌+◌, ◌*◌, nat_lt, Bool, true, false, ◌&&◌, not, [], length, Option, Some, None, filter, is_some, slice_get, codes, ◌⊎◌}
+use Rattle.std.specs.Prelude.{◌≡◌, ◌<◌, ℕ, ℤ, ◌+◌, ◌*◌, nat_lt, Bool, true, false, ◌&&◌, not, List, [], ◌∷◌, map, length, Option, Some, None, filter, is_some, slice_get, codes, ◌⊎◌}
 use Rattle.napi_types.specs.declared.body.Body.TheVariants as body
 use Rattle.napi_types.specs.declared.call.Call.{Call}
 use Rattle.napi_types.specs.declared.call.Call.TheVariants as call
@@ -14,25 +14,26 @@ use Rattle.napi_types.specs.declared.ids.WorkId.{WorkId}
 use Rattle.napi_types.specs.declared.status.Status.{Status}
 use Rattle.napi_types.specs.declared.status.Status.TheVariants as status
 use Rattle.napi_types.specs.plain.Built.{is_built, is_calling}
+use Rattle.napi_types.specs.plain.CallFacts.{CallGroup, OnValues, OnProperties, OnFunctions, OnScopes, OnReferences, OnWraps, OnExternals, OnEntering, OnExceptions, OnInstances, OnHooks, OnWorks, OnThreads, OnVersion, OnCollection, OnExit}
 use Rattle.napi_types.specs.plain.Guards.{is_registering, is_shared, is_growing}
 use Rattle.napi_types.specs.plain.Lists.{has_number}
-use Rattle.napi_types.specs.plain.Replies.{plain}
+use Rattle.napi_types.specs.plain.Replies.{Answer, plain}
 use Rattle.napi_types.specs.plain.Room.{one_if, need}
 use Rattle.napi_types.specs.plain.Texts.{fixed_texts, message_text, code_text}
-use Rattle.napi_types.specs.parts.ExpectedKinds.{kind_refusal}
 use Rattle.napi_types.specs.parts.Frames.{caller_of, ask_counted}
 use Rattle.napi_types.specs.parts.Heap.{Heap, handle_body}
-use Rattle.napi_types.specs.parts.HeapRefusals.{refusal_in}
-use Rattle.napi_types.specs.parts.HookRefusals.{hook_refusal}
+use Rattle.napi_types.specs.parts.HeapRefusals.{kind_refusal, row_refusal, refusal_in}
 use Rattle.napi_types.specs.parts.NamedNumbers.{handles_of, texts_of, unknown_refusal}
-use Rattle.napi_types.specs.parts.OwnRefusals.{row_refusal}
 use Rattle.napi_types.specs.parts.ReferenceRefusals.{references_of, reference_refusal}
 use Rattle.napi_types.specs.parts.Scopes.{gives}
-use Rattle.napi_types.specs.environment.Calls.{answer, with_depth_error, groups}
+use Rattle.napi_types.specs.environment.Calls.{answer, with_depth_error}
 use Rattle.napi_types.specs.environment.Changes.{call_change}
 use Rattle.napi_types.specs.environment.Environment.{Environment}
+use Rattle.napi_types.specs.environment.Groups.{call_group}
+use Rattle.napi_types.specs.environment.HookCalls.{hook_refusal}
 use Rattle.napi_types.specs.environment.Moments.{moment_refusal}
-use Rattle.napi_types.specs.environment.Refusals.{attached_refusal, timely_refusal, early_refusal, depth_refusal, refusal}
+use Rattle.napi_types.specs.environment.Refusals.{timely_refusal, early_refusal, depth_refusal, refusal}
+use Rattle.napi_types.specs.environment.WrapCalls.{attachment_refusal}
 
 -- the call is refused as one at a wrong moment, or else as an invalid argument; it tells nothing, and leaves the environment as it was
 pub record RefusesArgument (e : Environment) (c : Call) : Type 0 where
@@ -133,6 +134,16 @@ pub record NeedsAndGrowth : Type 0 where
   pub unwrap_stays : (h : HandleId) → is_growing (call.Unwrap h) ≡ false
   pub delete_stays : (w : WorkId) → is_growing (call.DeleteAsyncWork w) ≡ false
 
+-- the groups of calls
+abbrev pub every_group : List CallGroup
+every_group =
+    OnValues ∷ OnProperties ∷ OnFunctions ∷ OnScopes ∷ OnReferences ∷ OnWraps ∷ OnExternals ∷ OnEntering ∷ OnExceptions ∷ OnInstances ∷ OnHooks ∷ OnWorks ∷ OnThreads
+    ∷ OnVersion ∷ OnCollection ∷ OnExit ∷ []
+
+-- what each of them says of a call
+abbrev pub groups : Environment → Call → ℕ → List (Option (Answer Environment))
+groups e c n = map (λ g. (call_group g).answers e c n) every_group
+
 -- each call that is built, but the call of a function, which enters a frame, has a row: exactly one group of calls answers it, and none answers another call
 abbrev pub EveryCallHasARow : Type 0
 EveryCallHasARow = (e : Environment) (c : Call) (n : ℕ) → length (filter is_some (groups e c n)) ≡ one_if (is_built c && not (is_calling c))
@@ -160,9 +171,14 @@ pub record NamesReferencesAlone (e : Environment) (c : Call) : Type 0 where
 abbrev pub ReferencesAreNamedAlone : Type 0
 ReferencesAreNamedAlone = (e : Environment) (c : Call) → NamesReferencesAlone e c
 
--- a call on hooks names no reference, no handle and no text, so it shows nowhere either whether the hooks are asked before all that
+-- the first refusal that the heap tells, or else that of what is attached to a value
+abbrev pub attached_refusal : Environment → Call → Option Status
+attached_refusal e c = option_or (refusal_in e.texts e.heap c) (attachment_refusal e.attachments e.heap c)
+
+-- a call on hooks names no reference, no handle and no text, so it shows nowhere either whether the hooks are asked before all that or after it
 pub record NamesHooksAlone (e : Environment) (c : Call) : Type 0 where
   pub alone : (hook_refusal (caller_of e.frames) e.hooks c ≡ None) ⊎ ((references_of c ≡ []) × (handles_of c ≡ []) × (texts_of c ≡ []))
+  pub first : timely_refusal e c ≡ option_or (hook_refusal (caller_of e.frames) e.hooks c) (option_or (reference_refusal e.references c) (attached_refusal e c))
   pub order : timely_refusal e c ≡ option_or (option_or (reference_refusal e.references c) (attached_refusal e c)) (hook_refusal (caller_of e.frames) e.hooks c)
 
 abbrev pub HooksAreNamedAlone : Type 0

@@ -8,6 +8,8 @@ pub mod Entering
 pub mod Environment
 pub mod ExceptionCalls
 pub mod ExternalCalls
+pub mod Group
+pub mod Groups
 pub mod HookCalls
 pub mod Hooked
 pub mod InstanceCalls

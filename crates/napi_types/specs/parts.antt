@@ -1,10 +1,8 @@
 -- The parts, each by itself: values, scopes and the heap with its calls; frames, references, attachments, the book, hooks; works and thread-safe functions.
-pub mod AttachmentRefusals
 pub mod Attachments
 pub mod Bodies
 pub mod Book
 pub mod Duties
-pub mod ExpectedKinds
 pub mod Frames
 pub mod FunctionCalls
 pub mod Functions
@@ -12,16 +10,15 @@ pub mod Graph
 pub mod Heap
 pub mod HeapCalls
 pub mod HeapChanges
+pub mod HeapGroup
 pub mod HeapGroups
 pub mod HeapRefusals
-pub mod HookRefusals
 pub mod Hooks
 pub mod InstanceData
 pub mod Jobs
 pub mod Kinds
 pub mod NamedNumbers
 pub mod NewValues
-pub mod OwnRefusals
 pub mod Pool
 pub mod Properties
 pub mod PropertyCalls
@@ -36,3 +33,4 @@ pub mod ValueCalls
 pub mod Values
 pub mod VersionCall
 pub mod Works
+pub mod WrapRefusals

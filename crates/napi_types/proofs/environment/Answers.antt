@@ -16,22 +16,17 @@ use Rattle.napi_types.specs.declared.status.Status.TheVariants as status
 use Rattle.napi_types.specs.plain.Guards.{is_registering}
 use Rattle.napi_types.specs.plain.Replies.{Answer, accepts, refuses}
 use Rattle.napi_types.specs.plain.Room.{one_if, need}
-use Rattle.napi_types.specs.parts.AttachmentRefusals.{attachment_refusal}
 use Rattle.napi_types.specs.parts.Attachments.{Attachments, wrap_ticket}
 use Rattle.napi_types.specs.parts.Book.{Book, is_registered, is_at, owed_tickets}
-use Rattle.napi_types.specs.parts.ExpectedKinds.{kind_refusal}
 use Rattle.napi_types.specs.parts.Frames.{Frame, caller_of, ask_counted, is_hub_duty, local_frames}
 use Rattle.napi_types.specs.parts.Heap.{Heap, handle_value, handle_properties}
 use Rattle.napi_types.specs.parts.HeapCalls.{heap_effect, addon_effect, heap_answer_unless, heap_answer}
 use Rattle.napi_types.specs.parts.HeapChanges.{new_value, with_handle, with_thrown}
-use Rattle.napi_types.specs.parts.HeapRefusals.{refusal_in}
-use Rattle.napi_types.specs.parts.HookRefusals.{hook_refusal}
+use Rattle.napi_types.specs.parts.HeapRefusals.{kind_refusal, row_refusal, refusal_in}
 use Rattle.napi_types.specs.parts.Hooks.{hook_ticket}
 use Rattle.napi_types.specs.parts.InstanceData.{instance_ticket, with_instance}
 use Rattle.napi_types.specs.parts.NamedNumbers.{unknown_refusal}
-use Rattle.napi_types.specs.parts.OwnRefusals.{row_refusal}
 use Rattle.napi_types.specs.parts.PropertyCalls.{names_of}
-use Rattle.napi_types.specs.parts.ReferenceRefusals.{reference_refusal}
 use Rattle.napi_types.specs.parts.References.{ReferenceMap, referred_value}
 use Rattle.napi_types.specs.environment.Calls.{effect, with_depth_error, answer}
 use Rattle.napi_types.specs.environment.Changes.{call_change}
@@ -43,7 +38,7 @@ use Rattle.napi_types.specs.environment.InstanceCalls.{setting_instance}
 use Rattle.napi_types.specs.environment.JournalRoom.{reserved_journal}
 use Rattle.napi_types.specs.environment.Moments.{is_tearing, guard_refusal, registering_refusal, moment_refusal}
 use Rattle.napi_types.specs.environment.ReferenceCalls.{value_told, counted_up}
-use Rattle.napi_types.specs.environment.Refusals.{attached_refusal, timely_refusal, early_refusal}
+use Rattle.napi_types.specs.environment.Refusals.{group_refusal, timely_refusal, early_refusal}
 use Rattle.napi_types.specs.environment.Registering.{finalizer_if, ticket_if, registering_if, registered_only, withdrawing}
 use Rattle.napi_types.specs.environment.Roots.{reach}
 use Rattle.napi_types.specs.environment.WrapCalls.{wrapping, finalizing}
@@ -300,9 +295,7 @@ effect-keeps e c n h = keeps-heap e c n h
 unrefused : (e : Environment) (c : Call) → early_refusal e c ≡ None → refusal_in e.texts e.heap c ≡ None
 unrefused e c h =
     let timely : timely_refusal e c ≡ None = none-last (moment_refusal e c) (timely_refusal e c) h in
-    let named : option_or (reference_refusal e.references c) (attached_refusal e c) ≡ None = none-last (hook_refusal (caller_of e.frames) e.hooks c) _ timely in
-    let later : attached_refusal e c ≡ None = none-last (reference_refusal e.references c) _ named in
-    none-first (refusal_in e.texts e.heap c) (attachment_refusal e.attachments e.heap c) later
+    none-first (refusal_in e.texts e.heap c) (group_refusal e c) timely
 
 limit-keeps : (e : Environment) (s : Status) → Keeps e (refuses s (with_depth_error e))
 limit-keeps e s = record { course = refl; frames = refl; heap = thrown-keeps e.heap None _; references = omega arith; book = stays e.book refl }

@@ -16,26 +16,21 @@ use Rattle.napi_types.specs.declared.entry.Phase.{Phase}
 use Rattle.napi_types.specs.declared.entry.Cause.TheVariants as cause
 use Rattle.napi_types.specs.plain.Lists.{tail, has_number}
 use Rattle.napi_types.specs.plain.Replies.{Answer}
-use Rattle.napi_types.specs.parts.AttachmentRefusals.{attachment_refusal}
 use Rattle.napi_types.specs.parts.Attachments.{wrap_ticket}
 use Rattle.napi_types.specs.parts.Bodies.{is_function, function_addon, text_of}
 use Rattle.napi_types.specs.parts.Book.{Registration, registration_at, due_info}
-use Rattle.napi_types.specs.parts.ExpectedKinds.{kind_refusal}
 use Rattle.napi_types.specs.parts.Frames.{Frame, frame_of, frame_of_duty, caller_of, ask_counted, asks_made, most_asks}
 use Rattle.napi_types.specs.parts.FunctionCalls.{callee_of}
 use Rattle.napi_types.specs.parts.Heap.{Heap, handle_value, handle_body, handle_properties}
 use Rattle.napi_types.specs.parts.HeapCalls.{addon_effect}
 use Rattle.napi_types.specs.parts.HeapChanges.{with_thrown}
-use Rattle.napi_types.specs.parts.HeapRefusals.{refusal_in}
-use Rattle.napi_types.specs.parts.HookRefusals.{hook_refusal}
+use Rattle.napi_types.specs.parts.HeapRefusals.{kind_refusal, row_refusal, refusal_in}
 use Rattle.napi_types.specs.parts.Hooks.{hook_ticket}
 use Rattle.napi_types.specs.parts.InstanceData.{instance_ticket}
 use Rattle.napi_types.specs.parts.NamedNumbers.{unknown_refusal}
 use Rattle.napi_types.specs.parts.NewValues.{made_after, list_of, thrown_strings, thrown_of}
-use Rattle.napi_types.specs.parts.OwnRefusals.{row_refusal}
 use Rattle.napi_types.specs.parts.Properties.{Property}
 use Rattle.napi_types.specs.parts.PropertyCalls.{names_of}
-use Rattle.napi_types.specs.parts.ReferenceRefusals.{reference_refusal}
 use Rattle.napi_types.specs.parts.References.{referred_value}
 use Rattle.napi_types.specs.parts.Values.{Value, fresh_value, starting_values, value_changed, body_of, those_of}
 use Rattle.napi_types.specs.environment.Asks.{AsksWithin}
@@ -47,7 +42,7 @@ use Rattle.napi_types.specs.environment.Environment.{Environment}
 use Rattle.napi_types.specs.environment.Moments.{moment_refusal}
 use Rattle.napi_types.specs.environment.Owners.{BelongsTo, IsOwned}
 use Rattle.napi_types.specs.environment.ReferenceCalls.{value_told, counted_up}
-use Rattle.napi_types.specs.environment.Refusals.{attached_refusal, timely_refusal, early_refusal, depth_refusal, refusal}
+use Rattle.napi_types.specs.environment.Refusals.{group_refusal, timely_refusal, early_refusal, depth_refusal, refusal}
 use Rattle.napi_types.specs.environment.Registering.{finalizer_if, registering_if, registered_only, withdrawing}
 use Rattle.napi_types.specs.environment.Roots.{reach}
 use Rattle.napi_types.specs.environment.Tickets.{ticket_change}
@@ -224,9 +219,7 @@ pub row-unrefused : (e : Environment) (c : Call) → refusal e c ≡ None → ro
 row-unrefused e c h =
     let early : early_refusal e c ≡ None = none-first (early_refusal e c) (depth_refusal e.frames c) h in
     let timely : timely_refusal e c ≡ None = none-last (moment_refusal e c) (timely_refusal e c) early in
-    let unhooked : option_or (reference_refusal e.references c) (attached_refusal e c) ≡ None = none-last (hook_refusal (caller_of e.frames) e.hooks c) _ timely in
-    let beside : option_or (refusal_in e.texts e.heap c) (attachment_refusal e.attachments e.heap c) ≡ None = none-last (reference_refusal e.references c) _ unhooked in
-    let within : refusal_in e.texts e.heap c ≡ None = none-first (refusal_in e.texts e.heap c) (attachment_refusal e.attachments e.heap c) beside in
+    let within : refusal_in e.texts e.heap c ≡ None = none-first (refusal_in e.texts e.heap c) (group_refusal e c) timely in
     let later : option_or (kind_refusal e.heap c) (row_refusal e.heap c) ≡ None = none-last (unknown_refusal e.texts e.heap c) _ within in
     none-last (kind_refusal e.heap c) (row_refusal e.heap c) later
 

@@ -10,6 +10,7 @@ use Rattle.napi_types.specs.parts.Book.{due_where}
 use Rattle.napi_types.specs.parts.References.{emptied}
 use Rattle.napi_types.specs.parts.Values.{those_of, all_but}
 use Rattle.napi_types.specs.environment.Environment.{Environment}
+use Rattle.napi_types.specs.environment.Group.{Group, answering}
 use Rattle.napi_types.specs.environment.Roots.{reach}
 
 -- a value is freed where it is none of those that stay
@@ -30,3 +31,7 @@ collected alive e = record e {
 abbrev pub on_collection : Environment → Call → Option (Answer Environment)
 on_collection e call.Collect = Some (accepts (out.Unsigned (length (all_but (reach e) e.heap.values))) (collected (reach e) e))
 on_collection e _ = None
+
+-- what the environment tells of this call
+abbrev pub collecting_calls : Group
+collecting_calls = answering (λ e c n. on_collection e c)

@@ -11,6 +11,7 @@ use Rattle.napi_types.specs.parts.Heap.{handle_value}
 use Rattle.napi_types.specs.parts.HeapChanges.{handle_of, with_thrown, thrown_number}
 use Rattle.napi_types.specs.parts.Values.{undefined_value}
 use Rattle.napi_types.specs.environment.Environment.{Environment, with_heap, in_heap}
+use Rattle.napi_types.specs.environment.Group.{Group, answering}
 
 -- the value of this creation number is the pending exception; or none is
 abbrev pub with_pending : Option ℕ → Environment → Environment
@@ -29,3 +30,7 @@ on_exceptions e call.IsExceptionPending = Some (accepts (out.Flag (is_some e.pen
 on_exceptions e call.GetAndClearLastException = Some (in_heap (with_pending None e) (handle_of (unwrap_or e.pending undefined_value) e.heap))
 on_exceptions e call.GetLastErrorInfo = Some (accepts (out.Unsigned (status_number e.last)) e)
 on_exceptions e _ = None
+
+-- what the environment tells of these calls
+abbrev pub exception_calls : Group
+exception_calls = answering (λ e c n. on_exceptions e c)

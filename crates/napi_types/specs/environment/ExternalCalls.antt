@@ -7,6 +7,7 @@ use Rattle.napi_types.specs.plain.Replies.{Answer}
 use Rattle.napi_types.specs.parts.Attachments.{Attachments, with_attached}
 use Rattle.napi_types.specs.parts.HeapChanges.{new_value}
 use Rattle.napi_types.specs.environment.Environment.{Environment, in_heap}
+use Rattle.napi_types.specs.environment.Group.{Group, answering}
 use Rattle.napi_types.specs.environment.Registering.{finalizer_if, ticket_if, registering_if}
 
 -- a finalizer of this ticket is attached to a value, where there is one
@@ -20,3 +21,7 @@ on_externals e (call.CreateExternal payload entry hint) =
     Some (registering_if (finalizer_if e payload entry hint)
     (in_heap (record e { attachments = attached_if (e.heap.made + 1) (ticket_if e.book entry) e.attachments }) (new_value (body.External payload) e.heap)))
 on_externals e _ = None
+
+-- what the environment tells of this call
+abbrev pub external_calls : Group
+external_calls = answering (λ e c n. on_externals e c)

@@ -7,6 +7,7 @@ use Rattle.napi_types.specs.plain.Replies.{Answer, accepts}
 use Rattle.napi_types.specs.parts.Frames.{caller_of}
 use Rattle.napi_types.specs.parts.InstanceData.{instance_number, instance_ticket, with_instance}
 use Rattle.napi_types.specs.environment.Environment.{Environment}
+use Rattle.napi_types.specs.environment.Group.{Group, answering}
 use Rattle.napi_types.specs.environment.Registering.{finalizer_if, ticket_if, registering_if, registered_only, withdrawing}
 
 -- `set_instance_data` gives this addon other instance data. The finalizer of what was set before is withdrawn, where it is still registered, and one is registered
@@ -22,3 +23,7 @@ abbrev pub on_instances : Environment → Call → Option (Answer Environment)
 on_instances e (call.SetInstanceData payload entry hint) = Some (setting_instance e (caller_of e.frames) payload entry hint)
 on_instances e call.GetInstanceData = Some (accepts (out.Unsigned (instance_number e.instances (caller_of e.frames))) e)
 on_instances e _ = None
+
+-- what the environment tells of these calls
+abbrev pub instance_calls : Group
+instance_calls = answering (λ e c n. on_instances e c)

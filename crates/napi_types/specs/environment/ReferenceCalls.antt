@@ -1,4 +1,4 @@
--- What the calls on references answer and leave where nothing refuses them.
+-- The calls on references: what they answer and leave where nothing refuses them.
 use Rattle.std.specs.Prelude.{ℕ, ◌+◌, ◌-◌, Option, Some, None}
 use Rattle.napi_types.specs.declared.call.Call.{Call}
 use Rattle.napi_types.specs.declared.call.Call.TheVariants as call
@@ -6,8 +6,10 @@ use Rattle.napi_types.specs.declared.entry.Out.TheVariants as out
 use Rattle.napi_types.specs.plain.Replies.{Answer, accepts}
 use Rattle.napi_types.specs.parts.Heap.{handle_value}
 use Rattle.napi_types.specs.parts.HeapChanges.{handle_of}
+use Rattle.napi_types.specs.parts.ReferenceRefusals.{reference_refusal}
 use Rattle.napi_types.specs.parts.References.{ReferenceMap, referred_value, reference_count, with_reference, without_reference, with_count}
 use Rattle.napi_types.specs.environment.Environment.{Environment, in_heap}
+use Rattle.napi_types.specs.environment.Group.{Group}
 
 -- an environment with other references
 abbrev pub with_references : ReferenceMap → Environment → Environment
@@ -37,3 +39,7 @@ on_references e (call.ReferenceRef r) n = Some (counted_up r.0 e (referred_value
 on_references e (call.ReferenceUnref r) n = Some (count_told r.0 (reference_count e.references r.0 - 1) e)
 on_references e (call.GetReferenceValue r) n = Some (value_told e (referred_value e.references r.0))
 on_references e _ n = None
+
+-- what the environment tells of these calls
+abbrev pub reference_calls : Group
+reference_calls = record { refuses = λ e c. reference_refusal e.references c; answers = on_references }

@@ -6,22 +6,19 @@ use Rattle.napi_types.specs.declared.status.Status.{Status}
 use Rattle.napi_types.specs.declared.call.Call.TheVariants as call
 use Rattle.napi_types.specs.declared.status.Status.TheVariants as status
 use Rattle.napi_types.specs.plain.Lists.{when}
-use Rattle.napi_types.specs.parts.AttachmentRefusals.{attachment_refusal}
-use Rattle.napi_types.specs.parts.Frames.{Frame, caller_of, most_frames}
+use Rattle.napi_types.specs.parts.Frames.{Frame, most_frames}
 use Rattle.napi_types.specs.parts.HeapRefusals.{refusal_in}
-use Rattle.napi_types.specs.parts.HookRefusals.{hook_refusal}
-use Rattle.napi_types.specs.parts.ReferenceRefusals.{reference_refusal}
 use Rattle.napi_types.specs.environment.Environment.{Environment}
+use Rattle.napi_types.specs.environment.Groups.{call_group_of}
 use Rattle.napi_types.specs.environment.Moments.{moment_refusal}
 
--- the first refusal that the heap tells, or else that of what is attached to a value
-abbrev pub attached_refusal : Environment → Call → Option Status
-attached_refusal e c = option_or (refusal_in e.texts e.heap c) (attachment_refusal e.attachments e.heap c)
+-- why the group of a call refuses it by what stands beside the heap: references, what is attached to values, or hooks
+abbrev pub group_refusal : Environment → Call → Option Status
+group_refusal e c = (call_group_of c).refuses e c
 
--- the first refusal that applies to a call that comes at a right moment. No other refusal of these applies to a call on hooks or on
--- references, so theirs may stand first
+-- the first refusal that applies to a call that comes at a right moment: the first that the heap tells, or else its group's
 abbrev pub timely_refusal : Environment → Call → Option Status
-timely_refusal e c = option_or (hook_refusal (caller_of e.frames) e.hooks c) (option_or (reference_refusal e.references c) (attached_refusal e c))
+timely_refusal e c = option_or (refusal_in e.texts e.heap c) (group_refusal e c)
 
 -- THE DEPTH LIMIT
 -- no function is called where as many frames stand as may

@@ -1,14 +1,18 @@
--- What the calls on wraps, type tags and finalizers answer and leave where nothing refuses them.
+-- The calls on wraps, type tags and finalizers: what they answer and leave where nothing refuses them, and their refusals by what is attached to a value.
 use Rattle.std.specs.Prelude.{ℕ, Bool, true, false, Option, Some, None}
 use Rattle.napi_types.specs.declared.call.Call.{Call}
 use Rattle.napi_types.specs.declared.call.Call.TheVariants as call
 use Rattle.napi_types.specs.declared.entry.Out.TheVariants as out
+use Rattle.napi_types.specs.declared.status.Status.{Status}
+use Rattle.napi_types.specs.declared.status.Status.TheVariants as status
+use Rattle.napi_types.specs.plain.Lists.{when, unless}
 use Rattle.napi_types.specs.plain.Replies.{Answer, accepts}
-use Rattle.napi_types.specs.parts.Attachments.{Attachments, wrap_payload, wrap_ticket, has_tag, with_wrap, without_wrap, with_tag, with_attached}
+use Rattle.napi_types.specs.parts.Attachments.{Attachments, is_wrapped, is_tagged, wrap_payload, wrap_ticket, has_tag, with_wrap, without_wrap, with_tag, with_attached}
 use Rattle.napi_types.specs.parts.Book.{new_ticket}
-use Rattle.napi_types.specs.parts.Heap.{handle_value}
+use Rattle.napi_types.specs.parts.Heap.{Heap, handle_value}
 use Rattle.napi_types.specs.parts.References.{with_reference}
 use Rattle.napi_types.specs.environment.Environment.{Environment}
+use Rattle.napi_types.specs.environment.Group.{Group}
 use Rattle.napi_types.specs.environment.ReferenceCalls.{with_references}
 use Rattle.napi_types.specs.environment.Registering.{finalizer_of, finalizer_if, ticket_if, registering, registering_if, registered_only, withdrawing}
 
@@ -48,3 +52,16 @@ on_wraps e (call.TypeTagObject h lower upper) n = Some (accepts out.Nothing (wit
 on_wraps e (call.CheckObjectTypeTag h lower upper) n = Some (accepts (out.Flag (has_tag e.attachments (handle_value e.heap h.0) lower upper)) e)
 on_wraps e (call.AddFinalizer h payload entry hint wanted) n = Some (finalizing e (handle_value e.heap h.0) payload entry hint wanted n)
 on_wraps e _ n = None
+
+-- THEIR OWN REFUSALS
+-- an object that is wrapped is not wrapped again, and one that is not wrapped has nothing to give or to take off; a value that has a tag gets no other
+abbrev pub attachment_refusal : Attachments → Heap → Call → Option Status
+attachment_refusal a heap (call.Wrap h _ _ _ _) = when (is_wrapped a (handle_value heap h.0)) status.InvalidArg
+attachment_refusal a heap (call.Unwrap h) = unless (is_wrapped a (handle_value heap h.0)) status.InvalidArg
+attachment_refusal a heap (call.RemoveWrap h) = unless (is_wrapped a (handle_value heap h.0)) status.InvalidArg
+attachment_refusal a heap (call.TypeTagObject h _ _) = when (is_tagged a (handle_value heap h.0)) status.InvalidArg
+attachment_refusal a heap _ = None
+
+-- what the environment tells of these calls
+abbrev pub wrap_calls : Group
+wrap_calls = record { refuses = λ e c. attachment_refusal e.attachments e.heap c; answers = on_wraps }

@@ -16,6 +16,7 @@ use Rattle.napi_types.specs.parts.Bodies.{function_addon, function_entry, functi
 use Rattle.napi_types.specs.parts.Frames.{Frame, frame_of}
 use Rattle.napi_types.specs.parts.Heap.{Heap, handle_value, handle_body}
 use Rattle.napi_types.specs.parts.HeapChanges.{new_value, with_handle}
+use Rattle.napi_types.specs.parts.HeapGroup.{HeapGroup, untold_in_heap}
 use Rattle.napi_types.specs.parts.Kinds.{expects_if}
 use Rattle.napi_types.specs.parts.Values.{undefined_value}
 
@@ -51,8 +52,12 @@ left_value heap (Some h) = handle_value heap h.0
 -- THEIR OWN REFUSALS
 -- only a function is called. A thread-safe function is made of a function where a value is named, has a function or a call-js entry, and is held by a
 -- thread at least
-abbrev pub function_refusal : Heap → Call → Option (Option Status)
-function_refusal heap (call.CallFunction _ f _) = Some (unless (is_function (handle_body heap f.0)) status.InvalidArg)
+abbrev pub function_refusal : Heap → Call → Option Status
+function_refusal heap (call.CallFunction _ f _) = unless (is_function (handle_body heap f.0)) status.InvalidArg
 function_refusal heap (call.CreateThreadsafeFunction f entry _ count _ _) =
-    Some (option_or (expects_if heap f is_function status.InvalidArg) (when ((is_none f && is_none entry) || (count == 0)) status.InvalidArg))
+    option_or (expects_if heap f is_function status.InvalidArg) (when ((is_none f && is_none entry) || (count == 0)) status.InvalidArg)
 function_refusal heap _ = None
+
+-- what the heap tells of the calls that make a function, call one, or make a thread-safe function. `on_functions` asks which addon calls, so it is not here
+abbrev pub functions_in_heap : HeapGroup
+functions_in_heap = record untold_in_heap { refuses = function_refusal }

@@ -1,23 +1,18 @@
 -- What a call answers and leaves that is told of the heap: one on values, properties or scopes, or that makes a function.
 use Rattle.std.specs.Option.{unwrap_or}
-use Rattle.std.specs.Prelude.{ℕ, Option, Some, None, List, map}
+use Rattle.std.specs.Prelude.{ℕ, Option, Some, None}
 use Rattle.napi_types.specs.declared.call.Call.{Call}
 use Rattle.napi_types.specs.declared.entry.Out.TheVariants as out
 use Rattle.napi_types.specs.declared.status.Status.{Status}
-use Rattle.napi_types.specs.plain.Lists.{first_some}
 use Rattle.napi_types.specs.plain.Replies.{Answer, accepts, refuses}
 use Rattle.napi_types.specs.parts.FunctionCalls.{on_functions}
 use Rattle.napi_types.specs.parts.Heap.{Heap}
-use Rattle.napi_types.specs.parts.HeapGroups.{HeapGroup, heap_call_groups}
+use Rattle.napi_types.specs.parts.HeapGroups.{heap_group_of}
 use Rattle.napi_types.specs.parts.HeapRefusals.{refusal_in}
 
--- what each of these groups says of a call
-abbrev pub heap_groups : Heap → Call → ℕ → List (Option (Answer Heap))
-heap_groups heap c n = map (λ (g : HeapGroup). g.answers heap c n) heap_call_groups
-
--- what an accepted call of these groups answers and leaves
+-- what an accepted call answers and leaves, as its group tells it
 abbrev pub heap_effect : Heap → Call → ℕ → Answer Heap
-heap_effect heap c n = unwrap_or (first_some (heap_groups heap c n)) (accepts out.Nothing heap)
+heap_effect heap c n = unwrap_or ((heap_group_of c).answers heap c n) (accepts out.Nothing heap)
 
 -- the same of a call of this addon: a function that it creates belongs to it
 abbrev pub addon_effect : ℕ → Heap → Call → ℕ → Answer Heap

@@ -13,6 +13,7 @@ use Rattle.napi_types.specs.plain.Replies.{Answer, accepts}
 use Rattle.napi_types.specs.parts.Bodies.{is_object_like}
 use Rattle.napi_types.specs.parts.Heap.{Heap, handle_value, handle_properties, handle_elements}
 use Rattle.napi_types.specs.parts.HeapChanges.{handle_of, new_list, with_changed}
+use Rattle.napi_types.specs.parts.HeapGroup.{HeapGroup}
 use Rattle.napi_types.specs.parts.Kinds.{expects}
 use Rattle.napi_types.specs.parts.Properties.{Property, property_at, element_at, most_names, most_index}
 use Rattle.napi_types.specs.parts.Values.{undefined_value, with_property, without_property, with_element}
@@ -35,19 +36,23 @@ on_properties heap _ = None
 
 -- THEIR OWN REFUSALS
 -- each of them expects an object
-abbrev pub property_kinds : Heap → Call → Option (Option Status)
-property_kinds heap (call.SetNamedProperty h _ _) = Some (expects heap h is_object_like status.ObjectExpected)
-property_kinds heap (call.GetNamedProperty h _) = Some (expects heap h is_object_like status.ObjectExpected)
-property_kinds heap (call.HasNamedProperty h _) = Some (expects heap h is_object_like status.ObjectExpected)
-property_kinds heap (call.DeleteProperty h _) = Some (expects heap h is_object_like status.ObjectExpected)
-property_kinds heap (call.GetPropertyNames h) = Some (expects heap h is_object_like status.ObjectExpected)
-property_kinds heap (call.SetElement h _ _) = Some (expects heap h is_object_like status.ObjectExpected)
-property_kinds heap (call.GetElement h _) = Some (expects heap h is_object_like status.ObjectExpected)
-property_kinds heap (call.HasElement h _) = Some (expects heap h is_object_like status.ObjectExpected)
+abbrev pub property_kinds : Heap → Call → Option Status
+property_kinds heap (call.SetNamedProperty h _ _) = expects heap h is_object_like status.ObjectExpected
+property_kinds heap (call.GetNamedProperty h _) = expects heap h is_object_like status.ObjectExpected
+property_kinds heap (call.HasNamedProperty h _) = expects heap h is_object_like status.ObjectExpected
+property_kinds heap (call.DeleteProperty h _) = expects heap h is_object_like status.ObjectExpected
+property_kinds heap (call.GetPropertyNames h) = expects heap h is_object_like status.ObjectExpected
+property_kinds heap (call.SetElement h _ _) = expects heap h is_object_like status.ObjectExpected
+property_kinds heap (call.GetElement h _) = expects heap h is_object_like status.ObjectExpected
+property_kinds heap (call.HasElement h _) = expects heap h is_object_like status.ObjectExpected
 property_kinds heap _ = None
 
 -- an object with more than 65,536 names is not listed, and an element's index is at most 65,535
-abbrev pub property_refusal : Heap → Call → Option (Option Status)
-property_refusal heap (call.GetPropertyNames h) = Some (when (nat_lt most_names (length (handle_properties heap h.0))) status.InvalidArg)
-property_refusal heap (call.SetElement _ at _) = Some (when (nat_lt most_index at) status.InvalidArg)
+abbrev pub property_refusal : Heap → Call → Option Status
+property_refusal heap (call.GetPropertyNames h) = when (nat_lt most_names (length (handle_properties heap h.0))) status.InvalidArg
+property_refusal heap (call.SetElement _ at _) = when (nat_lt most_index at) status.InvalidArg
 property_refusal heap _ = None
+
+-- what the heap tells of these calls, which is all
+abbrev pub properties_in_heap : HeapGroup
+properties_in_heap = record { expects = property_kinds; refuses = property_refusal; answers = λ heap c n. on_properties heap c }

@@ -1,7 +1,7 @@
 -- The refusals of the calls on references.
 use Rattle.std.specs.List.{list_all}
 use Rattle.std.specs.Option.{option_or}
-use Rattle.std.specs.Prelude.{ℕ, ◌==◌, ◌&&◌, List, Option, None, is_some, Some}
+use Rattle.std.specs.Prelude.{ℕ, ◌==◌, ◌&&◌, List, Option, None, is_some}
 use Rattle.napi_types.specs.declared.call.Call.{Call}
 use Rattle.napi_types.specs.declared.status.Status.{Status}
 use Rattle.napi_types.specs.declared.call.Call.TheVariants as call
@@ -10,6 +10,7 @@ use Rattle.napi_types.specs.plain.CallFacts.{facts_of}
 use Rattle.napi_types.specs.plain.Lists.{when, unless}
 use Rattle.napi_types.specs.parts.Bodies.{is_referable}
 use Rattle.napi_types.specs.parts.Heap.{Heap, handle_body}
+use Rattle.napi_types.specs.parts.HeapGroup.{HeapGroup, untold_in_heap}
 use Rattle.napi_types.specs.parts.References.{ReferenceMap, has_reference, referred_value, reference_count, most_count}
 
 -- REFERENCES
@@ -33,6 +34,10 @@ reference_refusal m c = option_or (unknown_reference m c) (count_refusal m c)
 
 -- WHAT THE HEAP TELLS
 -- a reference is to an object, a function, an external or a symbol
-abbrev pub referring_refusal : Heap → Call → Option (Option Status)
-referring_refusal heap (call.CreateReference h _) = Some (unless (is_referable (handle_body heap h.0)) status.InvalidArg)
+abbrev pub referring_refusal : Heap → Call → Option Status
+referring_refusal heap (call.CreateReference h _) = unless (is_referable (handle_body heap h.0)) status.InvalidArg
 referring_refusal heap _ = None
+
+-- what the heap tells of these calls
+abbrev pub references_in_heap : HeapGroup
+references_in_heap = record untold_in_heap { refuses = referring_refusal }

@@ -10,6 +10,7 @@ use Rattle.napi_types.specs.plain.Lists.{with_number}
 use Rattle.napi_types.specs.plain.Replies.{Answer, accepts}
 use Rattle.napi_types.specs.parts.Heap.{Heap, handle_value}
 use Rattle.napi_types.specs.parts.HeapChanges.{in_scopes}
+use Rattle.napi_types.specs.parts.HeapGroup.{HeapGroup, untold_in_heap}
 use Rattle.napi_types.specs.parts.ScopeChanges.{open_in, close_in, escape_in}
 use Rattle.napi_types.specs.parts.ScopeRefusals.{closing, escaping}
 use Rattle.napi_types.specs.parts.Scopes.{opened_scopes}
@@ -34,8 +35,12 @@ on_scopes heap _ n = None
 
 -- THEIR OWN REFUSALS
 -- scopes close innermost first, and one handle escapes from an escapable scope
-abbrev pub scope_refusal : Heap → Call → Option (Option Status)
-scope_refusal heap (call.CloseHandleScope s) = Some (closing s.0 scope_kind.Plain (opened_scopes heap.scopes))
-scope_refusal heap (call.CloseEscapableHandleScope s) = Some (closing s.0 scope_kind.Escapable (opened_scopes heap.scopes))
-scope_refusal heap (call.EscapeHandle s _) = Some (escaping s.0 (opened_scopes heap.scopes))
+abbrev pub scope_refusal : Heap → Call → Option Status
+scope_refusal heap (call.CloseHandleScope s) = closing s.0 scope_kind.Plain (opened_scopes heap.scopes)
+scope_refusal heap (call.CloseEscapableHandleScope s) = closing s.0 scope_kind.Escapable (opened_scopes heap.scopes)
+scope_refusal heap (call.EscapeHandle s _) = escaping s.0 (opened_scopes heap.scopes)
 scope_refusal heap _ = None
+
+-- what the heap tells of these calls, which is all
+abbrev pub scopes_in_heap : HeapGroup
+scopes_in_heap = record untold_in_heap { refuses = scope_refusal; answers = on_scopes }

@@ -12,6 +12,7 @@ use Rattle.napi_types.specs.plain.Replies.{Answer, accepts}
 use Rattle.napi_types.specs.parts.Bodies.{kind_of, is_array, is_error_body, signed_of, flag_of, text_of, external_payload, strictly_equal, is_string, is_number, is_bigint, is_boolean, is_external}
 use Rattle.napi_types.specs.parts.Heap.{Heap, handle_value, handle_body, handle_elements}
 use Rattle.napi_types.specs.parts.HeapChanges.{handle_of, new_value, new_error}
+use Rattle.napi_types.specs.parts.HeapGroup.{HeapGroup}
 use Rattle.napi_types.specs.parts.Kinds.{expects, expects_if}
 use Rattle.napi_types.specs.parts.Values.{undefined_value, null_value, true_value, false_value, global_value}
 
@@ -43,19 +44,23 @@ on_values heap _ = None
 
 -- THEIR OWN REFUSALS
 -- the kinds of value that they expect
-abbrev pub value_kinds : Heap → Call → Option (Option Status)
-value_kinds heap (call.CreateSymbol h) = Some (expects_if heap h is_string status.StringExpected)
+abbrev pub value_kinds : Heap → Call → Option Status
+value_kinds heap (call.CreateSymbol h) = expects_if heap h is_string status.StringExpected
 value_kinds heap (call.CreateError code message) =
-    Some (option_or (expects_if heap code is_string status.StringExpected) (expects heap message is_string status.StringExpected))
-value_kinds heap (call.GetValueInt64 h) = Some (expects heap h is_number status.NumberExpected)
-value_kinds heap (call.GetValueBigintInt64 h) = Some (expects heap h is_bigint status.BigintExpected)
-value_kinds heap (call.GetValueBool h) = Some (expects heap h is_boolean status.BooleanExpected)
-value_kinds heap (call.GetValueStringUtf8 h) = Some (expects heap h is_string status.StringExpected)
-value_kinds heap (call.GetArrayLength h) = Some (expects heap h is_array status.ArrayExpected)
+    option_or (expects_if heap code is_string status.StringExpected) (expects heap message is_string status.StringExpected)
+value_kinds heap (call.GetValueInt64 h) = expects heap h is_number status.NumberExpected
+value_kinds heap (call.GetValueBigintInt64 h) = expects heap h is_bigint status.BigintExpected
+value_kinds heap (call.GetValueBool h) = expects heap h is_boolean status.BooleanExpected
+value_kinds heap (call.GetValueStringUtf8 h) = expects heap h is_string status.StringExpected
+value_kinds heap (call.GetArrayLength h) = expects heap h is_array status.ArrayExpected
 value_kinds heap _ = None
 
 -- a number is a whole number from -(2^53-1) to 2^53-1, and only an external is read as one
-abbrev pub value_refusal : Heap → Call → Option (Option Status)
-value_refusal heap (call.CreateInt64 i) = Some (unless (int_le (negsuc 9007199254740990) i && int_le i (pos 9007199254740991)) status.InvalidArg)
-value_refusal heap (call.GetValueExternal h) = Some (unless (is_external (handle_body heap h.0)) status.InvalidArg)
+abbrev pub value_refusal : Heap → Call → Option Status
+value_refusal heap (call.CreateInt64 i) = unless (int_le (negsuc 9007199254740990) i && int_le i (pos 9007199254740991)) status.InvalidArg
+value_refusal heap (call.GetValueExternal h) = unless (is_external (handle_body heap h.0)) status.InvalidArg
 value_refusal heap _ = None
+
+-- what the heap tells of these calls, which is all
+abbrev pub values_in_heap : HeapGroup
+values_in_heap = record { expects = value_kinds; refuses = value_refusal; answers = λ heap c n. on_values heap c }

@@ -6,8 +6,13 @@ use Rattle.napi_types.specs.declared.entry.Out.TheVariants as out
 use Rattle.napi_types.specs.plain.Numbers.{napi_version}
 use Rattle.napi_types.specs.plain.Replies.{Answer, accepts}
 use Rattle.napi_types.specs.parts.Heap.{Heap}
+use Rattle.napi_types.specs.parts.HeapGroup.{HeapGroup, untold_in_heap}
 
 -- `get_version` tells the version of Node-API
 abbrev pub on_version : Heap → Call → Option (Answer Heap)
 on_version heap call.GetVersion = Some (accepts (out.Unsigned napi_version) heap)
 on_version heap _ = None
+
+-- what the heap tells of this call, which is all
+abbrev pub version_in_heap : HeapGroup
+version_in_heap = record untold_in_heap { answers = λ heap c n. on_version heap c }

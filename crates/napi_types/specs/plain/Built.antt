@@ -1,10 +1,10 @@
 -- Which calls are built so far, and what an addon is taken to ask that asks another.
-use Rattle.std.specs.Prelude.{Bool, true, false, ◌||◌, cond, None}
+use Rattle.std.specs.Prelude.{Bool, true, false, cond, None}
 use Rattle.napi_types.specs.declared.call.Ask.{Ask}
 use Rattle.napi_types.specs.declared.call.Ask.TheVariants as ask
 use Rattle.napi_types.specs.declared.call.Call.{Call}
 use Rattle.napi_types.specs.declared.call.Call.TheVariants as call
-use Rattle.napi_types.specs.plain.CallFacts.{facts_of}
+use Rattle.napi_types.specs.plain.CallFacts.{CallGroup, OnValues, OnProperties, OnFunctions, facts_of, group_of}
 
 -- the calls on values that give a handle of a starting value, or create a value
 abbrev pub is_creating : Call → Bool
@@ -34,23 +34,16 @@ is_telling (call.GetValueStringUtf8 _) = true
 is_telling (call.GetValueExternal _) = true
 is_telling _ = false
 
--- the other calls on values, properties and elements
-abbrev pub is_other_value_call : Call → Bool
-is_other_value_call (call.GetArrayLength _) = true
-is_other_value_call (call.StrictEquals _ _) = true
-is_other_value_call (call.SetNamedProperty _ _ _) = true
-is_other_value_call (call.GetNamedProperty _ _) = true
-is_other_value_call (call.HasNamedProperty _ _) = true
-is_other_value_call (call.DeleteProperty _ _) = true
-is_other_value_call (call.GetPropertyNames _) = true
-is_other_value_call (call.SetElement _ _ _) = true
-is_other_value_call (call.GetElement _ _) = true
-is_other_value_call (call.HasElement _ _) = true
-is_other_value_call _ = false
+-- the groups of which values and the handles to them tell all: the calls on values, on properties and elements, and the one that makes a function
+abbrev pub is_value_group : CallGroup → Bool
+is_value_group OnValues = true
+is_value_group OnProperties = true
+is_value_group OnFunctions = true
+is_value_group _ = false
 
--- the calls on values, and those on properties and elements
+-- a call of one of them
 abbrev pub is_value_call : Call → Bool
-is_value_call c = is_creating c || is_telling c || is_other_value_call c
+is_value_call c = is_value_group (group_of c)
 
 -- the call that asks that the loop ends
 abbrev pub is_exiting : Call → Bool

@@ -1,4 +1,4 @@
--- The table of calls: what is known of each before it is made, a row for each.
+-- The table of calls: the group of each, and what else is known of it before it is made, a row for each.
 use Rattle.std.specs.Prelude.{ℕ, ◌+◌, Bool, true, false, List, [], ◌∷◌, ◌++◌, Option, Some, None, is_some}
 use Rattle.napi_types.specs.declared.call.Call.{Call}
 use Rattle.napi_types.specs.declared.call.Call.TheVariants as call
@@ -7,9 +7,29 @@ use Rattle.napi_types.specs.declared.ids.TextNo.{TextNo}
 use Rattle.napi_types.specs.plain.Arguments.{argument_handles}
 use Rattle.napi_types.specs.plain.Lists.{one}
 
--- whether the call is built so far, whether it is guarded, whether it registers something, whether its entry stands in the history, and whether it takes memory
--- beside that of its places; how many places it needs; and the handles, the texts and the references that it names
+-- the groups of calls. A call is of one group, whose records in `HeapGroups` and `Groups` tell why it is refused and what it answers
+pub data CallGroup : Type 0 where
+  OnValues : CallGroup
+  OnProperties : CallGroup
+  OnFunctions : CallGroup
+  OnScopes : CallGroup
+  OnReferences : CallGroup
+  OnWraps : CallGroup
+  OnExternals : CallGroup
+  OnEntering : CallGroup
+  OnExceptions : CallGroup
+  OnInstances : CallGroup
+  OnHooks : CallGroup
+  OnWorks : CallGroup
+  OnThreads : CallGroup
+  OnVersion : CallGroup
+  OnCollection : CallGroup
+  OnExit : CallGroup
+
+-- the call's group; whether it is built so far, whether it is guarded, whether it registers something, whether its entry stands in the history, and
+-- whether it takes memory beside that of its places; how many places it needs; and the handles, the texts and the references that it names
 pub record CallFacts : Type 0 where
+  pub group : CallGroup
   pub built : Bool
   pub guarded : Bool
   pub registers : Bool
@@ -20,9 +40,10 @@ pub record CallFacts : Type 0 where
   pub texts : List ℕ
   pub references : List ℕ
 
--- a call that is built, and of which no more of this holds: it needs the place of its entry alone
-abbrev pub no_facts : CallFacts
-no_facts = record { built = true; guarded = false; registers = false; shared = false; grows = false; need = 1; handles = []; texts = []; references = [] }
+-- a call of this group that is built, and of which no more of this holds: it needs the place of its entry alone
+abbrev pub in_group : CallGroup → CallFacts
+in_group g =
+    record { group = g; built = true; guarded = false; registers = false; shared = false; grows = false; need = 1; handles = []; texts = []; references = [] }
 
 -- the handle of an argument that may be left out
 abbrev pub handle_if : Option HandleId → List ℕ
@@ -43,80 +64,89 @@ abbrev pub finalizer_places : Option ℕ → ℕ
 finalizer_places None = 0
 finalizer_places (Some entry) = duty_places
 
--- the same of a shared call: none is built so far
-abbrev pub shared_facts : CallFacts
-shared_facts = record no_facts { built = false; shared = true }
+-- a shared call of this group: none is built so far
+abbrev pub shared_in : CallGroup → CallFacts
+shared_in g = record (in_group g) { built = false; shared = true }
 
 -- the table
 abbrev pub facts_of : Call → CallFacts
-facts_of call.GetUndefined = record no_facts { grows = true }
-facts_of call.GetNull = record no_facts { grows = true }
-facts_of call.GetGlobal = record no_facts { grows = true }
-facts_of (call.GetBoolean _) = record no_facts { grows = true }
-facts_of (call.CreateInt64 _) = record no_facts { grows = true }
-facts_of (call.CreateBigintInt64 _) = record no_facts { grows = true }
-facts_of (call.CreateStringUtf8 t) = record no_facts { grows = true; texts = one t.0 }
-facts_of (call.CreateSymbol h) = record no_facts { grows = true; handles = handle_if h }
-facts_of call.CreateObject = record no_facts { grows = true }
-facts_of call.CreateArray = record no_facts { grows = true }
-facts_of (call.CreateFunction _ _) = record no_facts { guarded = true; grows = true }
-facts_of (call.CreateExternal _ finalizer _) = record no_facts { registers = is_some finalizer; grows = true; need = 1 + finalizer_places finalizer }
-facts_of (call.CreateError code message) = record no_facts { grows = true; handles = handle_if code ++ one message.0 }
-facts_of (call.Typeof h) = record no_facts { handles = one h.0 }
-facts_of (call.IsArray h) = record no_facts { handles = one h.0 }
-facts_of (call.IsError h) = record no_facts { handles = one h.0 }
-facts_of (call.GetValueInt64 h) = record no_facts { handles = one h.0 }
-facts_of (call.GetValueBigintInt64 h) = record no_facts { handles = one h.0 }
-facts_of (call.GetValueBool h) = record no_facts { handles = one h.0 }
-facts_of (call.GetValueStringUtf8 h) = record no_facts { handles = one h.0 }
-facts_of (call.GetValueExternal h) = record no_facts { handles = one h.0 }
-facts_of (call.GetArrayLength h) = record no_facts { handles = one h.0 }
-facts_of (call.StrictEquals g h) = record no_facts { guarded = true; handles = g.0 ∷ one h.0 }
-facts_of (call.SetNamedProperty h name v) = record no_facts { guarded = true; grows = true; handles = h.0 ∷ one v.0; texts = one name.0 }
-facts_of (call.GetNamedProperty h name) = record no_facts { guarded = true; grows = true; handles = one h.0; texts = one name.0 }
-facts_of (call.HasNamedProperty h name) = record no_facts { guarded = true; handles = one h.0; texts = one name.0 }
-facts_of (call.DeleteProperty h name) = record no_facts { guarded = true; handles = one h.0; texts = one name.0 }
-facts_of (call.GetPropertyNames h) = record no_facts { guarded = true; grows = true; handles = one h.0 }
-facts_of (call.SetElement h _ v) = record no_facts { guarded = true; grows = true; handles = h.0 ∷ one v.0 }
-facts_of (call.GetElement h _) = record no_facts { guarded = true; grows = true; handles = one h.0 }
-facts_of (call.HasElement h _) = record no_facts { guarded = true; handles = one h.0 }
-facts_of call.OpenHandleScope = record no_facts { grows = true }
-facts_of call.OpenEscapableHandleScope = record no_facts { grows = true }
-facts_of (call.CloseHandleScope _) = no_facts
-facts_of (call.CloseEscapableHandleScope _) = no_facts
-facts_of (call.EscapeHandle _ h) = record no_facts { handles = one h.0 }
-facts_of (call.CreateReference h _) = record no_facts { grows = true; handles = one h.0 }
-facts_of (call.DeleteReference r) = record no_facts { references = one r.0 }
-facts_of (call.ReferenceRef r) = record no_facts { references = one r.0 }
-facts_of (call.ReferenceUnref r) = record no_facts { references = one r.0 }
-facts_of (call.GetReferenceValue r) = record no_facts { grows = true; references = one r.0 }
-facts_of (call.Wrap h _ finalizer _ _) = record no_facts { guarded = true; registers = is_some finalizer; grows = true; need = 1 + finalizer_places finalizer; handles = one h.0 }
-facts_of (call.Unwrap h) = record no_facts { guarded = true; handles = one h.0 }
-facts_of (call.RemoveWrap h) = record no_facts { guarded = true; handles = one h.0 }
-facts_of (call.TypeTagObject h _ _) = record no_facts { guarded = true; grows = true; handles = one h.0 }
-facts_of (call.CheckObjectTypeTag h _ _) = record no_facts { guarded = true; handles = one h.0 }
-facts_of (call.AddFinalizer h _ _ _ _) = record no_facts { registers = true; grows = true; need = 1 + duty_places; handles = one h.0 }
-facts_of (call.CallFunction receiver f args) = record no_facts { guarded = true; grows = true; need = 2; handles = handle_if receiver ++ f.0 ∷ argument_handles args }
-facts_of (call.Throw h) = record no_facts { guarded = true; handles = one h.0 }
-facts_of (call.ThrowError code message) = record no_facts { guarded = true; grows = true; texts = text_if code ++ one message.0 }
-facts_of call.IsExceptionPending = no_facts
-facts_of call.GetAndClearLastException = record no_facts { grows = true }
-facts_of call.GetLastErrorInfo = no_facts
-facts_of (call.SetInstanceData _ finalizer _) = record no_facts { registers = is_some finalizer; grows = is_some finalizer; need = 1 + finalizer_places finalizer }
-facts_of call.GetInstanceData = no_facts
-facts_of (call.AddEnvCleanupHook _ _) = record no_facts { registers = true; grows = true; need = 1 + duty_places }
-facts_of (call.RemoveEnvCleanupHook _ _) = no_facts
-facts_of (call.CreateAsyncWork _ _ _) = record shared_facts { registers = true; grows = true }
-facts_of (call.DeleteAsyncWork _) = shared_facts
-facts_of (call.CancelAsyncWork _) = shared_facts
-facts_of (call.QueueAsyncWork _) = record shared_facts { registers = true; need = 3 + duty_places }
-facts_of (call.CreateThreadsafeFunction f _ _ _ finalizer _) = record shared_facts { registers = true; grows = true; need = 3 + finalizer_places finalizer; handles = handle_if f }
-facts_of (call.CallThreadsafeFunction _ _ _) = record shared_facts { registers = true; grows = true; need = 1 + duty_places }
-facts_of (call.AcquireThreadsafeFunction _) = shared_facts
-facts_of (call.ReleaseThreadsafeFunction _ _) = shared_facts
-facts_of (call.RefThreadsafeFunction _) = shared_facts
-facts_of (call.UnrefThreadsafeFunction _) = shared_facts
-facts_of (call.GetThreadsafeFunctionContext _) = shared_facts
-facts_of call.GetVersion = no_facts
-facts_of call.Collect = record no_facts { grows = true }
-facts_of call.Exit = no_facts
+facts_of call.GetUndefined = record (in_group OnValues) { grows = true }
+facts_of call.GetNull = record (in_group OnValues) { grows = true }
+facts_of call.GetGlobal = record (in_group OnValues) { grows = true }
+facts_of (call.GetBoolean _) = record (in_group OnValues) { grows = true }
+facts_of (call.CreateInt64 _) = record (in_group OnValues) { grows = true }
+facts_of (call.CreateBigintInt64 _) = record (in_group OnValues) { grows = true }
+facts_of (call.CreateStringUtf8 t) = record (in_group OnValues) { grows = true; texts = one t.0 }
+facts_of (call.CreateSymbol h) = record (in_group OnValues) { grows = true; handles = handle_if h }
+facts_of call.CreateObject = record (in_group OnValues) { grows = true }
+facts_of call.CreateArray = record (in_group OnValues) { grows = true }
+facts_of (call.CreateFunction _ _) = record (in_group OnFunctions) { guarded = true; grows = true }
+facts_of (call.CreateExternal _ finalizer _) =
+    record (in_group OnExternals) { registers = is_some finalizer; grows = true; need = 1 + finalizer_places finalizer }
+facts_of (call.CreateError code message) = record (in_group OnValues) { grows = true; handles = handle_if code ++ one message.0 }
+facts_of (call.Typeof h) = record (in_group OnValues) { handles = one h.0 }
+facts_of (call.IsArray h) = record (in_group OnValues) { handles = one h.0 }
+facts_of (call.IsError h) = record (in_group OnValues) { handles = one h.0 }
+facts_of (call.GetValueInt64 h) = record (in_group OnValues) { handles = one h.0 }
+facts_of (call.GetValueBigintInt64 h) = record (in_group OnValues) { handles = one h.0 }
+facts_of (call.GetValueBool h) = record (in_group OnValues) { handles = one h.0 }
+facts_of (call.GetValueStringUtf8 h) = record (in_group OnValues) { handles = one h.0 }
+facts_of (call.GetValueExternal h) = record (in_group OnValues) { handles = one h.0 }
+facts_of (call.GetArrayLength h) = record (in_group OnValues) { handles = one h.0 }
+facts_of (call.StrictEquals g h) = record (in_group OnValues) { guarded = true; handles = g.0 ∷ one h.0 }
+facts_of (call.SetNamedProperty h name v) = record (in_group OnProperties) { guarded = true; grows = true; handles = h.0 ∷ one v.0; texts = one name.0 }
+facts_of (call.GetNamedProperty h name) = record (in_group OnProperties) { guarded = true; grows = true; handles = one h.0; texts = one name.0 }
+facts_of (call.HasNamedProperty h name) = record (in_group OnProperties) { guarded = true; handles = one h.0; texts = one name.0 }
+facts_of (call.DeleteProperty h name) = record (in_group OnProperties) { guarded = true; handles = one h.0; texts = one name.0 }
+facts_of (call.GetPropertyNames h) = record (in_group OnProperties) { guarded = true; grows = true; handles = one h.0 }
+facts_of (call.SetElement h _ v) = record (in_group OnProperties) { guarded = true; grows = true; handles = h.0 ∷ one v.0 }
+facts_of (call.GetElement h _) = record (in_group OnProperties) { guarded = true; grows = true; handles = one h.0 }
+facts_of (call.HasElement h _) = record (in_group OnProperties) { guarded = true; handles = one h.0 }
+facts_of call.OpenHandleScope = record (in_group OnScopes) { grows = true }
+facts_of call.OpenEscapableHandleScope = record (in_group OnScopes) { grows = true }
+facts_of (call.CloseHandleScope _) = in_group OnScopes
+facts_of (call.CloseEscapableHandleScope _) = in_group OnScopes
+facts_of (call.EscapeHandle _ h) = record (in_group OnScopes) { handles = one h.0 }
+facts_of (call.CreateReference h _) = record (in_group OnReferences) { grows = true; handles = one h.0 }
+facts_of (call.DeleteReference r) = record (in_group OnReferences) { references = one r.0 }
+facts_of (call.ReferenceRef r) = record (in_group OnReferences) { references = one r.0 }
+facts_of (call.ReferenceUnref r) = record (in_group OnReferences) { references = one r.0 }
+facts_of (call.GetReferenceValue r) = record (in_group OnReferences) { grows = true; references = one r.0 }
+facts_of (call.Wrap h _ finalizer _ _) =
+    record (in_group OnWraps) { guarded = true; registers = is_some finalizer; grows = true; need = 1 + finalizer_places finalizer; handles = one h.0 }
+facts_of (call.Unwrap h) = record (in_group OnWraps) { guarded = true; handles = one h.0 }
+facts_of (call.RemoveWrap h) = record (in_group OnWraps) { guarded = true; handles = one h.0 }
+facts_of (call.TypeTagObject h _ _) = record (in_group OnWraps) { guarded = true; grows = true; handles = one h.0 }
+facts_of (call.CheckObjectTypeTag h _ _) = record (in_group OnWraps) { guarded = true; handles = one h.0 }
+facts_of (call.AddFinalizer h _ _ _ _) = record (in_group OnWraps) { registers = true; grows = true; need = 1 + duty_places; handles = one h.0 }
+facts_of (call.CallFunction receiver f args) =
+    record (in_group OnEntering) { guarded = true; grows = true; need = 2; handles = handle_if receiver ++ f.0 ∷ argument_handles args }
+facts_of (call.Throw h) = record (in_group OnExceptions) { guarded = true; handles = one h.0 }
+facts_of (call.ThrowError code message) = record (in_group OnExceptions) { guarded = true; grows = true; texts = text_if code ++ one message.0 }
+facts_of call.IsExceptionPending = in_group OnExceptions
+facts_of call.GetAndClearLastException = record (in_group OnExceptions) { grows = true }
+facts_of call.GetLastErrorInfo = in_group OnExceptions
+facts_of (call.SetInstanceData _ finalizer _) =
+    record (in_group OnInstances) { registers = is_some finalizer; grows = is_some finalizer; need = 1 + finalizer_places finalizer }
+facts_of call.GetInstanceData = in_group OnInstances
+facts_of (call.AddEnvCleanupHook _ _) = record (in_group OnHooks) { registers = true; grows = true; need = 1 + duty_places }
+facts_of (call.RemoveEnvCleanupHook _ _) = in_group OnHooks
+facts_of (call.CreateAsyncWork _ _ _) = record (shared_in OnWorks) { registers = true; grows = true }
+facts_of (call.DeleteAsyncWork _) = shared_in OnWorks
+facts_of (call.CancelAsyncWork _) = shared_in OnWorks
+facts_of (call.QueueAsyncWork _) = record (shared_in OnWorks) { registers = true; need = 3 + duty_places }
+facts_of (call.CreateThreadsafeFunction f _ _ _ finalizer _) =
+    record (shared_in OnThreads) { registers = true; grows = true; need = 3 + finalizer_places finalizer; handles = handle_if f }
+facts_of (call.CallThreadsafeFunction _ _ _) = record (shared_in OnThreads) { registers = true; grows = true; need = 1 + duty_places }
+facts_of (call.AcquireThreadsafeFunction _) = shared_in OnThreads
+facts_of (call.ReleaseThreadsafeFunction _ _) = shared_in OnThreads
+facts_of (call.RefThreadsafeFunction _) = shared_in OnThreads
+facts_of (call.UnrefThreadsafeFunction _) = shared_in OnThreads
+facts_of (call.GetThreadsafeFunctionContext _) = shared_in OnThreads
+facts_of call.GetVersion = in_group OnVersion
+facts_of call.Collect = record (in_group OnCollection) { grows = true }
+facts_of call.Exit = in_group OnExit
+
+-- the call's group
+abbrev pub group_of : Call → CallGroup
+group_of c = (facts_of c).group

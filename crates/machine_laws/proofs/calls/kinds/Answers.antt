@@ -6,7 +6,7 @@ use Rattle.napi_types.specs.declared.status.Status.TheVariants as status
 use Rattle.napi_types.specs.plain.Lists.{when, unless}
 use Rattle.napi_types.specs.parts.Bodies.{is_function}
 use Rattle.napi_types.specs.parts.Heap.{Heap, handle_body}
-use Rattle.napi_types.specs.parts.OwnRefusals.{row_refusal}
+use Rattle.napi_types.specs.parts.HeapRefusals.{row_refusal}
 use Rattle.machine_laws.specs.CallLaws.{ExternalsAreTaggedOnly, OnlyExternalsAreRead, OnlyFunctionsAreServed}
 use Rattle.machine_laws.proofs.calls.kinds.Goals as goal
 

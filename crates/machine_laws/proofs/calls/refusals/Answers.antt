@@ -8,21 +8,15 @@ use Rattle.napi_types.specs.declared.status.Status.{Status}
 use Rattle.napi_types.specs.declared.status.Status.TheVariants as status
 use Rattle.napi_types.specs.plain.Lists.{has_number, one, unless}
 use Rattle.napi_types.specs.plain.Replies.{plain}
-use Rattle.napi_types.specs.parts.AttachmentRefusals.{attachment_refusal}
-use Rattle.napi_types.specs.parts.ExpectedKinds.{kind_refusal}
-use Rattle.napi_types.specs.parts.Frames.{caller_of}
-use Rattle.napi_types.specs.parts.HeapRefusals.{refusal_in}
-use Rattle.napi_types.specs.parts.HookRefusals.{hook_refusal}
+use Rattle.napi_types.specs.parts.HeapRefusals.{kind_refusal, row_refusal}
 use Rattle.napi_types.specs.parts.NamedNumbers.{handles_of, texts_of, unknown_refusal}
-use Rattle.napi_types.specs.parts.OwnRefusals.{row_refusal}
-use Rattle.napi_types.specs.parts.ReferenceRefusals.{reference_refusal}
 use Rattle.napi_types.specs.parts.Scopes.{gives}
 use Rattle.napi_types.specs.environment.Calls.{answer_unless_deep}
 use Rattle.napi_types.specs.environment.Environment.{Environment}
 use Rattle.napi_types.specs.environment.Moments.{moment_refusal}
-use Rattle.napi_types.specs.environment.Refusals.{early_refusal, depth_refusal, attached_refusal, timely_refusal}
+use Rattle.napi_types.specs.environment.Refusals.{early_refusal, depth_refusal, group_refusal, timely_refusal}
 use Rattle.machine_laws.specs.CallLaws.{RefusedCallsChangeNothing, RefusesUnknownHandles, RefusesUnknownInEachRow, TakesKnownHandles}
-use Rattle.machine_laws.proofs.Naming.{named-alone, hooks-alone, fails-all, passes-all}
+use Rattle.machine_laws.proofs.Naming.{fails-all, passes-all}
 use Rattle.machine_laws.proofs.calls.refusals.Goals as goal
 
 reply-of : (e : Environment) (c : Call) (n : ℕ) (early deep : Option Status) (s : Status) → option_or early deep ≡ Some s → (answer_unless_deep e c n early deep).reply ≡ plain s out.Nothing
@@ -63,12 +57,6 @@ after-of e c n None (Some d) s = refl
 after-of e c n (Some m) None s = refl
 after-of e c n (Some m) (Some d) s = refl
 
--- the first of the tables of references and of the heap that refuses does so whatever is attached
-before-attached : (a b c : Option Status) (s : Status) → option_or a b ≡ Some s → option_or a (option_or b c) ≡ Some s
-before-attached (Some r) b c s h = h
-before-attached None (Some r) c s h = h
-before-attached None None c s h = cc
-
 -- a handle is unknown, so the first refusal of one that comes at a right moment is that of its arguments
 unknown-first : (e : Environment) (c : Call) (h : ℕ) → has_number h (handles_of c) ≡ true → gives e.heap.scopes h ≡ None
     → timely_refusal e c ≡ Some status.InvalidArg
@@ -77,12 +65,7 @@ unknown-first e c h here none =
     fails-all (λ n. is_some (gives e.heap.scopes n)) (handles_of c) h here (ap is_some none) in
     let unknown : unknown_refusal e.texts e.heap c ≡ Some status.InvalidArg =
     ap (λ b. unless (b && list_all (λ t. nat_lt t e.texts) (texts_of c)) status.InvalidArg) all in
-    let first : option_or (reference_refusal e.references c) (refusal_in e.texts e.heap c) ≡ Some status.InvalidArg =
-    (named-alone e c).order
-    ∙ ap (λ s. option_or (option_or s (option_or (kind_refusal e.heap c) (row_refusal e.heap c))) (reference_refusal e.references c)) unknown in
-    let named : option_or (reference_refusal e.references c) (attached_refusal e c) ≡ Some status.InvalidArg =
-    before-attached (reference_refusal e.references c) (refusal_in e.texts e.heap c) (attachment_refusal e.attachments e.heap c) status.InvalidArg first in
-    (hooks-alone e c).order ∙ ap (λ s. option_or s (hook_refusal (caller_of e.frames) e.hooks c)) named
+    ap (λ s. option_or (option_or s (option_or (kind_refusal e.heap c) (row_refusal e.heap c))) (group_refusal e c)) unknown
 
 unknown : RefusesUnknownHandles
 unknown e c h here none =

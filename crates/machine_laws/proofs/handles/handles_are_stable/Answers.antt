@@ -5,17 +5,11 @@ use Rattle.std.proofs.lemmas.Bool.{eqb-true, and_parts}
 use Rattle.napi_types.specs.declared.status.Status.{Status}
 use Rattle.napi_types.specs.declared.status.Status.TheVariants as status
 use Rattle.napi_types.specs.plain.Lists.{has_number}
-use Rattle.napi_types.specs.parts.AttachmentRefusals.{attachment_refusal}
-use Rattle.napi_types.specs.parts.ExpectedKinds.{kind_refusal}
-use Rattle.napi_types.specs.parts.Frames.{caller_of}
-use Rattle.napi_types.specs.parts.HeapRefusals.{refusal_in}
-use Rattle.napi_types.specs.parts.HookRefusals.{hook_refusal}
+use Rattle.napi_types.specs.parts.HeapRefusals.{kind_refusal, row_refusal, refusal_in}
 use Rattle.napi_types.specs.parts.NamedNumbers.{handles_of, is_known, unknown_refusal}
-use Rattle.napi_types.specs.parts.OwnRefusals.{row_refusal}
-use Rattle.napi_types.specs.parts.ReferenceRefusals.{reference_refusal}
 use Rattle.napi_types.specs.parts.Scopes.{gives}
 use Rattle.napi_types.specs.environment.Moments.{moment_refusal}
-use Rattle.napi_types.specs.environment.Refusals.{attached_refusal, timely_refusal, early_refusal, depth_refusal}
+use Rattle.napi_types.specs.environment.Refusals.{group_refusal, timely_refusal, early_refusal, depth_refusal}
 use Rattle.napi_types.proofs.plain.Lists.{none-first, none-last, not-unless}
 use Rattle.machine_laws.specs.HandleLaws.{AcceptedHandlesAreOpen}
 use Rattle.machine_laws.proofs.StableHandles.{handles-are-stable}
@@ -34,9 +28,7 @@ law : AcceptedHandlesAreOpen
 law e c h accepted there =
     let early : early_refusal e c ≡ None = none-first (early_refusal e c) (depth_refusal e.frames c) accepted in
     let timely : timely_refusal e c ≡ None = none-last (moment_refusal e c) (timely_refusal e c) early in
-    let named : option_or (reference_refusal e.references c) (attached_refusal e c) ≡ None = none-last (hook_refusal (caller_of e.frames) e.hooks c) _ timely in
-    let beside : attached_refusal e c ≡ None = none-last (reference_refusal e.references c) (attached_refusal e c) named in
-    let within : refusal_in e.texts e.heap c ≡ None = none-first (refusal_in e.texts e.heap c) (attachment_refusal e.attachments e.heap c) beside in
+    let within : refusal_in e.texts e.heap c ≡ None = none-first (refusal_in e.texts e.heap c) (group_refusal e c) timely in
     let own : Option Status = option_or (kind_refusal e.heap c) (row_refusal e.heap c) in
     let unknown : unknown_refusal e.texts e.heap c ≡ None = none-first (unknown_refusal e.texts e.heap c) own within in
     let known : is_known e.texts e.heap c ≡ true = not-unless (is_known e.texts e.heap c) status.InvalidArg unknown in
