@@ -29,10 +29,10 @@ use Rattle.napi_types.specs.runs.Run.{IsNext, IsRunBy}
 use Rattle.napi_types.specs.runs.Setting.{opening_of}
 use Rattle.napi_types.specs.runs.Step.{Step, may_cut, call_step_on, end_step_on, frame_step, step}
 use Rattle.napi_types.proofs.environment.Cases.{asked-by}
+use Rattle.napi_types.proofs.runs.Forms.{shared-what, ended-what, event_what, event-what, frame-next}
 use Rattle.napi_types.proofs.runs.Runs.{along-entries}
 use Rattle.machine_laws.specs.Cuts.{CallsBuilt, UnbuiltCallsAreNeverMade}
 use Rattle.machine_laws.proofs.Choosing.{Happens, happens-alone}
-use Rattle.machine_laws.proofs.Forms.{shared-what, ended-what, event_what, event-what, frame-next}
 
 -- THE CALL OF AN ENTRY
 -- an entry with a call is that of the call that the frame asks

@@ -17,9 +17,9 @@ use Rattle.napi_types.specs.runs.Plan.{frame_ask, frames_ask, asked, asked_along
 use Rattle.napi_types.specs.runs.Run.{after, IsRunBy}
 use Rattle.napi_types.specs.runs.Setting.{Setting, opening_of}
 use Rattle.napi_types.proofs.plain.Conditions.{and-left, and-right}
+use Rattle.napi_types.proofs.runs.Runs.{along-entries}
 use Rattle.machine_laws.specs.Computing.{steps, entries_of}
-use Rattle.machine_laws.specs.Told.{told_asks_along}
-use Rattle.machine_laws.specs.Told.{IsRun, all_told, told_asks}
+use Rattle.machine_laws.specs.Told.{told_asks_along, IsRun, all_told, told_asks}
 use Rattle.machine_laws.proofs.Computing.{entries-of}
 
 all-of-at : (ps : List Plan) (a : ℕ) → IsTrue (list_all is_some ps) → is_some (plan_of ps a) ≡ true
@@ -44,15 +44,12 @@ told-actor built ps rss m _ a b h = refl
 -- the asks of a run by told plans are those that the entries give
 pub asks-unique : (built : Call → Bool) (ps : List Plan) (rss : Registers) (m : Machine) (bs : List Ask) (xs : List Entry) → IsTrue (list_all is_some ps)
     → IsRunBy m bs xs → bs ≡ asked_along built ps rss m bs xs → bs ≡ told_asks_along built ps rss m xs
-asks-unique built ps rss m [] [] h r e = refl
-asks-unique built ps rss m (b ∷ bs) (x ∷ xs) h r e =
+asks-unique built ps rss m bs xs h r =
+    along-entries (λ m bs xs. (rss : Registers) → bs ≡ asked_along built ps rss m bs xs → bs ≡ told_asks_along built ps rss m xs) (λ m rss e. refl)
+    (λ m b bs x xs next rest rss e.
     let here : b ≡ asked built ps rss m (ask.Leave None) x.actor = ap (λ l. unwrap_or (head l) b) e ∙ told-actor built ps rss m x.actor b (ask.Leave None) h in
-    let later : bs ≡ told_asks_along built ps (registers_after ps rss m b x) (after m b x) xs =
-    asks-unique built ps (registers_after ps rss m b x) (after m b x) bs xs h r.1 (ap tail e) in
     let P : Ask → Type 0 = λ a. b ∷ bs ≡ a ∷ told_asks_along built ps (registers_after ps rss m a x) (after m a x) xs in
-    subst P here (ap (λ l. b ∷ l) later)
-asks-unique built ps rss m [] (x ∷ xs) h r e = absurd r
-asks-unique built ps rss m (b ∷ bs) [] h r e = absurd r
+    subst P here (ap (λ l. b ∷ l) (rest (registers_after ps rss m b x) (ap tail e)))) m bs xs r rss
 
 -- a run of a script whose plans are all told has the entries that its told asks compute
 pub told-run : (s : Setting) (xs : List Entry) → IsTrue (all_told s) → IsRun s xs → xs ≡ entries_of (steps (opening_of s) (told_asks s xs) xs)

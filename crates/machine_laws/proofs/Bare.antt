@@ -35,11 +35,11 @@ use Rattle.napi_types.specs.runs.Step.{Step, has_room, step}
 use Rattle.napi_types.proofs.plain.Conditions.{and-right}
 use Rattle.napi_types.proofs.environment.FrameEnds.{ended-ends}
 use Rattle.napi_types.proofs.hub.HubKeeps.{hub_step-what, other-calls, thread-shared}
+use Rattle.napi_types.proofs.runs.Forms.{shared-what}
 use Rattle.napi_types.proofs.runs.SharedSteps.{hub_step-end}
 use Rattle.napi_types.proofs.runs.StepCases.{StepCase, shares, leaves, passes, moves, others, event_before}
 use Rattle.napi_types.proofs.all_runs.Orderly.{Orderly, orderly-opens, along-orderly}
 use Rattle.machine_laws.specs.ExitLaws.{is_shared_call, has_shared}
-use Rattle.machine_laws.proofs.Forms.{shared-what}
 
 -- no work was created, and no function; the pool may be closing
 pub record IsBare (h : Hub) : Type 0 where
@@ -108,7 +108,7 @@ others-bare h x other may none bare = by x.actor other
 
 -- EVERY STEP
 step-bare : (m : Machine) (t : Step) → StepCase m t → IsTrue t.may → is_shared_call t.entry.what ≡ false → IsBare m.hub → IsBare t.after.hub
-step-bare m _ (shares c o shared) comes none bare =
+step-bare m _ (shares c o shared answers) comes none bare =
     let no : false ≡ true = sym none ∙ ap is_shared_call (shared-what m c o) ∙ shared in cc
 step-bare m _ (leaves v cut may ours) comes none bare =
     let x : Entry = (end_change v cut m.env).entry in

@@ -31,12 +31,12 @@ use Rattle.napi_types.proofs.parts.Books.{lowest-due, lowest-below}
 use Rattle.napi_types.proofs.parts.Moved.{IsUnder, PassesTest}
 use Rattle.napi_types.proofs.environment.Cases.{asked-by}
 use Rattle.napi_types.proofs.hub.HubDuties.{delivery-of_hub}
+use Rattle.napi_types.proofs.runs.Forms as form
+use Rattle.napi_types.proofs.runs.Forms.{Form, form-of, shared-what, ended-what, event-what, other-what, chosen-next}
 use Rattle.napi_types.proofs.runs.SharedSteps.{others-none}
 use Rattle.napi_types.proofs.runs.Chosen.{OwnChoice, opens, inits, exits, due_in_loop, hooks, due_at_end, ends, own-choice, HubChoice, goes, idles, quiets, drains, finals, moves_in_loop, moves_at_end, hub-choice, chosen-by}
 use Rattle.machine_laws.specs.Choices.{begins_due_tickets_in, LowestDueTicketComesFirst, IsOfHook, LastHookComesFirst, BeginsLowest, BeginsLastHook, BeginsOfHub, TicketsBeginAtTheirMoments, LowestDueIsLowest}
 use Rattle.machine_laws.proofs.Choosing.{Happens}
-use Rattle.machine_laws.proofs.Forms as form
-use Rattle.machine_laws.proofs.Forms.{Form, form-of, shared-what, ended-what, event-what, other-what, chosen-next}
 
 -- WHAT COMES FIRST
 -- where due tickets begin the lowest is chosen, ..
@@ -175,13 +175,13 @@ event-begins m d x h begins = by (chosen-by m h.event h.next)
 
 form-begins : (m : Machine) (t : Step) (d : Duty) (x : Entry) → Form m t → x ≡ t.entry → IsTrue t.may → Begins x d → BeginsSo m d x
 form-begins m t d x (form.calls f fs stands c o alone) is may begins = absurd (asked-begins m.env c (number_of o) d (subst (λ y. Begins y d) is begins))
-form-begins m t d x (form.shares f fs stands c o shared) is may begins =
+form-begins m t d x (form.shares f fs stands c o shared answers) is may begins =
     absurd (none-begins x (what.Call c) d (ap (λ (y : Entry). y.what) is ∙ shared-what m c o) refl begins)
 form-begins m t d x (form.ends f fs stands v cut b ours is_ours) is may begins =
     absurd (none-begins x (what.Host host.End) d (ap (λ (y : Entry). y.what) is ∙ ended-what m v cut b ours) refl begins)
 form-begins m t d x (form.happens alone event next) is may begins =
     event-begins m d x (record { alone = alone; event = event; next = next; entry = is; may = may }) begins
-form-begins m t d x (form.others y other) is may begins =
+form-begins m t d x (form.others y other told) is may begins =
     absurd (none-begins x t.entry.what d (ap (λ (y : Entry). y.what) is) (others-none t.entry.what (other-what m y other may)).begins begins)
 
 pub tickets-begin : TicketsBeginAtTheirMoments

@@ -26,13 +26,13 @@ use Rattle.napi_types.proofs.parts.Moved.{at-cause}
 use Rattle.napi_types.proofs.environment.HookedSteps.{last-holds}
 use Rattle.napi_types.proofs.environment.Registrations.{registered-holds}
 use Rattle.napi_types.proofs.hub.HubDuties.{delivery-of_hub}
+use Rattle.napi_types.proofs.runs.Forms.{by-env}
 use Rattle.napi_types.proofs.runs.SharedSteps.{is_of_others}
 use Rattle.napi_types.proofs.all_runs.Orderly.{is_drained, IsSpent, Orderly, orderly-run}
 use Rattle.napi_types.proofs.all_runs.Orders.{none-due}
 use Rattle.machine_laws.specs.Choices.{begins_due_tickets_in, IsOfTicket, IsOfHook, BeginsLowest, BeginsLastHook, BeginsOfHub}
 use Rattle.machine_laws.specs.FinalizerLaws.{FinalizersBeginInTheLoopOrAtTheEnd, HooksBeginAfterTheLoop}
 use Rattle.machine_laws.proofs.Beginning.{lowest-first, hook-first, tickets-begin}
-use Rattle.machine_laws.proofs.Forms.{by-env}
 
 -- the cause that a begin tells
 abbrev told_cause : Cause → Out → Cause

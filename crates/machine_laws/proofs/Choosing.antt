@@ -34,12 +34,12 @@ use Rattle.napi_types.specs.runs.Run.{IsNext, after}
 use Rattle.napi_types.specs.runs.Setting.{final_of}
 use Rattle.napi_types.specs.runs.Step.{Step, locally, ticket_step, event_step, chosen, may_cut, call_step_on, end_step_on, frame_step, step}
 use Rattle.napi_types.proofs.environment.Cases.{asked-by}
+use Rattle.napi_types.proofs.runs.Forms.{Form, form-of, shared-what, ended-what, event_what, event-what, other-what, by-env, frame-next, chosen-next}
+use Rattle.napi_types.proofs.runs.Forms as form
 use Rattle.napi_types.proofs.runs.SharedSteps.{is_of_others, others-none}
 use Rattle.napi_types.proofs.runs.Chosen.{chosen-move, OwnChoice, exits, due_in_loop, hooks, due_at_end, ends, own-choice, NoChoice, begun, unhooked, no-choice, HubChoice, goes, drains, finals, hub-choice, chosen-by}
 use Rattle.napi_types.proofs.all_runs.Orderly.{orderly-run}
 use Rattle.machine_laws.specs.Choices.{is_of_frames, NoneIsChosenInFrames, TellsFrame, BeginsTellTheirFrames, may_come_to, OwnEventsComeFirst, HubEventsComeLast, MayGo, GoComesAfterInitFrames, GoneComesAfterFinals, HubIsInPhase, GoComesOnlyAfterInitFrames, DrainComesOnlyAfterHooks, FinalsComeOnlyOnceAllEnded}
-use Rattle.machine_laws.proofs.Forms.{Form, form-of, shared-what, ended-what, event_what, event-what, other-what, by-env, frame-next, chosen-next}
-use Rattle.machine_laws.proofs.Forms as form
 
 -- IN A FRAME
 -- an entry of a frame
@@ -101,10 +101,10 @@ event-tells m IsGone next may is = cc
 
 form-tells : (m : Machine) (t : Step) → Form m t → IsTrue t.may → Tells t
 form-tells m _ (form.calls f fs stands c o alone) may is = asked-tells m c (number_of o) is
-form-tells m t (form.shares f fs stands c o shared) may is = other-tells t (what.Call c) (shared-what m c o) refl is
+form-tells m t (form.shares f fs stands c o shared answers) may is = other-tells t (what.Call c) (shared-what m c o) refl is
 form-tells m t (form.ends f fs stands v cut b ours is_ours) may is = other-tells t (what.Host host.End) (ended-what m v cut b ours) refl is
 form-tells m _ (form.happens alone event next) may is = event-tells m event next may is
-form-tells m t (form.others x other) may is = other-tells t t.entry.what refl (others-none t.entry.what (other-what m x other may)).begins is
+form-tells m t (form.others x other same) may is = other-tells t t.entry.what refl (others-none t.entry.what (other-what m x other may)).begins is
 
 pub begins-tell : BeginsTellTheirFrames
 begins-tell m a x next is =

@@ -1,33 +1,36 @@
 -- Every call keeps environments good.
-use Rattle.std.proofs.Common.{◌≡◌, ◌≤◌, arith, ℕ, ◌==◌, Bool, true, false, cond, not, List, [], ◌∷◌, length, refl, sym, ◌∙◌, Option, Some, None, option_map, slice_index_or}
+use Rattle.std.proofs.Common.{◌≡◌, ◌≤◌, arith, ℕ, ◌==◌, Bool, true, false, cond, not, List, [], ◌∷◌, length, refl, sym, ◌∙◌, Option, Some, None, option_map, slice_index_or, subst}
 use Rattle.std.specs.List.{All}
 use Rattle.std.specs.Option.{IfSome, unwrap_or}
 use Rattle.std.proofs.lemmas.List.Elements.{All-append, All-cons, All-nil, All-head, All-tail, All-filter, All-map, All-weaker}
 use Rattle.std.proofs.lemmas.Option.{IfSome_then}
 use Rattle.napi_types.specs.declared.body.Body.TheVariants as body
 use Rattle.napi_types.specs.declared.call.Call.{Call}
-use Rattle.napi_types.specs.declared.call.Call.TheVariants as call
+use Rattle.napi_types.specs.declared.entry.Duty.{Duty}
+use Rattle.napi_types.specs.declared.entry.Out.TheVariants as out
 use Rattle.napi_types.specs.declared.ids.TextNo.{TextNo}
 use Rattle.napi_types.specs.plain.Lists.{found}
-use Rattle.napi_types.specs.plain.Replies.{Answer}
-use Rattle.napi_types.specs.parts.Attachments.{Attachments, wrap_ticket, with_attached}
-use Rattle.napi_types.specs.parts.Book.{Book, Registration, made_withdrawn, moved_at, new_ticket, with_registration}
+use Rattle.napi_types.specs.plain.Replies.{accepts}
+use Rattle.napi_types.specs.parts.Attachments.{Attachments}
+use Rattle.napi_types.specs.parts.Book.{Book}
 use Rattle.napi_types.specs.parts.Frames.{caller_of, most_frames}
 use Rattle.napi_types.specs.parts.Heap.{Heap, handle_value}
 use Rattle.napi_types.specs.parts.HeapChanges.{with_handle, with_thrown, thrown_number}
 use Rattle.napi_types.specs.parts.Hooks.{Hook, hook_ticket}
-use Rattle.napi_types.specs.parts.InstanceData.{Instances, instance_ticket}
-use Rattle.napi_types.specs.parts.References.{Reference, ReferenceMap, referred_value, with_reference, without_reference, with_count}
+use Rattle.napi_types.specs.parts.InstanceData.{Instances}
+use Rattle.napi_types.specs.parts.References.{Reference, ReferenceMap, with_reference, without_reference, with_count}
 use Rattle.napi_types.specs.parts.Values.{undefined_value}
 use Rattle.napi_types.specs.environment.Calls.{effect, answer}
 use Rattle.napi_types.specs.environment.Changes.{call_change}
 use Rattle.napi_types.specs.environment.Environment.{FunctionRoot, Environment, with_heap}
 use Rattle.napi_types.specs.environment.ExceptionCalls.{with_pending, with_thrown_error}
-use Rattle.napi_types.specs.environment.ReferenceCalls.{with_references, counted_up, value_told}
-use Rattle.napi_types.specs.environment.Registering.{finalizer_if, registering_if, registered_only, withdrawing}
-use Rattle.napi_types.specs.environment.WrapCalls.{with_attachments, referring_if}
+use Rattle.napi_types.specs.environment.HookCalls.{unhooked}
+use Rattle.napi_types.specs.environment.ReferenceCalls.{with_references}
+use Rattle.napi_types.specs.environment.Registering.{withdrawing}
 use Rattle.napi_types.proofs.environment.Answers.{KeepsButAsk, call_change-keeps}
 use Rattle.napi_types.proofs.environment.Cases.{answer-by}
+use Rattle.napi_types.proofs.environment.Effects as does
+use Rattle.napi_types.proofs.environment.Effects.{Effect, registered-by, effect-of}
 use Rattle.machine_laws.specs.Consistency.{IsConsistent, IsLiveAmong, IsMap}
 use Rattle.machine_laws.proofs.Collected.{heap-kept, referred-kept, pending-kept, rooted-kept}
 use Rattle.machine_laws.proofs.ConsistentCalls.{heap-call, handle-live, or-undefined}
@@ -145,94 +148,36 @@ counted-good e r count g =
     referring e (with_count r count e.references) g (rows-counted (λ o. IfSome o (IsLiveAmong e.heap.values)) r count e.references g.referred)
     (counted-map r count e.references g.references)
 
-counted-up-good : (e : Environment) (r : ℕ) (o : Option ℕ) → IsConsistentButFrames e → LeadsTo e (counted_up r e o).after
-counted-up-good e r None g = unmoved e g
-counted-up-good e r (Some v) g = counted-good e r _ g
-
-told-good : (e : Environment) (o : Option ℕ) → IfSome o (IsLiveAmong e.heap.values) → IsConsistentButFrames e → LeadsTo e (value_told e o).after
-told-good e None live g = unmoved e g
-told-good e (Some v) live g = in-heap e (with_handle v e.heap) g (with-handle e.heap v g.heap live)
-
 -- ATTACHMENTS, HOOKS, INSTANCE DATA AND TICKETS
-attaching : (e : Environment) (a : Attachments) → IsConsistentButFrames e → LeadsTo e (with_attachments a e)
-attaching e a g = record { good = record { heap = g.heap; referred = g.referred; references = g.references; pending = g.pending; rooted = g.rooted }; stay = stays e.heap }
-
--- other hooks, and other instance data
-hooked : (e : Environment) (hooks : List Hook) → IsConsistentButFrames e → LeadsTo e (record e { hooks = hooks })
-hooked e hooks g = record { good = record { heap = g.heap; referred = g.referred; references = g.references; pending = g.pending; rooted = g.rooted }; stay = stays e.heap }
-
-instanced : (e : Environment) (instances : Instances) → IsConsistentButFrames e → LeadsTo e (record e { instances = instances })
-instanced e instances g = record { good = record { heap = g.heap; referred = g.referred; references = g.references; pending = g.pending; rooted = g.rooted }; stay = stays e.heap }
-
--- the book may change besides
-booked : (e new : Environment) (book : Book) → LeadsTo e new → LeadsTo e (record new { book = book })
-booked e new book led =
+-- what else the environment has may change
+besides : (e d : Environment) (exit : Bool) (a : Attachments) (book : Book) (hooks : List Hook) (i : Instances) → LeadsTo e d
+    → LeadsTo e (record d { exit_asked = exit; attachments = a; book = book; hooks = hooks; instances = i })
+besides e d exit a book hooks i led =
     record { good = record { heap = led.good.heap; referred = led.good.referred; references = led.good.references; pending = led.good.pending; rooted = led.good.rooted }; stay = led.stay }
 
-registered-good : (e : Environment) (r : Option Registration) (a : Answer Environment) → LeadsTo e a.after → LeadsTo e (registering_if r a).after
-registered-good e None a led = led
-registered-good e (Some r) a led = booked e a.after (with_registration r a.after.book) led
-
-withdrawn-good : (e : Environment) (n : Option ℕ) (a : Answer Environment) → LeadsTo e a.after → LeadsTo e (withdrawing n a).after
-withdrawn-good e None a led = led
-withdrawn-good e (Some n) a led = booked e a.after (moved_at made_withdrawn n a.after.book) led
-
--- a weak reference to a live value, where one is wanted
-referring-good : (e : Environment) (wanted : Bool) (n v : ℕ) → IsLiveAmong e.heap.values v → IsConsistentButFrames e → LeadsTo e (referring_if wanted n v e).after
-referring-good e false n v live g = unmoved e g
-referring-good e true n v live g =
-    referring e _ g (rows-more (λ o. IfSome o (IsLiveAmong e.heap.values)) n v 0 e.references live g.referred) (more-map n v 0 e.references g.references)
-
-attached-good : (e : Environment) (a : Attachments) (wanted : Bool) (n v : ℕ) → IsLiveAmong e.heap.values v → IsConsistentButFrames e
-    → LeadsTo e (referring_if wanted n v (with_attachments a e)).after
-attached-good e a wanted n v live g =
-    let new : Environment = with_attachments a e in
-    let led : LeadsTo new (referring_if wanted n v new).after = referring-good new wanted n v live (attaching e a g).good in
-    record { good = led.good; stay = led.stay }
-
--- a new value with what is attached to it
-made-good : (e : Environment) (a : Attachments) (heap : Heap) → IsConsistentButFrames e → ComesTo e.heap heap → LeadsTo e (with_heap (with_attachments a e) heap)
-made-good e a heap g comes =
-    let led : LeadsTo (with_attachments a e) (with_heap (with_attachments a e) heap) = in-heap (with_attachments a e) heap (attaching e a g).good comes in
-    record { good = led.good; stay = led.stay }
-
 -- CALLS
-by-call : (e : Environment) (c : Call) (k : ℕ) → IsConsistentButFrames e → LeadsTo e (effect e c k).after
-by-call e (call.Throw v) k g = record { good = with-pending e (Some (handle_value e.heap v.0)) g (handle-live e.heap v.0 g.heap); stay = stays e.heap }
-by-call e (call.ThrowError code message) k g = thrown-good e code message g
-by-call e call.GetAndClearLastException k g =
-    let none : IsConsistentButFrames (with_pending None e) = with-pending e None g tt in
+does-good : (c : Call) (e : Environment) {made dropped : Option Duty} (d : Environment) → Effect c e made dropped d → IsConsistentButFrames e → LeadsTo e d
+does-good c e _ does.rests g = unmoved e g
+does-good c e _ (does.tells k) g = in-heap e _ g (heap-call (caller_of e.frames) e.heap c k g.heap)
+does-good c e _ (does.makes payload) g = in-heap e _ g (with-new e.heap (body.External payload) g.heap)
+does-good c e _ (does.throws h) g = record { good = with-pending e (Some (handle_value e.heap h)) g (handle-live e.heap h g.heap); stay = stays e.heap }
+does-good c e _ (does.raises code message) g = thrown-good e code message g
+does-good c e _ does.clears g =
     let v : ℕ = unwrap_or e.pending undefined_value in
-    let comes : ComesTo e.heap (with_handle v e.heap) = with-handle e.heap v g.heap (or-undefined e.heap e.pending g.heap g.pending) in
-    let led : LeadsTo (with_pending None e) _ = in-heap (with_pending None e) (with_handle v e.heap) none comes in
-    record { good = led.good; stay = led.stay }
-by-call e (call.CreateReference v count) k g =
-    referring e _ g (rows-more (λ o. IfSome o (IsLiveAmong e.heap.values)) k (handle_value e.heap v.0) count e.references (handle-live e.heap v.0 g.heap) g.referred)
-    (more-map k (handle_value e.heap v.0) count e.references g.references)
-by-call e (call.DeleteReference r) k g =
-    referring e _ g (rows-fewer (λ o. IfSome o (IsLiveAmong e.heap.values)) r.0 e.references g.referred) (fewer-map r.0 e.references g.references)
-by-call e (call.ReferenceRef r) k g = counted-up-good e r.0 (referred_value e.references r.0) g
-by-call e (call.ReferenceUnref r) k g = counted-good e r.0 _ g
-by-call e (call.GetReferenceValue r) k g =
-    told-good e (referred_value e.references r.0) (row-of (λ o. IfSome o (IsLiveAmong e.heap.values)) r.0 e.references.rows tt g.referred) g
-by-call e (call.Wrap v payload entry hint wanted) k g =
-    registered-good e (finalizer_if e payload entry hint) _ (attached-good e _ wanted k (handle_value e.heap v.0) (handle-live e.heap v.0 g.heap) g)
-by-call e (call.RemoveWrap v) k g = withdrawn-good e (registered_only e.book (wrap_ticket e.attachments (handle_value e.heap v.0))) _ (attaching e _ g)
-by-call e (call.AddFinalizer v payload entry hint wanted) k g =
-    let a : Attachments = with_attached (handle_value e.heap v.0) (new_ticket e.book) e.attachments in
-    let led : LeadsTo e (referring_if wanted k (handle_value e.heap v.0) (with_attachments a e)).after =
-    attached-good e a wanted k (handle_value e.heap v.0) (handle-live e.heap v.0 g.heap) g in
-    booked e _ _ led
-by-call e (call.TypeTagObject v lower upper) k g = attaching e _ g
-by-call e (call.CreateExternal payload entry hint) k g =
-    registered-good e (finalizer_if e payload entry hint) _ (made-good e _ _ g (with-new e.heap (body.External payload) g.heap))
-by-call e (call.SetInstanceData payload entry hint) k g =
-    registered-good e (finalizer_if e payload entry hint) _
-    (withdrawn-good e (registered_only e.book (instance_ticket e.instances (caller_of e.frames))) _ (instanced e _ g))
-by-call e (call.AddEnvCleanupHook entry argument) k g = booked e _ _ (hooked e _ g)
-by-call e (call.RemoveEnvCleanupHook entry argument) k g =
-    withdrawn-good e (registered_only e.book (hook_ticket (caller_of e.frames) entry argument e.hooks)) _ (hooked e _ g)
-by-call e call.Collect k g = record {
+    let led : LeadsTo e (with_heap e (with_handle v e.heap)) = in-heap e _ g (with-handle e.heap v g.heap (or-undefined e.heap e.pending g.heap g.pending)) in
+    record { good = with-pending _ None led.good tt; stay = led.stay }
+does-good c e _ (does.recalls r v is) g =
+    let Live : Option ℕ → Type 0 = λ o. IfSome o (IsLiveAmong e.heap.values) in
+    in-heap e _ g (with-handle e.heap v g.heap (subst Live is (row-of Live r e.references.rows tt g.referred)))
+does-good c e _ (does.refers n h count) g =
+    referring e _ g
+    (rows-more (λ o. IfSome o (IsLiveAmong e.heap.values)) n (handle_value e.heap h) count e.references (handle-live e.heap h g.heap) g.referred)
+    (more-map n (handle_value e.heap h) count e.references g.references)
+does-good c e _ (does.deletes r) g =
+    referring e _ g (rows-fewer (λ o. IfSome o (IsLiveAmong e.heap.values)) r e.references g.referred) (fewer-map r e.references g.references)
+does-good c e _ (does.counts r count) g =
+    referring e _ g (rows-counted (λ o. IfSome o (IsLiveAmong e.heap.values)) r count e.references g.referred) (counted-map r count e.references g.references)
+does-good c e _ does.collects g = record {
   good = record {
     heap = heap-kept e g.heap;
     referred = referred-kept e;
@@ -242,12 +187,20 @@ by-call e call.Collect k g = record {
   };
   stay = record { rises = omega arith; held = λ h v below. omega arith };
 }
-by-call e call.Exit k g =
-    record { good = record { heap = g.heap; referred = g.referred; references = g.references; pending = g.pending; rooted = g.rooted }; stay = stays e.heap }
-by-call e c k g = in-heap e _ g (heap-call (caller_of e.frames) e.heap c k g.heap)
+does-good c e _ (does.adds_hook entry argument) g = besides e e _ _ _ _ _ (unmoved e g)
+does-good c e _ (does.removes_hook entry argument) g =
+    let t : Option ℕ = hook_ticket (caller_of e.frames) entry argument e.hooks in
+    registered-by e.book t (λ s. LeadsTo e (withdrawing s (accepts out.Nothing (record e { hooks = unhooked t e.hooks }))).after)
+    (besides e e _ _ _ _ _ (unmoved e g)) (λ n here is. besides e e _ _ _ _ _ (unmoved e g))
+does-good c e _ (does.withdraws t on is) g = besides e e _ _ _ _ _ (unmoved e g)
+does-good c e _ (does.asks_exit is) g = besides e e _ _ _ _ _ (unmoved e g)
+does-good c e _ (does.registers {d} payload entry hint before step) g = besides e d _ _ _ _ _ (does-good c e d before g)
+does-good c e _ (does.attaches {d} {a} before on) g = besides e d _ _ _ _ _ (does-good c e d before g)
+does-good c e _ (does.sets {d} i before on) g = besides e d _ _ _ _ _ (does-good c e d before g)
 
 answer-good : (e : Environment) (c : Call) (k : ℕ) → IsConsistentButFrames e → LeadsTo e (answer e c k).after
-answer-good e c k g = answer-by e c k (λ a. LeadsTo e a.after) (λ s. unmoved e g) (λ s. thrown-good e None _ g) (λ none. by-call e c k g)
+answer-good e c k g =
+    answer-by e c k (λ a. LeadsTo e a.after) (λ s. unmoved e g) (λ s. thrown-good e None _ g) (λ none. does-good c e (effect e c k).after (effect-of e c k) g)
 
 -- one environment leads to another, which is consistent
 pub record Follows (old new : Environment) : Type 0 where

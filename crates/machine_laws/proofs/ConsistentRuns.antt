@@ -15,6 +15,7 @@ use Rattle.machine_laws.proofs.Counting.{count-append, none-issued, issued-next}
 use Rattle.machine_laws.proofs.ConsistentAnswers.{whole-of}
 use Rattle.machine_laws.proofs.ConsistentHeaps.{IsConsistentHeap}
 use Rattle.machine_laws.proofs.ConsistentSteps.{run-follows}
+use Rattle.machine_laws.proofs.Fronts.{steps-front}
 use Rattle.machine_laws.proofs.LiveNumbers.{all-there}
 use Rattle.machine_laws.proofs.Rising.{none-map}
 
@@ -57,4 +58,5 @@ opening-consistent addons texts =
 
 -- RUNS
 pub environments-are-consistent : EnvironmentsAreConsistent
-environments-are-consistent s bs xs n run = (run-follows (opening_of s) (take n bs) (take n xs) (opening-consistent _ s.texts)).good
+environments-are-consistent s bs xs n run =
+    (run-follows (opening_of s) (take n bs) (take n xs) (steps-front (opening_of s) bs xs n run) (opening-consistent _ s.texts)).good

@@ -5,11 +5,8 @@ use Rattle.std.proofs.lemmas.Bool.{leb-false}
 use Rattle.std.proofs.lemmas.List.Elements.{All-push, All-filter}
 use Rattle.napi_types.specs.declared.call.Args.{Args}
 use Rattle.napi_types.specs.declared.call.Ask.{Ask}
-use Rattle.napi_types.specs.declared.call.Ask.TheVariants as ask
 use Rattle.napi_types.specs.declared.call.Call.{Call}
 use Rattle.napi_types.specs.declared.call.Call.TheVariants as call
-use Rattle.napi_types.specs.declared.entry.Actor.{Actor}
-use Rattle.napi_types.specs.declared.entry.Actor.TheVariants as actor
 use Rattle.napi_types.specs.declared.entry.Cause.TheVariants as cause
 use Rattle.napi_types.specs.declared.entry.Entry.{Entry}
 use Rattle.napi_types.specs.declared.entry.Out.{Out}
@@ -21,17 +18,15 @@ use Rattle.napi_types.specs.declared.entry.Why.{Why}
 use Rattle.napi_types.specs.declared.ids.HandleId.{HandleId}
 use Rattle.napi_types.specs.declared.status.Status.{Status}
 use Rattle.napi_types.specs.declared.status.Status.TheVariants as status
-use Rattle.napi_types.specs.plain.Entries.{cut_of}
-use Rattle.napi_types.specs.plain.Guards.{is_shared}
 use Rattle.napi_types.specs.plain.Lists.{tail}
 use Rattle.napi_types.specs.parts.Book.{Book, Registration, due_info, moved_at, registration_at, begun_in}
-use Rattle.napi_types.specs.parts.Frames.{Frame, frame_of, frame_of_duty, duty_of, is_hub_duty, most_frames, ask_counted}
+use Rattle.napi_types.specs.parts.Frames.{Frame, frame_of, frame_of_duty, most_frames, ask_counted}
 use Rattle.napi_types.specs.parts.FunctionCalls.{left_value, with_receiver}
 use Rattle.napi_types.specs.parts.Heap.{Heap, handle_value}
 use Rattle.napi_types.specs.parts.HeapChanges.{with_handle, with_frame, without_frame}
 use Rattle.napi_types.specs.parts.Hooks.{Hook}
 use Rattle.napi_types.specs.parts.Values.{undefined_value}
-use Rattle.napi_types.specs.environment.Changes.{opening_change, gone_change, in_phase, number_of, may_ask, with_noted_status}
+use Rattle.napi_types.specs.environment.Changes.{opening_change, gone_change, in_phase, number_of, with_noted_status}
 use Rattle.napi_types.specs.environment.Ends.{uncut_call_end, end_change, outermost_end_change}
 use Rattle.napi_types.specs.environment.Entering.{enter_change, asked_change}
 use Rattle.napi_types.specs.environment.Environment.{Environment, FunctionRoot}
@@ -41,15 +36,19 @@ use Rattle.napi_types.specs.environment.Tickets.{hooks_left}
 use Rattle.napi_types.specs.hub.HubMoves.{HubMove, Delivers, Closes, Finishes}
 use Rattle.napi_types.specs.runs.Loop.{Event, Opens, Inits, Tickets, Moves, Goes, EndsLoop, Drains, FinalsCome, IsGone}
 use Rattle.napi_types.specs.runs.Machine.{Machine}
-use Rattle.napi_types.specs.runs.Run.{after, final}
-use Rattle.napi_types.specs.runs.Step.{Step, ticket_step, move_step, event_step, chosen, may_cut, call_step_on, end_step_on, asked_step, frame_step, env_step, step_of}
+use Rattle.napi_types.specs.runs.Run.{after, final, IsNext, IsRunBy}
+use Rattle.napi_types.specs.runs.Step.{Step, ticket_step, move_step, event_step, call_step_on, end_step_on, step}
 use Rattle.napi_types.proofs.plain.Lists.{length-changed, length-tail, none-last, not-when}
 use Rattle.napi_types.proofs.environment.Cases.{asked-by, ended-by}
+use Rattle.napi_types.proofs.runs.Forms as form
+use Rattle.napi_types.proofs.runs.Forms.{Form, form-of}
+use Rattle.napi_types.proofs.runs.Runs.{along-entries}
 use Rattle.napi_types.proofs.runs.SharedSteps.{after_shared-alone}
 use Rattle.machine_laws.specs.Consistency.{IsConsistent, IsLiveAmong}
 use Rattle.machine_laws.proofs.ConsistentAnswers.{IsConsistentButFrames, Follows, parts-of, whole-of, in-heap, call_change-follows}
 use Rattle.machine_laws.proofs.ConsistentCalls.{handle-live}
 use Rattle.machine_laws.proofs.ConsistentHeaps.{IsConsistentHeap, ComesTo, HandlesStay, stays, stays-then, and-then, unchanged, with-handle, with-frame, without-frame}
+use Rattle.machine_laws.proofs.Fronts.{steps-front}
 
 tail-shorter : {A : Type 0} (xs : List A) → length (tail xs) ≤ length xs
 tail-shorter [] = omega arith
@@ -234,10 +233,6 @@ event-follows m IsGone none c =
     let good : IsConsistentButFrames (gone_change m.env).after = record { heap = g.heap; referred = g.referred; references = g.references; pending = g.pending; rooted = g.rooted } in
     other-follows m.env (gone_change m.env).after good refl refl (stays m.env.heap) c
 
-chosen-follows : (m : Machine) (event : Option Event) → m.env.frames ≡ [] → IsConsistent m.env → StepFollows m (chosen m event)
-chosen-follows m None none c = same-follows m.env c
-chosen-follows m (Some event) none c = event-follows m event none c
-
 call-step-follows : (m : Machine) (c : Call) (o : Out) (b : Bool) → IsConsistent m.env → StepFollows m (call_step_on b m c o)
 call-step-follows m c o false old = asked-follows m.env c (number_of o) old
 call-step-follows m c o true old = shared-follows m.env c (call_step_on true m c o).entry.reply old
@@ -246,37 +241,29 @@ end-step-follows : (m : Machine) (v : Option HandleId) (cut : Option Why) (may b
 end-step-follows m v cut may false c = frame-follows v cut m.env c
 end-step-follows m v cut may true c = frame-follows v cut m.env c
 
-asked-step-follows : (m : Machine) (a : Ask) (o : Out) → IsConsistent m.env → StepFollows m (asked_step m a o)
-asked-step-follows m (ask.Do call) o c = call-step-follows m call o (is_shared call) c
-asked-step-follows m (ask.Leave v) o c = end-step-follows m v None (may_ask m.env) (is_hub_duty (duty_of m.env.frames)) c
-
-frame-step-follows : (m : Machine) (a : Ask) (o : Out) (cut : Option Why) → IsConsistent m.env → StepFollows m (frame_step m a o cut)
-frame-step-follows m a o None c = asked-step-follows m a o c
-frame-step-follows m a o (Some w) c = end-step-follows m None (Some w) (may_cut m a w) (is_hub_duty (duty_of m.env.frames)) c
-
-env-step-follows : (m : Machine) (a : Ask) (o : Out) (fs : List Frame) → m.env.frames ≡ fs → IsConsistent m.env → StepFollows m (env_step m a o fs)
-env-step-follows m a o [] none c = chosen-follows m _ none c
-env-step-follows m a o (f ∷ fs) is c = frame-step-follows m a o (cut_of o) c
-
-step-follows : (m : Machine) (a : Ask) (x : Entry) (who : Actor) → IsConsistent m.env → StepFollows m (step_of m a x who)
-step-follows m a x actor.Env c = env-step-follows m a x.reply.out m.env.frames refl c
-step-follows m a x (actor.Thread t) c = same-follows m.env c
-step-follows m a x (actor.Worker w) c = same-follows m.env c
+form-follows : (m : Machine) (s : Step) → Form m s → IsConsistent m.env → StepFollows m s
+form-follows m _ (form.calls f fs stands c o local) old = call-step-follows m c o false old
+form-follows m _ (form.shares f fs stands c o is told) old = call-step-follows m c o true old
+form-follows m _ (form.ends f fs stands v cut may ours is) old = end-step-follows m v cut may ours old
+form-follows m _ (form.happens alone event next) old = event-follows m event alone old
+form-follows m _ (form.others x other same) old = same-follows m.env old
 
 -- RUNS
-pub run-follows : (m : Machine) (bs : List Ask) (xs : List Entry) → IsConsistent m.env → Follows m.env (final m bs xs).env
-run-follows m (a ∷ bs) (x ∷ xs) c =
-    let one : Follows m.env (after m a x).env = step-follows m a x x.actor c in
-    then-follows m.env (after m a x).env (final (after m a x) bs xs).env one (run-follows (after m a x) bs xs one.good)
-run-follows m [] xs c = same-follows m.env c
-run-follows m (a ∷ bs) [] c = same-follows m.env c
+next-follows : (m : Machine) (a : Ask) (x : Entry) → IsNext m a x → IsConsistent m.env → Follows m.env (after m a x).env
+next-follows m a x next c = form-follows m (step m a x) (form-of m a x next) c
+
+pub run-follows : (m : Machine) (bs : List Ask) (xs : List Entry) → IsRunBy m bs xs → IsConsistent m.env → Follows m.env (final m bs xs).env
+run-follows =
+    along-entries (λ m bs xs. IsConsistent m.env → Follows m.env (final m bs xs).env) (λ m c. same-follows m.env c) (λ m a bs x xs next rest c.
+    let one : Follows m.env (after m a x).env = next-follows m a x next c in
+    then-follows m.env (after m a x).env (final (after m a x) bs xs).env one (rest one.good))
 
 -- from each moment to each later one
-pub later-follows : (m : Machine) (bs : List Ask) (xs : List Entry) (i j : ℕ) → i ≤ j → IsConsistent m.env
+pub later-follows : (m : Machine) (bs : List Ask) (xs : List Entry) (i j : ℕ) → i ≤ j → IsRunBy m bs xs → IsConsistent m.env
     → Follows (final m (take i bs) (take i xs)).env (final m (take j bs) (take j xs)).env
-later-follows m bs xs zero j below c = run-follows m (take j bs) (take j xs) c
-later-follows m bs xs (suc i) zero below c = absurd (omega (arith, below))
-later-follows m (a ∷ bs) (x ∷ xs) (suc i) (suc j) below c =
-    later-follows (after m a x) bs xs i j (omega (arith, below)) (step-follows m a x x.actor c).good
-later-follows m [] xs (suc i) (suc j) below c = same-follows m.env c
-later-follows m (a ∷ bs) [] (suc i) (suc j) below c = same-follows m.env c
+later-follows m bs xs zero j below run c = run-follows m (take j bs) (take j xs) (steps-front m bs xs j run) c
+later-follows m bs xs (suc i) zero below run c = absurd (omega (arith, below))
+later-follows m (a ∷ bs) (x ∷ xs) (suc i) (suc j) below run c =
+    later-follows (after m a x) bs xs i j (omega (arith, below)) run.1 (next-follows m a x run.0 c).good
+later-follows m [] xs (suc i) (suc j) below run c = same-follows m.env c
+later-follows m (a ∷ bs) [] (suc i) (suc j) below run c = absurd run

@@ -35,10 +35,10 @@ use Rattle.napi_types.specs.runs.Step.{Step, may_cut, call_step_on, end_step_on,
 use Rattle.napi_types.proofs.plain.Conditions.{and-left, and-right, and-both}
 use Rattle.napi_types.proofs.plain.CallFacts.{needs-place}
 use Rattle.napi_types.proofs.environment.FrameEnds.{Ends, ended-ends}
+use Rattle.napi_types.proofs.runs.Forms.{frame-next}
 use Rattle.napi_types.proofs.runs.SharedSteps.{hub_step-end}
 use Rattle.machine_laws.specs.Cuts.{cut_by, StandsInHub, IsCutFull, first_called, two_left}
 use Rattle.std.proofs.lemmas.Bool.{or_left, or_right, lt-ltb}
-use Rattle.machine_laws.proofs.Forms.{frame-next}
 use Rattle.machine_laws.proofs.Others.{by-env-alone}
 
 -- whatever a frame may leave is one entry: so it is the only one that may come of the environment

@@ -25,11 +25,11 @@ use Rattle.napi_types.specs.environment.Ends.{end_change}
 use Rattle.napi_types.specs.environment.Entering.{asked_change}
 use Rattle.napi_types.specs.environment.Environment.{Environment}
 use Rattle.napi_types.specs.environment.SharedCalls.{shared_entry}
-use Rattle.napi_types.specs.hub.Hub.{stage_of, Stage, Before, Going, Looped, Drained, Final}
+use Rattle.napi_types.specs.hub.Hub.{stage_of, Stage, Going, Drained}
 use Rattle.napi_types.specs.hub.HubMoves.{HubMove, Delivers, Closes, Finishes, hub_move}
 use Rattle.napi_types.specs.hub.HubEvents.{delivery_entry}
 use Rattle.napi_types.specs.hub.HubSteps.{hub_step}
-use Rattle.napi_types.specs.runs.Choice.{local_choice, hub_choice, choice, is_idle, is_quiet}
+use Rattle.napi_types.specs.runs.Choice.{choice, is_idle, is_quiet}
 use Rattle.napi_types.specs.runs.Loop.{Event, Moves, EndsLoop}
 use Rattle.napi_types.specs.runs.Machine.{Machine}
 use Rattle.napi_types.specs.runs.Run.{IsRunBy, after, final}
@@ -40,16 +40,16 @@ use Rattle.napi_types.proofs.plain.Conditions.{and-right}
 use Rattle.napi_types.proofs.environment.FrameEnds.{ended-ends}
 use Rattle.napi_types.proofs.environment.Cases.{asked-by, ended-by}
 use Rattle.napi_types.proofs.hub.HubKeeps.{hub_step-what}
+use Rattle.napi_types.proofs.runs.Forms.{event_what}
 use Rattle.napi_types.proofs.runs.SharedSteps.{is_of_others, others-told, after_shared-alone}
-use Rattle.napi_types.proofs.runs.StepCases.{StepCase, calls, ends, opens, inits, begins, vanishes, shares, leaves, passes, moves, others, event_before, InPhase}
-use Rattle.napi_types.proofs.runs.Chosen.{OwnChoice, exits, own-choice, NoChoice, waits, no-choice, HubChoice, idles, quiets, hub-choice, chosen-by}
+use Rattle.napi_types.proofs.runs.StepCases.{StepCase, calls, ends, shares, leaves, passes, moves, others, event_before, InPhase}
+use Rattle.napi_types.proofs.runs.Chosen.{OwnChoice, exits, NoChoice, begun, waits, unhooked, drained, gone, no-choice, HubChoice, idles, quiets, chosen-in-phase}
 use Rattle.napi_types.proofs.all_runs.Orderly.{Orderly, orderly-opens, along-orderly}
 use Rattle.machine_laws.specs.Choices.{begins_due_tickets_in, is_of_frames, BeginsLowest, BeginsLastHook, BeginsOfHub}
 use Rattle.machine_laws.specs.ExitLaws.{asks_exit, has_exit, reason_of, ExitIsAskedByItsCall, EndsByReason, TheLoopEndsByItsReason, TheLoopEndsByExitOrIdle, WhatIsDueWaitsForFinalsOnceExitWasAsked}
 use Rattle.machine_laws.proofs.Bare.{IsBare, bare-run, bare-idle}
 use Rattle.machine_laws.proofs.Beginning.{tickets-begin}
 use Rattle.machine_laws.proofs.Choosing.{Happens, happens-next, happens-what, hub-in-phase}
-use Rattle.machine_laws.proofs.Forms.{event_what}
 
 -- WHAT ASKS IT
 -- no part of an answer changes whether exit was asked, ..
@@ -125,7 +125,7 @@ others-exit (what.Host s) theirs = refl
 step-notes : (m : Machine) (s : Step) → StepCase m s → IsTrue s.may → Notes m s
 step-notes m _ (calls c n may alone) comes = asked-notes m c n
 step-notes m _ (ends v cut may alone) comes = ended-notes m v cut
-step-notes m _ (shares c o shared) comes = shares-notes m c o shared
+step-notes m _ (shares c o shared answers) comes = shares-notes m c o shared
 step-notes m _ (leaves v cut may ours) comes = leaves-notes m v cut may
 step-notes m s (passes p o q) comes = none-notes m s (what.Host (event_before p)) refl (ap (λ (y : Entry). y.what) q.entry) refl
 step-notes m _ (moves move next moving alone) comes = move-notes m move
@@ -173,36 +173,32 @@ own-reason : (m : Machine) (p : Phase) (reason : LoopEnd) → OwnChoice m.env p 
 own-reason m _ _ (exits asked) = by-exit m m.env.exit_asked asked
 
 -- where the hub ends the loop the environment is in it, and decided nothing
-in-loop : (m : Machine) (p : Phase) → Going ≡ stage_of p → NoChoice m.env p → (m.env.exit_asked ≡ false) × (lowest_due m.env.book ≡ None)
-in-loop m _ here (waits unasked lowest) = (unasked, lowest)
-in-loop m _ here _ = cc
-
-hub-reason : (m : Machine) (s : Stage) (reason : LoopEnd) → m.hub.stage ≡ s → InPhase m → NoChoice m.env m.env.phase → HubChoice m.hub s (EndsLoop reason)
+hub-reason : (m : Machine) (p : Phase) (reason : LoopEnd) → NoChoice m.env p → HubChoice m.hub (stage_of p) (EndsLoop reason)
     → IsReason m m.env.exit_asked reason
-hub-reason m _ _ here far none (idles unmoved idle) =
-    let both = in-loop m m.env.phase (sym here ∙ far) none in
-    record {
-      is = sym (ap (λ b. reason_of b (is_idle m.hub)) both.0 ∙ ap (reason_of false) idle);
-      none_due = λ z. both.1;
-      unmoved = λ z. unmoved;
-      quiet = λ z busy. let no : true ≡ false = sym idle ∙ busy in cc;
-    }
-hub-reason m _ _ here far none (quiets unmoved busy quiet) =
-    let both = in-loop m m.env.phase (sym here ∙ far) none in
-    record {
-      is = sym (ap (λ b. reason_of b (is_idle m.hub)) both.0 ∙ ap (reason_of false) busy);
-      none_due = λ z. both.1;
-      unmoved = λ z. unmoved;
-      quiet = λ z idle. quiet;
-    }
+hub-reason m _ _ (waits unasked lowest) (idles unmoved idle) = record {
+  is = sym (ap (λ b. reason_of b (is_idle m.hub)) unasked ∙ ap (reason_of false) idle);
+  none_due = λ z. lowest;
+  unmoved = λ z. unmoved;
+  quiet = λ z busy. let no : true ≡ false = sym idle ∙ busy in cc;
+}
+hub-reason m _ _ (waits unasked lowest) (quiets unmoved busy quiet) = record {
+  is = sym (ap (λ b. reason_of b (is_idle m.hub)) unasked ∙ ap (reason_of false) busy);
+  none_due = λ z. lowest;
+  unmoved = λ z. unmoved;
+  quiet = λ z idle. quiet;
+}
+hub-reason m _ _ (begun opened left) c = elim c [ ]
+hub-reason m _ _ (unhooked none) c = elim c [ ]
+hub-reason m _ _ drained c = elim c [ ]
+hub-reason m _ _ gone c = elim c [ ]
 
 chosen-reason : (m : Machine) (reason : LoopEnd) → InPhase m → choice m ≡ Some (EndsLoop reason) → IsReason m m.env.exit_asked reason
-chosen-reason m reason far is = by (chosen-by m (EndsLoop reason) is)
+chosen-reason m reason far is = by (chosen-in-phase m (EndsLoop reason) far is)
   where
-    by : (local_choice m.env ≡ Some (EndsLoop reason)) ⊎ ((local_choice m.env ≡ None) × (hub_choice m.hub ≡ Some (EndsLoop reason))) → IsReason m m.env.exit_asked reason
-    by (inl mine) = own-reason m m.env.phase reason (own-choice m.env m.env.phase (EndsLoop reason) mine)
-    by (inr its) =
-        hub-reason m m.hub.stage reason refl far (no-choice m.env m.env.phase its.0) (hub-choice m.hub m.hub.stage (EndsLoop reason) its.1)
+    by : OwnChoice m.env m.env.phase (EndsLoop reason) ⊎ NoChoice m.env m.env.phase × HubChoice m.hub (stage_of m.env.phase) (EndsLoop reason)
+        → IsReason m m.env.exit_asked reason
+    by (inl mine) = own-reason m m.env.phase reason mine
+    by (inr its) = hub-reason m m.env.phase reason its.0 its.1
 
 -- the entry tells the reason
 told-reason : (m : Machine) (x : Entry) → x.what ≡ what.Host host.LoopEnd → InPhase m → Happens m x → EndsByReason m m.env.exit_asked x
@@ -230,35 +226,25 @@ late e phase.Live asked moment = let z : false ≡ true = ap not (sym asked) ∙
 late e phase.Finals asked moment = refl
 late e _ asked moment = cc
 
--- the hub delivers nothing in the loop once exit was asked
+-- the stages in which the hub delivers
+abbrev delivers : Stage → Bool
+delivers Going = true
+delivers Drained = true
+delivers _ = false
+
+-- it delivers nothing in the loop once exit was asked
 drain-delivers : (m : Machine) (p : Phase) → InPhase m → m.env.phase ≡ p → m.env.exit_asked ≡ true → NoChoice m.env p → (m.hub.stage ≡ Going) ⊎ (m.hub.stage ≡ Drained)
     → p ≡ phase.Drain
-drain-delivers m phase.Drain far here asked _ moment = refl
-drain-delivers m _ far here asked (waits unasked lowest) moment = let z : true ≡ false = sym asked ∙ unasked in cc
-drain-delivers m phase.Init far here asked _ moment = absurd (apart moment)
+drain-delivers m p far here asked none moment = by p none (sym (ap delivers (far ∙ ap stage_of here)) ∙ now moment)
   where
-    at : m.hub.stage ≡ Before
-    at = far ∙ ap stage_of here
+    now : (m.hub.stage ≡ Going) ⊎ (m.hub.stage ≡ Drained) → delivers m.hub.stage ≡ true
+    now (inl is) = ap delivers is
+    now (inr is) = ap delivers is
 
-    apart : (m.hub.stage ≡ Going) ⊎ (m.hub.stage ≡ Drained) → ⊥
-    apart (inl is) = let z : Before ≡ Going = sym at ∙ is in cc
-    apart (inr is) = let z : Before ≡ Drained = sym at ∙ is in cc
-drain-delivers m phase.Hooks far here asked _ moment = absurd (apart moment)
-  where
-    at : m.hub.stage ≡ Looped
-    at = far ∙ ap stage_of here
-
-    apart : (m.hub.stage ≡ Going) ⊎ (m.hub.stage ≡ Drained) → ⊥
-    apart (inl is) = let z : Looped ≡ Going = sym at ∙ is in cc
-    apart (inr is) = let z : Looped ≡ Drained = sym at ∙ is in cc
-drain-delivers m phase.Gone far here asked _ moment = absurd (apart moment)
-  where
-    at : m.hub.stage ≡ Final
-    at = far ∙ ap stage_of here
-
-    apart : (m.hub.stage ≡ Going) ⊎ (m.hub.stage ≡ Drained) → ⊥
-    apart (inl is) = let z : Final ≡ Going = sym at ∙ is in cc
-    apart (inr is) = let z : Final ≡ Drained = sym at ∙ is in cc
+    by : (p : Phase) → NoChoice m.env p → delivers (stage_of p) ≡ true → p ≡ phase.Drain
+    by phase.Drain none delivered = refl
+    by phase.Live (waits unasked lowest) delivered = let z : true ≡ false = sym asked ∙ unasked in cc
+    by _ none delivered = cc
 
 pub due-waits : WhatIsDueWaitsForFinalsOnceExitWasAsked
 due-waits s bs xs a x c addon entry d run asked next is told = by (tickets-begin m a x c addon entry d next is told)

@@ -35,12 +35,12 @@ use Rattle.napi_types.specs.runs.Run.{after, final}
 use Rattle.napi_types.specs.runs.Step.{Step, ticket_step, move_step, event_step, shared_call_step, end_step_on, step}
 use Rattle.napi_types.proofs.environment.Changed.{Ignores, changed-keeps, asked-changed, ended-changed}
 use Rattle.napi_types.proofs.environment.Cases.{asked-by}
+use Rattle.napi_types.proofs.runs.Forms as form
+use Rattle.napi_types.proofs.runs.Forms.{Form, form-of, shared-what, ended-what, event_what, event-what, other-what}
 use Rattle.napi_types.proofs.runs.SharedSteps.{is_of_others}
 use Rattle.napi_types.proofs.runs.Chosen.{chosen-move}
 use Rattle.napi_types.proofs.runs.Runs.{along-entries}
 use Rattle.machine_laws.specs.FunctionRoots.{kept_by, is_finish_of, tells_finish, KeepsOn, NewFunctionsKeepTheirValue, FunctionsKeepUntilTheyFinish, FinishedFunctionsKeepNone}
-use Rattle.machine_laws.proofs.Forms as form
-use Rattle.machine_laws.proofs.Forms.{Form, form-of, shared-what, ended-what, event_what, event-what, other-what}
 
 -- THE CALLS AND THE ENDS OF FRAMES
 -- these keep what functions keep
@@ -172,10 +172,10 @@ module _ (n : ℕ) (m : Machine) where
 
   form-keeps : (t : Step) → Form m t → is_finish_of n t.entry ≡ false → KeepsOn n m.env t.after.env
   form-keeps _ (form.calls f fs stands c o local) none = keeps-same n m.env (asked_change m.env c (number_of o)).after (asked-roots m.env c (number_of o))
-  form-keeps _ (form.shares f fs stands c o shared) none = shared-keeps c o
+  form-keeps _ (form.shares f fs stands c o shared answers) none = shared-keeps c o
   form-keeps _ (form.ends f fs stands v cut may ours is) none = ended-step-keeps v cut may ours
   form-keeps _ (form.happens alone event next) none = event-keeps event next none
-  form-keeps _ (form.others x other) none = keeps-same n m.env m.env refl
+  form-keeps _ (form.others x other same) none = keeps-same n m.env m.env refl
 
 -- RUNS
 pub keep-until-they-finish : FunctionsKeepUntilTheyFinish
@@ -223,12 +223,12 @@ module _ (m : Machine) (f : HandleId) (entry : Option ℕ) (maximum count : ℕ)
 
   form-new : (t : Step) → Form m t → IsTrue t.may → t.entry.what ≡ what.Call creation → t.entry.reply.out ≡ out.Function n → Kept t.after.env
   form-new _ (form.calls g gs stands c o local) may is told = absurd (local-new c o local is)
-  form-new _ (form.shares g gs stands c o shared) may is told = shared-new c o is told
+  form-new _ (form.shares g gs stands c o shared answers) may is told = shared-new c o is told
   form-new _ (form.ends g gs stands v cut b ours here) may is told =
       let no : what.Host host.End ≡ what.Call creation = sym (ended-what m v cut b ours) ∙ is in cc
   form-new _ (form.happens alone event next) may is told =
       let no : what.Host (event_what event) ≡ what.Call creation = sym (event-what m event may) ∙ is in cc
-  form-new _ (form.others x other) may is told =
+  form-new _ (form.others x other same) may is told =
       absurd (true≢false (sym (other-what m x other may) ∙ ap is_of_others is))
 
 pub new-keep-theirs : NewFunctionsKeepTheirValue
@@ -266,11 +266,11 @@ module _ (n : ℕ) (m : Machine) where
 
   form-none : (t : Step) → Form m t → IsTrue t.may → t.entry.what ≡ what.Host host.FinishTsfn → is_finish_of n t.entry ≡ true → KeepsNone t
   form-none _ (form.calls f fs stands c o local) may is finish = absurd (local-none c (number_of o) is)
-  form-none _ (form.shares f fs stands c o shared) may is finish = let no : what.Call c ≡ what.Host host.FinishTsfn = sym (shared-what m c o) ∙ is in cc
+  form-none _ (form.shares f fs stands c o shared answers) may is finish = let no : what.Call c ≡ what.Host host.FinishTsfn = sym (shared-what m c o) ∙ is in cc
   form-none _ (form.ends f fs stands v cut b ours here) may is finish =
       let no : what.Host host.End ≡ what.Host host.FinishTsfn = sym (ended-what m v cut b ours) ∙ is in cc
   form-none _ (form.happens alone event next) may is finish = event-none event next (no-finish event may is) finish
-  form-none _ (form.others x other) may is finish = absurd (true≢false (sym (other-what m x other may) ∙ ap is_of_others is))
+  form-none _ (form.others x other same) may is finish = absurd (true≢false (sym (other-what m x other may) ∙ ap is_of_others is))
 
 pub finished-keep-none : FinishedFunctionsKeepNone
 finished-keep-none m a x n next finish =

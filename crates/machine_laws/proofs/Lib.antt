@@ -16,7 +16,6 @@ mod ConsistentValues
 mod Counting
 mod Cutting
 mod Exiting
-mod Forms
 mod Fronts
 mod Holding
 mod KeptScripts

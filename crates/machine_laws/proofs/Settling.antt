@@ -1,5 +1,5 @@
 -- What holds of finalizers at every moment of a run.
-use Rattle.std.proofs.Common.{◌≡◌, ◌≢◌, ◌∙◌, ℕ, Bool, true, false, List, [], ◌∷◌, refl, ap, sym, subst, Option, Some, None, option_map}
+use Rattle.std.proofs.Common.{◌≡◌, ◌≢◌, ◌∙◌, ℕ, Bool, true, false, List, [], refl, ap, sym, subst, Option, Some, None, option_map}
 use Rattle.std.specs.Option.{unwrap_or}
 use Rattle.std.proofs.lemmas.List.Elements.{All-nil}
 use Rattle.napi_types.specs.declared.call.Ask.{Ask}
@@ -35,6 +35,9 @@ use Rattle.napi_types.proofs.parts.Books.{NoneRegistered, none-owed_tickets}
 use Rattle.napi_types.proofs.environment.Registrations.{registered-holds, AreUncalled, uncalled-asked, uncalled-ended, uncalled-begun, uncalled-phase}
 use Rattle.napi_types.proofs.environment.StandingFrames.{counted-nested, nested-asked, nested-ended, nested-first, nested-ticket, nested-init}
 use Rattle.napi_types.proofs.hub.HubDuties.{delivery-of_hub}
+use Rattle.napi_types.proofs.runs.Forms as form
+use Rattle.napi_types.proofs.runs.Forms.{Form, form-of, by-env}
+use Rattle.napi_types.proofs.runs.Runs.{along-run}
 use Rattle.napi_types.proofs.runs.SharedSteps.{is_of_others, after_shared-alone}
 use Rattle.napi_types.proofs.runs.Chosen.{chosen-move}
 use Rattle.napi_types.proofs.all_runs.Orderly.{orderly-run}
@@ -42,8 +45,6 @@ use Rattle.machine_laws.specs.Choices.{begins_due_tickets_in, IsOfTicket, GoneCo
 use Rattle.machine_laws.specs.FinalizerLaws.{OnlyTheOutermostFrameHasADuty, NoneIsRegisteredFromFinalsOn}
 use Rattle.machine_laws.proofs.Beginning.{lowest-first}
 use Rattle.machine_laws.proofs.Choosing.{gone-last, hub-in-phase}
-use Rattle.machine_laws.proofs.Forms as form
-use Rattle.machine_laws.proofs.Forms.{Form, form-of, by-env}
 
 -- ONLY THE OUTERMOST FRAME
 -- only the outermost frame is one that no call began, and no call will begin that of a ticket
@@ -95,15 +96,13 @@ event-nested m _ next none here = record { frames = here.frames; uncalled = here
 
 pub form-nested : (m : Machine) (t : Step) → Form m t → IsNested m.env → IsNested t.after.env
 form-nested m _ (form.calls f fs stands c o alone) here = asked-nested m.env c (number_of o) (some-stand f fs m.env.frames stands) here
-form-nested m _ (form.shares f fs stands c o shared) here = shared-nested m c o here
+form-nested m _ (form.shares f fs stands c o shared answers) here = shared-nested m c o here
 form-nested m _ (form.ends f fs stands v cut may ours is) here = end_step-nested m v cut may ours here
 form-nested m _ (form.happens alone event next) here = event-nested m event next alone here
-form-nested m _ (form.others x other) here = here
+form-nested m _ (form.others x other same) here = here
 
 run-nested : (m : Machine) (bs : List Ask) (xs : List Entry) → IsNested m.env → IsRunBy m bs xs → IsNested (final m bs xs).env
-run-nested m (a ∷ bs) (x ∷ xs) here run = run-nested (after m a x) bs xs (form-nested m (step m a x) (form-of m a x run.0) here) run.1
-run-nested m [] xs here run = here
-run-nested m (a ∷ bs) [] here run = here
+run-nested m bs xs here run = along-run (λ m. IsNested m.env) (λ m a x next. form-nested m (step m a x) (form-of m a x next)) m bs xs run here
 
 pub opens-nested : (s : Setting) → IsNested (opening_of s).env
 opens-nested s = record { frames = tt; uncalled = All-nil (λ (r : Registration). r.cause ≢ cause.Call) }

@@ -12,6 +12,7 @@ use Rattle.machine_laws.proofs.ConsistentAnswers.{Follows}
 use Rattle.machine_laws.proofs.ConsistentRuns.{opening-consistent}
 use Rattle.machine_laws.proofs.ConsistentSteps.{run-follows, later-follows}
 use Rattle.machine_laws.proofs.Counting.{counted, count-cons, times, distinct-times}
+use Rattle.machine_laws.proofs.Fronts.{steps-front}
 use Rattle.machine_laws.proofs.Holding.{is_held, gives-held, held-all, held-handle, held-value}
 
 -- ONE MOMENT
@@ -71,8 +72,9 @@ pub handles-are-stable : HandlesAreStable
 handles-are-stable s bs xs i j h v w run one two =
     let opening : IsConsistent (opening_of s).env = opening-consistent _ s.texts in
     let at : ℕ → Environment = λ n. (final_of s (take n bs) (take n xs)).env in
-    let good : (n : ℕ) → IsConsistent (at n) = λ n. (run-follows (opening_of s) (take n bs) (take n xs) opening).good in
+    let good : (n : ℕ) → IsConsistent (at n) =
+    λ n. (run-follows (opening_of s) (take n bs) (take n xs) (steps-front (opening_of s) bs xs n run) opening).good in
     elim (cases_lt i j) [
-      | inl before ↦ same-later (at i) (at j) h v w (good i) (later-follows (opening_of s) bs xs i j (omega (arith, before)) opening) one two
-      | inr after ↦ sym (same-later (at j) (at i) h w v (good j) (later-follows (opening_of s) bs xs j i after opening) two one)
+      | inl before ↦ same-later (at i) (at j) h v w (good i) (later-follows (opening_of s) bs xs i j (omega (arith, before)) run opening) one two
+      | inr after ↦ sym (same-later (at j) (at i) h w v (good j) (later-follows (opening_of s) bs xs j i after run opening) two one)
     ]

@@ -2,6 +2,7 @@
 pub mod Answers
 pub mod Cases
 pub mod Changed
+pub mod Effects
 pub mod FrameChanges
 pub mod FrameEnds
 pub mod HookedBooks

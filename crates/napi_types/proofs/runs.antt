@@ -1,6 +1,7 @@
 -- On steps and runs: the cases of a step, and a run that is longer by one entry.
 pub mod CallRooms
 pub mod Chosen
+pub mod Forms
 pub mod HubEntries
 pub mod Runs
 pub mod SharedSteps

@@ -105,7 +105,7 @@ step-cancels m s w opens ok is accepted = cc
 step-cancels m s w (inits n) ok is accepted = cc
 step-cancels m s w (begins n r there next may) ok is accepted = cc
 step-cancels m s w (vanishes last) ok is accepted = cc
-step-cancels m s w (shares c o shared) ok is accepted =
+step-cancels m s w (shares c o shared answers) ok is accepted =
     let x : Entry = shared_entry m.env c o in
     let it : c ≡ call.CancelAsyncWork w = called-what c (call.CancelAsyncWork w) (sym (hub_step-what m.hub x) ∙ is) in
     subst (λ d. (hub_step m.hub (shared_entry m.env d o)).entry.reply.status ≡ status.Ok → CancelsWork m.hub w (hub_step m.hub (shared_entry m.env d o)).after) (sym it)
@@ -135,7 +135,7 @@ accepted-cancels s bs cs a xs ys x w front whole is accepted =
     let k : Accountable s.limits m = run-accountable s.limits (opening_of s) bs xs (opens-well s) front in
     let later : IsRunBy m (a ∷ cs) (x ∷ ys) = later-run (opening_of s) bs (a ∷ cs) xs (x ∷ ys) front whole.run.steps in
     let next : IsNext m a x = later.0 in
-    let case : StepCase m (step m a x) = step-case m a x k.orderly.stage next.1 in
+    let case : StepCase m (step m a x) = step-case m a x k.orderly.stage next in
     let c : CancelsWork m.hub w (after m a x).hub =
     step-cancels m (step m a x) w case next.1 (sym (ap (λ (y : Entry). y.what) next.0) ∙ is) (sym (ap (λ (y : Entry). y.reply.status) next.0) ∙ accepted) in
     let work : IsWork is_queued m.hub.pool w.0 = not-refused is_queued m.hub.pool w.0 c.none in

@@ -98,7 +98,7 @@ step-side late m s sound opens ok = in_journal m.hub refl (record { made = tt; d
 step-side late m s sound (inits n) ok = in_journal m.hub refl (record { made = tt; dropped = tt; begun = tt; started = refl })
 step-side late m s sound (begins n r there next may) ok = in_journal m.hub refl (record { made = tt; dropped = tt; begun = refl; started = refl })
 step-side late m s sound (vanishes last) ok = in_journal m.hub refl (record { made = tt; dropped = tt; begun = tt; started = refl })
-step-side late m s sound (shares c o is) ok =
+step-side late m s sound (shares c o is answers) ok =
     by-hub late m.hub (shared_entry m.env c o) sound (and-right (may_call m.env && not (is_full (room_of m c) c)) (hub_step m.hub (shared_entry m.env c o)).may ok)
 step-side late m s sound (leaves v cut may ours) ok =
     by-hub late m.hub (end_change v cut m.env).entry sound (and-right may (hub_step m.hub (end_change v cut m.env).entry).may ok)
@@ -110,4 +110,4 @@ step-side late m s sound (others x other) ok = by-hub late m.hub x sound (and-ri
 pub next-side : (late : Bool) (m : Machine) (a : Ask) (x : Entry) → AreSoundFrom late 1 m.hub.functions → Orderly m → IsNext m a x
     → HubSide m.hub x (after m a x).hub
 next-side late m a x sound h next =
-    subst (λ (y : Entry). HubSide m.hub y (after m a x).hub) (sym next.0) (step-side late m (step m a x) sound (step-case m a x h.stage next.1) next.1)
+    subst (λ (y : Entry). HubSide m.hub y (after m a x).hub) (sym next.0) (step-side late m (step m a x) sound (step-case m a x h.stage next) next.1)

@@ -1,50 +1,43 @@
 -- The room in the history suffices over all runs.
-use Rattle.std.proofs.Common.{◌≡◌, ◌≤◌, ℕ, ◌+◌, ◌*◌, Bool, true, false, not, cond, nat_lt, List, [], ◌∷◌, length, IsTrue, refl, ap, sym, ◌∙◌, subst, Option, Some, None, option_map, arith}
+use Rattle.std.proofs.Common.{◌≡◌, ◌≤◌, ℕ, ◌+◌, ◌*◌, Bool, true, false, not, nat_lt, List, [], length, IsTrue, refl, ap, sym, ◌∙◌, subst, Option, Some, None, arith, ◌⊎◌, inl, inr}
 use Rattle.std.proofs.lemmas.List.FromFn.{length-range_with_len}
 use Rattle.std.specs.List.{range_with_len}
-use Rattle.std.specs.Option.{option_or}
 use Rattle.napi_types.specs.declared.call.Ask.{Ask}
-use Rattle.napi_types.specs.declared.call.Ask.TheVariants as ask
 use Rattle.napi_types.specs.declared.call.Call.{Call}
 use Rattle.napi_types.specs.declared.entry.Actor.{Actor}
 use Rattle.napi_types.specs.declared.entry.Actor.TheVariants as actor
 use Rattle.napi_types.specs.declared.entry.Entry.{Entry}
 use Rattle.napi_types.specs.declared.entry.HostStep.TheVariants as host
-use Rattle.napi_types.specs.declared.entry.LoopEnd.TheVariants as loop_end
 use Rattle.napi_types.specs.declared.entry.Limits.{Limits}
 use Rattle.napi_types.specs.declared.entry.Out.{Out}
 use Rattle.napi_types.specs.declared.entry.Out.TheVariants as out
 use Rattle.napi_types.specs.declared.entry.Phase.{Phase}
-use Rattle.napi_types.specs.declared.entry.Phase.TheVariants as phase
 use Rattle.napi_types.specs.declared.entry.What.{What}
 use Rattle.napi_types.specs.declared.entry.What.TheVariants as what
 use Rattle.napi_types.specs.declared.entry.Why.{Why}
 use Rattle.napi_types.specs.declared.ids.HandleId.{HandleId}
-use Rattle.napi_types.specs.plain.Entries.{host_entry, is_environment, cut_of}
+use Rattle.napi_types.specs.plain.Entries.{host_entry, is_environment}
 use Rattle.napi_types.specs.plain.Guards.{is_shared}
 use Rattle.napi_types.specs.plain.Lists.{has_number}
 use Rattle.napi_types.specs.plain.Room.{Room, is_full, need}
-use Rattle.napi_types.specs.parts.Book.{Registration, registration_at, lowest_due}
-use Rattle.napi_types.specs.parts.Frames.{Frame, duty_of, is_hub_duty}
-use Rattle.napi_types.specs.parts.Hooks.{last_hook}
-use Rattle.napi_types.specs.environment.Changes.{may_ask, may_call}
+use Rattle.napi_types.specs.parts.Book.{Registration, registration_at}
+use Rattle.napi_types.specs.environment.Changes.{may_call}
 use Rattle.napi_types.specs.environment.Ends.{end_change}
-use Rattle.napi_types.specs.environment.Environment.{Environment}
 use Rattle.napi_types.specs.environment.SharedCalls.{shared_entry}
 use Rattle.napi_types.specs.hub.HistoryRoom.{history_room, reserved_history}
-use Rattle.napi_types.specs.hub.Hub.{Hub, is_past_drain, Stage, Before, Going, Looped, Drained, Final, left_of, is_spent}
+use Rattle.napi_types.specs.hub.Hub.{Hub, is_past_drain, Stage, Final, left_of, is_spent}
 use Rattle.napi_types.specs.hub.HubMoves.{HubMove, Delivers, Closes, Finishes, hub_move}
 use Rattle.napi_types.specs.hub.HubEvents.{delivery_entry}
 use Rattle.napi_types.specs.hub.ThreadSteps.{thread_step}
 use Rattle.napi_types.specs.hub.WorkerSteps.{worker_step}
 use Rattle.napi_types.specs.hub.HubSteps.{hub_step, hub_step_of}
 use Rattle.napi_types.specs.runs.CallRoom.{room_of}
-use Rattle.napi_types.specs.runs.Choice.{local_choice, local_choice_in, hub_choice_at, hub_choice, choice, is_idle, is_quiet}
+use Rattle.napi_types.specs.runs.Choice.{local_choice, hub_choice, choice}
 use Rattle.napi_types.specs.runs.Loop.{Event, Inits, Opens, Tickets, Moves, Goes, EndsLoop, Drains, FinalsCome, IsGone}
 use Rattle.napi_types.specs.runs.Machine.{Machine}
 use Rattle.napi_types.specs.runs.Run.{IsRunBy, after, final}
 use Rattle.napi_types.specs.runs.Setting.{Setting, opening_of}
-use Rattle.napi_types.specs.runs.Step.{ticket_step, move_step, event_step, chosen, call_step_on, end_step_on, may_cut, asked_step, frame_step, env_step, has_room, other_step, step_of}
+use Rattle.napi_types.specs.runs.Step.{ticket_step, move_step, event_step, end_step_on, has_room, other_step, shared_call_step, step, Step}
 use Rattle.napi_types.proofs.plain.Conditions.{and-left, and-right, not-true}
 use Rattle.napi_types.proofs.plain.Maps.{filter_all}
 use Rattle.napi_types.proofs.environment.FrameEnds.{ended-ends}
@@ -53,6 +46,11 @@ use Rattle.napi_types.proofs.hub.HubHolds.{HubSound, hub-sound, spent-holds, ope
 use Rattle.napi_types.proofs.hub.HubKeeps.{other-calls, thread-shared}
 use Rattle.napi_types.proofs.hub.HubRooms.{places_of, hub-room}
 use Rattle.napi_types.proofs.runs.CallRooms.{shared-room}
+use Rattle.napi_types.proofs.runs.Chosen as choices
+use Rattle.napi_types.proofs.runs.Chosen.{OwnChoice, HubChoice, own-choice, hub-choice, chosen-by}
+use Rattle.napi_types.proofs.runs.Forms as form
+use Rattle.napi_types.proofs.runs.Forms.{Form, form-of}
+use Rattle.napi_types.proofs.runs.Runs.{along-run}
 
 -- THE HISTORY
 -- the hub holds what holds of it, and the history is within its limit, where the limits suffice; once `finals` has come it owes nothing
@@ -133,60 +131,20 @@ hub-stays Enough l m n limits hub length r = record {
 }
 
 -- WHEN FINALS COMES
--- the environment never decides it
-local-finals : (e : Environment) (p : Phase) → local_choice_in e p ≡ Some FinalsCome → ⊥
-local-finals e phase.Init next = by e.opened (nat_lt e.inits e.addons) next
-  where
-    by : (b c : Bool) → cond b (cond c (Some (Inits e.inits)) None) (Some Opens) ≡ Some FinalsCome → ⊥
-    by true true next = cc
-    by true false next = cc
-    by false c next = cc
-local-finals e phase.Live next = by e.exit_asked (lowest_due e.book) next
-  where
-    by : (b : Bool) (o : Option ℕ) → cond b (Some (EndsLoop loop_end.Exit)) (option_map Tickets o) ≡ Some FinalsCome → ⊥
-    by true o next = cc
-    by false None next = cc
-    by false (Some n) next = cc
-local-finals e phase.Hooks next = by (option_map (λ k. k.ticket) (last_hook e.hooks)) next
-  where
-    by : (o : Option ℕ) → option_map Tickets o ≡ Some FinalsCome → ⊥
-    by None next = cc
-    by (Some n) next = cc
-local-finals e phase.Drain next = cc
-local-finals e phase.Finals next = by (lowest_due e.book) next
-  where
-    by : (o : Option ℕ) → option_or (option_map Tickets o) (Some IsGone) ≡ Some FinalsCome → ⊥
-    by None next = cc
-    by (Some n) next = cc
-local-finals e phase.Gone next = cc
-
--- and the hub once nothing is left to do
-hub-finals : (h : Hub) (s : Stage) → hub_choice_at h s ≡ Some FinalsCome → (hub_move h ≡ None) × (is_spent h ≡ true)
-hub-finals h Before next = let no : ⊥ = cc in absurd no
-hub-finals h Going next = absurd (by (hub_move h) (is_idle h) (is_quiet h) next)
-  where
-    by : (o : Option HubMove) (idle quiet : Bool)
-        → option_or (option_map Moves o) (cond idle (Some (EndsLoop loop_end.Idle)) (cond quiet (Some (EndsLoop loop_end.Quiet)) None)) ≡ Some FinalsCome → ⊥
-    by (Some move) idle quiet next = cc
-    by None true quiet next = cc
-    by None false true next = cc
-    by None false false next = cc
-hub-finals h Looped next = let no : ⊥ = cc in absurd no
-hub-finals h Drained next = by (hub_move h) (is_spent h) refl refl next
-  where
-    by : (o : Option HubMove) (spent : Bool) → hub_move h ≡ o → is_spent h ≡ spent → option_or (option_map Moves o) (cond spent (Some FinalsCome) None) ≡ Some FinalsCome
-        → (hub_move h ≡ None) × (is_spent h ≡ true)
-    by None true none spent next = (none, spent)
-    by None false none spent next = let no : ⊥ = cc in absurd no
-    by (Some move) spent none is next = let no : ⊥ = cc in absurd no
-hub-finals h Final next = let no : ⊥ = cc in absurd no
-
+-- the environment never decides it, and the hub once nothing is left to do
 finals-spent : (m : Machine) → choice m ≡ Some FinalsCome → (hub_move m.hub ≡ None) × (is_spent m.hub ≡ true)
-finals-spent m next = by (local_choice m.env) refl next
+finals-spent m next = by (chosen-by m FinalsCome next)
   where
-    by : (o : Option Event) → local_choice m.env ≡ o → option_or o (hub_choice m.hub) ≡ Some FinalsCome → (hub_move m.hub ≡ None) × (is_spent m.hub ≡ true)
-    by None decides next = hub-finals m.hub m.hub.stage next
-    by (Some event) decides next = absurd (local-finals m.env m.env.phase (decides ∙ next))
+    own : (p : Phase) → OwnChoice m.env p FinalsCome → ⊥
+    own p c = elim c [ ]
+
+    of-hub : (s : Stage) → HubChoice m.hub s FinalsCome → (hub_move m.hub ≡ None) × (is_spent m.hub ≡ true)
+    of-hub _ (choices.finals none spent) = (none, spent)
+
+    by : (local_choice m.env ≡ Some FinalsCome) ⊎ ((local_choice m.env ≡ None) × (hub_choice m.hub ≡ Some FinalsCome))
+        → (hub_move m.hub ≡ None) × (is_spent m.hub ≡ true)
+    by (inl mine) = absurd (own m.env.phase (own-choice m.env m.env.phase FinalsCome mine))
+    by (inr its) = of-hub m.hub.stage (hub-choice m.hub m.hub.stage FinalsCome its.1)
 
 -- EACH STEP OF THE HUB
 ticket-hub : (Enough : Type 0) (l : Limits) (m : Machine) (n : ℕ) (o : Option Registration) → HubRoomy Enough l m → HubRoomy Enough l (ticket_step m n o).after
@@ -212,14 +170,10 @@ event-hub Enough l m FinalsCome next may r =
     (record { limits = refl; hub = refl; length = refl; may = may; free = λ c is. cc; told = λ c is. cc; finals = λ is. finals-spent m next }) r
 event-hub Enough l m IsGone next may r = hub-stays Enough l m _ refl refl refl r
 
-chosen-hub : (Enough : Type 0) (l : Limits) (m : Machine) (o : Option Event) → choice m ≡ o → IsTrue (chosen m o).may → HubRoomy Enough l m → HubRoomy Enough l (chosen m o).after
-chosen-hub Enough l m None next may r = r
-chosen-hub Enough l m (Some event) next may r = event-hub Enough l m event next may r
-
-call-hub : (Enough : Type 0) (l : Limits) (m : Machine) (c : Call) (o : Out) (b : Bool) → is_shared c ≡ b → (call_step_on b m c o).entry.reply.out ≡ o → IsTrue (call_step_on b m c o).may
-    → HubRoomy Enough l m → HubRoomy Enough l (call_step_on b m c o).after
-call-hub Enough l m c o false is told may r = hub-stays Enough l m _ refl refl refl r
-call-hub Enough l m c o true is told may r =
+call-hub : (Enough : Type 0) (l : Limits) (m : Machine) (c : Call) (o : Out) → is_shared c ≡ true → (shared_call_step m c o).entry.reply.out ≡ o
+    → IsTrue (shared_call_step m c o).may
+    → HubRoomy Enough l m → HubRoomy Enough l (shared_call_step m c o).after
+call-hub Enough l m c o is told may r =
     let x : Entry = shared_entry m.env c o in
     let free : is_full (room_of m c) c ≡ false = not-true (is_full (room_of m c) c) (and-right (may_call m.env) (not (is_full (room_of m c) c)) (and-left _ (hub_step m.hub x).may may)) in
     hub-stepped Enough l m _ x (record {
@@ -238,21 +192,6 @@ end-hub Enough l m v w may false h r = hub-stays Enough l m _ refl refl refl r
 end-hub Enough l m v w may true h r =
     let x : Entry = (end_change v w m.env).entry in
     plain-stepped Enough l m _ x (ap is_plain (ended-ends v w m.env).is) refl refl refl (and-right may (hub_step m.hub x).may h) r
-
-asked-hub : (Enough : Type 0) (l : Limits) (m : Machine) (a : Ask) (o : Out) → (asked_step m a o).entry.reply.out ≡ o → IsTrue (asked_step m a o).may
-    → HubRoomy Enough l m → HubRoomy Enough l (asked_step m a o).after
-asked-hub Enough l m (ask.Do c) o told may r = call-hub Enough l m c o (is_shared c) refl told may r
-asked-hub Enough l m (ask.Leave v) o told may r = end-hub Enough l m v None (may_ask m.env) (is_hub_duty (duty_of m.env.frames)) may r
-
-frame-hub : (Enough : Type 0) (l : Limits) (m : Machine) (a : Ask) (o : Out) (w : Option Why) → (frame_step m a o w).entry.reply.out ≡ o → IsTrue (frame_step m a o w).may
-    → HubRoomy Enough l m → HubRoomy Enough l (frame_step m a o w).after
-frame-hub Enough l m a o (Some w) told may r = end-hub Enough l m None (Some w) (may_cut m a w) (is_hub_duty (duty_of m.env.frames)) may r
-frame-hub Enough l m a o None told may r = asked-hub Enough l m a o told may r
-
-env-hub : (Enough : Type 0) (l : Limits) (m : Machine) (a : Ask) (o : Out) (fs : List Frame) → (env_step m a o fs).entry.reply.out ≡ o → IsTrue (env_step m a o fs).may
-    → HubRoomy Enough l m → HubRoomy Enough l (env_step m a o fs).after
-env-hub Enough l m a o [] told may r = chosen-hub Enough l m (choice m) refl may r
-env-hub Enough l m a o (f ∷ fs) told may r = frame-hub Enough l m a o (cut_of o) told may r
 
 -- a thread or a worker never makes `finals`
 others-finals : (h : Hub) (x : Entry) (who : Actor) → is_environment who ≡ false → x.what ≡ what.Host host.Finals → IsTrue (hub_step_of h x who).may → ⊥
@@ -277,16 +216,15 @@ other-hub Enough l m x other is may r =
       finals = λ comes. absurd (others-finals m.hub x x.actor other comes moves);
     }) r
 
-step-hub : (Enough : Type 0) (l : Limits) (m : Machine) (a : Ask) (x : Entry) (who : Actor) → x.actor ≡ who → x ≡ (step_of m a x who).entry → IsTrue (step_of m a x who).may
-    → HubRoomy Enough l m → HubRoomy Enough l (step_of m a x who).after
-step-hub Enough l m a x actor.Env who is may r = env-hub Enough l m a x.reply.out m.env.frames (sym (ap (λ (y : Entry). y.reply.out) is)) may r
-step-hub Enough l m a x _ who is may r = other-hub Enough l m x (ap is_environment who) is may r
+form-hub : (Enough : Type 0) (l : Limits) (m : Machine) (s : Step) → Form m s → IsTrue s.may → HubRoomy Enough l m → HubRoomy Enough l s.after
+form-hub Enough l m s (form.calls f fs stands c o local) may r = hub-stays Enough l m s.after refl refl refl r
+form-hub Enough l m _ (form.shares f fs stands c o is told) may r = call-hub Enough l m c o is told may r
+form-hub Enough l m _ (form.ends f fs stands v cut b ours is) may r = end-hub Enough l m v cut b ours may r
+form-hub Enough l m _ (form.happens alone event next) may r = event-hub Enough l m event next may r
+form-hub Enough l m _ (form.others x other told) may r = other-hub Enough l m x other told may r
 
 pub hub-run : (Enough : Type 0) (l : Limits) (m : Machine) (bs : List Ask) (xs : List Entry) → HubRoomy Enough l m → IsRunBy m bs xs → HubRoomy Enough l (final m bs xs)
-hub-run Enough l m (a ∷ bs) (x ∷ xs) r n = hub-run Enough l (after m a x) bs xs (step-hub Enough l m a x x.actor refl n.0.0 n.0.1 r) n.1
-hub-run Enough l m [] [] r n = r
-hub-run Enough l m [] (x ∷ xs) r n = r
-hub-run Enough l m (a ∷ bs) [] r n = r
+hub-run Enough l m bs xs r run = along-run (HubRoomy Enough l) (λ m a x next. form-hub Enough l m (step m a x) (form-of m a x next) next.1) m bs xs run r
 
 -- A WHOLE RUN
 -- the limit of the history has room for the events that every run has

@@ -280,7 +280,7 @@ sound-of l m k = k.roomy.sound.functions
 pub next-of : (l : Limits) (m : Machine) (a : Ask) (x : Entry) → Accountable l m → IsNext m a x → Accountable l (after m a x)
 next-of l m a x k next = record {
   roomy = hub-run ⊥ l m (a ∷ []) (x ∷ []) k.roomy (next, tt);
-  orderly = orderly-step m (step m a x) k.orderly (step-case m a x k.orderly.stage next.1);
+  orderly = orderly-step m (step m a x) k.orderly (step-case m a x k.orderly.stage next);
   facts = side-facts m.hub x (after m a x).hub k.roomy.sound k.facts
       (next-side (is_past_drain m.hub.stage) m a x (sound-of l m k) k.orderly next);
 }

@@ -1,11 +1,7 @@
 -- The room in the journal suffices over all runs, and the entries are counted.
-use Rattle.std.proofs.Common.{◌≡◌, ◌≢◌, ◌≤◌, ℕ, ◌+◌, ◌-◌, ◌*◌, suc, Bool, true, false, not, ◌&&◌, cond, nat_lt, List, [], ◌∷◌, length, IsTrue, refl, ap, sym, ◌∙◌, subst, Option, Some, None, option_map, arith}
-use Rattle.std.specs.Option.{option_or}
+use Rattle.std.proofs.Common.{◌≡◌, ◌≢◌, ◌≤◌, ℕ, ◌+◌, ◌-◌, ◌*◌, suc, Bool, true, false, not, ◌&&◌, cond, nat_lt, List, [], ◌∷◌, length, IsTrue, refl, ap, sym, ◌∙◌, subst, Option, Some, None, arith, ◌⊎◌, inl, inr}
 use Rattle.napi_types.specs.declared.call.Ask.{Ask}
-use Rattle.napi_types.specs.declared.call.Ask.TheVariants as ask
 use Rattle.napi_types.specs.declared.call.Call.{Call}
-use Rattle.napi_types.specs.declared.entry.Actor.{Actor}
-use Rattle.napi_types.specs.declared.entry.Actor.TheVariants as actor
 use Rattle.napi_types.specs.declared.entry.Entry.{Entry}
 use Rattle.napi_types.specs.declared.entry.HostStep.{HostStep}
 use Rattle.napi_types.specs.declared.entry.HostStep.TheVariants as host
@@ -19,30 +15,29 @@ use Rattle.napi_types.specs.declared.entry.Phase.TheVariants as phase
 use Rattle.napi_types.specs.declared.entry.Reply.{Reply}
 use Rattle.napi_types.specs.declared.entry.Why.{Why}
 use Rattle.napi_types.specs.declared.ids.HandleId.{HandleId}
-use Rattle.napi_types.specs.plain.Entries.{is_environment, cut_of}
+use Rattle.napi_types.specs.plain.Entries.{is_environment}
 use Rattle.napi_types.specs.plain.Guards.{is_shared}
 use Rattle.napi_types.specs.plain.Lists.{tail}
 use Rattle.napi_types.specs.plain.Room.{one_if, is_full, need}
-use Rattle.napi_types.specs.parts.Book.{Book, Registration, moved_at, registration_at, lowest_due, owed_tickets, begun_in}
+use Rattle.napi_types.specs.parts.Book.{Book, Registration, moved_at, registration_at, owed_tickets, begun_in}
 use Rattle.napi_types.specs.parts.Frames.{Frame, frame_of_duty, cause_of, duty_of, is_hub_duty, local_frames}
-use Rattle.napi_types.specs.parts.Hooks.{last_hook}
-use Rattle.napi_types.specs.environment.Changes.{may_ask, may_call, is_fresh_result, number_of, book_in}
+use Rattle.napi_types.specs.environment.Changes.{may_call, is_fresh_result, number_of, book_in}
 use Rattle.napi_types.specs.environment.Ends.{end_change}
 use Rattle.napi_types.specs.environment.Entering.{asked_change}
 use Rattle.napi_types.specs.environment.Environment.{Environment}
 use Rattle.napi_types.specs.environment.JournalRoom.{gone_place, reserved_journal, journal_room}
 use Rattle.napi_types.specs.environment.Moments.{is_tearing}
 use Rattle.napi_types.specs.environment.SharedCalls.{shared_entry, after_shared}
-use Rattle.napi_types.specs.hub.Hub.{stage_of, Stage, Before, Going, Looped, Drained, Final, is_spent}
+use Rattle.napi_types.specs.hub.Hub.{stage_of, Before, Going, Looped, Drained}
 use Rattle.napi_types.specs.hub.HubMoves.{HubMove, Delivers, Closes, Finishes, hub_move}
 use Rattle.napi_types.specs.hub.HubSteps.{hub_step}
 use Rattle.napi_types.specs.runs.CallRoom.{room_of}
-use Rattle.napi_types.specs.runs.Choice.{local_choice, local_choice_in, hub_choice_at, idle_choice, is_idle, is_quiet, finals_choice}
-use Rattle.napi_types.specs.runs.Loop.{Inits, Opens, Tickets, Moves, Goes, EndsLoop, FinalsCome, IsGone}
+use Rattle.napi_types.specs.runs.Choice.{choice}
+use Rattle.napi_types.specs.runs.Loop.{EndsLoop, Event}
 use Rattle.napi_types.specs.runs.Machine.{Machine}
-use Rattle.napi_types.specs.runs.Run.{IsRunBy, after, final}
+use Rattle.napi_types.specs.runs.Run.{IsRunBy, after, final, IsNext}
 use Rattle.napi_types.specs.runs.Setting.{Setting, final_of, opening_of}
-use Rattle.napi_types.specs.runs.Step.{Step, by_hub, ticket_step, move_step, event_step, chosen, call_step_on, end_step_on, asked_step, frame_step, env_step, other_step, step_of, step}
+use Rattle.napi_types.specs.runs.Step.{Step, by_hub, ticket_step, move_step, event_step, call_step_on, end_step_on, other_step, step}
 use Rattle.napi_types.proofs.plain.Conditions.{and-right, not-true}
 use Rattle.napi_types.proofs.parts.Books.{owed-begun, NoneRegistered, all_due-none, none-owed_tickets}
 use Rattle.napi_types.proofs.environment.Answers.{SameCourse, course_of, course-parts, local-counted}
@@ -51,6 +46,11 @@ use Rattle.napi_types.proofs.environment.FrameEnds.{Ends, ended-ends}
 use Rattle.napi_types.proofs.environment.Registrations.{none-asked, none-ended, none-begun, owed-in}
 use Rattle.napi_types.proofs.hub.HubDuties.{delivery-of_hub}
 use Rattle.napi_types.proofs.runs.CallRooms.{local-room}
+use Rattle.napi_types.proofs.runs.Chosen as choices
+use Rattle.napi_types.proofs.runs.Chosen.{OwnChoice, NoChoice, HubChoice, chosen-in-phase}
+use Rattle.napi_types.proofs.runs.Forms as form
+use Rattle.napi_types.proofs.runs.Forms.{Form, form-of}
+use Rattle.napi_types.proofs.runs.Runs.{along-entries, along-run}
 use Rattle.napi_types.proofs.runs.SharedSteps.{after_shared-alone, shares-still, moves-still, others-still, end-stage}
 use Rattle.napi_types.proofs.runs.StepCases.{StepCase, shares, leaves, passes, moves, others, stage-moved, step-case}
 
@@ -248,10 +248,26 @@ move-room Enough l m (Closes n) next never r =
 move-room Enough l m (Finishes n) next never r =
     stays Enough l m (move_step m (Finishes n)).after r refl (moves-still m (Finishes n)).stage (record { addons = refl; opened = refl; inits = refl; phase = refl }) r.journal r.settled never
 
--- before `go`
-init-room : (Enough : Type 0) (l : Limits) (m : Machine) (b c : Bool) → m.env.opened ≡ b → nat_lt m.env.inits m.env.addons ≡ c → m.env.phase ≡ phase.Init → m.env.frames ≡ []
-    → Roomy Enough l m → Roomy Enough l (chosen m (option_or (cond b (cond c (Some (Inits m.env.inits)) None) (Some Opens)) (Some Goes))).after
-init-room Enough l m false c o i p f r =
+later-opened : (Enough : Type 0) (l : Limits) (m : Machine) (p : Phase) → m.env.phase ≡ p → is_init p ≡ false → Roomy Enough l m → m.env.opened ≡ true
+later-opened Enough l m p e n r = r.opened (ap is_init e ∙ n)
+
+later-inits : (Enough : Type 0) (l : Limits) (m : Machine) (p : Phase) → m.env.phase ≡ p → is_init p ≡ false → Roomy Enough l m
+    → nat_lt m.env.inits m.env.addons ≡ false
+later-inits Enough l m p e n r = r.inits (ap is_init e ∙ n)
+
+loop-ended-room : (Enough : Type 0) (l : Limits) (m : Machine) (w : LoopEnd) → m.env.phase ≡ phase.Live → Roomy Enough l m
+    → Roomy Enough l (event_step m (EndsLoop w)).after
+loop-ended-room Enough l m w e r =
+    passed-room Enough l m host.LoopEnd phase.Hooks (out.Ended w) (stage-moved m host.LoopEnd Going (r.stage ∙ ap stage_of e)) (rw e refl) (λ q. cc)
+    (later-opened Enough l m phase.Live e refl r) (later-inits Enough l m phase.Live e refl r) r
+
+not-gone : (e : Environment) (p : Phase) → e.phase ≡ p → p ≢ phase.Gone → e.phase ≢ phase.Gone
+not-gone e p is never = λ gone. never (sym is ∙ gone)
+
+-- what the environment decides alone
+own-room : (Enough : Type 0) (l : Limits) (m : Machine) (p : Phase) (v : Event) → m.env.phase ≡ p → m.env.frames ≡ [] → OwnChoice m.env p v → Roomy Enough l m
+    → IsTrue (event_step m v).may → Roomy Enough l (event_step m v).after
+own-room Enough l m _ _ p f (choices.opens o) r h =
     let j : Enough → m.journal_length + (1 + 1 + 2 * (m.env.addons - m.env.inits) + 0 + 2 * owed_tickets m.env.book) ≤ l.journal = λ enough. rw (o, p, f) at (r.journal enough) in
     record {
       limits = r.limits;
@@ -263,7 +279,7 @@ init-room Enough l m false c o i p f r =
       bare = r.bare;
       spent = r.spent;
     }
-init-room Enough l m true true o i p f r =
+own-room Enough l m _ _ p f (choices.inits o i) r h =
     let j : Enough → m.journal_length + (one_if (not m.env.opened) + gone_place m.env.phase + 2 * (m.env.addons - m.env.inits) + 0 + 2 * owed_tickets m.env.book) ≤ l.journal = λ enough. rw f at (r.journal enough) in
     record {
       limits = r.limits;
@@ -275,63 +291,14 @@ init-room Enough l m true true o i p f r =
       bare = λ q. let z : phase.Init ≡ phase.Gone = rw p at q in cc;
       spent = λ q. let z : phase.Init ≡ phase.Gone = rw p at q in cc;
     }
-init-room Enough l m true false o i p f r = passed-room Enough l m host.Go phase.Live out.Nothing (stage-moved m host.Go Before (r.stage ∙ ap stage_of p)) (rw p refl) (λ e. cc) o i r
-
-later-opened : (Enough : Type 0) (l : Limits) (m : Machine) (p : Phase) → m.env.phase ≡ p → is_init p ≡ false → Roomy Enough l m → m.env.opened ≡ true
-later-opened Enough l m p e n r = r.opened (ap is_init e ∙ n)
-
-later-inits : (Enough : Type 0) (l : Limits) (m : Machine) (p : Phase) → m.env.phase ≡ p → is_init p ≡ false → Roomy Enough l m → nat_lt m.env.inits m.env.addons ≡ false
-later-inits Enough l m p e n r = r.inits (ap is_init e ∙ n)
-
--- in the loop
-loop-ended-room : (Enough : Type 0) (l : Limits) (m : Machine) (w : LoopEnd) → m.env.phase ≡ phase.Live → Roomy Enough l m → Roomy Enough l (event_step m (EndsLoop w)).after
-loop-ended-room Enough l m w e r =
-    passed-room Enough l m host.LoopEnd phase.Hooks (out.Ended w) (stage-moved m host.LoopEnd Going (r.stage ∙ ap stage_of e)) (rw e refl) (λ q. cc)
-    (later-opened Enough l m phase.Live e refl r) (later-inits Enough l m phase.Live e refl r) r
-
-idle-room : (Enough : Type 0) (l : Limits) (m : Machine) (idle quiet : Bool) → m.env.phase ≡ phase.Live → Roomy Enough l m
-    → Roomy Enough l (chosen m (cond idle (Some (EndsLoop loop_end.Idle)) (cond quiet (Some (EndsLoop loop_end.Quiet)) None))).after
-idle-room Enough l m true quiet e r = loop-ended-room Enough l m loop_end.Idle e r
-idle-room Enough l m false true e r = loop-ended-room Enough l m loop_end.Quiet e r
-idle-room Enough l m false false e r = r
-
-not-gone : (e : Environment) (p : Phase) → e.phase ≡ p → p ≢ phase.Gone → e.phase ≢ phase.Gone
-not-gone e p is never = λ gone. never (sym is ∙ gone)
-
-going-room : (Enough : Type 0) (l : Limits) (m : Machine) (o : Option HubMove) → hub_move m.hub ≡ o → m.env.phase ≡ phase.Live → Roomy Enough l m
-    → Roomy Enough l (chosen m (option_or (option_map Moves o) (idle_choice m.hub))).after
-going-room Enough l m (Some move) next e r = move-room Enough l m move next (not-gone m.env phase.Live e (λ q. cc)) r
-going-room Enough l m None next e r = idle-room Enough l m (is_idle m.hub) (is_quiet m.hub) e r
-
-loop-room : (Enough : Type 0) (l : Limits) (m : Machine) (exit : Bool) (o : Option ℕ) → m.env.phase ≡ phase.Live → m.env.frames ≡ [] → Roomy Enough l m
-    → (let s : Step = chosen m (option_or (cond exit (Some (EndsLoop loop_end.Exit)) (option_map Tickets o)) (hub_choice_at m.hub Going)) in IsTrue s.may → Roomy Enough l s.after)
-loop-room Enough l m true o e f r h = loop-ended-room Enough l m loop_end.Exit e r
-loop-room Enough l m false (Some n) e f r h = ticket-room Enough l m n (registration_at m.env.book n) refl f (not-gone m.env phase.Live e (λ q. cc)) r h
-loop-room Enough l m false None e f r h = going-room Enough l m (hub_move m.hub) refl e r
-
--- in the teardown
-hooks-room : (Enough : Type 0) (l : Limits) (m : Machine) (o : Option ℕ) → m.env.phase ≡ phase.Hooks → m.env.frames ≡ [] → Roomy Enough l m
-    → (let s : Step = chosen m (option_or (option_map Tickets o) (hub_choice_at m.hub Looped)) in IsTrue s.may → Roomy Enough l s.after)
-hooks-room Enough l m (Some n) e f r h = ticket-room Enough l m n (registration_at m.env.book n) refl f (not-gone m.env phase.Hooks e (λ q. cc)) r h
-hooks-room Enough l m None e f r h =
-    passed-room Enough l m host.Drain phase.Drain (out.Unsigned (length m.hub.pool.queued)) (stage-moved m host.Drain Looped (r.stage ∙ ap stage_of e)) (rw e refl) (λ q. cc)
-    (later-opened Enough l m phase.Hooks e refl r) (later-inits Enough l m phase.Hooks e refl r) r
-
-spent-room : (Enough : Type 0) (l : Limits) (m : Machine) (spent : Bool) → m.env.phase ≡ phase.Drain → Roomy Enough l m → Roomy Enough l (chosen m (cond spent (Some FinalsCome) None)).after
-spent-room Enough l m true e r =
-    passed-room Enough l m host.Finals phase.Finals out.Nothing (stage-moved m host.Finals Drained (r.stage ∙ ap stage_of e)) (rw e refl) (λ q. cc)
-    (later-opened Enough l m phase.Drain e refl r) (later-inits Enough l m phase.Drain e refl r) r
-spent-room Enough l m false e r = r
-
-drain-room : (Enough : Type 0) (l : Limits) (m : Machine) (o : Option HubMove) → hub_move m.hub ≡ o → m.env.phase ≡ phase.Drain → Roomy Enough l m
-    → Roomy Enough l (chosen m (option_or (option_map Moves o) (finals_choice m.hub))).after
-drain-room Enough l m (Some move) next e r = move-room Enough l m move next (not-gone m.env phase.Drain e (λ q. cc)) r
-drain-room Enough l m None next e r = spent-room Enough l m (is_spent m.hub) e r
-
-finals-room : (Enough : Type 0) (l : Limits) (m : Machine) (o : Option ℕ) → lowest_due m.env.book ≡ o → m.env.phase ≡ phase.Finals → m.env.frames ≡ [] → Roomy Enough l m
-    → (let s : Step = chosen m (option_or (option_or (option_map Tickets o) (Some IsGone)) (hub_choice_at m.hub Final)) in IsTrue s.may → Roomy Enough l s.after)
-finals-room Enough l m (Some n) lowest e f r h = ticket-room Enough l m n (registration_at m.env.book n) refl f (not-gone m.env phase.Finals e (λ q. cc)) r h
-finals-room Enough l m None lowest e f r h =
+own-room Enough l m _ _ e f (choices.exits asked) r h = loop-ended-room Enough l m loop_end.Exit e r
+own-room Enough l m _ _ e f (choices.due_in_loop n unasked lowest) r h =
+    ticket-room Enough l m n (registration_at m.env.book n) refl f (not-gone m.env phase.Live e (λ q. cc)) r h
+own-room Enough l m _ _ e f (choices.hooks k last) r h =
+    ticket-room Enough l m k.ticket (registration_at m.env.book k.ticket) refl f (not-gone m.env phase.Hooks e (λ q. cc)) r h
+own-room Enough l m _ _ e f (choices.due_at_end n lowest) r h =
+    ticket-room Enough l m n (registration_at m.env.book n) refl f (not-gone m.env phase.Finals e (λ q. cc)) r h
+own-room Enough l m _ _ e f (choices.ends lowest) r h =
     let j : Enough → m.journal_length + (one_if (not m.env.opened) + 1 + 2 * (m.env.addons - m.env.inits) + 0 + 2 * owed_tickets m.env.book) ≤ l.journal = λ enough. rw (e, f) at (r.journal enough) in
     let settled : NoneRegistered m.env.book = r.settled (ap is_last e) in
     record {
@@ -345,33 +312,35 @@ finals-room Enough l m None lowest e f r h =
       spent = λ q. none-owed_tickets m.env.book settled lowest;
     }
 
-event-room : (Enough : Type 0) (l : Limits) (m : Machine) (p : Phase) → m.env.phase ≡ p → m.env.frames ≡ [] → Roomy Enough l m
-    → (let s : Step = chosen m (option_or (local_choice_in m.env p) (hub_choice_at m.hub (stage_of p))) in IsTrue s.may → Roomy Enough l s.after)
-event-room Enough l m phase.Init e f r h = init-room Enough l m m.env.opened (nat_lt m.env.inits m.env.addons) refl refl e f r
-event-room Enough l m phase.Live e f r h = loop-room Enough l m m.env.exit_asked (lowest_due m.env.book) e f r h
-event-room Enough l m phase.Hooks e f r h = hooks-room Enough l m (option_map (λ k. k.ticket) (last_hook m.env.hooks)) e f r h
-event-room Enough l m phase.Drain e f r h = drain-room Enough l m (hub_move m.hub) refl e r
-event-room Enough l m phase.Finals e f r h = finals-room Enough l m (lowest_due m.env.book) refl e f r h
-event-room Enough l m phase.Gone e f r h = r
+-- and what the hub does where it decides nothing
+hub-room : (Enough : Type 0) (l : Limits) (m : Machine) (p : Phase) (v : Event) → m.env.phase ≡ p → NoChoice m.env p → HubChoice m.hub (stage_of p) v
+    → Roomy Enough l m
+    → Roomy Enough l (event_step m v).after
+hub-room Enough l m _ _ e (choices.begun o i) choices.goes r =
+    passed-room Enough l m host.Go phase.Live out.Nothing (stage-moved m host.Go Before (r.stage ∙ ap stage_of e)) (rw e refl) (λ q. cc) o i r
+hub-room Enough l m _ _ e (choices.waits unasked lowest) (choices.idles none idle) r = loop-ended-room Enough l m loop_end.Idle e r
+hub-room Enough l m _ _ e (choices.waits unasked lowest) (choices.quiets none busy quiet) r = loop-ended-room Enough l m loop_end.Quiet e r
+hub-room Enough l m _ _ e (choices.waits unasked lowest) (choices.moves_in_loop move next) r =
+    move-room Enough l m move next (not-gone m.env phase.Live e (λ q. cc)) r
+hub-room Enough l m _ _ e (choices.unhooked none) choices.drains r =
+    passed-room Enough l m host.Drain phase.Drain (out.Unsigned (length m.hub.pool.queued)) (stage-moved m host.Drain Looped (r.stage ∙ ap stage_of e))
+    (rw e refl) (λ q. cc)
+    (later-opened Enough l m phase.Hooks e refl r) (later-inits Enough l m phase.Hooks e refl r) r
+hub-room Enough l m _ _ e choices.drained (choices.finals none spent) r =
+    passed-room Enough l m host.Finals phase.Finals out.Nothing (stage-moved m host.Finals Drained (r.stage ∙ ap stage_of e)) (rw e refl) (λ q. cc)
+    (later-opened Enough l m phase.Drain e refl r) (later-inits Enough l m phase.Drain e refl r) r
+hub-room Enough l m _ _ e choices.drained (choices.moves_at_end move next) r = move-room Enough l m move next (not-gone m.env phase.Drain e (λ q. cc)) r
+hub-room Enough l m _ _ e choices.gone c r = elim c [ ]
+
+event-room : (Enough : Type 0) (l : Limits) (m : Machine) (v : Event) → m.env.frames ≡ [] → choice m ≡ Some v → Roomy Enough l m → IsTrue (event_step m v).may
+    → Roomy Enough l (event_step m v).after
+event-room Enough l m v alone next r h = by (chosen-in-phase m v r.stage next)
+  where
+    by : OwnChoice m.env m.env.phase v ⊎ NoChoice m.env m.env.phase × HubChoice m.hub (stage_of m.env.phase) v → Roomy Enough l (event_step m v).after
+    by (inl mine) = own-room Enough l m m.env.phase v refl alone mine r h
+    by (inr its) = hub-room Enough l m m.env.phase v refl its.0 its.1 r
 
 -- EACH STEP
-asked-room : (Enough : Type 0) (l : Limits) (m : Machine) (a : Ask) (o : Out) (f : Frame) (fs : List Frame) → m.env.frames ≡ f ∷ fs
-    → Roomy Enough l m → IsTrue (asked_step m a o).may → Roomy Enough l (asked_step m a o).after
-asked-room Enough l m (ask.Do c) o f fs e r h = call-room Enough l m c o f fs (is_shared c) refl e r h
-asked-room Enough l m (ask.Leave v) o f fs e r h = end-room Enough l m v None (may_ask m.env) f fs (is_hub_duty (duty_of m.env.frames)) refl e r
-
-frame-room : (Enough : Type 0) (l : Limits) (m : Machine) (a : Ask) (o : Out) (w : Option Why) (f : Frame) (fs : List Frame) → m.env.frames ≡ f ∷ fs
-    → Roomy Enough l m → IsTrue (frame_step m a o w).may → Roomy Enough l (frame_step m a o w).after
-frame-room Enough l m a o (Some w) f fs e r h = end-room Enough l m None (Some w) _ f fs (is_hub_duty (duty_of m.env.frames)) refl e r
-frame-room Enough l m a o None f fs e r h = asked-room Enough l m a o f fs e r h
-
-env-room : (Enough : Type 0) (l : Limits) (m : Machine) (a : Ask) (o : Out) (fs : List Frame) → m.env.frames ≡ fs
-    → Roomy Enough l m → IsTrue (env_step m a o fs).may → Roomy Enough l (env_step m a o fs).after
-env-room Enough l m a o [] e r h =
-    let P : Stage → Type 0 = λ t. (let s : Step = chosen m (option_or (local_choice m.env) (hub_choice_at m.hub t)) in IsTrue s.may → Roomy Enough l s.after) in
-    subst P (sym r.stage) (event-room Enough l m m.env.phase refl e r) h
-env-room Enough l m a o (f ∷ fs) e r h = frame-room Enough l m a o (cut_of o) f fs e r h
-
 -- a thread or a worker leaves the environment as it is
 other-room : (Enough : Type 0) (l : Limits) (m : Machine) (x : Entry) → is_environment x.actor ≡ false → Roomy Enough l m → Roomy Enough l (other_step m x).after
 other-room Enough l m x other r = record {
@@ -385,16 +354,18 @@ other-room Enough l m x other r = record {
   spent = r.spent;
 }
 
-step-room : (Enough : Type 0) (l : Limits) (m : Machine) (a : Ask) (x : Entry) (who : Actor) → x.actor ≡ who → Roomy Enough l m → IsTrue (step_of m a x who).may
-    → Roomy Enough l (step_of m a x who).after
-step-room Enough l m a x actor.Env is r h = env-room Enough l m a x.reply.out m.env.frames refl r h
-step-room Enough l m a x _ is r h = other-room Enough l m x (ap is_environment is) r
+form-room : (Enough : Type 0) (l : Limits) (m : Machine) (s : Step) → Form m s → Roomy Enough l m → IsTrue s.may → Roomy Enough l s.after
+form-room Enough l m _ (form.calls f fs stands c o local) r h = call-room Enough l m c o f fs false local stands r h
+form-room Enough l m _ (form.shares f fs stands c o is answers) r h = call-room Enough l m c o f fs true is stands r h
+form-room Enough l m _ (form.ends f fs stands v cut b ours is) r h = end-room Enough l m v cut b f fs ours is stands r
+form-room Enough l m _ (form.happens alone v next) r h = event-room Enough l m v alone next r h
+form-room Enough l m _ (form.others x other told) r h = other-room Enough l m x other r
+
+next-room : (Enough : Type 0) (l : Limits) (m : Machine) (a : Ask) (x : Entry) → IsNext m a x → Roomy Enough l m → Roomy Enough l (after m a x)
+next-room Enough l m a x next r = form-room Enough l m (step m a x) (form-of m a x next) r next.1
 
 run-room : (Enough : Type 0) (l : Limits) (m : Machine) (bs : List Ask) (xs : List Entry) → Roomy Enough l m → IsRunBy m bs xs → Roomy Enough l (final m bs xs)
-run-room Enough l m (a ∷ bs) (x ∷ xs) r n = run-room Enough l (after m a x) bs xs (step-room Enough l m a x x.actor refl r n.0.1) n.1
-run-room Enough l m [] [] r n = r
-run-room Enough l m [] (x ∷ xs) r n = r
-run-room Enough l m (a ∷ bs) [] r n = r
+run-room Enough l m bs xs r run = along-run (Roomy Enough l) (next-room Enough l) m bs xs run r
 
 -- THE ENTRIES ARE COUNTED
 -- how many entries both lists have
@@ -412,7 +383,7 @@ move-counted m (Delivers d) = one-shared m.journal_length m.history_length
 move-counted m _ = one-shared m.journal_length m.history_length
 
 step-counted : (m : Machine) (s : Step) → StepCase m s → entries s.after ≡ suc (entries m)
-step-counted m _ (shares c o is) = one-shared m.journal_length m.history_length
+step-counted m _ (shares c o is answers) = one-shared m.journal_length m.history_length
 step-counted m _ (leaves v cut may is) = one-shared m.journal_length m.history_length
 step-counted m _ (passes p o passed) = one-shared m.journal_length m.history_length
 step-counted m _ (moves move next moving alone) = move-counted m move
@@ -423,12 +394,10 @@ one-more : (now before n after : ℕ) → now ≡ suc before → after ≡ now +
 one-more now before n after e h = omega (arith, e, h)
 
 pub run-counted : (Enough : Type 0) (l : Limits) (m : Machine) (bs : List Ask) (xs : List Entry) → Roomy Enough l m → IsRunBy m bs xs → entries (final m bs xs) ≡ entries m + length xs
-run-counted Enough l m (a ∷ bs) (x ∷ xs) r n =
-    one-more (entries (after m a x)) (entries m) (length xs) (entries (final (after m a x) bs xs))
-    (step-counted m (step m a x) (step-case m a x r.stage n.0.1)) (run-counted Enough l (after m a x) bs xs (step-room Enough l m a x x.actor refl r n.0.1) n.1)
-run-counted Enough l m [] [] r n = omega arith
-run-counted Enough l m [] (x ∷ xs) r n = absurd n
-run-counted Enough l m (a ∷ bs) [] r n = absurd n
+run-counted Enough l m bs xs r run =
+    along-entries (λ m bs xs. Roomy Enough l m → entries (final m bs xs) ≡ entries m + length xs) (λ m r. omega arith)
+    (λ m a bs x xs next rest r. one-more (entries (after m a x)) (entries m) (length xs) (entries (final (after m a x) bs xs))
+    (step-counted m (step m a x) (step-case m a x r.stage next)) (rest (next-room Enough l m a x next r))) m bs xs run r
 
 -- A WHOLE RUN
 opens-within : (n x : ℕ) → 2 + 2 * n ≤ x → 0 + (1 + 1 + 2 * (n - 0) + 0 + 2 * 0) ≤ x

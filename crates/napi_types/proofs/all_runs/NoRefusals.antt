@@ -9,27 +9,33 @@ use Rattle.napi_types.specs.declared.ids.HandleId.{HandleId}
 use Rattle.napi_types.specs.declared.ids.ScopeKind.{ScopeKind}
 use Rattle.napi_types.specs.declared.status.Status.{Status}
 use Rattle.napi_types.specs.declared.status.Status.TheVariants as status
+use Rattle.napi_types.specs.plain.CallFacts.{CallGroup, OnValues, OnProperties, OnFunctions, OnScopes, OnReferences, OnWraps, OnEntering, OnHooks, OnThreads, group_of}
 use Rattle.napi_types.specs.plain.Guards.{is_guarded, is_registering}
 use Rattle.napi_types.specs.plain.Lists.{when, unless}
-use Rattle.napi_types.specs.parts.AttachmentRefusals.{attachment_refusal}
 use Rattle.napi_types.specs.parts.Attachments.{Attachments}
 use Rattle.napi_types.specs.parts.Bodies.{is_function, is_string}
-use Rattle.napi_types.specs.parts.ExpectedKinds.{kind_refusal}
 use Rattle.napi_types.specs.parts.Frames.{Frame, caller_of}
+use Rattle.napi_types.specs.parts.FunctionCalls.{function_refusal}
 use Rattle.napi_types.specs.parts.Heap.{Heap, handle_body}
-use Rattle.napi_types.specs.parts.HeapRefusals.{refusal_in}
-use Rattle.napi_types.specs.parts.HookRefusals.{hook_refusal}
+use Rattle.napi_types.specs.parts.HeapGroups.{heap_group}
+use Rattle.napi_types.specs.parts.HeapRefusals.{kind_refusal, row_refusal, refusal_in}
 use Rattle.napi_types.specs.parts.Hooks.{Hook}
 use Rattle.napi_types.specs.parts.Kinds.{expects, expects_if}
 use Rattle.napi_types.specs.parts.NamedNumbers.{is_known, unknown_refusal}
-use Rattle.napi_types.specs.parts.OwnRefusals.{row_refusal}
-use Rattle.napi_types.specs.parts.ReferenceRefusals.{unknown_reference, count_refusal, reference_refusal, references_of}
+use Rattle.napi_types.specs.parts.PropertyCalls.{property_kinds, property_refusal}
+use Rattle.napi_types.specs.parts.ReferenceRefusals.{references_of, unknown_reference, count_refusal, referring_refusal}
 use Rattle.napi_types.specs.parts.References.{ReferenceMap, has_reference}
+use Rattle.napi_types.specs.parts.ScopeCalls.{scope_refusal}
 use Rattle.napi_types.specs.parts.ScopeRefusals.{has_scope, is_kind, closing, refuses_escape, escapable_scope}
 use Rattle.napi_types.specs.parts.Scopes.{Scope, opened_scopes}
+use Rattle.napi_types.specs.parts.ValueCalls.{value_kinds, value_refusal}
+use Rattle.napi_types.specs.parts.WrapRefusals.{wrap_kinds, wrap_refusal}
 use Rattle.napi_types.specs.environment.Environment.{Environment}
+use Rattle.napi_types.specs.environment.Groups.{call_group}
+use Rattle.napi_types.specs.environment.HookCalls.{hook_refusal}
 use Rattle.napi_types.specs.environment.Moments.{is_tearing, guard_refusal, registering_refusal, moment_refusal}
-use Rattle.napi_types.specs.environment.Refusals.{attached_refusal, timely_refusal, early_refusal, depth_refusal, refusal}
+use Rattle.napi_types.specs.environment.Refusals.{group_refusal, timely_refusal, early_refusal, depth_refusal, refusal}
+use Rattle.napi_types.specs.environment.WrapCalls.{attachment_refusal}
 use Rattle.napi_types.specs.all_runs.OnceLaws.{NoRefusalAccepts}
 
 abbrev is_acceptance : Status → Bool
@@ -56,31 +62,43 @@ if-expected : (heap : Heap) (h : Option HandleId) (test : Body → Bool) (s : St
 if-expected heap None test s never = tt
 if-expected heap (Some h) test s never = by-unless _ s never
 
-by-kind : (heap : Heap) (c : Call) → Refuses (kind_refusal heap c)
-by-kind heap (call.CreateSymbol h) = if-expected heap h _ status.StringExpected refl
-by-kind heap (call.CreateError code message) =
+by-value_kind : (heap : Heap) (c : Call) → Refuses (value_kinds heap c)
+by-value_kind heap (call.CreateSymbol h) = if-expected heap h _ status.StringExpected refl
+by-value_kind heap (call.CreateError code message) =
     either (expects_if heap code is_string status.StringExpected) (expects heap message is_string status.StringExpected) (if-expected heap code is_string status.StringExpected refl)
     (by-unless (is_string (handle_body heap message.0)) status.StringExpected refl)
-by-kind heap (call.GetValueInt64 h) = by-unless _ status.NumberExpected refl
-by-kind heap (call.GetValueBigintInt64 h) = by-unless _ status.BigintExpected refl
-by-kind heap (call.GetValueBool h) = by-unless _ status.BooleanExpected refl
-by-kind heap (call.GetValueStringUtf8 h) = by-unless _ status.StringExpected refl
-by-kind heap (call.GetArrayLength h) = by-unless _ status.ArrayExpected refl
-by-kind heap (call.SetNamedProperty h _ _) = by-unless _ status.ObjectExpected refl
-by-kind heap (call.GetNamedProperty h _) = by-unless _ status.ObjectExpected refl
-by-kind heap (call.HasNamedProperty h _) = by-unless _ status.ObjectExpected refl
-by-kind heap (call.DeleteProperty h _) = by-unless _ status.ObjectExpected refl
-by-kind heap (call.GetPropertyNames h) = by-unless _ status.ObjectExpected refl
-by-kind heap (call.SetElement h _ _) = by-unless _ status.ObjectExpected refl
-by-kind heap (call.GetElement h _) = by-unless _ status.ObjectExpected refl
-by-kind heap (call.HasElement h _) = by-unless _ status.ObjectExpected refl
-by-kind heap (call.Wrap h _ _ _ _) = by-unless _ status.ObjectExpected refl
-by-kind heap (call.Unwrap h) = by-unless _ status.ObjectExpected refl
-by-kind heap (call.RemoveWrap h) = by-unless _ status.ObjectExpected refl
-by-kind heap (call.TypeTagObject h _ _) = by-unless _ status.ObjectExpected refl
-by-kind heap (call.CheckObjectTypeTag h _ _) = by-unless _ status.ObjectExpected refl
-by-kind heap (call.AddFinalizer h _ _ _ _) = by-unless _ status.ObjectExpected refl
-by-kind heap _ = tt
+by-value_kind heap (call.GetValueInt64 h) = by-unless _ status.NumberExpected refl
+by-value_kind heap (call.GetValueBigintInt64 h) = by-unless _ status.BigintExpected refl
+by-value_kind heap (call.GetValueBool h) = by-unless _ status.BooleanExpected refl
+by-value_kind heap (call.GetValueStringUtf8 h) = by-unless _ status.StringExpected refl
+by-value_kind heap (call.GetArrayLength h) = by-unless _ status.ArrayExpected refl
+by-value_kind heap _ = tt
+
+by-property_kind : (heap : Heap) (c : Call) → Refuses (property_kinds heap c)
+by-property_kind heap (call.SetNamedProperty h _ _) = by-unless _ status.ObjectExpected refl
+by-property_kind heap (call.GetNamedProperty h _) = by-unless _ status.ObjectExpected refl
+by-property_kind heap (call.HasNamedProperty h _) = by-unless _ status.ObjectExpected refl
+by-property_kind heap (call.DeleteProperty h _) = by-unless _ status.ObjectExpected refl
+by-property_kind heap (call.GetPropertyNames h) = by-unless _ status.ObjectExpected refl
+by-property_kind heap (call.SetElement h _ _) = by-unless _ status.ObjectExpected refl
+by-property_kind heap (call.GetElement h _) = by-unless _ status.ObjectExpected refl
+by-property_kind heap (call.HasElement h _) = by-unless _ status.ObjectExpected refl
+by-property_kind heap _ = tt
+
+by-wrap_kind : (heap : Heap) (c : Call) → Refuses (wrap_kinds heap c)
+by-wrap_kind heap (call.Wrap h _ _ _ _) = by-unless _ status.ObjectExpected refl
+by-wrap_kind heap (call.Unwrap h) = by-unless _ status.ObjectExpected refl
+by-wrap_kind heap (call.RemoveWrap h) = by-unless _ status.ObjectExpected refl
+by-wrap_kind heap (call.TypeTagObject h _ _) = by-unless _ status.ObjectExpected refl
+by-wrap_kind heap (call.CheckObjectTypeTag h _ _) = by-unless _ status.ObjectExpected refl
+by-wrap_kind heap (call.AddFinalizer h _ _ _ _) = by-unless _ status.ObjectExpected refl
+by-wrap_kind heap _ = tt
+
+by-kind : (g : CallGroup) (heap : Heap) (c : Call) → Refuses ((heap_group g).expects heap c)
+by-kind OnValues heap c = by-value_kind heap c
+by-kind OnProperties heap c = by-property_kind heap c
+by-kind OnWraps heap c = by-wrap_kind heap c
+by-kind _ heap c = tt
 
 by-closing : (n : ℕ) (kind : ScopeKind) (ss : List Scope) → Refuses (closing n kind ss)
 by-closing n kind [] = refl
@@ -92,21 +110,47 @@ by-escaping : (o : Option Scope) → Refuses (refuses_escape o)
 by-escaping None = refl
 by-escaping (Some s) = by-when _ status.EscapeCalledTwice refl
 
-by-row : (heap : Heap) (c : Call) → Refuses (row_refusal heap c)
-by-row heap (call.CreateInt64 i) = by-unless _ status.InvalidArg refl
-by-row heap (call.GetValueExternal h) = by-unless _ status.InvalidArg refl
-by-row heap (call.GetPropertyNames h) = by-when _ status.InvalidArg refl
-by-row heap (call.SetElement _ at _) = by-when _ status.InvalidArg refl
-by-row heap (call.CloseHandleScope s) = by-closing s.0 _ (opened_scopes heap.scopes)
-by-row heap (call.CloseEscapableHandleScope s) = by-closing s.0 _ (opened_scopes heap.scopes)
-by-row heap (call.EscapeHandle s _) = by-escaping (escapable_scope s.0 (opened_scopes heap.scopes))
-by-row heap (call.CreateReference h _) = by-unless _ status.InvalidArg refl
-by-row heap (call.Wrap _ _ None _ wanted) = by-when wanted status.InvalidArg refl
-by-row heap (call.CallFunction _ f _) = by-unless _ status.InvalidArg refl
-by-row heap (call.CreateThreadsafeFunction f entry _ count _ _) =
+by-value_row : (heap : Heap) (c : Call) → Refuses (value_refusal heap c)
+by-value_row heap (call.CreateInt64 i) = by-unless _ status.InvalidArg refl
+by-value_row heap (call.GetValueExternal h) = by-unless _ status.InvalidArg refl
+by-value_row heap _ = tt
+
+by-property_row : (heap : Heap) (c : Call) → Refuses (property_refusal heap c)
+by-property_row heap (call.GetPropertyNames h) = by-when _ status.InvalidArg refl
+by-property_row heap (call.SetElement _ at _) = by-when _ status.InvalidArg refl
+by-property_row heap _ = tt
+
+by-scope_row : (heap : Heap) (c : Call) → Refuses (scope_refusal heap c)
+by-scope_row heap (call.CloseHandleScope s) = by-closing s.0 _ (opened_scopes heap.scopes)
+by-scope_row heap (call.CloseEscapableHandleScope s) = by-closing s.0 _ (opened_scopes heap.scopes)
+by-scope_row heap (call.EscapeHandle s _) = by-escaping (escapable_scope s.0 (opened_scopes heap.scopes))
+by-scope_row heap _ = tt
+
+by-reference_row : (heap : Heap) (c : Call) → Refuses (referring_refusal heap c)
+by-reference_row heap (call.CreateReference h _) = by-unless _ status.InvalidArg refl
+by-reference_row heap _ = tt
+
+by-wrap_row : (heap : Heap) (c : Call) → Refuses (wrap_refusal heap c)
+by-wrap_row heap (call.Wrap _ _ None _ wanted) = by-when wanted status.InvalidArg refl
+by-wrap_row heap _ = tt
+
+by-function_row : (heap : Heap) (c : Call) → Refuses (function_refusal heap c)
+by-function_row heap (call.CallFunction _ f _) = by-unless _ status.InvalidArg refl
+by-function_row heap (call.CreateThreadsafeFunction f entry _ count _ _) =
     either (expects_if heap f is_function status.InvalidArg) (when ((is_none f && is_none entry) || (count == 0)) status.InvalidArg) (if-expected heap f is_function status.InvalidArg refl)
     (by-when ((is_none f && is_none entry) || (count == 0)) status.InvalidArg refl)
-by-row heap _ = tt
+by-function_row heap _ = tt
+
+by-row : (g : CallGroup) (heap : Heap) (c : Call) → Refuses ((heap_group g).refuses heap c)
+by-row OnValues heap c = by-value_row heap c
+by-row OnProperties heap c = by-property_row heap c
+by-row OnFunctions heap c = by-function_row heap c
+by-row OnScopes heap c = by-scope_row heap c
+by-row OnReferences heap c = by-reference_row heap c
+by-row OnWraps heap c = by-wrap_row heap c
+by-row OnEntering heap c = by-function_row heap c
+by-row OnThreads heap c = by-function_row heap c
+by-row _ heap c = tt
 
 by-attachment : (a : Attachments) (heap : Heap) (c : Call) → Refuses (attachment_refusal a heap c)
 by-attachment a heap (call.Wrap h _ _ _ _) = by-when _ status.InvalidArg refl
@@ -125,6 +169,14 @@ by-count m (call.ReferenceRef r) = by-when _ status.GenericFailure refl
 by-count m (call.ReferenceUnref r) = by-when _ status.GenericFailure refl
 by-count m _ = tt
 
+by-group : (g : CallGroup) (e : Environment) (c : Call) → Refuses ((call_group g).refuses e c)
+by-group OnReferences e c =
+    either (unknown_reference e.references c) (count_refusal e.references c)
+    (by-unless (list_all (has_reference e.references) (references_of c)) status.InvalidArg refl) (by-count e.references c)
+by-group OnWraps e c = by-attachment e.attachments e.heap c
+by-group OnHooks e c = by-hook (caller_of e.frames) e.hooks c
+by-group _ e c = tt
+
 by-depth : (fs : List Frame) (c : Call) → Refuses (depth_refusal fs c)
 by-depth fs (call.CallFunction _ _ _) = by-when _ status.PendingException refl
 by-depth fs _ = tt
@@ -134,17 +186,15 @@ by-moment e c =
     either (guard_refusal e c) (registering_refusal e c) (by-when (is_guarded c && (is_some e.pending || is_tearing e.phase)) status.PendingException refl)
     (by-when (is_registering c && is_tearing e.phase) status.GenericFailure refl)
 
-pub refusals-refuse : (e : Environment) (c : Call) → Refuses (refusal e c)
+refusals-refuse : (e : Environment) (c : Call) → Refuses (refusal e c)
 refusals-refuse e c =
     either (early_refusal e c) (depth_refusal e.frames c)
     (either (moment_refusal e c) (timely_refusal e c) (by-moment e c)
-    (either (hook_refusal (caller_of e.frames) e.hooks c) (option_or (reference_refusal e.references c) (attached_refusal e c)) (by-hook (caller_of e.frames) e.hooks c)
-    (either (reference_refusal e.references c) (attached_refusal e c)
-    (either (unknown_reference e.references c) (count_refusal e.references c) (by-unless (list_all (has_reference e.references) (references_of c)) status.InvalidArg refl) (by-count e.references c))
-    (either (refusal_in e.texts e.heap c) (attachment_refusal e.attachments e.heap c)
-    (either (unknown_refusal e.texts e.heap c) (option_or (kind_refusal e.heap c) (row_refusal e.heap c)) (by-unless (is_known e.texts e.heap c) status.InvalidArg refl)
-    (either (kind_refusal e.heap c) (row_refusal e.heap c) (by-kind e.heap c) (by-row e.heap c)))
-    (by-attachment e.attachments e.heap c)))))
+    (either (refusal_in e.texts e.heap c) (group_refusal e c)
+    (either (unknown_refusal e.texts e.heap c) (option_or (kind_refusal e.heap c) (row_refusal e.heap c))
+    (by-unless (is_known e.texts e.heap c) status.InvalidArg refl)
+    (either (kind_refusal e.heap c) (row_refusal e.heap c) (by-kind (group_of c) e.heap c) (by-row (group_of c) e.heap c)))
+    (by-group (group_of c) e c)))
     (by-depth e.frames c)
 
 pub no-refusal-accepts : NoRefusalAccepts

@@ -133,7 +133,7 @@ step-is : (m : Machine) (s : Step) → StepCase m s → IsTrue s.may → EntryDu
 step-is m s (calls c n may alone) ok = tickets-alone m.env.book s.entry s.after.env.book (asked-is m.env c n)
 step-is m s (ends v cut may alone) ok = tickets-alone m.env.book s.entry s.after.env.book (end-is v cut m.env)
 step-is m s (begins n r there next may) ok = tickets-alone m.env.book s.entry s.after.env.book (began m.env.phase n r s.after.env.book there may refl)
-step-is m s (shares c o shared) ok =
+step-is m s (shares c o shared answers) ok =
     hub-is m.env.book m.hub (shared_entry m.env c o) s.after.env.book
     (and-right (may_call m.env && not (is_full (room_of m c) c)) (hub_step m.hub (shared_entry m.env c o)).may ok) (still-is m s.after (shares-still m c o))
 step-is m s (leaves v cut may ours) ok =

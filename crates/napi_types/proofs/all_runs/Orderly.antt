@@ -164,7 +164,7 @@ orderly-step m _ h (vanishes last) = record {
   settled = λ p. h.settled (ap is_late last);
   spent = λ p. h.spent (ap is_drained last);
 }
-orderly-step m s h (shares c o shared) = orderly-still m s.after (shares-still m c o) h
+orderly-step m s h (shares c o shared answers) = orderly-still m s.after (shares-still m c o) h
 orderly-step m s h (leaves v cut may ours) =
     let x : Entry = (end_change v cut m.env).entry in
     orderly-ended m s.after v cut (end-stage m.hub x (ended-ends v cut m.env).who (ended-ends v cut m.env).is) refl h
@@ -184,7 +184,7 @@ pub along-orderly : (Q : Machine → List Ask → List Entry → Type 0) → ((m
     → (m : Machine) (bs : List Ask) (xs : List Entry) → Orderly m → IsRunBy m bs xs → Q m bs xs
 along-orderly Q none more m bs xs h run =
     along-entries (λ m bs xs. Orderly m → Q m bs xs) (λ m h. none m) (λ m a bs x xs next rest h.
-    let s : StepCase m (step m a x) = step-case m a x h.stage next.1 in
+    let s : StepCase m (step m a x) = step-case m a x h.stage next in
     let k : Orderly (after m a x) = orderly-step m (step m a x) h s in
     more m a bs x xs h next s k (rest k)) m bs xs run h
 
@@ -193,7 +193,7 @@ orderly-opens s = record { stage = refl; hooked = hooked-opening (length s.plans
 
 -- the step that comes next in a run
 pub next-case : (m : Machine) (a : Ask) (x : Entry) → Orderly m → IsNext m a x → StepCase m (step m a x)
-next-case m a x h next = step-case m a x h.stage next.1
+next-case m a x h next = step-case m a x h.stage next
 
 -- every machine of a run is orderly
 pub orderly-run : (s : Setting) (bs : List Ask) (xs : List Entry) → IsRunBy (opening_of s) bs xs → Orderly (final_of s bs xs)

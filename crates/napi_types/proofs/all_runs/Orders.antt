@@ -58,7 +58,7 @@ use Rattle.napi_types.proofs.hub.HubDuties.{IsOfHub, delivery-of_hub}
 use Rattle.napi_types.proofs.hub.HubKeeps.{hub_step-what}
 use Rattle.napi_types.proofs.runs.SharedSteps.{StandsStill, shares-still, moves-still, others-still, IsNoEvent, others-told, others-none}
 use Rattle.napi_types.proofs.runs.StepCases.{StepCase, calls, ends, opens, inits, begins, vanishes, shares, leaves, passes, moves, others, event_before}
-use Rattle.napi_types.proofs.all_runs.Orderly.{IsSpent, Orderly, late-tears, is_drained, orderly-step, orderly-opens, along-orderly, next-case}
+use Rattle.napi_types.proofs.all_runs.Orderly.{IsSpent, Orderly, late-tears, is_drained, orderly-opens, along-orderly}
 
 -- LISTS OF TICKETS
 -- a list of one ticket of which this holds, or of none
@@ -283,7 +283,7 @@ hooks-fewer m _ h k (begins n r there next may) t may_then =
     phase-stays m.env.phase m.env.phase m.env.hooks (hooks_left m.env.phase n m.env.hooks) t refl
     (λ p is. (left-among n t m.env.hooks (ap (λ q. has (λ (h : Hook). h.ticket) t (hooks_left q n m.env.hooks)) (sym p) ∙ is)).0) may_then
 hooks-fewer m _ h k (vanishes last) t may_then = absurd may_then
-hooks-fewer m s h k (shares c o shared) t may_then = still-fewer m s.after (shares-still m c o) t may_then
+hooks-fewer m s h k (shares c o shared answers) t may_then = still-fewer m s.after (shares-still m c o) t may_then
 hooks-fewer m s h k (leaves v cut may ours) t may_then = ended-fewer m.env v cut t may_then
 hooks-fewer m _ h k (passes p o q) t may_then = phase-passed m.env.phase p m.env.hooks t q.next may_then
 hooks-fewer m s h k (moves move next moving alone) t may_then = still-fewer m s.after (moves-still m move) t may_then
@@ -329,7 +329,7 @@ hooks-next m _ h (begins n r there next may) comes = by (is_hook_cause r.cause) 
     by true why = one_ticket n (next-hook m n r m.env.phase refl h there next may (why refl))
     by false why = no_ticket
 hooks-next m _ h (vanishes last) comes = no_ticket
-hooks-next m _ h (shares c o shared) comes = none-told _ _ (shares-plain m c o).hooks
+hooks-next m _ h (shares c o shared answers) comes = none-told _ _ (shares-plain m c o).hooks
 hooks-next m _ h (leaves v cut may ours) comes = none-told _ _ (leaves-plain m v cut).hooks
 hooks-next m _ h (passes p o q) comes = none-told _ _ (ap hooks_told q.entry ∙ ap (λ b. cond b (told_hook o) []) (passed-begins p))
 hooks-next m _ h (moves move next moving alone) comes = none-told _ _ (moves-plain m move next).hooks
@@ -346,7 +346,7 @@ late-stays : (m : Machine) (s : Step) → StepCase m s → is_late m.env.phase �
 late-stays m _ (calls c n may alone) late = ap is_late (course-parts m.env (asked_change m.env c n).after (asked_change-fits m.env c n).course).phase ∙ late
 late-stays m _ (ends v cut may alone) late = ap is_late (course-parts m.env (end_change v cut m.env).after (ended-keeps v cut m.env).course).phase ∙ late
 late-stays m _ (vanishes last) late = refl
-late-stays m _ (shares c o shared) late = ap is_late (shares-still m c o).phase ∙ late
+late-stays m _ (shares c o shared answers) late = ap is_late (shares-still m c o).phase ∙ late
 late-stays m _ (leaves v cut may ours) late = ap is_late (course-parts m.env (end_change v cut m.env).after (ended-keeps v cut m.env).course).phase ∙ late
 late-stays m _ (passes p o q) late = absurd (late-next m.env.phase p q.next q.never late)
 late-stays m _ (moves move next moving alone) late = ap is_late (moves-still m move).phase ∙ late
@@ -371,7 +371,7 @@ due-fewer m _ h (calls c n may alone) late = (asked-more m.env c n (late-tears m
 due-fewer m _ h (ends v cut may alone) late = ended-due m.env v cut (h.settled late)
 due-fewer m _ h (begins n r there next may) late =
     λ t due. (begun-more n m.env.book).due (h.settled late) t (ap (λ move. is_at is_due (moved_at move n m.env.book) t) (sym (begun-late m.env.phase late)) ∙ due)
-due-fewer m s h (shares c o shared) late = still-due m s.after (shares-still m c o)
+due-fewer m s h (shares c o shared answers) late = still-due m s.after (shares-still m c o)
 due-fewer m _ h (leaves v cut may ours) late = ended-due m.env v cut (h.settled late)
 due-fewer m _ h (passes p o q) late = absurd (late-next m.env.phase p q.next q.never late)
 due-fewer m s h (moves move next moving alone) late = still-due m s.after (moves-still m move)
@@ -397,7 +397,7 @@ due-next : (m : Machine) (s : Step) → Orderly m → StepCase m s → IsTrue s.
 due-next m _ h (calls c n may alone) comes late = none-told _ _ (asked-plain m.env c n).tickets
 due-next m _ h (ends v cut may alone) comes late = none-told _ _ (ended-plain v cut m.env).tickets
 due-next m _ h (begins n r there next may) comes late = one_ticket n (next-due m n r m.env.phase late (h.settled late) there next may)
-due-next m _ h (shares c o shared) comes late = none-told _ _ (shares-plain m c o).tickets
+due-next m _ h (shares c o shared answers) comes late = none-told _ _ (shares-plain m c o).tickets
 due-next m _ h (leaves v cut may ours) comes late = none-told _ _ (leaves-plain m v cut).tickets
 due-next m _ h (passes p o q) comes late = none-told _ _ (ap tickets_told q.entry ∙ ap (λ b. cond b (told_ticket o) []) (passed-begins p))
 due-next m _ h (moves move next moving alone) comes late = none-told _ _ (moves-plain m move next).tickets
@@ -408,7 +408,7 @@ due-next m _ h _ comes late = no_ticket
 finals-start : (m : Machine) (s : Step) → StepCase m s → IsTrue s.may → is_finals s.entry.what ≡ true → is_late s.after.env.phase ≡ true
 finals-start m _ (calls c n may alone) comes is = let no : true ≡ false = sym is ∙ (asked-plain m.env c n).finals in cc
 finals-start m _ (ends v cut may alone) comes is = let no : true ≡ false = sym is ∙ (ended-plain v cut m.env).finals in cc
-finals-start m _ (shares c o shared) comes is = let no : true ≡ false = sym is ∙ (shares-plain m c o).finals in cc
+finals-start m _ (shares c o shared answers) comes is = let no : true ≡ false = sym is ∙ (shares-plain m c o).finals in cc
 finals-start m _ (leaves v cut may ours) comes is = let no : true ≡ false = sym is ∙ (leaves-plain m v cut).finals in cc
 finals-start m _ (passes p o q) comes is = passed-finals p (sym (ap (λ (x : Entry). is_finals x.what) q.entry) ∙ is)
 finals-start m _ (moves move next moving alone) comes is = let no : true ≡ false = sym is ∙ (moves-plain m move next).finals in cc
@@ -434,19 +434,17 @@ run-late =
     rise-more (λ n. is_at is_due m.env.book n ≡ true) (λ n. is_at is_due (after m a x).env.book n ≡ true) (tickets_told x) (tickets_begun xs)
     (due-fewer m (step m a x) h s late) told (rest (late-stays m (step m a x) s late)))
 
-run-finals : (m : Machine) (bs : List Ask) (xs : List Entry) → Orderly m → IsRunBy m bs xs → FinalsRise xs
-run-finals m (a ∷ bs) (x ∷ xs) h run =
-    let s : StepCase m (step m a x) = next-case m a x h run.0 in
-    let k : Orderly (after m a x) = orderly-step m (step m a x) h s in
-    by (is_finals x.what) (λ is. finals-start m (step m a x) s run.0.1 (sym (ap (λ (y : Entry). is_finals y.what) run.0.0) ∙ is)) k (run-finals (after m a x) bs xs k run.1)
+run-finals : (m : Machine) (bs : List Ask) (xs : List Entry) → Orderly m → IsRunBy m bs xs → IsRunBy m bs xs × FinalsRise xs
+run-finals = along-orderly (λ m bs xs. IsRunBy m bs xs × FinalsRise xs) (λ m. (tt, tt)) (λ m a bs x xs h next s k rest. (
+    (next, rest.0),
+    by xs rest.1 (is_finals x.what) (λ is.
+    (run-late (after m a x) bs xs k rest.0 (finals-start m (step m a x) s next.1 (sym (ap (λ (y : Entry). is_finals y.what) next.0) ∙ is))).0)))
   where
-    by : (b : Bool) → (b ≡ true → is_late (after m a x).env.phase ≡ true) → Orderly (after m a x) → FinalsRise xs → TicketsRise (cond b (tickets_begun xs) (finals_begun xs))
-    by true late k rest = (run-late (after m a x) bs xs k run.1 (late refl)).0
-    by false late k rest = rest
-run-finals m [] [] h run = tt
-run-finals m [] (x ∷ xs) h run = absurd run
-run-finals m (a ∷ bs) [] h run = tt
+    by : (xs : List Entry) → FinalsRise xs → (b : Bool) → (b ≡ true → TicketsRise (tickets_begun xs))
+        → TicketsRise (cond b (tickets_begun xs) (finals_begun xs))
+    by xs rest true late = late refl
+    by xs rest false late = rest
 
 -- THE LAW
 pub order-holds : (s : Setting) (bs : List Ask) (xs : List Entry) → IsRunBy (opening_of s) bs xs → HooksFall xs × FinalsRise xs
-order-holds s bs xs run = ((run-hooks (opening_of s) bs xs (orderly-opens s) run).0, run-finals (opening_of s) bs xs (orderly-opens s) run)
+order-holds s bs xs run = ((run-hooks (opening_of s) bs xs (orderly-opens s) run).0, (run-finals (opening_of s) bs xs (orderly-opens s) run).1)

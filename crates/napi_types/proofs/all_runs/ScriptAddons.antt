@@ -1,9 +1,8 @@
 -- In every run the addons of frames, functions, tickets, works and thread-safe functions are those of the script.
-use Rattle.std.proofs.Common.{◌≡◌, ◌≢◌, ◌∙◌, ◌<◌, ℕ, Bool, true, false, List, [], ◌∷◌, length, IsTrue, refl, ap, sym, subst, Option, Some, None, arith}
+use Rattle.std.proofs.Common.{◌≡◌, ◌≢◌, ◌∙◌, ◌<◌, ℕ, Bool, true, false, List, [], length, IsTrue, refl, sym, subst, Option, Some, None, arith}
 use Rattle.std.specs.Option.{unwrap_or}
 use Rattle.std.proofs.lemmas.List.Elements.{All-nil, All-cons}
 use Rattle.napi_types.specs.declared.call.Ask.{Ask}
-use Rattle.napi_types.specs.declared.call.Ask.TheVariants as ask
 use Rattle.napi_types.specs.declared.call.Call.{Call}
 use Rattle.napi_types.specs.declared.call.Call.TheVariants as call
 use Rattle.napi_types.specs.declared.entry.Actor.{Actor}
@@ -21,14 +20,13 @@ use Rattle.napi_types.specs.declared.entry.Why.{Why}
 use Rattle.napi_types.specs.declared.ids.HandleId.{HandleId}
 use Rattle.napi_types.specs.declared.status.Status.{Status}
 use Rattle.napi_types.specs.declared.status.Status.TheVariants as status
-use Rattle.napi_types.specs.plain.Entries.{host_entry, is_environment, cut_of}
-use Rattle.napi_types.specs.plain.Guards.{is_shared}
+use Rattle.napi_types.specs.plain.Entries.{host_entry, is_environment}
 use Rattle.napi_types.specs.parts.Bodies.{is_function}
 use Rattle.napi_types.specs.parts.Book.{Registration, registration_at}
 use Rattle.napi_types.specs.parts.Kinds.{expects_if}
-use Rattle.napi_types.specs.parts.Frames.{Frame, frame_of_duty, caller_of, duty_of, is_hub_duty}
+use Rattle.napi_types.specs.parts.Frames.{frame_of_duty, caller_of}
 use Rattle.napi_types.specs.parts.Heap.{handle_body}
-use Rattle.napi_types.specs.environment.Changes.{number_of, may_ask, with_noted_status}
+use Rattle.napi_types.specs.environment.Changes.{number_of, with_noted_status}
 use Rattle.napi_types.specs.environment.Ends.{end_change}
 use Rattle.napi_types.specs.environment.Entering.{asked_change}
 use Rattle.napi_types.specs.environment.Environment.{Environment}
@@ -49,7 +47,7 @@ use Rattle.napi_types.specs.runs.Loop.{Event, Inits, Tickets, Moves, Goes, EndsL
 use Rattle.napi_types.specs.runs.Machine.{Machine}
 use Rattle.napi_types.specs.runs.Run.{IsRunBy, final}
 use Rattle.napi_types.specs.runs.Setting.{opening_of}
-use Rattle.napi_types.specs.runs.Step.{Step, by_hub, ticket_step, move_step, event_step, chosen, may_cut, call_step_on, end_step_on, frame_step, env_step, has_room, other_step, step_of}
+use Rattle.napi_types.specs.runs.Step.{Step, by_hub, ticket_step, move_step, event_step, call_step_on, end_step_on, has_room, other_step, step}
 use Rattle.napi_types.specs.all_runs.HubLaws.{AreOfScript, AddonsAreTheScripts}
 use Rattle.napi_types.proofs.plain.Conditions.{and-right}
 use Rattle.napi_types.proofs.plain.Lists.{none-first, not-unless, some-stand}
@@ -59,6 +57,8 @@ use Rattle.napi_types.proofs.environment.FrameEnds.{ended-ends}
 use Rattle.napi_types.proofs.environment.Owners.{Below, body-owned, caller-owned, counted-owned, row-unrefused, owned-asked, owned-ended, owned-init, owned-ticket, owned-phase, owned-opening}
 use Rattle.napi_types.proofs.hub.HubOwners.{MoveOwned, GivesOwned, is_creating_call, given-owned, others-owned, event-owned, thread_event-owned, worker-owned, move-owned}
 use Rattle.napi_types.proofs.runs.Chosen.{chosen-move, chosen-init}
+use Rattle.napi_types.proofs.runs.Forms as form
+use Rattle.napi_types.proofs.runs.Forms.{Form, form-of}
 use Rattle.napi_types.proofs.runs.Runs.{along-run}
 
 -- THE HUB AT AN EVENT
@@ -156,11 +156,6 @@ end-step-owned n m v cut may b k = by b
     by false = record { addons = addons; env = env; hub = k.hub }
     by true = record { addons = addons; env = env; hub = host-owned n m.hub (end_change v cut m.env).entry host.End (ended-ends v cut m.env).is k.hub }
 
-frame-step-owned : (n : ℕ) (m : Machine) (a : Ask) (o : Out) (cut : Option Why) → m.env.frames ≢ [] → AreOfScript n m → StepOwned n (frame_step m a o cut)
-frame-step-owned n m a o (Some w) stands k = end-step-owned n m None (Some w) (may_cut m a w) (is_hub_duty (duty_of m.env.frames)) k
-frame-step-owned n m (ask.Do c) o None stands k = call-step-owned n m c o (is_shared c) stands k
-frame-step-owned n m (ask.Leave v) o None stands k = end-step-owned n m v None (may_ask m.env) (is_hub_duty (duty_of m.env.frames)) k
-
 -- an event where no frame stands
 great-owned : (n : ℕ) (m : Machine) (event : HostStep) (p : Phase) (o : Out) → AreOfScript n m → StepOwned n (by_hub m event p o)
 great-owned n m event p o k = record { addons = k.addons; env = owned-phase n m.env p k.env; hub = host-owned n m.hub (host_entry event o) event refl k.hub }
@@ -196,24 +191,19 @@ event-step-owned n m Drains is k = great-owned n m host.Drain phase.Drain (out.U
 event-step-owned n m FinalsCome is k = great-owned n m host.Finals phase.Finals out.Nothing k
 event-step-owned n m _ is k = record { addons = k.addons; env = record { frames = k.env.frames; functions = k.env.functions; tickets = k.env.tickets }; hub = k.hub }
 
-chosen-owned : (n : ℕ) (m : Machine) (o : Option Event) → choice m ≡ o → AreOfScript n m → StepOwned n (chosen m o)
-chosen-owned n m None is k = k
-chosen-owned n m (Some v) is k = event-step-owned n m v is k
-
-env-owned : (n : ℕ) (m : Machine) (a : Ask) (o : Out) (fs : List Frame) → m.env.frames ≡ fs → AreOfScript n m → StepOwned n (env_step m a o fs)
-env-owned n m a o [] is k = chosen-owned n m (choice m) refl k
-env-owned n m a o (f ∷ fs) is k = frame-step-owned n m a o (cut_of o) (some-stand f fs m.env.frames is) k
-
 other-owned : (n : ℕ) (m : Machine) (x : Entry) → is_environment x.actor ≡ false → IsTrue (other_step m x).may → AreOfScript n m → StepOwned n (other_step m x)
 other-owned n m x other may k =
     record { addons = k.addons; env = k.env; hub = others-owned n m.hub x other (and-right (has_room m x.what) (hub_step m.hub x).may may) k.hub }
 
-step-owned : (n : ℕ) (m : Machine) (a : Ask) (x : Entry) (who : Actor) → x.actor ≡ who → IsTrue (step_of m a x who).may → AreOfScript n m → StepOwned n (step_of m a x who)
-step-owned n m a x actor.Env is may k = env-owned n m a x.reply.out m.env.frames refl k
-step-owned n m a x _ is may k = other-owned n m x (ap is_environment is) may k
+form-owned : (n : ℕ) (m : Machine) (s : Step) → Form m s → IsTrue s.may → AreOfScript n m → StepOwned n s
+form-owned n m _ (form.calls f fs stands c o local) may k = call-step-owned n m c o false (some-stand f fs m.env.frames stands) k
+form-owned n m _ (form.shares f fs stands c o is told) may k = call-step-owned n m c o true (some-stand f fs m.env.frames stands) k
+form-owned n m _ (form.ends f fs stands v cut b ours is) may k = end-step-owned n m v cut b ours k
+form-owned n m _ (form.happens alone event next) may k = event-step-owned n m event next k
+form-owned n m _ (form.others x other same) may k = other-owned n m x other may k
 
 run-owned : (n : ℕ) (m : Machine) (bs : List Ask) (xs : List Entry) → IsRunBy m bs xs → AreOfScript n m → AreOfScript n (final m bs xs)
-run-owned n = along-run (λ m. AreOfScript n m) (λ m a x next k. step-owned n m a x x.actor refl next.1 k)
+run-owned n = along-run (λ m. AreOfScript n m) (λ m a x next k. form-owned n m (step m a x) (form-of m a x next) next.1 k)
 
 pub addons-are-the-scripts : AddonsAreTheScripts
 addons-are-the-scripts s bs xs run = run-owned (length s.plans) (opening_of s) bs xs run (record {

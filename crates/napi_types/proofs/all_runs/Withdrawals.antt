@@ -86,7 +86,7 @@ asked-rightly e c n = asked-by e c n (λ d. EntryRightly d.entry) (told-rightly 
 step-rightly : (m : Machine) (s : Step) → StepCase m s → IsTrue s.may → EntryRightly s.entry
 step-rightly m _ (calls c n may alone) ok = asked-rightly m.env c n
 step-rightly m _ (ends v cut may alone) ok = end-rightly v cut m.env
-step-rightly m _ (shares c o shared) ok =
+step-rightly m _ (shares c o shared answers) ok =
     let x : Entry = shared_entry m.env c o in
     hub-rightly m.hub x (and-right (may_call m.env && not (is_full (room_of m c) c)) (hub_step m.hub x).may ok)
 step-rightly m _ (leaves v cut may ours) ok =
@@ -99,7 +99,7 @@ step-rightly m _ _ ok = nothing _ _ refl
 
 next-rightly : (m : Machine) (a : Ask) (x : Entry) → Orderly m → IsNext m a x → WithdrawsRightly x
 next-rightly m a x h next =
-    let r : EntryRightly x = subst EntryRightly (sym next.0) (step-rightly m (step m a x) (step-case m a x h.stage next.1) next.1) in
+    let r : EntryRightly x = subst EntryRightly (sym next.0) (step-rightly m (step m a x) (step-case m a x h.stage next) next.1) in
     record { call = r.call; accepted = r.accepted }
 
 run-rightly : (m : Machine) (bs : List Ask) (xs : List Entry) → Orderly m → IsRunBy m bs xs → All WithdrawsRightly xs

@@ -1,12 +1,10 @@
 -- What every call of the environment keeps, and by how much it may grow.
-use Rattle.std.proofs.Common.{◌≡◌, ◌≤◌, ℕ, ◌+◌, ◌*◌, nat_lt, Bool, true, false, not, cond, List, [], ◌∷◌, length, refl, sym, ap, ◌∙◌, Option, Some, None, is_some, IfSome, arith}
+use Rattle.std.proofs.Common.{◌≡◌, ◌≤◌, ℕ, ◌+◌, ◌*◌, nat_lt, Bool, true, false, not, cond, List, [], ◌∷◌, length, refl, sym, ap, ◌∙◌, Option, Some, None, is_some, arith}
 use Rattle.std.proofs.lemmas.List.{length-map}
 use Rattle.std.specs.Option.{option_or}
 use Rattle.napi_types.specs.declared.call.Call.{Call}
 use Rattle.napi_types.specs.declared.call.Call.TheVariants as call
-use Rattle.napi_types.specs.declared.body.Body.TheVariants as body
 use Rattle.napi_types.specs.declared.entry.Duty.{Duty}
-use Rattle.napi_types.specs.declared.entry.Out.{Out}
 use Rattle.napi_types.specs.declared.entry.Out.TheVariants as out
 use Rattle.napi_types.specs.declared.entry.Phase.{Phase}
 use Rattle.napi_types.specs.declared.entry.Reply.{Reply}
@@ -14,39 +12,34 @@ use Rattle.napi_types.specs.declared.ids.TextNo.{TextNo}
 use Rattle.napi_types.specs.declared.status.Status.{Status}
 use Rattle.napi_types.specs.declared.status.Status.TheVariants as status
 use Rattle.napi_types.specs.plain.Guards.{is_registering}
-use Rattle.napi_types.specs.plain.Replies.{Answer, accepts, refuses}
+use Rattle.napi_types.specs.plain.Replies.{Answer, accepts}
 use Rattle.napi_types.specs.plain.Room.{one_if, need}
-use Rattle.napi_types.specs.parts.Attachments.{Attachments, wrap_ticket}
-use Rattle.napi_types.specs.parts.Book.{Book, is_registered, is_at, owed_tickets}
+use Rattle.napi_types.specs.parts.Book.{Book, owed_tickets}
+use Rattle.napi_types.specs.parts.ExpectedKinds.{kind_refusal}
 use Rattle.napi_types.specs.parts.Frames.{Frame, caller_of, ask_counted, is_hub_duty, local_frames}
-use Rattle.napi_types.specs.parts.Heap.{Heap, handle_value, handle_properties}
+use Rattle.napi_types.specs.parts.Heap.{Heap, handle_properties}
 use Rattle.napi_types.specs.parts.HeapCalls.{heap_effect, addon_effect, heap_answer_unless, heap_answer}
-use Rattle.napi_types.specs.parts.HeapChanges.{new_value, with_handle, with_thrown}
-use Rattle.napi_types.specs.parts.HeapRefusals.{kind_refusal, row_refusal, refusal_in}
-use Rattle.napi_types.specs.parts.Hooks.{hook_ticket}
-use Rattle.napi_types.specs.parts.InstanceData.{instance_ticket, with_instance}
+use Rattle.napi_types.specs.parts.HeapChanges.{with_handle, with_thrown}
+use Rattle.napi_types.specs.parts.HeapRefusals.{refusal_in, kind_refusal, row_refusal}
+use Rattle.napi_types.specs.parts.Hooks.{hook_ticket, Hook}
 use Rattle.napi_types.specs.parts.NamedNumbers.{unknown_refusal}
 use Rattle.napi_types.specs.parts.PropertyCalls.{names_of}
-use Rattle.napi_types.specs.parts.References.{ReferenceMap, referred_value}
-use Rattle.napi_types.specs.environment.Calls.{effect, with_depth_error, answer}
+use Rattle.napi_types.specs.parts.References.{ReferenceMap}
+use Rattle.napi_types.specs.environment.Calls.{effect, answer}
 use Rattle.napi_types.specs.environment.Changes.{call_change}
-use Rattle.napi_types.specs.environment.Collection.{collected}
-use Rattle.napi_types.specs.environment.Environment.{Environment, in_heap}
-use Rattle.napi_types.specs.environment.ExternalCalls.{attached_if}
-use Rattle.napi_types.specs.environment.HookCalls.{hooking, unhooked}
-use Rattle.napi_types.specs.environment.InstanceCalls.{setting_instance}
+use Rattle.napi_types.specs.environment.Environment.{Environment}
+use Rattle.napi_types.specs.environment.HookCalls.{unhooked}
 use Rattle.napi_types.specs.environment.JournalRoom.{reserved_journal}
 use Rattle.napi_types.specs.environment.Moments.{is_tearing, guard_refusal, registering_refusal, moment_refusal}
-use Rattle.napi_types.specs.environment.ReferenceCalls.{value_told, counted_up}
-use Rattle.napi_types.specs.environment.Refusals.{group_refusal, timely_refusal, early_refusal}
-use Rattle.napi_types.specs.environment.Registering.{finalizer_if, ticket_if, registering_if, registered_only, withdrawing}
-use Rattle.napi_types.specs.environment.Roots.{reach}
-use Rattle.napi_types.specs.environment.WrapCalls.{wrapping, finalizing}
+use Rattle.napi_types.specs.environment.Refusals.{timely_refusal, early_refusal, group_refusal}
+use Rattle.napi_types.specs.environment.Registering.{withdrawing}
 use Rattle.napi_types.proofs.plain.Maps.{length-with_record}
 use Rattle.napi_types.proofs.plain.Lists.{length-changed, not-when, none-first, none-last}
 use Rattle.napi_types.proofs.plain.CallFacts.{needs-place}
-use Rattle.napi_types.proofs.parts.BookSteps.{BookStep, stays, adds, drops, collects, swaps, step-owed}
+use Rattle.napi_types.proofs.parts.BookSteps.{BookStep, stays, adds, drops, collects, step-owed}
 use Rattle.napi_types.proofs.environment.Cases.{answer-by}
+use Rattle.napi_types.proofs.environment.Effects as does
+use Rattle.napi_types.proofs.environment.Effects.{Effect, registered-by, effect-of}
 use Rattle.napi_types.proofs.environment.Told.{Told, told_plain, told_made, told_dropped, effect-told, answer-told}
 
 -- what a call keeps of a heap: how many frames have scopes. It issues one number of each kind at most, and makes as many values as an array of names has, with the array
@@ -153,143 +146,60 @@ course-parts old new same = record {
 
 -- what an answer keeps of the environment: all but the heap, the references, what is attached to values, the book and the pending exception. It issues one
 -- reference number at most, and changes the book in one of the ways of a call
-pub record Keeps (old : Environment) (a : Answer Environment) : Type 0 where
-  pub course : course_of a.after ≡ course_of old
-  pub frames : a.after.frames ≡ old.frames
-  pub heap : HeapKeeps old.heap a.after.heap
-  pub references : length a.after.references.issued ≤ length old.references.issued + 1
-  pub book : BookStep (caller_of old.frames) old.book a.reply.made a.reply.dropped a.after.book
+pub record KeepsBy (old : Environment) (made dropped : Option Duty) (new : Environment) : Type 0 where
+  pub course : course_of new ≡ course_of old
+  pub frames : new.frames ≡ old.frames
+  pub heap : HeapKeeps old.heap new.heap
+  pub references : length new.references.issued ≤ length old.references.issued + 1
+  pub book : BookStep (caller_of old.frames) old.book made dropped new.book
 
-accepts-all : (e : Environment) (o : Out) → Keeps e (accepts o e)
-accepts-all e o = record { course = refl; frames = refl; heap = same e.heap; references = omega arith; book = stays e.book refl }
+abbrev pub Keeps : Environment → Answer Environment → Type 0
+Keeps old a = KeepsBy old a.reply.made a.reply.dropped a.after
 
-refuses-all : (e : Environment) (s : Status) → Keeps e (refuses s e)
-refuses-all e s = record { course = refl; frames = refl; heap = same e.heap; references = omega arith; book = stays e.book refl }
+-- the values, the references and the pending exception are others
+keeps-parts : (e : Environment) (heap : Heap) (m : ReferenceMap) (p : Option ℕ) → HeapKeeps e.heap heap → length m.issued ≤ length e.references.issued + 1
+    → KeepsBy e None None (record e { heap = heap; references = m; pending = p })
+keeps-parts e heap m p h issued = record { course = refl; frames = refl; heap = h; references = issued; book = stays e.book refl }
 
--- a call that is told of the heap neither makes nor withdraws a duty
-heap-made : (addon : ℕ) (heap : Heap) (c : Call) (n : ℕ) → (addon_effect addon heap c n).reply.made ≡ None
-heap-made addon heap call.OpenHandleScope n = refl
-heap-made addon heap _ n = refl
-
-heap-dropped : (addon : ℕ) (heap : Heap) (c : Call) (n : ℕ) → (addon_effect addon heap c n).reply.dropped ≡ None
-heap-dropped addon heap call.OpenHandleScope n = refl
-heap-dropped addon heap _ n = refl
-
-stays-so : (addon : ℕ) (b : Book) (made dropped : Option Duty) → made ≡ None → dropped ≡ None → BookStep addon b made dropped b
-stays-so addon b made dropped m d = rw (m, d) (stays b refl)
-
-keeps-heap : (e : Environment) (c : Call) (n : ℕ) → refusal_in e.texts e.heap c ≡ None → Keeps e (in_heap e (addon_effect (caller_of e.frames) e.heap c n))
-keeps-heap e c n h =
-    record { course = refl; frames = refl; heap = addon_effect-keeps e.texts (caller_of e.frames) e.heap c n h; references = omega arith; book = stays-so (caller_of e.frames) e.book _ _ (heap-made (caller_of e.frames) e.heap c n) (heap-dropped (caller_of e.frames) e.heap c n) }
+-- the book changes
+keeps-book : {made dropped : Option Duty} (e : Environment) (book : Book) (hooks : List Hook) → BookStep (caller_of e.frames) e.book made dropped book
+    → KeepsBy e made dropped (record e { book = book; hooks = hooks })
+keeps-book e book hooks step = record { course = refl; frames = refl; heap = same e.heap; references = omega arith; book = step }
 
 thrown-keeps : (heap : Heap) (code : Option TextNo) (message : TextNo) → HeapKeeps heap (with_thrown code message heap)
 thrown-keeps heap None message = in-scopes-made heap _ refl (omega arith) (omega arith) (omega arith)
 thrown-keeps heap (Some code) message = in-scopes-made heap _ refl (omega arith) (omega arith) (omega arith)
 
--- the references, or what is attached, are others, and nothing is issued
-keeps-references : (e : Environment) (m : ReferenceMap) (o : Out) → length m.issued ≤ length e.references.issued + 1 → Keeps e (accepts o (record e { references = m }))
-keeps-references e m o h = record { course = refl; frames = refl; heap = same e.heap; references = h; book = stays e.book refl }
-
-keeps-attachments : (e : Environment) (a : Attachments) (o : Out) → Keeps e (accepts o (record e { attachments = a }))
-keeps-attachments e a o = record { course = refl; frames = refl; heap = same e.heap; references = omega arith; book = stays e.book refl }
-
-counted-keeps : (r : ℕ) (e : Environment) (v : Option ℕ) → Keeps e (counted_up r e v)
-counted-keeps r e None = accepts-all e _
-counted-keeps r e (Some v) = keeps-references e _ _ (omega arith)
-
-told-keeps : (e : Environment) (v : Option ℕ) → Keeps e (value_told e v)
-told-keeps e None = accepts-all e _
-told-keeps e (Some v) = record { course = refl; frames = refl; heap = handled e.heap e.heap _ refl refl refl (omega arith); references = omega arith; book = stays e.book refl }
-
-collected-keeps : (e : Environment) (alive : List ℕ) (o : Out) → Keeps e (accepts o (collected alive e))
-collected-keeps e alive o = record { course = refl; frames = refl; heap = in-scopes e.heap _ refl (omega arith) (omega arith) refl; references = omega arith; book = collects _ _ refl }
-
--- a call that registers
-wrapping-keeps : (e : Environment) (v payload : ℕ) (entry : Option ℕ) (hint : ℕ) (wanted : Bool) (n : ℕ) → Keeps e (wrapping e v payload entry hint wanted n)
-wrapping-keeps e v payload None hint false n = keeps-attachments e _ _
-wrapping-keeps e v payload None hint true n =
-    record { course = refl; frames = refl; heap = same e.heap; references = length-with_record (λ m. m) n e.references.issued; book = stays e.book refl }
-wrapping-keeps e v payload (Some entry) hint false n = record { course = refl; frames = refl; heap = same e.heap; references = omega arith; book = adds _ _ refl refl (λ h. cc) refl }
-wrapping-keeps e v payload (Some entry) hint true n =
-    record { course = refl; frames = refl; heap = same e.heap; references = length-with_record (λ m. m) n e.references.issued; book = adds _ _ refl refl (λ h. cc) refl }
-
-finalizing-keeps : (e : Environment) (v payload entry hint : ℕ) (wanted : Bool) (n : ℕ) → Keeps e (finalizing e v payload entry hint wanted n)
-finalizing-keeps e v payload entry hint false n = record { course = refl; frames = refl; heap = same e.heap; references = omega arith; book = adds _ _ refl refl (λ h. cc) refl }
-finalizing-keeps e v payload entry hint true n =
-    record { course = refl; frames = refl; heap = same e.heap; references = length-with_record (λ m. m) n e.references.issued; book = adds _ _ refl refl (λ h. cc) refl }
-
-external-keeps : (e : Environment) (payload : ℕ) (entry : Option ℕ) (hint : ℕ)
-    → Keeps e (registering_if (finalizer_if e payload entry hint)
-    (in_heap (record e { attachments = attached_if (e.heap.made + 1) (ticket_if e.book entry) e.attachments }) (new_value (body.External payload) e.heap)))
-external-keeps e payload None hint = record { course = refl; frames = refl; heap = handled e.heap _ _ refl refl refl (omega arith); references = omega arith; book = stays e.book refl }
-external-keeps e payload (Some entry) hint =
-    record { course = refl; frames = refl; heap = handled e.heap _ _ refl refl refl (omega arith); references = omega arith; book = adds _ _ refl refl (λ h. cc) refl }
-
--- a call that withdraws: what it withdraws is registered
-pub registered-only : (book : Book) (o : Option ℕ) → IfSome (registered_only book o) (λ n. is_at is_registered book n ≡ true)
-registered-only book None = tt
-registered-only book (Some n) = by (is_at is_registered book n) refl
-  where
-    by : (b : Bool) → is_at is_registered book n ≡ b → IfSome (cond b (Some n) None) (λ m. is_at is_registered book m ≡ true)
-    by true h = h
-    by false h = tt
-
-withdrawing-keeps : (e : Environment) (a : Attachments) (o : Out) (t : Option ℕ) → IfSome t (λ n. is_at is_registered e.book n ≡ true)
-    → Keeps e (withdrawing t (accepts o (record e { attachments = a })))
-withdrawing-keeps e a o None h = keeps-attachments e a o
-withdrawing-keeps e a o (Some n) h = record { course = refl; frames = refl; heap = same e.heap; references = omega arith; book = drops n _ h refl }
-
--- a call that may do both
-setting-keeps : (e : Environment) (addon payload : ℕ) (entry : Option ℕ) (hint : ℕ) → Keeps e (setting_instance e addon payload entry hint)
-setting-keeps e addon payload entry hint =
-    by (registered_only e.book (instance_ticket e.instances addon)) entry (registered-only e.book (instance_ticket e.instances addon))
-  where
-    by : (t entry : Option ℕ) → IfSome t (λ n. is_at is_registered e.book n ≡ true)
-        → Keeps e (registering_if (finalizer_if e payload entry hint) (withdrawing t
-        (accepts out.Nothing (record e { instances = with_instance addon (record { payload = payload; ticket = ticket_if e.book entry }) e.instances }))))
-    by None None h = record { course = refl; frames = refl; heap = same e.heap; references = omega arith; book = stays e.book refl }
-    by None (Some n) h = record { course = refl; frames = refl; heap = same e.heap; references = omega arith; book = adds _ _ refl refl (λ h. cc) refl }
-    by (Some t) None h = record { course = refl; frames = refl; heap = same e.heap; references = omega arith; book = drops t _ h refl }
-    by (Some t) (Some n) h = record { course = refl; frames = refl; heap = same e.heap; references = omega arith; book = swaps t _ _ h refl refl (λ h. cc) refl }
-
-hooking-keeps : (e : Environment) (entry argument : ℕ) → Keeps e (hooking e (caller_of e.frames) entry argument)
-hooking-keeps e entry argument = record { course = refl; frames = refl; heap = same e.heap; references = omega arith; book = adds _ _ refl refl (λ h. cc) refl }
-
-unhooking-keeps : (e : Environment) (hook t : Option ℕ) → IfSome t (λ n. is_at is_registered e.book n ≡ true)
-    → Keeps e (withdrawing t (accepts out.Nothing (record e { hooks = unhooked hook e.hooks })))
-unhooking-keeps e hook None h = record { course = refl; frames = refl; heap = same e.heap; references = omega arith; book = stays e.book refl }
-unhooking-keeps e hook (Some n) h = record { course = refl; frames = refl; heap = same e.heap; references = omega arith; book = drops n _ h refl }
-
-effect-keeps : (e : Environment) (c : Call) (n : ℕ) → refusal_in e.texts e.heap c ≡ None → Keeps e (effect e c n)
-effect-keeps e (call.Throw v) n h = record { course = refl; frames = refl; heap = same e.heap; references = omega arith; book = stays e.book refl }
-effect-keeps e (call.ThrowError code message) n h = record { course = refl; frames = refl; heap = thrown-keeps e.heap code message; references = omega arith; book = stays e.book refl }
-effect-keeps e call.IsExceptionPending n h = accepts-all e _
-effect-keeps e call.GetLastErrorInfo n h = accepts-all e _
-effect-keeps e call.GetAndClearLastException n h =
-    record { course = refl; frames = refl; heap = handled e.heap e.heap _ refl refl refl (omega arith); references = omega arith; book = stays e.book refl }
-effect-keeps e (call.CreateReference v count) n h = keeps-references e _ _ (length-with_record (λ m. m) n e.references.issued)
-effect-keeps e (call.DeleteReference r) n h = keeps-references e _ _ (omega arith)
-effect-keeps e (call.ReferenceRef r) n h = counted-keeps r.0 e (referred_value e.references r.0)
-effect-keeps e (call.ReferenceUnref r) n h = keeps-references e _ _ (omega arith)
-effect-keeps e (call.GetReferenceValue r) n h = told-keeps e (referred_value e.references r.0)
-effect-keeps e (call.Wrap v payload entry hint wanted) n h = wrapping-keeps e (handle_value e.heap v.0) payload entry hint wanted n
-effect-keeps e (call.Unwrap v) n h = accepts-all e _
-effect-keeps e (call.RemoveWrap v) n h =
-    let t : Option ℕ = wrap_ticket e.attachments (handle_value e.heap v.0) in
-    withdrawing-keeps e _ _ (registered_only e.book t) (registered-only e.book t)
-effect-keeps e (call.TypeTagObject v lower upper) n h = keeps-attachments e _ _
-effect-keeps e (call.CheckObjectTypeTag v lower upper) n h = accepts-all e _
-effect-keeps e (call.AddFinalizer v payload entry hint wanted) n h = finalizing-keeps e (handle_value e.heap v.0) payload entry hint wanted n
-effect-keeps e (call.CreateExternal payload entry hint) n h = external-keeps e payload entry hint
-effect-keeps e (call.SetInstanceData payload entry hint) n h = setting-keeps e (caller_of e.frames) payload entry hint
-effect-keeps e call.GetInstanceData n h = accepts-all e _
-effect-keeps e (call.AddEnvCleanupHook entry argument) n h = hooking-keeps e entry argument
-effect-keeps e (call.RemoveEnvCleanupHook entry argument) n h =
-    let t : Option ℕ = hook_ticket (caller_of e.frames) entry argument e.hooks in
-    unhooking-keeps e t (registered_only e.book t) (registered-only e.book t)
-effect-keeps e call.Collect n h = collected-keeps e (reach e) _
-effect-keeps e call.Exit n h = record { course = refl; frames = refl; heap = same e.heap; references = omega arith; book = stays e.book refl }
-effect-keeps e c n h = keeps-heap e c n h
+does-keeps : (c : Call) (e : Environment) {made dropped : Option Duty} (d : Environment) → refusal_in e.texts e.heap c ≡ None → Effect c e made dropped d
+    → KeepsBy e made dropped d
+does-keeps c e _ none does.rests = keeps-book e e.book e.hooks (stays e.book refl)
+does-keeps c e _ none (does.tells n) = keeps-parts e _ _ _ (addon_effect-keeps e.texts (caller_of e.frames) e.heap c n none) (omega arith)
+does-keeps c e _ none (does.makes payload) = keeps-parts e _ _ _ (handled e.heap _ _ refl refl refl (omega arith)) (omega arith)
+does-keeps c e _ none (does.throws h) = keeps-parts e _ _ _ (same e.heap) (omega arith)
+does-keeps c e _ none (does.raises code message) = keeps-parts e _ _ _ (thrown-keeps e.heap code message) (omega arith)
+does-keeps c e _ none does.clears = keeps-parts e _ _ _ (handled e.heap e.heap _ refl refl refl (omega arith)) (omega arith)
+does-keeps c e _ none (does.recalls r v is) = keeps-parts e _ _ _ (handled e.heap e.heap _ refl refl refl (omega arith)) (omega arith)
+does-keeps c e _ none (does.refers n h count) = keeps-parts e _ _ _ (same e.heap) (length-with_record (λ m. m) n e.references.issued)
+does-keeps c e _ none (does.deletes r) = keeps-parts e _ _ _ (same e.heap) (omega arith)
+does-keeps c e _ none (does.counts r count) = keeps-parts e _ _ _ (same e.heap) (omega arith)
+does-keeps c e _ none does.collects =
+    record { course = refl; frames = refl; heap = in-scopes e.heap _ refl (omega arith) (omega arith) refl; references = omega arith; book = collects _ _ refl }
+does-keeps c e _ none (does.adds_hook entry argument) = keeps-book e _ _ (adds _ _ refl refl (λ h. cc) refl)
+does-keeps c e _ none (does.removes_hook entry argument) =
+    let o : Option ℕ = hook_ticket (caller_of e.frames) entry argument e.hooks in
+    registered-by e.book o (λ t. Keeps e (withdrawing t (accepts out.Nothing (record e { hooks = unhooked o e.hooks })))) (keeps-book e _ _ (stays e.book refl))
+    (λ t here is. keeps-book e _ _ (drops t _ is refl))
+does-keeps c e _ none (does.withdraws t on is) = keeps-book e _ _ (drops t _ is refl)
+does-keeps c e _ none (does.asks_exit is) = record { course = refl; frames = refl; heap = same e.heap; references = omega arith; book = stays e.book refl }
+does-keeps c e _ none (does.registers {d} payload entry hint before step) =
+    let k : KeepsBy e _ _ d = does-keeps c e d none before in
+    record { course = k.course; frames = k.frames; heap = k.heap; references = k.references; book = step }
+does-keeps c e _ none (does.attaches {d} before on) =
+    let k : KeepsBy e _ _ d = does-keeps c e d none before in
+    record { course = k.course; frames = k.frames; heap = k.heap; references = k.references; book = k.book }
+does-keeps c e _ none (does.sets {d} i before on) =
+    let k : KeepsBy e _ _ d = does-keeps c e d none before in
+    record { course = k.course; frames = k.frames; heap = k.heap; references = k.references; book = k.book }
 
 -- a call that nothing refuses early is not refused by what it reads in the heap
 unrefused : (e : Environment) (c : Call) → early_refusal e c ≡ None → refusal_in e.texts e.heap c ≡ None
@@ -297,11 +207,10 @@ unrefused e c h =
     let timely : timely_refusal e c ≡ None = none-last (moment_refusal e c) (timely_refusal e c) h in
     none-first (refusal_in e.texts e.heap c) (group_refusal e c) timely
 
-limit-keeps : (e : Environment) (s : Status) → Keeps e (refuses s (with_depth_error e))
-limit-keeps e s = record { course = refl; frames = refl; heap = thrown-keeps e.heap None _; references = omega arith; book = stays e.book refl }
-
 pub answer-keeps : (e : Environment) (c : Call) (n : ℕ) → Keeps e (answer e c n)
-answer-keeps e c n = answer-by e c n (Keeps e) (refuses-all e) (limit-keeps e) (λ none. effect-keeps e c n (unrefused e c none))
+answer-keeps e c n =
+    answer-by e c n (Keeps e) (λ s. keeps-book e e.book e.hooks (stays e.book refl)) (λ s. keeps-parts e _ _ _ (thrown-keeps e.heap None _) (omega arith))
+    (λ none. does-keeps c e (effect e c n).after (unrefused e c none) (effect-of e c n))
 
 -- WHAT IS MADE
 -- a call that makes a duty has places for its frame, and is one that registers

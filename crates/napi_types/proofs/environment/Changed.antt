@@ -1,28 +1,31 @@
 -- How a local call and the end of a frame change the environment: one part of it after another. What does not read those parts is kept by all of them.
-use Rattle.std.proofs.Common.{◌≡◌, ◌∙◌, ℕ, Bool, true, false, List, refl, Option, Some, None}
+use Rattle.std.proofs.Common.{◌≡◌, ◌∙◌, ℕ, true, List, refl, Option, None}
 use Rattle.napi_types.specs.declared.call.Call.{Call}
 use Rattle.napi_types.specs.declared.call.Call.TheVariants as call
+use Rattle.napi_types.specs.declared.entry.Duty.{Duty}
+use Rattle.napi_types.specs.declared.entry.Out.TheVariants as out
 use Rattle.napi_types.specs.declared.entry.Why.{Why}
 use Rattle.napi_types.specs.declared.ids.HandleId.{HandleId}
 use Rattle.napi_types.specs.declared.status.Status.{Status}
-use Rattle.napi_types.specs.plain.Replies.{Answer}
+use Rattle.napi_types.specs.plain.Replies.{accepts}
 use Rattle.napi_types.specs.plain.Lists.{tail}
-use Rattle.napi_types.specs.parts.Attachments.{Attachments, with_attached}
-use Rattle.napi_types.specs.parts.Book.{Book, Registration, new_ticket}
-use Rattle.napi_types.specs.parts.Frames.{Frame}
-use Rattle.napi_types.specs.parts.Heap.{Heap, handle_value}
-use Rattle.napi_types.specs.parts.Hooks.{Hook}
+use Rattle.napi_types.specs.parts.Attachments.{Attachments}
+use Rattle.napi_types.specs.parts.Book.{Book}
+use Rattle.napi_types.specs.parts.Frames.{Frame, caller_of}
+use Rattle.napi_types.specs.parts.Heap.{Heap}
+use Rattle.napi_types.specs.parts.Hooks.{Hook, hook_ticket}
 use Rattle.napi_types.specs.parts.InstanceData.{Instances}
-use Rattle.napi_types.specs.parts.References.{ReferenceMap, referred_value}
+use Rattle.napi_types.specs.parts.References.{ReferenceMap}
 use Rattle.napi_types.specs.environment.Calls.{effect, answer}
 use Rattle.napi_types.specs.environment.Changes.{call_change}
 use Rattle.napi_types.specs.environment.Ends.{end_change}
 use Rattle.napi_types.specs.environment.Entering.{asked_change}
 use Rattle.napi_types.specs.environment.Environment.{Environment}
-use Rattle.napi_types.specs.environment.ReferenceCalls.{value_told, counted_up}
-use Rattle.napi_types.specs.environment.Registering.{finalizer_if, registering_if, withdrawing}
-use Rattle.napi_types.specs.environment.WrapCalls.{with_attachments, referring_if}
+use Rattle.napi_types.specs.environment.HookCalls.{unhooked}
+use Rattle.napi_types.specs.environment.Registering.{withdrawing}
 use Rattle.napi_types.proofs.environment.Cases.{answer-by, asked-by, ended-by}
+use Rattle.napi_types.proofs.environment.Effects as does
+use Rattle.napi_types.proofs.environment.Effects.{Effect, registered-by, effect-of}
 
 -- what the call may make of the environment
 pub data Changed (c : Call) (e : Environment) : Environment → Type 0 where
@@ -65,60 +68,34 @@ changed-keeps f c e _ i x (pending d p r) = i.pending d p ∙ changed-keeps f c 
 changed-keeps f c e _ i x (last d s r) = i.last d s ∙ changed-keeps f c e d i x r
 changed-keeps f c e _ i x (exits d is r) = x is d ∙ changed-keeps f c e d i x r
 
--- EACH CALL, ONCE AND FOR ALL
-module _ (c : Call) (e : Environment) where
-  registering-changed : (r : Option Registration) (a : Answer Environment) → Changed c e a.after → Changed c e (registering_if r a).after
-  registering-changed None a so = so
-  registering-changed (Some r) a so = book a.after _ so
-
-  withdrawing-changed : (n : Option ℕ) (a : Answer Environment) → Changed c e a.after → Changed c e (withdrawing n a).after
-  withdrawing-changed None a so = so
-  withdrawing-changed (Some n) a so = book a.after _ so
-
-  referring-changed : (wanted : Bool) (n v : ℕ) (d : Environment) → Changed c e d → Changed c e (referring_if wanted n v d).after
-  referring-changed false n v d so = so
-  referring-changed true n v d so = references d _ so
-
-  counted-changed : (r : ℕ) (v : Option ℕ) → Changed c e (counted_up r e v).after
-  counted-changed r None = stays
-  counted-changed r (Some v) = references e _ stays
-
-  told-changed : (v : Option ℕ) → Changed c e (value_told e v).after
-  told-changed None = stays
-  told-changed (Some v) = heap e _ stays
-
-effect-changed : (e : Environment) (c : Call) (n : ℕ) → Changed c e (effect e c n).after
-effect-changed e (call.Throw v) n = pending e _ stays
-effect-changed e (call.ThrowError code message) n = pending (record e { heap = _ }) _ (heap e _ stays)
-effect-changed e call.IsExceptionPending n = stays
-effect-changed e call.GetLastErrorInfo n = stays
-effect-changed e call.GetAndClearLastException n = heap (record e { pending = None }) _ (pending e None stays)
-effect-changed e (call.CreateReference v count) n = references e _ stays
-effect-changed e (call.DeleteReference r) n = references e _ stays
-effect-changed e (call.ReferenceRef r) n = counted-changed (call.ReferenceRef r) e r.0 (referred_value e.references r.0)
-effect-changed e (call.ReferenceUnref r) n = references e _ stays
-effect-changed e (call.GetReferenceValue r) n = told-changed (call.GetReferenceValue r) e (referred_value e.references r.0)
-effect-changed e (call.Wrap v payload entry hint wanted) n =
-    registering-changed _ e (finalizer_if e payload entry hint) _ (referring-changed _ e wanted n (handle_value e.heap v.0) _ (attachments e _ stays))
-effect-changed e (call.Unwrap v) n = stays
-effect-changed e (call.RemoveWrap v) n = withdrawing-changed _ e _ _ (attachments e _ stays)
-effect-changed e (call.TypeTagObject v lower upper) n = attachments e _ stays
-effect-changed e (call.CheckObjectTypeTag v lower upper) n = stays
-effect-changed e (call.AddFinalizer v payload entry hint wanted) n =
-    let d : Environment = with_attachments (with_attached (handle_value e.heap v.0) (new_ticket e.book) e.attachments) e in
-    book (referring_if wanted n (handle_value e.heap v.0) d).after _ (referring-changed _ e wanted n (handle_value e.heap v.0) d (attachments e _ stays))
-effect-changed e (call.CreateExternal payload entry hint) n =
-    registering-changed _ e (finalizer_if e payload entry hint) _ (heap (record e { attachments = _ }) _ (attachments e _ stays))
-effect-changed e (call.SetInstanceData payload entry hint) n =
-    registering-changed _ e (finalizer_if e payload entry hint) _ (withdrawing-changed _ e _ _ (instances e _ stays))
-effect-changed e call.GetInstanceData n = stays
-effect-changed e (call.AddEnvCleanupHook entry argument) n = book (record e { hooks = _ }) _ (hooks e _ stays)
-effect-changed e (call.RemoveEnvCleanupHook entry argument) n = withdrawing-changed _ e _ _ (hooks e _ stays)
-effect-changed e call.Collect n =
+-- EACH CALL
+does-changed : (c : Call) (e : Environment) {made dropped : Option Duty} (d : Environment) → Effect c e made dropped d → Changed c e d
+does-changed c e _ does.rests = stays
+does-changed c e _ (does.tells n) = heap e _ stays
+does-changed c e _ (does.makes payload) = heap e _ stays
+does-changed c e _ (does.throws h) = pending e _ stays
+does-changed c e _ (does.raises code message) = pending (record e { heap = _ }) _ (heap e _ stays)
+does-changed c e _ does.clears = pending (record e { heap = _ }) None (heap e _ stays)
+does-changed c e _ (does.recalls r v is) = heap e _ stays
+does-changed c e _ (does.refers n h count) = references e _ stays
+does-changed c e _ (does.deletes r) = references e _ stays
+does-changed c e _ (does.counts r count) = references e _ stays
+does-changed c e _ does.collects =
     book (record e { heap = _; references = _; attachments = _ }) _
     (attachments (record e { heap = _; references = _ }) _ (references (record e { heap = _ }) _ (heap e _ stays)))
-effect-changed e call.Exit n = exits e refl stays
-effect-changed e c n = heap e _ stays
+does-changed c e _ (does.adds_hook entry argument) = book (record e { hooks = _ }) _ (hooks e _ stays)
+does-changed c e _ (does.removes_hook entry argument) =
+    let t : Option ℕ = hook_ticket (caller_of e.frames) entry argument e.hooks in
+    registered-by e.book t (λ s. Changed c e (withdrawing s (accepts out.Nothing (record e { hooks = unhooked t e.hooks }))).after)
+    (hooks e _ stays) (λ n here is. book (record e { hooks = _ }) _ (hooks e _ stays))
+does-changed c e _ (does.withdraws t on is) = book e _ stays
+does-changed c e _ (does.asks_exit is) = exits e is stays
+does-changed c e _ (does.registers {d} payload entry hint before step) = book d _ (does-changed c e d before)
+does-changed c e _ (does.attaches {d} {a} before there) = attachments d a (does-changed c e d before)
+does-changed c e _ (does.sets {d} i before there) = instances d _ (does-changed c e d before)
+
+effect-changed : (e : Environment) (c : Call) (n : ℕ) → Changed c e (effect e c n).after
+effect-changed e c n = does-changed c e (effect e c n).after (effect-of e c n)
 
 pub answer-changed : (e : Environment) (c : Call) (n : ℕ) → Changed c e (answer e c n).after
 answer-changed e c n =

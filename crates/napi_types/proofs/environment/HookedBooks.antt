@@ -67,9 +67,6 @@ push-causes r book n why is =
     let u : IsUnder (BeginsFor why) book n = under book n why is in
     at-cause (with_registration r book) n u.registration (registration_at-before book r n u.registration u.there) ∙ ap Some u.holds
 
-pub new-cause : (r : Registration) (book : Book) → cause_at (with_registration r book) (new_ticket book) ≡ Some r.cause
-new-cause r book = at-cause (with_registration r book) (new_ticket book) r (registration_at-new book r)
-
 -- what is registered is no hook
 pub push-goes : (p : Phase) (r : Registration) (book : Book) → r.cause ≢ cause.Hook → BookGoes p every book (with_registration r book)
 push-goes p r book other = record { causes = push-causes r book; spares = λ early. record { registered = registered; owed = owed } }

@@ -1,5 +1,5 @@
 -- What hooks, the book and what else has tickets say of each other: every event of the environment keeps it.
-use Rattle.std.proofs.Common.{◌≡◌, ◌<◌, ◌∙◌, ℕ, zero, suc, ◌+◌, ◌==◌, Bool, true, false, cond, List, [], ◌∷◌, filter, find, Option, Some, None, option_map, IfSome, refl, ap, sym, subst}
+use Rattle.std.proofs.Common.{◌≡◌, ◌<◌, ◌∙◌, ℕ, zero, suc, ◌==◌, Bool, true, false, cond, List, [], ◌∷◌, filter, find, Option, Some, None, option_map, IfSome, refl, ap, sym, subst, inl, inr}
 use Rattle.std.specs.List.{All}
 use Rattle.std.specs.Option.{option_and_then}
 use Rattle.std.proofs.lemmas.Bool.{eqb-true}
@@ -7,9 +7,9 @@ use Rattle.std.proofs.lemmas.List.Elements.{All-nil, All-head, All-tail, All-set
 use Rattle.std.proofs.lemmas.Option.{IfSome_then, same_Some}
 use Rattle.napi_types.specs.declared.call.Args.{Args}
 use Rattle.napi_types.specs.declared.call.Call.{Call}
-use Rattle.napi_types.specs.declared.call.Call.TheVariants as call
 use Rattle.napi_types.specs.declared.entry.Cause.{Cause}
 use Rattle.napi_types.specs.declared.entry.Cause.TheVariants as cause
+use Rattle.napi_types.specs.declared.entry.Duty.{Duty}
 use Rattle.napi_types.specs.declared.entry.Out.TheVariants as out
 use Rattle.napi_types.specs.declared.entry.Phase.{Phase}
 use Rattle.napi_types.specs.declared.entry.Phase.TheVariants as phase
@@ -17,13 +17,11 @@ use Rattle.napi_types.specs.declared.entry.Why.{Why}
 use Rattle.napi_types.specs.declared.ids.HandleId.{HandleId}
 use Rattle.napi_types.specs.plain.Phases.{next_phase}
 use Rattle.napi_types.specs.plain.Replies.{accepts}
-use Rattle.napi_types.specs.parts.Attachments.{Attachments, hangs_on, left_on, wrap_payload, wrap_ticket, with_wrap, without_wrap, with_attached}
+use Rattle.napi_types.specs.parts.Attachments.{Attachments, hangs_on, left_on}
 use Rattle.napi_types.specs.parts.Book.{Book, Registration, registration_at, is_at, is_registered, is_owed, made_due, made_withdrawn, moved_at, due_where, new_ticket, with_registration, begun_in, may_begin_in, cause_at}
 use Rattle.napi_types.specs.parts.Frames.{caller_of, cause_of, duty_of}
-use Rattle.napi_types.specs.parts.Heap.{handle_value}
 use Rattle.napi_types.specs.parts.Hooks.{Hook, is_hook, hook_ticket, last_hook, without_hook}
-use Rattle.napi_types.specs.parts.InstanceData.{InstanceData, Instances, instance_ticket, with_instance}
-use Rattle.napi_types.specs.parts.References.{referred_value}
+use Rattle.napi_types.specs.parts.InstanceData.{InstanceData, Instances, instance_ticket}
 use Rattle.napi_types.specs.environment.Calls.{effect, answer}
 use Rattle.napi_types.specs.environment.Changes.{opening_change, init_change, call_change, book_in, in_phase, gone_change}
 use Rattle.napi_types.specs.environment.Collection.{collected, is_freed}
@@ -32,26 +30,21 @@ use Rattle.napi_types.specs.environment.Entering.{enter_change, asked_change}
 use Rattle.napi_types.specs.environment.Environment.{Environment, new_environment}
 use Rattle.napi_types.specs.environment.HookCalls.{hook_registration, hooking, unhooking}
 use Rattle.napi_types.specs.environment.Hooked.{is_late, StandsIn, HasFinalizer, IsHooked}
-use Rattle.napi_types.specs.environment.InstanceCalls.{setting_instance}
-use Rattle.napi_types.specs.environment.ReferenceCalls.{counted_up, value_told}
-use Rattle.napi_types.specs.environment.Registering.{finalizer_of, finalizer_if, ticket_if, registering_if, registered_only, withdrawing}
+use Rattle.napi_types.specs.environment.Registering.{finalizer_of, withdrawing}
 use Rattle.napi_types.specs.environment.Roots.{reach}
 use Rattle.napi_types.specs.environment.Tickets.{hooks_left, ticket_change}
-use Rattle.napi_types.specs.environment.WrapCalls.{with_attachments, wrapping, finalizing, unwrapping}
 use Rattle.napi_types.proofs.plain.Maps.{filter_all}
 use Rattle.napi_types.proofs.parts.AttachedTickets.{HoldsAttached, HoldsAttached-from, tickets_where-holds, wrap_ticket-holds, HoldsAttached-with_wrap, HoldsAttached-without_wrap, HoldsAttached-with_attached, HoldsAttached-left_on, HoldsAttached-weaker}
-use Rattle.napi_types.proofs.parts.Books.{withdrawn-leaves, leaves-in, length-moved}
+use Rattle.napi_types.proofs.parts.Books.{withdrawn-leaves, leaves-in}
 use Rattle.napi_types.proofs.parts.Moved.{at-state}
 use Rattle.napi_types.proofs.environment.Answers.{course-parts}
+use Rattle.napi_types.proofs.environment.Effects as does
+use Rattle.napi_types.proofs.environment.Effects.{Finalizes, HangsOn, Attaches, Effect, effect-of}
 use Rattle.napi_types.proofs.environment.FrameChanges.{hangings_of, hangings-parts, SameHangings, book_left, KeepsButFrame, ended-keeps, KeepsAndEnters, enter_change-keeps}
-use Rattle.napi_types.proofs.environment.HookedBooks.{KeepsCauses, BookGoes, every, all_but_ticket, Listed, goes-nowhere, late-goes, push-goes, push-causes, new-cause, moved-causes, finalizers-go, begun-goes, left-goes, ticket-goes, listed-goes, listed-push, listed-within}
+use Rattle.napi_types.proofs.environment.HookedBooks.{KeepsCauses, BookGoes, every, all_but_ticket, Listed, goes-nowhere, late-goes, push-goes, push-causes, moved-causes, finalizers-go, begun-goes, left-goes, ticket-goes, listed-goes, listed-push, listed-within}
 use Rattle.napi_types.proofs.environment.Cases.{answer-by, asked-by}
 
 -- FINALIZERS
--- a ticket is that of a finalizer
-abbrev Finalizes : Book → ℕ → Type 0
-Finalizes book n = cause_at book n ≡ Some cause.Finalize
-
 attached-goes : (old new : Book) (a : Attachments) → KeepsCauses old new → HoldsAttached (Finalizes old) a → HoldsAttached (Finalizes new) a
 attached-goes old new a causes h = HoldsAttached-weaker (Finalizes old) (Finalizes new) (λ n is. causes n cause.Finalize is) a h
 
@@ -64,15 +57,6 @@ instance-finalizes : (book : Book) (is : Instances) (addon : ℕ) → All (HasFi
 instance-finalizes book [] addon all = tt
 instance-finalizes book (i ∷ is) zero all = All-head (HasFinalizer book) i is all
 instance-finalizes book (i ∷ is) (suc addon) all = instance-finalizes book is addon (All-tail (HasFinalizer book) i is all)
-
--- and that of what a call withdraws
-only-finalizes : (book : Book) (t : Option ℕ) → IfSome t (Finalizes book) → IfSome (registered_only book t) (Finalizes book)
-only-finalizes book None is = tt
-only-finalizes book (Some n) is = by (is_at is_registered book n)
-  where
-    by : (b : Bool) → IfSome (cond b (Some n) None) (Finalizes book)
-    by true = is
-    by false = tt
 
 -- THE ENVIRONMENT CHANGES
 listed : (e : Environment) → IsHooked e → Listed e.phase e.book e.hooks
@@ -115,96 +99,25 @@ hooked-attachments e a on h = hooked-by (record e { attachments = a }) (listed e
 hooked-instances : (e : Environment) (is : Instances) → All (HasFinalizer e.book) is → IsHooked e → IsHooked (record e { instances = is })
 hooked-instances e is all h = hooked-by (record e { instances = is }) (listed e h) (attached e h) all
 
--- CALLS THAT REGISTER
--- a finalizer is registered
-abbrev with_finalizer : Environment → ℕ → ℕ → ℕ → Environment
-with_finalizer e payload entry hint = record e { book = with_registration (finalizer_of e payload entry hint) e.book }
+-- FINALIZERS OF CALLS
+-- what is attached changes in one place
+attached-more : (book : Book) (a b : Attachments) → Attaches book a b → HoldsAttached (Finalizes book) a → HoldsAttached (Finalizes book) b
+attached-more book a _ (does.wraps v payload t here) h = HoldsAttached-with_wrap (Finalizes book) v payload t a here h
+attached-more book a _ (does.hangs v t here) h = HoldsAttached-with_attached (Finalizes book) v t a here h
+attached-more book a _ (does.unwraps v) h = HoldsAttached-without_wrap (Finalizes book) v a h
+attached-more book a _ (does.tags v lower upper) h = record { wraps = h.wraps; tickets = h.tickets }
 
-hooked-finalizer : (e : Environment) (payload entry hint : ℕ) → IsHooked e → IsHooked (with_finalizer e payload entry hint)
-hooked-finalizer e payload entry hint h = hooked-book e _ (push-goes e.phase (finalizer_of e payload entry hint) e.book (λ is. cc)) h
+-- what a value or instance data has is the ticket of a finalizer
+hanging-finalizes : (e : Environment) (t : ℕ) → HangsOn e t → IsHooked e → Finalizes e.book t
+hanging-finalizes e t (inl (v, here)) h = subst (λ o. IfSome o (Finalizes e.book)) here (wrap_ticket-holds (Finalizes e.book) e.attachments v (attached e h))
+hanging-finalizes e t (inr here) h = subst (λ o. IfSome o (Finalizes e.book)) here (instance-finalizes e.book e.instances (caller_of e.frames) h.instances)
 
-new-finalizes : (e : Environment) (payload entry hint : ℕ) → Finalizes (with_finalizer e payload entry hint).book (new_ticket e.book)
-new-finalizes e payload entry hint = new-cause (finalizer_of e payload entry hint) e.book
-
-hooked-wrapped : (e : Environment) (v payload : ℕ) (t : Option ℕ) → IfSome t (Finalizes e.book) → IsHooked e → IsHooked (with_attachments (with_wrap v payload t e.attachments) e)
-hooked-wrapped e v payload t here h = hooked-attachments e _ (HoldsAttached-with_wrap (Finalizes e.book) v payload t e.attachments here (attached e h)) h
-
-hooked-attached : (e : Environment) (v t : ℕ) → Finalizes e.book t → IsHooked e → IsHooked (with_attachments (with_attached v t e.attachments) e)
-hooked-attached e v t here h = hooked-attachments e _ (HoldsAttached-with_attached (Finalizes e.book) v t e.attachments here (attached e h)) h
-
-wrapping-hooked : (e : Environment) (v payload : ℕ) (entry : Option ℕ) (hint : ℕ) (wanted : Bool) (n : ℕ) → IsHooked e → IsHooked (wrapping e v payload entry hint wanted n).after
-wrapping-hooked e v payload None hint false n h = hooked-wrapped e v payload None tt h
-wrapping-hooked e v payload None hint true n h = unchanged _ _ refl refl (hooked-wrapped e v payload None tt h)
-wrapping-hooked e v payload (Some entry) hint wanted n h = by wanted
-  where
-    after : IsHooked (with_attachments (with_wrap v payload (Some (new_ticket e.book)) e.attachments) (with_finalizer e payload entry hint))
-    after = hooked-wrapped (with_finalizer e payload entry hint) v payload (Some (new_ticket e.book)) (new-finalizes e payload entry hint) (hooked-finalizer e payload entry hint h)
-
-    by : (wanted : Bool) → IsHooked (wrapping e v payload (Some entry) hint wanted n).after
-    by false = after
-    by true = unchanged _ _ refl refl after
-
-finalizing-hooked : (e : Environment) (v payload entry hint : ℕ) (wanted : Bool) (n : ℕ) → IsHooked e → IsHooked (finalizing e v payload entry hint wanted n).after
-finalizing-hooked e v payload entry hint wanted n h = by wanted
-  where
-    after : IsHooked (with_attachments (with_attached v (new_ticket e.book) e.attachments) (with_finalizer e payload entry hint))
-    after = hooked-attached (with_finalizer e payload entry hint) v (new_ticket e.book) (new-finalizes e payload entry hint) (hooked-finalizer e payload entry hint h)
-
-    by : (wanted : Bool) → IsHooked (finalizing e v payload entry hint wanted n).after
-    by false = after
-    by true = unchanged _ _ refl refl after
-
-external-hooked : (e : Environment) (payload : ℕ) (entry : Option ℕ) (hint n : ℕ) → IsHooked e → IsHooked (effect e (call.CreateExternal payload entry hint) n).after
-external-hooked e payload None hint n h = unchanged e _ refl refl h
-external-hooked e payload (Some entry) hint n h =
-    unchanged _ _ refl refl
-    (hooked-attached (with_finalizer e payload entry hint) (e.heap.made + 1) (new_ticket e.book) (new-finalizes e payload entry hint) (hooked-finalizer e payload entry hint h))
-
--- CALLS THAT WITHDRAW
--- a finalizer is withdrawn
 abbrev withdrawn : Environment → ℕ → Environment
 withdrawn e t = record e { book = moved_at made_withdrawn t e.book }
 
 hooked-withdrawn : (e : Environment) (t : ℕ) → Finalizes e.book t → IsHooked e → IsHooked (withdrawn e t)
 hooked-withdrawn e t is h =
     hooked-book e _ (finalizers-go e.phase made_withdrawn (λ m. m == t) e.book (λ n same. subst (Finalizes e.book) (sym (eqb-true n t same)) is)) h
-
-unwrapping-hooked : (e : Environment) (v : ℕ) → IsHooked e → IsHooked (unwrapping e v).after
-unwrapping-hooked e v h =
-    by (registered_only e.book (wrap_ticket e.attachments v)) (only-finalizes e.book (wrap_ticket e.attachments v) (wrap_ticket-holds (Finalizes e.book) e.attachments v (attached e h)))
-  where
-    left : Environment
-    left = with_attachments (without_wrap v e.attachments) e
-
-    after : IsHooked left
-    after = hooked-attachments e _ (HoldsAttached-without_wrap (Finalizes e.book) v e.attachments (attached e h)) h
-
-    by : (t : Option ℕ) → IfSome t (Finalizes e.book) → IsHooked (withdrawing t (accepts (out.Unsigned (wrap_payload e.attachments v)) left)).after
-    by None is = after
-    by (Some t) is = hooked-withdrawn left t is after
-
-hooked-set : (e : Environment) (addon payload : ℕ) (t : Option ℕ) → IfSome t (Finalizes e.book) → IsHooked e
-    → IsHooked (record e { instances = with_instance addon (record { payload = payload; ticket = t }) e.instances })
-hooked-set e addon payload t here h =
-    let i : InstanceData = record { payload = payload; ticket = t } in
-    hooked-instances e _ (All-set (HasFinalizer e.book) e.instances addon (Some i) here h.instances) h
-
-setting-hooked : (e : Environment) (addon payload : ℕ) (entry : Option ℕ) (hint : ℕ) → IsHooked e → IsHooked (setting_instance e addon payload entry hint).after
-setting-hooked e addon payload entry hint h =
-    by (registered_only e.book (instance_ticket e.instances addon)) entry (only-finalizes e.book (instance_ticket e.instances addon) (instance-finalizes e.book e.instances addon h.instances))
-  where
-    by : (t entry : Option ℕ) → IfSome t (Finalizes e.book)
-        → IsHooked (registering_if (finalizer_if e payload entry hint) (withdrawing t
-        (accepts out.Nothing (record e { instances = with_instance addon (record { payload = payload; ticket = ticket_if e.book entry }) e.instances })))).after
-    by None None is = hooked-set e addon payload None tt h
-    by None (Some n) is = hooked-set (with_finalizer e payload n hint) addon payload (Some (new_ticket e.book)) (new-finalizes e payload n hint) (hooked-finalizer e payload n hint h)
-    by (Some t) None is = hooked-set (withdrawn e t) addon payload None tt (hooked-withdrawn e t is h)
-    by (Some t) (Some n) is =
-        let left : Environment = withdrawn e t in
-        let same : new_ticket left.book ≡ new_ticket e.book = ap (λ m. m + 1) (length-moved made_withdrawn (λ m. m == t) e.book) in
-        hooked-set (with_finalizer left payload n hint) addon payload (Some (new_ticket e.book))
-        (subst (Finalizes (with_finalizer left payload n hint).book) same (new-finalizes left payload n hint))
-        (hooked-finalizer left payload n hint (hooked-withdrawn e t is h))
 
 -- THE CALLS ON HOOKS
 hooking-hooked : (e : Environment) (addon entry argument : ℕ) → IsHooked e → IsHooked (hooking e addon entry argument).after
@@ -262,34 +175,26 @@ collected-hooked e alive h =
     (hooked-attachments due (left_on freed e.attachments) (HoldsAttached-left_on (Finalizes due.book) freed e.attachments (attached due fallen)) fallen)
 
 -- EVERY CALL
-counted-hooked : (r : ℕ) (e : Environment) (v : Option ℕ) → IsHooked e → IsHooked (counted_up r e v).after
-counted-hooked r e None h = h
-counted-hooked r e (Some v) h = unchanged e _ refl refl h
-
-told-hooked : (e : Environment) (v : Option ℕ) → IsHooked e → IsHooked (value_told e v).after
-told-hooked e None h = h
-told-hooked e (Some v) h = unchanged e _ refl refl h
-
 -- most calls change nothing of it
-effect-hooked : (e : Environment) (c : Call) (n : ℕ) → IsHooked e → IsHooked (effect e c n).after
-effect-hooked e (call.ReferenceRef r) n h = counted-hooked r.0 e (referred_value e.references r.0) h
-effect-hooked e (call.GetReferenceValue r) n h = told-hooked e (referred_value e.references r.0) h
-effect-hooked e (call.Wrap v payload entry hint wanted) n h = wrapping-hooked e (handle_value e.heap v.0) payload entry hint wanted n h
-effect-hooked e (call.RemoveWrap v) n h = unwrapping-hooked e (handle_value e.heap v.0) h
-effect-hooked e (call.TypeTagObject v lower upper) n h = record { rise = h.rise; hooks = h.hooks; others = h.others; attached = h.attached; instances = h.instances }
-effect-hooked e (call.AddFinalizer v payload entry hint wanted) n h = finalizing-hooked e (handle_value e.heap v.0) payload entry hint wanted n h
-effect-hooked e (call.CreateExternal payload entry hint) n h = external-hooked e payload entry hint n h
-effect-hooked e (call.SetInstanceData payload entry hint) n h = setting-hooked e (caller_of e.frames) payload entry hint h
-effect-hooked e (call.AddEnvCleanupHook entry argument) n h = hooking-hooked e (caller_of e.frames) entry argument h
-effect-hooked e (call.RemoveEnvCleanupHook entry argument) n h =
+does-hooked : (c : Call) (e : Environment) {made dropped : Option Duty} (d : Environment) → Effect c e made dropped d → IsHooked e → IsHooked d
+does-hooked c e _ does.collects h = collected-hooked e (reach e) h
+does-hooked c e _ (does.adds_hook entry argument) h = hooking-hooked e (caller_of e.frames) entry argument h
+does-hooked c e _ (does.removes_hook entry argument) h =
     unhooking-hooked e (hook_ticket (caller_of e.frames) entry argument e.hooks) (hook-waits e (caller_of e.frames) entry argument h) h
-effect-hooked e call.Collect n h = collected-hooked e (reach e) h
-effect-hooked e c n h = unchanged e _ refl refl h
+does-hooked c e _ (does.withdraws t on is) h = hooked-withdrawn e t (hanging-finalizes e t on h) h
+does-hooked c e _ (does.registers {d} payload entry hint before step) h =
+    hooked-book d _ (push-goes d.phase (finalizer_of e payload entry hint) d.book (λ is. cc)) (does-hooked c e d before h)
+does-hooked c e _ (does.attaches {d} {a} before on) h =
+    let k : IsHooked d = does-hooked c e d before h in hooked-attachments d a (attached-more d.book d.attachments a on (attached d k)) k
+does-hooked c e _ (does.sets {d} i before here) h =
+    let k : IsHooked d = does-hooked c e d before h in
+    hooked-instances d _ (All-set (HasFinalizer d.book) d.instances (caller_of e.frames) (Some i) here k.instances) k
+does-hooked c e d _ h = unchanged e d refl refl h
 
 pub hooked-called : (e : Environment) (c : Call) (n : ℕ) → IsHooked e → IsHooked (call_change e c n).after
 hooked-called e c n h =
     let answered : IsHooked (answer e c n).after =
-    answer-by e c n (λ a. IsHooked a.after) (λ s. h) (λ s. unchanged e _ refl refl h) (λ none. effect-hooked e c n h) in
+    answer-by e c n (λ a. IsHooked a.after) (λ s. h) (λ s. unchanged e _ refl refl h) (λ none. does-hooked c e (effect e c n).after (effect-of e c n) h) in
     unchanged _ (call_change e c n).after refl refl answered
 
 pub hooked-entered : (receiver : Option HandleId) (f : HandleId) (args : Args) (e : Environment) → IsHooked e → IsHooked (enter_change receiver f args e).after

@@ -8,6 +8,8 @@ use Rattle.napi_types.specs.declared.body.Body.TheVariants as body
 use Rattle.napi_types.specs.declared.call.Args.{Args}
 use Rattle.napi_types.specs.declared.call.Call.{Call}
 use Rattle.napi_types.specs.declared.call.Call.TheVariants as call
+use Rattle.napi_types.specs.declared.entry.Duty.{Duty}
+use Rattle.napi_types.specs.declared.entry.Out.TheVariants as out
 use Rattle.napi_types.specs.declared.entry.Why.{Why}
 use Rattle.napi_types.specs.declared.ids.HandleId.{HandleId}
 use Rattle.napi_types.specs.declared.ids.TextNo.{TextNo}
@@ -15,23 +17,20 @@ use Rattle.napi_types.specs.declared.status.Status.TheVariants as status
 use Rattle.napi_types.specs.declared.entry.Phase.{Phase}
 use Rattle.napi_types.specs.declared.entry.Cause.TheVariants as cause
 use Rattle.napi_types.specs.plain.Lists.{tail, has_number}
-use Rattle.napi_types.specs.plain.Replies.{Answer}
-use Rattle.napi_types.specs.parts.Attachments.{wrap_ticket}
+use Rattle.napi_types.specs.plain.Replies.{accepts}
 use Rattle.napi_types.specs.parts.Bodies.{is_function, function_addon, text_of}
 use Rattle.napi_types.specs.parts.Book.{Registration, registration_at, due_info}
 use Rattle.napi_types.specs.parts.Frames.{Frame, frame_of, frame_of_duty, caller_of, ask_counted, asks_made, most_asks}
 use Rattle.napi_types.specs.parts.FunctionCalls.{callee_of}
-use Rattle.napi_types.specs.parts.Heap.{Heap, handle_value, handle_body, handle_properties}
+use Rattle.napi_types.specs.parts.Heap.{Heap, handle_body, handle_properties}
 use Rattle.napi_types.specs.parts.HeapCalls.{addon_effect}
 use Rattle.napi_types.specs.parts.HeapChanges.{with_thrown}
 use Rattle.napi_types.specs.parts.HeapRefusals.{kind_refusal, row_refusal, refusal_in}
 use Rattle.napi_types.specs.parts.Hooks.{hook_ticket}
-use Rattle.napi_types.specs.parts.InstanceData.{instance_ticket}
 use Rattle.napi_types.specs.parts.NamedNumbers.{unknown_refusal}
 use Rattle.napi_types.specs.parts.NewValues.{made_after, list_of, thrown_strings, thrown_of}
 use Rattle.napi_types.specs.parts.Properties.{Property}
 use Rattle.napi_types.specs.parts.PropertyCalls.{names_of}
-use Rattle.napi_types.specs.parts.References.{referred_value}
 use Rattle.napi_types.specs.parts.Values.{Value, fresh_value, starting_values, value_changed, body_of, those_of}
 use Rattle.napi_types.specs.environment.Asks.{AsksWithin}
 use Rattle.napi_types.specs.environment.Calls.{effect, answer}
@@ -39,18 +38,19 @@ use Rattle.napi_types.specs.environment.Changes.{call_change, init_change, in_ph
 use Rattle.napi_types.specs.environment.Ends.{end_change}
 use Rattle.napi_types.specs.environment.Entering.{enter_change, asked_change}
 use Rattle.napi_types.specs.environment.Environment.{Environment}
+use Rattle.napi_types.specs.environment.HookCalls.{unhooked}
 use Rattle.napi_types.specs.environment.Moments.{moment_refusal}
 use Rattle.napi_types.specs.environment.Owners.{BelongsTo, IsOwned}
-use Rattle.napi_types.specs.environment.ReferenceCalls.{value_told, counted_up}
-use Rattle.napi_types.specs.environment.Refusals.{group_refusal, timely_refusal, early_refusal, depth_refusal, refusal}
-use Rattle.napi_types.specs.environment.Registering.{finalizer_if, registering_if, registered_only, withdrawing}
+use Rattle.napi_types.specs.environment.Refusals.{timely_refusal, early_refusal, depth_refusal, refusal, group_refusal}
+use Rattle.napi_types.specs.environment.Registering.{withdrawing}
 use Rattle.napi_types.specs.environment.Roots.{reach}
 use Rattle.napi_types.specs.environment.Tickets.{ticket_change}
-use Rattle.napi_types.specs.environment.WrapCalls.{wrapping}
 use Rattle.napi_types.proofs.plain.Conditions.{and-left, and-right, not-true}
 use Rattle.napi_types.proofs.plain.Lists.{none-first, none-last, not-unless}
 use Rattle.napi_types.proofs.parts.Moves.{MovesKeep, each-kept}
 use Rattle.napi_types.proofs.environment.Answers.{answer-keeps}
+use Rattle.napi_types.proofs.environment.Effects as does
+use Rattle.napi_types.proofs.environment.Effects.{Effect, registered-by, effect-of}
 use Rattle.napi_types.proofs.environment.FrameChanges.{KeepsButFrame, ended-keeps, KeepsAndEnters, enter_change-keeps, hangings-parts}
 use Rattle.napi_types.proofs.environment.Registrations.{registered-holds, call-kept, ended-kept, begun-kept, phase-kept}
 use Rattle.napi_types.proofs.environment.Cases.{answer-by, asked-by}
@@ -147,49 +147,25 @@ kept-owned n alive (v ∷ vs) all = here (has_number v.number alive) refl (kept-
     here true h later = rw h (All-cons (Ours n) v (those_of alive vs) (All-head (Ours n) v vs all) later)
     here false h later = rw h later
 
-counted-up-owned : (n r : ℕ) (e : Environment) (v : Option ℕ) → AreOwned n e.heap.values → AreOwned n (counted_up r e v).after.heap.values
-counted-up-owned n r e None all = all
-counted-up-owned n r e (Some v) all = all
-
-told-owned : (n : ℕ) (e : Environment) (v : Option ℕ) → AreOwned n e.heap.values → AreOwned n (value_told e v).after.heap.values
-told-owned n e None all = all
-told-owned n e (Some v) all = all
-
-wrapped-owned : (n : ℕ) (e : Environment) (v payload : ℕ) (entry : Option ℕ) (hint : ℕ) (wanted : Bool) (k : ℕ) → AreOwned n e.heap.values
-    → AreOwned n (wrapping e v payload entry hint wanted k).after.heap.values
-wrapped-owned n e v payload None hint false k all = all
-wrapped-owned n e v payload None hint true k all = all
-wrapped-owned n e v payload (Some entry) hint false k all = all
-wrapped-owned n e v payload (Some entry) hint true k all = all
-
-dropping-owned : (n : ℕ) (t : Option ℕ) (a : Answer Environment) → AreOwned n a.after.heap.values → AreOwned n (withdrawing t a).after.heap.values
-dropping-owned n None a all = all
-dropping-owned n (Some t) a all = all
-
-set-owned : (n : ℕ) (t : Option ℕ) (o : Option Registration) (a : Answer Environment) → AreOwned n a.after.heap.values
-    → AreOwned n (registering_if o (withdrawing t a)).after.heap.values
-set-owned n t None a all = dropping-owned n t a all
-set-owned n None (Some r) a all = all
-set-owned n (Some t) (Some r) a all = all
-
-by-owned : (n : ℕ) (e : Environment) (c : Call) (k : ℕ) → caller_of e.frames < n → AreOwned n e.heap.values → AreOwned n (effect e c k).after.heap.values
-by-owned n e (call.ThrowError code message) k there all = thrown-owned n e.heap code message all
-by-owned n e (call.ReferenceRef r) k there all = counted-up-owned n r.0 e (referred_value e.references r.0) all
-by-owned n e (call.GetReferenceValue r) k there all = told-owned n e (referred_value e.references r.0) all
-by-owned n e (call.Wrap v payload entry hint wanted) k there all = wrapped-owned n e (handle_value e.heap v.0) payload entry hint wanted k all
-by-owned n e (call.RemoveWrap v) k there all = dropping-owned n (registered_only e.book (wrap_ticket e.attachments (handle_value e.heap v.0))) _ all
-by-owned n e (call.AddFinalizer v payload entry hint false) k there all = all
-by-owned n e (call.AddFinalizer v payload entry hint true) k there all = all
-by-owned n e (call.CreateExternal payload None hint) k there all = one-more n _ _ e.heap.values all (no-function n (body.External payload) refl)
-by-owned n e (call.CreateExternal payload (Some entry) hint) k there all = one-more n _ _ e.heap.values all (no-function n (body.External payload) refl)
-by-owned n e call.Collect k there all = kept-owned n (reach e) e.heap.values all
-by-owned n e (call.SetInstanceData payload entry hint) k there all = set-owned n (registered_only e.book (instance_ticket e.instances (caller_of e.frames))) (finalizer_if e payload entry hint) _ all
-by-owned n e (call.RemoveEnvCleanupHook entry argument) k there all = dropping-owned n (registered_only e.book (hook_ticket (caller_of e.frames) entry argument e.hooks)) _ all
-by-owned n e c k there all = heap-owned n (caller_of e.frames) e.heap c k there all
+does-owned : (n : ℕ) (c : Call) (e : Environment) {made dropped : Option Duty} (d : Environment) → caller_of e.frames < n → AreOwned n e.heap.values
+    → Effect c e made dropped d → AreOwned n d.heap.values
+does-owned n c e _ there all (does.tells k) = heap-owned n (caller_of e.frames) e.heap c k there all
+does-owned n c e _ there all (does.makes payload) = one-more n _ _ e.heap.values all (no-function n (body.External payload) refl)
+does-owned n c e _ there all (does.raises code message) = thrown-owned n e.heap code message all
+does-owned n c e _ there all does.collects = kept-owned n (reach e) e.heap.values all
+does-owned n c e _ there all (does.removes_hook entry argument) =
+    let t : Option ℕ = hook_ticket (caller_of e.frames) entry argument e.hooks in
+    registered-by e.book t (λ s. AreOwned n (withdrawing s (accepts out.Nothing (record e { hooks = unhooked t e.hooks }))).after.heap.values) all
+    (λ k here is. all)
+does-owned n c e _ there all (does.registers {d} payload entry hint before step) = does-owned n c e d there all before
+does-owned n c e _ there all (does.attaches {d} {a} before on) = does-owned n c e d there all before
+does-owned n c e _ there all (does.sets {d} i before on) = does-owned n c e d there all before
+does-owned n c e _ there all _ = all
 
 answer-owned : (n : ℕ) (e : Environment) (c : Call) (k : ℕ) → caller_of e.frames < n → AreOwned n e.heap.values → AreOwned n (answer e c k).after.heap.values
 answer-owned n e c k there all =
-    answer-by e c k (λ a. AreOwned n a.after.heap.values) (λ s. all) (λ s. thrown-owned n e.heap None _ all) (λ none. by-owned n e c k there all)
+    answer-by e c k (λ a. AreOwned n a.after.heap.values) (λ s. all) (λ s. thrown-owned n e.heap None _ all)
+    (λ none. does-owned n c e (effect e c k).after there all (effect-of e c k))
 
 -- FRAMES
 pub counted-owned : (n : ℕ) (fs : List Frame) → All (Below n) fs → All (Below n) (ask_counted fs)

@@ -1,5 +1,5 @@
 -- When each event is chosen, and what it says that nothing is.
-use Rattle.std.proofs.Common.{◌≡◌, ◌∙◌, ℕ, nat_lt, Bool, true, false, cond, List, [], ◌∷◌, refl, Option, Some, None, option_map, ◌⊎◌, inl, inr, subst, ◌<◌}
+use Rattle.std.proofs.Common.{◌≡◌, ◌∙◌, sym, ap, ℕ, nat_lt, Bool, true, false, cond, List, [], ◌∷◌, refl, Option, Some, None, option_map, ◌⊎◌, inl, inr, subst, ◌<◌}
 use Rattle.std.proofs.lemmas.Bool.{ltb-true}
 use Rattle.std.specs.Option.{option_or}
 use Rattle.napi_types.specs.declared.entry.LoopEnd.TheVariants as loop_end
@@ -8,7 +8,7 @@ use Rattle.napi_types.specs.declared.entry.Phase.TheVariants as phase
 use Rattle.napi_types.specs.parts.Book.{lowest_due}
 use Rattle.napi_types.specs.parts.Hooks.{Hook, last_hook}
 use Rattle.napi_types.specs.environment.Environment.{Environment}
-use Rattle.napi_types.specs.hub.Hub.{Hub, Stage, Before, Going, Looped, Drained, Final, is_spent}
+use Rattle.napi_types.specs.hub.Hub.{Hub, stage_of, Stage, Before, Going, Looped, Drained, Final, is_spent}
 use Rattle.napi_types.specs.hub.HubMoves.{HubMove, hub_move}
 use Rattle.napi_types.specs.runs.Choice.{local_choice, local_choice_in, hub_choice, hub_choice_at, choice, is_idle, is_quiet, idle_choice, finals_choice}
 use Rattle.napi_types.specs.runs.Loop.{Event, Opens, Inits, Tickets, Moves, Goes, EndsLoop, Drains, FinalsCome, IsGone}
@@ -133,6 +133,16 @@ chosen-by m v is = by (local_choice m.env) refl is
         → (local_choice m.env ≡ Some v) ⊎ ((local_choice m.env ≡ None) × (hub_choice m.hub ≡ Some v))
     by (Some w) here is = inl (here ∙ is)
     by None here is = inr (here, is)
+
+-- where the hub is as far as the phase says, it is one of its choices there, where the environment has none
+pub chosen-in-phase : (m : Machine) (v : Event) → m.hub.stage ≡ stage_of m.env.phase → choice m ≡ Some v
+    → OwnChoice m.env m.env.phase v ⊎ NoChoice m.env m.env.phase × HubChoice m.hub (stage_of m.env.phase) v
+chosen-in-phase m v far is = by (chosen-by m v is)
+  where
+    by : (local_choice m.env ≡ Some v) ⊎ ((local_choice m.env ≡ None) × (hub_choice m.hub ≡ Some v))
+        → OwnChoice m.env m.env.phase v ⊎ NoChoice m.env m.env.phase × HubChoice m.hub (stage_of m.env.phase) v
+    by (inl mine) = inl (own-choice m.env m.env.phase v mine)
+    by (inr its) = inr (no-choice m.env m.env.phase its.0, hub-choice m.hub (stage_of m.env.phase) v (sym (ap (hub_choice_at m.hub) far) ∙ its.1))
 
 -- a move is the hub's next one
 pub chosen-move : (m : Machine) (move : HubMove) → choice m ≡ Some (Moves move) → hub_move m.hub ≡ Some move

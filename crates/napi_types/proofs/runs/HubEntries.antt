@@ -44,7 +44,7 @@ case-of m s opens ok = leaves_hub m.hub refl refl
 case-of m s (inits n) ok = leaves_hub m.hub refl refl
 case-of m s (begins n r there next may) ok = leaves_hub m.hub refl refl
 case-of m s (vanishes last) ok = leaves_hub m.hub refl refl
-case-of m s (shares c o is) ok =
+case-of m s (shares c o is answers) ok =
     steps_hub (shared_entry m.env c o) refl (and-right (may_call m.env && not (is_full (room_of m c) c)) (hub_step m.hub (shared_entry m.env c o)).may ok)
 case-of m s (leaves v cut may ours) ok = steps_hub (end_change v cut m.env).entry refl (and-right may (hub_step m.hub (end_change v cut m.env).entry).may ok)
 case-of m s (passes p o q) ok = steps_hub (host_entry (event_before p) o) refl ok

@@ -47,10 +47,10 @@ final-more m bs xs a x r =
 pub asked-more : (built : Call → Bool) (ps : List Plan) (rss : Registers) (m : Machine) (bs : List Ask) (xs : List Entry) (a : Ask) (x : Entry)
     → IsRunBy m bs xs
     → asked_along built ps rss m (bs ++ a ∷ []) (xs ++ x ∷ []) ≡ asked_along built ps rss m bs xs ++ asked built ps (registers_along ps rss m bs xs) (final m bs xs) a x.actor ∷ []
-asked-more built ps rss m [] [] a x r = refl
-asked-more built ps rss m (b ∷ bs) (y ∷ ys) a x r = ap (λ l. asked built ps rss m b y.actor ∷ l) (asked-more built ps (registers_after ps rss m b y) (after m b y) bs ys a x r.1)
-asked-more built ps rss m [] (y ∷ ys) a x r = absurd r
-asked-more built ps rss m (b ∷ bs) [] a x r = absurd r
+asked-more built ps rss m bs xs a x r =
+    along-entries (λ m bs xs. (rss : Registers) → asked_along built ps rss m (bs ++ a ∷ []) (xs ++ x ∷ [])
+    ≡ asked_along built ps rss m bs xs ++ asked built ps (registers_along ps rss m bs xs) (final m bs xs) a x.actor ∷ [])
+    (λ m rss. refl) (λ m b bs y ys here rest rss. ap (λ l. asked built ps rss m b y.actor ∷ l) (rest (registers_after ps rss m b y))) m bs xs r rss
 
 pub registers-more : (ps : List Plan) (rss : Registers) (m : Machine) (bs : List Ask) (xs : List Entry) (a : Ask) (x : Entry)
     → IsRunBy m bs xs
@@ -70,12 +70,12 @@ sides-more m bs xs a x r =
 -- and so have the duties whose frames begin along it
 pub begun-more : (m : Machine) (bs : List Ask) (xs : List Entry) (a : Ask) (x : Entry)
     → IsRunBy m bs xs → begun_along m (bs ++ a ∷ []) (xs ++ x ∷ []) ≡ begun_along m bs xs ++ option_to_list (begun_info (final m bs xs) x)
-begun-more m [] [] a x r = append-nil (option_to_list (begun_info m x))
-begun-more m (b ∷ bs) (y ∷ ys) a x r =
-    ap (λ l. option_to_list (begun_info m y) ++ l) (begun-more (after m b y) bs ys a x r.1)
-    ∙ sym (append_assoc (option_to_list (begun_info m y)) (begun_along (after m b y) bs ys) (option_to_list (begun_info (final (after m b y) bs ys) x)))
-begun-more m [] (y ∷ ys) a x r = absurd r
-begun-more m (b ∷ bs) [] a x r = absurd r
+begun-more m bs xs a x r =
+    along-entries (λ m bs xs. begun_along m (bs ++ a ∷ []) (xs ++ x ∷ []) ≡ begun_along m bs xs ++ option_to_list (begun_info (final m bs xs) x))
+    (λ m. append-nil (option_to_list (begun_info m x))) (λ m b bs y ys here rest.
+    ap (λ l. option_to_list (begun_info m y) ++ l) rest
+    ∙ sym (append_assoc (option_to_list (begun_info m y)) (begun_along (after m b y) bs ys)
+    (option_to_list (begun_info (final (after m b y) bs ys) x)))) m bs xs r
 
 pub of_addon-append : (addon : ℕ) (xs ys : List DueInfo) → of_addon addon (xs ++ ys) ≡ of_addon addon xs ++ of_addon addon ys
 of_addon-append addon xs ys = filter-append (λ (d : DueInfo). d.addon == addon) xs ys

@@ -22,9 +22,9 @@ use Rattle.napi_types.specs.runs.Plan.{frame_ask, frames_ask, asked}
 use Rattle.napi_types.specs.runs.Run.{IsNext}
 use Rattle.napi_types.specs.runs.Step.{Step, may_cut, frame_step, step}
 use Rattle.napi_types.proofs.plain.Conditions.{and-right}
+use Rattle.napi_types.proofs.runs.Forms.{frame-next}
 use Rattle.machine_laws.specs.Cuts.{cut_by, CutAtLastAsk, NotBeforeLastAsk, IsOnlyOfEnvironment, StandsInHub, OnlyLeavesWithoutAsks}
 use Rattle.machine_laws.proofs.Cutting.{only-in-frame, spent-only, asks-next, early-none, call-may, cut-may, end-may, end-entry, ours-of, left-next, not-last}
-use Rattle.machine_laws.proofs.Forms.{frame-next}
 use Rattle.machine_laws.proofs.cuts.cuts_at_last_ask.Goals as goal
 
 last : CutAtLastAsk

@@ -8,10 +8,10 @@ use Rattle.napi_types.specs.runs.Loop.{Event, Tickets, Moves}
 use Rattle.napi_types.specs.runs.Machine.{Machine}
 use Rattle.napi_types.specs.runs.Plan.{after_entry}
 use Rattle.napi_types.specs.runs.Step.{Step, ticket_step, event_step, end_step_on, step}
+use Rattle.napi_types.proofs.runs.Forms.{Form, ends, happens, form-of}
 use Rattle.machine_laws.specs.RunLaws.{GrowsOn, EntriesCountOnTheirList, OthersLeaveRegisters}
 use Rattle.machine_laws.proofs.Computing.{run-of, computes-of}
 use Rattle.machine_laws.proofs.Fronts.{fronts-are-runs}
-use Rattle.machine_laws.proofs.Forms.{Form, ends, happens, form-of}
 use Rattle.machine_laws.proofs.runs.runs.Goals as goal
 
 pub returns-clause-computed : goal.returns-clause-computed

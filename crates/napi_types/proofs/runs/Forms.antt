@@ -29,7 +29,7 @@ use Rattle.napi_types.specs.runs.Choice.{choice}
 use Rattle.napi_types.specs.runs.Loop.{Event, Opens, Inits, Tickets, Moves, Goes, EndsLoop, Drains, FinalsCome, IsGone}
 use Rattle.napi_types.specs.runs.Machine.{Machine}
 use Rattle.napi_types.specs.runs.Run.{IsNext}
-use Rattle.napi_types.specs.runs.Step.{Step, by_hub, ticket_step, event_step, chosen, may_cut, local_call_step, shared_call_step, call_step_on, end_step_on, asked_step, frame_step, env_step, has_room, other_step, step_of, step}
+use Rattle.napi_types.specs.runs.Step.{Step, by_hub, ticket_step, event_step, chosen, may_cut, local_call_step, shared_call_step, call_step_on, end_step_on, frame_step, env_step, has_room, other_step, step_of, step}
 use Rattle.napi_types.proofs.plain.Conditions.{and-right}
 use Rattle.napi_types.proofs.environment.FrameEnds.{ended-ends}
 use Rattle.napi_types.proofs.hub.HubKeeps.{hub_step-what}
@@ -37,43 +37,43 @@ use Rattle.napi_types.proofs.runs.SharedSteps.{is_of_others, others-told}
 
 -- a step that may come
 pub data Form (m : Machine) : Step → Type 0 where
-  -- where a frame stands it makes a call, in the journal or in the history, or ends
+  -- where a frame stands it makes a call, in the journal or in the history, where the hub tells what the entry does, or ends
   calls : (f : Frame) (fs : List Frame) → m.env.frames ≡ f ∷ fs → (c : Call) (o : Out) → is_shared c ≡ false → Form m (local_call_step m c o)
-  shares : (f : Frame) (fs : List Frame) → m.env.frames ≡ f ∷ fs → (c : Call) (o : Out) → is_shared c ≡ true → Form m (shared_call_step m c o)
+  shares : (f : Frame) (fs : List Frame) → m.env.frames ≡ f ∷ fs → (c : Call) (o : Out) → is_shared c ≡ true → (shared_call_step m c o).entry.reply.out ≡ o
+      → Form m (shared_call_step m c o)
   ends : (f : Frame) (fs : List Frame) → m.env.frames ≡ f ∷ fs → (v : Option HandleId) (cut : Option Why) (may ours : Bool) → is_hub_duty (duty_of m.env.frames) ≡ ours
       → Form m (end_step_on ours m (end_change v cut m.env) may)
   -- where none stands the event comes that was chosen
   happens : m.env.frames ≡ [] → (event : Event) → choice m ≡ Some event → Form m (event_step m event)
-  -- a thread or a worker makes an entry
-  others : (x : Entry) → is_environment x.actor ≡ false → Form m (other_step m x)
+  -- a thread or a worker makes an entry, as the hub tells it
+  others : (x : Entry) → is_environment x.actor ≡ false → x ≡ (other_step m x).entry → Form m (other_step m x)
 
 module _ (m : Machine) (f : Frame) (fs : List Frame) (stands : m.env.frames ≡ f ∷ fs) where
-  call-form : (c : Call) (o : Out) (b : Bool) → is_shared c ≡ b → Form m (call_step_on b m c o)
-  call-form c o false is = calls f fs stands c o is
-  call-form c o true is = shares f fs stands c o is
+  call-form : (c : Call) (o : Out) (b : Bool) → is_shared c ≡ b → (call_step_on b m c o).entry.reply.out ≡ o → Form m (call_step_on b m c o)
+  call-form c o false is told = calls f fs stands c o is
+  call-form c o true is told = shares f fs stands c o is told
 
-  asked-form : (a : Ask) (o : Out) → Form m (asked_step m a o)
-  asked-form (ask.Do c) o = call-form c o (is_shared c) refl
-  asked-form (ask.Leave v) o = ends f fs stands v None (may_ask m.env) (is_hub_duty (duty_of m.env.frames)) refl
-
-  pub frame-form : (a : Ask) (o : Out) (cut : Option Why) → Form m (frame_step m a o cut)
-  frame-form a o None = asked-form a o
-  frame-form a o (Some w) = ends f fs stands None (Some w) (may_cut m a w) (is_hub_duty (duty_of m.env.frames)) refl
+  frame-form : (a : Ask) (o : Out) (cut : Option Why) → (frame_step m a o cut).entry.reply.out ≡ o → Form m (frame_step m a o cut)
+  frame-form (ask.Do c) o None told = call-form c o (is_shared c) refl told
+  frame-form (ask.Leave v) o None told = ends f fs stands v None (may_ask m.env) (is_hub_duty (duty_of m.env.frames)) refl
+  frame-form a o (Some w) told = ends f fs stands None (Some w) (may_cut m a w) (is_hub_duty (duty_of m.env.frames)) refl
 
 chosen-form : (m : Machine) (o : Option Event) → m.env.frames ≡ [] → choice m ≡ o → IsTrue (chosen m o).may → Form m (chosen m o)
 chosen-form m None alone is may = cc
 chosen-form m (Some event) alone is may = happens alone event is
 
-env-form : (m : Machine) (a : Ask) (o : Out) (fs : List Frame) → m.env.frames ≡ fs → IsTrue (env_step m a o fs).may → Form m (env_step m a o fs)
-env-form m a o [] alone may = chosen-form m (choice m) alone refl may
-env-form m a o (f ∷ fs) stands may = frame-form m f fs stands a o (cut_of o)
+env-form : (m : Machine) (a : Ask) (o : Out) (fs : List Frame) → m.env.frames ≡ fs → (env_step m a o fs).entry.reply.out ≡ o → IsTrue (env_step m a o fs).may
+    → Form m (env_step m a o fs)
+env-form m a o [] alone told may = chosen-form m (choice m) alone refl may
+env-form m a o (f ∷ fs) stands told may = frame-form m f fs stands a o (cut_of o) told
 
-of-form : (m : Machine) (a : Ask) (x : Entry) (who : Actor) → x.actor ≡ who → IsTrue (step_of m a x who).may → Form m (step_of m a x who)
-of-form m a x actor.Env is may = env-form m a x.reply.out m.env.frames refl may
-of-form m a x _ is may = others x (ap is_environment is)
+of-form : (m : Machine) (a : Ask) (x : Entry) (who : Actor) → x.actor ≡ who → x ≡ (step_of m a x who).entry → IsTrue (step_of m a x who).may
+    → Form m (step_of m a x who)
+of-form m a x actor.Env is next may = env-form m a x.reply.out m.env.frames refl (sym (ap (λ (y : Entry). y.reply.out) next)) may
+of-form m a x _ is next may = others x (ap is_environment is) next
 
 pub form-of : (m : Machine) (a : Ask) (x : Entry) → IsNext m a x → Form m (step m a x)
-form-of m a x next = of-form m a x x.actor refl next.1
+form-of m a x next = of-form m a x x.actor refl next.0 next.1
 
 -- WHAT THE ENTRIES ARE
 -- that of a shared call is the call, and that of a frame's end is an end
