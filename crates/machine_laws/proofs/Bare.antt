@@ -21,13 +21,12 @@ use Rattle.napi_types.specs.parts.Pool.{new_pool, drained, executed_by}
 use Rattle.napi_types.specs.environment.Ends.{end_change}
 use Rattle.napi_types.specs.hub.Hub.{Hub}
 use Rattle.napi_types.specs.hub.HubCalls.{is_thread_call}
-use Rattle.napi_types.specs.hub.HubMoves.{hub_move}
-use Rattle.napi_types.specs.hub.HubStep.{HubStep}
 use Rattle.napi_types.specs.hub.HubEvents.{loop_end_step, frame_end_step}
+use Rattle.napi_types.specs.hub.HubMoves.{hub_move, is_idle}
+use Rattle.napi_types.specs.hub.HubStep.{HubStep}
+use Rattle.napi_types.specs.hub.HubSteps.{hub_step, hub_step_of}
 use Rattle.napi_types.specs.hub.ThreadSteps.{thread_step, thread_event}
 use Rattle.napi_types.specs.hub.WorkerSteps.{worker_step, worker_event, start_step, work_end_step}
-use Rattle.napi_types.specs.hub.HubSteps.{hub_step, hub_step_of}
-use Rattle.napi_types.specs.runs.Choice.{is_idle}
 use Rattle.napi_types.specs.runs.Machine.{Machine}
 use Rattle.napi_types.specs.runs.Run.{IsRunBy, final}
 use Rattle.napi_types.specs.runs.Setting.{Setting, opening_of, final_of}

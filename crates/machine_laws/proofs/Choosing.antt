@@ -24,9 +24,9 @@ use Rattle.napi_types.specs.environment.Changes.{number_of, may_ask}
 use Rattle.napi_types.specs.environment.Ends.{end_change}
 use Rattle.napi_types.specs.environment.Entering.{asked_change}
 use Rattle.napi_types.specs.environment.Environment.{Environment}
-use Rattle.napi_types.specs.hub.Hub.{stage_of, Hub, Stage, Before, Looped, Drained, is_spent}
-use Rattle.napi_types.specs.hub.HubMoves.{Delivers, Closes, Finishes, hub_move}
+use Rattle.napi_types.specs.hub.Hub.{stage_of, Hub, Stage, Before, Looped, Drained}
 use Rattle.napi_types.specs.hub.HubEvents.{begin_step, delivery_entry}
+use Rattle.napi_types.specs.hub.HubMoves.{Delivers, Closes, Finishes, hub_move, is_spent}
 use Rattle.napi_types.specs.runs.Choice.{local_choice, hub_choice, choice}
 use Rattle.napi_types.specs.runs.Loop.{Event, Opens, Inits, Tickets, Moves, Goes, EndsLoop, Drains, FinalsCome, IsGone}
 use Rattle.napi_types.specs.runs.Machine.{Machine}

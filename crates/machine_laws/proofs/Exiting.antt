@@ -26,10 +26,10 @@ use Rattle.napi_types.specs.environment.Entering.{asked_change}
 use Rattle.napi_types.specs.environment.Environment.{Environment}
 use Rattle.napi_types.specs.environment.SharedCalls.{shared_entry}
 use Rattle.napi_types.specs.hub.Hub.{stage_of, Stage, Going, Drained}
-use Rattle.napi_types.specs.hub.HubMoves.{HubMove, Delivers, Closes, Finishes, hub_move}
+use Rattle.napi_types.specs.hub.HubMoves.{HubMove, Delivers, Closes, Finishes, hub_move, is_idle, is_quiet}
 use Rattle.napi_types.specs.hub.HubEvents.{delivery_entry}
 use Rattle.napi_types.specs.hub.HubSteps.{hub_step}
-use Rattle.napi_types.specs.runs.Choice.{choice, is_idle, is_quiet}
+use Rattle.napi_types.specs.runs.Choice.{choice}
 use Rattle.napi_types.specs.runs.Loop.{Event, Moves, EndsLoop}
 use Rattle.napi_types.specs.runs.Machine.{Machine}
 use Rattle.napi_types.specs.runs.Run.{IsRunBy, after, final}

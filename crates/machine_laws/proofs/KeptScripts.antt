@@ -1,5 +1,5 @@
 -- A history that is written out is shown to keep the script of a thread by computing.
-use Rattle.std.proofs.Common.{◌≡◌, ℕ, ◌+◌, Bool, true, false, cond, ◌||◌, List, [], ◌∷◌, map, Option, Some, None, IsTrue, refl, ap, sym, ◌∙◌}
+use Rattle.std.proofs.Common.{◌≡◌, ℕ, zero, suc, ◌+◌, Bool, true, false, cond, ◌||◌, List, [], ◌∷◌, map, slice_get, Option, Some, None, IsTrue, refl, ap, sym, subst, ◌∙◌}
 use Rattle.std.specs.List.{list_all}
 use Rattle.std.specs.Option.{unwrap_or}
 use Rattle.napi_types.specs.declared.call.Call.{Call}
@@ -17,7 +17,7 @@ use Rattle.napi_types.specs.hub.HistoryRoom.{history_room}
 use Rattle.napi_types.specs.hub.Hub.{Hub}
 use Rattle.napi_types.specs.hub.HubSteps.{hub_step}
 use Rattle.napi_types.specs.runs.Setting.{Setting, opening_of}
-use Rattle.napi_types.specs.all_runs.HubLaws.{KeepsScript}
+use Rattle.napi_types.specs.all_runs.HubLaws.{KeepsScript, ThreadsKeep}
 use Rattle.napi_types.proofs.plain.Conditions.{and-left, and-right}
 
 -- the entry that must stand as the next one of a thread, and whether it may
@@ -81,7 +81,28 @@ abbrev pub script_of : Setting → ℕ → List Op → List Entry → List (Entr
 script_of s t operations history = script_along s.limits.history t (opening_of s).hub 0 0 (Some (thread_calls operations)) history
 
 -- two facts on it show that the history keeps the script
-pub keeps-script : (s : Setting) (t : ℕ) (operations : List Op) (history : List Entry) → history ≡ map (λ p. p.0) (script_of s t operations history)
+keeps-script : (s : Setting) (t : ℕ) (operations : List Op) (history : List Entry) → history ≡ map (λ p. p.0) (script_of s t operations history)
     → IsTrue (list_all (λ p. p.1) (script_of s t operations history)) → KeepsScript s t operations history
 keeps-script s t operations history same may =
     keeps-from s.limits.history t (opening_of s).hub 0 0 (Some (thread_calls operations)) history same may
+
+-- so the one thread of a setting keeps its script, ..
+pub one-keeps : (s : Setting) (operations : List Op) (history : List Entry) → s.threads ≡ 1 → history ≡ map (λ p. p.0) (script_of s 0 operations history)
+    → IsTrue (list_all (λ p. p.1) (script_of s 0 operations history)) → ThreadsKeep s (operations ∷ []) history
+one-keeps s operations history one same may = record { count = sym one; each = by }
+  where
+    by : (t : ℕ) (ops : List Op) → slice_get (operations ∷ []) t ≡ Some ops → KeepsScript s t ops history
+    by zero ops there = let is : operations ≡ ops = cc in subst (λ l. KeepsScript s 0 l history) is (keeps-script s 0 operations history same may)
+    by (suc t) ops there = cc
+
+-- .. and both threads of another
+pub two-keep : (s : Setting) (first second : List Op) (history : List Entry) → s.threads ≡ 2
+    → (history ≡ map (λ p. p.0) (script_of s 0 first history)) × IsTrue (list_all (λ p. p.1) (script_of s 0 first history))
+    → (history ≡ map (λ p. p.0) (script_of s 1 second history)) × IsTrue (list_all (λ p. p.1) (script_of s 1 second history))
+    → ThreadsKeep s (first ∷ second ∷ []) history
+two-keep s first second history two one other = record { count = sym two; each = by }
+  where
+    by : (t : ℕ) (ops : List Op) → slice_get (first ∷ second ∷ []) t ≡ Some ops → KeepsScript s t ops history
+    by zero ops there = let is : first ≡ ops = cc in subst (λ l. KeepsScript s 0 l history) is (keeps-script s 0 first history one.0 one.1)
+    by (suc zero) ops there = let is : second ≡ ops = cc in subst (λ l. KeepsScript s 1 l history) is (keeps-script s 1 second history other.0 other.1)
+    by (suc (suc t)) ops there = cc

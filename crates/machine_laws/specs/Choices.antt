@@ -20,10 +20,10 @@ use Rattle.napi_types.specs.parts.Book.{Book, Registration, is_registered, is_du
 use Rattle.napi_types.specs.parts.Frames.{Frame, frame_of_duty, begin_told, is_hub_duty}
 use Rattle.napi_types.specs.parts.Hooks.{Hook, last_hook}
 use Rattle.napi_types.specs.environment.Environment.{Environment}
-use Rattle.napi_types.specs.hub.Hub.{stage_of, Hub, Going, Drained, Final, stage_after, is_spent}
+use Rattle.napi_types.specs.hub.Hub.{stage_of, Hub, Going, Drained, Final, stage_after}
 use Rattle.napi_types.specs.hub.HubCalls.{is_thread_call}
-use Rattle.napi_types.specs.hub.HubMoves.{Delivers, hub_move}
 use Rattle.napi_types.specs.hub.HubEvents.{delivery_entry}
+use Rattle.napi_types.specs.hub.HubMoves.{Delivers, hub_move, is_spent}
 use Rattle.napi_types.specs.hub.ThreadSteps.{is_thread_there}
 use Rattle.napi_types.specs.hub.WorkerSteps.{is_worker_there}
 use Rattle.napi_types.specs.runs.Choice.{local_choice, hub_choice}

@@ -1,7 +1,6 @@
 -- Where a frame is cut.
-use Rattle.std.specs.Prelude.{◌≡◌, ◌≢◌, ◌<◌, ℕ, Bool, true, false, List, [], ◌∷◌, ◌++◌, Option, Some, None, IsSome, filter, option_map, ◌⊎◌}
+use Rattle.std.specs.Prelude.{◌≡◌, ◌≢◌, ◌<◌, ℕ, Bool, true, false, List, [], ◌∷◌, ◌++◌, Option, Some, None, IsSome, ◌⊎◌}
 use Rattle.std.specs.List.{All}
-use Rattle.std.specs.Option.{option_to_list}
 use Rattle.napi_types.specs.declared.call.Ask.{Ask}
 use Rattle.napi_types.specs.declared.call.Ask.TheVariants as ask
 use Rattle.napi_types.specs.declared.call.Call.{Call}
@@ -10,7 +9,6 @@ use Rattle.napi_types.specs.declared.call.Args.{Args}
 use Rattle.napi_types.specs.declared.entry.Actor.TheVariants as actor
 use Rattle.napi_types.specs.declared.entry.Cause.{Cause}
 use Rattle.napi_types.specs.declared.entry.Cause.TheVariants as cause
-use Rattle.napi_types.specs.declared.entry.Duty.{Duty}
 use Rattle.napi_types.specs.declared.entry.Entry.{Entry}
 use Rattle.napi_types.specs.declared.entry.HostStep.TheVariants as host
 use Rattle.napi_types.specs.declared.entry.Out.TheVariants as out
@@ -23,12 +21,12 @@ use Rattle.napi_types.specs.plain.Built.{built_ask}
 use Rattle.napi_types.specs.plain.Entries.{host_told, host_entry}
 use Rattle.napi_types.specs.plain.Guards.{is_registering, is_shared}
 use Rattle.napi_types.specs.plain.Room.{need}
-use Rattle.napi_types.specs.parts.Duties.{duties_of}
 use Rattle.napi_types.specs.parts.Frames.{Frame, is_hub_duty}
 use Rattle.napi_types.specs.scripts.Plans.{Plan, Registers}
 use Rattle.napi_types.specs.environment.Ends.{end_change}
 use Rattle.napi_types.specs.environment.Refusals.{refusal}
 use Rattle.napi_types.specs.hub.Hub.{Hub}
+use Rattle.napi_types.specs.hub.StandingDuties.{hub_duties, standing_duties}
 use Rattle.napi_types.specs.runs.Machine.{Machine}
 use Rattle.napi_types.specs.runs.Plan.{asked}
 use Rattle.napi_types.specs.runs.Run.{IsNext, IsRunBy}
@@ -57,14 +55,7 @@ abbrev pub FramesStandInTheHub : Type 0
 FramesStandInTheHub = (s : Setting) (bs : List Ask) (xs : List Entry) → IsRunBy (opening_of s) bs xs
     → All (StandsInHub (final_of s bs xs).hub) (final_of s bs xs).env.frames
 
--- the duties of the hub that began these frames, and the one that stands in the hub
-abbrev pub hub_duties : List Frame → List Duty
-hub_duties fs = filter (λ d. is_hub_duty (Some d)) (duties_of fs)
-
-abbrev pub standing_duties : Hub → List Duty
-standing_duties h = option_to_list (option_map (λ d. d.duty) h.standing)
-
--- at every moment of a run they are the same: one where such a frame stands, and none where none does
+-- at every moment of a run the duties of the hub that began frames are the one that stands in it: one where such a frame stands, and none where none does
 abbrev pub HubDutiesStandInTheHub : Type 0
 HubDutiesStandInTheHub = (s : Setting) (bs : List Ask) (xs : List Entry) → IsRunBy (opening_of s) bs xs
     → hub_duties (final_of s bs xs).env.frames ≡ standing_duties (final_of s bs xs).hub

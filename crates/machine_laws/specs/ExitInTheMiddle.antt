@@ -19,7 +19,7 @@ use Rattle.napi_types.specs.plain.Weave.{weave}
 use Rattle.napi_types.specs.scripts.Text.{text}
 use Rattle.napi_types.specs.hub.Actors.{Free, Over, worker_along}
 use Rattle.napi_types.specs.runs.Setting.{Setting}
-use Rattle.napi_types.specs.all_runs.HubLaws.{KeepsScript}
+use Rattle.napi_types.specs.all_runs.HubLaws.{ThreadsKeep}
 use Rattle.machine_laws.specs.HubWords.{script_for, at_length, next_after, work_duty, item, work, shared_making, work_created, target_of, function_created, calls_function, begins, item_begins, completion_begins, runs_empty, function_finishes, drains, finals, by_thread, thread_ends, worker_starts, worker_finishes, worker_ends}
 use Rattle.machine_laws.specs.RunWords.{call_at, call_making, ticket, opening_entries, frame_end, loop_ended, go_entry, gone_entry, left_out, opening_lines, handle}
 use Rattle.machine_laws.specs.Told.{IsRun}
@@ -95,7 +95,7 @@ trace = weave journal history
 
 -- the thread makes the call of its script, and the worker its entries by turns
 pub record ActInOrder : Type 0 where
-  pub thread : KeepsScript setting 0 (op.ThreadCall 1 8 mode.Blocking ∷ []) history
+  pub threads : ThreadsKeep setting ((op.ThreadCall 1 8 mode.Blocking ∷ []) ∷ []) history
   pub worker : worker_along 0 (Some Free) history ≡ Some Over
 
 -- its text is these 33 lines

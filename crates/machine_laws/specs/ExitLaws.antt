@@ -15,8 +15,7 @@ use Rattle.napi_types.specs.declared.entry.What.TheVariants as what
 use Rattle.napi_types.specs.plain.Built.{is_exiting}
 use Rattle.napi_types.specs.plain.Guards.{is_shared}
 use Rattle.napi_types.specs.parts.Book.{lowest_due}
-use Rattle.napi_types.specs.hub.HubMoves.{hub_move}
-use Rattle.napi_types.specs.runs.Choice.{is_idle, is_quiet}
+use Rattle.napi_types.specs.hub.HubMoves.{hub_move, is_idle, is_quiet}
 use Rattle.napi_types.specs.runs.Machine.{Machine}
 use Rattle.napi_types.specs.runs.Run.{IsNext, IsRunBy}
 use Rattle.napi_types.specs.runs.Setting.{Setting, opening_of, final_of}

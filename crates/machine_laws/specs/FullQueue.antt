@@ -39,6 +39,9 @@ setting = script_for 1 0 (
 abbrev pub operations : List Op
 operations = op.ThreadCall 1 10 mode.Blocking ∷ op.ThreadRelease 1 release.Release ∷ []
 
+abbrev pub scripts : List (List Op)
+scripts = operations ∷ []
+
 -- the second call, and the third, with a status and the item that it makes, where it makes one
 abbrev pub second_call : Status → Option Duty → Entry
 second_call s d = shared_making 2 (calls_function 8 mode.Nonblocking) s d

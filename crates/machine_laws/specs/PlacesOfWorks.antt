@@ -12,7 +12,7 @@ use Rattle.napi_types.specs.declared.status.Status.TheVariants as status
 use Rattle.napi_types.specs.plain.Weave.{weave}
 use Rattle.napi_types.specs.hub.Actors.{Free, Over, worker_along}
 use Rattle.napi_types.specs.runs.Setting.{Setting}
-use Rattle.napi_types.specs.all_runs.HubLaws.{KeepsScript}
+use Rattle.napi_types.specs.all_runs.HubLaws.{ThreadsKeep}
 use Rattle.machine_laws.specs.HubWords.{script_for, within, at_length, next_after, work_duty, work, shared_at, shared_making, work_created, completion_begins, runs_empty, drains, finals, thread_ends, worker_starts, worker_finishes, worker_ends}
 use Rattle.machine_laws.specs.RunWords.{frame_ends, opening_entries, loop_ended, go_entry, gone_entry}
 use Rattle.machine_laws.specs.Told.{IsRun}
@@ -70,7 +70,7 @@ trace = weave journal history
 
 -- the thread has no call in its script, and ends; the worker makes its entries by turns
 pub record ActInOrder : Type 0 where
-  pub thread : KeepsScript setting 0 [] history
+  pub threads : ThreadsKeep setting ([] ∷ []) history
   pub worker : worker_along 0 (Some Free) history ≡ Some Over
 
 -- CANCELLING

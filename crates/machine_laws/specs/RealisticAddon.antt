@@ -21,7 +21,7 @@ use Rattle.napi_types.specs.scripts.Plans.{registers_of}
 use Rattle.napi_types.specs.scripts.Text.{text}
 use Rattle.napi_types.specs.hub.Actors.{Free, Over, worker_along}
 use Rattle.napi_types.specs.runs.Setting.{Setting, final_registers}
-use Rattle.napi_types.specs.all_runs.HubLaws.{KeepsScript}
+use Rattle.napi_types.specs.all_runs.HubLaws.{ThreadsKeep}
 use Rattle.machine_laws.specs.HubWords.{script_for, at_length, next_after, name, work_duty, item, work, shared_at, shared_making, work_created, target_of, function_created, calls_function, releases, begins, item_begins, completion_begins, runs_empty, function_closes, function_finishes, drains, finals, by_thread, thread_ends, worker_starts, worker_finishes, worker_ends}
 use Rattle.machine_laws.specs.RunWords.{call_at, call_making, ticket, opening_entries, frame_end, loop_ended, go_entry, gone_entry, opening_lines, handle, reference}
 use Rattle.machine_laws.specs.Told.{IsRun, told_asks}
@@ -118,8 +118,7 @@ trace = weave journal history
 
 -- the threads make the calls of their scripts, and the worker its entries by turns
 pub record ActInOrder : Type 0 where
-  pub first : KeepsScript setting 0 (operations 0) history
-  pub second : KeepsScript setting 1 (operations 1) history
+  pub threads : ThreadsKeep setting (operations 0 ∷ operations 1 ∷ []) history
   pub worker : worker_along 0 (Some Free) history ≡ Some Over
 
 -- its text is these 40 lines

@@ -35,6 +35,9 @@ setting = setting_within 13
 abbrev pub operations : List Op
 operations = op.ThreadCall 1 1 mode.Blocking ∷ op.ThreadCall 1 2 mode.Blocking ∷ op.ThreadRelease 1 release.Release ∷ []
 
+abbrev pub scripts : List (List Op)
+scripts = operations ∷ []
+
 -- the thread's second call, and its release
 abbrev pub second_call : Entry
 second_call = by_thread 0 1 (calls_function 2 mode.Blocking) status.Ok (item 2)

@@ -48,6 +48,9 @@ setting = script_for 1 0 (
 abbrev pub operations : List Op
 operations = op.ThreadRelease 2 release.Release ∷ op.ThreadRelease 2 release.Release ∷ []
 
+abbrev pub scripts : List (List Op)
+scripts = operations ∷ []
+
 -- the function of a number, its creation with a context, and its first item
 abbrev pub function_at : ℕ → TsfnId
 function_at f = record { 0 = f }

@@ -1,6 +1,6 @@
 //! Worked runs of works, thread-safe functions, threads and workers, each as a law: its two lists are a run to its end,
 //! with its text, and near misses are no run.
-ghost use Rattle.napi_types.specs.all_runs.HubLaws.{KeepsScript};
+ghost use Rattle.napi_types.specs.all_runs.HubLaws.{ThreadsKeep};
 ghost use Rattle.machine_laws.specs.Told.{EndsOnItsLists};
 ghost use Rattle.machine_laws.specs.RealisticAddon as realistic_addon;
 ghost use Rattle.machine_laws.specs.CancelBeforeStart as cancel_before_start;
@@ -70,7 +70,7 @@ pub fn two_works_start_in_order()
 /// A full queue: no call on it is accepted, and a thread's has no answer.
 pub fn full_queue_runs()
     ensures ends { EndsOnItsLists full_queue.setting full_queue.journal full_queue.history }
-    ensures script { KeepsScript full_queue.setting 0 full_queue.operations full_queue.history }
+    ensures threads { ThreadsKeep full_queue.setting full_queue.scripts full_queue.history }
     ensures prints { full_queue.Prints }
     ensures strict { full_queue.IsStrict }
 {}
@@ -99,7 +99,7 @@ pub fn release_to_zero_runs()
 /// Two thread-safe functions: which delivers first, and for which the loop waits.
 pub fn two_functions_run()
     ensures ends { EndsOnItsLists two_functions.setting two_functions.journal two_functions.history }
-    ensures script { KeepsScript two_functions.setting 0 two_functions.operations two_functions.history }
+    ensures threads { ThreadsKeep two_functions.setting two_functions.scripts two_functions.history }
     ensures prints { two_functions.Prints }
     ensures registers { two_functions.Keeps }
     ensures strict { two_functions.IsStrict }

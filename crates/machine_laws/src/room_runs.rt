@@ -1,5 +1,5 @@
 //! Worked runs over the hub where the journal or the history has little room, each as a law.
-ghost use Rattle.napi_types.specs.all_runs.HubLaws.{KeepsScript};
+ghost use Rattle.napi_types.specs.all_runs.HubLaws.{ThreadsKeep};
 ghost use Rattle.machine_laws.specs.Told.{EndsOnItsLists};
 ghost use Rattle.machine_laws.specs.ThreadCutFull as thread_cut_full;
 ghost use Rattle.machine_laws.specs.FrameCutFull as frame_cut_full;
@@ -11,7 +11,7 @@ ghost use Rattle.machine_laws.specs.PlacesAlong.{OweInOrder};
 /// A thread is cut where the history has no room for its call.
 pub fn thread_cut_full_runs()
     ensures ends { EndsOnItsLists thread_cut_full.setting thread_cut_full.journal thread_cut_full.history }
-    ensures script { KeepsScript thread_cut_full.setting 0 thread_cut_full.operations thread_cut_full.history }
+    ensures threads { ThreadsKeep thread_cut_full.setting thread_cut_full.scripts thread_cut_full.history }
     ensures prints { thread_cut_full.Prints }
     ensures strict { thread_cut_full.IsStrict }
 {}

@@ -1,8 +1,10 @@
 -- The proofs of what holds of all runs.
+pub mod AcceptedCalls
 pub mod AcceptedCancels
 pub mod CancelledWorks
 pub mod DutySides
 pub mod FunctionAccounts
+pub mod Goings
 pub mod HistoryRooms
 pub mod HubAccounts
 pub mod ItemOrders
@@ -10,7 +12,6 @@ pub mod Joining
 pub mod JournalRooms
 pub mod Keeping
 pub mod NamedWorks
-pub mod NextEvents
 pub mod NoRefusals
 pub mod OncePlaces
 pub mod Onces
@@ -20,6 +21,8 @@ pub mod QuietRuns
 pub mod Rooms
 pub mod ScriptAddons
 pub mod Scripts
+pub mod Teardowns
+pub mod ThreadsEnd
 pub mod Withdrawals
 pub mod WorkAccounts
 pub mod WorkerEnds

@@ -5,8 +5,10 @@ pub mod Changed
 pub mod Effects
 pub mod FrameChanges
 pub mod FrameEnds
+pub mod Handed
 pub mod HookedBooks
 pub mod HookedSteps
+pub mod MadeTickets
 pub mod Owners
 pub mod Registrations
 pub mod StandingFrames

@@ -1,5 +1,8 @@
 -- On the hub: the cases of its step, what its steps keep, and its histories.
+pub mod ClosingPools
 pub mod Executions
+pub mod GrowingHistories
+pub mod HubBounds
 pub mod HubCases
 pub mod HubDuties
 pub mod HubDutySteps
@@ -9,7 +12,13 @@ pub mod HubKeeps
 pub mod HubOwners
 pub mod HubPools
 pub mod HubRooms
+pub mod LateCalls
+pub mod MadeDuties
+pub mod Occupied
 pub mod OthersKeep
 pub mod OthersLower
+pub mod OthersTell
 pub mod RunningWorks
+pub mod ServingWorkers
+pub mod ThreadEnds
 pub mod WorkerTurns

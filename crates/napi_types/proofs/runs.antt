@@ -3,6 +3,10 @@ pub mod CallRooms
 pub mod Chosen
 pub mod Forms
 pub mod HubEntries
+pub mod HubsOfRuns
+pub mod LoopEnds
+pub mod Nested
 pub mod Runs
 pub mod SharedSteps
+pub mod StandingDuties
 pub mod StepCases

@@ -1,8 +1,10 @@
 -- What holds of all runs.
+pub mod AcceptedCalls
 pub mod Alone
 pub mod CollectionLaw
 pub mod Counts
 pub mod DutyPlaces
+pub mod Goings
 pub mod HubLaws
 pub mod ItemOrder
 pub mod Joined

@@ -14,6 +14,7 @@ pub mod HookCalls
 pub mod Hooked
 pub mod InstanceCalls
 pub mod JournalRoom
+pub mod MadeTickets
 pub mod Moments
 pub mod Owners
 pub mod ReferenceCalls

@@ -1,6 +1,8 @@
 -- The hub: its state, its answers to calls, what it does of its own, and its histories.
 pub mod Hub
+pub mod StandingDuties
 pub mod HubCalls
+pub mod MadeDuties
 pub mod HubMoves
 pub mod HubStep
 pub mod GivenSteps

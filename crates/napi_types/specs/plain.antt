@@ -3,6 +3,7 @@ pub mod Arguments
 pub mod Built
 pub mod CallFacts
 pub mod Counted
+pub mod DutyCalls
 pub mod Edge
 pub mod Entries
 pub mod Guards

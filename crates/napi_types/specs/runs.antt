@@ -3,6 +3,7 @@ pub mod Begins
 pub mod CallRoom
 pub mod Choice
 pub mod Loop
+pub mod LoopEnds
 pub mod Machine
 pub mod Parting
 pub mod Plan

@@ -1,7 +1,13 @@
 //! What the machine's definitions come to over all runs in which threads and workers take part, as laws: each function does nothing, and its
 //! contract states a law.
-ghost use Rattle.napi_types.specs.hub.HistoryLaws.{OthersKeepTheHub, OthersLowerNothing, FullStaysFull, FullStaysFullAsOthersGoOn, WorkersTakeTurns, RunningStaysRunning};
-ghost use Rattle.napi_types.specs.all_runs.HubLaws.{OthersJoin, AddonsAreTheScripts, ScriptsStayAsOthersGoOn, FrontsKeepScripts};
+ghost use Rattle.napi_types.specs.hub.HistoryLaws.{OthersKeepTheHub, OthersLowerNothing, OthersOccupyNoLess, CallsStayPressed, PoolsCloseAtTheDrain, HubsAreWithin, NoCallWaitsFromTheDrainOn, EndedThreadsHaveNoneLeft, WorkersTakeTurns, RunningStaysRunning};
+ghost use Rattle.napi_types.specs.all_runs.HubLaws.{OthersJoin, AddonsAreTheScripts, ScriptsStayAsOthersGoOn, FrontsKeepScripts, ThreadsKeepAsOthersGoOn, FrontsOfThreadsKeep, ThreadsComeToTheirEnd};
+ghost use Rattle.napi_types.specs.all_runs.AcceptedCalls.{AcceptedCallsTellTheirDuty};
+ghost use Rattle.napi_types.specs.all_runs.Goings.{NextEventsMayCome, TeardownNeverStandsStill};
+ghost use Rattle.napi_types.specs.runs.LoopEnds.{LoopsEndForTheReason, LoopsEndIdleOrQuiet};
+ghost use Rattle.napi_types.specs.environment.MadeTickets.{UnrefusedCallsMakeTheirTicket};
+ghost use Rattle.napi_types.specs.hub.MadeDuties.{AnswersMakeTheirDuty, NoWorkRefusalAccepts};
+ghost use Rattle.napi_types.specs.environment.SharedCalls.{SharedEntriesAreHanded, SharedRefusals};
 
 /// The environment sees a front of the history. Where its journal and that front are a run, and other actors went on behind it, the journal
 /// and the whole history are a run, which leaves the environment and the registers as they were.
@@ -35,14 +41,24 @@ pub fn others_lower_nothing()
     ensures { OthersLowerNothing }
 {}
 
-/// So a shared call that is full in the history stays full after an entry of a thread or a worker.
-pub fn full_stays_full()
-    ensures { FullStaysFull }
+/// So the places of a history that are taken do not become fewer as others go on.
+pub fn others_occupy_no_less()
+    ensures { OthersOccupyNoLess }
 {}
 
-/// It stays full as others go on.
-pub fn full_stays_full_as_others_go_on()
-    ensures { FullStaysFullAsOthersGoOn }
+/// A call that is full there stays full as others go on, and one that may want memory still may.
+pub fn calls_stay_pressed()
+    ensures { CallsStayPressed }
+{}
+
+/// Over every history that replays at the hub the pool is closing from the drain on.
+pub fn pools_close_at_the_drain()
+    ensures { PoolsCloseAtTheDrain }
+{}
+
+/// No more works were created, no more were queued, no more functions made and no more items accepted than the history has entries.
+pub fn hubs_are_within()
+    ensures { HubsAreWithin }
 {}
 
 /// Over every history that replays at the hub a worker starts and finishes works by turns, and then ends: no entry of it comes out of turn, and
@@ -54,4 +70,65 @@ pub fn workers_take_turns()
 /// While a worker executes a work, no entry of another actor changes that: it executes the same work, which is there as it was, with its value.
 pub fn running_stays_running()
     ensures { RunningStaysRunning }
+{}
+
+/// Where each thread keeps its script, each still does after entries of workers and of the environment.
+pub fn threads_keep_as_others_go_on()
+    ensures { ThreadsKeepAsOthersGoOn }
+{}
+
+/// So each does at each front of the history.
+pub fn fronts_of_threads_keep()
+    ensures { FrontsOfThreadsKeep }
+{}
+
+/// Over every history that replays at the hub a thread has ended exactly where none of its calls is left to speak of.
+pub fn ended_threads_have_none_left()
+    ensures { EndedThreadsHaveNoneLeft }
+{}
+
+/// In every run to its end each thread has come to its end.
+pub fn threads_come_to_their_end()
+    ensures { ThreadsComeToTheirEnd }
+{}
+
+/// At every moment of a run where no frame stands the event that is next may come: no event of the environment's is ever refused.
+pub fn next_events_may_come()
+    ensures { NextEventsMayCome }
+{}
+
+/// From the end of the loop until the environment is gone, where no frame stands and the environment has no event, a thread or a worker may make an entry.
+pub fn teardown_never_stands_still()
+    ensures { TeardownNeverStandsStill }
+{}
+
+/// Over every history that replays at the hub no call of a thread-safe function waits from the drain on. So no thread stands still in one.
+pub fn no_call_waits_from_the_drain_on()
+    ensures { NoCallWaitsFromTheDrainOn }
+{}
+
+/// The machine's choice ends the loop for the reason that one word of the hub gives. Where the hub has no move that is idle, or else quiet.
+pub fn loops_end_for_the_reason()
+    ensures reason { LoopsEndForTheReason }
+    ensures quiet { LoopsEndIdleOrQuiet }
+{}
+
+/// A shared call is handed to the hub as one record, which has all that its entry tells. The environment refuses such a call with 1 or with 9, where it
+/// refuses it.
+pub fn shared_calls_are_handed()
+    ensures entries { SharedEntriesAreHanded }
+    ensures refusals { SharedRefusals }
+{}
+
+/// A call that registers makes its duty where nothing refuses it: the next ticket, the next number of a work, the next item of a function, or the finalizer of
+/// the next function. The hub's answer makes one exactly where its status is 0, and no refusal of a call on a work is 0.
+pub fn accepted_calls_make_their_duty()
+    ensures tickets { UnrefusedCallsMakeTheirTicket }
+    ensures duties { AnswersMakeTheirDuty }
+    ensures works { NoWorkRefusalAccepts }
+{}
+
+/// In every run the entry of an accepted call that registers tells the duty that it makes.
+pub fn accepted_calls_tell_their_duty()
+    ensures { AcceptedCallsTellTheirDuty }
 {}

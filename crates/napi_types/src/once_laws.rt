@@ -1,5 +1,5 @@
 //! What becomes of each duty over all runs, whatever threads and workers do, as laws: each function does nothing, and its contract states a law.
-ghost use Rattle.napi_types.specs.all_runs.OnceLaws.{EachDutyHasOnePlace, NoPlaceIsLeft, OnePlaceGivesOnce, CompletionsTellStarts, CancelledWorksNeverStart, AcceptedCancelsCancel, CancelsAreTold, ItemsBeginInOrder, WorkersFinishWhatTheyStart, NoRefusalAccepts, NextEventsMayCome};
+ghost use Rattle.napi_types.specs.all_runs.OnceLaws.{EachDutyHasOnePlace, NoPlaceIsLeft, OnePlaceGivesOnce, CompletionsTellStarts, CancelledWorksNeverStart, AcceptedCancelsCancel, CancelsAreTold, ItemsBeginInOrder, WorkersFinishWhatTheyStart, NoRefusalAccepts};
 
 /// After each entry of every run, whatever threads and workers do, a duty that was made and not withdrawn has exactly one place, or its frame began
 /// once. A place is: queued, executed or finished in the pool; an item in its function's list; a finalizer that its function still owes; registered
@@ -52,9 +52,4 @@ pub fn workers_finish_what_they_start()
 /// No call is refused with the status of an accepted one.
 pub fn no_refusal_accepts()
     ensures { NoRefusalAccepts }
-{}
-
-/// Where no frame stands, the event that the machine chooses may come: no event of the environment is ever refused.
-pub fn next_events_may_come()
-    ensures { NextEventsMayCome }
 {}

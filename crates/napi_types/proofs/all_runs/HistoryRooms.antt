@@ -25,12 +25,12 @@ use Rattle.napi_types.specs.environment.Changes.{may_call}
 use Rattle.napi_types.specs.environment.Ends.{end_change}
 use Rattle.napi_types.specs.environment.SharedCalls.{shared_entry}
 use Rattle.napi_types.specs.hub.HistoryRoom.{history_room, reserved_history}
-use Rattle.napi_types.specs.hub.Hub.{Hub, is_past_drain, Stage, Final, left_of, is_spent}
-use Rattle.napi_types.specs.hub.HubMoves.{HubMove, Delivers, Closes, Finishes, hub_move}
+use Rattle.napi_types.specs.hub.Hub.{Hub, is_past_drain, Stage, Final, left_of}
+use Rattle.napi_types.specs.hub.HubMoves.{HubMove, Delivers, Closes, Finishes, hub_move, is_idle, is_quiet, is_spent}
 use Rattle.napi_types.specs.hub.HubEvents.{delivery_entry}
+use Rattle.napi_types.specs.hub.HubSteps.{hub_step, hub_step_of}
 use Rattle.napi_types.specs.hub.ThreadSteps.{thread_step}
 use Rattle.napi_types.specs.hub.WorkerSteps.{worker_step}
-use Rattle.napi_types.specs.hub.HubSteps.{hub_step, hub_step_of}
 use Rattle.napi_types.specs.runs.CallRoom.{room_of}
 use Rattle.napi_types.specs.runs.Choice.{local_choice, hub_choice, choice}
 use Rattle.napi_types.specs.runs.Loop.{Event, Inits, Opens, Tickets, Moves, Goes, EndsLoop, Drains, FinalsCome, IsGone}

@@ -1,7 +1,8 @@
 -- Where a journal and a front of the history are a run, and others went on from there, the journal and the whole history are a run.
-use Rattle.std.proofs.Common.{◌≡◌, ◌∙◌, Bool, false, List, [], ◌∷◌, ◌++◌, length, length-append, IsTrue, refl, ap, sym, subst, None, arith, append_assoc}
+use Rattle.std.proofs.Common.{◌≡◌, ◌∙◌, ℕ, ◌+◌, suc, Bool, false, List, [], ◌∷◌, ◌++◌, length, length-append, IsTrue, refl, ap, sym, subst, None, arith, append_assoc}
 use Rattle.std.proofs.lemmas.List.{append-nil}
 use Rattle.std.proofs.lemmas.List.Elements.{All-head, All-tail}
+use Rattle.std.specs.Option.{option_to_list}
 use Rattle.napi_types.specs.declared.call.Ask.{Ask}
 use Rattle.napi_types.specs.declared.call.Ask.TheVariants as ask
 use Rattle.napi_types.specs.declared.call.Call.{Call}
@@ -9,12 +10,15 @@ use Rattle.napi_types.specs.declared.entry.Actor.{Actor}
 use Rattle.napi_types.specs.declared.entry.Actor.TheVariants as actor
 use Rattle.napi_types.specs.declared.entry.Entry.{Entry}
 use Rattle.napi_types.specs.declared.entry.Local.{Local}
+use Rattle.napi_types.specs.declared.entry.Out.{Out}
+use Rattle.napi_types.specs.declared.entry.Out.TheVariants as out
 use Rattle.napi_types.specs.plain.Entries.{is_environment}
 use Rattle.napi_types.specs.plain.Room.{fits_in}
 use Rattle.napi_types.specs.plain.Weave.{History, weave, sides, RisesBetween}
 use Rattle.napi_types.specs.scripts.Plans.{Plan, Registers, loaded_registers}
 use Rattle.napi_types.specs.hub.HistoryRoom.{history_room}
 use Rattle.napi_types.specs.hub.HubSteps.{IsHubNext, hub_step, hub_along}
+use Rattle.napi_types.specs.runs.Begins.{begun_along, begun_info, told_at}
 use Rattle.napi_types.specs.runs.Machine.{Machine}
 use Rattle.napi_types.specs.runs.Parting.{IsParted, sides_along}
 use Rattle.napi_types.specs.runs.Plan.{after_entry, asked, registers_after}
@@ -22,10 +26,11 @@ use Rattle.napi_types.specs.runs.Run.{IsNext, IsRunBy, after}
 use Rattle.napi_types.specs.runs.Setting.{Setting, RunsBy, opening_of, final_of, final_registers, planned_asks}
 use Rattle.napi_types.specs.runs.Step.{Step, has_room, other_step, step_of, step}
 use Rattle.napi_types.specs.all_runs.HubLaws.{OthersJoin}
-use Rattle.napi_types.specs.all_runs.Joined.{OthersGoOn, AreJoined, with_others, GoesOnJoined}
+use Rattle.napi_types.specs.all_runs.Joined.{OthersGoOn, AreJoined, with_others, gone_on, GoesOnJoined}
 use Rattle.napi_types.proofs.plain.Conditions.{and-both}
 use Rattle.napi_types.proofs.plain.Weaves.{rises-more, weave-shared, sides-shared}
-use Rattle.napi_types.proofs.runs.Runs.{run-more, final-more, asked-more, registers-more, sides-more}
+use Rattle.napi_types.proofs.hub.OthersTell.{tells_begin, other-out}
+use Rattle.napi_types.proofs.runs.Runs.{run-more, final-more, asked-more, registers-more, sides-more, begun-more}
 
 -- WHAT OTHERS COME TO
 -- the step of another actor is the hub's
@@ -51,6 +56,14 @@ others-next : (m : Machine) (x : Entry) → is_environment x.actor ≡ false →
 others-next m x other next fits =
     let same : step m (ask.Leave None) x ≡ other_step m x = others-step m (ask.Leave None) x x.actor other in
     subst (λ (s : Step). (x ≡ s.entry) × IsTrue s.may) (sym same) (next.entry, and-both (has_room m x.what) (hub_step m.hub x).may fits next.may)
+
+-- it tells of no frame that begins
+not-told : (m : Machine) (o : Out) → tells_begin o ≡ false → told_at m o ≡ None
+not-told m (out.Begin cause addon entry d) is = cc
+not-told m _ is = refl
+
+none-told : (m : Machine) (x : Entry) → is_environment x.actor ≡ false → IsHubNext m.hub x → begun_info m x ≡ None
+none-told m x other next = not-told m x.reply.out (ap (λ (y : Entry). tells_begin y.reply.out) next.entry ∙ other-out m.hub x x.actor other next.may)
 
 -- ONE ENTRY OF ANOTHER
 abbrev Others : Entry → Type 0
@@ -95,17 +108,32 @@ registers-same s asks ys x run other =
     registers-more s.plans (loaded_registers s.plans) (opening_of s) asks ys (ask.Leave None) x run
     ∙ others-keep s.plans (final_registers s asks ys) (final_of s asks ys) (ask.Leave None) x other
 
-env-same : (s : Setting) (asks : List Ask) (ys : List Entry) (x : Entry) → IsRunBy (opening_of s) asks ys → is_environment x.actor ≡ false
-    → (final_of s (asks ++ ask.Leave None ∷ []) (ys ++ x ∷ [])).env ≡ (final_of s asks ys).env
-env-same s asks ys x run other =
-    ap (λ (n : Machine). n.env) (final-more (opening_of s) asks ys (ask.Leave None) x run)
-    ∙ ap (λ (t : Step). t.after.env) (others-step (final_of s asks ys) (ask.Leave None) x x.actor other)
+machine-next : (s : Setting) (asks : List Ask) (ys : List Entry) (x : Entry) → IsRunBy (opening_of s) asks ys → is_environment x.actor ≡ false
+    → final_of s (asks ++ ask.Leave None ∷ []) (ys ++ x ∷ []) ≡ (other_step (final_of s asks ys) x).after
+machine-next s asks ys x run other =
+    final-more (opening_of s) asks ys (ask.Leave None) x run
+    ∙ ap (λ (t : Step). t.after) (others-step (final_of s asks ys) (ask.Leave None) x x.actor other)
 
-hub-same : (s : Setting) (asks : List Ask) (ys : List Entry) (x : Entry) → IsRunBy (opening_of s) asks ys → is_environment x.actor ≡ false
-    → (final_of s (asks ++ ask.Leave None ∷ []) (ys ++ x ∷ [])).hub ≡ (hub_step (final_of s asks ys).hub x).after
-hub-same s asks ys x run other =
-    ap (λ (n : Machine). n.hub) (final-more (opening_of s) asks ys (ask.Leave None) x run)
-    ∙ ap (λ (t : Step). t.after.hub) (others-step (final_of s asks ys) (ask.Leave None) x x.actor other)
+begun-same : (s : Setting) (asks : List Ask) (ys : List Entry) (x : Entry) → IsRunBy (opening_of s) asks ys → is_environment x.actor ≡ false
+    → IsHubNext (final_of s asks ys).hub x
+    → begun_along (opening_of s) (asks ++ ask.Leave None ∷ []) (ys ++ x ∷ []) ≡ begun_along (opening_of s) asks ys
+begun-same s asks ys x run other next =
+    begun-more (opening_of s) asks ys (ask.Leave None) x run
+    ∙ ap (λ o. begun_along (opening_of s) asks ys ++ option_to_list o) (none-told (final_of s asks ys) x other next)
+    ∙ append-nil (begun_along (opening_of s) asks ys)
+
+-- one entry of others, and then the rest of them
+gone_on-none : (m : Machine) → m ≡ gone_on [] m
+gone_on-none m = ap (λ n. record m { history_length = n }) (zero-right m.history_length)
+  where
+    zero-right : (n : ℕ) → n ≡ n + 0
+    zero-right n = omega arith
+
+gone_on-more : (m : Machine) (x : Entry) (rest : List Entry) → gone_on rest (other_step m x).after ≡ gone_on (x ∷ rest) m
+gone_on-more m x rest = ap (λ n. record m { hub = hub_along m.hub (x ∷ rest); history_length = n }) (right m.history_length (length rest))
+  where
+    right : (n k : ℕ) → n + 1 + k ≡ n + suc k
+    right n k = omega arith
 
 pub others-join : OthersJoin
 others-join s asks journal front [] j =
@@ -115,8 +143,9 @@ others-join s asks journal front [] j =
       run = subst (λ bs. RunsBy s bs (weave journal (front ++ []))) (sym none) (subst (λ ks. RunsBy s asks (weave journal ks)) (sym same) j.run);
       rises = subst (λ ks. RisesBetween 0 (length ks) journal) (sym same) j.rises;
       parted = subst (λ bs. IsParted (opening_of s) bs journal (front ++ [])) (sym none) (subst (λ ks. IsParted (opening_of s) asks journal ks) (sym same) j.parted);
-      hub = ap (λ bs. (final_of s bs (weave journal (front ++ []))).hub) none ∙ ap (λ ks. (final_of s asks (weave journal ks)).hub) same;
-      env = ap (λ bs. (final_of s bs (weave journal (front ++ []))).env) none ∙ ap (λ ks. (final_of s asks (weave journal ks)).env) same;
+      machine = ap (λ bs. final_of s bs (weave journal (front ++ []))) none ∙ ap (λ ks. final_of s asks (weave journal ks)) same
+          ∙ gone_on-none (final_of s asks (weave journal front));
+      begun = ap (λ bs. begun_along (opening_of s) bs (weave journal (front ++ []))) none ∙ ap (λ ks. begun_along (opening_of s) asks (weave journal ks)) same;
       registers = ap (λ bs. final_registers s bs (weave journal (front ++ []))) none ∙ ap (λ ks. final_registers s asks (weave journal ks)) same;
     }
 others-join s asks journal front (x ∷ rest) j =
@@ -131,12 +160,15 @@ others-join s asks journal front (x ∷ rest) j =
       rises = subst (λ ks. RisesBetween 0 (length ks) journal) lists more.rises;
       parted = subst (λ bs. IsParted (opening_of s) bs journal (front ++ x ∷ rest)) asked
           (subst (λ ks. IsParted (opening_of s) (with_others (asks ++ ask.Leave None ∷ []) rest) journal ks) lists more.parted);
-      hub = ap (λ bs. (final_of s bs (weave journal (front ++ x ∷ rest))).hub) (sym asked)
-          ∙ ap (λ ks. (final_of s (with_others (asks ++ ask.Leave None ∷ []) rest) (weave journal ks)).hub) (sym lists)
-          ∙ more.hub ∙ ap (λ h. hub_along h rest) (ap (λ ys. (final_of s (asks ++ ask.Leave None ∷ []) ys).hub) longer ∙ hub-same s asks (weave journal front) x j.run.steps other);
-      env = ap (λ bs. (final_of s bs (weave journal (front ++ x ∷ rest))).env) (sym asked)
-          ∙ ap (λ ks. (final_of s (with_others (asks ++ ask.Leave None ∷ []) rest) (weave journal ks)).env) (sym lists)
-          ∙ more.env ∙ ap (λ ys. (final_of s (asks ++ ask.Leave None ∷ []) ys).env) longer ∙ env-same s asks (weave journal front) x j.run.steps other;
+      machine = ap (λ bs. final_of s bs (weave journal (front ++ x ∷ rest))) (sym asked)
+          ∙ ap (λ ks. final_of s (with_others (asks ++ ask.Leave None ∷ []) rest) (weave journal ks)) (sym lists)
+          ∙ more.machine
+          ∙ ap (gone_on rest) (ap (λ ys. final_of s (asks ++ ask.Leave None ∷ []) ys) longer ∙ machine-next s asks (weave journal front) x j.run.steps other)
+          ∙ gone_on-more (final_of s asks (weave journal front)) x rest;
+      begun = ap (λ bs. begun_along (opening_of s) bs (weave journal (front ++ x ∷ rest))) (sym asked)
+          ∙ ap (λ ks. begun_along (opening_of s) (with_others (asks ++ ask.Leave None ∷ []) rest) (weave journal ks)) (sym lists)
+          ∙ more.begun ∙ ap (λ ys. begun_along (opening_of s) (asks ++ ask.Leave None ∷ []) ys) longer
+          ∙ begun-same s asks (weave journal front) x j.run.steps other j.others.replays.0;
       registers = ap (λ bs. final_registers s bs (weave journal (front ++ x ∷ rest))) (sym asked)
           ∙ ap (λ ks. final_registers s (with_others (asks ++ ask.Leave None ∷ []) rest) (weave journal ks)) (sym lists)
           ∙ more.registers ∙ ap (λ ys. final_registers s (asks ++ ask.Leave None ∷ []) ys) longer ∙ registers-same s asks (weave journal front) x j.run.steps other;

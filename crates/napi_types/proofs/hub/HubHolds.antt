@@ -24,9 +24,9 @@ use Rattle.napi_types.specs.parts.Pool.{work_numbered, completion_info, first_co
 use Rattle.napi_types.specs.parts.Works.{Work, Outcome}
 use Rattle.napi_types.specs.hub.HistoryLaws.{LeadsTo}
 use Rattle.napi_types.specs.hub.HistoryRoom.{function_places, reserved_history}
-use Rattle.napi_types.specs.hub.Hub.{stage_places, Hub, Stage, Before, Going, Looped, Drained, Final, new_hub, stage_after, is_past_drain, threads_left, workers_left, is_spent}
+use Rattle.napi_types.specs.hub.Hub.{stage_places, Hub, Stage, Before, Going, Looped, Drained, Final, new_hub, stage_after, is_past_drain, threads_left, workers_left}
 use Rattle.napi_types.specs.hub.HubCalls.{new_function_number}
-use Rattle.napi_types.specs.hub.HubMoves.{HubMove, Delivers, Closes, Finishes, function_move_in, function_move, first_move, hub_move, in_function, without_duty, with_delivered}
+use Rattle.napi_types.specs.hub.HubMoves.{HubMove, Delivers, Closes, Finishes, function_move_in, function_move, first_move, hub_move, in_function, without_duty, with_delivered, is_spent}
 use Rattle.napi_types.specs.hub.GivenSteps.{is_looped, is_fresh_work, work_number}
 use Rattle.napi_types.specs.hub.HubEvents.{staged}
 use Rattle.napi_types.specs.hub.HubSteps.{IsHubNext, hub_step, hub_along}

@@ -1,8 +1,6 @@
--- No entry of a thread or a worker lowers the sum of the history's entries and reserved places, so a call that is full there stays full.
-use Rattle.std.proofs.Common.{◌≡◌, ◌∙◌, ℕ, suc, ◌+◌, ◌*◌, ◌≤◌, ◌<◌, Bool, true, false, List, [], ◌∷◌, ◌++◌, length, refl, ap, sym, subst, arith, length-append, Option, Some, is_some, is_none, IsTrue}
-use Rattle.std.specs.List.{All, sum_by}
-use Rattle.std.proofs.lemmas.Bool.{ltb-true, lt-ltb}
-use Rattle.std.proofs.lemmas.List.Elements.{All-head, All-tail}
+-- No entry of a thread or a worker lowers the sum of the history's entries and reserved places.
+use Rattle.std.proofs.Common.{◌≡◌, ◌∙◌, ℕ, suc, ◌+◌, ◌*◌, ◌≤◌, Bool, true, false, List, ◌∷◌, ◌++◌, length, refl, ap, sym, subst, arith, length-append, Option, Some, is_some, is_none, IsTrue}
+use Rattle.std.specs.List.{sum_by}
 use Rattle.napi_types.specs.declared.call.Call.{Call}
 use Rattle.napi_types.specs.declared.call.Release.{Release}
 use Rattle.napi_types.specs.declared.call.Release.TheVariants as release
@@ -20,22 +18,21 @@ use Rattle.napi_types.specs.declared.status.Status.{Status}
 use Rattle.napi_types.specs.declared.status.Status.TheVariants as status
 use Rattle.napi_types.specs.plain.Entries.{is_environment}
 use Rattle.napi_types.specs.plain.Lists.{with_number, with_record, one}
-use Rattle.napi_types.specs.plain.Room.{is_full, need, one_if}
+use Rattle.napi_types.specs.plain.Room.{one_if}
 use Rattle.napi_types.specs.parts.Functions.{FunctionState, called, acquire_status, acquired, release_status, closed_state, released}
 use Rattle.napi_types.specs.parts.Pool.{WorkPool, executed_by, with_started, started_from, with_finished, finished_at}
 use Rattle.napi_types.specs.parts.Works.{Execution}
-use Rattle.napi_types.specs.hub.HistoryLaws.{OthersLowerNothing, FullStaysFull, FullStaysFullAsOthersGoOn}
-use Rattle.napi_types.specs.hub.HistoryRoom.{history_room, state_places, work_places, function_places, reserved_history}
+use Rattle.napi_types.specs.hub.HistoryLaws.{OthersLowerNothing}
+use Rattle.napi_types.specs.hub.HistoryRoom.{state_places, work_places, function_places, reserved_history}
 use Rattle.napi_types.specs.hub.Hub.{stage_places, Hub, left_of, threads_left, workers_left, is_past_drain}
 use Rattle.napi_types.specs.hub.HubCalls.{is_thread_call}
 use Rattle.napi_types.specs.hub.HubMoves.{in_function}
 use Rattle.napi_types.specs.hub.ThreadSteps.{thread_step, thread_event}
 use Rattle.napi_types.specs.hub.WorkerSteps.{worker_step, worker_event}
-use Rattle.napi_types.specs.hub.HubSteps.{IsHubNext, hub_step, hub_step_of, hub_along}
-use Rattle.napi_types.specs.hub.Replays.{HubReplays}
+use Rattle.napi_types.specs.hub.HubSteps.{IsHubNext, hub_step, hub_step_of}
 use Rattle.napi_types.proofs.hub.Executions.{loses-one, wins-one, left-one}
 use Rattle.napi_types.proofs.hub.HubCases.{HubCase, hub-case, asks, creates_work, deletes_work, cancels_work, queues_work, creates_function, alters, goes, ends_loop, drains, comes_to_finals, delivers, closes, finishes, ends, thread_ends, worker_ends, starts, finishes_work, Alters, calls, acquires, releases}
-use Rattle.napi_types.proofs.hub.HubHolds.{HubSound, step-sound, led-sound}
+use Rattle.napi_types.proofs.hub.HubHolds.{HubSound, led-sound}
 use Rattle.napi_types.proofs.hub.HubFunctions.{IsAmong, found-among}
 use Rattle.napi_types.proofs.hub.HubKeeps.{other-calls}
 use Rattle.napi_types.proofs.hub.HubPools.{executes-none}
@@ -219,37 +216,3 @@ step-lowers-nothing h x holds other next =
 
 pub others-lower-nothing : OthersLowerNothing
 others-lower-nothing limit threads workers history h x led other next = step-lowers-nothing h x (led-sound limit threads workers history h led) other next
-
--- A CALL THAT IS FULL
-full-stays : (h g : Hub) (n limit : ℕ) (c : Call) → LowersNothing h g → is_full (history_room h n limit) c ≡ true
-    → is_full (history_room g (n + 1) limit) c ≡ true
-full-stays h g n limit c low full =
-    lt-ltb limit (n + 1 + reserved_history g + need c)
-    (by (reserved_history h) (reserved_history g) (need c) low (ltb-true limit (n + reserved_history h + need c) full))
-  where
-    by : (r s k : ℕ) → r ≤ s + 1 → limit < n + r + k → limit < n + 1 + s + k
-    by r s k low full = omega (arith, low, full)
-
-along-stays : (limit : ℕ) (h : Hub) (n : ℕ) (rest : List Entry) (c : Call) → HubSound h → All (λ x. is_environment x.actor ≡ false) rest
-    → HubReplays limit h n rest → is_full (history_room h n limit) c ≡ true → is_full (history_room (hub_along h rest) (n + length rest) limit) c ≡ true
-along-stays limit h n [] c holds others replays full = subst (λ m. is_full (history_room h m limit) c ≡ true) (sym (same n)) full
-  where
-    same : (m : ℕ) → m + 0 ≡ m
-    same m = omega arith
-along-stays limit h n (x ∷ xs) c holds others replays full =
-    let other : is_environment x.actor ≡ false = All-head (λ (y : Entry). is_environment y.actor ≡ false) x xs others in
-    subst (λ m. is_full (history_room (hub_along (hub_step h x).after xs) m limit) c ≡ true) (same n (length xs))
-    (along-stays limit (hub_step h x).after (n + 1) xs c (step-sound h x replays.0 holds)
-    (All-tail (λ (y : Entry). is_environment y.actor ≡ false) x xs others) replays.2
-    (full-stays h (hub_step h x).after n limit c (step-lowers-nothing h x holds other replays.0) full))
-  where
-    same : (m k : ℕ) → m + 1 + k ≡ m + suc k
-    same m k = omega arith
-
-pub full-stays-full : FullStaysFull
-full-stays-full limit threads workers history h x n c led other next full =
-    full-stays h (hub_step h x).after n limit c (others-lower-nothing limit threads workers history h x led other next) full
-
-pub full-stays-along : FullStaysFullAsOthersGoOn
-full-stays-along limit threads workers history rest h n c led others replays full =
-    along-stays limit h n rest c (led-sound limit threads workers history h led) others replays full

@@ -27,7 +27,7 @@ use Rattle.napi_types.proofs.hub.HubCases.{HubCase, cancels_work, delivers, work
 use Rattle.napi_types.proofs.hub.HubRooms.{left-without}
 
 -- WHAT WORKERS EXECUTE
-started-executes : (v n w : ℕ) (p : WorkPool) → executed_by (with_execution v n p) w ≡ cond (v == w) (Some n) (executed_by p w)
+pub started-executes : (v n w : ℕ) (p : WorkPool) → executed_by (with_execution v n p) w ≡ cond (v == w) (Some n) (executed_by p w)
 started-executes v n w p =
     ap (λ o. option_map (λ (e : Execution). e.work) o) (found-with_record (λ (e : Execution). e.worker) w (record { worker = v; work = n }) p.executions)
     ∙ by (v == w)
@@ -38,7 +38,7 @@ started-executes v n w p =
     by true = refl
     by false = refl
 
-finished-executes : (v n w : ℕ) (p : WorkPool) → executed_by (finished_at v (Some n) p) w ≡ cond (v == w) None (executed_by p w)
+pub finished-executes : (v n w : ℕ) (p : WorkPool) → executed_by (finished_at v (Some n) p) w ≡ cond (v == w) None (executed_by p w)
 finished-executes v n w p =
     ap (λ o. option_map (λ (e : Execution). e.work) o) (found-filter (λ (e : Execution). e.worker) (λ m. not (m == v)) w p.executions)
     ∙ ap (λ b. option_map (λ (e : Execution). e.work) (cond (not b) (found (λ (e : Execution). e.worker) w p.executions) None)) (turned w v)
@@ -49,7 +49,7 @@ finished-executes v n w p =
     by true = refl
     by false = refl
 
-cancelled-executes : (o : Option ℕ) (w : ℕ) (p : WorkPool) → executed_by (cancelled_at o p) w ≡ executed_by p w
+pub cancelled-executes : (o : Option ℕ) (w : ℕ) (p : WorkPool) → executed_by (cancelled_at o p) w ≡ executed_by p w
 cancelled-executes None w p = refl
 cancelled-executes (Some n) w p = refl
 
@@ -75,7 +75,7 @@ left-out w (m ∷ ms) = by (m == w) refl (left-out w ms)
     by true is rest = rest
     by false is rest = ap (λ c. c || has_number w (filter (λ k. not (k == w)) ms)) is ∙ rest
 
-ended-without : (v w count : ℕ) (ended : List ℕ)
+pub ended-without : (v w count : ℕ) (ended : List ℕ)
     → has_number w (left_of count (with_number v ended)) ≡ has_number w (filter (λ k. not (k == v)) (left_of count ended))
 ended-without v w count ended = ap (has_number w) (left-without v ended (range_with_len 0 count))
 
@@ -86,7 +86,7 @@ pub record LeavesWorker (w : ℕ) (old new : Hub) : Type 0 where
   pub gone : has_number w (workers_left old) ≡ false → has_number w (workers_left new) ≡ false
 
 -- what only workers do, and threads in their way
-abbrev is_event_of_others : What → Bool
+abbrev pub is_event_of_others : What → Bool
 is_event_of_others (what.Host host.Start) = true
 is_event_of_others (what.Host host.Finish) = true
 is_event_of_others (what.Host host.ActorEnd) = true

@@ -8,9 +8,9 @@ use Rattle.napi_types.specs.declared.entry.Phase.TheVariants as phase
 use Rattle.napi_types.specs.parts.Book.{lowest_due}
 use Rattle.napi_types.specs.parts.Hooks.{Hook, last_hook}
 use Rattle.napi_types.specs.environment.Environment.{Environment}
-use Rattle.napi_types.specs.hub.Hub.{Hub, stage_of, Stage, Before, Going, Looped, Drained, Final, is_spent}
-use Rattle.napi_types.specs.hub.HubMoves.{HubMove, hub_move}
-use Rattle.napi_types.specs.runs.Choice.{local_choice, local_choice_in, hub_choice, hub_choice_at, choice, is_idle, is_quiet, idle_choice, finals_choice}
+use Rattle.napi_types.specs.hub.Hub.{Hub, stage_of, Stage, Before, Going, Looped, Drained, Final}
+use Rattle.napi_types.specs.hub.HubMoves.{HubMove, hub_move, is_idle, is_quiet, is_spent}
+use Rattle.napi_types.specs.runs.Choice.{local_choice, local_choice_in, hub_choice, hub_choice_at, choice, finals_choice}
 use Rattle.napi_types.specs.runs.Loop.{Event, Opens, Inits, Tickets, Moves, Goes, EndsLoop, Drains, FinalsCome, IsGone}
 use Rattle.napi_types.specs.runs.Machine.{Machine}
 
@@ -100,12 +100,12 @@ pub data HubChoice (h : Hub) : Stage → Event → Type 0 where
   moves_at_end : (move : HubMove) → hub_move h ≡ Some move → HubChoice h Drained (Moves move)
 
 idle-choice : (h : Hub) (idle quiet : Bool) (v : Event) → hub_move h ≡ None → is_idle h ≡ idle → is_quiet h ≡ quiet
-    → cond idle (Some (EndsLoop loop_end.Idle)) (cond quiet (Some (EndsLoop loop_end.Quiet)) None) ≡ Some v → HubChoice h Going v
+    → option_map EndsLoop (cond idle (Some loop_end.Idle) (cond quiet (Some loop_end.Quiet) None)) ≡ Some v → HubChoice h Going v
 idle-choice h true quiet v none idle quietly is = let same : EndsLoop loop_end.Idle ≡ v = cc in subst (HubChoice h Going) same (idles none idle)
 idle-choice h false true v none idle quietly is = let same : EndsLoop loop_end.Quiet ≡ v = cc in subst (HubChoice h Going) same (quiets none idle quietly)
 idle-choice h false false v none idle quietly is = cc
 
-going-choice : (h : Hub) (o : Option HubMove) (v : Event) → hub_move h ≡ o → option_or (option_map Moves o) (idle_choice h) ≡ Some v → HubChoice h Going v
+going-choice : (h : Hub) (o : Option HubMove) (v : Event) → hub_move h ≡ o → option_or (option_map Moves o) (option_map EndsLoop (idle_reason h)) ≡ Some v → HubChoice h Going v
 going-choice h (Some move) v next is = let same : Moves move ≡ v = cc in subst (HubChoice h Going) same (moves_in_loop move next)
 going-choice h None v next is = idle-choice h (is_idle h) (is_quiet h) v next refl refl is
 

@@ -1,19 +1,20 @@
 -- Laws over all runs in which threads and workers take part.
-use Rattle.std.specs.Prelude.{◌≡◌, ℕ, false, List, ◌++◌, length, Some}
+use Rattle.std.specs.Prelude.{◌≡◌, ◌<◌, ℕ, false, List, ◌++◌, length, slice_get, Some, None}
 use Rattle.std.specs.List.{All}
 use Rattle.napi_types.specs.declared.call.Ask.{Ask}
+use Rattle.napi_types.specs.declared.call.Call.{Call}
 use Rattle.napi_types.specs.declared.entry.Entry.{Entry}
 use Rattle.napi_types.specs.declared.entry.Local.{Local}
 use Rattle.napi_types.specs.declared.op.Op.{Op}
 use Rattle.napi_types.specs.environment.Owners.{IsOwned}
-use Rattle.napi_types.specs.hub.Actors.{is_thread, thread_calls, KeepsScriptFrom}
+use Rattle.napi_types.specs.hub.Actors.{is_thread, thread_calls, KeepsScriptFrom, left_along}
 use Rattle.napi_types.specs.hub.HubOwners.{IsOwnedHub}
 use Rattle.napi_types.specs.runs.Machine.{Machine}
 use Rattle.napi_types.specs.runs.Run.{IsRunBy}
-use Rattle.napi_types.specs.runs.Setting.{Setting, opening_of, final_of}
+use Rattle.napi_types.specs.runs.Setting.{Setting, EndsBy, opening_of, final_of}
 use Rattle.napi_types.specs.all_runs.Joined.{AreJoined, GoesOnJoined}
 
--- where the environment and the hub are joined, the journal and the whole history are a run, and the environment and the registers are as they were
+-- where the environment and the hub are joined, the journal and the whole history are a run, and all but the hub is as it was
 abbrev pub OthersJoin : Type 0
 OthersJoin = (s : Setting) (asks : List Ask) (journal : List Local) (front rest : List Entry) → AreJoined s asks journal front rest → GoesOnJoined s asks journal front rest
 
@@ -30,6 +31,12 @@ AddonsAreTheScripts = (s : Setting) (bs : List Ask) (xs : List Entry) → IsRunB
 abbrev pub KeepsScript : Setting → ℕ → List Op → List Entry → Type 0
 KeepsScript s t operations history = KeepsScriptFrom s.limits.history t (opening_of s).hub 0 0 (Some (thread_calls operations)) history
 
+-- each thread of the setting keeps its script, which these are in the threads' order. A clause on a run in which threads take part has this beside `RunsBy`: the
+-- machine lets a thread end cut at any time, and only its script says whether it may
+pub record ThreadsKeep (s : Setting) (scripts : List (List Op)) (history : List Entry) : Type 0 where
+  pub count : length scripts ≡ s.threads
+  pub each : (t : ℕ) (operations : List Op) → slice_get scripts t ≡ Some operations → KeepsScript s t operations history
+
 -- a history that keeps the script of a thread keeps it as other actors go on, and so does each front of it
 abbrev pub ScriptsStayAsOthersGoOn : Type 0
 ScriptsStayAsOthersGoOn = (s : Setting) (t : ℕ) (operations : List Op) (history rest : List Entry) → All (λ x. is_thread t x.actor ≡ false) rest
@@ -37,3 +44,16 @@ ScriptsStayAsOthersGoOn = (s : Setting) (t : ℕ) (operations : List Op) (histor
 
 abbrev pub FrontsKeepScripts : Type 0
 FrontsKeepScripts = (s : Setting) (t : ℕ) (operations : List Op) (front rest : List Entry) → KeepsScript s t operations (front ++ rest) → KeepsScript s t operations front
+
+-- so do all threads: entries of workers and of the environment behind a history leave what it keeps, and each front of it keeps the scripts
+abbrev pub ThreadsKeepAsOthersGoOn : Type 0
+ThreadsKeepAsOthersGoOn = (s : Setting) (scripts : List (List Op)) (history rest : List Entry) → All (λ x. (t : ℕ) → is_thread t x.actor ≡ false) rest
+    → ThreadsKeep s scripts history → ThreadsKeep s scripts (history ++ rest)
+
+abbrev pub FrontsOfThreadsKeep : Type 0
+FrontsOfThreadsKeep = (s : Setting) (scripts : List (List Op)) (front rest : List Entry) → ThreadsKeep s scripts (front ++ rest) → ThreadsKeep s scripts front
+
+-- in every run to its end each thread has come to its end: none of its calls is left to speak of
+abbrev pub ThreadsComeToTheirEnd : Type 0
+ThreadsComeToTheirEnd = (s : Setting) (bs : List Ask) (xs : List Entry) (t : ℕ) (calls : List Call) → t < s.threads → EndsBy s bs xs
+    → left_along t (Some calls) xs ≡ None

@@ -1,5 +1,5 @@
 -- The environment and the hub joined: the environment has seen a front of the history, and behind it stand entries of other actors that it has not seen yet.
-use Rattle.std.specs.Prelude.{◌≡◌, false, List, ◌++◌, length, map, None}
+use Rattle.std.specs.Prelude.{◌≡◌, ◌+◌, false, List, ◌++◌, length, map, None}
 use Rattle.std.specs.List.{All}
 use Rattle.napi_types.specs.declared.call.Ask.{Ask}
 use Rattle.napi_types.specs.declared.call.Ask.TheVariants as ask
@@ -9,6 +9,7 @@ use Rattle.napi_types.specs.plain.Entries.{is_environment}
 use Rattle.napi_types.specs.plain.Weave.{weave, RisesBetween}
 use Rattle.napi_types.specs.hub.HubSteps.{hub_along}
 use Rattle.napi_types.specs.hub.Replays.{HubReplays}
+use Rattle.napi_types.specs.runs.Begins.{begun_along}
 use Rattle.napi_types.specs.runs.Machine.{Machine}
 use Rattle.napi_types.specs.runs.Parting.{IsParted}
 use Rattle.napi_types.specs.runs.Setting.{Setting, RunsBy, opening_of, final_of, final_registers}
@@ -29,11 +30,15 @@ pub record AreJoined (s : Setting) (asks : List Ask) (journal : List Local) (fro
 abbrev pub with_others : List Ask → List Entry → List Ask
 with_others asks rest = asks ++ map (λ x. ask.Leave None) rest
 
--- so the journal and the whole history are a run, which leaves the environment and the registers as they were; the hub is the one to which the others came
+-- the machine as others went on by these entries: the hub and the length of the history are those after them, and all else is as it was
+abbrev pub gone_on : List Entry → Machine → Machine
+gone_on rest m = record m { hub = hub_along m.hub rest; history_length = m.history_length + length rest }
+
+-- so the journal and the whole history are a run. It comes to the machine as the others went on, no frame began in between, and the registers are as they were
 pub record GoesOnJoined (s : Setting) (asks : List Ask) (journal : List Local) (front rest : List Entry) : Type 0 where
   pub run : RunsBy s (with_others asks rest) (weave journal (front ++ rest))
   pub rises : RisesBetween 0 (length (front ++ rest)) journal
   pub parted : IsParted (opening_of s) (with_others asks rest) journal (front ++ rest)
-  pub env : (final_of s (with_others asks rest) (weave journal (front ++ rest))).env ≡ (final_of s asks (weave journal front)).env
-  pub hub : (final_of s (with_others asks rest) (weave journal (front ++ rest))).hub ≡ hub_along (final_of s asks (weave journal front)).hub rest
+  pub machine : final_of s (with_others asks rest) (weave journal (front ++ rest)) ≡ gone_on rest (final_of s asks (weave journal front))
+  pub begun : begun_along (opening_of s) (with_others asks rest) (weave journal (front ++ rest)) ≡ begun_along (opening_of s) asks (weave journal front)
   pub registers : final_registers s (with_others asks rest) (weave journal (front ++ rest)) ≡ final_registers s asks (weave journal front)

@@ -1,5 +1,5 @@
 -- Laws over all runs, whatever threads and workers do: each duty begins exactly once or is withdrawn, and what works, items and workers come to.
-use Rattle.std.specs.Prelude.{◌≡◌, ◌≢◌, ℕ, ◌<◌, ◌==◌, ◌&&◌, Bool, true, cond, List, [], ◌∷◌, ◌++◌, Option, Some, None, IsTrue}
+use Rattle.std.specs.Prelude.{◌≡◌, ◌≢◌, ℕ, ◌<◌, ◌==◌, ◌&&◌, Bool, true, cond, List, [], ◌∷◌, ◌++◌, Option, Some, None}
 use Rattle.std.specs.List.{list_any}
 use Rattle.std.specs.Option.{option_or}
 use Rattle.napi_types.specs.declared.call.Ask.{Ask}
@@ -18,12 +18,9 @@ use Rattle.napi_types.specs.environment.Environment.{Environment}
 use Rattle.napi_types.specs.environment.Refusals.{refusal}
 use Rattle.napi_types.specs.hub.Actors.{Free, Over, worker_along}
 use Rattle.napi_types.specs.hub.Hub.{Hub}
-use Rattle.napi_types.specs.runs.Choice.{choice}
-use Rattle.napi_types.specs.runs.Loop.{Event}
 use Rattle.napi_types.specs.runs.Machine.{Machine}
 use Rattle.napi_types.specs.runs.Run.{IsRunBy}
 use Rattle.napi_types.specs.runs.Setting.{Setting, RunsBy, EndsBy, opening_of, final_of}
-use Rattle.napi_types.specs.runs.Step.{event_step}
 use Rattle.napi_types.specs.all_runs.Counts.{started, begun_cancelled, IsOnce, TellsStarts}
 use Rattle.napi_types.specs.all_runs.DutyPlaces.{places_in_machine, HasOnePlace}
 use Rattle.napi_types.specs.all_runs.ItemOrder.{CountItems}
@@ -112,8 +109,3 @@ WorkersFinishWhatTheyStart = (s : Setting) (bs : List Ask) (xs : List Entry) (w 
 -- no call is refused with the status of an accepted one
 abbrev pub NoRefusalAccepts : Type 0
 NoRefusalAccepts = (e : Environment) (c : Call) → refusal e c ≢ Some status.Ok
-
--- at every moment of a run where no frame stands, and none of the hub's duties, the event that is next may come
-abbrev pub NextEventsMayCome : Type 0
-NextEventsMayCome = (s : Setting) (bs : List Ask) (xs : List Entry) (event : Event) → IsRunBy (opening_of s) bs xs → (final_of s bs xs).env.frames ≡ []
-    → (final_of s bs xs).hub.standing ≡ None → choice (final_of s bs xs) ≡ Some event → IsTrue (event_step (final_of s bs xs) event).may

@@ -60,6 +60,11 @@ KeepsScriptFrom limit t h n made left (x ∷ xs) =
     (is_thread t x.actor ≡ true → IsNextOfThread (history_room h n limit) made left x x.what)
     × KeepsScriptFrom limit t (hub_step h x).after (n + 1) (cond (is_thread t x.actor) (made + 1) made) (cond (is_thread t x.actor) (left_after left x.what) left) xs
 
+-- the calls that are left of a thread after a history, where these were left before it; none to speak of once it has ended
+abbrev pub left_along : ℕ → Option (List Call) → List Entry → Option (List Call)
+left_along t left [] = left
+left_along t left (x ∷ xs) = left_along t (cond (is_thread t x.actor) (left_after left x.what) left) xs
+
 -- WORKERS
 abbrev pub is_worker : ℕ → Actor → Bool
 is_worker w (actor.Worker v) = v == w

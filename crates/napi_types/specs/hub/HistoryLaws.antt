@@ -1,14 +1,22 @@
 -- Laws over all histories of the hub.
-use Rattle.std.specs.Prelude.{◌≡◌, ℕ, ◌+◌, ◌≤◌, true, false, List, length, Some, is_some}
+use Rattle.std.specs.Prelude.{◌≡◌, ℕ, ◌+◌, ◌≤◌, true, false, List, length, Some, is_some, is_none}
 use Rattle.std.specs.List.{All}
 use Rattle.napi_types.specs.declared.call.Call.{Call}
+use Rattle.napi_types.specs.declared.call.Call.TheVariants as call
+use Rattle.napi_types.specs.declared.call.Mode.{Mode}
+use Rattle.napi_types.specs.declared.entry.Actor.{Actor}
 use Rattle.napi_types.specs.declared.entry.Entry.{Entry}
+use Rattle.napi_types.specs.declared.entry.Given.{Given}
+use Rattle.napi_types.specs.declared.ids.TsfnId.{TsfnId}
 use Rattle.napi_types.specs.plain.Entries.{is_environment}
-use Rattle.napi_types.specs.plain.Room.{is_full}
+use Rattle.napi_types.specs.plain.Lists.{has_number}
+use Rattle.napi_types.specs.plain.Room.{is_full, may_want_memory}
+use Rattle.napi_types.specs.parts.Functions.{accepted_items}
 use Rattle.napi_types.specs.parts.Pool.{work_numbered, executed_by, value_of_work}
-use Rattle.napi_types.specs.hub.Actors.{is_worker, Free, worker_along}
+use Rattle.napi_types.specs.hub.Actors.{left_along, is_worker, Free, worker_along}
 use Rattle.napi_types.specs.hub.HistoryRoom.{history_room, reserved_history}
-use Rattle.napi_types.specs.hub.Hub.{Hub, new_hub}
+use Rattle.napi_types.specs.hub.Hub.{Hub, new_hub, is_past_drain}
+use Rattle.napi_types.specs.hub.HubCalls.{hub_answer}
 use Rattle.napi_types.specs.hub.HubOwners.{IsOwnedHub}
 use Rattle.napi_types.specs.hub.HubSteps.{IsHubNext, hub_step, hub_along}
 use Rattle.napi_types.specs.hub.Replays.{HubReplays}
@@ -39,21 +47,51 @@ OthersLowerNothing = (limit threads workers : ℕ) (history : List Entry) (h : H
     → is_environment x.actor ≡ false
     → IsHubNext h x → reserved_history h ≤ reserved_history (hub_step h x).after + 1
 
--- so a shared call that is full in a history of n entries stays full after such an entry, and as others go on
-abbrev pub FullStaysFull : Type 0
-FullStaysFull = (limit threads workers : ℕ) (history : List Entry) (h : Hub) (x : Entry) (n : ℕ) (c : Call) → LeadsTo limit threads workers history h
-    → is_environment x.actor ≡ false → IsHubNext h x → is_full (history_room h n limit) c ≡ true
-    → is_full (history_room (hub_step h x).after (n + 1) limit) c ≡ true
+-- so the places of a history that are taken do not become fewer as others go on
+abbrev pub OthersOccupyNoLess : Type 0
+OthersOccupyNoLess = (limit threads workers : ℕ) (history rest : List Entry) (h : Hub) → LeadsTo limit threads workers history h
+    → All (λ x. is_environment x.actor ≡ false) rest → HubReplays limit h (length history) rest
+    → (history_room h (length history) limit).occupied ≤ (history_room (hub_along h rest) (length history + length rest) limit).occupied
 
-abbrev pub FullStaysFullAsOthersGoOn : Type 0
-FullStaysFullAsOthersGoOn = (limit threads workers : ℕ) (history rest : List Entry) (h : Hub) (n : ℕ) (c : Call) → LeadsTo limit threads workers history h
-    → All (λ x. is_environment x.actor ≡ false) rest → HubReplays limit h n rest
-    → is_full (history_room h n limit) c ≡ true → is_full (history_room (hub_along h rest) (n + length rest) limit) c ≡ true
+-- a call that is full in a history of n entries stays full as these come behind it, and one that may want memory still may
+pub record StaysPressed (limit : ℕ) (h : Hub) (n : ℕ) (rest : List Entry) (c : Call) : Type 0 where
+  pub full : is_full (history_room h n limit) c ≡ true → is_full (history_room (hub_along h rest) (n + length rest) limit) c ≡ true
+  pub wants : may_want_memory (history_room h n limit) c ≡ true → may_want_memory (history_room (hub_along h rest) (n + length rest) limit) c ≡ true
+
+-- so each call stays pressed as others go on
+abbrev pub CallsStayPressed : Type 0
+CallsStayPressed = (limit threads workers : ℕ) (history rest : List Entry) (h : Hub) (c : Call) → LeadsTo limit threads workers history h
+    → All (λ x. is_environment x.actor ≡ false) rest → HubReplays limit h (length history) rest → StaysPressed limit h (length history) rest c
+
+-- the pool is closing from the drain on
+abbrev pub PoolsCloseAtTheDrain : Type 0
+PoolsCloseAtTheDrain = (limit threads workers : ℕ) (history : List Entry) (h : Hub) → LeadsTo limit threads workers history h → h.pool.closing ≡ is_past_drain h.stage
+
+-- a hub has no more works that were created, no more that were queued and no more functions than so many, and none of these accepted more items
+pub record IsHubWithin (n : ℕ) (h : Hub) : Type 0 where
+  pub issued : length h.pool.issued ≤ n
+  pub numbered : h.pool.numbered ≤ n
+  pub functions : length h.functions ≤ n
+  pub items : All (λ f. accepted_items f ≤ n) h.functions
+
+-- it is within the entries of the history that led to it
+abbrev pub HubsAreWithin : Type 0
+HubsAreWithin = (limit threads workers : ℕ) (history : List Entry) (h : Hub) → LeadsTo limit threads workers history h → IsHubWithin (length history) h
 
 -- the entries of each worker come by turns: it starts a work and finishes it, as often as it will, and then it ends
 abbrev pub WorkersTakeTurns : Type 0
 WorkersTakeTurns = (limit threads workers w : ℕ) (xs : List Entry) → HubReplays limit (new_hub threads workers) 0 xs
     → is_some (worker_along w (Some Free) xs) ≡ true
+
+-- from the drain on no call of a thread-safe function waits, whoever makes it
+abbrev pub NoCallWaitsFromTheDrainOn : Type 0
+NoCallWaitsFromTheDrainOn = (limit threads workers : ℕ) (history : List Entry) (h : Hub) (who : Actor) (g : Given) (f : TsfnId) (payload : ℕ) (m : Mode)
+    → LeadsTo limit threads workers history h → is_past_drain h.stage ≡ true → is_some (hub_answer h who g (call.CallThreadsafeFunction f payload m) 0) ≡ true
+
+-- a thread has ended exactly where none of its calls is left to speak of
+abbrev pub EndedThreadsHaveNoneLeft : Type 0
+EndedThreadsHaveNoneLeft = (limit threads workers t : ℕ) (calls : List Call) (history : List Entry) (h : Hub) → LeadsTo limit threads workers history h
+    → is_none (left_along t (Some calls) history) ≡ has_number t h.ended_threads
 
 -- a worker still executes the work of this number, which is there as it was, with its value
 pub record StaysRunning (w n : ℕ) (old new : Hub) : Type 0 where

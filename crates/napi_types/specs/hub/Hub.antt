@@ -1,12 +1,12 @@
 -- The hub: the works, the thread-safe functions, which threads and workers have ended, and how far the run has come.
-use Rattle.std.specs.Prelude.{ℕ, Bool, true, false, not, List, [], filter, Option, Some, None, ◌&&◌}
+use Rattle.std.specs.Prelude.{ℕ, Bool, true, false, not, List, [], filter, Option, Some, None}
 use Rattle.std.specs.List.{range_with_len}
 use Rattle.napi_types.specs.declared.duties.DueInfo.{DueInfo}
 use Rattle.napi_types.specs.declared.entry.HostStep.{HostStep}
 use Rattle.napi_types.specs.declared.entry.HostStep.TheVariants as host
 use Rattle.napi_types.specs.declared.entry.Phase.{Phase}
 use Rattle.napi_types.specs.declared.entry.Phase.TheVariants as phase
-use Rattle.napi_types.specs.plain.Lists.{has_number, is_empty}
+use Rattle.napi_types.specs.plain.Lists.{has_number}
 use Rattle.napi_types.specs.parts.Functions.{FunctionState}
 use Rattle.napi_types.specs.parts.Pool.{WorkPool, new_pool}
 
@@ -90,7 +90,3 @@ stage_of phase.Hooks = Looped
 stage_of phase.Drain = Drained
 stage_of phase.Finals = Final
 stage_of phase.Gone = Final
-
--- every thread and every worker has ended, and no work runs
-abbrev pub is_spent : Hub → Bool
-is_spent h = is_empty (threads_left h) && is_empty (workers_left h) && is_empty h.pool.executions

@@ -1,16 +1,11 @@
 -- The next event where no frame stands: the one that the environment decides alone, or else the hub's.
 use Rattle.std.specs.Option.{option_or}
-use Rattle.std.specs.Prelude.{◌==◌, Bool, not, cond, ◌&&◌, ◌||◌, Option, Some, None, option_map}
-use Rattle.std.specs.List.{list_all}
-use Rattle.napi_types.specs.declared.entry.LoopEnd.TheVariants as loop_end
+use Rattle.std.specs.Prelude.{cond, Option, Some, None, option_map}
 use Rattle.napi_types.specs.declared.entry.Phase.{Phase}
 use Rattle.napi_types.specs.declared.entry.Phase.TheVariants as phase
-use Rattle.napi_types.specs.plain.Lists.{is_empty}
-use Rattle.napi_types.specs.parts.Functions.{is_done}
-use Rattle.napi_types.specs.parts.Pool.{WorkPool}
 use Rattle.napi_types.specs.environment.Environment.{Environment}
-use Rattle.napi_types.specs.hub.Hub.{Hub, Stage, Before, Going, Looped, Drained, Final, threads_left, is_spent}
-use Rattle.napi_types.specs.hub.HubMoves.{hub_move}
+use Rattle.napi_types.specs.hub.Hub.{Hub, Stage, Before, Going, Looped, Drained, Final}
+use Rattle.napi_types.specs.hub.HubMoves.{hub_move, idle_reason, is_spent}
 use Rattle.napi_types.specs.runs.Loop.{Event, Moves, Goes, EndsLoop, Drains, FinalsCome, init_choice, loop_choice}
 use Rattle.napi_types.specs.runs.Machine.{Machine}
 use Rattle.napi_types.specs.runs.Teardown.{teardown_choice}
@@ -27,30 +22,14 @@ abbrev pub local_choice : Environment → Option Event
 local_choice e = local_choice_in e e.phase
 
 -- THE HUB'S
--- no work waits, runs or is finished
-abbrev pub is_workless : WorkPool → Bool
-is_workless p = is_empty p.queued && is_empty p.executions && is_empty p.finished
-
--- nothing is left to do: no work, and every thread-safe function for which the loop waits is done
-abbrev pub is_idle : Hub → Bool
-is_idle h = is_workless h.pool && list_all (λ f. not f.referenced || is_done f.state) h.functions
-
--- nobody is left who could give it something to do: every thread has ended, no work runs, and none waits for which there is a worker
-abbrev pub is_quiet : Hub → Bool
-is_quiet h = is_empty (threads_left h) && is_empty h.pool.executions && (is_empty h.pool.queued || (h.workers == 0))
-
--- so the loop ends idle, or else quiet
-abbrev pub idle_choice : Hub → Option Event
-idle_choice h = cond (is_idle h) (Some (EndsLoop loop_end.Idle)) (cond (is_quiet h) (Some (EndsLoop loop_end.Quiet)) None)
-
 -- once the hub is spent `finals` comes
 abbrev pub finals_choice : Hub → Option Event
 finals_choice h = cond (is_spent h) (Some FinalsCome) None
 
--- its next event by how far it is: in the loop and after the drain its moves come first
+-- its next event by how far it is: in the loop and after the drain its moves come first, and then the loop ends for the hub's own reason, or `finals` comes
 abbrev pub hub_choice_at : Hub → Stage → Option Event
 hub_choice_at h Before = Some Goes
-hub_choice_at h Going = option_or (option_map Moves (hub_move h)) (idle_choice h)
+hub_choice_at h Going = option_or (option_map Moves (hub_move h)) (option_map EndsLoop (idle_reason h))
 hub_choice_at h Looped = Some Drains
 hub_choice_at h Drained = option_or (option_map Moves (hub_move h)) (finals_choice h)
 hub_choice_at h Final = None

@@ -15,7 +15,7 @@ use Rattle.machine_laws.specs.RunWords.{loop_ended, left_out}
 use Rattle.machine_laws.specs.Told.{IsRun}
 use Rattle.napi_types.specs.declared.call.Mode.TheVariants as mode
 use Rattle.napi_types.specs.declared.op.Op.TheVariants as op
-use Rattle.machine_laws.proofs.KeptScripts.{keeps-script}
+use Rattle.machine_laws.proofs.KeptScripts.{one-keeps}
 use Rattle.machine_laws.proofs.Misses.{told_reason, told_item, told_cause, told-entry, told-may}
 use Rattle.machine_laws.proofs.Rows.{ends-on-lists}
 use Rattle.machine_laws.proofs.hub_runs.exit_in_the_middle_runs.Goals as goal
@@ -24,7 +24,7 @@ pub returns-clause-ends : goal.returns-clause-ends
 returns-clause-ends c = ends-on-lists setting journal history (refl, refl) refl refl refl
 
 pub returns-clause-actors : goal.returns-clause-actors
-returns-clause-actors c = record { thread = keeps-script setting 0 (op.ThreadCall 1 8 mode.Blocking ∷ []) history refl refl; worker = refl }
+returns-clause-actors c = record { threads = one-keeps setting (op.ThreadCall 1 8 mode.Blocking ∷ []) history refl refl refl; worker = refl }
 
 pub returns-clause-prints : goal.returns-clause-prints
 unfolding digits

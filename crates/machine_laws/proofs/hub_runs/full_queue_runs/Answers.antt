@@ -12,7 +12,7 @@ use Rattle.napi_types.specs.declared.entry.Out.TheVariants as out
 use Rattle.napi_types.specs.all_runs.HubLaws.{KeepsScript}
 use Rattle.machine_laws.specs.HubWords.{next_after, item_begins, by_thread, thread_ends, releases, calls_function}
 use Rattle.machine_laws.specs.Told.{IsRun}
-use Rattle.machine_laws.proofs.KeptScripts.{keeps-script}
+use Rattle.machine_laws.proofs.KeptScripts.{one-keeps}
 use Rattle.machine_laws.proofs.Misses.{told_item, told-entry, told-may}
 use Rattle.machine_laws.proofs.Rows.{ends-on-lists, runs-as-told}
 use Rattle.machine_laws.proofs.hub_runs.full_queue_runs.Goals as goal
@@ -20,8 +20,8 @@ use Rattle.machine_laws.proofs.hub_runs.full_queue_runs.Goals as goal
 pub returns-clause-ends : goal.returns-clause-ends
 returns-clause-ends c = ends-on-lists setting journal history (refl, refl) refl refl refl
 
-pub returns-clause-script : goal.returns-clause-script
-returns-clause-script c = keeps-script setting 0 operations history refl refl
+pub returns-clause-threads : goal.returns-clause-threads
+returns-clause-threads c = one-keeps setting operations history refl refl refl
 
 pub returns-clause-prints : goal.returns-clause-prints
 unfolding digits

@@ -7,7 +7,7 @@ use Rattle.napi_types.specs.declared.status.Status.{Status}
 use Rattle.machine_laws.specs.RealisticAddon.{operations, setting, thread_call, call_behind_end, history, journal, trace}
 use Rattle.machine_laws.specs.HubWords.{next_after, item, item_begins, thread_ends, worker_finishes}
 use Rattle.machine_laws.specs.Told.{IsRun}
-use Rattle.machine_laws.proofs.KeptScripts.{keeps-script}
+use Rattle.machine_laws.proofs.KeptScripts.{two-keep}
 use Rattle.machine_laws.proofs.Misses.{told_number, told_item, told_cause, told-entry, told-may}
 use Rattle.machine_laws.proofs.Rows.{ends-on-lists}
 use Rattle.machine_laws.proofs.hub_runs.realistic_addon_runs.Goals as goal
@@ -16,8 +16,7 @@ pub returns-clause-ends : goal.returns-clause-ends
 returns-clause-ends c = ends-on-lists setting journal history (refl, refl) refl refl refl
 
 pub returns-clause-actors : goal.returns-clause-actors
-returns-clause-actors c =
-    record { first = keeps-script setting 0 (operations 0) history refl refl; second = keeps-script setting 1 (operations 1) history refl refl; worker = refl }
+returns-clause-actors c = record { threads = two-keep setting (operations 0) (operations 1) history refl (refl, refl) (refl, refl); worker = refl }
 
 pub returns-clause-prints : goal.returns-clause-prints
 unfolding digits

@@ -9,15 +9,15 @@ use Rattle.machine_laws.specs.HubWords.{next_after, begins}
 use Rattle.machine_laws.specs.RunWords.{loop_ended}
 use Rattle.machine_laws.specs.Told.{IsRun}
 use Rattle.machine_laws.proofs.Misses.{told_reason, told_function, told-entry, told-may}
-use Rattle.machine_laws.proofs.KeptScripts.{keeps-script}
+use Rattle.machine_laws.proofs.KeptScripts.{one-keeps}
 use Rattle.machine_laws.proofs.Rows.{ends-on-lists}
 use Rattle.machine_laws.proofs.hub_runs.two_functions_run.Goals as goal
 
 pub returns-clause-ends : goal.returns-clause-ends
 returns-clause-ends c = ends-on-lists setting journal history (refl, refl) refl refl refl
 
-pub returns-clause-script : goal.returns-clause-script
-returns-clause-script c = keeps-script setting 0 operations history refl refl
+pub returns-clause-threads : goal.returns-clause-threads
+returns-clause-threads c = one-keeps setting operations history refl refl refl
 
 pub returns-clause-prints : goal.returns-clause-prints
 unfolding digits

@@ -2,7 +2,7 @@ use Rattle.std.proofs.Common.{[], ℕ, refl}
 use Rattle.machine_laws.specs.PlacesOfWorks.{setting_within, queued, second_created, cut_full, setting, history, journal, trace, cancelling_within, queued_twice}
 use Rattle.machine_laws.specs.HubWords.{next_after}
 use Rattle.machine_laws.specs.Told.{IsRun}
-use Rattle.machine_laws.proofs.KeptScripts.{keeps-script}
+use Rattle.machine_laws.proofs.KeptScripts.{one-keeps}
 use Rattle.machine_laws.proofs.Misses.{told-may}
 use Rattle.machine_laws.proofs.Rows.{ends-on-lists, runs-as-told}
 use Rattle.machine_laws.proofs.room_runs.places_of_works_run.Goals as goal
@@ -11,7 +11,7 @@ pub returns-clause-ends : goal.returns-clause-ends
 returns-clause-ends c = ends-on-lists setting journal history (refl, refl) refl refl refl
 
 pub returns-clause-actors : goal.returns-clause-actors
-returns-clause-actors c = record { thread = keeps-script setting 0 [] history refl refl; worker = refl }
+returns-clause-actors c = record { threads = one-keeps setting [] history refl refl refl; worker = refl }
 
 not-second : (n : ℕ) → IsRun setting (next_after 4 trace (second_created 2 n)) → ⊥
 not-second n r = let z : _ = told-may setting _ refl r in cc

@@ -11,18 +11,19 @@ use Rattle.napi_types.specs.plain.Entries.{host_entry}
 use Rattle.napi_types.specs.parts.Book.{Registration, TicketState, registration_at, lowest_due, is_at, is_due, may_begin_in}
 use Rattle.napi_types.specs.parts.Hooks.{Hook, last_hook}
 use Rattle.napi_types.specs.environment.Hooked.{is_late, IsHooked}
-use Rattle.napi_types.specs.hub.Hub.{is_spent, Stage, Before, Going, Looped, Drained, Final, stage_after, stage_of}
+use Rattle.napi_types.specs.hub.Hub.{Stage, Before, Going, Looped, Drained, Final, stage_after, stage_of}
 use Rattle.napi_types.specs.hub.HubEvents.{begin_step, close_step, finish_step, delivery_entry, is_moving}
-use Rattle.napi_types.specs.hub.HubMoves.{HubMove, Delivers, Closes, Finishes, hub_move}
-use Rattle.napi_types.specs.runs.Choice.{choice, local_choice, local_choice_in, hub_choice_at, idle_choice, is_idle, is_quiet, finals_choice}
+use Rattle.napi_types.specs.hub.HubMoves.{HubMove, Delivers, Closes, Finishes, hub_move, idle_reason, is_idle, is_quiet, is_spent}
+use Rattle.napi_types.specs.runs.Choice.{choice, local_choice, local_choice_in, hub_choice_at, finals_choice}
 use Rattle.napi_types.specs.runs.Loop.{Event, Opens, Inits, Tickets, Moves, Goes, EndsLoop, FinalsCome, IsGone}
 use Rattle.napi_types.specs.runs.Machine.{Machine}
 use Rattle.napi_types.specs.runs.Setting.{final_of}
 use Rattle.napi_types.specs.runs.Step.{ticket_step, move_step, event_step}
-use Rattle.napi_types.specs.all_runs.OnceLaws.{NextEventsMayCome}
+use Rattle.napi_types.specs.all_runs.Goings.{NextEventsMayCome}
 use Rattle.napi_types.proofs.parts.Books.{lowest-due}
 use Rattle.napi_types.proofs.parts.Moved.{IsUnder, PassesTest}
 use Rattle.napi_types.proofs.environment.HookedSteps.{hook-registered}
+use Rattle.napi_types.proofs.runs.StandingDuties.{none-standing}
 use Rattle.napi_types.proofs.all_runs.Orderly.{Orderly, orderly-run}
 
 -- GREAT EVENTS
@@ -59,18 +60,16 @@ abbrev May : Machine → Option Event → Type 0
 May m o = IfSome o (λ event. IsTrue (event_step m event).may)
 
 idle-may : (m : Machine) (idle quiet : Bool) → m.hub.stage ≡ Going → m.hub.standing ≡ None
-    → May m (cond idle (Some (EndsLoop loop_end.Idle)) (cond quiet (Some (EndsLoop loop_end.Quiet)) None))
+    → May m (option_map EndsLoop (cond idle (Some loop_end.Idle) (cond quiet (Some loop_end.Quiet) None)))
 idle-may m true quiet far alone = great m host.LoopEnd Going far alone refl
 idle-may m false true far alone = great m host.LoopEnd Going far alone refl
 idle-may m false false far alone = tt
 
-going-may : (m : Machine) (o : Option HubMove) → hub_move m.hub ≡ o → m.hub.stage ≡ Going → m.hub.standing ≡ None
-    → May m (option_or (option_map Moves o) (idle_choice m.hub))
+going-may : (m : Machine) (o : Option HubMove) → hub_move m.hub ≡ o → m.hub.stage ≡ Going → m.hub.standing ≡ None → May m (option_or (option_map Moves o) (option_map EndsLoop (idle_reason m.hub)))
 going-may m (Some move) next far alone = move-may m move next (ap is_moving far) alone
 going-may m None next far alone = idle-may m (is_idle m.hub) (is_quiet m.hub) far alone
 
-init-may : (m : Machine) (b c : Bool) → m.hub.stage ≡ Before → m.hub.standing ≡ None
-    → May m (option_or (cond b (cond c (Some (Inits m.env.inits)) None) (Some Opens)) (Some Goes))
+init-may : (m : Machine) (b c : Bool) → m.hub.stage ≡ Before → m.hub.standing ≡ None → May m (option_or (cond b (cond c (Some (Inits m.env.inits)) None) (Some Opens)) (Some Goes))
 init-may m false c far alone = refl
 init-may m true true far alone = refl
 init-may m true false far alone = great m host.Go Before far alone refl
@@ -81,15 +80,13 @@ live-may m true o lowest here far alone = great m host.LoopEnd Going far alone r
 live-may m false (Some n) lowest here far alone = due-may phase.Live m n here (λ s. refl) lowest
 live-may m false None lowest here far alone = going-may m (hub_move m.hub) refl far alone
 
-hooks-may : (m : Machine) (o : Option Hook) → last_hook m.env.hooks ≡ o → IsHooked m.env → m.env.phase ≡ phase.Hooks → m.hub.stage ≡ Looped
-    → m.hub.standing ≡ None
+hooks-may : (m : Machine) (o : Option Hook) → last_hook m.env.hooks ≡ o → IsHooked m.env → m.env.phase ≡ phase.Hooks → m.hub.stage ≡ Looped → m.hub.standing ≡ None
     → May m (option_or (option_map Tickets (option_map (λ (h : Hook). h.ticket) o)) (hub_choice_at m.hub Looped))
 hooks-may m (Some h) last hooked here far alone =
     ticket-may phase.Hooks m h.ticket here (hook-registered m.env h hooked (ap is_late here) last)
 hooks-may m None last hooked here far alone = great m host.Drain Looped far alone refl
 
-drained-may : (m : Machine) (o : Option HubMove) → hub_move m.hub ≡ o → m.hub.stage ≡ Drained → m.hub.standing ≡ None
-    → May m (option_or (option_map Moves o) (finals_choice m.hub))
+drained-may : (m : Machine) (o : Option HubMove) → hub_move m.hub ≡ o → m.hub.stage ≡ Drained → m.hub.standing ≡ None → May m (option_or (option_map Moves o) (finals_choice m.hub))
 drained-may m (Some move) next far alone = move-may m move next (ap is_moving far) alone
 drained-may m None next far alone = by (is_spent m.hub)
   where
@@ -116,5 +113,5 @@ choice-may m k alone =
     subst (λ t. May m (option_or (local_choice m.env) (hub_choice_at m.hub t))) (sym k.stage) (phase-may m m.env.phase refl k.stage k.hooked alone)
 
 pub next-may : NextEventsMayCome
-next-may s bs xs event run unframed alone next =
-    subst (λ o. May (final_of s bs xs) o) next (choice-may (final_of s bs xs) (orderly-run s bs xs run) alone)
+next-may s bs xs event run unframed next =
+    subst (λ o. May (final_of s bs xs) o) next (choice-may (final_of s bs xs) (orderly-run s bs xs run) (none-standing s bs xs run unframed))

@@ -1,0 +1,5 @@
+use Rattle.napi_types.proofs.hub.LateCalls.{no-call-waits}
+use Rattle.napi_types.proofs.hub_laws.no_call_waits_from_the_drain_on.Goals as goal
+
+pub returns : goal.returns
+returns c = no-call-waits

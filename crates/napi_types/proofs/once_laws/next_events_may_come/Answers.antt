@@ -1,5 +1,0 @@
-use Rattle.napi_types.proofs.all_runs.NextEvents.{next-may}
-use Rattle.napi_types.proofs.once_laws.next_events_may_come.Goals as goal
-
-pub returns : goal.returns
-returns c = next-may
