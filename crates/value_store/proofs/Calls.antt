@@ -74,26 +74,6 @@ good-removal ps k name all v is = record {
   closed = children-without_property (λ m. IsSome (at_number ps m)) name v (all.closed k v is);
 }
 
--- a removal changes the value where there is one
-pub removed-numbered : (ps qs : List (Option Value)) (k name : ℕ) → IsNumbered (at_number ps) → (IsSome (at_number ps k) → qs ≡ changed_at k (without_property name) ps) → (at_number ps k ≡ None → qs ≡ ps) → IsNumbered (at_number qs)
-removed-numbered ps qs k name all there absent = by (at_number ps k) refl
-  where
-    by : (o : Option Value) → at_number ps k ≡ o → IsNumbered (at_number qs)
-    by None is = subst (λ (l : List (Option Value)). IsNumbered (at_number l)) (sym (absent is)) all
-    by (Some v) is = subst (λ (l : List (Option Value)). IsNumbered (at_number l)) (sym (there (rw is refl))) (changed-numbered ps k (without_property name) all (good-removal ps k name all v is))
-
-pub removed-only : (ps qs : List (Option Value)) (s : StoreState) (k name : ℕ) → state_of ps ≡ s → IsNumbered (at_number ps) → (IsSome (at_number ps k) → qs ≡ changed_at k (without_property name) ps) → (at_number ps k ≡ None → qs ≡ ps) → ChangesOnly s (state_of qs) k (without_property name)
-removed-only ps qs s k name view all there absent = by (at_number ps k) refl
-  where
-    none : at_number ps k ≡ None → ChangesOnly (state_of ps) (state_of ps) k (without_property name)
-    none is =
-        let nothing : value_of (state_of ps) k ≡ None = value_of-state_of ps all.numbered k ∙ is in
-        record { named = nothing ∙ sym (ap (option_map (without_property name)) nothing); others = λ n other. refl; nothing_issued = record { issued = refl; made = refl } }
-
-    by : (o : Option Value) → at_number ps k ≡ o → ChangesOnly s (state_of qs) k (without_property name)
-    by None is = subst (λ (t : StoreState). ChangesOnly t (state_of qs) k (without_property name)) view (subst (λ (l : List (Option Value)). ChangesOnly (state_of ps) (state_of l) k (without_property name)) (sym (absent is)) (none is))
-    by (Some v) is = change-only ps qs s k (without_property name) view all (good-removal ps k name all v is) (there (rw is refl))
-
 -- a value pushed with the next number, which names what is there
 pub pushed-numbered : (ps : List (Option Value)) (w : Value) → IsNumbered (at_number ps) → w.number ≡ length ps + 1 → HasDistinctNames w.properties → All (λ m. IsSome (at_number ps m)) (children w) → IsNumbered (at_number (ps ++ Some w ∷ []))
 pushed-numbered ps w all number names closed =

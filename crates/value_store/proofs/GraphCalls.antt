@@ -10,6 +10,7 @@ use Rattle.napi_types.specs.parts.Values.{Value, value_at, value_changed, fresh_
 use Rattle.value_store.specs.Changes.{CanFree}
 use Rattle.value_store.specs.Places.{state_of, at_number, changed_at, IsNumbered, IsCleared}
 use Rattle.value_store.proofs.Lookup.{value_of-state_of}
+use Rattle.value_store.proofs.Reading.{some-is}
 use Rattle.value_store.proofs.States.{IsGoodChange, changed-numbered}
 use Rattle.value_store.proofs.Calls.{good-property, good-element, good-removal, made-numbered, cleared-numbered}
 use Rattle.value_store.proofs.Graphs.{standing, number-is, graph-is, graph-at, renamed-at, standing-changed, standing-cleared, unchanged-none}
@@ -40,15 +41,18 @@ module _ (ps qs : List (Option Value)) (s : StoreState) (view : state_of ps ≡ 
   element-graph k at to there new is =
       rw (number-view k there, number-view to new) (changed-graph ps qs s k (with_element at to) view all (good-element ps k at to all there new) is)
 
-  none-in : (k : ℕ) → at_number ps k ≡ None → number_in s k ≡ 0
-  none-in k is = subst (λ (t : StoreState). number_in t k ≡ 0) view (ap (λ (o : Option Value). unwrap_or (option_map (λ v. v.number) o) 0) (value_of-state_of ps all.numbered k ∙ is))
+  pub removal-graph : (k name : ℕ) → IsSome (at_number ps k) → qs ≡ changed_at k (without_property name) ps
+      → graph_of (state_of qs) ≡ value_changed (number_in s k) (without_property name) (graph_of s)
+  removal-graph k name there is =
+      let v : (v : Value) × (at_number ps k ≡ Some v) = some-is (at_number ps k) there in
+      rw (number-view k there) (changed-graph ps qs s k (without_property name) view all (good-removal ps k name all v.0 v.1) is)
 
-  pub removed-graph : (k name : ℕ) → (IsSome (at_number ps k) → qs ≡ changed_at k (without_property name) ps) → (at_number ps k ≡ None → qs ≡ ps) → graph_of (state_of qs) ≡ value_changed (number_in s k) (without_property name) (graph_of s)
-  removed-graph k name there absent = by (at_number ps k) refl
-    where
-      by : (o : Option Value) → at_number ps k ≡ o → graph_of (state_of qs) ≡ value_changed (number_in s k) (without_property name) (graph_of s)
-      by None is = rw (none-in k is) (ap (λ l. graph_of (state_of l)) (absent is) ∙ graph-is ps all ∙ sym (unchanged-none ps (without_property name) all) ∙ ap (value_changed 0 (without_property name)) (sym (graph-is ps all) ∙ ap graph_of view))
-      by (Some v) is = let some : IsSome (at_number ps k) = rw is refl in rw (number-view k some) (changed-graph ps qs s k (without_property name) view all (good-removal ps k name all v is) (there some))
+  -- a value that is not there is none of the graph
+  pub none-graph : (k : ℕ) (change : Value → Value) → value_of s k ≡ None → graph_of s ≡ value_changed (number_in s k) change (graph_of s)
+  none-graph k change none =
+      let graph : graph_of s ≡ standing ps = ap graph_of (sym view) ∙ graph-is ps all in
+      let number : number_in s k ≡ 0 = ap (λ (o : Option Value). unwrap_or (option_map (λ v. v.number) o) 0) none in
+      graph ∙ sym (unchanged-none ps change all) ∙ sym (ap (value_changed 0 change) graph) ∙ sym (ap (λ n. value_changed n change (graph_of s)) number)
 
   -- how many values were made
   pub many-view : length ps ≡ s.made

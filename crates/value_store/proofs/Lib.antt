@@ -13,6 +13,7 @@ pub mod Naming
 pub mod PlaceValues
 pub mod Properties
 pub mod Reading
+pub mod Setting
 pub mod Starting
 pub mod States
 pub mod Thrown

@@ -5,7 +5,7 @@ use Rattle.std.proofs.lemmas.List.{get_or_read}
 use Rattle.napi_types.specs.parts.Values.{Value}
 use Rattle.value_store.specs.declared.place.Place.{Place}
 use Rattle.value_store.specs.declared.place.Place.TheVariants.{Free, Plain, Full}
-use Rattle.value_store.specs.Places.{value_here, values_from, values_of, at_number, changed_at, properties_at, properties_here, ChangesPlace}
+use Rattle.value_store.specs.Places.{value_here, values_from, values_of, at_number, changed_at, properties_here, ChangesPlace}
 use Rattle.value_store.proofs.Lookup.{number-within}
 
 pub length-values_from : (n : ℕ) (ps : List Place) → length (values_from n ps) ≡ length ps
@@ -81,7 +81,8 @@ place-read ps (suc q) at p some place read =
     slice_index_or-values_from 0 ps q ∙ ap (λ n. value_here n (slice_index_or ps q Free)) number ∙ ap (value_here (suc q)) (sym stood)
 
 -- and so its properties
-pub properties_at-here : (ps : List Place) (k at : ℕ) (p : Place) → IsSome (at_number (values_of ps) k) → at ≡ k - 1 → p ≡ slice_index_or ps at p → properties_at k (values_of ps) ≡ properties_here p
+pub properties_at-here : (ps : List Place) (k at : ℕ) (p : Place) → IsSome (at_number (values_of ps) k) → at ≡ k - 1 → p ≡ slice_index_or ps at p
+    → unwrap_or (option_map (λ (v : Value). v.properties) (at_number (values_of ps) k)) [] ≡ properties_here p
 properties_at-here ps k at p some place read = ap (λ (o : Option Value). unwrap_or (option_map (λ v. v.properties) o) []) (place-read ps k at p some place read) ∙ by p
   where
     by : (p : Place) → unwrap_or (option_map (λ (v : Value). v.properties) (value_here k p)) [] ≡ properties_here p

@@ -1,17 +1,15 @@
 -- What a state says of the values that its list has.
-use Rattle.std.proofs.Common.{◌≡◌, ℕ, zero, suc, ◌+◌, ◌-◌, ◌<◌, ◌≤◌, List, [], ◌∷◌, map, length, Option, Some, None, IsSome, IfSome, IsSomeAnd, IsTrue, option_map, slice_index_or, refl, ap, sym, subst, ◌∙◌, arith}
+use Rattle.std.proofs.Common.{◌≡◌, ℕ, zero, suc, ◌+◌, ◌-◌, ◌<◌, ◌≤◌, List, [], ◌∷◌, map, length, Option, Some, None, IsSome, IfSome, IsSomeAnd, IsTrue, is_some, false, option_map, slice_index_or, refl, ap, sym, subst, ◌∙◌, arith}
 use Rattle.std.specs.List.{All}
-use Rattle.std.specs.Option.{unwrap_or}
 use Rattle.std.proofs.lemmas.List.{length-map}
-use Rattle.std.proofs.lemmas.List.Elements.{All-nil}
 use Rattle.napi_types.specs.declared.ids.ValueId.{ValueId}
 use Rattle.napi_types.specs.plain.Lists.{HaveSameNumbers}
 use Rattle.napi_types.specs.parts.Bodies.{is_object_like}
 use Rattle.napi_types.specs.parts.Graph.{StoreState, Stored, IsSoundStore, IsLive, value_of}
 use Rattle.napi_types.specs.parts.Properties.{property_at, element_at}
 use Rattle.napi_types.specs.parts.Values.{Value, children, value_at, starting_values}
-use Rattle.value_store.specs.Places.{state_of, stored_as, at_number, properties_at, elements_at, children_of, IsNumbered}
-use Rattle.value_store.specs.Changes.{properties_in, elements_in, children_in, id_at, EachStandsOnce, IsObject, IsStarting, StandsAt}
+use Rattle.value_store.specs.Places.{state_of, stored_as, at_number, IsNumbered}
+use Rattle.value_store.specs.Changes.{id_at, EachStandsOnce, IsObject, IsStarting, StandsAt}
 use Rattle.value_store.proofs.Lookup.{value_of-state_of, number-within}
 use Rattle.value_store.proofs.States.{sound}
 use Rattle.value_store.proofs.Naming.{property-named, element-named, All-has, All-from_has}
@@ -20,9 +18,17 @@ pub some-is : (o : Option Value) → IsSome o → (v : Value) × (o ≡ Some v)
 some-is None h = let no : ⊥ = cc in absurd no
 some-is (Some v) h = (v, refl)
 
+pub none-is : (o : Option Value) → is_some o ≡ false → o ≡ None
+none-is None e = refl
+none-is (Some v) e = cc
+
 some-and : (o : Option Value) → IsSomeAnd o (λ v. IsTrue (is_object_like v.body)) → IsSome o
 some-and None h = absurd h
 some-and (Some v) h = refl
+
+-- what is live where it is an object
+pub object-live : (s : StoreState) (n : ℕ) → IsObject s n → IsLive s n
+object-live s n h = some-and (value_of s n) h
 
 at-place : (ps : List (Option Value)) (p : ℕ) → slice_index_or (map (option_map stored_as) ps) p None ≡ option_map stored_as (slice_index_or ps p None)
 at-place [] p = refl
@@ -57,51 +63,14 @@ module _ (ps : List (Option Value)) (s : StoreState) (view : state_of ps ≡ s) 
   pub value_of-view : (n : ℕ) → value_of s n ≡ at_number ps n
   value_of-view n = subst (λ (t : StoreState). value_of t n ≡ at_number ps n) view (value_of-state_of ps all.numbered n)
 
-  pub properties_in-view : (n : ℕ) → properties_in s n ≡ properties_at n ps
-  properties_in-view n = ap (λ (o : Option Value). unwrap_or (option_map (λ v. v.properties) o) []) (value_of-view n)
-
-  pub elements_in-view : (n : ℕ) → elements_in s n ≡ elements_at n ps
-  elements_in-view n = ap (λ (o : Option Value). unwrap_or (option_map (λ v. v.elements) o) []) (value_of-view n)
-
-  pub children_in-view : (n : ℕ) → children_in s n ≡ children_of n ps
-  children_in-view n = ap (λ (o : Option Value). unwrap_or (option_map children o) []) (value_of-view n)
-
   pub live-there : (n : ℕ) → IsLive s n → IsSome (at_number ps n)
   live-there n h = subst (λ (o : Option Value). IsSome o) (value_of-view n) h
 
   pub there-live : (n : ℕ) → IsSome (at_number ps n) → IsLive s n
   there-live n h = subst (λ (o : Option Value). IsSome o) (sym (value_of-view n)) h
 
-  pub object-there : (n : ℕ) → IsObject s n → IsSome (at_number ps n)
-  object-there n h = live-there n (some-and (value_of s n) h)
-
   pub sound-view : IsSoundStore s
   sound-view = subst (λ (t : StoreState). IsSoundStore t) view (sound ps all)
-
-  -- the value of a property is live, and so is an element
-  pub property-live : (n name : ℕ) (r : Option ValueId) → option_map (λ v. v.0) r ≡ property_at name (properties_at n ps) → IfSome r (λ v. IsLive s v.0)
-  property-live n name r h = by (at_number ps n) r (all.closed n) h
-    where
-      by : (o : Option Value) (r : Option ValueId) → ((v : Value) → o ≡ Some v → All (λ m. IsSome (at_number ps m)) (children v)) → option_map (λ v. v.0) r ≡ property_at name (unwrap_or (option_map (λ v. v.properties) o) []) → IfSome r (λ v. IsLive s v.0)
-      by o None closed h = tt
-      by None (Some v) closed h = let no : ⊥ = cc in absurd no
-      by (Some w) (Some v) closed h = there-live v.0 (subst (λ (o : Option ℕ). IfSome o (λ m. IsSome (at_number ps m))) (sym h) (property-named (λ m. IsSome (at_number ps m)) name w (closed w refl)))
-
-  pub element-live : (n at : ℕ) (r : Option ValueId) → option_map (λ v. v.0) r ≡ element_at at (elements_at n ps) → IfSome r (λ v. IsLive s v.0)
-  element-live n at r h = by (at_number ps n) r (all.closed n) h
-    where
-      by : (o : Option Value) (r : Option ValueId) → ((v : Value) → o ≡ Some v → All (λ m. IsSome (at_number ps m)) (children v)) → option_map (λ v. v.0) r ≡ element_at at (unwrap_or (option_map (λ v. v.elements) o) []) → IfSome r (λ v. IsLive s v.0)
-      by o None closed h = tt
-      by None (Some v) closed h = let no : ⊥ = cc in absurd no
-      by (Some w) (Some v) closed h = there-live v.0 (subst (λ (o : Option ℕ). IfSome o (λ m. IsSome (at_number ps m))) (sym h) (element-named (λ m. IsSome (at_number ps m)) at w (closed w refl)))
-
-  -- and so are all children of a value
-  pub children-live : (n : ℕ) (ns : List ℕ) → HaveSameNumbers ns (children_of n ps) → All (IsLive s) ns
-  children-live n ns same = All-from_has (IsLive s) ns (λ m h. there-live m (All-has (λ k. IsSome (at_number ps k)) (children_of n ps) m (by (at_number ps n) (all.closed n)) (sym (same m) ∙ h)))
-    where
-      by : (o : Option Value) → ((v : Value) → o ≡ Some v → All (λ m. IsSome (at_number ps m)) (children v)) → All (λ m. IsSome (at_number ps m)) (unwrap_or (option_map children o) [])
-      by None closed = All-nil (λ m. IsSome (at_number ps m))
-      by (Some v) closed = closed v refl
 
   pub is-starting : (which : ℕ) → which < 5 → IsStarting s which (which + 1)
   is-starting which less = record {
@@ -152,3 +121,16 @@ module _ (ps : List (Option Value)) (s : StoreState) (view : state_of ps ≡ s) 
       stood : (place : ℕ) (o : Option Value) → ((v : Value) → o ≡ Some v → v.number ≡ suc place) → option_map (λ (v : Value). v.number) o ≡ Some id → suc place ≡ id
       stood place None numbered is = let no : ⊥ = cc in absurd no
       stood place (Some v) numbered is = let number : v.number ≡ suc place = numbered v refl in let same : v.number ≡ id = cc in omega arith
+
+-- what a live value names is live: the value of a property, an element, and so each child
+module _ (s : StoreState) (sound : IsSoundStore s) (n : ℕ) (v : Value) (is : value_of s n ≡ Some v) where
+  pub property-live : (name : ℕ) (r : Option ValueId) → option_map (λ w. w.0) r ≡ property_at name v.properties → IfSome r (λ w. IsLive s w.0)
+  property-live name None h = tt
+  property-live name (Some w) h = subst (λ (o : Option ℕ). IfSome o (IsLive s)) (sym h) (property-named (IsLive s) name v (sound.closed n v is))
+
+  pub element-live : (at : ℕ) (r : Option ValueId) → option_map (λ w. w.0) r ≡ element_at at v.elements → IfSome r (λ w. IsLive s w.0)
+  element-live at None h = tt
+  element-live at (Some w) h = subst (λ (o : Option ℕ). IfSome o (IsLive s)) (sym h) (element-named (IsLive s) at v (sound.closed n v is))
+
+  pub children-live : (ns : List ℕ) → HaveSameNumbers ns (children v) → All (IsLive s) ns
+  children-live ns same = All-from_has (IsLive s) ns (λ m h. All-has (IsLive s) (children v) m (sound.closed n v is) (sym (same m) ∙ h))

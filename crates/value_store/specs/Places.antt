@@ -5,7 +5,6 @@ use Rattle.napi_types.specs.plain.Lists.{has_number, up_to}
 use Rattle.napi_types.specs.parts.Graph.{Stored, StoreState}
 use Rattle.napi_types.specs.parts.Properties.{Property, HasDistinctNames}
 use Rattle.napi_types.specs.parts.Values.{Value, fresh_value, children, value_at, starting_values}
-use Rattle.std.specs.Option.{unwrap_or}
 use Rattle.value_store.specs.declared.place.Place.{Place}
 use Rattle.value_store.specs.declared.place.Place.TheVariants.{Free, Plain, Full}
 
@@ -61,18 +60,6 @@ pub record IsNumbered (values : ℕ → Option Value) : Type 0 where
 -- the list with the value of a number changed so
 abbrev pub changed_at : ℕ → (Value → Value) → List (Option Value) → List (Option Value)
 changed_at n change ps = slice_set ps (n - 1) (option_map change (at_number ps n))
-
--- the properties of the value of a number, none where no value has it
-abbrev pub properties_at : ℕ → List (Option Value) → List Property
-properties_at n ps = unwrap_or (option_map (λ v. v.properties) (at_number ps n)) []
-
--- the elements of the value of a number, none where no value has it
-abbrev pub elements_at : ℕ → List (Option Value) → List (Option ℕ)
-elements_at n ps = unwrap_or (option_map (λ v. v.elements) (at_number ps n)) []
-
--- the children of the value of a number, none where no value has it
-abbrev pub children_of : ℕ → List (Option Value) → List ℕ
-children_of n ps = unwrap_or (option_map children (at_number ps n)) []
 
 -- the list of a new store: the starting values, in their order
 abbrev pub starting_list : List (Option Value)

@@ -1,15 +1,13 @@
-//! The list of a store's values, read and changed by number.
-ghost use Rattle.std.specs.Prelude.{◌≡◌, ℕ, ◌+◌, ◌-◌, ◌<◌, ◌≤◌, ◌^◌, ◌++◌, [], ◌∷◌, true, length, map, vec_capacity, slice_get, slice_index_or, slice_set, is_some, cond, option_map, IsSome, OnOk, OnErr, IfOk, Some, None};
+//! The list of a store's values: what is made goes last, what is freed leaves its place empty, and each is read by its number.
+ghost use Rattle.std.specs.Prelude.{◌≡◌, ◌+◌, ◌-◌, ◌<◌, ◌≤◌, ◌^◌, ◌++◌, [], ◌∷◌, true, length, map, vec_capacity, slice_index_or, slice_set, option_map, IsSome, OnOk, OnErr, IfOk, Some, None};
 ghost use Rattle.std.specs.List.{All};
-ghost use Rattle.napi_types.specs.plain.Lists.{HaveSameNumbers};
 ghost use Rattle.napi_types.specs.parts.NewValues.{made_after, list_of, error_of, thrown_of};
-ghost use Rattle.napi_types.specs.parts.Properties.{most_index, property_at, element_at};
-ghost use Rattle.napi_types.specs.parts.Values.{with_property, without_property, with_element};
+ghost use Rattle.napi_types.specs.parts.Properties.{most_index};
 ghost use Rattle.value_store.specs.Changes.{numbers_of};
-ghost use Rattle.value_store.specs.Places.{value_here, values_of, at_number, changed_at, properties_at, elements_at, children_of, starting_list, IsCleared};
+ghost use Rattle.value_store.specs.Places.{value_here, values_of, at_number, starting_list, IsCleared};
 
+use crate::ValueInfo;
 use crate::place::Place;
-use crate::{Children, ValueInfo};
 use napi_types::{Body, NoMemory, TextNo, ValueId};
 use std::alloc::Global;
 
@@ -177,110 +175,6 @@ pub(crate) fn place_at(number: u64) -> usize
     ensures { result ≡ number - 1 }
 {
     (number - 1) as usize
-}
-
-pub(crate) fn set_prop(
-    alloc: Global,
-    values: &mut Vec<Place>,
-    number: u64,
-    name: TextNo,
-    to: ValueId,
-) -> Result<(), NoMemory>
-    requires { IsSome (at_number (values_of values.old.items) number) }
-    ensures set { OnOk result (values_of values.new.items ≡ changed_at number (with_property name.0 to.0) (values_of values.old.items)) }
-    ensures err { OnErr result (values.new.items ≡ values.old.items) }
-{
-    values[place_at(number)].set_prop(alloc, name, to)
-}
-
-pub(crate) fn get_prop(values: &[Place], number: u64, name: TextNo) -> Option<ValueId>
-    ensures { option_map (λ v. v.0) result ≡ property_at name.0 (properties_at number (values_of values.now)) }
-{
-    match value_at(values, number) {
-        Some(value) => value.get_prop(name),
-        None => None,
-    }
-}
-
-pub(crate) fn remove_prop(values: &mut Vec<Place>, number: u64, name: TextNo) -> bool
-    ensures there { IsSome (at_number (values_of values.old.items) number) → values_of values.new.items ≡ changed_at number (without_property name.0) (values_of values.old.items) }
-    ensures absent { at_number (values_of values.old.items) number ≡ None → values_of values.new.items ≡ values_of values.old.items }
-    ensures was_there { result ≡ is_some (property_at name.0 (properties_at number (values_of values.old.items))) }
-{
-    if value_at(values, number).is_none() {
-        return false;
-    }
-    remove_prop_there(values, number, name)
-}
-
-fn remove_prop_there(values: &mut Vec<Place>, number: u64, name: TextNo) -> bool
-    requires { IsSome (at_number (values_of values.old.items) number) }
-    ensures removed { values_of values.new.items ≡ changed_at number (without_property name.0) (values_of values.old.items) }
-    ensures was_there { result ≡ is_some (property_at name.0 (properties_at number (values_of values.old.items))) }
-{
-    values[place_at(number)].remove_prop(name)
-}
-
-pub(crate) fn name_count(values: &[Place], number: u64) -> usize
-    ensures { result ≡ length (properties_at number (values_of values.now)) }
-{
-    match value_at(values, number) {
-        Some(value) => value.name_count(),
-        None => 0,
-    }
-}
-
-pub(crate) fn name_at(values: &[Place], number: u64, at: usize) -> TextNo
-    requires { at < length (properties_at number (values_of values.now)) }
-    ensures { option_map (λ p. p.name) (slice_get (properties_at number (values_of values.now)) at) ≡ Some result.0 }
-{
-    match value_at(values, number) {
-        Some(value) => value.name_at(at),
-        None => unreachable!(),
-    }
-}
-
-pub(crate) fn set_element(
-    alloc: Global,
-    values: &mut Vec<Place>,
-    number: u64,
-    at: u32,
-    to: ValueId,
-) -> Result<(), NoMemory>
-    requires there { IsSome (at_number (values_of values.old.items) number) }
-    requires index { at ≤ most_index }
-    ensures set { OnOk result (values_of values.new.items ≡ changed_at number (with_element at to.0) (values_of values.old.items)) }
-    ensures err { OnErr result (values.new.items ≡ values.old.items) }
-{
-    values[place_at(number)].set_element(alloc, at, to)
-}
-
-pub(crate) fn get_element(values: &[Place], number: u64, at: u32) -> Option<ValueId>
-    ensures { option_map (λ v. v.0) result ≡ element_at at (elements_at number (values_of values.now)) }
-{
-    match value_at(values, number) {
-        Some(value) => value.get_element(at),
-        None => None,
-    }
-}
-
-pub(crate) fn element_count(values: &[Place], number: u64) -> u32
-    ensures { result ≡ length (elements_at number (values_of values.now)) }
-{
-    match value_at(values, number) {
-        Some(value) => value.element_count(),
-        None => 0,
-    }
-}
-
-pub(crate) fn children(values: &[Place], number: u64) -> Children<'_>
-    ensures same { HaveSameNumbers result (children_of number (values_of values.now)) }
-    ensures many { length result ≡ length (children_of number (values_of values.now)) }
-{
-    match value_at(values, number) {
-        Some(value) => value.children(),
-        None => Children::none(),
-    }
 }
 
 /// Empties the places of these numbers.

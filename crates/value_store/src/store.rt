@@ -148,7 +148,7 @@ impl Store {
         ensures graph { OnOk result (graph_of self.new ≡ value_changed (number_in self.old id.0) (with_property name.0 (number_in self.old to.0)) (graph_of self.old)) }
         ensures err { OnErr result (self.new ≡ self.old) }
     {
-        places::set_prop(self.alloc, &mut self.values, id.0, name, to)
+        self.values[places::place_at(id.0)].set_prop(self.alloc, name, to)
     }
 
     /// The value of a property, `None` exactly where the name is absent. Near constant time.
@@ -156,7 +156,7 @@ impl Store {
         ensures value { option_map (λ v. v.0) result ≡ property_at name.0 (properties_in self.now id.0) }
         ensures live { IfSome result (λ v. IsLive self.now v.0) }
     {
-        places::get_prop(&self.values, id.0, name)
+        self.get(id)?.get_prop(name)
     }
 
     /// Removes a property, and tells whether its name was there. The others keep their order.
@@ -167,14 +167,20 @@ impl Store {
         ensures graph { graph_of self.new ≡ value_changed (number_in self.old id.0) (without_property name.0) (graph_of self.old) }
         ensures was_there { result ≡ is_some (property_at name.0 (properties_in self.old id.0)) }
     {
-        places::remove_prop(&mut self.values, id.0, name)
+        if self.get(id).is_none() {
+            return false;
+        }
+        self.values[places::place_at(id.0)].remove_prop(name)
     }
 
     /// How many properties a value has. Constant time.
     pub fn name_count(&self, id: ValueId) -> usize
         ensures { result ≡ length (properties_in self.now id.0) }
     {
-        places::name_count(&self.values, id.0)
+        match self.get(id) {
+            Some(value) => value.name_count(),
+            None => 0,
+        }
     }
 
     /// The name of a property, at a place in the order in which the names were first set. Constant time.
@@ -182,7 +188,10 @@ impl Store {
         requires { at < length (properties_in self.now id.0) }
         ensures { option_map (λ p. p.name) (slice_get (properties_in self.now id.0) at) ≡ Some result.0 }
     {
-        places::name_at(&self.values, id.0, at)
+        match self.get(id) {
+            Some(value) => value.name_at(at),
+            None => unreachable!(),
+        }
     }
 
     /// Sets an element. What lies between the end and a later index is holes.
@@ -197,7 +206,7 @@ impl Store {
         ensures graph { OnOk result (graph_of self.new ≡ value_changed (number_in self.old id.0) (with_element at (number_in self.old to.0)) (graph_of self.old)) }
         ensures err { OnErr result (self.new ≡ self.old) }
     {
-        places::set_element(self.alloc, &mut self.values, id.0, at, to)
+        self.values[places::place_at(id.0)].set_element(self.alloc, at, to)
     }
 
     /// The element of an index, `None` exactly at a hole or past the end. Near constant time.
@@ -205,14 +214,17 @@ impl Store {
         ensures value { option_map (λ v. v.0) result ≡ element_at at (elements_in self.now id.0) }
         ensures live { IfSome result (λ v. IsLive self.now v.0) }
     {
-        places::get_element(&self.values, id.0, at)
+        self.get(id)?.get_element(at)
     }
 
     /// How many elements a value has, holes counted. Constant time.
     pub fn element_count(&self, id: ValueId) -> u32
         ensures { result ≡ length (elements_in self.now id.0) }
     {
-        places::element_count(&self.values, id.0)
+        match self.get(id) {
+            Some(value) => value.element_count(),
+            None => 0,
+        }
     }
 
     /// The children of a value, each under a place from 0: first the values of its properties, then its elements. A hole is no child.
@@ -222,7 +234,10 @@ impl Store {
         ensures many { length result ≡ length (children_in self.now id.0) }
         ensures live { All (IsLive self.now) result }
     {
-        places::children(&self.values, id.0)
+        match self.get(id) {
+            Some(value) => value.children(),
+            None => Children::none(),
+        }
     }
 
     /// Frees values. They are distinct and live, none is a starting value, and no other value names one of them.
