@@ -17,9 +17,8 @@ use Rattle.napi_types.specs.plain.Texts.{fixed_texts}
 use Rattle.napi_types.specs.plain.Weave.{weave}
 use Rattle.napi_types.specs.scripts.Text.{text}
 use Rattle.napi_types.specs.runs.Setting.{Setting}
-use Rattle.napi_types.specs.all_runs.Counts.{Once}
 use Rattle.machine_laws.specs.HubWords.{shared_journal, script_for, next_after, item, finalizer, function, shared_at, shared_making, target_of, function_created, calls_function, releases, begins, item_begins, runs_empty, function_closes, function_finishes}
-use Rattle.machine_laws.specs.RunWords.{loop_ended, go_entry, ending_events, left_out, opening_lines}
+use Rattle.machine_laws.specs.RunWords.{loop_ended, go_entry, ending_events, opening_lines}
 use Rattle.machine_laws.specs.Told.{IsRun}
 
 -- the script: a function with a call-js entry and a finalizer, for three threads, without a maximum, is called three times and aborted; then it is called three
@@ -109,10 +108,6 @@ Prints = text fixed_texts trace ≡
     ++ codes "26 env finals 0 -\n"
     ++ codes "27 env gone 0 -\n"
 
--- the same entries without the frame of the finalizer
-abbrev pub unfinalized : List Entry
-unfinalized = left_out 21 (left_out 21 trace)
-
 -- NEAR MISSES
 pub record IsStrict : Type 0 where
   -- a call behind the abort is refused so, and makes no item; ..
@@ -123,8 +118,5 @@ pub record IsStrict : Type 0 where
   pub torn : (c : Cause) (n : ℕ) → IsRun setting (next_after 14 trace (item_begins c n)) → (c ≡ cause.Torn) × (n ≡ 1)
   -- the function does not begin to close again, ..
   pub close : IsRun setting (next_after 20 trace function_closes) → ⊥
-  -- .. and the loop does not end, for whatever reason, before its finalizer has begun
+  -- .. and the loop does not end, for whatever reason, before its finalizer has begun, so that is not left out
   pub done : (r : LoopEnd) → IsRun setting (next_after 21 trace (loop_ended r)) → ⊥
-  -- so it does not happen that it never begins: it would not be once, and that is no run
-  pub once : Once unfinalized → ⊥
-  pub never : IsRun setting unfinalized → ⊥

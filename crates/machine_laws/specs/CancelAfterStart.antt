@@ -1,5 +1,5 @@
 -- A work is cancelled after its start: too late. It runs to its finish, and its completion has its value.
-use Rattle.std.specs.Prelude.{◌≡◌, ℕ, List, [], ◌∷◌, ◌++◌, take, set, replicate, codes}
+use Rattle.std.specs.Prelude.{◌≡◌, ℕ, List, [], ◌∷◌, ◌++◌, take, replicate, codes}
 use Rattle.napi_types.specs.declared.call.Call.TheVariants as call
 use Rattle.napi_types.specs.declared.call.JobSpec.TheVariants as job
 use Rattle.napi_types.specs.declared.entry.Actor.TheVariants as actor
@@ -75,10 +75,6 @@ Prints = text fixed_texts trace ≡
 abbrev pub Keeps : Type 0
 Keeps = registers_of (final_registers setting (told_asks setting trace) trace) 0 ≡ 1 ∷ replicate 23 0 ++ 0 ∷ 10 ∷ 9 ∷ replicate 5 0
 
--- the same entries, and its completion begins with this status
-abbrev pub completed_as : Status → List Entry
-completed_as s = set trace 9 (completion_begins 1 s 1)
-
 -- NEAR MISSES
 pub record IsStrict : Type 0 where
   -- behind the start no cancelling is accepted
@@ -88,6 +84,6 @@ pub record IsStrict : Type 0 where
   -- while it runs, nothing comes of the environment behind `go`: no completion, and no end of the loop
   pub runs : (x : Entry) → IsRun setting (take 7 trace ++ go_entry ∷ record x { actor = actor.Env } ∷ []) → ⊥
   -- its completion tells that it ran, and not that it was cancelled, since it started
-  pub completion : (s : Status) → IsRun setting (completed_as s) → s ≡ status.Ok
+  pub completion : (s : Status) → IsRun setting (next_after 9 trace (completion_begins 1 s 1)) → s ≡ status.Ok
   -- the worker does not end before the drain
   pub end : IsRun setting (next_after 12 trace (worker_ends 0)) → ⊥

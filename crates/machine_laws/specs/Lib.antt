@@ -13,6 +13,7 @@ pub mod Cycle
 pub mod Depth
 pub mod DoubledHooks
 pub mod DrainBehindFinished
+pub mod DutyMisses
 pub mod EscapeTwice
 pub mod ExitBeforeDue
 pub mod ExitInInitAndInAFinalizer

@@ -1,5 +1,5 @@
 -- A thread-safe function is released by the last that holds it: no further call is accepted, and what waits is delivered in its order before it closes.
-use Rattle.std.specs.Prelude.{◌≡◌, ℕ, List, [], ◌∷◌, ◌++◌, set, Option, Some, None, codes}
+use Rattle.std.specs.Prelude.{◌≡◌, ℕ, List, [], ◌∷◌, ◌++◌, Option, Some, None, codes}
 use Rattle.napi_types.specs.declared.call.Call.TheVariants as call
 use Rattle.napi_types.specs.declared.call.Mode.TheVariants as mode
 use Rattle.napi_types.specs.declared.call.Release.TheVariants as release
@@ -17,7 +17,6 @@ use Rattle.napi_types.specs.plain.Texts.{fixed_texts}
 use Rattle.napi_types.specs.plain.Weave.{weave}
 use Rattle.napi_types.specs.scripts.Text.{text}
 use Rattle.napi_types.specs.runs.Setting.{Setting}
-use Rattle.napi_types.specs.all_runs.Counts.{Once}
 use Rattle.machine_laws.specs.HubWords.{function_lines, shared_journal, script_for, next_after, item, shared_at, shared_making, target_of, function_created, calls_function, releases, item_begins, runs_empty, function_closes, function_finishes}
 use Rattle.machine_laws.specs.RunWords.{loop_ended, go_entry, ending_events}
 use Rattle.machine_laws.specs.Told.{IsRun}
@@ -83,25 +82,14 @@ Prints = text fixed_texts trace ≡
     ++ codes "18 env finals 0 -\n"
     ++ codes "19 env gone 0 -\n"
 
--- the same entries, but the first item begins again where the second one would, ..
-abbrev pub first_twice : List Entry
-first_twice = set trace 11 (item_begins cause.Item 1)
-
--- .. or the second one begins before the first
-abbrev pub second_first : List Entry
-second_first = set (set trace 9 (item_begins cause.Item 2)) 11 (item_begins cause.Item 1)
-
 -- NEAR MISSES
 pub record IsStrict : Type 0 where
   -- the call behind the release is refused so, and makes no item
   pub released : (s : Status) (d : Option Duty) → IsRun setting (next_after 6 trace (last_call s d)) → (s ≡ status.InvalidArg) × (d ≡ None)
-  -- the first item begins first, and it is not torn
+  -- the first item begins first, so none before one that was accepted earlier, and it is not torn; ..
   pub order : (c : Cause) (n : ℕ) → IsRun setting (next_after 9 trace (item_begins c n)) → (c ≡ cause.Item) × (n ≡ 1)
-  -- no item begins twice: it would not be once, and it is no run
-  pub once : Once first_twice → ⊥
-  pub twice : IsRun setting first_twice → ⊥
-  -- none begins before one that was accepted earlier
-  pub earlier : IsRun setting second_first → ⊥
+  -- .. then the second one does, so none begins twice
+  pub twice : (c : Cause) (n : ℕ) → IsRun setting (next_after 11 trace (item_begins c n)) → (c ≡ cause.Item) × (n ≡ 2)
   -- the function does not close while one waits, ..
   pub close : IsRun setting (next_after 11 trace function_closes) → ⊥
   -- .. and the loop does not end, for whatever reason, before the function is done

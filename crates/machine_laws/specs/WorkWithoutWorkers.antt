@@ -1,5 +1,5 @@
 -- A work is queued where there is no worker: the loop ends, the drain cancels it, and its completion says so. In it no further work is created.
-use Rattle.std.specs.Prelude.{◌≡◌, ℕ, List, [], ◌∷◌, ◌++◌, set, codes}
+use Rattle.std.specs.Prelude.{◌≡◌, ℕ, List, [], ◌∷◌, ◌++◌, codes}
 use Rattle.napi_types.specs.declared.call.Call.{Call}
 use Rattle.napi_types.specs.declared.call.Call.TheVariants as call
 use Rattle.napi_types.specs.declared.call.JobSpec.TheVariants as job
@@ -72,10 +72,6 @@ Prints = text fixed_texts trace ≡
     ++ codes "13 env finals 0 -\n"
     ++ codes "14 env gone 0 -\n"
 
--- the same entries, and its completion begins with this status
-abbrev pub completed_as : Status → List Entry
-completed_as s = set trace 8 (completion_begins 1 s 1)
-
 -- NEAR MISSES
 pub record IsStrict : Type 0 where
   -- the loop ends for no other reason; with one worker it would wait for the work
@@ -86,7 +82,7 @@ pub record IsStrict : Type 0 where
   -- the drain tells how many works it cancelled
   pub drain : (n : ℕ) → IsRun setting (next_after 7 trace (drains n)) → n ≡ 1
   -- its completion tells that it was cancelled, and not that it ran, since no worker started it
-  pub completion : (s : Status) → IsRun setting (completed_as s) → s ≡ status.Cancelled
+  pub completion : (s : Status) → IsRun setting (next_after 8 trace (completion_begins 1 s 1)) → s ≡ status.Cancelled
   -- `finals` does not come before the completion
   pub finals : IsRun setting (next_after 8 trace finals) → ⊥
   -- from the end of the loop on no work is created: the environment refuses that, and does not leave it to the hub

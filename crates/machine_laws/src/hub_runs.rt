@@ -15,6 +15,7 @@ ghost use Rattle.machine_laws.specs.TornWithoutEntry as torn_without_entry;
 ghost use Rattle.machine_laws.specs.ReleaseToZero as release_to_zero;
 ghost use Rattle.machine_laws.specs.TwoFunctions as two_functions;
 ghost use Rattle.machine_laws.specs.ExitInTheMiddle as exit_in_the_middle;
+ghost use Rattle.machine_laws.specs.DutyMisses.{OnceOfTheHubIsStrict};
 
 /// A realistic addon: a work, a thread-safe function that two threads call, and a finalizer.
 pub fn realistic_addon_runs()
@@ -111,4 +112,9 @@ pub fn exit_in_the_middle_runs()
     ensures actors { exit_in_the_middle.ActInOrder }
     ensures prints { exit_in_the_middle.Prints }
     ensures strict { exit_in_the_middle.IsStrict }
+{}
+
+/// Beside two of these runs: not each duty is once where an item begins twice, nor where a function's finalizer never begins.
+pub fn duties_of_the_hub()
+    ensures { OnceOfTheHubIsStrict }
 {}

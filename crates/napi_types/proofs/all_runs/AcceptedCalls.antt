@@ -143,7 +143,7 @@ other-tells h x other may = by x.what refl
 
 form-tells : (m : Machine) (t : Step) → Form m t → IsTrue t.may → TellsItsDuty t.entry
 form-tells m _ (form.calls f fs stands c o local) may = asked-tells m.env c (number_of o) local
-form-tells m _ (form.shares f fs stands c o shared) may =
+form-tells m _ (form.shares f fs stands c o shared answers) may =
     let x : Entry = shared_entry m.env c o in
     answered-tells m.hub x (is_shared c && is_timely m.hub.stage c (refusal m.env c) && is_fresh_work m.hub o) c
     (answer_unless_given m.hub (given_of m.env c) c (work_number x.reply.out) (refusal m.env c)) refl
@@ -151,7 +151,7 @@ form-tells m _ (form.shares f fs stands c o shared) may =
     (and-right (may_call m.env && not (is_full (room_of m c) c)) (hub_step m.hub x).may may)
 form-tells m _ (form.ends f fs stands v cut b ours is) may = event-tells (end_step_on ours m (end_change v cut m.env) b).entry host.End (ended-what m v cut b ours)
 form-tells m _ (form.happens alone event next) may = event-tells (event_step m event).entry (event_what event) (event-what m event may)
-form-tells m _ (form.others x other) may = other-tells m.hub x other (and-right (has_room m x.what) (hub_step m.hub x).may may)
+form-tells m _ (form.others x other same) may = other-tells m.hub x other (and-right (has_room m x.what) (hub_step m.hub x).may may)
 
 pub accepted-calls-tell : AcceptedCallsTellTheirDuty
 accepted-calls-tell s bs xs run =

@@ -15,7 +15,6 @@ use Rattle.napi_types.specs.plain.Guards.{is_registering}
 use Rattle.napi_types.specs.plain.Replies.{Answer, accepts}
 use Rattle.napi_types.specs.plain.Room.{one_if, need}
 use Rattle.napi_types.specs.parts.Book.{Book, owed_tickets}
-use Rattle.napi_types.specs.parts.ExpectedKinds.{kind_refusal}
 use Rattle.napi_types.specs.parts.Frames.{Frame, caller_of, ask_counted, is_hub_duty, local_frames}
 use Rattle.napi_types.specs.parts.Heap.{Heap, handle_properties}
 use Rattle.napi_types.specs.parts.HeapCalls.{heap_effect, addon_effect, heap_answer_unless, heap_answer}

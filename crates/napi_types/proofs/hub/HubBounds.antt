@@ -1,5 +1,5 @@
 -- How much a hub holds after so many entries.
-use Rattle.std.proofs.Common.{◌≡◌, ◌≤◌, ◌<◌, ℕ, ◌+◌, ◌-◌, suc, ◌==◌, nat_lt, Bool, true, false, cond, List, [], ◌∷◌, length, length-append, ltb-true, filter, map, refl, ap, subst, arith, Option, Some, None}
+use Rattle.std.proofs.Common.{◌≡◌, ◌≤◌, ◌<◌, ℕ, ◌+◌, suc, ◌==◌, nat_lt, Bool, true, false, cond, List, [], ◌∷◌, length, length-append, ltb-true, filter, map, refl, ap, subst, arith, Option, Some, None}
 use Rattle.std.proofs.lemmas.List.Elements.{All-nil, All-cons, All-head, All-tail, All-append}
 use Rattle.std.proofs.lemmas.List.{length-map}
 use Rattle.std.specs.List.{All}

@@ -81,10 +81,10 @@ event-nested m _ next none here = record { frames = here.frames; uncalled = here
 
 pub form-nested : (m : Machine) (t : Step) → Form m t → IsNested m.env → IsNested t.after.env
 form-nested m _ (form.calls f fs stands c o alone) here = asked-nested m.env c (number_of o) (some-stand f fs m.env.frames stands) here
-form-nested m _ (form.shares f fs stands c o shared) here = shared-nested m c o here
+form-nested m _ (form.shares f fs stands c o shared answers) here = shared-nested m c o here
 form-nested m _ (form.ends f fs stands v cut may ours is) here = end_step-nested m v cut may ours here
 form-nested m _ (form.happens alone event next) here = event-nested m event next alone here
-form-nested m _ (form.others x other) here = here
+form-nested m _ (form.others x other same) here = here
 
 pub opens-nested : (s : Setting) → IsNested (opening_of s).env
 opens-nested s = record { frames = tt; uncalled = All-nil (λ (r : Registration). r.cause ≢ cause.Call) }

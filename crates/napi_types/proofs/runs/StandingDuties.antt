@@ -131,10 +131,10 @@ event-alike m _ next alone alike = alike
 form-alike : (m : Machine) (t : Step) → Form m t → IsTrue t.may → AreNested m.env.frames → StandsAlike m.env m.hub → Alike t
 form-alike m _ (form.calls f fs stands c o alone) may nested alike =
     ap (λ ds. filter (λ d. is_hub_duty (Some d)) ds) (duties-asked m.env c (number_of o)) ∙ alike
-form-alike m _ (form.shares f fs stands c o shared) may nested alike = shared-alike m c o alike
+form-alike m _ (form.shares f fs stands c o shared answers) may nested alike = shared-alike m c o alike
 form-alike m _ (form.ends f fs stands v cut b ours is) may nested alike = ended-alike m v cut b ours nested is may alike
 form-alike m _ (form.happens alone event next) may nested alike = event-alike m event next alone alike
-form-alike m _ (form.others x other) may nested alike =
+form-alike m _ (form.others x other same) may nested alike =
     alike ∙ sym (ap (λ d. option_to_list (option_map (λ (i : DueInfo). i.duty) d)) (other-keeps m.hub x other).standing)
 
 -- RUNS

@@ -25,7 +25,7 @@ use Rattle.napi_types.specs.environment.Ends.{end_change}
 use Rattle.napi_types.specs.environment.Entering.{asked_change}
 use Rattle.napi_types.specs.environment.Tickets.{ticket_change, ticket_in, next_ticket}
 use Rattle.napi_types.specs.hub.Hub.{stage_of, Stage, Before, Going, Looped, Drained, stage_after}
-use Rattle.napi_types.specs.hub.HubMoves.{HubMove, hub_move, idle_reason, is_idle, is_quiet, is_spent}
+use Rattle.napi_types.specs.hub.HubMoves.{HubMove, hub_move}
 use Rattle.napi_types.specs.hub.HubEvents.{is_moving}
 use Rattle.napi_types.specs.hub.HubSteps.{hub_step}
 use Rattle.napi_types.specs.runs.Choice.{choice}

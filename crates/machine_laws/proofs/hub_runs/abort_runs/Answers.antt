@@ -1,17 +1,15 @@
-use Rattle.std.proofs.Common.{◌≡◌, ℕ, ap, arith, refl, Option, None}
+use Rattle.std.proofs.Common.{◌≡◌, ℕ, ap, refl, Option, None}
 use Rattle.std.specs.Fmt.{digits}
 use Rattle.napi_types.specs.declared.entry.Cause.{Cause}
 use Rattle.napi_types.specs.declared.entry.Cause.TheVariants as cause
 use Rattle.napi_types.specs.declared.entry.Duty.{Duty}
-use Rattle.napi_types.specs.declared.entry.Duty.TheVariants as duty
 use Rattle.napi_types.specs.declared.entry.HostStep.TheVariants as host
 use Rattle.napi_types.specs.declared.entry.LoopEnd.{LoopEnd}
 use Rattle.napi_types.specs.declared.entry.What.TheVariants as what
 use Rattle.napi_types.specs.declared.status.Status.{Status}
 use Rattle.napi_types.specs.declared.status.Status.TheVariants as status
-use Rattle.napi_types.specs.all_runs.Counts.{Once}
-use Rattle.machine_laws.specs.Abort.{setting, late_call, history, journal, trace, unfinalized}
-use Rattle.machine_laws.specs.HubWords.{next_after, function, item_begins, function_closes}
+use Rattle.machine_laws.specs.Abort.{setting, late_call, history, journal, trace}
+use Rattle.machine_laws.specs.HubWords.{next_after, item_begins, function_closes}
 use Rattle.machine_laws.specs.RunWords.{loop_ended}
 use Rattle.machine_laws.specs.Told.{IsRun}
 use Rattle.machine_laws.proofs.Misses.{told_item, told_cause, told-entry}
@@ -41,19 +39,5 @@ no-close r = let w : what.Host host.CloseTsfn ≡ what.Host host.FinishTsfn = ap
 not-done : (e : LoopEnd) → IsRun setting (next_after 21 trace (loop_ended e)) → ⊥
 not-done e r = let w : what.Host host.LoopEnd ≡ what.Host host.Begin = ap (λ x. x.what) (told-entry setting _ 21 refl r) in cc
 
-not-once : Once unfinalized → ⊥
-not-once o = let z : 0 ≡ 1 = (o.each (duty.Function function)).kept refl refl in absurd (omega (arith, z))
-
-not-never : IsRun setting unfinalized → ⊥
-not-never r = let w : what.Host host.LoopEnd ≡ what.Host host.Begin = ap (λ x. x.what) (told-entry setting unfinalized 21 refl r) in cc
-
 pub returns-clause-strict : goal.returns-clause-strict
-returns-clause-strict c = record {
-  closing = is-closing;
-  counted = is-counted;
-  torn = first-torn;
-  close = no-close;
-  done = not-done;
-  once = not-once;
-  never = not-never;
-}
+returns-clause-strict c = record { closing = is-closing; counted = is-counted; torn = first-torn; close = no-close; done = not-done }

@@ -4,8 +4,8 @@ use Rattle.napi_types.specs.declared.entry.Actor.TheVariants as actor
 use Rattle.napi_types.specs.declared.entry.Entry.{Entry}
 use Rattle.napi_types.specs.declared.status.Status.{Status}
 use Rattle.napi_types.specs.declared.status.Status.TheVariants as status
-use Rattle.machine_laws.specs.CancelAfterStart.{setting, cancelled, history, journal, trace, completed_as}
-use Rattle.machine_laws.specs.HubWords.{next_after, worker_finishes, worker_ends}
+use Rattle.machine_laws.specs.CancelAfterStart.{setting, cancelled, history, journal, trace}
+use Rattle.machine_laws.specs.HubWords.{next_after, completion_begins, worker_finishes, worker_ends}
 use Rattle.machine_laws.specs.RunWords.{go_entry}
 use Rattle.machine_laws.specs.Told.{IsRun}
 use Rattle.machine_laws.proofs.Misses.{told_number, told-entry, told-may}
@@ -28,8 +28,8 @@ no-other-value n r = ap (λ x. told_number n x.reply.out) (told-entry setting _ 
 runs-on : (x : Entry) → IsRun setting (take 7 trace ++ go_entry ∷ record x { actor = actor.Env } ∷ []) → ⊥
 runs-on x r = let z : _ = told-may setting _ refl r in cc
 
-is-completed : (s : Status) → IsRun setting (completed_as s) → s ≡ status.Ok
-is-completed s r = ap (λ x. x.reply.status) (told-entry setting (completed_as s) 9 refl r)
+is-completed : (s : Status) → IsRun setting (next_after 9 trace (completion_begins 1 s 1)) → s ≡ status.Ok
+is-completed s r = ap (λ x. x.reply.status) (told-entry setting _ 9 refl r)
 
 no-end : IsRun setting (next_after 12 trace (worker_ends 0)) → ⊥
 no-end r = let z : _ = told-may setting _ refl r in cc

@@ -1,17 +1,15 @@
-use Rattle.std.proofs.Common.{◌≡◌, ℕ, ap, arith, refl, Option, None}
+use Rattle.std.proofs.Common.{◌≡◌, ℕ, ap, refl, Option, None}
 use Rattle.std.specs.Fmt.{digits}
 use Rattle.napi_types.specs.declared.entry.Cause.{Cause}
 use Rattle.napi_types.specs.declared.entry.Cause.TheVariants as cause
 use Rattle.napi_types.specs.declared.entry.Duty.{Duty}
-use Rattle.napi_types.specs.declared.entry.Duty.TheVariants as duty
 use Rattle.napi_types.specs.declared.entry.HostStep.TheVariants as host
 use Rattle.napi_types.specs.declared.entry.LoopEnd.{LoopEnd}
 use Rattle.napi_types.specs.declared.entry.What.TheVariants as what
 use Rattle.napi_types.specs.declared.status.Status.{Status}
 use Rattle.napi_types.specs.declared.status.Status.TheVariants as status
-use Rattle.napi_types.specs.all_runs.Counts.{Once}
-use Rattle.machine_laws.specs.ReleaseToZero.{setting, last_call, history, journal, trace, first_twice, second_first}
-use Rattle.machine_laws.specs.HubWords.{next_after, function, item_begins, function_closes}
+use Rattle.machine_laws.specs.ReleaseToZero.{setting, last_call, history, journal, trace}
+use Rattle.machine_laws.specs.HubWords.{next_after, item_begins, function_closes}
 use Rattle.machine_laws.specs.RunWords.{loop_ended}
 use Rattle.machine_laws.specs.Told.{IsRun}
 use Rattle.machine_laws.proofs.Misses.{told_item, told_cause, told-entry}
@@ -32,14 +30,9 @@ first-first : (c : Cause) (n : ℕ) → IsRun setting (next_after 9 trace (item_
 first-first c n r =
     let same : item_begins c n ≡ _ = told-entry setting _ 9 refl r in (ap (λ x. told_cause c x.reply.out) same, ap (λ x. told_item n x.reply.out) same)
 
-not-once : Once first_twice → ⊥
-not-once o = let z : 2 ≡ 1 = (o.each (duty.Item function 1)).kept refl refl in absurd (omega (arith, z))
-
-not-twice : IsRun setting first_twice → ⊥
-not-twice r = let z : 1 ≡ 2 = ap (λ x. told_item 0 x.reply.out) (told-entry setting first_twice 11 refl r) in absurd (omega (arith, z))
-
-not-earlier : IsRun setting second_first → ⊥
-not-earlier r = let z : 2 ≡ 1 = ap (λ x. told_item 0 x.reply.out) (told-entry setting second_first 9 refl r) in absurd (omega (arith, z))
+second-then : (c : Cause) (n : ℕ) → IsRun setting (next_after 11 trace (item_begins c n)) → (c ≡ cause.Item) × (n ≡ 2)
+second-then c n r =
+    let same : item_begins c n ≡ _ = told-entry setting _ 11 refl r in (ap (λ x. told_cause c x.reply.out) same, ap (λ x. told_item n x.reply.out) same)
 
 no-close : IsRun setting (next_after 11 trace function_closes) → ⊥
 no-close r = let w : what.Host host.CloseTsfn ≡ what.Host host.Begin = ap (λ x. x.what) (told-entry setting _ 11 refl r) in cc
@@ -51,9 +44,7 @@ pub returns-clause-strict : goal.returns-clause-strict
 returns-clause-strict c = record {
   released = is-released;
   order = first-first;
-  once = not-once;
-  twice = not-twice;
-  earlier = not-earlier;
+  twice = second-then;
   close = no-close;
   done = not-done;
 }

@@ -6,8 +6,8 @@ use Rattle.napi_types.specs.declared.entry.LoopEnd.TheVariants as loop_end
 use Rattle.napi_types.specs.declared.entry.What.TheVariants as what
 use Rattle.napi_types.specs.declared.status.Status.{Status}
 use Rattle.napi_types.specs.declared.status.Status.TheVariants as status
-use Rattle.machine_laws.specs.WorkWithoutWorkers.{creates_late, setting_for, setting, history, journal, trace, completed_as}
-use Rattle.machine_laws.specs.HubWords.{next_after, shared_at, work_created, drains, finals, worker_starts}
+use Rattle.machine_laws.specs.WorkWithoutWorkers.{creates_late, setting_for, setting, history, journal, trace}
+use Rattle.machine_laws.specs.HubWords.{next_after, completion_begins, shared_at, work_created, drains, finals, worker_starts}
 use Rattle.machine_laws.specs.RunWords.{loop_ended}
 use Rattle.machine_laws.specs.Told.{IsRun}
 use Rattle.machine_laws.proofs.Misses.{told_number, told_reason, given_refused, told-entry, told-may}
@@ -33,8 +33,8 @@ no-start r = let z : _ = told-may setting _ refl r in cc
 drains-one : (n : ℕ) → IsRun setting (next_after 7 trace (drains n)) → n ≡ 1
 drains-one n r = ap (λ x. told_number n x.reply.out) (told-entry setting _ 7 refl r)
 
-is-cancelled : (s : Status) → IsRun setting (completed_as s) → s ≡ status.Cancelled
-is-cancelled s r = ap (λ x. x.reply.status) (told-entry setting (completed_as s) 8 refl r)
+is-cancelled : (s : Status) → IsRun setting (next_after 8 trace (completion_begins 1 s 1)) → s ≡ status.Cancelled
+is-cancelled s r = ap (λ x. x.reply.status) (told-entry setting _ 8 refl r)
 
 not-finals : IsRun setting (next_after 8 trace finals) → ⊥
 not-finals r = let w : what.Host host.Finals ≡ what.Host host.Begin = ap (λ x. x.what) (told-entry setting _ 8 refl r) in cc
