@@ -10,13 +10,14 @@ use Rattle.napi_types.specs.scripts.Script.{IsScript, IsWrong, script}
 use Rattle.napi_types.specs.scripts.ScriptReading.{IsJson, IsNoJson}
 use Rattle.script_host.specs.Reading.{longest_source}
 use Rattle.script_host.specs.Host.{Gave, GaveScript, GaveTooMuch, IsRead, IsTooLong, IsRefused, HasTooManyAddons, IsRunnable, Causes}
+use Rattle.script_host.specs.Outside.{Input}
 use Rattle.script_host.specs.Words.{line_status}
 use Rattle.script_host.specs.declared.words.Line.{Line}
 use Rattle.script_host.specs.declared.words.Line.TheVariants as line
 
 -- what a source gave up to its end is all that it had to give
-all-given : (before after : Option (List ℕ)) (bytes given : List ℕ) → Gave before after given → before ≡ Some bytes → given ≡ bytes
-all-given before after bytes given gave told = let P : Option (List ℕ) → Type 0 = λ o. IfSome o (λ b. given ≡ b) in subst P told gave.all
+all-given : (input : Input) (bytes given : List ℕ) → Gave input given → input.before ≡ Some bytes → given ≡ bytes
+all-given input bytes given gave told = let P : Option (List ℕ) → Type 0 = λ o. IfSome o (λ b. given ≡ b) in subst P told gave.all
 
 -- bytes are a JSON text of one value at most
 one-value : (bytes : List ℕ) (d e : Data) → IsJson bytes d → IsJson bytes e → d ≡ e
@@ -50,30 +51,29 @@ no-refused bytes handed bad s is enough = by bad.why
         omega (arith, more, enough)
 
 -- where the bytes of the source are told and no read failed
-module _ (words : List (List ℕ)) (before after : Option (List ℕ)) (faults risen handed : ℕ)
-    (bytes : List ℕ) (r : IsRead words before faults risen bytes) where
+module _ (words : List (List ℕ)) (input : Input) (handed : ℕ) (bytes : List ℕ) (r : IsRead words input bytes) where
   -- what it gave up to its end are these bytes
-  all-told : (given : List ℕ) → Gave before after given → given ≡ bytes
-  all-told given gave = all-given before after bytes given gave r.told
+  all-told : (given : List ℕ) → Gave input given → given ≡ bytes
+  all-told given gave = all-given input bytes given gave r.told
 
   -- so it gave no script other than theirs, and nothing else that they are not
-  pub told-short : (given : List ℕ) → Gave before after given → length bytes ≤ longest_source
+  pub told-short : (given : List ℕ) → Gave input given → length bytes ≤ longest_source
   told-short given gave = subst (λ (b : List ℕ). length b ≤ longest_source) (all-told given gave) gave.within
 
-  told-json : (given : List ℕ) → Gave before after given → IsNoJson given → IsNoJson bytes
+  told-json : (given : List ℕ) → Gave input given → IsNoJson given → IsNoJson bytes
   told-json given gave none = subst (λ (b : List ℕ). IsNoJson b) (all-told given gave) none
 
-  told-wrong : (given : List ℕ) (w : Wrong) → Gave before after given → IsWrong given w → IsWrong bytes w
+  told-wrong : (given : List ℕ) (w : Wrong) → Gave input given → IsWrong given w → IsWrong bytes w
   told-wrong given w gave bad = subst (λ (b : List ℕ). IsWrong b w) (all-told given gave) bad
 
-  told-script : (s : Script) → GaveScript before after s → IsScript bytes s
+  told-script : (s : Script) → GaveScript input s → IsScript bytes s
   told-script s gave = subst (λ (b : List ℕ). IsScript b s) (all-told gave.bytes gave.gave) gave.is_script
 
-  not-long : (given : List ℕ) → IsTooLong bytes → Gave before after given → ⊥
+  not-long : (given : List ℕ) → IsTooLong bytes → Gave input given → ⊥
   not-long given long gave = let short : length bytes ≤ longest_source = told-short given gave in omega (arith, short, long)
 
   -- of bytes that are too long no line tells but that they are, or that there was no memory
-  pub too-long-line : IsTooLong bytes → (l : Line) → Causes l words before after faults risen handed → (line_status l ≡ 7) ⊎ (line_status l ≡ 6)
+  pub too-long-line : IsTooLong bytes → (l : Line) → Causes l words input handed → (line_status l ≡ 7) ⊎ (line_status l ≡ 6)
   too-long-line long line.Usage cause = let no : true ≡ false = sym r.command ∙ cause in cc
   too-long-line long line.NotJson cause = absurd (not-long cause.1.bytes long cause.1.gave)
   too-long-line long (line.Shape path) cause = absurd (not-long cause.1.bytes long cause.1.gave)
@@ -84,17 +84,17 @@ module _ (words : List (List ℕ)) (before after : Option (List ℕ)) (faults ri
   too-long-line long line.ReadFault cause = absurd (r.readable cause.1)
   too-long-line long line.TooLong cause = inl refl
 
-  pub too-long-run : IsTooLong bytes → (s : Script) → GaveScript before after s → ⊥
+  pub too-long-run : IsTooLong bytes → (s : Script) → GaveScript input s → ⊥
   too-long-run long s gave = not-long gave.bytes long gave.gave
 
-  long-told : GaveTooMuch before after → length bytes ≤ longest_source → ⊥
+  long-told : GaveTooMuch input → length bytes ≤ longest_source → ⊥
   long-told gave short =
       let P : Option (List ℕ) → Type 0 = λ o. IfSome o (λ given. longest_source < length given) in
       let long : longest_source < length bytes = subst P r.told gave.told in
       omega (arith, long, short)
 
   -- of bytes that are refused no line tells but that they are, or that there was no memory
-  pub refused-line : IsRefused bytes handed → (l : Line) → Causes l words before after faults risen handed → (line_status l ≡ 3) ⊎ (line_status l ≡ 6)
+  pub refused-line : IsRefused bytes handed → (l : Line) → Causes l words input handed → (line_status l ≡ 3) ⊎ (line_status l ≡ 6)
   refused-line bad line.Usage cause = let no : true ≡ false = sym r.command ∙ cause in cc
   refused-line bad line.NotJson cause = inl refl
   refused-line bad (line.Shape path) cause = inl refl
@@ -105,11 +105,11 @@ module _ (words : List (List ℕ)) (before after : Option (List ℕ)) (faults ri
   refused-line bad line.ReadFault cause = absurd (r.readable cause.1)
   refused-line bad line.TooLong cause = absurd (long-told cause.1 bad.short)
 
-  pub refused-run : IsRefused bytes handed → (s : Script) → GaveScript before after s → length s.addons ≤ handed → ⊥
+  pub refused-run : IsRefused bytes handed → (s : Script) → GaveScript input s → length s.addons ≤ handed → ⊥
   refused-run bad s gave enough = no-refused bytes handed bad s (told-script s gave) enough
 
   -- of a script that can be run no line tells but that there was no memory
-  pub only-memory : IsRunnable bytes handed → (l : Line) → Causes l words before after faults risen handed → line_status l ≡ 6
+  pub only-memory : IsRunnable bytes handed → (l : Line) → Causes l words input handed → line_status l ≡ 6
   only-memory fit line.Usage cause = let no : true ≡ false = sym r.command ∙ cause in cc
   only-memory fit line.NotJson cause = absurd (no-json bytes fit.script fit.is_script (told-json cause.1.bytes cause.1.gave cause.1.is_no_json))
   only-memory fit (line.Shape path) cause =

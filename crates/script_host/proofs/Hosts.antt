@@ -1,6 +1,6 @@
 -- What the top call knows of a run that was made.
 use Rattle.std.proofs.Common.{◌≡◌, ◌≤◌, ◌+◌, ◌*◌, ℕ, List, ◌++◌, length, drop, refl, subst, arith, lit≤}
-use Rattle.std.proofs.Common.{◌⊎◌, inl, inr, Option}
+use Rattle.std.proofs.Common.{◌⊎◌, inl, inr}
 use Rattle.napi_types.specs.declared.duties.DueInfo.{DueInfo}
 use Rattle.napi_types.specs.declared.entry.Entry.{Entry}
 use Rattle.napi_types.specs.declared.entry.Local.{Local}
@@ -27,6 +27,7 @@ use Rattle.env_loop.specs.Recording.{AddonStates, IsEnded}
 use Rattle.script_host.specs.Loading.{told_plans, setting_with}
 use Rattle.script_host.specs.declared.words.Line.{Line}
 use Rattle.script_host.specs.declared.words.Line.TheVariants as line
+use Rattle.script_host.specs.Outside.{Input}
 use Rattle.script_host.specs.Words.{line_status}
 use Rattle.script_host.specs.Host.{IsStatus, Handed, Ran, setting_of, Causes, Gave, HasTooManyAddons, GaveRefused}
 use Rattle.script_host.proofs.Loading.{length-told, length-told-le}
@@ -100,27 +101,27 @@ line-known line.ReadFault = refl
 line-known line.TooLong = refl
 
 -- bytes that a source gave are not too long
-refused : (before after : Option (List ℕ)) (bytes : List ℕ) (handed : ℕ) → Gave before after bytes
-    → IsNoJson bytes ⊎ (((w : Wrong) × IsWrong bytes w) ⊎ HasTooManyAddons bytes handed) → GaveRefused before after handed
-refused before after bytes handed gave why = record { bytes = bytes; gave = gave; is_refused = record { short = gave.within; why = why } }
+refused : (input : Input) (bytes : List ℕ) (handed : ℕ) → Gave input bytes
+    → IsNoJson bytes ⊎ (((w : Wrong) × IsWrong bytes w) ⊎ HasTooManyAddons bytes handed) → GaveRefused input handed
+refused input bytes handed gave why = record { bytes = bytes; gave = gave; is_refused = record { short = gave.within; why = why } }
 
 -- a line with the status of a refusal has a refusal as its cause
-pub refused-of : (l : Line) (words : List (List ℕ)) (before after : Option (List ℕ)) (faults risen handed : ℕ)
-    → Causes l words before after faults risen handed → line_status l ≡ 3 → GaveRefused before after handed
-refused-of line.Usage words before after faults risen handed cause e = absurd (omega arith)
-refused-of line.NotJson words before after faults risen handed cause e = refused before after cause.1.bytes handed cause.1.gave (inl cause.1.is_no_json)
-refused-of (line.Shape path) words before after faults risen handed cause e =
-    refused before after cause.1.bytes handed cause.1.gave (inr (inl (wrong.Shape cause.1.has_wrong_shape.0, cause.1.has_wrong_shape.2)))
-refused-of (line.Limit which) words before after faults risen handed cause e =
-    refused before after cause.1.bytes handed cause.1.gave (inr (inl (wrong.Limit which, cause.1.is_wrong)))
-refused-of line.Stage words before after faults risen handed cause e =
-    refused before after cause.1.bytes handed cause.1.gave (inr (inl (wrong.Stage, cause.1.is_wrong)))
-refused-of line.TooManyAddons words before after faults risen handed cause e =
-    refused before after cause.1.gave.bytes handed cause.1.gave.gave
+pub refused-of : (l : Line) (words : List (List ℕ)) (input : Input) (handed : ℕ)
+    → Causes l words input handed → line_status l ≡ 3 → GaveRefused input handed
+refused-of line.Usage words input handed cause e = absurd (omega arith)
+refused-of line.NotJson words input handed cause e = refused input cause.1.bytes handed cause.1.gave (inl cause.1.is_no_json)
+refused-of (line.Shape path) words input handed cause e =
+    refused input cause.1.bytes handed cause.1.gave (inr (inl (wrong.Shape cause.1.has_wrong_shape.0, cause.1.has_wrong_shape.2)))
+refused-of (line.Limit which) words input handed cause e =
+    refused input cause.1.bytes handed cause.1.gave (inr (inl (wrong.Limit which, cause.1.is_wrong)))
+refused-of line.Stage words input handed cause e =
+    refused input cause.1.bytes handed cause.1.gave (inr (inl (wrong.Stage, cause.1.is_wrong)))
+refused-of line.TooManyAddons words input handed cause e =
+    refused input cause.1.gave.bytes handed cause.1.gave.gave
     (inr (inr (record { script = cause.1.script; is_script = cause.1.gave.is_script; more = cause.1.more })))
-refused-of line.NoMemory words before after faults risen handed cause e = absurd (omega arith)
-refused-of line.ReadFault words before after faults risen handed cause e = absurd (omega arith)
-refused-of line.TooLong words before after faults risen handed cause e = absurd (omega arith)
+refused-of line.NoMemory words input handed cause e = absurd (omega arith)
+refused-of line.ReadFault words input handed cause e = absurd (omega arith)
+refused-of line.TooLong words input handed cause e = absurd (omega arith)
 
 -- where a fault of the source was counted, the line tells it
 pub fault-told : (l : Line) (faults risen : ℕ) → ((l ≡ line.ReadFault → ⊥) → risen ≡ faults) → (risen ≡ faults → ⊥) → line_status l ≡ 4

@@ -1,5 +1,5 @@
 -- What the top call does: the run that it leaves, the text that it writes, and the refusals that stand in place of a trace.
-use Rattle.std.specs.Prelude.{◌≡◌, ◌≤◌, ◌<◌, ◌^◌, ℕ, Bool, true, false, List, [], ◌∷◌, ◌++◌, length, drop, Option, Some, IfSome, IsTrue, ◌==◌, ◌⊎◌}
+use Rattle.std.specs.Prelude.{◌≡◌, ◌≤◌, ◌<◌, ◌^◌, ℕ, Bool, true, false, List, [], ◌∷◌, ◌++◌, length, map, drop, Some, IfSome, IsTrue, ◌==◌, ◌⊎◌}
 use Rattle.std.specs.List.{list_any}
 use Rattle.std.specs.Io.KnownBytes.{prepend_known, append_known, IsAtEnd}
 use Rattle.napi_types.specs.declared.call.Ask.{Ask}
@@ -26,6 +26,7 @@ use Rattle.addon_trait.specs.Addons.{seen_of}
 use Rattle.script_host.specs.Reading.{longest_source, GaveTooMany}
 use Rattle.env_loop.specs.Recording.{AgreesWhereTold}
 use Rattle.script_host.specs.Loading.{told_plans, setting_with}
+use Rattle.script_host.specs.Outside.{Input, Output}
 use Rattle.script_host.specs.Words.{is_run_words}
 use Rattle.std.specs.declared.result.Result.{Result}
 use Rattle.std.specs.declared.result.Result.TheVariants.{Ok}
@@ -72,6 +73,10 @@ pub record Handed : Type 0 where
   pub registers : List (List ℕ)
   pub seen : List (List DueInfo)
 
+-- the same of a list of addons, of which these tell the plan, the registers and what was seen
+abbrev pub handed_in : {A : Type 0} → (A → Plan) → (A → List ℕ) → (A → List DueInfo) → List A → Handed
+handed_in plan registers seen addons = record { plans = map plan addons; registers = map registers addons; seen = map seen addons }
+
 -- the script's addons were loaded and run, and the others handed in are as they were
 pub record Ran (script : Script) (handed : Handed) (left : Record) (after : Handed) : Type 0 where
   pub enough : length script.addons ≤ length handed.plans
@@ -113,74 +118,74 @@ pub record IsRunnable (bytes : List ℕ) (handed : ℕ) : Type 0 where
 
 -- THE INPUT
 -- the source gave these bytes and no more, up to its end
-pub record Gave (before after : Option (List ℕ)) (bytes : List ℕ) : Type 0 where
-  pub whole : before ≡ prepend_known bytes after
-  pub ended : IsAtEnd after
-  pub all : IfSome before (λ given. bytes ≡ given)
+pub record Gave (input : Input) (bytes : List ℕ) : Type 0 where
+  pub whole : input.before ≡ prepend_known bytes input.after
+  pub ended : IsAtEnd input.after
+  pub all : IfSome input.before (λ given. bytes ≡ given)
   pub within : length bytes ≤ longest_source
 
 -- the script that the source gave
-pub record GaveScript (before after : Option (List ℕ)) (script : Script) : Type 0 where
+pub record GaveScript (input : Input) (script : Script) : Type 0 where
   pub bytes : List ℕ
-  pub gave : Gave before after bytes
+  pub gave : Gave input bytes
   pub is_script : IsScript bytes script
 
 -- the source gave bytes that are no JSON text
-pub record GaveNoJson (before after : Option (List ℕ)) : Type 0 where
+pub record GaveNoJson (input : Input) : Type 0 where
   pub bytes : List ℕ
-  pub gave : Gave before after bytes
+  pub gave : Gave input bytes
   pub is_no_json : IsNoJson bytes
 
 -- the source gave a JSON text that is no script that can run, and this is the first thing that is wrong
-pub record GaveWrong (before after : Option (List ℕ)) (w : Wrong) : Type 0 where
+pub record GaveWrong (input : Input) (w : Wrong) : Type 0 where
   pub bytes : List ℕ
-  pub gave : Gave before after bytes
+  pub gave : Gave input bytes
   pub is_wrong : IsWrong bytes w
 
 -- the source gave a JSON text in which the part at this path has the wrong form, before anything else is wrong
-pub record GaveWrongShape (before after : Option (List ℕ)) (path : List ℕ) : Type 0 where
+pub record GaveWrongShape (input : Input) (path : List ℕ) : Type 0 where
   pub bytes : List ℕ
-  pub gave : Gave before after bytes
+  pub gave : Gave input bytes
   pub has_wrong_shape : HasWrongShape bytes path
 
 -- the source gave a script with more addons than were handed in
-pub record GaveTooManyAddons (before after : Option (List ℕ)) (handed : ℕ) : Type 0 where
+pub record GaveTooManyAddons (input : Input) (handed : ℕ) : Type 0 where
   pub script : Script
-  pub gave : GaveScript before after script
+  pub gave : GaveScript input script
   pub more : handed < length script.addons
 
 -- the source gave bytes that are refused
-pub record GaveRefused (before after : Option (List ℕ)) (handed : ℕ) : Type 0 where
+pub record GaveRefused (input : Input) (handed : ℕ) : Type 0 where
   pub bytes : List ℕ
-  pub gave : Gave before after bytes
+  pub gave : Gave input bytes
   pub is_refused : IsRefused bytes handed
 
 -- the source gave more bytes than a source may
-pub record GaveTooMuch (before after : Option (List ℕ)) : Type 0 where
-  pub more : GaveTooMany before after
-  pub told : IfSome before (λ given. longest_source < length given)
+pub record GaveTooMuch (input : Input) : Type 0 where
+  pub more : GaveTooMany input.before input.after
+  pub told : IfSome input.before (λ given. longest_source < length given)
 
 -- THE REFUSALS
 -- why a line stands in place of a trace
-abbrev pub Causes : Line → List (List ℕ) → Option (List ℕ) → Option (List ℕ) → ℕ → ℕ → ℕ → Type 0
-Causes line.Usage words before after faults faults_after handed = is_run_words words ≡ false
-Causes line.NotJson words before after faults faults_after handed = (is_run_words words ≡ true) × GaveNoJson before after
-Causes (line.Shape path) words before after faults faults_after handed = (is_run_words words ≡ true) × GaveWrongShape before after path
-Causes (line.Limit which) words before after faults faults_after handed = (is_run_words words ≡ true) × GaveWrong before after (wrong.Limit which)
-Causes line.Stage words before after faults faults_after handed = (is_run_words words ≡ true) × GaveWrong before after wrong.Stage
-Causes line.TooManyAddons words before after faults faults_after handed = (is_run_words words ≡ true) × GaveTooManyAddons before after handed
-Causes line.NoMemory words before after faults faults_after handed = is_run_words words ≡ true
-Causes line.ReadFault words before after faults faults_after handed = (is_run_words words ≡ true) × HasRisen faults faults_after
-Causes line.TooLong words before after faults faults_after handed = (is_run_words words ≡ true) × GaveTooMuch before after
+abbrev pub Causes : Line → List (List ℕ) → Input → ℕ → Type 0
+Causes line.Usage words input handed = is_run_words words ≡ false
+Causes line.NotJson words input handed = (is_run_words words ≡ true) × GaveNoJson input
+Causes (line.Shape path) words input handed = (is_run_words words ≡ true) × GaveWrongShape input path
+Causes (line.Limit which) words input handed = (is_run_words words ≡ true) × GaveWrong input (wrong.Limit which)
+Causes line.Stage words input handed = (is_run_words words ≡ true) × GaveWrong input wrong.Stage
+Causes line.TooManyAddons words input handed = (is_run_words words ≡ true) × GaveTooManyAddons input handed
+Causes line.NoMemory words input handed = is_run_words words ≡ true
+Causes line.ReadFault words input handed = (is_run_words words ≡ true) × HasRisen input.faults input.faults_after
+Causes line.TooLong words input handed = (is_run_words words ≡ true) × GaveTooMuch input
 
 -- the sink took the whole line, or its faults rose and it took a front of it
-abbrev pub WroteLine : Option (List ℕ) → ℕ → List ℕ → Option (List ℕ) → ℕ → Type 0
-WroteLine had faults line has faults_after = (has ≡ append_known had line) ⊎ (HasRisen faults faults_after × TookFront had line has)
+abbrev pub WroteLine : Output → List ℕ → Type 0
+WroteLine output line = (output.after ≡ append_known output.before line) ⊎ (HasRisen output.faults output.faults_after × TookFront output.before line output.after)
 
 -- the sink took the whole trace; or, where the trace was cut off, its faults rose and it took a front of the trace
-abbrev pub WroteTrace : Bool → Option (List ℕ) → ℕ → List ℕ → Option (List ℕ) → ℕ → Type 0
-WroteTrace true had faults trace has faults_after = has ≡ append_known had trace
-WroteTrace false had faults trace has faults_after = HasRisen faults faults_after × TookFront had trace has
+abbrev pub WroteTrace : Bool → Output → List ℕ → Type 0
+WroteTrace true output trace = output.after ≡ append_known output.before trace
+WroteTrace false output trace = HasRisen output.faults output.faults_after × TookFront output.before trace output.after
 
 -- whether a trace was written whole
 abbrev pub is_whole : {E : Type 0} → Result Written E → Bool
@@ -197,7 +202,7 @@ abbrev pub IsRunStatus : ℕ → Type 0
 IsRunStatus status = (status ≡ 0) ⊎ (status ≡ 5)
 
 -- the words are the command line, these are the source's bytes, and no read failed
-pub record IsRead (words : List (List ℕ)) (before : Option (List ℕ)) (faults faults_after : ℕ) (bytes : List ℕ) : Type 0 where
+pub record IsRead (words : List (List ℕ)) (input : Input) (bytes : List ℕ) : Type 0 where
   pub command : is_run_words words ≡ true
-  pub told : before ≡ Some bytes
-  pub readable : ¬ HasRisen faults faults_after
+  pub told : input.before ≡ Some bytes
+  pub readable : ¬ HasRisen input.faults input.faults_after

@@ -1,6 +1,7 @@
 pub mod Host
 pub mod HostLaws
 pub mod Loading
+pub mod Outside
 pub mod Reading
 pub mod Standard
 pub mod Words

@@ -1,9 +1,9 @@
 //! The top call.
-ghost use Rattle.std.specs.Prelude.{◌≡◌, ◌≢◌, ◌≤◌, ◌<◌, ◌^◌, ℕ, ◌↔◌, ◌==◌, List, length, map, true, false, IfOk, OnOk, OnErr, IfErr, ◌⊎◌};
-ghost use Rattle.std.specs.Io.KnownBytes.{append_known};
-ghost use Rattle.napi_types.specs.plain.Edge.{HasRisen, TookFront};
-ghost use Rattle.script_host.specs.Host.{Handed, Ran, IsSmall, trace_of, WroteTrace, is_whole, IsStatus, IsRunStatus};
+ghost use Rattle.std.specs.Prelude.{◌≡◌, ◌≢◌, ◌≤◌, ◌<◌, ◌^◌, ℕ, ◌↔◌, ◌==◌, List, length, true, false, IfOk, OnOk, OnErr, IfErr, ◌⊎◌};
+ghost use Rattle.napi_types.specs.plain.Edge.{HasRisen};
+ghost use Rattle.script_host.specs.Host.{handed_in, Ran, IsSmall, trace_of, WroteTrace, is_whole, IsStatus, IsRunStatus};
 ghost use Rattle.script_host.specs.Host.{GaveScript, GaveRefused, GaveTooMuch, Causes, WroteLine, IsRead, IsTooLong, IsRefused, IsRunnable};
+ghost use Rattle.script_host.specs.Outside.{input_of, output_of};
 ghost use Rattle.script_host.specs.Reading.{GaveFront};
 ghost use Rattle.script_host.specs.Words.{is_run_words, line_text, line_status};
 
@@ -32,7 +32,8 @@ enum Written {
 /// Writes a line in place of a trace, and answers its status.
 fn refuse<K: Sink>(sink: &mut K, line: Line) -> u8
     ensures status { result ≡ line_status line }
-    ensures line { WroteLine (K.taken sink.old) (K.faults sink.old) (line_text line) (K.taken sink.new) (K.faults sink.new) }
+    ensures line { let output = output_of K.taken K.faults sink.old sink.new in
+        WroteLine output (line_text line) }
     ensures faults { K.faults sink.old ≤ K.faults sink.new }
 {
     let _ = line.write(sink);
@@ -55,10 +56,11 @@ fn counted(script: Script) -> Result<Script, Line>
 /// The script that the source gives, where the words are the command line.
 fn script_of<S: Source>(alloc: Global, words: &[Text], source: &mut S) -> Result<Script, Line>
     ensures words { OnOk result (is_run_words words.now ≡ true) }
-    ensures ok { IfOk result (λ script. GaveScript (S.left source.old) (S.left source.new) script) }
+    ensures ok { let input = input_of S.left S.faults source.old source.new in
+        IfOk result (λ script. GaveScript input script) }
     ensures small { IfOk result IsSmall }
-    ensures err { IfErr result (λ line. (handed : ℕ) →
-        Causes line words.now (S.left source.old) (S.left source.new) (S.faults source.old) (S.faults source.new) handed) }
+    ensures err { let input = input_of S.left S.faults source.old source.new in
+        IfErr result (λ line. (handed : ℕ) → Causes line words.now input handed) }
     ensures unread { is_run_words words.now ≡ false → S.left source.new ≡ S.left source.old }
     ensures uncounted { is_run_words words.now ≡ false → S.faults source.new ≡ S.faults source.old }
     ensures counted { result ≢ Err Line.ReadFault → S.faults source.new ≡ S.faults source.old }
@@ -93,20 +95,11 @@ fn perform<K: Sink>(
     left: &mut Record,
 ) -> Result<Written, Line>
     requires { IsSmall script }
-    ensures ran { let before : Handed = record {
-      plans = map (λ b. plan b) addons.old.items;
-      registers = map (λ b. regs b) addons.old.items;
-      seen = map (λ b. seen b) addons.old.items;
-    } in
-        let after : Handed = record {
-          plans = map (λ b. plan b) addons.new.items;
-          registers = map (λ b. regs b) addons.new.items;
-          seen = map (λ b. seen b) addons.new.items;
-        } in
+    ensures ran { let before = handed_in (λ b. plan b) (λ b. regs b) (λ b. seen b) addons.old.items in
+        let after = handed_in (λ b. plan b) (λ b. regs b) (λ b. seen b) addons.new.items in
         OnOk result (Ran script before left.new after) }
-    ensures whole { result ≡ Ok Written.Whole → K.taken sink.new ≡ append_known (K.taken sink.old) (trace_of script left.new) }
-    ensures cut { result ≡ Ok Written.Cut → TookFront (K.taken sink.old) (trace_of script left.new) (K.taken sink.new) }
-    ensures fault { result ≡ Ok Written.Cut → HasRisen (K.faults sink.old) (K.faults sink.new) }
+    ensures wrote { let output = output_of K.taken K.faults sink.old sink.new in
+        OnOk result (WroteTrace (is_whole result) output (trace_of script left.new)) }
     ensures counted { result ≡ Ok Written.Whole → K.faults sink.new ≡ K.faults sink.old }
     ensures err { IfErr result (λ line. (line ≡ Line.NoMemory) ⊎ ((line ≡ Line.TooManyAddons) × (length addons.old.items < length script.addons))) }
     ensures sink { OnErr result (K.taken sink.new ≡ K.taken sink.old) }
@@ -146,21 +139,14 @@ fn attempt<S: Source, K: Sink>(
     left: &mut Record,
 ) -> Result<Written, Line>
     ensures words { OnOk result (is_run_words words.now ≡ true) }
-    ensures ran { let before : Handed = record {
-      plans = map (λ b. plan b) addons.old.items;
-      registers = map (λ b. regs b) addons.old.items;
-      seen = map (λ b. seen b) addons.old.items;
-    } in
-        let after : Handed = record {
-          plans = map (λ b. plan b) addons.new.items;
-          registers = map (λ b. regs b) addons.new.items;
-          seen = map (λ b. seen b) addons.new.items;
-        } in
-        OnOk result ((script : Script) × GaveScript (S.left source.old) (S.left source.new) script
-        × Ran script before left.new after
-        × WroteTrace (is_whole result) (K.taken sink.old) (K.faults sink.old) (trace_of script left.new) (K.taken sink.new) (K.faults sink.new)) }
-    ensures err { IfErr result (λ line.
-        Causes line words.now (S.left source.old) (S.left source.new) (S.faults source.old) (S.faults source.new) (length addons.old.items)) }
+    ensures ran { let input = input_of S.left S.faults source.old source.new in
+        let output = output_of K.taken K.faults sink.old sink.new in
+        let before = handed_in (λ b. plan b) (λ b. regs b) (λ b. seen b) addons.old.items in
+        let after = handed_in (λ b. plan b) (λ b. regs b) (λ b. seen b) addons.new.items in
+        OnOk result ((script : Script) × GaveScript input script
+        × Ran script before left.new after × WroteTrace (is_whole result) output (trace_of script left.new)) }
+    ensures err { let input = input_of S.left S.faults source.old source.new in
+        IfErr result (λ line. Causes line words.now input (length addons.old.items)) }
     ensures sink { OnErr result (K.taken sink.new ≡ K.taken sink.old) }
     ensures left { OnErr result (left.new ≡ left.old) }
     ensures addons { OnErr result (addons.new.items ≡ addons.old.items) }
@@ -202,45 +188,41 @@ pub fn host<R: Threads + Wait + Sync, S: Source, K: Sink, G: Gate>(
     // reached. Each finalizer and hook that no call of its own withdrew began exactly once, hooks in the reverse of the order of adding, and
     // what was left to the end in the order of registration. Each addon has seen, after what it had seen before, what began of its. The sink
     // took the run's text.
-    ensures ran { let before : Handed = record {
-      plans = map (λ b. plan b) addons.old.items;
-      registers = map (λ b. regs b) addons.old.items;
-      seen = map (λ b. seen b) addons.old.items;
-    } in
-        let after : Handed = record {
-          plans = map (λ b. plan b) addons.new.items;
-          registers = map (λ b. regs b) addons.new.items;
-          seen = map (λ b. seen b) addons.new.items;
-        } in
-        IsRunStatus result → (script : Script) × GaveScript (S.left source.old) (S.left source.new) script
-        × Ran script before left.new after
-        × WroteTrace (result == 0) (K.taken sink.old) (K.faults sink.old) (trace_of script left.new) (K.taken sink.new) (K.faults sink.new) }
+    ensures ran { let input = input_of S.left S.faults source.old source.new in
+        let output = output_of K.taken K.faults sink.old sink.new in
+        let before = handed_in (λ b. plan b) (λ b. regs b) (λ b. seen b) addons.old.items in
+        let after = handed_in (λ b. plan b) (λ b. regs b) (λ b. seen b) addons.new.items in
+        IsRunStatus result → (script : Script) × GaveScript input script
+        × Ran script before left.new after × WroteTrace (result == 0) output (trace_of script left.new) }
 
     // At every other status a line has its cause, and stands in place of the trace.
-    ensures refused { ¬ IsRunStatus result → (line : Line) × (result ≡ line_status line)
-        × Causes line words.now (S.left source.old) (S.left source.new) (S.faults source.old) (S.faults source.new) (length addons.old.items)
-        × WroteLine (K.taken sink.old) (K.faults sink.old) (line_text line) (K.taken sink.new) (K.faults sink.new) }
+    ensures refused { let input = input_of S.left S.faults source.old source.new in
+        let output = output_of K.taken K.faults sink.old sink.new in
+        ¬ IsRunStatus result → (line : Line) × (result ≡ line_status line)
+        × Causes line words.now input (length addons.old.items) × WroteLine output (line_text line) }
     ensures left { ¬ IsRunStatus result → left.new ≡ left.old }
     ensures addons { ¬ IsRunStatus result → addons.new.items ≡ addons.old.items }
 
     // The same, status by status.
     ensures usage { (result ≡ 2) ↔ (is_run_words words.now ≡ false) }
-    ensures no_script { result ≡ 3 → GaveRefused (S.left source.old) (S.left source.new) (length addons.old.items) }
+    ensures no_script { let input = input_of S.left S.faults source.old source.new in
+        result ≡ 3 → GaveRefused input (length addons.old.items) }
     ensures read_fault { result ≡ 4 → HasRisen (S.faults source.old) (S.faults source.new) }
     ensures write_fault { result ≡ 5 → HasRisen (K.faults sink.old) (K.faults sink.new) }
-    ensures too_long { result ≡ 7 → GaveTooMuch (S.left source.old) (S.left source.new) }
+    ensures too_long { let input = input_of S.left S.faults source.old source.new in
+        result ≡ 7 → GaveTooMuch input }
 
     // Each fault is told: of a read always, of a write where a trace was written.
     ensures read_fault_told { S.faults source.new ≢ S.faults source.old → result ≡ 4 }
     ensures write_fault_told { IsRunStatus result → K.faults sink.new ≢ K.faults sink.old → result ≡ 5 }
 
     // Where no read failed, the bytes that the source has say the status, or there was no memory: 7, else 3, else 0 or 5.
-    ensures too_long_told { (bytes : List ℕ) → IsRead words.now (S.left source.old) (S.faults source.old) (S.faults source.new) bytes
-        → IsTooLong bytes → (result ≡ 7) ⊎ (result ≡ 6) }
-    ensures refused_told { (bytes : List ℕ) → IsRead words.now (S.left source.old) (S.faults source.old) (S.faults source.new) bytes
-        → IsRefused bytes (length addons.old.items) → (result ≡ 3) ⊎ (result ≡ 6) }
-    ensures complete { (bytes : List ℕ) → IsRead words.now (S.left source.old) (S.faults source.old) (S.faults source.new) bytes
-        → IsRunnable bytes (length addons.old.items) → IsRunStatus result ⊎ (result ≡ 6) }
+    ensures too_long_told { let input = input_of S.left S.faults source.old source.new in
+        (bytes : List ℕ) → IsRead words.now input bytes → IsTooLong bytes → (result ≡ 7) ⊎ (result ≡ 6) }
+    ensures refused_told { let input = input_of S.left S.faults source.old source.new in
+        (bytes : List ℕ) → IsRead words.now input bytes → IsRefused bytes (length addons.old.items) → (result ≡ 3) ⊎ (result ≡ 6) }
+    ensures complete { let input = input_of S.left S.faults source.old source.new in
+        (bytes : List ℕ) → IsRead words.now input bytes → IsRunnable bytes (length addons.old.items) → IsRunStatus result ⊎ (result ≡ 6) }
 
     // Nothing is read where the words are no command line, and else no more than a front of what the source has left.
     ensures unread { is_run_words words.now ≡ false → S.left source.new ≡ S.left source.old }
