@@ -4,12 +4,9 @@ ghost use Rattle.napi_types.specs.plain.Lists.{head, tail};
 ghost use Rattle.napi_types.specs.parts.Frames.{most_frames, ask_counted, asks_made, most_asks};
 ghost use Rattle.env_core.specs.Standing.{machine_frame};
 
-use napi_types::{Cause, Duty, NoMemory};
+use napi_types::{Cause, Duty, MOST_FRAMES, NoMemory};
 use std::alloc::Global;
 use std::marker::Model;
-
-/// How many frames may stand, the outermost counted.
-pub const MOST_FRAMES: u32 = 64;
 
 /// A frame: why it began, which entry of which addon it runs, the duty that began it where one did, and how many asks it made.
 /// Its scopes stand beside it.

@@ -13,11 +13,8 @@ ghost use Rattle.env_loop.specs.Turns.{turn_of, IsTold, IsTurn};
 
 use addon_trait::{Addon, ask_at, begin_at, enter_at, note_at};
 use env_core::{EnvCore, StandingFrame, Stepped};
-use napi_types::{Ask, Begun, Call, Duty, HandleId, Phase, Status, Why};
+use napi_types::{Ask, Begun, Call, Duty, HandleId, MOST_ASKS, Phase, Status, Why};
 use std::mem;
-
-/// How many asks a frame may make.
-const MOST_ASKS: u32 = 65536;
 
 /// What a turn of the environment comes to.
 #[derive(Clone, Copy, Debug, PartialEq, Eq)]

@@ -10,12 +10,9 @@ ghost use Rattle.napi_types.specs.parts.Scopes.{gives, value_in, opened_scopes};
 ghost use Rattle.handle_scope.specs.HandleScopes.{no_scopes, with_frame_scopes, with_call_scopes, without_frame_scopes, without_call_scopes, with_open_scope, without_innermost_scope, with_reserved_place, with_issued_handle, with_escaped_handle, handle_places, is_fresh_scope};
 ghost use Rattle.handle_scope.specs.Marks.{Rises, AreAtMost, AreStartsWithin, ArePlaced, IsTracked, IsEscapable, held_of, scopes_above, places_marked, all_waiting, waiting_value, place_left, with_spare};
 
-use napi_types::{HandleId, NoMemory, ScopeId, ScopeKind, Status, ValueId};
+use napi_types::{HandleId, MOST_FRAMES, NoMemory, ScopeId, ScopeKind, Status, ValueId};
 use std::alloc::Global;
 use std::marker::Model;
-
-/// How many frames may stand.
-const MOST_FRAMES: usize = 64;
 
 /// A handle that an open scope holds, and its value.
 #[derive(Clone, Copy)]
@@ -99,7 +96,7 @@ impl Scopes {
     pub fn new(alloc: Global) -> Result<Scopes, NoMemory>
         ensures { IfOk result (λ scopes. scopes ≡ no_scopes) }
     {
-        let frames = Vec::with_capacity(alloc, MOST_FRAMES)?;
+        let frames = Vec::with_capacity(alloc, MOST_FRAMES as usize)?;
         Ok(Scopes {
             held: Vec::new(alloc),
             scopes: Vec::new(alloc),

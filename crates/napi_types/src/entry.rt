@@ -195,6 +195,12 @@ pub enum Phase {
     Gone,
 }
 
+/// How many frames may stand, the outermost counted: `most_frames` of the definitions.
+pub const MOST_FRAMES: u32 = 64;
+
+/// How many asks a frame may make: `most_asks` of the definitions.
+pub const MOST_ASKS: u32 = 65536;
+
 /// How many entries the journal and the history may have, reserved places included.
 #[derive(Clone, Copy, Debug, PartialEq, Eq)]
 pub struct Limits {

@@ -26,8 +26,8 @@ pub use call::{Args, Ask, Call, JobSpec, Mode, Release};
 pub use duties::{Begun, Due, DueInfo, SeenList, Slip};
 pub use edge::{Gate, MemSink, MemSource, OpenGate, SafeSink, SafeSource, Sink, Source};
 pub use entry::{
-    Actor, Cause, Duty, Entry, Failed, Given, HostStep, Limits, Local, LoopEnd, NoMemory, Out,
-    Phase, Reply, SharedCall, Target, TsfnState, What, Why,
+    Actor, Cause, Duty, Entry, Failed, Given, HostStep, Limits, Local, LoopEnd, MOST_ASKS,
+    MOST_FRAMES, NoMemory, Out, Phase, Reply, SharedCall, Target, TsfnState, What, Why,
 };
 pub use ids::{HandleId, RefId, ScopeId, ScopeKind, TextNo, Ticket, TsfnId, ValueId, WorkId};
 pub use lists::{Actors, AddonPlan, EntryList, Listed, LocalList, OpList, OpLists, Plans, Record};

@@ -17,13 +17,13 @@ ghost use Rattle.env_values.specs.Seen.{HoldsLive};
 ghost use Rattle.env_core.specs.State.{CallsFunction, EntersCall, BeginsScopes, SameScopes};
 
 use super::{State, host_entry};
-use crate::frames::{MOST_FRAMES, StandingFrame};
+use crate::frames::StandingFrame;
 use crate::handles::body_of;
 use env_values::thrown_value;
 use handle_scope::Scopes;
 use napi_types::{
-    Args, Body, Call, Cause, Entry, HandleId, HostStep, NoMemory, Out, Reply, Status, Target,
-    TextNo,
+    Args, Body, Call, Cause, Entry, HandleId, HostStep, MOST_FRAMES, NoMemory, Out, Reply, Status,
+    Target, TextNo,
 };
 use value_store::Store;
 
