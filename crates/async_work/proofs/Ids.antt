@@ -7,23 +7,23 @@ use Rattle.std.proofs.lemmas.List.{length-set, length-map, map-set}
 use Rattle.std.proofs.lemmas.Option.{slice_get-get_or}
 use Rattle.napi_types.specs.declared.call.JobSpec.{JobSpec}
 use Rattle.napi_types.specs.plain.Lists.{found, has_number, with_record, with_number, up_to}
-use Rattle.napi_types.specs.parts.Works.{Work, is_number, has_work_number}
+use Rattle.napi_types.specs.parts.Works.{Work, is_this_number, has_work_number}
 use Rattle.napi_types.proofs.plain.Found.{same-self, same-tells, apart-above, turned}
 use Rattle.napi_types.proofs.plain.Issued.{above-up_to, up_to-more}
 use Rattle.napi_types.specs.plain.Counted.{element}
-use Rattle.async_work.specs.declared.place.Place.{Place}
+use Rattle.async_work.specs.declared.place.WorkPlace.{WorkPlace}
 use Rattle.async_work.specs.declared.place.Standing.{Standing}
 use Rattle.async_work.specs.declared.place.Standing.TheVariants as standing
-use Rattle.async_work.specs.Places.{Placed, standing_number, place_seen, places_seen, place_at, with_place_number, work_of, listed_work, works_of}
+use Rattle.async_work.specs.WorkPlaces.{Placed, standing_number, place_seen, places_seen, place_at, with_place_number, work_of, listed_work, works_of}
 use Rattle.napi_types.proofs.plain.Counted.{element-within, element-set, element-push, element-map, listed-All, found-listed, listed-more, listed-without, listed-changed}
-use Rattle.async_work.proofs.Counting.{find-only}
+use Rattle.async_work.proofs.CountingWorks.{find-only}
 
 pub seen_of : {X Y : Type 0} (f : X → Y) (o : Option (Bor X)) → option_map (λ p. f p.now) o ≡ option_map f (option_copied o)
 seen_of f None = refl
 seen_of f (Some p) = refl
 
 -- what is read at a place is the work of its id
-pub place_at-read : {J : Type 0} (spec : J → JobSpec) (places : List (Option (Place J))) (id at : ℕ) (place : Option (Place J)) → 1 ≤ id → at ≡ id - 1
+pub place_at-read : {J : Type 0} (spec : J → JobSpec) (places : List (Option (WorkPlace J))) (id at : ℕ) (place : Option (WorkPlace J)) → 1 ≤ id → at ≡ id - 1
     → true ≡ nat_lt at (length places) → place ≡ get_or places at place
     → place_at (places_seen spec places) id ≡ option_map (place_seen spec) place
 place_at-read spec places zero at place above is within here = absurd (omega arith)
@@ -115,7 +115,7 @@ numbered-work places id n p is number only =
     ∙ ap (option_map (work_of id)) is) (rw number (same-self n))
     (listed-All listed_work (λ w. has_work_number n w ≡ true → w.id ≡ id) 1 places alone)
   where
-    number-is : (o : Option ℕ) → is_number n o ≡ true → o ≡ Some n
+    number-is : (o : Option ℕ) → is_this_number n o ≡ true → o ≡ Some n
     number-is None told = let no : ⊥ = cc in absurd no
     number-is (Some m) told = ap (λ k. Some k) (same-tells m n told)
 
@@ -137,7 +137,7 @@ unnumbered spec (standing.Created job slip) never = refl
 unnumbered spec (standing.Numbered n) never = absurd (never n refl)
 
 -- the work that is read at the place of an id is the one of that id
-pub place-read : {J : Type 0} (spec : J → JobSpec) (places : List (Option (Place J))) (id : ℕ) (x : Option (Place J)) (p : Placed)
+pub place-read : {J : Type 0} (spec : J → JobSpec) (places : List (Option (WorkPlace J))) (id : ℕ) (x : Option (WorkPlace J)) (p : Placed)
     → place_at (places_seen spec places) id ≡ Some p → x ≡ get_or places (id - 1) x → option_map (place_seen spec) x ≡ Some p
 place-read spec places id x p is here = by id refl is
   where
@@ -160,12 +160,12 @@ place-read spec places id x p is here = by id refl is
         one : (a b : Option Placed) → Some a ≡ Some b → a ≡ b
         one a b h = cc
 
-pub places-set : {J : Type 0} (spec : J → JobSpec) (places : List (Option (Place J))) (at : ℕ) (x : Option (Place J)) (place : Option Placed)
+pub places-set : {J : Type 0} (spec : J → JobSpec) (places : List (Option (WorkPlace J))) (at : ℕ) (x : Option (WorkPlace J)) (place : Option Placed)
     → option_map (place_seen spec) x ≡ place
     → places_seen spec (set places at x) ≡ set (places_seen spec places) at place
 places-set spec places at x place is = map-set (option_map (place_seen spec)) places at x ∙ ap (set (places_seen spec places) at) is
 
-pub place-bounds : {J : Type 0} (spec : J → JobSpec) (places : List (Option (Place J))) (id : ℕ) (p : Placed)
+pub place-bounds : {J : Type 0} (spec : J → JobSpec) (places : List (Option (WorkPlace J))) (id : ℕ) (p : Placed)
     → place_at (places_seen spec places) id ≡ Some p → (1 ≤ id) × (id ≤ length places)
 place-bounds spec places id p is =
     let within = element-within (places_seen spec places) id (Some p) (element-place (places_seen spec places) id p is) in

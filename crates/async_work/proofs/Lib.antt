@@ -1,9 +1,9 @@
-pub mod Counting
+pub mod CountingWorks
 pub mod Draining
-pub mod Executions
 pub mod Ids
-pub mod Keeping
+pub mod KeepingPools
 pub mod Linking
+pub mod PoolExecutions
 pub mod Queueing
-pub mod Standing
+pub mod StandingWorks
 pub mod Viewing

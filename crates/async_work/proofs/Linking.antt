@@ -7,9 +7,9 @@ use Rattle.std.proofs.lemmas.List.Elements.{All-append, All-cons, All-nil, All-h
 use Rattle.napi_types.specs.declared.call.JobSpec.{JobSpec}
 use Rattle.napi_types.proofs.plain.Found.{same-self, same-tells, apart-above}
 use Rattle.napi_types.specs.plain.Counted.{element}
-use Rattle.async_work.specs.Places.{Placed, place_at, with_place_number}
-use Rattle.async_work.specs.Line.{LineStage, Waits, Runs, Ended, Done, InLine, CameOut, waiting_job, has_ended, is_done, with_stage, entry_at, stage_at, id_at, ended_at}
-use Rattle.async_work.specs.Kept.{Stands, spec_at, IsTold, AreLinked, CameOutOnce}
+use Rattle.async_work.specs.WorkPlaces.{Placed, place_at, with_place_number}
+use Rattle.async_work.specs.Line.{LineStage, Waits, Runs, Ended, Done, InLine, CameOut, waiting_job, has_ended, is_done_in_line, with_stage, line_work_at, line_stage_at, line_id_at, ended_at}
+use Rattle.async_work.specs.KeptPool.{StandsInLine, spec_at, KeepsJob, AreLinked, CameOutOnce}
 use Rattle.napi_types.proofs.plain.Counted.{element-within}
 use Rattle.async_work.proofs.Ids.{Replaced, place_at-push}
 use Rattle.async_work.proofs.Queueing.{Restaged, stage-restaged, id-restaged, entry-push, stage-push, stage-past}
@@ -50,22 +50,22 @@ place_at-old places place id p is =
     let within = place-within places id p is in
     place_at-push places place id ∙ ap (λ b. cond b place (place_at places id)) (apart-above id (length places + 1) (omega (arith, within.1))) ∙ is
 
-pub entry-old : (line : List InLine) (e x : InLine) (n : ℕ) → entry_at line n ≡ Some x → entry_at (line ++ e ∷ []) n ≡ Some x
+pub entry-old : (line : List InLine) (e x : InLine) (n : ℕ) → line_work_at line n ≡ Some x → line_work_at (line ++ e ∷ []) n ≡ Some x
 entry-old line e x n is =
     let within = element-within line n x is in
-    entry-push line e n ∙ ap (λ b. cond b (Some e) (entry_at line n)) (apart-above n (length line + 1) (omega (arith, within.1))) ∙ is
+    entry-push line e n ∙ ap (λ b. cond b (Some e) (line_work_at line n)) (apart-above n (length line + 1) (omega (arith, within.1))) ∙ is
 
-id-entry : (line : List InLine) (n i : ℕ) → id_at line n ≡ Some i → (e : InLine) × (entry_at line n ≡ Some e) × (e.id ≡ i)
-id-entry line n i is = by (entry_at line n) refl is
+id-entry : (line : List InLine) (n i : ℕ) → line_id_at line n ≡ Some i → (e : InLine) × (line_work_at line n ≡ Some e) × (e.id ≡ i)
+id-entry line n i is = by (line_work_at line n) refl is
   where
-    by : (o : Option InLine) → entry_at line n ≡ o → option_map (λ (e : InLine). e.id) o ≡ Some i → (e : InLine) × (entry_at line n ≡ Some e) × (e.id ≡ i)
+    by : (o : Option InLine) → line_work_at line n ≡ o → option_map (λ (e : InLine). e.id) o ≡ Some i → (e : InLine) × (line_work_at line n ≡ Some e) × (e.id ≡ i)
     by None at told = let no : ⊥ = cc in absurd no
     by (Some e) at told = (e, at, same-some e.id i told)
 
-id-old : (line : List InLine) (e : InLine) (n i : ℕ) → id_at line n ≡ Some i → id_at (line ++ e ∷ []) n ≡ Some i
+id-old : (line : List InLine) (e : InLine) (n i : ℕ) → line_id_at line n ≡ Some i → line_id_at (line ++ e ∷ []) n ≡ Some i
 id-old line e n i is = let x = id-entry line n i is in ap (option_map (λ (y : InLine). y.id)) (entry-old line e x.0 n x.1) ∙ ap (λ k. Some k) x.2
 
-pub stage-of : (line : List InLine) (n : ℕ) (e : InLine) → entry_at line n ≡ Some e → stage_at line n ≡ e.stage
+pub stage-of : (line : List InLine) (n : ℕ) (e : InLine) → line_work_at line n ≡ Some e → line_stage_at line n ≡ e.stage
 stage-of line n e is = ap (λ o. option_map_or (λ (x : InLine). x.stage) o Done) is
 
 -- A WORK IS CREATED
@@ -77,21 +77,21 @@ linked-created places line p linked none held = record {
   placed = λ n e is unfinished. stands n e (linked.placed n e is unfinished);
 }
   where
-    named : (id : ℕ) (q : Placed) (b : Bool) → cond b (Some p) (place_at places id) ≡ Some q → IfSome q.number (λ n. id_at line n ≡ Some id)
-    named id q true told = if-none (λ n. id_at line n ≡ Some id) q.number (ap (λ (r : Placed). r.number) (sym (same-some p q told)) ∙ none)
+    named : (id : ℕ) (q : Placed) (b : Bool) → cond b (Some p) (place_at places id) ≡ Some q → IfSome q.number (λ n. line_id_at line n ≡ Some id)
+    named id q true told = if-none (λ n. line_id_at line n ≡ Some id) q.number (ap (λ (r : Placed). r.number) (sym (same-some p q told)) ∙ none)
     named id q false told = linked.named id q told
 
     keeps : (id : ℕ) (q : Placed) (b : Bool) → cond b (Some p) (place_at places id) ≡ Some q → q.number ≡ None → q.job ≡ Some q.spec
     keeps id q true told empty = let same : p ≡ q = same-some p q told in subst (λ (r : Placed). r.job ≡ Some r.spec) same held
     keeps id q false told empty = linked.held id q told empty
 
-    stands : (n : ℕ) (e : InLine) → Stands places n e → Stands (places ++ Some p ∷ []) n e
+    stands : (n : ℕ) (e : InLine) → StandsInLine places n e → StandsInLine (places ++ Some p ∷ []) n e
     stands n e old = record { place = old.place; there = place_at-old places (Some p) e.id old.place old.there; numbered = old.numbered; job = old.job }
 
 -- A WORK IS DELETED
 pub linked-deleted : (places others : List (Option Placed)) (line : List InLine) (id : ℕ) (p : Placed) → AreLinked places line
     → place_at places id ≡ Some p → Replaced places others id None
-    → ((n : ℕ) → p.number ≡ Some n → is_done (stage_at line n) ≡ true) → AreLinked others line
+    → ((n : ℕ) → p.number ≡ Some n → is_done_in_line (line_stage_at line n) ≡ true) → AreLinked others line
 linked-deleted places others line id p linked is change done = record {
   named = λ m q told. linked.named m q (before m q (id == m) (sym (change.at m) ∙ told));
   held = λ m q told. linked.held m q (before m q (id == m) (sym (change.at m) ∙ told));
@@ -102,7 +102,7 @@ linked-deleted places others line id p linked is change done = record {
     before m q true told = let no : ⊥ = cc in absurd no
     before m q false told = told
 
-    stands : (n : ℕ) (e : InLine) → entry_at line n ≡ Some e → is_done e.stage ≡ false → Stands places n e → Stands others n e
+    stands : (n : ℕ) (e : InLine) → line_work_at line n ≡ Some e → is_done_in_line e.stage ≡ false → StandsInLine places n e → StandsInLine others n e
     stands n e at unfinished old = record {
       place = old.place;
       there = change.at e.id ∙ ap (λ b. cond b None (place_at places e.id)) (apart-of id e.id other) ∙ old.there;
@@ -114,7 +114,7 @@ linked-deleted places others line id p linked is change done = record {
         other same =
             let one : p ≡ old.place = same-some p old.place (sym is ∙ ap (place_at places) same ∙ old.there) in
             let its : p.number ≡ Some n = ap (λ (r : Placed). r.number) one ∙ old.numbered in
-            let over : is_done e.stage ≡ true = ap is_done (sym (stage-of line n e at)) ∙ done n its in
+            let over : is_done_in_line e.stage ≡ true = ap is_done_in_line (sym (stage-of line n e at)) ∙ done n its in
             cc
 
 -- A WORK IS QUEUED
@@ -127,16 +127,16 @@ linked-queued places others line id n p e linked new is none change its waits_fo
   placed = λ m x at unfinished. placed m x unfinished (length line + 1 == m) refl (sym (entry-push line e m) ∙ at);
 }
   where
-    here : id_at (line ++ e ∷ []) n ≡ Some id
-    here = ap (option_map (λ (x : InLine). x.id)) (entry-push line e n ∙ ap (λ b. cond b (Some e) (entry_at line n)) (ap (λ k. length line + 1 == k) new
+    here : line_id_at (line ++ e ∷ []) n ≡ Some id
+    here = ap (option_map (λ (x : InLine). x.id)) (entry-push line e n ∙ ap (λ b. cond b (Some e) (line_work_at line n)) (ap (λ k. length line + 1 == k) new
         ∙ same-self (length line + 1))) ∙ ap (λ k. Some k) its
 
     named : (m : ℕ) (q : Placed) (b : Bool) → (id == m) ≡ b → cond b (Some (with_place_number n p)) (place_at places m) ≡ Some q
-        → IfSome q.number (λ k. id_at (line ++ e ∷ []) k ≡ Some m)
+        → IfSome q.number (λ k. line_id_at (line ++ e ∷ []) k ≡ Some m)
     named m q true same told =
         let one : with_place_number n p ≡ q = same-some (with_place_number n p) q told in
-        subst (λ (r : Placed). IfSome r.number (λ k. id_at (line ++ e ∷ []) k ≡ Some m)) one (here ∙ ap (λ k. Some k) (same-tells id m same))
-    named m q false same told = if-more (λ k. id_at line k ≡ Some m) (λ k. id_at (line ++ e ∷ []) k ≡ Some m) q.number (λ k old. id-old line e k m old)
+        subst (λ (r : Placed). IfSome r.number (λ k. line_id_at (line ++ e ∷ []) k ≡ Some m)) one (here ∙ ap (λ k. Some k) (same-tells id m same))
+    named m q false same told = if-more (λ k. line_id_at line k ≡ Some m) (λ k. line_id_at (line ++ e ∷ []) k ≡ Some m) q.number (λ k old. id-old line e k m old)
         (linked.named m q told)
 
     keeps : (m : ℕ) (q : Placed) (b : Bool) → cond b (Some (with_place_number n p)) (place_at places m) ≡ Some q → q.number ≡ None → q.job ≡ Some q.spec
@@ -145,9 +145,9 @@ linked-queued places others line id n p e linked new is none change its waits_fo
         let no : ⊥ = let number : Some n ≡ None = ap (λ (r : Placed). r.number) one ∙ empty in cc in absurd no
     keeps m q false told empty = linked.held m q told empty
 
-    placed : (m : ℕ) (x : InLine) → is_done x.stage ≡ false → (b : Bool) → (length line + 1 == m) ≡ b → cond b (Some e) (entry_at line m) ≡ Some x
-        → Stands others m x
-    placed m x unfinished true same told = subst (λ (y : InLine). Stands others m y) (same-some e x told) (record {
+    placed : (m : ℕ) (x : InLine) → is_done_in_line x.stage ≡ false → (b : Bool) → (length line + 1 == m) ≡ b → cond b (Some e) (line_work_at line m) ≡ Some x
+        → StandsInLine others m x
+    placed m x unfinished true same told = subst (λ (y : InLine). StandsInLine others m y) (same-some e x told) (record {
       place = with_place_number n p;
       there = change.at e.id ∙ ap (λ b. cond b (Some (with_place_number n p)) (place_at places e.id)) (ap (λ k. id == k) its ∙ same-self id);
       numbered = ap (λ k. Some k) (new ∙ same-tells (length line + 1) m same);
@@ -155,13 +155,13 @@ linked-queued places others line id n p e linked new is none change its waits_fo
     })
     placed m x unfinished false same told = stands (linked.placed m x told unfinished)
       where
-        other : (old : Stands places m x) → id ≡ x.id → ⊥
+        other : (old : StandsInLine places m x) → id ≡ x.id → ⊥
         other old one =
             let first : p ≡ old.place = same-some p old.place (sym is ∙ ap (place_at places) one ∙ old.there) in
             let no : None ≡ Some m = sym none ∙ ap (λ (r : Placed). r.number) first ∙ old.numbered in
             cc
 
-        stands : Stands places m x → Stands others m x
+        stands : StandsInLine places m x → StandsInLine others m x
         stands old = record {
           place = old.place;
           there = change.at x.id ∙ ap (λ b. cond b (Some (with_place_number n p)) (place_at places x.id)) (apart-of id x.id (other old)) ∙ old.there;
@@ -172,21 +172,21 @@ linked-queued places others line id n p e linked new is none change its waits_fo
 -- A WORK COMES FURTHER
 pub linked-restaged : (places : List (Option Placed)) (line others : List InLine) (n : ℕ) (e : InLine) (s : LineStage) → AreLinked places line
     → Restaged line others n e s
-    → waiting_job s ≡ None → (is_done s ≡ false → is_done e.stage ≡ false) → AreLinked places others
+    → waiting_job s ≡ None → (is_done_in_line s ≡ false → is_done_in_line e.stage ≡ false) → AreLinked places others
 linked-restaged places line others n e s linked change no_job before_open = record {
-  named = λ id q is. if-more (λ k. id_at line k ≡ Some id) (λ k. id_at others k ≡ Some id) q.number (λ k old. id-restaged line others n e s change k
+  named = λ id q is. if-more (λ k. line_id_at line k ≡ Some id) (λ k. line_id_at others k ≡ Some id) q.number (λ k old. id-restaged line others n e s change k
       ∙ old) (linked.named id q is);
   held = linked.held;
   placed = λ m x at unfinished. placed m x unfinished (n == m) refl (sym (change.at m) ∙ at);
 }
   where
-    placed : (m : ℕ) (x : InLine) → is_done x.stage ≡ false → (b : Bool) → (n == m) ≡ b → cond b (Some (with_stage s e)) (entry_at line m) ≡ Some x
-        → Stands places m x
+    placed : (m : ℕ) (x : InLine) → is_done_in_line x.stage ≡ false → (b : Bool) → (n == m) ≡ b → cond b (Some (with_stage s e)) (line_work_at line m) ≡ Some x
+        → StandsInLine places m x
     placed m x unfinished true same told =
         let one : with_stage s e ≡ x = same-some (with_stage s e) x told in
-        let was : is_done s ≡ false = ap (λ (y : InLine). is_done y.stage) one ∙ unfinished in
-        let old : Stands places n e = linked.placed n e change.there (before_open was) in
-        subst (λ (y : InLine). Stands places m y) one (record {
+        let was : is_done_in_line s ≡ false = ap (λ (y : InLine). is_done_in_line y.stage) one ∙ unfinished in
+        let old : StandsInLine places n e = linked.placed n e change.there (before_open was) in
+        subst (λ (y : InLine). StandsInLine places m y) one (record {
           place = old.place;
           there = old.there;
           numbered = old.numbered ∙ ap (λ k. Some k) (same-tells n m same);
@@ -196,33 +196,33 @@ linked-restaged places line others n e s linked change no_job before_open = reco
 
 -- WHAT CAME OUT
 told-all : (places others : List (Option Placed)) (line lines : List InLine) (finished : List CameOut)
-    → ((n : ℕ) (s : JobSpec) → spec_at places line n ≡ Some s → spec_at others lines n ≡ Some s) → All (IsTold places line) finished
-    → All (IsTold others lines) finished
+    → ((n : ℕ) (s : JobSpec) → spec_at places line n ≡ Some s → spec_at others lines n ≡ Some s) → All (KeepsJob places line) finished
+    → All (KeepsJob others lines) finished
 told-all places others line lines finished more told k d inside =
     let o : CameOut = get_or finished k d in
     if-more (λ s. spec_at places line o.number ≡ Some s) (λ s. spec_at others lines o.number ≡ Some s) o.unspent (λ s is. more o.number s is) (told k d inside)
 
 spec-parts : (places : List (Option Placed)) (line : List InLine) (n : ℕ) (s : JobSpec) → spec_at places line n ≡ Some s
-    → (i : ℕ) × (p : Placed) × (id_at line n ≡ Some i) × (place_at places i ≡ Some p) × (p.spec ≡ s)
-spec-parts places line n s is = by (id_at line n) refl is
+    → (i : ℕ) × (p : Placed) × (line_id_at line n ≡ Some i) × (place_at places i ≡ Some p) × (p.spec ≡ s)
+spec-parts places line n s is = by (line_id_at line n) refl is
   where
-    place : (i : ℕ) (o : Option Placed) → id_at line n ≡ Some i → place_at places i ≡ o → option_map (λ (p : Placed). p.spec) o ≡ Some s
-        → (j : ℕ) × (p : Placed) × (id_at line n ≡ Some j) × (place_at places j ≡ Some p) × (p.spec ≡ s)
+    place : (i : ℕ) (o : Option Placed) → line_id_at line n ≡ Some i → place_at places i ≡ o → option_map (λ (p : Placed). p.spec) o ≡ Some s
+        → (j : ℕ) × (p : Placed) × (line_id_at line n ≡ Some j) × (place_at places j ≡ Some p) × (p.spec ≡ s)
     place i None id at told = let no : ⊥ = cc in absurd no
     place i (Some p) id at told = (i, p, id, at, same-some p.spec s told)
 
-    by : (o : Option ℕ) → id_at line n ≡ o → option_map (λ (p : Placed). p.spec) (option_and_then (place_at places) o) ≡ Some s
-        → (i : ℕ) × (p : Placed) × (id_at line n ≡ Some i) × (place_at places i ≡ Some p) × (p.spec ≡ s)
+    by : (o : Option ℕ) → line_id_at line n ≡ o → option_map (λ (p : Placed). p.spec) (option_and_then (place_at places) o) ≡ Some s
+        → (i : ℕ) × (p : Placed) × (line_id_at line n ≡ Some i) × (place_at places i ≡ Some p) × (p.spec ≡ s)
     by None id told = let no : ⊥ = cc in absurd no
     by (Some i) id told = place i (place_at places i) id refl told
 
-spec-of : (places : List (Option Placed)) (line : List InLine) (n i : ℕ) (p : Placed) (s : JobSpec) → id_at line n ≡ Some i → place_at places i ≡ Some p
+spec-of : (places : List (Option Placed)) (line : List InLine) (n i : ℕ) (p : Placed) (s : JobSpec) → line_id_at line n ≡ Some i → place_at places i ≡ Some p
     → p.spec ≡ s → spec_at places line n ≡ Some s
 spec-of places line n i p s id at is = ap (λ o. option_map (λ (q : Placed). q.spec) (option_and_then (place_at places) o)) id
     ∙ ap (option_map (λ (q : Placed). q.spec)) at ∙ ap (λ t. Some t) is
 
 -- the work that stands in line computes what it is to compute
-pub spec-stands : (places : List (Option Placed)) (line : List InLine) (n : ℕ) (e : InLine) → entry_at line n ≡ Some e → (stands : Stands places n e)
+pub spec-stands : (places : List (Option Placed)) (line : List InLine) (n : ℕ) (e : InLine) → line_work_at line n ≡ Some e → (stands : StandsInLine places n e)
     → spec_at places line n ≡ Some stands.place.spec
 spec-stands places line n e at stands = spec-of places line n e.id stands.place stands.place.spec (ap (option_map (λ (x : InLine). x.id)) at) stands.there refl
 
@@ -236,7 +236,7 @@ out-created places line finished place out = record {
     still : (n : ℕ) (s : JobSpec) → spec_at places line n ≡ Some s → spec_at (places ++ place ∷ []) line n ≡ Some s
     still n s is = let x = spec-parts places line n s is in spec-of (places ++ place ∷ []) line n x.0 x.1 s x.2 (place_at-old places place x.0 x.1 x.3) x.4
 
-pub ended-unfinished : (s : LineStage) → has_ended s ≡ true → is_done s ≡ false
+pub ended-unfinished : (s : LineStage) → has_ended s ≡ true → is_done_in_line s ≡ false
 ended-unfinished (Waits spec) is = refl
 ended-unfinished (Runs w) is = refl
 ended-unfinished Ended is = refl
@@ -258,7 +258,7 @@ among-ended places line finished k d out inside =
 
 pub out-deleted : (places others : List (Option Placed)) (line : List InLine) (finished : List CameOut) (id : ℕ) (p : Placed) → AreLinked places line
     → CameOutOnce places line finished → place_at places id ≡ Some p
-    → Replaced places others id None → ((n : ℕ) → p.number ≡ Some n → is_done (stage_at line n) ≡ true) → CameOutOnce others line finished
+    → Replaced places others id None → ((n : ℕ) → p.number ≡ Some n → is_done_in_line (line_stage_at line n) ≡ true) → CameOutOnce others line finished
 out-deleted places others line finished id p linked out is change done = record { once = out.once; told = told }
   where
     still : (n : ℕ) (s : JobSpec) → ended_at line n ≡ true → spec_at places line n ≡ Some s → spec_at others line n ≡ Some s
@@ -266,17 +266,17 @@ out-deleted places others line finished id p linked out is change done = record 
         let x = spec-parts places line n s told in
         spec-of others line n x.0 x.1 s x.2 (change.at x.0 ∙ ap (λ b. cond b None (place_at places x.0)) (apart-of id x.0 (other x.0 x.1 x.2 x.3)) ∙ x.3) x.4
       where
-        other : (i : ℕ) (q : Placed) → id_at line n ≡ Some i → place_at places i ≡ Some q → id ≡ i → ⊥
+        other : (i : ℕ) (q : Placed) → line_id_at line n ≡ Some i → place_at places i ≡ Some q → id ≡ i → ⊥
         other i q its at same =
             let e = id-entry line n i its in
-            let stands : Stands places n e.0 = linked.placed n e.0 e.1 (ap is_done (sym (stage-of line n e.0 e.1))
-            ∙ ended-unfinished (stage_at line n) ended) in
+            let stands : StandsInLine places n e.0 = linked.placed n e.0 e.1 (ap is_done_in_line (sym (stage-of line n e.0 e.1))
+            ∙ ended-unfinished (line_stage_at line n) ended) in
             let one : p ≡ stands.place = same-some p stands.place (sym is ∙ ap (place_at places) (same ∙ sym e.2) ∙ stands.there) in
-            let over : is_done (stage_at line n) ≡ true = done n (ap (λ (r : Placed). r.number) one ∙ stands.numbered) in
-            let not_over : is_done (stage_at line n) ≡ false = ended-unfinished (stage_at line n) ended in
+            let over : is_done_in_line (line_stage_at line n) ≡ true = done n (ap (λ (r : Placed). r.number) one ∙ stands.numbered) in
+            let not_over : is_done_in_line (line_stage_at line n) ≡ false = ended-unfinished (line_stage_at line n) ended in
             cc
 
-    told : All (IsTold others line) finished
+    told : All (KeepsJob others line) finished
     told k d inside =
         let o : CameOut = get_or finished k d in
         let ended : ended_at line o.number ≡ true = among-ended places line finished k d out inside in
@@ -301,7 +301,7 @@ out-queued places others line finished id n p e out is change waits_still = reco
     still : (m : ℕ) (s : JobSpec) → spec_at places line m ≡ Some s → spec_at others (line ++ e ∷ []) m ≡ Some s
     still m s told = let x = spec-parts places line m s told in by x.0 x.1 (id-old line e m x.0 x.2) x.3 x.4 (id == x.0) refl
       where
-        by : (i : ℕ) (q : Placed) → id_at (line ++ e ∷ []) m ≡ Some i → place_at places i ≡ Some q → q.spec ≡ s → (b : Bool) → (id == i) ≡ b
+        by : (i : ℕ) (q : Placed) → line_id_at (line ++ e ∷ []) m ≡ Some i → place_at places i ≡ Some q → q.spec ≡ s → (b : Bool) → (id == i) ≡ b
             → spec_at others (line ++ e ∷ []) m ≡ Some s
         by i q its at spec true one =
             let first : p ≡ q = same-some p q (sym is ∙ ap (place_at places) (same-tells id i one) ∙ at) in
@@ -315,7 +315,7 @@ module _ (places : List (Option Placed)) (line others : List InLine) (finished :
   spec-restaged : (m : ℕ) → spec_at places others m ≡ spec_at places line m
   spec-restaged m = ap (λ o. option_map (λ (q : Placed). q.spec) (option_and_then (place_at places) o)) (id-restaged line others n e s change m)
 
-  still-told : All (IsTold places others) finished
+  still-told : All (KeepsJob places others) finished
   still-told = told-all places places line others finished (λ m t is. spec-restaged m ∙ is) out.told
 
   -- it starts
@@ -334,10 +334,10 @@ module _ (places : List (Option Placed)) (line others : List InLine) (finished :
       → CameOutOnce places others (finished ++ o ∷ [])
   out-ended o after not_before its told = record {
     once = λ m. sum_by-append (λ (x : CameOut). cond (x.number == m) 1 0) finished (o ∷ []) ∙ by m (n == m) refl (out.once m);
-    told = All-append (IsTold places others) finished (o ∷ []) still-told (All-cons (IsTold places others) o [] here (All-nil (IsTold places others)));
+    told = All-append (KeepsJob places others) finished (o ∷ []) still-told (All-cons (KeepsJob places others) o [] here (All-nil (KeepsJob places others)));
   }
     where
-      here : IsTold places others o
+      here : KeepsJob places others o
       here = if-more (λ t. spec_at places line n ≡ Some t) (λ t. spec_at places others o.number ≡ Some t) o.unspent (λ t is. ap (spec_at places others) its
           ∙ spec-restaged n ∙ is) told
 
@@ -372,7 +372,7 @@ pub out-completed : (places : List (Option Placed)) (line others : List InLine) 
     → Restaged line others o.number e s → has_ended s ≡ false → CameOutOnce places others finished
 out-completed places line others o finished e s out change after = record {
   once = λ m. by m (o.number == m) refl (sym (sum_by-cons (λ (x : CameOut). cond (x.number == m) 1 0) o finished) ∙ out.once m);
-  told = All-tail (IsTold places others) o finished (still-told places line others (o ∷ finished) o.number e s out change);
+  told = All-tail (KeepsJob places others) o finished (still-told places line others (o ∷ finished) o.number e s out change);
 }
   where
     by : (m : ℕ) (b : Bool) → (o.number == m) ≡ b → cond (o.number == m) 1 0 + count_by (λ (x : CameOut). x.number == m) finished ≡ cond (ended_at line m) 1 0
@@ -398,7 +398,7 @@ out-completed places line others o finished e s out change after = record {
 pub first-told : (places : List (Option Placed)) (line : List InLine) (o : CameOut) (finished : List CameOut) (spec : JobSpec)
     → CameOutOnce places line (o ∷ finished) → spec_at places line o.number ≡ Some spec → IfSome o.unspent (λ s. spec ≡ s)
 first-told places line o finished spec out is = if-more (λ s. spec_at places line o.number ≡ Some s) (λ s. spec ≡ s) o.unspent (λ s told. same-some spec s
-    (sym is ∙ told)) (All-head (IsTold places line) o finished out.told)
+    (sym is ∙ told)) (All-head (KeepsJob places line) o finished out.told)
 
 -- what has come out has ended
 pub first-ended : (places : List (Option Placed)) (line : List InLine) (o : CameOut) (finished : List CameOut) → CameOutOnce places line (o ∷ finished)

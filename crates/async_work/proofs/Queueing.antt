@@ -11,75 +11,75 @@ use Rattle.napi_types.specs.plain.Lists.{found, has_number, one}
 use Rattle.napi_types.proofs.plain.Found.{IsRising, same-self, same-tells, found-same, found-filter, rising-filter, has-found, turned}
 use Rattle.napi_types.proofs.plain.Maps.{all-among}
 use Rattle.async_work.specs.declared.line.Numbered.{Numbered}
-use Rattle.async_work.specs.declared.line.Outcome as code
-use Rattle.async_work.specs.declared.line.Stage.{Stage}
-use Rattle.async_work.specs.declared.line.Stage.TheVariants as stage
-use Rattle.async_work.specs.Line.{LineStage, Done, InLine, stage_seen, entry_seen, line_seen, outcome_seen, outcomes_seen, waiting_job, with_stage, entry_at, stage_at, id_at, waits, listed_number, waiting}
+use Rattle.async_work.specs.declared.line.EndedWork as code
+use Rattle.async_work.specs.declared.line.WorkStage.{WorkStage}
+use Rattle.async_work.specs.declared.line.WorkStage.TheVariants as stage
+use Rattle.async_work.specs.Line.{LineStage, Done, InLine, stage_seen, entry_seen, line_seen, outcome_seen, outcomes_seen, waiting_job, with_stage, line_work_at, line_stage_at, line_id_at, waits, listed_number, waiting_works}
 use Rattle.napi_types.proofs.plain.Counted.{element-set, element-push, element-map, element-past, element-within, listed-push, listed-rising, found-listed}
-use Rattle.async_work.proofs.Counting.{length-without}
+use Rattle.async_work.proofs.CountingWorks.{length-without}
 
 -- what is read at a place of the line is the work of its number
-pub entry_at-read : {J : Type 0} (spec : J → JobSpec) (line : List (Numbered J)) (n at : ℕ) (x : Numbered J) → n ≡ at + 1 → at < length line
-    → x ≡ get_or line at x → entry_at (line_seen spec line) n ≡ Some (entry_seen spec x)
-entry_at-read spec line zero at x is within here = absurd (omega arith)
-entry_at-read spec line (suc k) at x is within here =
+pub line_work_at-read : {J : Type 0} (spec : J → JobSpec) (line : List (Numbered J)) (n at : ℕ) (x : Numbered J) → n ≡ at + 1 → at < length line
+    → x ≡ get_or line at x → line_work_at (line_seen spec line) n ≡ Some (entry_seen spec x)
+line_work_at-read spec line zero at x is within here = absurd (omega arith)
+line_work_at-read spec line (suc k) at x is within here =
     let same : at ≡ k = omega arith in
     element-map (entry_seen spec) line (suc k) ∙ ap (option_map (entry_seen spec)) (ap (slice_get line) (sym same) ∙ slice_get-get_or line at x within
     ∙ ap (λ y. Some y) (sym here))
 
 -- the line is the same but for how far the work of one number has come
 pub record Restaged (line others : List InLine) (n : ℕ) (e : InLine) (s : LineStage) : Type 0 where
-  pub there : entry_at line n ≡ Some e
-  pub at : (m : ℕ) → entry_at others m ≡ cond (n == m) (Some (with_stage s e)) (entry_at line m)
+  pub there : line_work_at line n ≡ Some e
+  pub at : (m : ℕ) → line_work_at others m ≡ cond (n == m) (Some (with_stage s e)) (line_work_at line m)
   pub long : length others ≡ length line
 
-pub restaged : (line : List InLine) (n : ℕ) (e : InLine) (s : LineStage) → entry_at line n ≡ Some e → Restaged line (set line (n - 1) (with_stage s e)) n e s
+pub restaged : (line : List InLine) (n : ℕ) (e : InLine) (s : LineStage) → line_work_at line n ≡ Some e → Restaged line (set line (n - 1) (with_stage s e)) n e s
 restaged line n e s there = record { there = there; at = element-set line n e (with_stage s e) there; long = length-set line (n - 1) (with_stage s e) }
 
 module _ (line others : List InLine) (n : ℕ) (e : InLine) (s : LineStage) (change : Restaged line others n e s) where
-  pub stage-restaged : {B : Type 0} (f : LineStage → B) (m : ℕ) → f (stage_at others m) ≡ cond (n == m) (f s) (f (stage_at line m))
+  pub stage-restaged : {B : Type 0} (f : LineStage → B) (m : ℕ) → f (line_stage_at others m) ≡ cond (n == m) (f s) (f (line_stage_at line m))
   stage-restaged {B} f m = ap (λ o. f (option_map_or (λ (x : InLine). x.stage) o Done)) (change.at m) ∙ by (n == m)
     where
-      by : (b : Bool) → f (option_map_or (λ (x : InLine). x.stage) (cond b (Some (with_stage s e)) (entry_at line m)) Done) ≡ cond b (f s) (f (stage_at line m))
+      by : (b : Bool) → f (option_map_or (λ (x : InLine). x.stage) (cond b (Some (with_stage s e)) (line_work_at line m)) Done) ≡ cond b (f s) (f (line_stage_at line m))
       by true = refl
       by false = refl
 
-  pub id-restaged : (m : ℕ) → id_at others m ≡ id_at line m
+  pub id-restaged : (m : ℕ) → line_id_at others m ≡ line_id_at line m
   id-restaged m = ap (option_map (λ (x : InLine). x.id)) (change.at m) ∙ by (n == m) refl
     where
-      by : (b : Bool) → (n == m) ≡ b → option_map (λ (x : InLine). x.id) (cond b (Some (with_stage s e)) (entry_at line m)) ≡ id_at line m
-      by true same = sym (ap (λ k. id_at line k) (sym (same-tells n m same)) ∙ ap (option_map (λ (x : InLine). x.id)) change.there)
+      by : (b : Bool) → (n == m) ≡ b → option_map (λ (x : InLine). x.id) (cond b (Some (with_stage s e)) (line_work_at line m)) ≡ line_id_at line m
+      by true same = sym (ap (λ k. line_id_at line k) (sym (same-tells n m same)) ∙ ap (option_map (λ (x : InLine). x.id)) change.there)
       by false same = refl
 
-  pub stage-before : stage_at line n ≡ e.stage
+  pub stage-before : line_stage_at line n ≡ e.stage
   stage-before = ap (λ o. option_map_or (λ (x : InLine). x.stage) o Done) change.there
 
-pub entry-push : (line : List InLine) (e : InLine) (m : ℕ) → entry_at (line ++ e ∷ []) m ≡ cond (length line + 1 == m) (Some e) (entry_at line m)
+pub entry-push : (line : List InLine) (e : InLine) (m : ℕ) → line_work_at (line ++ e ∷ []) m ≡ cond (length line + 1 == m) (Some e) (line_work_at line m)
 entry-push line e m = element-push line e m
 
 pub stage-push : {B : Type 0} (f : LineStage → B) (line : List InLine) (e : InLine) (m : ℕ)
-    → f (stage_at (line ++ e ∷ []) m) ≡ cond (length line + 1 == m) (f e.stage) (f (stage_at line m))
+    → f (line_stage_at (line ++ e ∷ []) m) ≡ cond (length line + 1 == m) (f e.stage) (f (line_stage_at line m))
 stage-push {B} f line e m = ap (λ o. f (option_map_or (λ (x : InLine). x.stage) o Done)) (element-push line e m) ∙ by (length line + 1 == m)
   where
-    by : (b : Bool) → f (option_map_or (λ (x : InLine). x.stage) (cond b (Some e) (entry_at line m)) Done) ≡ cond b (f e.stage) (f (stage_at line m))
+    by : (b : Bool) → f (option_map_or (λ (x : InLine). x.stage) (cond b (Some e) (line_work_at line m)) Done) ≡ cond b (f e.stage) (f (line_stage_at line m))
     by true = refl
     by false = refl
 
 -- what no work has whose completion has begun is had within the line
-pub stage-past : {B : Type 0} (f : LineStage → B) (line : List InLine) (m : ℕ) → length line < m → f (stage_at line m) ≡ f Done
+pub stage-past : {B : Type 0} (f : LineStage → B) (line : List InLine) (m : ℕ) → length line < m → f (line_stage_at line m) ≡ f Done
 stage-past f line m past = ap (λ o. f (option_map_or (λ (x : InLine). x.stage) o Done)) (element-past line m past)
 
-pub waits-within : (line : List InLine) (n : ℕ) → waits line n ≡ true → (e : InLine) × (s : JobSpec) × (entry_at line n ≡ Some e) ×
+pub waits-within : (line : List InLine) (n : ℕ) → waits line n ≡ true → (e : InLine) × (s : JobSpec) × (line_work_at line n ≡ Some e) ×
     (waiting_job e.stage ≡ Some s)
-waits-within line n is = by (entry_at line n) refl is
+waits-within line n is = by (line_work_at line n) refl is
   where
-    job : (e : InLine) (o : Option JobSpec) → entry_at line n ≡ Some e → waiting_job e.stage ≡ o → is_some o ≡ true
-        → (x : InLine) × (s : JobSpec) × (entry_at line n ≡ Some x) × (waiting_job x.stage ≡ Some s)
+    job : (e : InLine) (o : Option JobSpec) → line_work_at line n ≡ Some e → waiting_job e.stage ≡ o → is_some o ≡ true
+        → (x : InLine) × (s : JobSpec) × (line_work_at line n ≡ Some x) × (waiting_job x.stage ≡ Some s)
     job e None there told passes = let no : ⊥ = cc in absurd no
     job e (Some s) there told passes = (e, s, there, told)
 
-    by : (o : Option InLine) → entry_at line n ≡ o → is_some (waiting_job (option_map_or (λ (x : InLine). x.stage) o Done)) ≡ true
-        → (x : InLine) × (s : JobSpec) × (entry_at line n ≡ Some x) × (waiting_job x.stage ≡ Some s)
+    by : (o : Option InLine) → line_work_at line n ≡ o → is_some (waiting_job (option_map_or (λ (x : InLine). x.stage) o Done)) ≡ true
+        → (x : InLine) × (s : JobSpec) × (line_work_at line n ≡ Some x) × (waiting_job x.stage ≡ Some s)
     by None there passes = let no : ⊥ = cc in absurd no
     by (Some e) there passes = job e (waiting_job e.stage) there refl passes
 
@@ -91,11 +91,11 @@ keeps-number n e m is = by (waiting_job e.stage) is
     by None told = let no : ⊥ = cc in absurd no
     by (Some s) told = cc
 
-pub rising-waiting : (line : List InLine) → IsRising (λ (m : ℕ). m) (waiting line)
+pub rising-waiting : (line : List InLine) → IsRising (λ (m : ℕ). m) (waiting_works line)
 rising-waiting line = listed-rising listed_number (λ m. m) keeps-number 1 line
 
-pub found-waiting : (line : List InLine) (n : ℕ) → found (λ m. m) n (waiting line) ≡ cond (waits line n) (Some n) None
-found-waiting line n = found-listed listed_number (λ m. m) keeps-number n line ∙ by (entry_at line n)
+pub found-waiting : (line : List InLine) (n : ℕ) → found (λ m. m) n (waiting_works line) ≡ cond (waits line n) (Some n) None
+found-waiting line n = found-listed listed_number (λ m. m) keeps-number n line ∙ by (line_work_at line n)
   where
     job : (o : Option JobSpec) → option_map (λ _. n) o ≡ cond (is_some o) (Some n) None
     job None = refl
@@ -105,26 +105,26 @@ found-waiting line n = found-listed listed_number (λ m. m) keeps-number n line 
     by None = refl
     by (Some e) = job (waiting_job e.stage)
 
-pub has-waiting : (line : List InLine) (n : ℕ) → has_number n (waiting line) ≡ waits line n
-has-waiting line n = has-found (λ m. m) n (waiting line) ∙ ap is_some (found-waiting line n) ∙ by (waits line n)
+pub has-waiting : (line : List InLine) (n : ℕ) → has_number n (waiting_works line) ≡ waits line n
+has-waiting line n = has-found (λ m. m) n (waiting_works line) ∙ ap is_some (found-waiting line n) ∙ by (waits line n)
   where
     by : (b : Bool) → is_some (cond b (Some n) None) ≡ b
     by true = refl
     by false = refl
 
-pub waiting-same : (line others : List InLine) → ((m : ℕ) → waits others m ≡ waits line m) → waiting others ≡ waiting line
+pub waiting-same : (line others : List InLine) → ((m : ℕ) → waits others m ≡ waits line m) → waiting_works others ≡ waiting_works line
 waiting-same line others same =
-    found-same (λ m. m) (waiting others) (waiting line) (rising-waiting others) (rising-waiting line)
+    found-same (λ m. m) (waiting_works others) (waiting_works line) (rising-waiting others) (rising-waiting line)
     (λ m. found-waiting others m ∙ ap (λ b. cond b (Some m) None) (same m) ∙ sym (found-waiting line m))
 
 -- one waits no longer
 pub waiting-less : (line others : List InLine) (n : ℕ) → ((m : ℕ) → waits others m ≡ cond (n == m) false (waits line m))
-    → waiting others ≡ filter (λ m. not (m == n)) (waiting line)
+    → waiting_works others ≡ filter (λ m. not (m == n)) (waiting_works line)
 waiting-less line others n less =
-    found-same (λ m. m) (waiting others) (filter (λ m. not (m == n)) (waiting line)) (rising-waiting others) (rising-filter (λ m. m) (λ m. not (m == n))
-    (waiting line) (rising-waiting line))
+    found-same (λ m. m) (waiting_works others) (filter (λ m. not (m == n)) (waiting_works line)) (rising-waiting others) (rising-filter (λ m. m) (λ m. not (m == n))
+    (waiting_works line) (rising-waiting line))
     (λ m. found-waiting others m ∙ ap (λ b. cond b (Some m) None) (less m ∙ ap (λ b. cond b false (waits line m)) (turned n m)) ∙ by m (m == n)
-    ∙ ap (λ o. cond (not (m == n)) o None) (sym (found-waiting line m)) ∙ sym (found-filter (λ m. m) (λ k. not (k == n)) m (waiting line)))
+    ∙ ap (λ o. cond (not (m == n)) o None) (sym (found-waiting line m)) ∙ sym (found-filter (λ m. m) (λ k. not (k == n)) m (waiting_works line)))
   where
     by : (m : ℕ) (b : Bool) → cond (cond b false (waits line m)) (Some m) None ≡ cond (not b) (cond (waits line m) (Some m) None) None
     by m true = refl
@@ -132,34 +132,34 @@ waiting-less line others n less =
 
 -- one more waits
 pub waiting-more : (line : List InLine) (e : InLine) (s : JobSpec) → waiting_job e.stage ≡ Some s
-    → waiting (line ++ e ∷ []) ≡ waiting line ++ one (length line + 1)
-waiting-more line e s is = listed-push listed_number 1 line e ∙ ap (λ o. waiting line ++ cons_option (option_map (λ _. 1 + length line) o) []) is
-    ∙ ap (λ n. waiting line ++ n ∷ []) (next (length line))
+    → waiting_works (line ++ e ∷ []) ≡ waiting_works line ++ one (length line + 1)
+waiting-more line e s is = listed-push listed_number 1 line e ∙ ap (λ o. waiting_works line ++ cons_option (option_map (λ _. 1 + length line) o) []) is
+    ∙ ap (λ n. waiting_works line ++ n ∷ []) (next (length line))
   where
     next : (n : ℕ) → 1 + n ≡ n + 1
     next n = omega arith
 
-pub waiting-none : (line : List InLine) → ((m : ℕ) → waits line m ≡ false) → waiting line ≡ []
-waiting-none line none = found-same (λ m. m) (waiting line) [] (rising-waiting line) tt (λ m. found-waiting line m ∙ ap (λ b. cond b (Some m) None) (none m))
+pub waiting-none : (line : List InLine) → ((m : ℕ) → waits line m ≡ false) → waiting_works line ≡ []
+waiting-none line none = found-same (λ m. m) (waiting_works line) [] (rising-waiting line) tt (λ m. found-waiting line m ∙ ap (λ b. cond b (Some m) None) (none m))
 
 upper : (m n : ℕ) → (m == n) ≡ false → nat_lt m n ≡ false → n < m
 upper m n h k = grind arith
 
 -- the first that waits
 pub waiting-first : (line : List InLine) (n : ℕ) → waits line n ≡ true → ((m : ℕ) → m < n → waits line m ≡ false)
-    → waiting line ≡ n ∷ filter (λ m. not (m == n)) (waiting line)
+    → waiting_works line ≡ n ∷ filter (λ m. not (m == n)) (waiting_works line)
 waiting-first line n here passed =
-    found-same (λ m. m) (waiting line) (n ∷ rest) (rising-waiting line) (
+    found-same (λ m. m) (waiting_works line) (n ∷ rest) (rising-waiting line) (
       all-among (λ m. n < m) rest later,
-      rising-filter (λ m. m) (λ m. not (m == n)) (waiting line) (rising-waiting line),
+      rising-filter (λ m. m) (λ m. not (m == n)) (waiting_works line) (rising-waiting line),
     )
     (λ m. found-waiting line m ∙ by m (n == m) refl)
   where
     rest : List ℕ
-    rest = filter (λ m. not (m == n)) (waiting line)
+    rest = filter (λ m. not (m == n)) (waiting_works line)
 
     found-rest : (m : ℕ) → found (λ m. m) m rest ≡ cond (not (m == n)) (cond (waits line m) (Some m) None) None
-    found-rest m = found-filter (λ m. m) (λ k. not (k == n)) m (waiting line) ∙ ap (λ o. cond (not (m == n)) o None) (found-waiting line m)
+    found-rest m = found-filter (λ m. m) (λ k. not (k == n)) m (waiting_works line) ∙ ap (λ o. cond (not (m == n)) o None) (found-waiting line m)
 
     later : (m : ℕ) → has_number m rest ≡ true → n < m
     later m is = case (m == n) (waits line m) (nat_lt m n) refl refl refl (sym (ap is_some (found-rest m)) ∙ sym (has-found (λ m. m) m rest) ∙ is)
@@ -174,7 +174,7 @@ waiting-first line n here passed =
     by m true same = let one : n ≡ m = same-tells n m same in ap (λ k. cond (waits line k) (Some k) None) (sym one) ∙ ap (λ b. cond b (Some n) None) here
     by m false same = ap (λ b. cond (not b) (cond (waits line m) (Some m) None) None) (sym (turned m n ∙ same)) ∙ sym (found-rest m)
 
-pub head-first : (line : List InLine) (n : ℕ) (ns : List ℕ) → waiting line ≡ n ∷ ns → waits line n ≡ true
+pub head-first : (line : List InLine) (n : ℕ) (ns : List ℕ) → waiting_works line ≡ n ∷ ns → waits line n ≡ true
 head-first line n ns is = sym (has-waiting line n) ∙ ap (has_number n) is ∙ by (n == n) (same-self n)
   where
     by : (b : Bool) → b ≡ true → (b || has_number n ns) ≡ true
@@ -182,19 +182,19 @@ head-first line n ns is = sym (has-waiting line n) ∙ ap (has_number n) is ∙ 
     by false h = let no : ⊥ = cc in absurd no
 
 -- how many wait where one waits no longer
-pub length-less : (line : List InLine) (n : ℕ) → waits line n ≡ true → length (filter (λ m. not (m == n)) (waiting line)) + 1 ≡ length (waiting line)
-length-less line n is = length-without (λ m. m) n (waiting line) n (rising-waiting line) (found-waiting line n ∙ ap (λ b. cond b (Some n) None) is)
+pub length-less : (line : List InLine) (n : ℕ) → waits line n ≡ true → length (filter (λ m. not (m == n)) (waiting_works line)) + 1 ≡ length (waiting_works line)
+length-less line n is = length-without (λ m. m) n (waiting_works line) n (rising-waiting line) (found-waiting line n ∙ ap (λ b. cond b (Some n) None) is)
 
 -- READING
 -- what is read at a place, whatever stands for it past the end
 entry-read : {J : Type 0} (spec : J → JobSpec) (line : List (Numbered J)) (at : ℕ) (d : Numbered J) → at < length line
-    → entry_at (line_seen spec line) (at + 1) ≡ Some (entry_seen spec (get_or line at d))
+    → line_work_at (line_seen spec line) (at + 1) ≡ Some (entry_seen spec (get_or line at d))
 entry-read spec line at d within =
     let next : at + 1 ≡ suc at = omega arith in
     rw next (element-map (entry_seen spec) line (suc at) ∙ ap (option_map (entry_seen spec)) (slice_get-get_or line at d within))
 
-pub stage-read : {J : Type 0} (spec : J → JobSpec) (line : List (Numbered J)) (at : ℕ) (d : Numbered J) (s : Stage J) → at < length line
-    → (get_or line at d).stage ≡ s → stage_at (line_seen spec line) (at + 1) ≡ stage_seen spec s
+pub stage-read : {J : Type 0} (spec : J → JobSpec) (line : List (Numbered J)) (at : ℕ) (d : Numbered J) (s : WorkStage J) → at < length line
+    → (get_or line at d).stage ≡ s → line_stage_at (line_seen spec line) (at + 1) ≡ stage_seen spec s
 stage-read spec line at d s within is = ap (λ o. option_map_or (λ (x : InLine). x.stage) o Done) (entry-read spec line at d within) ∙ ap (stage_seen spec) is
 
 pub queued-read : {J : Type 0} (spec : J → JobSpec) (line : List (Numbered J)) (at : ℕ) (d : Numbered J) (job : J) (slip : Slip) → at < length line
@@ -208,7 +208,7 @@ pub unqueued-read : {J : Type 0} (spec : J → JobSpec) (line : List (Numbered J
 unqueued-read {J} spec line at d within other = ap (λ s. is_some (waiting_job s)) (stage-read spec line at d (get_or line at d).stage within refl)
     ∙ by (get_or line at d).stage other
   where
-    by : (s : Stage J) → ((job : J) (slip : Slip) → s ≡ stage.Queued job slip → ⊥) → is_some (waiting_job (stage_seen spec s)) ≡ false
+    by : (s : WorkStage J) → ((job : J) (slip : Slip) → s ≡ stage.Queued job slip → ⊥) → is_some (waiting_job (stage_seen spec s)) ≡ false
     by (stage.Queued job slip) never = absurd (never job slip refl)
     by (stage.Running w slip) never = refl
     by stage.Finished never = refl
@@ -216,12 +216,12 @@ unqueued-read {J} spec line at d within other = ap (λ s. is_some (waiting_job s
 
 -- the work that is read at the place of a number is the one of that number
 pub read-at : {J : Type 0} (spec : J → JobSpec) (line : List (Numbered J)) (n : ℕ) (x : Numbered J) (e : InLine)
-    → entry_at (line_seen spec line) n ≡ Some e → x ≡ get_or line (n - 1) x → entry_at (line_seen spec line) n ≡ Some (entry_seen spec x)
+    → line_work_at (line_seen spec line) n ≡ Some e → x ≡ get_or line (n - 1) x → line_work_at (line_seen spec line) n ≡ Some (entry_seen spec x)
 read-at spec line n x e is here =
     let within = element-within (line_seen spec line) n e is in
-    entry_at-read spec line n (n - 1) x (omega (arith, within.0)) (omega (arith, within.0, within.1, length-map line (entry_seen spec))) here
+    line_work_at-read spec line n (n - 1) x (omega (arith, within.0)) (omega (arith, within.0, within.1, length-map line (entry_seen spec))) here
 
-pub bounds-at : {J : Type 0} (spec : J → JobSpec) (line : List (Numbered J)) (n : ℕ) (e : InLine) → entry_at (line_seen spec line) n ≡ Some e
+pub bounds-at : {J : Type 0} (spec : J → JobSpec) (line : List (Numbered J)) (n : ℕ) (e : InLine) → line_work_at (line_seen spec line) n ≡ Some e
     → (1 ≤ n) × (n ≤ length line)
 bounds-at spec line n e is = let within = element-within (line_seen spec line) n e is in (within.0, omega (arith, within.1, length-map line (entry_seen spec)))
 
@@ -231,21 +231,21 @@ pub line-set : {J : Type 0} (spec : J → JobSpec) (line : List (Numbered J)) (a
     → line_seen spec (set line at x) ≡ set (line_seen spec line) at (with_stage s (entry_seen spec old))
 line-set spec line at x old s is = map-set (entry_seen spec) line at x ∙ ap (set (line_seen spec line) at) is
 
-pub outcomes-push : {J : Type 0} (spec : J → JobSpec) (outcomes others : List (code.Outcome J)) (o : code.Outcome J) → others ≡ outcomes ++ o ∷ []
+pub outcomes-push : {J : Type 0} (spec : J → JobSpec) (outcomes others : List (code.EndedWork J)) (o : code.EndedWork J) → others ≡ outcomes ++ o ∷ []
     → outcomes_seen spec others ≡ outcomes_seen spec outcomes ++ outcome_seen spec o ∷ []
 outcomes-push spec outcomes others o is = ap (outcomes_seen spec) is ∙ map-append (outcome_seen spec) outcomes (o ∷ [])
 
 -- a work that waits, as it is read
 pub record IsWaiting {J : Type 0} (spec : J → JobSpec) (line : List (Numbered J)) (n : ℕ) (x : Numbered J) : Type 0 where
   pub job : JobSpec
-  pub there : entry_at (line_seen spec line) n ≡ Some (entry_seen spec x)
+  pub there : line_work_at (line_seen spec line) n ≡ Some (entry_seen spec x)
   pub waits_for : waiting_job (entry_seen spec x).stage ≡ Some job
 
 pub waits-read : {J : Type 0} (spec : J → JobSpec) (line : List (Numbered J)) (n : ℕ) (x : Numbered J) → waits (line_seen spec line) n ≡ true
     → x ≡ get_or line (n - 1) x → IsWaiting spec line n x
 waits-read spec line n x is here =
     let e = waits-within (line_seen spec line) n is in
-    let there : entry_at (line_seen spec line) n ≡ Some (entry_seen spec x) = read-at spec line n x e.0 e.2 here in
+    let there : line_work_at (line_seen spec line) n ≡ Some (entry_seen spec x) = read-at spec line n x e.0 e.2 here in
     let same : e.0 ≡ entry_seen spec x = one-entry e.0 (entry_seen spec x) (sym e.2 ∙ there) in
     record { job = e.1; there = there; waits_for = ap (λ (y : InLine). waiting_job y.stage) (sym same) ∙ e.3 }
   where

@@ -5,13 +5,13 @@ use Rattle.napi_types.specs.declared.call.JobSpec.{JobSpec}
 use Rattle.napi_types.specs.plain.Lists.{one, with_record, up_to}
 use Rattle.napi_types.specs.parts.Pool.{WorkPool, executed_by, value_of_work, with_work, without_work, with_queued, cancelled_at, started_from, with_started, finished_at, with_finished, with_completed}
 use Rattle.napi_types.specs.parts.Works.{Work, Execution, Outcome}
-use Rattle.async_work.specs.Places.{Placed, place_at, with_place_number, works_of}
-use Rattle.async_work.specs.Line.{Runs, Ended, Done, InLine, CameOut, outcome_of, unstarted_outcome, ran_outcome, waiting_job, runner, with_stage, entry_at, runner_at, waiting}
-use Rattle.async_work.specs.Kept.{pool_of, AreKept}
+use Rattle.async_work.specs.WorkPlaces.{Placed, place_at, with_place_number, works_of}
+use Rattle.async_work.specs.Line.{Runs, Ended, Done, InLine, CameOut, outcome_of, unstarted_outcome, ran_outcome, waiting_job, runner, with_stage, line_work_at, runner_at, waiting_works}
+use Rattle.async_work.specs.KeptPool.{pool_of, IsKeptPool}
 use Rattle.async_work.proofs.Ids.{replaced, works-made, works-deleted, works-queued, issued-made}
 use Rattle.async_work.proofs.Queueing.{waiting-more, waiting-less}
-use Rattle.async_work.proofs.Executions.{executions-same, executions-finished}
-use Rattle.async_work.proofs.Keeping.{only-waits, only-runs, passed-over, waiting-still, executions-still, executions-now, fewer-run, runner-queued}
+use Rattle.async_work.proofs.PoolExecutions.{executions-same, executions-finished}
+use Rattle.async_work.proofs.KeepingPools.{only-waits, only-runs, passed-over, waiting-still, executions-still, executions-now, fewer-run, runner-queued}
 
 same-pool : (ws vs : List Work) (is js : List ℕ) (n m : ℕ) (qs rs : List ℕ) (xs ys : List Execution) (os us : List Outcome) (c d : Bool) → ws ≡ vs
     → is ≡ js → n ≡ m → qs ≡ rs → xs ≡ ys → os ≡ us → c ≡ d
@@ -50,11 +50,11 @@ view-queued places others line lines finished closing id n p e places_are line_i
 
 module _ (places : List (Option Placed)) (line : List InLine) (finished : List CameOut) (first queued running : ℕ) (closing : Bool)
     (line_places finished_places : ℕ)
-    (kept : AreKept places line finished first queued running closing line_places finished_places) (lines : List InLine) (n : ℕ) (e : InLine)
-    (there : entry_at line n ≡ Some e) where
+    (kept : IsKeptPool places line finished first queued running closing line_places finished_places) (lines : List InLine) (n : ℕ) (e : InLine)
+    (there : line_work_at line n ≡ Some e) where
   pub view-started : (w : ℕ) (job : JobSpec) (ns : List ℕ) → lines ≡ set line (n - 1) (with_stage (Runs w) e) → waiting_job e.stage ≡ Some job
       → executed_by (pool_of places line finished closing) w ≡ None
-      → waiting line ≡ n ∷ ns → filter (λ m. not (m == n)) (waiting line) ≡ ns → pool_of places lines finished closing ≡ with_started w
+      → waiting_works line ≡ n ∷ ns → filter (λ m. not (m == n)) (waiting_works line) ≡ ns → pool_of places lines finished closing ≡ with_started w
       (pool_of places line finished closing)
   view-started w job ns is waits_for free starts rest =
       rw is (same-pool _ _ _ _ _ _ _ _ _ _ _ _ _ _ refl refl (length-set line (n - 1) (with_stage (Runs w) e))

@@ -1,7 +1,7 @@
 pub mod Draining
 pub mod Executing
-pub mod Kept
+pub mod KeptPool
 pub mod Line
 pub mod Picking
-pub mod Places
-pub mod States
+pub mod WorkPlaces
+pub mod WorkStates

@@ -10,9 +10,9 @@ use Rattle.napi_types.specs.plain.Counted.{element, listed}
 use Rattle.async_work.specs.declared.line.Ending.{Ending}
 use Rattle.async_work.specs.declared.line.Ending.TheVariants as ending
 use Rattle.async_work.specs.declared.line.Numbered.{Numbered}
-use Rattle.async_work.specs.declared.line.Outcome as code
-use Rattle.async_work.specs.declared.line.Stage.{Stage}
-use Rattle.async_work.specs.declared.line.Stage.TheVariants as stage
+use Rattle.async_work.specs.declared.line.EndedWork as code
+use Rattle.async_work.specs.declared.line.WorkStage.{WorkStage}
+use Rattle.async_work.specs.declared.line.WorkStage.TheVariants as stage
 
 -- how far a work that was queued has come: it waits with a job that computes this, a worker runs it, it has ended, or its completion has begun
 pub data LineStage : Type 0 where
@@ -33,7 +33,7 @@ pub record CameOut : Type 0 where
   pub value : ℕ
 
 module _ {J : Type 0} (spec : J → JobSpec) where
-  abbrev pub stage_seen : Stage J → LineStage
+  abbrev pub stage_seen : WorkStage J → LineStage
   stage_seen (stage.Queued job slip) = Waits (spec job)
   stage_seen (stage.Running worker slip) = Runs worker
   stage_seen stage.Finished = Ended
@@ -53,10 +53,10 @@ module _ {J : Type 0} (spec : J → JobSpec) where
   ending_value (ending.Ran value) = value
   ending_value (ending.Cancelled job) = 0
 
-  abbrev pub outcome_seen : code.Outcome J → CameOut
+  abbrev pub outcome_seen : code.EndedWork J → CameOut
   outcome_seen o = record { number = o.number; unspent = ending_job o.ending; value = ending_value o.ending }
 
-  abbrev pub outcomes_seen : List (code.Outcome J) → List CameOut
+  abbrev pub outcomes_seen : List (code.EndedWork J) → List CameOut
   outcomes_seen outcomes = map outcome_seen outcomes
 
 abbrev pub ran_outcome : ℕ → ℕ → CameOut
@@ -86,9 +86,9 @@ abbrev pub has_ended : LineStage → Bool
 has_ended Ended = true
 has_ended _ = false
 
-abbrev pub is_done : LineStage → Bool
-is_done Done = true
-is_done _ = false
+abbrev pub is_done_in_line : LineStage → Bool
+is_done_in_line Done = true
+is_done_in_line _ = false
 
 abbrev pub stage_state : LineStage → WorkState
 stage_state (Waits spec) = Queued
@@ -101,33 +101,33 @@ with_stage s e = record e { stage = s }
 
 -- THE LINE
 -- the work of a number
-abbrev pub entry_at : List InLine → ℕ → Option InLine
-entry_at line n = element line n
+abbrev pub line_work_at : List InLine → ℕ → Option InLine
+line_work_at line n = element line n
 
-abbrev pub stage_at : List InLine → ℕ → LineStage
-stage_at line n = option_map_or (λ (e : InLine). e.stage) (entry_at line n) Done
+abbrev pub line_stage_at : List InLine → ℕ → LineStage
+line_stage_at line n = option_map_or (λ (e : InLine). e.stage) (line_work_at line n) Done
 
-abbrev pub id_at : List InLine → ℕ → Option ℕ
-id_at line n = option_map (λ (e : InLine). e.id) (entry_at line n)
+abbrev pub line_id_at : List InLine → ℕ → Option ℕ
+line_id_at line n = option_map (λ (e : InLine). e.id) (line_work_at line n)
 
 -- it waits for a worker
 abbrev pub waits : List InLine → ℕ → Bool
-waits line n = is_some (waiting_job (stage_at line n))
+waits line n = is_some (waiting_job (line_stage_at line n))
 
 -- the worker that executes it
 abbrev pub runner_at : List InLine → ℕ → Option ℕ
-runner_at line n = runner (stage_at line n)
+runner_at line n = runner (line_stage_at line n)
 
 -- it came out, and its completion has not begun
 abbrev pub ended_at : List InLine → ℕ → Bool
-ended_at line n = has_ended (stage_at line n)
+ended_at line n = has_ended (line_stage_at line n)
 
 -- the numbers of those that wait
 abbrev pub listed_number : ℕ → InLine → Option ℕ
 listed_number n e = option_map (λ _. n) (waiting_job e.stage)
 
-abbrev pub waiting : List InLine → List ℕ
-waiting line = listed listed_number 1 line
+abbrev pub waiting_works : List InLine → List ℕ
+waiting_works line = listed listed_number 1 line
 
 -- which worker executes which of them, as a finite map by the worker
 abbrev pub listed_execution : ℕ → InLine → Option Execution

@@ -1,5 +1,5 @@
 -- What a worker picks, and what a completion takes.
-use Rattle.std.specs.Prelude.{ℕ, ◌∷◌, [], Bool, true, false, cond, List, Option, Some, None, option_map}
+use Rattle.std.specs.Prelude.{ℕ, ◌∷◌, [], Bool, true, false, cond, Option, Some, None, option_map}
 use Rattle.std.specs.Option.{option_and_then}
 use Rattle.napi_types.specs.declared.call.JobSpec.{JobSpec}
 use Rattle.napi_types.specs.declared.duties.DueInfo.{DueInfo}
@@ -40,10 +40,6 @@ module _ {J : Type 0} where
     gifts = status_number f.status ∷ f.value ∷ f.payload ∷ 0 ∷ 0 ∷ 0 ∷ 0 ∷ 0 ∷ [];
     runs = true;
   }
-
-abbrev pub is_empty : {A : Type 0} → List A → Bool
-is_empty [] = true
-is_empty (x ∷ xs) = false
 
 -- the work of a number, as a worker starts it
 abbrev pub work_to_start : WorkPool → ℕ → Option StartedWork

@@ -10,7 +10,7 @@ use std::mem;
 /// How far a work that was queued has come. Until a worker starts it its job is here. The memory for the line that its completion will be in a list
 /// of what was seen is here until the work is finished.
 #[derive(Drop)]
-pub(crate) enum Stage<J> {
+pub(crate) enum WorkStage<J> {
     Queued(J, Slip),
     /// The worker that executes it.
     Running(u32, Slip),
@@ -22,7 +22,7 @@ pub(crate) enum Stage<J> {
 #[derive(Drop)]
 pub(crate) struct Numbered<J> {
     pub(crate) id: u64,
-    pub(crate) stage: Stage<J>,
+    pub(crate) stage: WorkStage<J>,
 }
 
 /// How a work came out.
@@ -36,7 +36,7 @@ pub(crate) enum Ending<J> {
 
 /// A work that came out.
 #[derive(Drop)]
-pub(crate) struct Outcome<J> {
+pub(crate) struct EndedWork<J> {
     pub(crate) number: u64,
     pub(crate) slip: Slip,
     pub(crate) ending: Ending<J>,
@@ -50,7 +50,7 @@ pub(crate) fn next_queued<J: Job>(line: &[Numbered<J>], from: usize) -> usize
     ensures queued { result < length line.now → waits (line_seen J.spec line.now) (result + 1) ≡ true }
 {
     for place in from..line.len() {
-        if matches!(line[place].stage, Stage::Queued(..)) {
+        if matches!(line[place].stage, WorkStage::Queued(..)) {
             return place;
         }
     }
@@ -63,9 +63,9 @@ pub(crate) fn start<J: Job>(numbered: &mut Numbered<J>, worker: u32) -> J
     ensures job { waiting_job (entry_seen J.spec numbered.old).stage ≡ Some (J.spec result) }
     ensures started { entry_seen J.spec numbered.new ≡ with_stage (Runs worker) (entry_seen J.spec numbered.old) }
 {
-    match mem::replace(&mut numbered.stage, Stage::Completed) {
-        Stage::Queued(job, slip) => {
-            numbered.stage = Stage::Running(worker, slip);
+    match mem::replace(&mut numbered.stage, WorkStage::Completed) {
+        WorkStage::Queued(job, slip) => {
+            numbered.stage = WorkStage::Running(worker, slip);
             job
         }
         _ => unreachable!(),
@@ -73,13 +73,13 @@ pub(crate) fn start<J: Job>(numbered: &mut Numbered<J>, worker: u32) -> J
 }
 
 /// A work that runs came out, with this value.
-pub(crate) fn finish<J: Job>(numbered: &mut Numbered<J>, number: u64, value: u64) -> Outcome<J>
+pub(crate) fn finish<J: Job>(numbered: &mut Numbered<J>, number: u64, value: u64) -> EndedWork<J>
     requires { IsSome (runner (entry_seen J.spec numbered.old).stage) }
     ensures outcome { outcome_seen J.spec result ≡ ran_outcome number value }
     ensures finished { entry_seen J.spec numbered.new ≡ with_stage Ended (entry_seen J.spec numbered.old) }
 {
-    match mem::replace(&mut numbered.stage, Stage::Finished) {
-        Stage::Running(_, slip) => Outcome {
+    match mem::replace(&mut numbered.stage, WorkStage::Finished) {
+        WorkStage::Running(_, slip) => EndedWork {
             number,
             slip,
             ending: Ending::Ran(value),
@@ -89,13 +89,13 @@ pub(crate) fn finish<J: Job>(numbered: &mut Numbered<J>, number: u64, value: u64
 }
 
 /// A work that is queued is cancelled.
-pub(crate) fn cancel<J: Job>(numbered: &mut Numbered<J>, number: u64) -> Outcome<J>
+pub(crate) fn cancel<J: Job>(numbered: &mut Numbered<J>, number: u64) -> EndedWork<J>
     requires { IsSome (waiting_job (entry_seen J.spec numbered.old).stage) }
     ensures outcome { outcome_seen J.spec result ≡ unstarted_outcome number (waiting_job (entry_seen J.spec numbered.old).stage) }
     ensures finished { entry_seen J.spec numbered.new ≡ with_stage Ended (entry_seen J.spec numbered.old) }
 {
-    match mem::replace(&mut numbered.stage, Stage::Finished) {
-        Stage::Queued(job, slip) => Outcome {
+    match mem::replace(&mut numbered.stage, WorkStage::Finished) {
+        WorkStage::Queued(job, slip) => EndedWork {
             number,
             slip,
             ending: Ending::Cancelled(job),
@@ -109,6 +109,6 @@ pub(crate) fn complete<J: Job>(numbered: &mut Numbered<J>) -> u64
     ensures id { result ≡ (entry_seen J.spec numbered.old).id }
     ensures completed { entry_seen J.spec numbered.new ≡ with_stage Done (entry_seen J.spec numbered.old) }
 {
-    numbered.stage = Stage::Completed;
+    numbered.stage = WorkStage::Completed;
     numbered.id
 }

@@ -1,6 +1,6 @@
 //! The works that there are, each at the place of its id.
 ghost use Rattle.std.specs.Prelude.{◌≡◌, IsSome, None, Some, option_map};
-ghost use Rattle.async_work.specs.Places.{place_seen, places_seen, place_at, held_job, with_place_number};
+ghost use Rattle.async_work.specs.WorkPlaces.{place_seen, places_seen, place_at, held_job, with_place_number};
 
 use crate::Job;
 use napi_types::{JobSpec, Slip};
@@ -15,7 +15,7 @@ pub(crate) enum Standing<J> {
 
 /// A work, without its id.
 #[derive(Drop)]
-pub(crate) struct Place<J> {
+pub(crate) struct WorkPlace<J> {
     /// What its job computes.
     pub(crate) spec: JobSpec,
     pub(crate) addon: u32,
@@ -25,20 +25,20 @@ pub(crate) struct Place<J> {
 }
 
 /// The work of an id.
-pub(crate) fn place_of<J: Job>(places: &[Option<Place<J>>], id: u64) -> Option<&Place<J>>
+pub(crate) fn place_of<J: Job>(places: &[Option<WorkPlace<J>>], id: u64) -> Option<&WorkPlace<J>>
     ensures { option_map (λ p. place_seen J.spec p.now) result ≡ place_at (places_seen J.spec places.now) id }
 {
     places.get(id.checked_sub(1)? as usize)?.as_ref()
 }
 
 /// A work that was not queued before gets a number, and gives its job and its memory away.
-pub(crate) fn give_number<J: Job>(place: &mut Option<Place<J>>, number: u64) -> (J, Slip)
+pub(crate) fn give_number<J: Job>(place: &mut Option<WorkPlace<J>>, number: u64) -> (J, Slip)
     requires { IsSome (held_job (option_map (place_seen J.spec) place.old)) }
     ensures job { held_job (option_map (place_seen J.spec) place.old) ≡ Some (J.spec result.0) }
     ensures numbered { option_map (place_seen J.spec) place.new ≡ option_map (with_place_number number) (option_map (place_seen J.spec) place.old) }
 {
     let Some(
-        Place {
+        WorkPlace {
             spec,
             addon,
             entry,
@@ -49,7 +49,7 @@ pub(crate) fn give_number<J: Job>(place: &mut Option<Place<J>>, number: u64) -> 
     else {
         unreachable!()
     };
-    *place = Some(Place {
+    *place = Some(WorkPlace {
         spec,
         addon,
         entry,

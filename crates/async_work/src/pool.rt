@@ -3,16 +3,16 @@ ghost use Rattle.std.specs.Prelude.{◌≡◌, ◌+◌, ◌<◌, ◌^◌, ◌==�
 ghost use Rattle.std.specs.Prelude.{None, Some, IfSome, IfOk, OnOk, OnErr};
 ghost use Rattle.std.specs.Option.{is_none};
 ghost use Rattle.std.specs.Result.{result_err};
-ghost use Rattle.napi_types.specs.plain.Lists.{has_number, head, tail};
+ghost use Rattle.napi_types.specs.plain.Lists.{has_number, head, tail, is_empty};
 ghost use Rattle.napi_types.specs.parts.Pool.{new_pool, work_at, work_state, work_refusal, number_of_work, new_number, executed_by, value_of_work, completion_info, first_completion, with_work, without_work, with_queued, with_cancelled, cancelled_at, with_started, with_finished, with_completed, drained};
 ghost use Rattle.napi_types.specs.parts.Works.{is_created, is_queued, is_deletable};
 ghost use Rattle.async_work.specs.Line.{outcome_seen, outcome_status, outcome_of};
-ghost use Rattle.async_work.specs.Picking.{is_closing, is_nothing, is_empty, picked_work, finished_info, first_to_start, unspent_spec};
-ghost use Rattle.async_work.specs.Places.{place_seen, work_of};
-ghost use Rattle.async_work.specs.States.{state_seen, state_number};
+ghost use Rattle.async_work.specs.Picking.{is_closing, is_nothing, picked_work, finished_info, first_to_start, unspent_spec};
+ghost use Rattle.async_work.specs.WorkPlaces.{place_seen, work_of};
+ghost use Rattle.async_work.specs.WorkStates.{state_seen, state_number};
 
-use crate::line::{self, Ending, Numbered, Outcome, Stage};
-use crate::place::{self, Place, Standing};
+use crate::line::{self, Ending, Numbered, EndedWork, WorkStage};
+use crate::place::{self, WorkPlace, Standing};
 use crate::{Job, Ran, Running};
 use napi_types::{JobSpec, NoMemory, Slip, Status, WorkId};
 use std::alloc::Global;
@@ -53,13 +53,13 @@ pub enum Picked<J: Job> {
 #[derive(Drop)]
 pub struct Pool<J: Job> {
     // The work with the id n stands at n - 1. A place whose work was deleted stays empty.
-    places: Vec<Option<Place<J>>>,
+    places: Vec<Option<WorkPlace<J>>>,
     // The work with the number n stands at n - 1. There is room for each work.
     line: Vec<Numbered<J>>,
     // No work before this place of the line is queued.
     first: usize,
     // Works that came out and whose completion has not begun, in the order of finishing. There is room for each work.
-    finished: VecDeque<Outcome<J>>,
+    finished: VecDeque<EndedWork<J>>,
     queued: u64,
     running: u64,
     closing: bool,
@@ -70,9 +70,9 @@ impl<J: Job> Model for Pool<J> {
     ghost use Rattle.std.specs.Prelude.{vec_capacity};
     ghost use Rattle.std.specs.VecDeque.{deque_capacity};
     ghost use Rattle.napi_types.specs.parts.Pool.{WorkPool};
-    ghost use Rattle.async_work.specs.Kept.{pool_of, AreKept};
+    ghost use Rattle.async_work.specs.KeptPool.{pool_of, IsKeptPool};
     ghost use Rattle.async_work.specs.Line.{line_seen, outcomes_seen};
-    ghost use Rattle.async_work.specs.Places.{places_seen};
+    ghost use Rattle.async_work.specs.WorkPlaces.{places_seen};
 
     ghost Value = { WorkPool };
 
@@ -81,13 +81,13 @@ impl<J: Job> Model for Pool<J> {
         pool.closing };
 
     ghost invariant = { λ pool.
-        AreKept (places_seen J.spec pool.places.items) (line_seen J.spec pool.line.items) (outcomes_seen J.spec pool.finished.items)
+        IsKeptPool (places_seen J.spec pool.places.items) (line_seen J.spec pool.line.items) (outcomes_seen J.spec pool.finished.items)
         pool.first pool.queued pool.running pool.closing (vec_capacity pool.line) (deque_capacity pool.finished) };
 }
 
 /// How far a work has come.
 #[derive(Clone, Copy)]
-enum State {
+enum WorkProgress {
     Created,
     /// Under this number.
     Queued(u64),
@@ -96,12 +96,12 @@ enum State {
     Completed,
 }
 
-impl State {
+impl WorkProgress {
     /// Whether a work that has come so far may be deleted.
     fn is_deletable(self) -> bool
         ensures { result ≡ is_deletable (state_seen self) }
     {
-        matches!(self, State::Created | State::Completed)
+        matches!(self, WorkProgress::Created | WorkProgress::Completed)
     }
 }
 
@@ -143,7 +143,7 @@ impl<J: Job> Pool<J> {
         self.finished.reserve(works - self.finished.len())?;
         self.places.reserve(1)?;
         let slip = Slip::new(self.alloc)?;
-        self.places.push_reserved(Some(Place {
+        self.places.push_reserved(Some(WorkPlace {
             spec,
             addon,
             entry,
@@ -181,14 +181,14 @@ impl<J: Job> Pool<J> {
         ensures ok { OnOk result (self.new ≡ with_queued id.0 self.old) }
         ensures err { OnErr result (self.new ≡ self.old) }
     {
-        let State::Created = self.state(id).ok_or(Status::InvalidArg)? else {
+        let WorkProgress::Created = self.state(id).ok_or(Status::InvalidArg)? else {
             return Err(Status::GenericFailure);
         };
         let number = self.line.len() as u64 + 1;
         let (job, slip) = place::give_number(&mut self.places[(id.0 - 1) as usize], number);
         self.line.push_reserved(Numbered {
             id: id.0,
-            stage: Stage::Queued(job, slip),
+            stage: WorkStage::Queued(job, slip),
         });
         self.queued += 1;
         Ok(number)
@@ -203,7 +203,7 @@ impl<J: Job> Pool<J> {
         ensures ok { OnOk result (self.new ≡ with_cancelled id.0 self.old) }
         ensures err { OnErr result (self.new ≡ self.old) }
     {
-        let State::Queued(number) = self.state(id).ok_or(Status::InvalidArg)? else {
+        let WorkProgress::Queued(number) = self.state(id).ok_or(Status::InvalidArg)? else {
             return Err(Status::GenericFailure);
         };
         self.cancel_queued(number);
@@ -303,19 +303,19 @@ impl<J: Job> Pool<J> {
     }
 
     /// How far the work of an id has come.
-    fn state(&self, id: WorkId) -> Option<State>
+    fn state(&self, id: WorkId) -> Option<WorkProgress>
         ensures state { option_map state_seen result ≡ option_map (work_state self.now) (work_at self.now id.0) }
         ensures number { IfSome result (λ s. IfSome (state_number s) (λ n. number_of_work self.now id.0 ≡ Some n)) }
     {
         let place = place::place_of(&self.places, id.0)?;
         let Standing::Numbered(number) = place.standing else {
-            return Some(State::Created);
+            return Some(WorkProgress::Created);
         };
         Some(match self.line[(number - 1) as usize].stage {
-            Stage::Queued(..) => State::Queued(number),
-            Stage::Running(..) => State::Running,
-            Stage::Finished => State::Finished,
-            Stage::Completed => State::Completed,
+            WorkStage::Queued(..) => WorkProgress::Queued(number),
+            WorkStage::Running(..) => WorkProgress::Running,
+            WorkStage::Finished => WorkProgress::Finished,
+            WorkStage::Completed => WorkProgress::Completed,
         })
     }
 
@@ -345,13 +345,13 @@ impl<J: Job> Pool<J> {
 }
 
 /// What begins with the completion of a work that came out so.
-fn finished_of<J: Job>(place: &Place<J>, outcome: Outcome<J>) -> Finished<J>
+fn finished_of<J: Job>(place: &WorkPlace<J>, outcome: EndedWork<J>) -> Finished<J>
     ensures told { finished_info result ≡ completion_info (work_of 0 (place_seen J.spec place.now)) (outcome_of (outcome_seen J.spec outcome)) }
     ensures unspent { option_map J.spec result.job ≡ (outcome_seen J.spec outcome).unspent }
     ensures number { result.number ≡ outcome.number }
     ensures status { result.status ≡ outcome_status (outcome_seen J.spec outcome).unspent }
 {
-    let Outcome {
+    let EndedWork {
         number,
         slip,
         ending,

@@ -3,7 +3,7 @@ use Rattle.std.proofs.Common.{◌≡◌, ℕ, true, arith, Decides}
 use Rattle.std.specs.Ordering.{nat_cmp, is_eq, eq_by_cmp}
 use Rattle.napi_types.specs.parts.Hooks.{is_hook}
 use Rattle.cleanup_hooks.specs.declared.key.HookKey.{HookKey}
-use Rattle.cleanup_hooks.specs.Kept.{key_cmp, hook_of}
+use Rattle.cleanup_hooks.specs.KeptHooks.{key_cmp, hook_of}
 
 pub number-decides : (m n : ℕ) → Decides (eq_by_cmp nat_cmp m n) (m ≡ n)
 number-decides m n = (λ h. grind arith, λ h. grind arith)

@@ -1,5 +1,5 @@
-pub mod Found
+pub mod FoundHooks
 pub mod Keys
-pub mod Kept
-pub mod Order
+pub mod KeptHooks
+pub mod HookOrder
 pub mod Turned

@@ -21,13 +21,13 @@ pub struct Hooks {
 impl Model for Hooks {
     ghost use Rattle.std.specs.Prelude.{List};
     ghost use Rattle.napi_types.specs.parts.Hooks.{Hook};
-    ghost use Rattle.cleanup_hooks.specs.Kept.{hooks_of, AreKept};
+    ghost use Rattle.cleanup_hooks.specs.KeptHooks.{hooks_of, AreKeptHooks};
 
     ghost Value = { List Hook };
 
     ghost view = { λ hooks. hooks_of hooks.by_ticket.entries };
 
-    ghost invariant = { λ hooks. AreKept hooks.by_ticket hooks.by_key };
+    ghost invariant = { λ hooks. AreKeptHooks hooks.by_ticket hooks.by_key };
 }
 
 impl Hooks {
@@ -91,7 +91,7 @@ impl Hooks {
     /// hook has it nothing changes.
     ///
     /// In time logarithmic in how many hooks there are. It takes no memory.
-    #[tactic(auto, using(crate::proofs::Order::hooks_of_remove_entry))]
+    #[tactic(auto, using(crate::proofs::HookOrder::hooks_of_remove_entry))]
     pub fn remove(&mut self, ticket: Ticket)
         ensures { self.new ≡ without_hook ticket.0 self.old }
     {
@@ -103,7 +103,7 @@ impl Hooks {
     /// The ticket of the hook that was added last, `None` exactly where there are no hooks.
     ///
     /// In time logarithmic in how many hooks there are.
-    #[tactic(auto, using(crate::proofs::Order::last_hook_at))]
+    #[tactic(auto, using(crate::proofs::HookOrder::last_hook_at))]
     pub fn last_added(&self) -> Option<Ticket>
         ensures { option_map (λ t. t.0) result ≡ option_map (λ h. h.ticket) (last_hook self.now) }
     {
@@ -114,7 +114,7 @@ impl Hooks {
     /// Takes out the hook that was added last, and tells its ticket. `None` exactly where there are no hooks.
     ///
     /// In time logarithmic in how many hooks there are. It takes no memory.
-    #[tactic(auto, using(crate::proofs::Order::last_hook_push, crate::proofs::Order::without_hook_push))]
+    #[tactic(auto, using(crate::proofs::HookOrder::last_hook_push, crate::proofs::HookOrder::without_hook_push))]
     pub fn take_last(&mut self) -> Option<Ticket>
         ensures none { (result ≡ None) ↔ (self.old ≡ []) }
         ensures stays { result ≡ None → self.new ≡ self.old }

@@ -22,11 +22,11 @@ use Rattle.napi_types.specs.environment.Environment.{Environment}
 use Rattle.napi_types.specs.environment.Refusals.{timely_refusal}
 use Rattle.napi_types.proofs.plain.Found.{same-tells, same-self, has-found, as_map-with_record, as_map-kept}
 use Rattle.napi_types.proofs.plain.Maps.{All-with_record}
-use Rattle.env_values.specs.Seen.{KeepsValues}
-use Rattle.env_core.specs.declared.handles.Takes.{Takes}
-use Rattle.env_core.specs.declared.handles.Takes.TheVariants as takes
+use Rattle.env_values.specs.SeenValues.{KeepsValues}
+use Rattle.env_core.specs.declared.handles.Attachable.{Attachable}
+use Rattle.env_core.specs.declared.handles.Attachable.TheVariants as takes
 use Rattle.env_core.specs.Attaching.{seen_wrap, seen_tag, seen_attached, attachments_seen, IsGiven, IsAttached, is_accepted, target_refusal}
-use Rattle.env_core.specs.Registering.{wants_alone}
+use Rattle.env_core.specs.RegisteringWants.{wants_alone}
 use Rattle.env_core.specs.State.{AnswersInTime}
 use Rattle.env_core.proofs.Referring.{refused-timely, accepted-timely}
 use Rattle.env_core.proofs.Renaming.{same-renamed, found-seen, has-seen, seen-with_record, seen-filter}
@@ -161,7 +161,7 @@ regrouped true None row = refl
 regrouped true (Some st) row = refl
 regrouped false o row = refl
 
-timely-row : (e : Environment) (h : HandleId) (kinds : Takes) (row hung : Option Status)
+timely-row : (e : Environment) (h : HandleId) (kinds : Attachable) (row hung : Option Status)
     → option_or (option_or (unless ((is_some (gives e.heap.scopes h.0) && true) && true) status.InvalidArg) (option_or (expects e.heap h (is_accepted kinds) status.ObjectExpected) row)) hung
     ≡ option_or (option_or (target_refusal kinds e.heap h) row) hung
 timely-row e h kinds row hung = ap (λ o. option_or o hung) (regrouped (is_some (gives e.heap.scopes h.0)) (expects e.heap h (is_accepted kinds) status.ObjectExpected) row)

@@ -21,7 +21,7 @@ use Rattle.napi_types.specs.parts.Heap.{Heap}
 use Rattle.napi_types.specs.parts.HeapChanges.{with_frame}
 use Rattle.napi_types.specs.parts.Hooks.{Hook, last_hook, without_hook}
 use Rattle.napi_types.specs.parts.References.{ReferenceMap}
-use Rattle.napi_types.specs.parts.Scopes.{Held, held_by_frames}
+use Rattle.napi_types.specs.parts.Scopes.{OpenHandle, held_by_frames}
 use Rattle.napi_types.specs.environment.Ends.{duty_ended, without_innermost_frame, outermost_end_change}
 use Rattle.napi_types.specs.environment.Environment.{Environment}
 use Rattle.napi_types.specs.environment.Hooked.{is_late, IsHooked}
@@ -32,7 +32,7 @@ use Rattle.napi_types.proofs.parts.Moved.{IsUnder, PassesTest, under-ticket, is_
 use Rattle.napi_types.proofs.parts.Moves.{Move, Ends, next, begun-moved}
 use Rattle.napi_types.proofs.environment.HookedSteps.{hook-registered}
 use Rattle.napi_types.proofs.environment.Registrations.{registered-holds, left-kept, AreUncalled}
-use Rattle.finalizer_queue.specs.Kept.{ticket_number}
+use Rattle.finalizer_queue.specs.KeptBook.{ticket_number}
 use Rattle.handle_scope.specs.HandleScopes.{HandleScopes, with_frame_scopes}
 use Rattle.env_core.specs.Attaching.{IsAttached}
 use Rattle.env_core.specs.Beginning.{AreBegun, IsBookOf}
@@ -183,7 +183,7 @@ not-by-call _ uncalled = refl
 pub state-begun : {m : ReferenceMap} (store : StoreState) (old new : HandleScopes) (frames left : List Frame) (thrown : Option ℕ) (f : Frame) → IsState store old frames thrown m
     → new ≡ with_frame_scopes old → left ≡ f ∷ frames → f.cause ≢ cause.Call → IsState store new left thrown m
 state-begun store old new frames left thrown f s scopes is uncalled =
-    let P : List Held → Type 0 = λ hs. All (λ (h : Held). IsLive store h.value) hs in
+    let P : List OpenHandle → Type 0 = λ hs. All (λ (h : OpenHandle). IsLive store h.value) hs in
     rw (scopes, is) (record {
       live = subst P (sym (append-nil (held_by_frames old.frames))) s.live;
       frames = ap suc s.frames;

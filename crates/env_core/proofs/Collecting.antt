@@ -15,22 +15,22 @@ use Rattle.napi_types.specs.parts.Graph.{StoreState, IsLive, number_in, graph_of
 use Rattle.napi_types.specs.parts.Heap.{Heap}
 use Rattle.napi_types.specs.parts.Reach.{reach_from}
 use Rattle.napi_types.specs.parts.References.{Reference, ReferenceMap, strong_values, value_left, emptied}
-use Rattle.napi_types.specs.parts.Scopes.{Held, held_by_frames}
+use Rattle.napi_types.specs.parts.Scopes.{OpenHandle, held_by_frames}
 use Rattle.napi_types.specs.parts.Values.{Value, those_of, all_but}
 use Rattle.napi_types.specs.environment.Collection.{is_freed, collected}
 use Rattle.napi_types.specs.environment.Environment.{Environment}
 use Rattle.napi_types.specs.environment.Roots.{roots, reach}
 use Rattle.napi_types.proofs.plain.Lists.{All-left, All-right}
 use Rattle.napi_types.proofs.parts.Reaching.{reach_from-same}
-use Rattle.value_store.specs.Changes.{Frees}
+use Rattle.value_store.specs.StoreChanges.{Frees}
 use Rattle.handle_scope.specs.HandleScopes.{HandleScopes}
-use Rattle.env_values.specs.Seen.{seen_frame, heap_of}
-use Rattle.env_values.proofs.Seen.{IsSame, seen-same}
+use Rattle.env_values.specs.SeenValues.{seen_frame, heap_of}
+use Rattle.env_values.proofs.SeenValues.{IsSame, seen-same}
 use Rattle.trace_collect.specs.Collects.{reached, AreUnreached}
 use Rattle.env_core.specs.Referring.{seen_reference, references_seen, RefersToLive}
 use Rattle.env_core.specs.Rooting.{AreRoots, held_values}
 use Rattle.env_core.specs.State.{pending_seen, IsState, AnswersInTime}
-use Rattle.env_core.proofs.Rooting.{whole, roots-seen, same-holds}
+use Rattle.env_core.proofs.Rooting.{whole_environment, roots-seen, same-holds}
 
 -- the store freed exactly the live values that are not alive, and the roots are not among them
 pub record FreesOthers (s t : StoreState) (roots freed alive : List ℕ) : Type 0 where
@@ -99,14 +99,14 @@ module _ (s t : StoreState) (ids freed alive : List ℕ) (c : FreesOthers s t id
   seen-emptied m live = ap (λ l. record m { rows = l }) (rows-emptied m.rows live)
 
   -- HANDLES
-  held-kept : (hs : List Held) → All (λ r. has_number r freed ≡ false) (map (λ h. h.value) hs) → All (λ p. IsLive s p.value) hs → All (λ p. IsLive t p.value) hs
-  held-kept [] kept live = All-nil (λ (p : Held). IsLive t p.value)
+  held-kept : (hs : List OpenHandle) → All (λ r. has_number r freed ≡ false) (map (λ h. h.value) hs) → All (λ p. IsLive s p.value) hs → All (λ p. IsLive t p.value) hs
+  held-kept [] kept live = All-nil (λ (p : OpenHandle). IsLive t p.value)
   held-kept (h ∷ hs) kept live =
       let K : ℕ → Type 0 = λ r. has_number r freed ≡ false in
-      All-cons (λ (p : Held). IsLive t p.value) h hs (stays-live h.value (All-head K h.value _ kept) (All-head (λ (p : Held). IsLive s p.value) h hs live))
-      (held-kept hs (All-tail K h.value _ kept) (All-tail (λ (p : Held). IsLive s p.value) h hs live))
+      All-cons (λ (p : OpenHandle). IsLive t p.value) h hs (stays-live h.value (All-head K h.value _ kept) (All-head (λ (p : OpenHandle). IsLive s p.value) h hs live))
+      (held-kept hs (All-tail K h.value _ kept) (All-tail (λ (p : OpenHandle). IsLive s p.value) h hs live))
 
-  held-same : (hs : List Held) → All (λ r. has_number r freed ≡ false) (map (λ h. h.value) hs) → All (IsSame s t) hs
+  held-same : (hs : List OpenHandle) → All (λ r. has_number r freed ≡ false) (map (λ h. h.value) hs) → All (IsSame s t) hs
   held-same [] kept = All-nil (IsSame s t)
   held-same (h ∷ hs) kept =
       let K : ℕ → Type 0 = λ r. has_number r freed ≡ false in
@@ -163,9 +163,9 @@ pub collected-answers : (e : Environment) (s t : StoreState) (scopes : HandleSco
     → IsState s scopes frames p m → AreRoots s scopes m p ids → alive ≡ reach_from (graph_of s) (map (number_in s) ids) → FreesOthers s t ids freed alive
     → graph_of t ≡ those_of alive (graph_of s) → count ≡ length (all_but alive (graph_of s)) → n ≡ emptied (λ v. has_number v freed) m
     → (hung : Attachments) (book : Book) → hung ≡ left_on (is_freed alive) e.attachments → book ≡ due_where (hangs_on (is_freed alive) e.attachments) e.book
-    → AnswersInTime (whole e s scopes m p) call.Collect (plain status.Ok (out.Unsigned count)) (record (whole e t scopes n p) { attachments = hung; book = book })
+    → AnswersInTime (whole_environment e s scopes m p) call.Collect (plain status.Ok (out.Unsigned count)) (record (whole_environment e t scopes n p) { attachments = hung; book = book })
 collected-answers e s t scopes frames m n p ids freed alive count i r are c graph counted empty hung book left due =
-    let before : Environment = whole e s scopes m p in
+    let before : Environment = whole_environment e s scopes m p in
     let k : KeepsRoots freed scopes m p = keeps-roots s t scopes m p ids freed alive r c in
     let reached : alive ≡ reach before = are ∙ reach_from-same (graph_of s) (map (number_in s) ids) (roots before) (roots-seen s e scopes m p ids r) in
     let values : graph_of t ≡ those_of (reach before) (graph_of s) = graph ∙ ap (λ a. those_of a (graph_of s)) reached in

@@ -41,7 +41,7 @@ use Rattle.napi_types.proofs.environment.Registrations.{owed-in}
 use Rattle.env_core.specs.Journal.{Pages}
 use Rattle.env_core.specs.Core.{Core, IsCore, after_change, room_in}
 use Rattle.env_core.specs.State.{Calls}
-use Rattle.env_core.specs.Steps.{Replies}
+use Rattle.env_core.specs.CoreSteps.{Replies}
 use Rattle.env_core.proofs.Beginning.{last-registered, length-duty}
 
 -- the core of an environment and a journal

@@ -6,7 +6,7 @@ use Rattle.napi_types.specs.parts.Frames.{Frame}
 use Rattle.napi_types.specs.parts.Graph.{StoreState, IsLive}
 use Rattle.napi_types.specs.parts.References.{ReferenceMap}
 use Rattle.napi_types.specs.parts.ScopeChanges.{hold_in}
-use Rattle.napi_types.specs.parts.Scopes.{Held, FrameScopes, held_by_scopes, held_by_frames}
+use Rattle.napi_types.specs.parts.Scopes.{OpenHandle, FrameScopes, held_by_scopes, held_by_frames}
 use Rattle.napi_types.proofs.plain.Lists.{length-changed, length-tail, All-left}
 use Rattle.handle_scope.specs.HandleScopes.{HandleScopes, without_frame_scopes, without_call_scopes, with_issued_handle}
 use Rattle.env_values.proofs.Giving.{issued-live}
@@ -14,7 +14,7 @@ use Rattle.env_core.specs.State.{IsState, is_by_call}
 use Rattle.env_core.proofs.SeenScopes.{map-tail}
 
 -- what the frames outside hold was held before
-all-left : (P : Held → Type 0) (fs : List FrameScopes) → All P (held_by_frames fs) → All P (held_by_frames (tail fs))
+all-left : (P : OpenHandle → Type 0) (fs : List FrameScopes) → All P (held_by_frames fs) → All P (held_by_frames (tail fs))
 all-left P [] h = h
 all-left P (f ∷ fs) h = All-left P (held_by_frames fs) (f.own ++ held_by_scopes f.opened) h
 

@@ -11,7 +11,7 @@ use Rattle.napi_types.specs.parts.Graph.{StoreState, IsSoundStore, IsLive, numbe
 use Rattle.napi_types.specs.environment.Collection.{is_freed}
 use Rattle.napi_types.proofs.plain.Found.{passing, map-rising, as_map-kept}
 use Rattle.napi_types.proofs.plain.Lists.{any-map}
-use Rattle.finalizer_queue.proofs.Moves.{length-due_where}
+use Rattle.finalizer_queue.proofs.RowMoves.{length-due_where}
 use Rattle.wrap_tag.specs.Wraps.{AreGiven}
 use Rattle.wrap_tag.proofs.Dues.{due_where-same}
 use Rattle.env_core.specs.Attaching.{seen_wrap, seen_tag, seen_attached, attachments_seen, IsGiven, IsAttached}

@@ -2,9 +2,10 @@ pub mod Attaching
 pub mod Beginning
 pub mod Called
 pub mod Collecting
+pub mod CoreExceptions
+pub mod CoreScopes
 pub mod Cores
 pub mod Ending
-pub mod Exceptions
 pub mod Freeing
 pub mod Knowing
 pub mod Looking
@@ -12,7 +13,6 @@ pub mod Referring
 pub mod Registered
 pub mod Renaming
 pub mod Rooting
-pub mod Scopes
 pub mod SeenScopes
 pub mod Unrefused
 pub mod ValueAnswers

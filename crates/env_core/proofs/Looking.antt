@@ -12,11 +12,11 @@ use Rattle.napi_types.specs.parts.Heap.{handle_value, handle_body}
 use Rattle.napi_types.specs.parts.Scopes.{gives}
 use Rattle.napi_types.specs.parts.Values.{Value, undefined_value, value_at}
 use Rattle.handle_scope.specs.HandleScopes.{HandleScopes}
-use Rattle.env_values.specs.Seen.{heap_of, HoldsLive}
-use Rattle.env_core.specs.declared.handles.Takes.{Takes}
+use Rattle.env_values.specs.SeenValues.{heap_of, HoldsLive}
+use Rattle.env_core.specs.declared.handles.Attachable.{Attachable}
 use Rattle.env_core.specs.Attaching.{is_accepted, target_refusal}
 use Rattle.env_values.proofs.HandleValues.{given-live}
-use Rattle.env_values.proofs.Seen.{gives-seen}
+use Rattle.env_values.proofs.SeenValues.{gives-seen}
 
 -- what a handle gives is live
 pub looked_live : (store : StoreState) (scopes : HandleScopes) (h : ℕ) (o : Option ValueId) → option_map (λ (v : ValueId). v.0) o ≡ gives scopes.frames h → HoldsLive store scopes
@@ -44,7 +44,7 @@ held-seen store scopes h None e = ap (λ (o : Option ℕ). is_some (option_map (
 held-seen store scopes h (Some v) e = ap (λ (o : Option ℕ). is_some (option_map (number_in store) o)) e ∙ ap is_some (sym (gives-seen store scopes.frames h))
 
 -- A VALUE THAT A CALL TAKES
-module _ (store : StoreState) (scopes : HandleScopes) (h : HandleId) (kinds : Takes) (o : Option ValueId) (looked : option_map (λ (v : ValueId). v.0) o ≡ gives scopes.frames h.0) where
+module _ (store : StoreState) (scopes : HandleScopes) (h : HandleId) (kinds : Attachable) (o : Option ValueId) (looked : option_map (λ (v : ValueId). v.0) o ≡ gives scopes.frames h.0) where
   known-told : (b : Bool) → is_some o ≡ b → target_refusal kinds (heap_of store scopes) h
       ≡ option_or (unless b status.InvalidArg) (expects (heap_of store scopes) h (is_accepted kinds) status.ObjectExpected)
   known-told b is =

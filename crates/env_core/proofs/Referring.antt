@@ -27,10 +27,10 @@ use Rattle.napi_types.specs.environment.ReferenceCalls.{counted_up, value_told}
 use Rattle.napi_types.specs.environment.Refusals.{timely_refusal}
 use Rattle.napi_types.proofs.plain.Maps.{map-filter, map-with_record}
 use Rattle.handle_scope.specs.HandleScopes.{HandleScopes}
-use Rattle.env_values.specs.Seen.{heap_of}
+use Rattle.env_values.specs.SeenValues.{heap_of}
 use Rattle.env_values.proofs.Giving.{given-answer}
-use Rattle.napi_reference.specs.Places.{ReferencePlaces, map_of}
-use Rattle.napi_reference.proofs.Keeping.{AllValues-with_count, referred_value-AllValues}
+use Rattle.napi_reference.specs.ReferencePlaces.{ReferencePlaces, map_of}
+use Rattle.napi_reference.proofs.KeepingReferences.{AllValues-with_count, referred_value-AllValues}
 use Rattle.env_core.specs.Referring.{seen_reference, references_seen, RefersToLive}
 use Rattle.env_core.specs.State.{AnswersInTime}
 

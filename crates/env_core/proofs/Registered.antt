@@ -40,13 +40,13 @@ use Rattle.napi_types.proofs.plain.Found.{apart-below}
 use Rattle.napi_types.proofs.parts.Books.{length-moved}
 use Rattle.napi_types.proofs.parts.Moves.{Withdraws}
 use Rattle.handle_scope.specs.HandleScopes.{HandleScopes}
-use Rattle.env_values.specs.Seen.{seen_frame, heap_of}
+use Rattle.env_values.specs.SeenValues.{seen_frame, heap_of}
 use Rattle.env_core.specs.Attaching.{seen_wrap, seen_attached, attachments_seen, IsGiven, IsAttached, target_refusal}
 use Rattle.env_core.specs.Beginning.{IsBookOf}
-use Rattle.env_core.specs.declared.handles.Takes.TheVariants as takes
-use Rattle.napi_reference.proofs.Keeping.{AllValues-with_reference}
+use Rattle.env_core.specs.declared.handles.Attachable.TheVariants as takes
+use Rattle.napi_reference.proofs.KeepingReferences.{AllValues-with_reference}
 use Rattle.env_core.specs.Referring.{references_seen, RefersToLive}
-use Rattle.env_core.specs.Registering.{ticket_for, with_registration_if, duty_if, withdrawn_if, RefersIf}
+use Rattle.env_core.specs.RegisteringWants.{ticket_for, with_registration_if, duty_if, withdrawn_if, RefersIf}
 use Rattle.env_core.specs.State.{AnswersInTime}
 use Rattle.env_core.proofs.Attaching.{seen-wrap_of, seen-with_wrap, seen-without_wrap, attached-with_wrap, seen-payload, wrap-free, target-taken, timely-finalizer}
 use Rattle.env_core.proofs.Beginning.{book-registered, book-moved}
@@ -196,22 +196,22 @@ registered-answers e mid new c o f made none fresh is duty after =
     ∙ ap (λ (x : Environment). record { reply = told o None made; after = x }) (sym after))
 
 -- the environment with these attachments, these references and this book
-abbrev pub holding : Environment → StoreState → Attachments → ReferenceMap → Book → Environment
-holding e s a m book = record e { attachments = attachments_seen s a; references = references_seen s m; book = book }
+abbrev pub attached_with : Environment → StoreState → Attachments → ReferenceMap → Book → Environment
+attached_with e s a m book = record e { attachments = attachments_seen s a; references = references_seen s m; book = book }
 
 module _ (e : Environment) (s : StoreState) (sound : IsSoundStore s) (a : Attachments) (book : Book) (i : IsAttached s a book) (h : HandleId) (v : ℕ) (live : IsLive s v)
     (number : number_in s v ≡ handle_value e.heap h.0) (m : ReferenceMap) where
   abbrev here : Environment
-  here = holding e s a m book
+  here = attached_with e s a m book
 
   abbrev named : ℕ
   named = handle_value e.heap h.0
 
   pub wrap-answers : (n : ReferenceMap) (payload hint : ℕ) (entry : Option ℕ) (wanted : Bool) (o : Out) (f : Option Registration) (made : Option Duty) (new : Attachments) (after : Book)
-      → timely_refusal (holding e s a m book) (call.Wrap h payload entry hint wanted) ≡ None → None ≡ option_map (λ (w : Wrapped). w.payload) (wrap_of a v)
+      → timely_refusal (attached_with e s a m book) (call.Wrap h payload entry hint wanted) ≡ None → None ≡ option_map (λ (w : Wrapped). w.payload) (wrap_of a v)
       → f ≡ finalizer_if e payload entry hint → new ≡ with_wrap v payload (ticket_for book f) a → RefersIf wanted v m o n
       → made ≡ duty_if (ticket_for book f) → after ≡ with_registration_if f book
-      → AnswersInTime (holding e s a m book) (call.Wrap h payload entry hint wanted) (told o None made) (holding e s new n after)
+      → AnswersInTime (attached_with e s a m book) (call.Wrap h payload entry hint wanted) (told o None made) (attached_with e s new n after)
   wrap-answers n payload hint entry wanted o f made new after none free is wrapped refers duty noted =
       let c = call.Wrap h payload entry hint wanted in
       let asked : Option Registration = finalizer_if e payload entry hint in
@@ -222,20 +222,20 @@ module _ (e : Environment) (s : StoreState) (sound : IsSoundStore s) (a : Attach
       let hung : attachments_seen s new ≡ with_wrap named payload (ticket_if book entry) (attachments_seen s a) =
       ap (attachments_seen s) wrapped ∙ seen-with_wrap s sound a v payload (ticket_for book f) live i.wraps i.wrapped_once (wrap-free a v free)
       ∙ ap (λ k. with_wrap k payload (ticket_for book f) (attachments_seen s a)) number ∙ ap (λ t. with_wrap named payload t (attachments_seen s a)) ticket in
-      registered-answers here (with_references (references_seen s n) mid) (holding e s new n after) c o asked made none (refers-fresh here wanted named o (references_seen s n) seen)
+      registered-answers here (with_references (references_seen s n) mid) (attached_with e s new n after) c o asked made none (refers-fresh here wanted named o (references_seen s n) seen)
       (ap (registering_if asked) (referring-is mid wanted named o (references_seen s n) seen))
       (duty ∙ ap (λ x. duty_if (ticket_for book x)) is)
       (ap (λ x. record here { attachments = x; references = references_seen s n; book = after }) hung
       ∙ ap (λ (b : Book). record mid { references = references_seen s n; book = b }) (noted ∙ ap (λ x. with_registration_if x book) is))
 
-  pub finalizer-unrefused : (payload entry hint : ℕ) (wanted : Bool) → None ≡ target_refusal takes.Objects e.heap h → timely_refusal (holding e s a m book) (call.AddFinalizer h payload entry hint wanted) ≡ None
+  pub finalizer-unrefused : (payload entry hint : ℕ) (wanted : Bool) → None ≡ target_refusal takes.Objects e.heap h → timely_refusal (attached_with e s a m book) (call.AddFinalizer h payload entry hint wanted) ≡ None
   finalizer-unrefused payload entry hint wanted taken =
       target-taken here (call.AddFinalizer h payload entry hint wanted) (target_refusal takes.Objects e.heap h) None None (timely-finalizer here h payload entry hint wanted) taken
 
   pub finalizer-answers : (n : ReferenceMap) (payload entry hint : ℕ) (wanted : Bool) (o : Out) (f : Option Registration) (made : Option Duty) (new : Attachments) (after : Book)
       → None ≡ target_refusal takes.Objects e.heap h → f ≡ finalizer_if e payload (Some entry) hint → new ≡ attached_if v (ticket_for book f) a → RefersIf wanted v m o n
       → made ≡ duty_if (ticket_for book f) → after ≡ with_registration_if f book
-      → AnswersInTime (holding e s a m book) (call.AddFinalizer h payload entry hint wanted) (told o None made) (holding e s new n after)
+      → AnswersInTime (attached_with e s a m book) (call.AddFinalizer h payload entry hint wanted) (told o None made) (attached_with e s new n after)
   finalizer-answers n payload entry hint wanted o f made new after taken is attached refers duty noted =
       let c = call.AddFinalizer h payload entry hint wanted in
       let asked : Option Registration = finalizer_if e payload (Some entry) hint in
@@ -245,7 +245,7 @@ module _ (e : Environment) (s : StoreState) (sound : IsSoundStore s) (a : Attach
       let hung : attachments_seen s new ≡ with_attached named (new_ticket book) (attachments_seen s a) =
       ap (attachments_seen s) attached ∙ seen-attached_if s a v (ticket_for book f) ∙ ap (λ k. attached_if k (ticket_for book f) (attachments_seen s a)) number
       ∙ ap (λ x. attached_if named (ticket_for book x) (attachments_seen s a)) is in
-      registered-answers here (with_references (references_seen s n) mid) (holding e s new n after) c o asked made (finalizer-unrefused payload entry hint wanted taken)
+      registered-answers here (with_references (references_seen s n) mid) (attached_with e s new n after) c o asked made (finalizer-unrefused payload entry hint wanted taken)
       (refers-fresh here wanted named o (references_seen s n) seen)
       (ap (registering_if asked) (referring-is mid wanted named o (references_seen s n) seen))
       (duty ∙ ap (λ x. duty_if (ticket_for book x)) is)
@@ -262,16 +262,16 @@ module _ (e : Environment) (s : StoreState) (sound : IsSoundStore s) (a : Attach
       by (Some w) = refl
 
   pub remove-answers : (payload : ℕ) (ticket : Option ℕ) (dropped : Option Duty) (new : Attachments) (after : Book)
-      → timely_refusal (holding e s a m book) (call.RemoveWrap h) ≡ None → Some payload ≡ option_map (λ (w : Wrapped). w.payload) (wrap_of a v) → ticket ≡ wrap_ticket a v → new ≡ without_wrap v a
+      → timely_refusal (attached_with e s a m book) (call.RemoveWrap h) ≡ None → Some payload ≡ option_map (λ (w : Wrapped). w.payload) (wrap_of a v) → ticket ≡ wrap_ticket a v → new ≡ without_wrap v a
       → dropped ≡ duty_if (registered_only book ticket) → after ≡ withdrawn_if (registered_only book ticket) book
-      → AnswersInTime (holding e s a m book) (call.RemoveWrap h) (told (out.Unsigned payload) dropped None) (holding e s new m after)
+      → AnswersInTime (attached_with e s a m book) (call.RemoveWrap h) (told (out.Unsigned payload) dropped None) (attached_with e s new m after)
   remove-answers payload ticket dropped new after none is had left duty withdrawn =
       let found : Option ℕ = registered_only book (wrap_ticket (attachments_seen s a) named) in
       let mid : Environment = record here { attachments = without_wrap named (attachments_seen s a) } in
       let was : registered_only book ticket ≡ found = ap (registered_only book) (had ∙ sym seen-ticket) in
       let bare : attachments_seen s new ≡ without_wrap named (attachments_seen s a) =
       ap (attachments_seen s) left ∙ seen-without_wrap s sound a v live i.wraps ∙ ap (λ k. without_wrap k (attachments_seen s a)) number in
-      replied-timely here (holding e s new m after) (call.RemoveWrap h) (told (out.Unsigned payload) dropped None) none refl
+      replied-timely here (attached_with e s new m after) (call.RemoveWrap h) (told (out.Unsigned payload) dropped None) none refl
       (ap (λ k. withdrawing found (accepts (out.Unsigned k) mid)) (sym (seen-payload e s sound a book i h v live number payload is))
       ∙ withdrawing-is found (out.Unsigned payload) mid
       ∙ ap (λ d. record { reply = told (out.Unsigned payload) d None; after = record mid { book = withdrawn_if found book } }) (sym (duty ∙ ap duty_if was))

@@ -9,17 +9,17 @@ use Rattle.napi_types.specs.plain.Lists.{has_number, HaveSameNumbers}
 use Rattle.napi_types.specs.parts.Graph.{StoreState, IsLive, number_in}
 use Rattle.napi_types.specs.parts.Reach.{numbers}
 use Rattle.napi_types.specs.parts.References.{Reference, ReferenceMap, strong_value, strong_values}
-use Rattle.napi_types.specs.parts.Scopes.{Held, Scope, FrameScopes, held_by_scopes, held_by_frame, held_by_frames}
+use Rattle.napi_types.specs.parts.Scopes.{OpenHandle, Scope, FrameScopes, held_by_scopes, held_by_frame, held_by_frames}
 use Rattle.napi_types.specs.parts.Values.{starting_values}
 use Rattle.napi_types.specs.environment.Environment.{Environment}
 use Rattle.napi_types.specs.environment.Roots.{roots}
 use Rattle.napi_types.proofs.plain.Maps.{among-holds, all-among}
 use Rattle.napi_types.proofs.plain.Conditions.{alike}
-use Rattle.trace_collect.proofs.Members.{has-map, from-map}
+use Rattle.trace_collect.proofs.MarkMembers.{has-map, from-map}
 use Rattle.handle_scope.specs.HandleScopes.{HandleScopes, held_places, free_place, frame_places, handle_places}
-use Rattle.env_values.specs.Seen.{seen_held, seen_scope, seen_frame, heap_of, HoldsLive}
-use Rattle.napi_reference.specs.Places.{strong_in}
-use Rattle.napi_reference.proofs.Keeping.{strong_values-AllValues}
+use Rattle.env_values.specs.SeenValues.{seen_held, seen_scope, seen_frame, heap_of, HoldsLive}
+use Rattle.napi_reference.specs.ReferencePlaces.{strong_in}
+use Rattle.napi_reference.proofs.KeepingReferences.{strong_values-AllValues}
 use Rattle.trace_collect.specs.Collects.{HoldsStarting}
 use Rattle.env_core.specs.Referring.{seen_reference, references_seen, RefersToLive}
 use Rattle.env_core.specs.Rooting.{AreStarting, AreRoots, held_values}
@@ -49,32 +49,32 @@ same-holds P ms ns same all = all-among P ns (λ n here. among-holds P ms n all 
 
 -- THE MACHINE'S ROOTS
 -- the environment with these values, scopes, references and pending exception; no thread-safe function keeps a value alive
-abbrev pub whole : Environment → StoreState → HandleScopes → ReferenceMap → Option ℕ → Environment
-whole e s scopes m p = record e { heap = heap_of s scopes; references = references_seen s m; function_roots = []; pending = pending_seen s p }
+abbrev pub whole_environment : Environment → StoreState → HandleScopes → ReferenceMap → Option ℕ → Environment
+whole_environment e s scopes m p = record e { heap = heap_of s scopes; references = references_seen s m; function_roots = []; pending = pending_seen s p }
 
-abbrev values_of : List Held → List ℕ
-values_of hs = map (λ h. h.value) hs
+abbrev handle_values : List OpenHandle → List ℕ
+handle_values hs = map (λ h. h.value) hs
 
 module _ (s : StoreState) where
-  held-seen : (hs : List Held) → values_of (map (seen_held s) hs) ≡ map (number_in s) (values_of hs)
+  held-seen : (hs : List OpenHandle) → handle_values (map (seen_held s) hs) ≡ map (number_in s) (handle_values hs)
   held-seen [] = refl
   held-seen (h ∷ hs) = ap (λ l. number_in s h.value ∷ l) (held-seen hs)
 
   -- two lists of handles that are seen so are seen so together
-  joined : (hs ks xs ys : List Held) → values_of hs ≡ map (number_in s) (values_of xs) → values_of ks ≡ map (number_in s) (values_of ys)
-      → values_of (hs ++ ks) ≡ map (number_in s) (values_of (xs ++ ys))
+  joined : (hs ks xs ys : List OpenHandle) → handle_values hs ≡ map (number_in s) (handle_values xs) → handle_values ks ≡ map (number_in s) (handle_values ys)
+      → handle_values (hs ++ ks) ≡ map (number_in s) (handle_values (xs ++ ys))
   joined hs ks xs ys e f =
-      map-append (λ (h : Held). h.value) hs ks ∙ ap (λ l. l ++ values_of ks) e ∙ ap (λ l. map (number_in s) (values_of xs) ++ l) f
-      ∙ sym (map-append (number_in s) (values_of xs) (values_of ys)) ∙ ap (map (number_in s)) (sym (map-append (λ (h : Held). h.value) xs ys))
+      map-append (λ (h : OpenHandle). h.value) hs ks ∙ ap (λ l. l ++ handle_values ks) e ∙ ap (λ l. map (number_in s) (handle_values xs) ++ l) f
+      ∙ sym (map-append (number_in s) (handle_values xs) (handle_values ys)) ∙ ap (map (number_in s)) (sym (map-append (λ (h : OpenHandle). h.value) xs ys))
 
-  scopes-seen : (ss : List Scope) → values_of (held_by_scopes (map (seen_scope s) ss)) ≡ map (number_in s) (values_of (held_by_scopes ss))
+  scopes-seen : (ss : List Scope) → handle_values (held_by_scopes (map (seen_scope s) ss)) ≡ map (number_in s) (handle_values (held_by_scopes ss))
   scopes-seen [] = refl
   scopes-seen (x ∷ ss) = joined (held_by_scopes (map (seen_scope s) ss)) (map (seen_held s) x.held) (held_by_scopes ss) x.held (scopes-seen ss) (held-seen x.held)
 
-  frame-seen : (f : FrameScopes) → values_of (held_by_frame (seen_frame s f)) ≡ map (number_in s) (values_of (held_by_frame f))
+  frame-seen : (f : FrameScopes) → handle_values (held_by_frame (seen_frame s f)) ≡ map (number_in s) (handle_values (held_by_frame f))
   frame-seen f = joined (map (seen_held s) f.own) (held_by_scopes (map (seen_scope s) f.opened)) f.own (held_by_scopes f.opened) (held-seen f.own) (scopes-seen f.opened)
 
-  frames-seen : (fs : List FrameScopes) → values_of (held_by_frames (map (seen_frame s) fs)) ≡ map (number_in s) (values_of (held_by_frames fs))
+  frames-seen : (fs : List FrameScopes) → handle_values (held_by_frames (map (seen_frame s) fs)) ≡ map (number_in s) (handle_values (held_by_frames fs))
   frames-seen [] = refl
   frames-seen (f ∷ fs) = joined (held_by_frames (map (seen_frame s) fs)) (held_by_frame (seen_frame s f)) (held_by_frames fs) (held_by_frame f) (frames-seen fs) (frame-seen f)
 
@@ -101,11 +101,11 @@ module _ (s : StoreState) where
 
   -- the roots in the order of the machine
   in-order : (e : Environment) (scopes : HandleScopes) (m : ReferenceMap) (p : Option ℕ) (starting : List ℕ) → AreStarting s starting
-      → map (number_in s) (starting ++ held_values scopes ++ strong_values m ++ option_to_list p) ≡ roots (whole e s scopes m p)
+      → map (number_in s) (starting ++ held_values scopes ++ strong_values m ++ option_to_list p) ≡ roots (whole_environment e s scopes m p)
   in-order e scopes m p starting are =
       let n : List ℕ → List ℕ = map (number_in s) in
       let held : List ℕ = held_values scopes in
-      let seen : List ℕ = values_of (held_by_frames (map (seen_frame s) scopes.frames)) in
+      let seen : List ℕ = handle_values (held_by_frames (map (seen_frame s) scopes.frames)) in
       map-append (number_in s) (starting ++ held ++ strong_values m) (option_to_list p)
       ∙ ap (λ l. l ++ n (option_to_list p)) (map-append (number_in s) (starting ++ held) (strong_values m))
       ∙ ap (λ l. l ++ n (strong_values m) ++ n (option_to_list p)) (map-append (number_in s) starting held)
@@ -117,7 +117,7 @@ module _ (s : StoreState) where
 
   -- and in any order
   pub roots-seen : (e : Environment) (scopes : HandleScopes) (m : ReferenceMap) (p : Option ℕ) (ids : List ℕ) → AreRoots s scopes m p ids
-      → HaveSameNumbers (map (number_in s) ids) (roots (whole e s scopes m p))
+      → HaveSameNumbers (map (number_in s) ids) (roots (whole_environment e s scopes m p))
   roots-seen e scopes m p ids r =
       λ n. same-mapped (number_in s) ids (r.starting ++ held_values scopes ++ strong_values m ++ option_to_list p) r.are n ∙ ap (has_number n) (in-order e scopes m p r.starting r.are_starting)
 
@@ -141,7 +141,7 @@ roots-start s scopes m p ids r which h =
 
 -- WHAT IS PUSHED
 -- the places of handles that are filled have the values that scopes hold
-held_places-values : (hs : List Held) → filter_map (λ place. place) (held_places hs) ≡ values_of hs
+held_places-values : (hs : List OpenHandle) → filter_map (λ place. place) (held_places hs) ≡ handle_values hs
 held_places-values [] = refl
 held_places-values (h ∷ hs) = ap (λ l. h.value ∷ l) (held_places-values hs)
 
@@ -152,22 +152,22 @@ free-none x = by x.used
     by true = refl
     by false = refl
 
-frame-values : (own : List Held) (ss : List Scope) → filter_map (λ place. place) (frame_places own ss) ≡ values_of (own ++ held_by_scopes ss)
-frame-values own [] = held_places-values own ∙ ap values_of (sym (append-nil own))
+frame-values : (own : List OpenHandle) (ss : List Scope) → filter_map (λ place. place) (frame_places own ss) ≡ handle_values (own ++ held_by_scopes ss)
+frame-values own [] = held_places-values own ∙ ap handle_values (sym (append-nil own))
 frame-values own (x ∷ ss) =
     let f : List (Option ℕ) → List ℕ = filter_map (λ place. place) in
     let split : f ((frame_places own ss ++ free_place x) ++ held_places x.held) ≡ f (frame_places own ss ++ free_place x) ++ f (held_places x.held) = filter_map-append (λ place. place) (frame_places own ss ++ free_place x) (held_places x.held) in
     let inner : f (frame_places own ss ++ free_place x) ≡ f (frame_places own ss) = filter_map-append (λ place. place) (frame_places own ss) (free_place x) ∙ ap (λ l. f (frame_places own ss) ++ l) (free-none x) ∙ append-nil (f (frame_places own ss)) in
-    split ∙ ap (λ l. l ++ f (held_places x.held)) (inner ∙ frame-values own ss) ∙ ap (λ l. values_of (own ++ held_by_scopes ss) ++ l) (held_places-values x.held)
-    ∙ sym (map-append (λ (h : Held). h.value) (own ++ held_by_scopes ss) x.held) ∙ ap values_of (append_assoc own (held_by_scopes ss) x.held)
+    split ∙ ap (λ l. l ++ f (held_places x.held)) (inner ∙ frame-values own ss) ∙ ap (λ l. handle_values (own ++ held_by_scopes ss) ++ l) (held_places-values x.held)
+    ∙ sym (map-append (λ (h : OpenHandle). h.value) (own ++ held_by_scopes ss) x.held) ∙ ap handle_values (append_assoc own (held_by_scopes ss) x.held)
 
-pub places-values : (fs : List FrameScopes) → filter_map (λ place. place) (handle_places fs) ≡ values_of (held_by_frames fs)
+pub places-values : (fs : List FrameScopes) → filter_map (λ place. place) (handle_places fs) ≡ handle_values (held_by_frames fs)
 places-values [] = refl
 places-values (f ∷ fs) =
     let g : List (Option ℕ) → List ℕ = filter_map (λ place. place) in
     let split : g (handle_places fs ++ frame_places f.own f.opened) ≡ g (handle_places fs) ++ g (frame_places f.own f.opened) = filter_map-append (λ place. place) (handle_places fs) (frame_places f.own f.opened) in
-    split ∙ ap (λ l. l ++ g (frame_places f.own f.opened)) (places-values fs) ∙ ap (λ l. values_of (held_by_frames fs) ++ l) (frame-values f.own f.opened)
-    ∙ sym (map-append (λ (h : Held). h.value) (held_by_frames fs) (f.own ++ held_by_scopes f.opened))
+    split ∙ ap (λ l. l ++ g (frame_places f.own f.opened)) (places-values fs) ∙ ap (λ l. handle_values (held_by_frames fs) ++ l) (frame-values f.own f.opened)
+    ∙ sym (map-append (λ (h : OpenHandle). h.value) (held_by_frames fs) (f.own ++ held_by_scopes f.opened))
 
 -- one place more
 pub place-more : (es : List (Option ℕ)) (at : ℕ) (e : Option ℕ) → at < length es → e ≡ slice_index_or es at None
@@ -220,6 +220,6 @@ gathered s scopes m p first second third ids held referred pending start a b c =
     let live : All L all =
     All-append L (first ++ held_values scopes ++ strong_values m) (option_to_list p)
     (All-append L (first ++ held_values scopes) (strong_values m)
-    (All-append L first (held_values scopes) start.live (All-map L (λ (h : Held). h.value) (held_by_frames scopes.frames) held))
+    (All-append L first (held_values scopes) start.live (All-map L (λ (h : OpenHandle). h.value) (held_by_frames scopes.frames) held))
     (strong_values-AllValues L m referred)) (pending-live s p pending) in
     record { starting = first; are_starting = start; are = are; live = same-holds L all ids (λ n. sym (are n)) live }

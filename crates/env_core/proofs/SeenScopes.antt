@@ -10,9 +10,9 @@ use Rattle.napi_types.specs.plain.Lists.{first_changed, tail, when}
 use Rattle.napi_types.specs.parts.Graph.{StoreState}
 use Rattle.napi_types.specs.parts.ScopeChanges.{open_in, close_in}
 use Rattle.napi_types.specs.parts.ScopeRefusals.{has_scope, is_kind, closing, escapable_scope, refuses_escape, escaping}
-use Rattle.napi_types.specs.parts.Scopes.{Held, Scope, FrameScopes, held_by_scopes, held_by_frames, opened_scopes}
+use Rattle.napi_types.specs.parts.Scopes.{OpenHandle, Scope, FrameScopes, held_by_scopes, held_by_frames, opened_scopes}
 use Rattle.napi_types.proofs.plain.Lists.{All-left}
-use Rattle.env_values.specs.Seen.{seen_held, seen_scope, seen_frame}
+use Rattle.env_values.specs.SeenValues.{seen_held, seen_scope, seen_frame}
 
 -- WHAT IS SEEN
 pub map-tail : {A B : Type 0} (f : A → B) (xs : List A) → map f (tail xs) ≡ tail (map f xs)
@@ -65,18 +65,18 @@ escaping-seen store n fs = ap (escaping n) (opened-seen store fs) ∙ ap refuses
 
 -- WHAT SCOPES HOLD
 -- what is left after a close was held before
-all-closed_among : (P : Held → Type 0) (hs own : List Held) (ss : List Scope) → All P (hs ++ (own ++ held_by_scopes ss)) → All P (hs ++ (own ++ held_by_scopes (tail ss)))
+all-closed_among : (P : OpenHandle → Type 0) (hs own : List OpenHandle) (ss : List Scope) → All P (hs ++ (own ++ held_by_scopes ss)) → All P (hs ++ (own ++ held_by_scopes (tail ss)))
 all-closed_among P hs own [] h = h
 all-closed_among P hs own (s ∷ ss) h =
     let e : hs ++ (own ++ (held_by_scopes ss ++ s.held)) ≡ (hs ++ (own ++ held_by_scopes ss)) ++ s.held = simp append_assoc in
     All-left P (hs ++ (own ++ held_by_scopes ss)) s.held (subst (All P) e h)
 
-pub all-closed : (P : Held → Type 0) (fs : List FrameScopes) → All P (held_by_frames fs) → All P (held_by_frames (first_changed close_in fs))
+pub all-closed : (P : OpenHandle → Type 0) (fs : List FrameScopes) → All P (held_by_frames fs) → All P (held_by_frames (first_changed close_in fs))
 all-closed P [] h = h
 all-closed P (f ∷ fs) h = all-closed_among P (held_by_frames fs) f.own f.opened h
 
 -- a scope that opens holds nothing
-pub all-opened : (P : Held → Type 0) (kind : ScopeKind) (n : ℕ) (fs : List FrameScopes) → All P (held_by_frames fs) → All P (held_by_frames (first_changed (open_in kind n) fs))
+pub all-opened : (P : OpenHandle → Type 0) (kind : ScopeKind) (n : ℕ) (fs : List FrameScopes) → All P (held_by_frames fs) → All P (held_by_frames (first_changed (open_in kind n) fs))
 all-opened P kind n [] h = h
 all-opened P kind n (f ∷ fs) h =
     let e : held_by_frames fs ++ (f.own ++ (held_by_scopes f.opened ++ [])) ≡ held_by_frames fs ++ (f.own ++ held_by_scopes f.opened) =

@@ -16,7 +16,7 @@ use Rattle.napi_types.specs.environment.Environment.{Environment}
 use Rattle.napi_types.specs.environment.Moments.{moment_refusal}
 use Rattle.napi_types.specs.environment.Refusals.{timely_refusal, early_refusal}
 use Rattle.env_core.specs.State.{opening_call}
-use Rattle.env_core.proofs.Exceptions.{thrown-refusal}
+use Rattle.env_core.proofs.CoreExceptions.{thrown-refusal}
 use Rattle.env_core.proofs.Referring.{referring, NamesReference, by-reference, seen-refusal}
 use Rattle.env_core.proofs.ValueAnswers.{timely-value}
 

@@ -25,7 +25,7 @@ use Rattle.napi_types.proofs.plain.Lists.{option_or-none}
 use Rattle.napi_types.proofs.environment.Answers.{heap_answer-keeps}
 use Rattle.std.specs.Option.{option_or}
 use Rattle.handle_scope.specs.HandleScopes.{HandleScopes}
-use Rattle.env_values.specs.Seen.{seen_frame, heap_of, KeepsValues}
+use Rattle.env_values.specs.SeenValues.{seen_frame, heap_of, KeepsValues}
 use Rattle.env_core.specs.Attaching.{attachments_seen, IsAttached}
 use Rattle.env_core.proofs.Attaching.{attachments-kept}
 use Rattle.env_core.specs.Referring.{seen_reference, references_seen, RefersToLive}

@@ -14,8 +14,8 @@ use Rattle.napi_types.specs.parts.Kinds.{expects}
 use Rattle.napi_types.specs.parts.Graph.{StoreState, IsLive, number_in}
 use Rattle.napi_types.specs.parts.Heap.{Heap}
 use Rattle.napi_types.specs.parts.Scopes.{gives}
-use Rattle.env_core.specs.declared.handles.Takes.{Takes}
-use Rattle.env_core.specs.declared.handles.Takes.TheVariants as takes
+use Rattle.env_core.specs.declared.handles.Attachable.{Attachable}
+use Rattle.env_core.specs.declared.handles.Attachable.TheVariants as takes
 
 -- WHAT THE MACHINE SEES
 -- a wrap, a tag and a finalizer have the creation number of their value, where the crate below has the store's number
@@ -53,10 +53,10 @@ pub record IsAttached (store : StoreState) (a : Attachments) (book : Book) : Typ
 
 -- WHAT A CALL TAKES
 -- what a wrap may be of, and what a type tag may be on
-abbrev pub is_accepted : Takes → Body → Bool
+abbrev pub is_accepted : Attachable → Body → Bool
 is_accepted takes.Objects b = is_object_like b
 is_accepted takes.ObjectsAndExternals b = is_taggable b
 
 -- why a handle's value is not taken: no open scope holds the handle, or else the value is of another kind
-abbrev pub target_refusal : Takes → Heap → HandleId → Option Status
+abbrev pub target_refusal : Attachable → Heap → HandleId → Option Status
 target_refusal kinds heap h = option_or (unless (is_some (gives heap.scopes h.0)) status.InvalidArg) (expects heap h (is_accepted kinds) status.ObjectExpected)

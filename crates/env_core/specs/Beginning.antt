@@ -9,7 +9,7 @@ use Rattle.napi_types.specs.parts.Duties.{duties_of}
 use Rattle.napi_types.specs.parts.Frames.{Frame}
 use Rattle.napi_types.specs.environment.Environment.{Environment}
 use Rattle.napi_types.specs.environment.Tickets.{ticket_change, next_ticket}
-use Rattle.finalizer_queue.specs.Kept.{ticket_number}
+use Rattle.finalizer_queue.specs.KeptBook.{ticket_number}
 
 -- each duty whose frame stands is that of a ticket that has begun
 abbrev pub AreBegun : List Frame → Book → Type 0

@@ -1,7 +1,7 @@
 -- The instance data of addons, as the machine sees it.
 use Rattle.std.specs.Prelude.{List, map, Option, option_map}
 use Rattle.napi_types.specs.parts.InstanceData.{InstanceData, Instances}
-use Rattle.env_core.specs.declared.instances.InstanceData.{InstanceData as Kept}
+use Rattle.env_core.specs.declared.instances.InstanceRow.{InstanceRow as Kept}
 
 -- that of one addon
 abbrev pub instance_seen : Kept → InstanceData

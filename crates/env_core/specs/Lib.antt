@@ -1,11 +1,11 @@
 pub mod Attaching
 pub mod Beginning
 pub mod Core
+pub mod CoreSteps
 pub mod Instancing
 pub mod Journal
 pub mod Referring
-pub mod Registering
+pub mod RegisteringWants
 pub mod Rooting
 pub mod Standing
 pub mod State
-pub mod Steps

@@ -2,7 +2,7 @@
 use Rattle.std.specs.Prelude.{map, option_map}
 use Rattle.napi_types.specs.parts.Graph.{StoreState, IsLive, number_in}
 use Rattle.napi_types.specs.parts.References.{Reference, ReferenceMap}
-use Rattle.napi_reference.specs.Places.{AllValues}
+use Rattle.napi_reference.specs.ReferencePlaces.{AllValues}
 
 -- a reference has the creation number of its value, where the crate below has the store's number
 abbrev pub seen_reference : StoreState → Reference → Reference

@@ -27,7 +27,7 @@ use Rattle.napi_types.specs.environment.Refusals.{timely_refusal, refusal}
 use Rattle.handle_scope.specs.HandleScopes.{HandleScopes}
 use Rattle.env_core.specs.declared.state.calling.Called.{Called}
 use Rattle.env_core.specs.declared.state.calling.Called.TheVariants as called_of
-use Rattle.env_values.specs.Seen.{heap_of, HoldsLive}
+use Rattle.env_values.specs.SeenValues.{heap_of, HoldsLive}
 use Rattle.env_core.specs.Referring.{RefersToLive}
 
 -- whether a call of the frame around it began a frame

@@ -15,7 +15,7 @@ ghost use Rattle.napi_types.specs.environment.Refusals.{early_refusal, depth_ref
 ghost use Rattle.napi_types.specs.environment.Tickets.{next_ticket};
 ghost use Rattle.env_core.specs.Standing.{machine_frame};
 ghost use Rattle.env_core.specs.Core.{opened_core, after_change, after_phase, at_position, next_init, room_in};
-ghost use Rattle.env_core.specs.Steps.{IfReply, IfEnter, IfStop, Replies, Enters, EntersBy, RefusedAs, StopsBy, IsAtOnce, IsLocal, BeginsTicket};
+ghost use Rattle.env_core.specs.CoreSteps.{IfReply, IfEnter, IfStop, Replies, Enters, EntersBy, RefusedAs, StopsBy, IsAtOnce, IsLocal, BeginsTicket};
 
 use crate::frames::StandingFrame;
 use crate::journal::Journal;

@@ -5,7 +5,7 @@ ghost use Rattle.napi_types.specs.parts.FunctionCalls.{left_value};
 ghost use Rattle.napi_types.specs.parts.Graph.{IsLive, IsSoundStore, number_in};
 ghost use Rattle.napi_types.specs.parts.Heap.{handle_value, handle_body};
 ghost use Rattle.env_core.specs.Attaching.{is_accepted, target_refusal};
-ghost use Rattle.env_values.specs.Seen.{heap_of, HoldsLive};
+ghost use Rattle.env_values.specs.SeenValues.{heap_of, HoldsLive};
 
 use env_values::or_undefined;
 use handle_scope::Scopes;
@@ -48,21 +48,21 @@ pub fn left_by(store: &Store, scopes: &Scopes, value: Option<HandleId>) -> Value
 
 /// The kinds of value to which a call attaches something, or of which it reads what is attached.
 #[derive(Clone, Copy, Debug, PartialEq, Eq)]
-pub enum Takes {
+pub enum Attachable {
     /// An object or a function, as a wrap does.
     Objects,
     /// These, and an external, as a type tag does.
     ObjectsAndExternals,
 }
 
-impl Takes {
+impl Attachable {
     /// Whether a value is of such a kind.
     fn accepts(self, body: Body) -> bool
         ensures { result ≡ is_accepted self body }
     {
         match body {
             Body::Object { .. } | Body::Function { .. } => true,
-            Body::External(_) => self == Takes::ObjectsAndExternals,
+            Body::External(_) => self == Attachable::ObjectsAndExternals,
             _ => false,
         }
     }
@@ -74,7 +74,7 @@ pub fn target(
     store: &Store,
     scopes: &Scopes,
     handle: HandleId,
-    takes: Takes,
+    takes: Attachable,
 ) -> Result<ValueId, Status>
     requires { HoldsLive store.now scopes.now }
     ensures live { IfOk result (λ v. IsLive store.now v.0) }

@@ -8,19 +8,19 @@ use std::marker::Model;
 
 /// What an addon keeps for itself in the environment: its native data, and the ticket of the finalizer, where there is one.
 #[derive(Clone, Copy)]
-struct InstanceData {
+struct InstanceRow {
     payload: u64,
     ticket: Option<Ticket>,
 }
 
 /// The instance data of each addon of the script. The memory for all of it is there, so that setting it takes none.
 #[derive(Drop)]
-pub struct Instances {
+pub struct InstanceTable {
     // By the number of the addon.
-    places: Vec<Option<InstanceData>>,
+    places: Vec<Option<InstanceRow>>,
 }
 
-impl Model for Instances {
+impl Model for InstanceTable {
     ghost use Rattle.napi_types.specs.parts.InstanceData.{Instances as Seen};
     ghost use Rattle.env_core.specs.Instancing.{instances_seen};
 
@@ -29,13 +29,13 @@ impl Model for Instances {
     ghost view = { λ instances. instances_seen instances.places.items };
 }
 
-impl Instances {
+impl InstanceTable {
     /// None was set.
-    pub fn new(alloc: Global, addons: u32) -> Result<Instances, NoMemory>
+    pub fn new(alloc: Global, addons: u32) -> Result<InstanceTable, NoMemory>
         ensures { IfOk result (λ instances. instances ≡ replicate addons None) }
     {
         let places = vec![in alloc; None; addons as usize]?;
-        Ok(Instances { places })
+        Ok(InstanceTable { places })
     }
 
     /// The native data of an addon, 0 where none was set.
@@ -64,7 +64,7 @@ impl Instances {
     {
         let place = addon as usize;
         if place < self.places.len() {
-            self.places[place] = Some(InstanceData { payload, ticket });
+            self.places[place] = Some(InstanceRow { payload, ticket });
         }
     }
 }

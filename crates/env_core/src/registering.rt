@@ -1,11 +1,11 @@
 //! What a call that registers a finalizer, or withdraws one, makes of the book, of wraps and of references.
 ghost use Rattle.std.specs.Prelude.{◌≡◌, ◌+◌, ◌<◌, ◌≤◌, ◌^◌, false, length, option_map, IfOk, IfSome, IsSome, OnOk, OnErr};
-ghost use Rattle.finalizer_queue.specs.Rows.{registration_of};
-ghost use Rattle.napi_reference.specs.Places.{map_of};
+ghost use Rattle.finalizer_queue.specs.TicketRows.{registration_of};
+ghost use Rattle.napi_reference.specs.ReferencePlaces.{map_of};
 ghost use Rattle.napi_types.specs.plain.Lists.{has};
 ghost use Rattle.napi_types.specs.environment.ExternalCalls.{attached_if};
 ghost use Rattle.napi_types.specs.environment.Registering.{registered_only};
-ghost use Rattle.env_core.specs.Registering.{ticket_for, with_registration_if, duty_if, withdrawn_if, wants_alone as wants_alone_of, RefersIf};
+ghost use Rattle.env_core.specs.RegisteringWants.{ticket_for, with_registration_if, duty_if, withdrawn_if, wants_alone as wants_alone_of, RefersIf};
 
 use finalizer_queue::{Book, NewDuty};
 use napi_reference::Refs;

@@ -4,9 +4,9 @@ ghost use Rattle.napi_types.specs.plain.Lists.{HaveSameNumbers};
 ghost use Rattle.napi_types.specs.parts.Graph.{IsLive};
 ghost use Rattle.napi_types.specs.parts.References.{strong_values};
 ghost use Rattle.std.specs.Option.{option_to_list};
-ghost use Rattle.value_store.specs.Changes.{numbers_of};
-ghost use Rattle.napi_reference.specs.Places.{map_of};
-ghost use Rattle.env_values.specs.Seen.{HoldsLive};
+ghost use Rattle.value_store.specs.StoreChanges.{numbers_of};
+ghost use Rattle.napi_reference.specs.ReferencePlaces.{map_of};
+ghost use Rattle.env_values.specs.SeenValues.{HoldsLive};
 ghost use Rattle.env_core.specs.Referring.{RefersToLive};
 ghost use Rattle.env_core.specs.Rooting.{AreRoots, AreStarting, held_values};
 

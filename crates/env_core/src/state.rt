@@ -16,7 +16,7 @@ ghost use Rattle.napi_types.specs.environment.Moments.{is_tearing, moment_refusa
 ghost use Rattle.napi_types.specs.environment.Refusals.{timely_refusal, early_refusal};
 ghost use Rattle.napi_types.specs.environment.Registering.{finalizer_if};
 ghost use Rattle.env_core.specs.Standing.{machine_frame};
-ghost use Rattle.finalizer_queue.specs.Rows.{registration_of};
+ghost use Rattle.finalizer_queue.specs.TicketRows.{registration_of};
 ghost use Rattle.env_core.specs.Core.{next_init};
 ghost use Rattle.env_core.specs.State.{HasNumbersFor, Calls, Answers, AnswersInTime, opening_call, closing_call};
 
@@ -32,7 +32,7 @@ mod references;
 mod tickets;
 
 use crate::frames::{Frames, StandingFrame};
-use crate::instances::Instances;
+use crate::instances::InstanceTable;
 pub use calling::Called;
 use cleanup_hooks::Hooks;
 use env_values::value_step;
@@ -66,7 +66,7 @@ pub struct State {
     wraps: Wraps,
     book: Book,
     hooks: Hooks,
-    instances: Instances,
+    instances: InstanceTable,
     exceptions: Exceptions,
 }
 
@@ -76,8 +76,8 @@ impl Model for State {
 
     ghost Value = { Environment };
 
-    ghost use Rattle.env_values.specs.Seen.{heap_of};
-    ghost use Rattle.napi_reference.specs.Places.{map_of};
+    ghost use Rattle.env_values.specs.SeenValues.{heap_of};
+    ghost use Rattle.napi_reference.specs.ReferencePlaces.{map_of};
     ghost use Rattle.env_core.specs.Attaching.{attachments_seen, IsAttached};
     ghost use Rattle.env_core.specs.Beginning.{IsBookOf};
     ghost use Rattle.env_core.specs.Referring.{references_seen};
@@ -119,7 +119,7 @@ impl State {
         let references = Refs::new(alloc)?;
         let wraps = Wraps::new(alloc)?;
         let book = Book::new(alloc)?;
-        let instances = Instances::new(alloc, addons)?;
+        let instances = InstanceTable::new(alloc, addons)?;
         Ok(State {
             alloc,
             addons,

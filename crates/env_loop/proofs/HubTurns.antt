@@ -32,12 +32,12 @@ use Rattle.env_core.specs.Core.{Core, after_phase}
 use Rattle.env_teardown.specs.declared.step.TearStep.{TearStep}
 use Rattle.env_teardown.specs.declared.step.TearStep.TheVariants as tear
 use Rattle.env_teardown.specs.Hubs.{QuietHub, happened, quiet_end, after_loop}
-use Rattle.env_teardown.specs.Steps.{tear_step, after_step}
+use Rattle.env_teardown.specs.TeardownSteps.{tear_step, after_step}
 use Rattle.env_loop.specs.declared.turn.LocalTurn.TheVariants as turn
 use Rattle.env_loop.specs.Recording.{AddonStates, IsRecorded}
-use Rattle.env_loop.specs.Runs.{Run, IsSoundEnvironment, IsRunning, MovesOn}
+use Rattle.env_loop.specs.RecordedRuns.{Run, IsSoundEnvironment, IsRunning, MovesOn}
 use Rattle.env_loop.specs.Turns.{turn_at, side_of, uncounted, turn_of}
-use Rattle.env_loop.proofs.Tickets.{turn-of-ticket}
+use Rattle.env_loop.proofs.TicketTurns.{turn-of-ticket}
 use Rattle.env_loop.proofs.Recordings.{go-grown, loop_end-grown, drain-grown, finals-grown}
 
 -- WHERE THE HUB IS NEEDED

@@ -37,7 +37,7 @@ use Rattle.napi_types.proofs.runs.Runs.{run-more, final-more, asked-more, regist
 use Rattle.env_core.specs.Core.{Core, after_change, opened_core}
 use Rattle.env_teardown.specs.Hubs.{quiet_end}
 use Rattle.env_loop.specs.Recording.{AddonStates, machine_of, AgreesWhereTold, AgreesWith, HasSeen, IsRecorded, IsEnded}
-use Rattle.env_loop.proofs.Seen.{seen-same, seen-more}
+use Rattle.env_loop.proofs.SeenLists.{seen-same, seen-more}
 
 -- what one more entry makes of a run by its asks
 pub record Grown (s : Setting) (asks : List Ask) (xs : List Entry) (after : Machine) (registers : Registers) (sides : List Side) (begun : List DueInfo) : Type 0 where

@@ -15,10 +15,10 @@ use Rattle.napi_types.proofs.environment.Owners.{owned-init, within-init}
 use Rattle.napi_types.proofs.environment.StandingFrames.{nested-init}
 use Rattle.env_core.specs.Core.{Core, after_change, next_init}
 use Rattle.env_loop.specs.Recording.{AddonStates, HasSeen, Continues}
-use Rattle.env_loop.specs.Runs.{IsSoundEnvironment}
+use Rattle.env_loop.specs.RecordedRuns.{IsSoundEnvironment}
 use Rattle.env_loop.specs.Turns.{begins_next, OnlyInnermostChanges, IsTurn}
-use Rattle.env_loop.proofs.Registers.{none-touched}
-use Rattle.env_loop.proofs.Seen.{begins-ticket, seen-same}
+use Rattle.env_loop.proofs.RegisterTurns.{none-touched}
+use Rattle.env_loop.proofs.SeenLists.{begins-ticket, seen-same}
 use Rattle.env_loop.proofs.Recordings.{init-grown, gone_change-grown}
 
 -- what is not there is none

@@ -1,3 +1,3 @@
+pub mod RecordedRuns
 pub mod Recording
-pub mod Runs
 pub mod Turns

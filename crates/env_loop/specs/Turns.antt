@@ -22,7 +22,7 @@ use Rattle.env_core.specs.Core.{Core}
 use Rattle.env_loop.specs.declared.turn.LocalTurn.{LocalTurn}
 use Rattle.env_loop.specs.declared.turn.LocalTurn.TheVariants as turn
 use Rattle.env_loop.specs.Recording.{AddonStates, HasSeen, Continues}
-use Rattle.env_loop.specs.Runs.{Run, IsSoundEnvironment, OneMore}
+use Rattle.env_loop.specs.RecordedRuns.{Run, IsSoundEnvironment, OneMore}
 
 -- a turn makes an entry where a frame stands, and else where the entry of the next event stands in the journal; where it stands in the history, the hub has to
 -- make its turn; where no event is next the environment is gone

@@ -6,7 +6,7 @@ ghost use Rattle.napi_types.specs.hub.Hub.{stage_of};
 ghost use Rattle.napi_types.specs.runs.Begins.{of_addon};
 ghost use Rattle.addon_trait.specs.Addons.{seen_of};
 ghost use Rattle.env_loop.specs.Recording.{AddonStates};
-ghost use Rattle.env_loop.specs.Runs.{IsOpened, opened_run, OneMore, Extends, GoesOn, EndsInOrder, MovesOn};
+ghost use Rattle.env_loop.specs.RecordedRuns.{IsOpened, opened_run, OneMore, Extends, RunGoesOn, EndsInOrder, MovesOn};
 ghost use Rattle.env_loop.specs.Turns.{turn_of, begins_next, OnlyInnermostChanges};
 
 use crate::turn::{LocalTurn, turn};
@@ -29,7 +29,7 @@ pub struct EnvRun {
 
 impl Model for EnvRun {
     ghost use Rattle.napi_types.specs.hub.Hub.{quiet_hub};
-    ghost use Rattle.env_loop.specs.Runs.{Run, IsRunning};
+    ghost use Rattle.env_loop.specs.RecordedRuns.{Run, IsRunning};
 
     ghost Value = { Run };
 
@@ -88,7 +88,7 @@ impl EnvRun {
         // A run that was recorded goes on, and the addons that are no addons of the script keep their registers.
         ensures recorded { let before : AddonStates = record { registers = map (λ b. regs b) addons.old.items; seen = map (λ b. seen b) addons.old.items } in
             let after : AddonStates = record { registers = map (λ b. regs b) addons.new.items; seen = map (λ b. seen b) addons.new.items } in
-            GoesOn (map (λ b. plan b) addons.old.items) self.old before self.new after }
+            RunGoesOn (map (λ b. plan b) addons.old.items) self.old before self.new after }
         ensures others { let n = self.old.core.env.addons in
             drop n (map (λ b. regs b) addons.new.items) ≡ drop n (map (λ b. regs b) addons.old.items) }
         ensures addons { self.new.core.env.addons ≡ self.old.core.env.addons }
@@ -189,7 +189,7 @@ pub fn run_alone(env: &mut EnvRun, addons: &mut Vec<Box<dyn Addon>>)
     ensures extends { Extends env.old env.new }
     ensures recorded { let before : AddonStates = record { registers = map (λ b. regs b) addons.old.items; seen = map (λ b. seen b) addons.old.items } in
         let after : AddonStates = record { registers = map (λ b. regs b) addons.new.items; seen = map (λ b. seen b) addons.new.items } in
-        GoesOn (map (λ b. plan b) addons.old.items) env.old before env.new after }
+        RunGoesOn (map (λ b. plan b) addons.old.items) env.old before env.new after }
 
     // Hooks began in the reverse of the order in which they were added, and what was left to the end in the order of registration.
     ensures order { let before : AddonStates = record { registers = map (λ b. regs b) addons.old.items; seen = map (λ b. seen b) addons.old.items } in

@@ -7,7 +7,7 @@ ghost use Rattle.napi_types.specs.environment.Ends.{end_change};
 ghost use Rattle.napi_types.specs.environment.Tickets.{next_ticket};
 ghost use Rattle.env_core.specs.Standing.{machine_frame};
 ghost use Rattle.env_loop.specs.Recording.{AddonStates, why_stopped};
-ghost use Rattle.env_loop.specs.Runs.{IsSoundEnvironment, Holds};
+ghost use Rattle.env_loop.specs.RecordedRuns.{IsSoundEnvironment, Holds};
 ghost use Rattle.env_core.specs.Core.{after_change};
 ghost use Rattle.env_loop.specs.Turns.{turn_of, IsTold, IsTurn};
 

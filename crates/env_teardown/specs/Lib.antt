@@ -1,3 +1,3 @@
 pub mod Hubs
 pub mod Stages
-pub mod Steps
+pub mod TeardownSteps

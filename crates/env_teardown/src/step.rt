@@ -3,7 +3,7 @@ ghost use Rattle.std.specs.Prelude.{◌≡◌, length, true, false, Some};
 ghost use Rattle.napi_types.specs.declared.entry.Phase.{Phase};
 ghost use Rattle.napi_types.specs.plain.Phases.{next_phase};
 ghost use Rattle.napi_types.specs.hub.Hub.{stage_of};
-ghost use Rattle.env_teardown.specs.Steps.{is_in_teardown, tear_step, after_step};
+ghost use Rattle.env_teardown.specs.TeardownSteps.{is_in_teardown, tear_step, after_step};
 
 use crate::quiet::Quiet;
 use addon_trait::Phased;

@@ -13,7 +13,7 @@ use Rattle.napi_types.specs.parts.HeapCalls.{heap_effect}
 use Rattle.napi_types.specs.parts.HeapRefusals.{refusal_in}
 use Rattle.env_values.specs.declared.stop.Stop.{Stop}
 use Rattle.env_values.specs.declared.stop.Stop.TheVariants as stop
-use Rattle.env_values.specs.Steps.{Comes, ComesOf}
+use Rattle.env_values.specs.ValueSteps.{Comes, ComesOf}
 
 -- a call that creates no function comes to the same, whichever addon calls
 comes-of-any : (texts addon : ℕ) (before : Heap) (c : Call) (r : Result Out Stop) (after : Heap) → on_functions addon before c ≡ None → Comes texts before c r after

@@ -14,14 +14,14 @@ use Rattle.napi_types.specs.parts.Heap.{Heap}
 use Rattle.napi_types.specs.parts.HeapChanges.{handle_of, with_handle, with_list, with_thrown}
 use Rattle.napi_types.specs.parts.NewValues.{list_of, thrown_strings, thrown_of}
 use Rattle.napi_types.specs.parts.ScopeChanges.{hold_in}
-use Rattle.napi_types.specs.parts.Scopes.{Held, held_by_frames}
+use Rattle.napi_types.specs.parts.Scopes.{OpenHandle, held_by_frames}
 use Rattle.napi_types.specs.parts.Values.{Value}
 use Rattle.handle_scope.specs.HandleScopes.{HandleScopes, with_issued_handle}
-use Rattle.value_store.specs.Changes.{MakesValue, MakesList}
+use Rattle.value_store.specs.StoreChanges.{MakesValue, MakesList}
 use Rattle.value_store.proofs.Callers.{makes-live}
-use Rattle.env_values.specs.Seen.{seen_frame, heap_of, HoldsLive}
+use Rattle.env_values.specs.SeenValues.{seen_frame, heap_of, HoldsLive}
 use Rattle.env_values.proofs.Held.{held-holds}
-use Rattle.env_values.proofs.Seen.{IsSame, seen-same, held-seen}
+use Rattle.env_values.proofs.SeenValues.{IsSame, seen-same, held-seen}
 
 -- HELD VALUES STAY LIVE
 pub issued-live : (s : StoreState) (scopes after : HandleScopes) (v : ℕ) → after ≡ with_issued_handle v scopes → IsLive s v → HoldsLive s scopes → HoldsLive s after
@@ -30,7 +30,7 @@ issued-live s scopes after v is live held =
     subst P (sym is) (held-holds (λ n. IsLive s n) (record { handle = scopes.handles + 1; value = v }) scopes.frames live held)
 
 pub more-live : (s t : StoreState) (scopes : HandleScopes) → ((n : ℕ) → IsLive s n → IsLive t n) → HoldsLive s scopes → HoldsLive t scopes
-more-live s t scopes more = All-weaker (λ (p : Held). IsLive s p.value) (λ p. IsLive t p.value) (λ p. more p.value) (held_by_frames scopes.frames)
+more-live s t scopes more = All-weaker (λ (p : OpenHandle). IsLive s p.value) (λ p. IsLive t p.value) (λ p. more p.value) (held_by_frames scopes.frames)
 
 -- THE HEAP
 -- two states of a store agree on what is live in the first
@@ -39,7 +39,7 @@ Agrees s t = (n : ℕ) → IsLive s n → number_in t n ≡ number_in s n
 
 pub seen-alike : (s t : StoreState) (scopes : HandleScopes) → Agrees s t → HoldsLive s scopes → map (seen_frame t) scopes.frames ≡ map (seen_frame s) scopes.frames
 seen-alike s t scopes agrees held =
-    seen-same s t scopes.frames (All-weaker (λ (p : Held). IsLive s p.value) (λ p. IsSame s t p) (λ p. agrees p.value) (held_by_frames scopes.frames) held)
+    seen-same s t scopes.frames (All-weaker (λ (p : OpenHandle). IsLive s p.value) (λ p. IsSame s t p) (λ p. agrees p.value) (held_by_frames scopes.frames) held)
 
 -- a handle of a value under the number n is given, where the store came to another state
 pub given-heap : (s t : StoreState) (scopes after : HandleScopes) (id n : ℕ) → Agrees s t → HoldsLive s scopes → number_in t id ≡ n → after ≡ with_issued_handle id scopes

@@ -11,12 +11,12 @@ use Rattle.napi_types.specs.parts.Properties.{Property, property_at, element_at}
 use Rattle.napi_types.specs.parts.Scopes.{FrameScopes, gives}
 use Rattle.napi_types.specs.parts.Values.{Value, value_at, undefined_value}
 use Rattle.handle_scope.specs.HandleScopes.{HandleScopes}
-use Rattle.value_store.specs.Changes.{properties_in, elements_in}
+use Rattle.value_store.specs.StoreChanges.{properties_in, elements_in}
 use Rattle.env_values.specs.declared.known.HandleValue.{HandleValue}
-use Rattle.env_values.specs.Seen.{seen_frame, heap_of, HoldsLive}
-use Rattle.env_values.specs.Steps.{IsValueOf}
+use Rattle.env_values.specs.SeenValues.{seen_frame, heap_of, HoldsLive}
+use Rattle.env_values.specs.ValueSteps.{IsValueOf}
 use Rattle.env_values.proofs.Held.{given-holds}
-use Rattle.env_values.proofs.Seen.{gives-seen}
+use Rattle.env_values.proofs.SeenValues.{gives-seen}
 
 -- a handle that no open scope holds is unknown to the machine
 pub unknown-handle : (s : StoreState) (fs : List FrameScopes) (h : ℕ) → None ≡ gives fs h → is_some (gives (map (seen_frame s) fs) h) ≡ false

@@ -6,14 +6,14 @@ use borrow.Author.Tests.{eqb-true}
 use Rattle.napi_types.specs.parts.Graph.{StoreState, IsLive, value_of, number_in, graph_of}
 use Rattle.napi_types.specs.parts.Heap.{handle_value}
 use Rattle.napi_types.specs.parts.HeapChanges.{with_changed}
-use Rattle.napi_types.specs.parts.Scopes.{Held, held_by_frames}
+use Rattle.napi_types.specs.parts.Scopes.{OpenHandle, held_by_frames}
 use Rattle.napi_types.specs.parts.Values.{Value, value_changed}
 use Rattle.handle_scope.specs.HandleScopes.{HandleScopes}
-use Rattle.value_store.specs.Changes.{ChangesOnly}
+use Rattle.value_store.specs.StoreChanges.{ChangesOnly}
 use Rattle.value_store.proofs.Callers.{changes-live}
 use Rattle.value_store.proofs.Lookup.{other-number}
-use Rattle.env_values.specs.Seen.{heap_of, HoldsLive}
-use Rattle.env_values.proofs.Seen.{seen-same}
+use Rattle.env_values.specs.SeenValues.{heap_of, HoldsLive}
+use Rattle.env_values.proofs.SeenValues.{seen-same}
 
 -- ONE VALUE CHANGES
 -- a change that keeps the creation number
@@ -45,7 +45,7 @@ changed-heap s t scopes id change seen keeps step graph =
 
 -- each held value is live as before
 pub changed-live : (s t : StoreState) (scopes : HandleScopes) (id : ℕ) (change : Value → Value) → ChangesOnly s t id change → HoldsLive s scopes → HoldsLive t scopes
-changed-live s t scopes id change step = All-weaker (λ (p : Held). IsLive s p.value) (λ p. IsLive t p.value) (λ p. changes-live s t id change step p.value) (held_by_frames scopes.frames)
+changed-live s t scopes id change step = All-weaker (λ (p : OpenHandle). IsLive s p.value) (λ p. IsLive t p.value) (λ p. changes-live s t id change step p.value) (held_by_frames scopes.frames)
 
 -- the value of a handle is changed so
 pub with_changed-heap : (s t : StoreState) (scopes : HandleScopes) (h id : ℕ) (change seen : Value → Value) → KeepsNumber change → ChangesOnly s t id change

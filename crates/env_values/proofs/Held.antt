@@ -5,18 +5,18 @@ use Rattle.std.specs.Option.{option_or}
 use Rattle.std.proofs.lemmas.List.Elements.{All-nil, All-cons, All-head, All-tail, All-append}
 use Rattle.napi_types.specs.plain.Lists.{found, first_changed}
 use Rattle.napi_types.specs.parts.ScopeChanges.{hold_in, hold_at, inside, escape_at, escape_in}
-use Rattle.napi_types.specs.parts.Scopes.{Held, Scope, FrameScopes, value_in, value_in_scopes, gives, held_by_scopes, held_by_frame, held_by_frames}
+use Rattle.napi_types.specs.parts.Scopes.{OpenHandle, Scope, FrameScopes, value_in, value_in_scopes, gives, held_by_scopes, held_by_frame, held_by_frames}
 use Rattle.napi_types.proofs.plain.Lists.{All-left, All-right}
 
 module _ (P : ℕ → Type 0) where
-  abbrev OfValue : Held → Type 0
+  abbrev OfValue : OpenHandle → Type 0
   OfValue p = P p.value
 
-  in-held : (hs : List Held) (h v : ℕ) → All OfValue hs → value_in hs h ≡ Some v → P v
+  in-held : (hs : List OpenHandle) (h v : ℕ) → All OfValue hs → value_in hs h ≡ Some v → P v
   in-held [] h v all is = cc
   in-held (p ∷ hs) h v all is = by (in-held hs h v (All-tail OfValue p hs all)) (p.handle == h) is
     where
-      by : (value_in hs h ≡ Some v → P v) → (b : Bool) → option_map (λ (q : Held). q.value) (cond b (Some p) (found (λ q. q.handle) h hs)) ≡ Some v → P v
+      by : (value_in hs h ≡ Some v → P v) → (b : Bool) → option_map (λ (q : OpenHandle). q.value) (cond b (Some p) (found (λ q. q.handle) h hs)) ≡ Some v → P v
       by rest true e = let same : p.value ≡ v = cc in subst P same (All-head OfValue p hs all)
       by rest false e = rest e
 
@@ -40,10 +40,10 @@ module _ (P : ℕ → Type 0) where
       (first-of (value_in f.own h) (gives fs h) v (in-held f.own h v (All-left OfValue f.own (held_by_scopes f.opened) here))
       (given-holds fs h v (All-left OfValue (held_by_frames fs) (held_by_frame f) all))) is
 
-  alone : (p : Held) → P p.value → All OfValue (p ∷ [])
+  alone : (p : OpenHandle) → P p.value → All OfValue (p ∷ [])
   alone p here = All-cons OfValue p [] here (All-nil OfValue)
 
-  one-more : (p : Held) (own : List Held) (ss : List Scope) → P p.value → All OfValue (own ++ held_by_scopes ss) → All OfValue (held_by_frame (hold_at p own ss))
+  one-more : (p : OpenHandle) (own : List OpenHandle) (ss : List Scope) → P p.value → All OfValue (own ++ held_by_scopes ss) → All OfValue (held_by_frame (hold_at p own ss))
   one-more p own [] here all = All-append OfValue (own ++ p ∷ []) [] (All-append OfValue own (p ∷ []) (All-left OfValue own [] all) (alone p here)) (All-nil OfValue)
   one-more p own (s ∷ ss) here all =
       let inner : All OfValue (held_by_scopes ss ++ s.held) = All-right OfValue own (held_by_scopes ss ++ s.held) all in
@@ -52,7 +52,7 @@ module _ (P : ℕ → Type 0) where
       (All-append OfValue s.held (p ∷ []) (All-right OfValue (held_by_scopes ss) s.held inner) (alone p here)))
 
   -- it holds of each held value where the innermost scope holds one handle more
-  pub held-holds : (p : Held) (fs : List FrameScopes) → P p.value → All OfValue (held_by_frames fs) → All OfValue (held_by_frames (first_changed (hold_in p) fs))
+  pub held-holds : (p : OpenHandle) (fs : List FrameScopes) → P p.value → All OfValue (held_by_frames fs) → All OfValue (held_by_frames (first_changed (hold_in p) fs))
   held-holds p [] here all = all
   held-holds p (f ∷ fs) here all =
       All-append OfValue (held_by_frames fs) (held_by_frame (hold_in p f)) (All-left OfValue (held_by_frames fs) (held_by_frame f) all)
@@ -63,7 +63,7 @@ module _ (P : ℕ → Type 0) where
       All-append OfValue f.own (held_by_scopes f.opened ++ s.held) (All-left OfValue f.own (held_by_scopes f.opened) all)
       (All-append OfValue (held_by_scopes f.opened) s.held (All-right OfValue f.own (held_by_scopes f.opened) all) held)
 
-  one-escaped : (n : ℕ) (p : Held) (own : List Held) (ss : List Scope) → P p.value → All OfValue (own ++ held_by_scopes ss) → All OfValue (held_by_frame (escape_at n p own ss))
+  one-escaped : (n : ℕ) (p : OpenHandle) (own : List OpenHandle) (ss : List Scope) → P p.value → All OfValue (own ++ held_by_scopes ss) → All OfValue (held_by_frame (escape_at n p own ss))
   one-escaped n p own [] here all = all
   one-escaped n p own (s ∷ ss) here all =
       let inner : All OfValue (held_by_scopes ss ++ s.held) = All-right OfValue own (held_by_scopes ss ++ s.held) all in
@@ -79,7 +79,7 @@ module _ (P : ℕ → Type 0) where
       by found further false = further
 
   -- it holds of each held value where one handle more escapes
-  pub escaped-holds : (n : ℕ) (p : Held) (fs : List FrameScopes) → P p.value → All OfValue (held_by_frames fs) → All OfValue (held_by_frames (first_changed (escape_in n p) fs))
+  pub escaped-holds : (n : ℕ) (p : OpenHandle) (fs : List FrameScopes) → P p.value → All OfValue (held_by_frames fs) → All OfValue (held_by_frames (first_changed (escape_in n p) fs))
   escaped-holds n p [] here all = all
   escaped-holds n p (f ∷ fs) here all =
       All-append OfValue (held_by_frames fs) (held_by_frame (escape_in n p f)) (All-left OfValue (held_by_frames fs) (held_by_frame f) all)

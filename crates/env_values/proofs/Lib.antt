@@ -3,8 +3,8 @@ pub mod Giving
 pub mod HandleValues
 pub mod Heaps
 pub mod Held
-pub mod Keeping
-pub mod Listing
+pub mod KeepingHeaps
+pub mod ListedNames
 pub mod Numbering
-pub mod Seen
-pub mod Unrefused
+pub mod SeenValues
+pub mod UnrefusedValues

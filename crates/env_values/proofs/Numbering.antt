@@ -3,7 +3,7 @@ use Rattle.std.proofs.Common.{◌<◌, ◌+◌, ◌^◌, length, arith}
 use Rattle.std.proofs.Math.Nat.{min-le_right}
 use Rattle.napi_types.specs.parts.Graph.{StoreState}
 use Rattle.napi_types.specs.parts.Properties.{most_names}
-use Rattle.value_store.specs.Changes.{properties_in}
+use Rattle.value_store.specs.StoreChanges.{properties_in}
 use Rattle.env_values.specs.Numbering.{HasNumbersLeft}
 
 -- for one value

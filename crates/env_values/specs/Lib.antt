@@ -1,4 +1,4 @@
-pub mod Keeping
+pub mod KeepingHeaps
 pub mod Numbering
-pub mod Seen
-pub mod Steps
+pub mod SeenValues
+pub mod ValueSteps

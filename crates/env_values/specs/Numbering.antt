@@ -2,7 +2,7 @@
 use Rattle.std.specs.Prelude.{ℕ, ◌+◌, ◌<◌, ◌^◌, length, min}
 use Rattle.napi_types.specs.parts.Graph.{StoreState}
 use Rattle.napi_types.specs.parts.Properties.{most_names}
-use Rattle.value_store.specs.Changes.{properties_in}
+use Rattle.value_store.specs.StoreChanges.{properties_in}
 
 -- the values made so far and the names of any one object, of which 65,536 count at most, are together below 2^48 - 8
 abbrev pub HasNumbersLeft : StoreState → Type 0

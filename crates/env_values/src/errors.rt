@@ -3,10 +3,10 @@ ghost use Rattle.std.specs.Prelude.{◌≡◌, ℕ, ◌≢◌, ◌+◌, ◌<◌,
 ghost use Rattle.napi_types.specs.parts.Graph.{IsLive, number_in, graph_of};
 ghost use Rattle.napi_types.specs.parts.HeapChanges.{new_error};
 ghost use Rattle.napi_types.specs.parts.NewValues.{error_of, thrown_strings, thrown_of};
-ghost use Rattle.value_store.specs.Changes.{MakesValue};
-ghost use Rattle.env_values.specs.Keeping.{CanMake, KeepsHeap};
-ghost use Rattle.env_values.specs.Seen.{heap_of, KeepsValues};
-ghost use Rattle.env_values.specs.Steps.{Comes, Gives};
+ghost use Rattle.value_store.specs.StoreChanges.{MakesValue};
+ghost use Rattle.env_values.specs.KeepingHeaps.{CanMake, KeepsHeap};
+ghost use Rattle.env_values.specs.SeenValues.{heap_of, KeepsValues};
+ghost use Rattle.env_values.specs.ValueSteps.{Comes, GivesHandle};
 
 use crate::known::{recall, text, value_of_handle};
 use crate::stop::Stop;
@@ -71,7 +71,7 @@ fn give_error(
     requires message { IsLive store.old message.0 }
     ensures gives { let before = heap_of store.old scopes.old in
         let answer = new_error (option_map (λ c. number_in store.old c.0) code) (number_in store.old message.0) before in
-        Gives answer before result (heap_of store.new scopes.new) }
+        GivesHandle answer before result (heap_of store.new scopes.new) }
     ensures keeps { KeepsHeap store.old scopes.old store.new scopes.new }
 {
     scopes.reserve()?;

@@ -6,9 +6,9 @@ ghost use Rattle.napi_types.specs.parts.Properties.{element_at};
 ghost use Rattle.napi_types.specs.parts.Scopes.{gives};
 ghost use Rattle.napi_types.specs.parts.Values.{undefined_value};
 ghost use Rattle.std.specs.Option.{unwrap_or};
-ghost use Rattle.value_store.specs.Changes.{elements_in};
-ghost use Rattle.env_values.specs.Seen.{heap_of, HoldsLive};
-ghost use Rattle.env_values.specs.Steps.{IsValueOf, IsStored};
+ghost use Rattle.value_store.specs.StoreChanges.{elements_in};
+ghost use Rattle.env_values.specs.SeenValues.{heap_of, HoldsLive};
+ghost use Rattle.env_values.specs.ValueSteps.{IsValueOf, IsStored};
 
 use handle_scope::Scopes;
 use napi_types::{Body, HandleId, Status, TextNo, ValueId};

@@ -3,9 +3,9 @@ ghost use Rattle.std.specs.Prelude.{◌≡◌, ◌≢◌, ◌+◌, ◌<◌, ◌�
 ghost use Rattle.napi_types.specs.plain.Replies.{accepts};
 ghost use Rattle.napi_types.specs.parts.Graph.{IsLive, number_in};
 ghost use Rattle.napi_types.specs.parts.HeapChanges.{handle_of, new_value, new_list};
-ghost use Rattle.env_values.specs.Keeping.{CanGive, CanMake, KeepsScopes, KeepsHeap};
-ghost use Rattle.env_values.specs.Seen.{heap_of};
-ghost use Rattle.env_values.specs.Steps.{Gives};
+ghost use Rattle.env_values.specs.KeepingHeaps.{CanGive, CanMake, KeepsScopes, KeepsHeap};
+ghost use Rattle.env_values.specs.SeenValues.{heap_of};
+ghost use Rattle.env_values.specs.ValueSteps.{GivesHandle};
 
 use crate::known::recall;
 use handle_scope::Scopes;
@@ -17,7 +17,7 @@ pub(crate) fn give(store: &Store, scopes: &mut Scopes, value: ValueId) -> Result
     requires give { CanGive store.now scopes.old }
     requires value { IsLive store.now value.0 }
     ensures gives { let before = heap_of store.now scopes.old in
-        Gives (handle_of (number_in store.now value.0) before) before result (heap_of store.now scopes.new) }
+        GivesHandle (handle_of (number_in store.now value.0) before) before result (heap_of store.now scopes.new) }
     ensures keeps { KeepsScopes scopes.old store.now scopes.new }
 {
     let _ = store;
@@ -28,7 +28,7 @@ pub(crate) fn give(store: &Store, scopes: &mut Scopes, value: ValueId) -> Result
 pub(crate) fn give_new(store: &mut Store, scopes: &mut Scopes, body: Body) -> Result<Out, NoMemory>
     requires able { CanMake 1 store.old scopes.old }
     ensures gives { let before = heap_of store.old scopes.old in
-        Gives (new_value body before) before result (heap_of store.new scopes.new) }
+        GivesHandle (new_value body before) before result (heap_of store.new scopes.new) }
     ensures keeps { KeepsHeap store.old scopes.old store.new scopes.new }
 {
     let (_, out) = make_held(store, scopes, body)?;
@@ -62,7 +62,7 @@ pub(crate) fn give_starting(store: &Store, scopes: &mut Scopes, which: u32) -> R
     requires which { which < 5 }
     requires give { CanGive store.now scopes.old }
     ensures gives { let before = heap_of store.now scopes.old in
-        Gives (handle_of (which + 1) before) before result (heap_of store.now scopes.new) }
+        GivesHandle (handle_of (which + 1) before) before result (heap_of store.now scopes.new) }
     ensures keeps { KeepsScopes scopes.old store.now scopes.new }
 {
     let value = store.starting(which);
@@ -79,7 +79,7 @@ pub(crate) fn create_function(
 ) -> Result<Out, NoMemory>
     requires able { CanMake 1 store.old scopes.old }
     ensures gives { let before = heap_of store.old scopes.old in
-        Gives (new_value (Body.Function addon entry payload) before) before result (heap_of store.new scopes.new) }
+        GivesHandle (new_value (Body.Function addon entry payload) before) before result (heap_of store.new scopes.new) }
     ensures keeps { KeepsHeap store.old scopes.old store.new scopes.new }
 {
     let function = Body::Function {

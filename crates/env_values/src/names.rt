@@ -3,11 +3,11 @@ ghost use Rattle.std.specs.Prelude.{◌≡◌, ℕ, ◌≢◌, ◌+◌, ◌<◌,
 ghost use Rattle.napi_types.specs.parts.HeapChanges.{new_list};
 ghost use Rattle.napi_types.specs.parts.Properties.{most_names};
 ghost use Rattle.napi_types.specs.parts.PropertyCalls.{names_of};
-ghost use Rattle.value_store.specs.Changes.{properties_in};
+ghost use Rattle.value_store.specs.StoreChanges.{properties_in};
 ghost use Rattle.env_values.specs.Numbering.{HasNumbersLeft};
-ghost use Rattle.env_values.specs.Keeping.{CanGive, CanMake, KeepsHeap};
-ghost use Rattle.env_values.specs.Seen.{heap_of};
-ghost use Rattle.env_values.specs.Steps.{Comes, Gives};
+ghost use Rattle.env_values.specs.KeepingHeaps.{CanGive, CanMake, KeepsHeap};
+ghost use Rattle.env_values.specs.SeenValues.{heap_of};
+ghost use Rattle.env_values.specs.ValueSteps.{Comes, GivesHandle};
 
 use crate::known::{object_like, recall, value_of_handle};
 use crate::stop::Stop;
@@ -48,7 +48,7 @@ fn give_list(store: &mut Store, scopes: &mut Scopes, bodies: &[Body]) -> Result<
     requires count { length bodies.now ≤ most_names }
     requires able { CanMake (length bodies.now + 1) store.old scopes.old }
     ensures gives { let before = heap_of store.old scopes.old in
-        Gives (new_list bodies.now before) before result (heap_of store.new scopes.new) }
+        GivesHandle (new_list bodies.now before) before result (heap_of store.new scopes.new) }
     ensures keeps { KeepsHeap store.old scopes.old store.new scopes.new }
 {
     scopes.reserve()?;

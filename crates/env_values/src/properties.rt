@@ -1,9 +1,9 @@
 //! The calls that set and remove properties and elements.
 ghost use Rattle.std.specs.Prelude.{◌≡◌, ℕ, ◌≤◌, true, false, nat_lt, IfOk, IfErr, OnOk};
 ghost use Rattle.napi_types.specs.parts.Properties.{most_index};
-ghost use Rattle.env_values.specs.Keeping.{KeepsHeap};
-ghost use Rattle.env_values.specs.Seen.{heap_of, HoldsLive};
-ghost use Rattle.env_values.specs.Steps.{Comes};
+ghost use Rattle.env_values.specs.KeepingHeaps.{KeepsHeap};
+ghost use Rattle.env_values.specs.SeenValues.{heap_of, HoldsLive};
+ghost use Rattle.env_values.specs.ValueSteps.{Comes};
 
 use crate::known::{known_text, object_like, value_of_handle};
 use crate::stop::Stop;

@@ -1,8 +1,8 @@
 //! The calls that tell what a value is.
 ghost use Rattle.std.specs.Prelude.{◌≡◌, ℕ, true};
 ghost use Rattle.napi_types.specs.plain.Built.{is_telling};
-ghost use Rattle.env_values.specs.Seen.{heap_of, HoldsLive};
-ghost use Rattle.env_values.specs.Steps.{Comes, ComesOf};
+ghost use Rattle.env_values.specs.SeenValues.{heap_of, HoldsLive};
+ghost use Rattle.env_values.specs.ValueSteps.{Comes, ComesOf};
 
 use crate::known::{
     array, bigint, boolean, element, equals_strictly, external, is_array_value, is_error_value,

@@ -6,9 +6,9 @@ ghost use Rattle.napi_types.specs.parts.HeapCalls.{heap_answer};
 ghost use Rattle.napi_types.specs.parts.HeapRefusals.{refusal_in};
 ghost use Rattle.napi_types.specs.parts.Values.{true_value, false_value};
 ghost use Rattle.env_values.specs.Numbering.{HasNumbersLeft};
-ghost use Rattle.env_values.specs.Keeping.{CanGive, KeepsHeap};
-ghost use Rattle.env_values.specs.Seen.{heap_of, HoldsLive, KeepsValues};
-ghost use Rattle.env_values.specs.Steps.{ComesOf};
+ghost use Rattle.env_values.specs.KeepingHeaps.{CanGive, KeepsHeap};
+ghost use Rattle.env_values.specs.SeenValues.{heap_of, HoldsLive, KeepsValues};
+ghost use Rattle.env_values.specs.ValueSteps.{ComesOf};
 
 use crate::errors::create_error;
 use crate::makes::{create_function, give_new, give_starting};

@@ -1,9 +1,9 @@
 //! The calls that make values, and those that give the value of a property or an element.
 ghost use Rattle.std.specs.Prelude.{◌≡◌, ℕ, ◌≢◌, ◌+◌, ◌<◌, ◌^◌, []};
 ghost use Rattle.napi_types.specs.parts.Graph.{IsLive};
-ghost use Rattle.env_values.specs.Keeping.{CanGive, CanMake, KeepsScopes, KeepsHeap};
-ghost use Rattle.env_values.specs.Seen.{heap_of};
-ghost use Rattle.env_values.specs.Steps.{Comes};
+ghost use Rattle.env_values.specs.KeepingHeaps.{CanGive, CanMake, KeepsScopes, KeepsHeap};
+ghost use Rattle.env_values.specs.SeenValues.{heap_of};
+ghost use Rattle.env_values.specs.ValueSteps.{Comes};
 
 use crate::known::{element, known_text, object_like, or_undefined, text, value_of_handle};
 use crate::makes::{give, give_new};

@@ -1,5 +1,5 @@
-pub mod Heaps
-pub mod Kept
+pub mod KeptBook
 pub mod Lowest
-pub mod Moves
+pub mod RowMoves
 pub mod Taken
+pub mod TicketHeaps

@@ -6,7 +6,7 @@ use Rattle.napi_types.specs.parts.Book.{Book, Registration, TicketState, Due, is
 use Rattle.napi_types.proofs.plain.Found.{same-self}
 use Rattle.napi_types.proofs.plain.Lists.{find-passes}
 use Rattle.napi_types.proofs.parts.Moved.{at-state, is_at-moved_where}
-use Rattle.finalizer_queue.specs.Kept.{Takes, ticket_number}
+use Rattle.finalizer_queue.specs.KeptBook.{LowestBegins, ticket_number}
 
 -- a ticket that was the lowest due, and begins
 pub lowest-begun : (old : Book) (n : ℕ) (r : Registration) → lowest_due old ≡ Some n → registration_at old n ≡ Some r → is_at is_begun (moved_at made_begun n old) n ≡ true
@@ -19,7 +19,7 @@ lowest-begun old n r lowest there =
     begins Due due = refl
     begins _ due = cc
 
-pub takes-begun : (old new : Book) (due : DueInfo) → Takes old due new → is_at is_begun new (ticket_number due.duty) ≡ true
+pub takes-begun : (old new : Book) (due : DueInfo) → LowestBegins old due new → is_at is_begun new (ticket_number due.duty) ≡ true
 takes-begun old new due takes =
     ap (λ (d : DueInfo). is_at is_begun new (ticket_number d.duty)) takes.told ∙ ap (λ b. is_at is_begun b takes.ticket) takes.begun
     ∙ lowest-begun old takes.ticket takes.registration takes.lowest takes.registered

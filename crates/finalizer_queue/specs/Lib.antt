@@ -1,2 +1,2 @@
-pub mod Kept
-pub mod Rows
+pub mod KeptBook
+pub mod TicketRows

@@ -2,10 +2,10 @@
 ghost use Rattle.std.specs.Prelude.{◌≡◌, ◌+◌, ◌<◌, ◌≤◌, ◌^◌, ◌++◌, ◌∷◌, ◌↔◌, [], length, true, None, IfSome, IfOk, OnOk};
 ghost use Rattle.std.specs.Option.{is_some};
 ghost use Rattle.napi_types.specs.parts.Book.{is_registered, is_begun, is_at, registration_at, lowest_due, due_info, made_due, made_withdrawn, made_ended, made_due_and_begun, moved_at, all_due};
-ghost use Rattle.finalizer_queue.specs.Kept.{ticket_number, Takes};
-ghost use Rattle.finalizer_queue.specs.Rows.{registration_of};
+ghost use Rattle.finalizer_queue.specs.KeptBook.{ticket_number, LowestBegins};
+ghost use Rattle.finalizer_queue.specs.TicketRows.{registration_of};
 
-use crate::rows::{self, NewDuty, Row, RowState};
+use crate::rows::{self, NewDuty, TicketRow, RowState};
 use napi_types::{Begun, Due, Duty, NoMemory, Slip, Ticket};
 use std::alloc::Global;
 use std::cmp::Reverse;
@@ -16,7 +16,7 @@ use std::marker::Model;
 #[derive(Drop)]
 pub struct Book {
     // The ticket n stands at n - 1.
-    rows: Vec<Row>,
+    rows: Vec<TicketRow>,
     // The tickets that are due, the lowest at the top. There is room for all that are registered, so that they fall due without memory.
     due: BinaryHeap<Reverse<u64>>,
     // For the ticket that is registered next.
@@ -27,14 +27,14 @@ pub struct Book {
 impl Model for Book {
     ghost use Rattle.std.specs.Prelude.{vec_capacity};
     ghost use Rattle.std.specs.BinaryHeap.{heap_items, heap_len, heap_capacity};
-    ghost use Rattle.finalizer_queue.specs.Kept.{KeptBook};
-    ghost use Rattle.finalizer_queue.specs.Rows.{book_of, spare_slips, AreKept};
+    ghost use Rattle.finalizer_queue.specs.KeptBook.{KeptBook};
+    ghost use Rattle.finalizer_queue.specs.TicketRows.{book_of, spare_slips, IsKeptBook};
 
     ghost Value = { KeptBook };
 
     ghost view = { λ b. record { book = book_of b.rows.items; spare = spare_slips b.spare } };
 
-    ghost invariant = { λ b. AreKept b.rows.items (spare_slips b.spare) (vec_capacity b.rows) (heap_items b.due) (heap_len b.due) (heap_capacity b.due) };
+    ghost invariant = { λ b. IsKeptBook b.rows.items (spare_slips b.spare) (vec_capacity b.rows) (heap_items b.due) (heap_len b.due) (heap_capacity b.due) };
 }
 
 impl Book {
@@ -88,7 +88,7 @@ impl Book {
             unreachable!()
         };
         let ticket = self.next();
-        self.rows.push_reserved(Row {
+        self.rows.push_reserved(TicketRow {
             duty,
             state: RowState::Registered(slip),
         });
@@ -155,7 +155,7 @@ impl Book {
     pub fn take_due(&mut self) -> Option<Due>
         ensures none { (result ≡ None) ↔ (lowest_due self.old.book ≡ None) }
         ensures stays { result ≡ None → self.new.book ≡ self.old.book }
-        ensures taken { IfSome result (λ due. Takes self.old.book due self.new.book) }
+        ensures taken { IfSome result (λ due. LowestBegins self.old.book due self.new.book) }
         ensures spare { self.old.spare ≤ self.new.spare }
     {
         let Reverse(number) = self.due.pop()?;

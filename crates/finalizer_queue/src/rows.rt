@@ -1,7 +1,7 @@
 //! What stands under a ticket, read and changed by number.
 ghost use Rattle.std.specs.Prelude.{◌≡◌, ◌||◌, true};
 ghost use Rattle.napi_types.specs.parts.Book.{is_registered, is_due, is_begun, is_at, due_info, made_due, made_withdrawn, made_due_and_begun, made_ended, moved};
-ghost use Rattle.finalizer_queue.specs.Rows.{registration_of, row_registration, book_of};
+ghost use Rattle.finalizer_queue.specs.TicketRows.{registration_of, row_registration, book_of};
 
 use napi_types::{Cause, Due, DueInfo, Duty, Slip, Status, Ticket};
 use std::mem;
@@ -33,13 +33,13 @@ pub(crate) enum RowState {
 
 /// What stands under a ticket.
 #[derive(Drop)]
-pub(crate) struct Row {
+pub(crate) struct TicketRow {
     pub(crate) duty: NewDuty,
     pub(crate) state: RowState,
 }
 
 /// Whether a ticket is registered.
-pub(crate) fn is_registered(rows: &[Row], ticket: u64) -> bool
+pub(crate) fn is_registered(rows: &[TicketRow], ticket: u64) -> bool
     ensures { result ≡ is_at is_registered (book_of rows.now) ticket }
 {
     let Some(place) = ticket.checked_sub(1) else {
@@ -52,7 +52,7 @@ pub(crate) fn is_registered(rows: &[Row], ticket: u64) -> bool
 }
 
 /// A row falls due, where it is registered. Whether it was.
-pub(crate) fn fall_due(row: &mut Row) -> bool
+pub(crate) fn fall_due(row: &mut TicketRow) -> bool
     ensures was { result ≡ is_registered (row_registration row.old).state }
     ensures due { row_registration row.new ≡ moved made_due (row_registration row.old) }
 {
@@ -65,7 +65,7 @@ pub(crate) fn fall_due(row: &mut Row) -> bool
 }
 
 /// A row that is registered is withdrawn, and gives its memory back.
-pub(crate) fn withdraw(row: &mut Row)
+pub(crate) fn withdraw(row: &mut TicketRow)
     requires { is_registered (row_registration row.old).state ≡ true }
     ensures { row_registration row.new ≡ moved made_withdrawn (row_registration row.old) }
 {
@@ -73,7 +73,7 @@ pub(crate) fn withdraw(row: &mut Row)
 }
 
 /// A row that is registered or due begins.
-pub(crate) fn begin(row: &mut Row, ticket: Ticket) -> Due
+pub(crate) fn begin(row: &mut TicketRow, ticket: Ticket) -> Due
     requires { (is_registered (row_registration row.old).state || is_due (row_registration row.old).state) ≡ true }
     ensures told { result ≡ due_info ticket.0 (row_registration row.old) }
     ensures begun { row_registration row.new ≡ moved made_due_and_begun (row_registration row.old) }
@@ -86,7 +86,7 @@ pub(crate) fn begin(row: &mut Row, ticket: Ticket) -> Due
 }
 
 /// A row that has begun ends.
-pub(crate) fn end(row: &mut Row)
+pub(crate) fn end(row: &mut TicketRow)
     requires { is_begun (row_registration row.old).state ≡ true }
     ensures { row_registration row.new ≡ moved made_ended (row_registration row.old) }
 {

@@ -19,11 +19,11 @@ use Rattle.napi_types.proofs.plain.Lists.{option_or-none}
 use Rattle.handle_scope.specs.declared.scopes.HeldHandle.{HeldHandle}
 use Rattle.handle_scope.specs.declared.scopes.ScopeMark.{ScopeMark}
 use Rattle.handle_scope.specs.declared.scopes.Escape.{Escape}
-use Rattle.handle_scope.specs.Marks.{held_of, waiting, all_waiting, waiting_value, free_escapes, Rises, AreAtMost, IsTracked}
-use Rattle.handle_scope.proofs.Numbers.{Rises-push, Rises-tail, Rises-filter, Lacks, Lacks-tail, HasAt, HasAt-tail}
+use Rattle.handle_scope.specs.Marks.{held_of, waiting_handle, all_waiting, waiting_value, free_escapes, Rises, AreAtMost, IsTracked}
+use Rattle.handle_scope.proofs.HandleNumbers.{Rises-push, Rises-tail, Rises-filter, Lacks, Lacks-tail, HasAt, HasAt-tail}
 use Rattle.handle_scope.proofs.Lookups.{value_in-append}
 use Rattle.handle_scope.proofs.Marks.{escaped_mark, opened_mark}
-use Rattle.handle_scope.proofs.Places.{reverse-cons}
+use Rattle.handle_scope.proofs.HandlePlaces.{reverse-cons}
 
 -- the escapes list a handle for a place of the marks
 abbrev is_listed : List Escape → ℕ → ℕ → Bool
@@ -87,7 +87,7 @@ none-outer m ms h n = record {
       n.at i d e (omega (arith, length-reverse (m ∷ ms))) (ap (λ (s : ScopeMark). s.escaped) (get-front m ms i d here) ∙ waits);
 }
 
-none-last : (m : ScopeMark) (ms : List ScopeMark) (h : ℕ) → NoneWaits (reverse (m ∷ ms)) h → value_in (waiting m) h ≡ None
+none-last : (m : ScopeMark) (ms : List ScopeMark) (h : ℕ) → NoneWaits (reverse (m ∷ ms)) h → value_in (waiting_handle m) h ≡ None
 none-last m ms h n =
     waiting-none m.escaped h
     (λ e waits. n.at (length ms) m e (omega (arith, length-reverse (m ∷ ms))) (ap (λ (s : ScopeMark). s.escaped) (get-last m ms (length ms) m refl) ∙ waits))
@@ -96,17 +96,17 @@ none-last m ms h n =
 all-none : (ms : List ScopeMark) (h : ℕ) → NoneWaits (reverse ms) h → value_in (all_waiting ms) h ≡ None
 all-none [] h n = refl
 all-none (m ∷ ms) h n =
-    value_in-append (waiting m) (all_waiting ms) h
+    value_in-append (waiting_handle m) (all_waiting ms) h
     ∙ ap (λ o. option_or o (value_in (all_waiting ms) h)) (none-last m ms h n)
     ∙ all-none ms h (none-outer m ms h n)
 
 -- where a handle of that number can wait at one place alone, the marks give what that mark gives
 all-sole : (ms : List ScopeMark) (h at : ℕ) (d : ScopeMark) → at < length ms → WaitsAlone (reverse ms) h at
-    → value_in (waiting (get_or (reverse ms) at d)) h ≡ value_in (all_waiting ms) h
+    → value_in (waiting_handle (get_or (reverse ms) at d)) h ≡ value_in (all_waiting ms) h
 all-sole [] h at d inside w = absurd (omega arith)
 all-sole (m ∷ ms) h at d inside w = elim (cases_lt at (length ms)) [
   | inl first ↦
-      let nothing : value_in (waiting m) h ≡ None =
+      let nothing : value_in (waiting_handle m) h ≡ None =
       waiting-none m.escaped h
       (λ e waits same.
       let last : at ≡ length ms = w.at (length ms) m e (omega (arith, length-reverse (m ∷ ms))) (ap (λ (s : ScopeMark). s.escaped) (get-last m ms (length ms) m refl) ∙ waits) same in
@@ -116,9 +116,9 @@ all-sole (m ∷ ms) h at d inside w = elim (cases_lt at (length ms)) [
             let here : i < length ms = omega (arith, length-reverse ms) in
             w.at i x e (omega (arith, length-reverse (m ∷ ms))) (ap (λ (s : ScopeMark). s.escaped) (get-front m ms i x here) ∙ waits) same;
       } in
-      ap (λ s. value_in (waiting s) h) (get-front m ms at d first)
+      ap (λ s. value_in (waiting_handle s) h) (get-front m ms at d first)
       ∙ all-sole ms h at d first outer
-      ∙ sym (value_in-append (waiting m) (all_waiting ms) h ∙ ap (λ o. option_or o (value_in (all_waiting ms) h)) nothing)
+      ∙ sym (value_in-append (waiting_handle m) (all_waiting ms) h ∙ ap (λ o. option_or o (value_in (all_waiting ms) h)) nothing)
   | inr past ↦
       let index : at ≡ length ms = omega arith in
       let outer : NoneWaits (reverse ms) h = record {
@@ -127,16 +127,16 @@ all-sole (m ∷ ms) h at d inside w = elim (cases_lt at (length ms)) [
             let there : at ≡ i = w.at i x e (omega (arith, length-reverse (m ∷ ms))) (ap (λ (s : ScopeMark). s.escaped) (get-front m ms i x here) ∙ waits) same in
             omega arith;
       } in
-      ap (λ s. value_in (waiting s) h) (get-last m ms at d index)
-      ∙ sym (value_in-append (waiting m) (all_waiting ms) h ∙ ap (option_or (value_in (waiting m) h)) (all-none ms h outer) ∙ option_or-none (value_in (waiting m) h))
+      ap (λ s. value_in (waiting_handle s) h) (get-last m ms at d index)
+      ∙ sym (value_in-append (waiting_handle m) (all_waiting ms) h ∙ ap (option_or (value_in (waiting_handle m) h)) (all-none ms h outer) ∙ option_or-none (value_in (waiting_handle m) h))
 ]
 
 -- what is found where the escapes have the handle
 found-value : (ss : List ScopeMark) (e : Escape) (h : ℕ) → e.handle ≡ h → WaitsAlone ss h e.scope → (d : ScopeMark) → e.scope < length ss
-    → waiting_value ss e ≡ value_in (waiting (get_or ss e.scope d)) h
+    → waiting_value ss e ≡ value_in (waiting_handle (get_or ss e.scope d)) h
 found-value ss e h same w d inside =
-    ap (option_and_then (λ (s : ScopeMark). value_in (waiting s) e.handle)) (slice_get-get_or ss e.scope d inside)
-    ∙ ap (value_in (waiting (get_or ss e.scope d))) same
+    ap (option_and_then (λ (s : ScopeMark). value_in (waiting_handle s) e.handle)) (slice_get-get_or ss e.scope d inside)
+    ∙ ap (value_in (waiting_handle (get_or ss e.scope d))) same
 
 pub escape-found : (ss : List ScopeMark) (es : List Escape) (h k : ℕ) (y : Escape) → IsTracked ss es → HasAt (λ x. x.handle) es h k
     → waiting_value ss (get_or es k y) ≡ value_in (all_waiting (reverse ss)) h
@@ -154,7 +154,7 @@ escape-found ss es h k y t has =
       | inl inside ↦
           let d : ScopeMark = opened_mark 0 kind.Plain 0 0 in
           found-value ss e h same alone d inside
-          ∙ ap (λ l. value_in (waiting (get_or l e.scope d)) h) (sym back)
+          ∙ ap (λ l. value_in (waiting_handle (get_or l e.scope d)) h) (sym back)
           ∙ all-sole (reverse ss) h e.scope d (omega (arith, length-reverse ss)) (subst W (sym back) alone)
       | inr past ↦
           let none : NoneWaits (reverse (reverse ss)) h = record {
@@ -162,7 +162,7 @@ escape-found ss es h k y t has =
                 let there : e.scope ≡ i = (subst W (sym back) alone).at i d x inside waits equal in
                 omega (arith, length-reverse (reverse ss), length-reverse ss);
           } in
-          ap (option_and_then (λ (s : ScopeMark). value_in (waiting s) e.handle)) (slice_get_past ss e.scope past)
+          ap (option_and_then (λ (s : ScopeMark). value_in (waiting_handle s) e.handle)) (slice_get_past ss e.scope past)
           ∙ sym (all-none (reverse ss) h none)
     ]
 
@@ -242,8 +242,8 @@ waits-still : (ss : List ScopeMark) (at : ℕ) (d : ScopeMark) (h : HeldHandle) 
 waits-still ss at d h e inside waits test =
     let place : e.scope ≡ at = grind (arith, nat_tests) in
     let same : (h.handle == e.handle) ≡ true = grind (arith, nat_tests) in
-    ap (λ k. is_some (option_and_then (λ (s : ScopeMark). value_in (waiting s) e.handle) (slice_get ss k))) place
-    ∙ ap (λ o. is_some (option_and_then (λ (s : ScopeMark). value_in (waiting s) e.handle) o)) (slice_get-get_or ss at d inside)
+    ap (λ k. is_some (option_and_then (λ (s : ScopeMark). value_in (waiting_handle s) e.handle) (slice_get ss k))) place
+    ∙ ap (λ o. is_some (option_and_then (λ (s : ScopeMark). value_in (waiting_handle s) e.handle) o)) (slice_get-get_or ss at d inside)
     ∙ ap (λ o. is_some (value_in (map held_of (option_to_list o)) e.handle)) waits
     ∙ ap is_some (waiting-one h e.handle true same)
 
@@ -289,11 +289,11 @@ waits-there ss e some = elim (cases_lt e.scope (length ss)) [
         inside = inside;
         handle = λ d.
             waits-handle (get_or ss e.scope d).escaped e.handle
-            (ap (λ o. is_some (option_and_then (λ (s : ScopeMark). value_in (waiting s) e.handle) o)) (sym (slice_get-get_or ss e.scope d inside)) ∙ some);
+            (ap (λ o. is_some (option_and_then (λ (s : ScopeMark). value_in (waiting_handle s) e.handle) o)) (sym (slice_get-get_or ss e.scope d inside)) ∙ some);
       }
   | inr past ↦
       let none : is_some (waiting_value ss e) ≡ false =
-      ap (λ o. is_some (option_and_then (λ (s : ScopeMark). value_in (waiting s) e.handle) o)) (slice_get_past ss e.scope past) in
+      ap (λ o. is_some (option_and_then (λ (s : ScopeMark). value_in (waiting_handle s) e.handle) o)) (slice_get_past ss e.scope past) in
       absurd (true≢false (sym some ∙ none))
 ]
 

@@ -1,8 +1,8 @@
+pub mod EscapeRefusals
 pub mod Escapes
 pub mod Gives
+pub mod HandleNumbers
+pub mod HandlePlaces
 pub mod Lookups
 pub mod Marks
-pub mod Numbers
-pub mod Places
-pub mod Refusals
 pub mod Stacks

@@ -3,18 +3,18 @@ use Rattle.std.proofs.Common.{◌≡◌, ℕ, zero, suc, ◌+◌, ◌<◌, ◌==
 use Rattle.std.proofs.lemmas.Bool.Decides.{nat_tests}
 use Rattle.std.proofs.lemmas.List.{get_or-map, length-map, get_or-append-add, length-append}
 use Rattle.std.specs.Option.{option_or}
-use Rattle.napi_types.specs.parts.Scopes.{Held, value_in}
+use Rattle.napi_types.specs.parts.Scopes.{OpenHandle, value_in}
 use Rattle.napi_types.proofs.plain.Lists.{option_or-none}
 use Rattle.handle_scope.specs.declared.scopes.HeldHandle.{HeldHandle}
 use Rattle.handle_scope.specs.Marks.{held_of, Rises}
-use Rattle.handle_scope.proofs.Numbers.{HasAt, Lacks, HasAt-tail, Lacks-tail, Rises-tail}
+use Rattle.handle_scope.proofs.HandleNumbers.{HasAt, Lacks, HasAt-tail, Lacks-tail, Rises-tail}
 
 pub option_or-assoc : {A : Type 0} (a b c : Option A) → option_or (option_or a b) c ≡ option_or a (option_or b c)
 option_or-assoc None b c = refl
 option_or-assoc (Some x) b c = refl
 
 -- the first handle, or what the rest says
-value_in-first : (p : Held) (hs : List Held) (h : ℕ) (same : Bool) → (p.handle == h) ≡ same → value_in (p ∷ hs) h ≡ cond same (Some p.value) (value_in hs h)
+value_in-first : (p : OpenHandle) (hs : List OpenHandle) (h : ℕ) (same : Bool) → (p.handle == h) ≡ same → value_in (p ∷ hs) h ≡ cond same (Some p.value) (value_in hs h)
 value_in-first p hs h true e = rw e refl
 value_in-first p hs h false e = rw e refl
 
@@ -28,7 +28,7 @@ value_in-found (x ∷ xs) h (suc at) d r i =
     value_in-found xs h at d (Rises-tail (λ x. x.handle) x xs r) (HasAt-tail (λ x. x.handle) x xs h at i)
     ∙ sym (value_in-first (held_of x) (map held_of xs) h false (grind (arith, nat_tests)))
 
-pub value_in-lacks : (hs : List Held) (h : ℕ) → Lacks (λ p. p.handle) hs h → value_in hs h ≡ None
+pub value_in-lacks : (hs : List OpenHandle) (h : ℕ) → Lacks (λ p. p.handle) hs h → value_in hs h ≡ None
 value_in-lacks [] h l = refl
 value_in-lacks (p ∷ hs) h l =
     value_in-first p hs h false (grind (arith, nat_tests, l.at 0 p (omega arith))) ∙ value_in-lacks hs h (Lacks-tail (λ p. p.handle) p hs h l)
@@ -46,25 +46,25 @@ pub Rises-of-held : (xs : List HeldHandle) → Rises (λ p. p.handle) (map held_
 Rises-of-held xs r = record {
   rise = λ i j d lt inside.
       let first : i < length xs = omega arith in
-      let at_i : (get_or (map held_of xs) i (held_of d)).handle ≡ (get_or xs i d).handle = ap (λ (q : Held). q.handle) (get_or-map held_of xs i d (held_of d) first) in
-      let at_j : (get_or (map held_of xs) j (held_of d)).handle ≡ (get_or xs j d).handle = ap (λ (q : Held). q.handle) (get_or-map held_of xs j d (held_of d) inside) in
+      let at_i : (get_or (map held_of xs) i (held_of d)).handle ≡ (get_or xs i d).handle = ap (λ (q : OpenHandle). q.handle) (get_or-map held_of xs i d (held_of d) first) in
+      let at_j : (get_or (map held_of xs) j (held_of d)).handle ≡ (get_or xs j d).handle = ap (λ (q : OpenHandle). q.handle) (get_or-map held_of xs j d (held_of d) inside) in
       let up : (get_or (map held_of xs) i (held_of d)).handle < (get_or (map held_of xs) j (held_of d)).handle = r.rise i j (held_of d) lt (omega (arith, inside, length-map xs held_of)) in
       omega arith;
 }
 
 -- a handle that is not above the first of them is none of those after it
-after-lacks : (p : Held) (xs ys : List Held) → Rises (λ p. p.handle) (p ∷ xs ++ ys) → Lacks (λ p. p.handle) ys p.handle
+after-lacks : (p : OpenHandle) (xs ys : List OpenHandle) → Rises (λ p. p.handle) (p ∷ xs ++ ys) → Lacks (λ p. p.handle) ys p.handle
 after-lacks p xs ys r = record {
   at = λ i d inside same.
       let there : get_or (xs ++ ys) (length xs + i) d ≡ get_or ys i d = get_or-append-add xs ys i d in
       let in_range : suc (length xs + i) < length (p ∷ xs ++ ys) = omega (arith, length-append xs ys) in
       let above : p.handle < (get_or (xs ++ ys) (length xs + i) d).handle = r.rise 0 (suc (length xs + i)) d (omega arith) in_range in
-      let equal : (get_or (xs ++ ys) (length xs + i) d).handle ≡ p.handle = ap (λ (q : Held). q.handle) there ∙ same in
+      let equal : (get_or (xs ++ ys) (length xs + i) d).handle ≡ p.handle = ap (λ (q : OpenHandle). q.handle) there ∙ same in
       omega arith;
 }
 
 -- the part that comes later is asked first, where the first handle of the earlier part is the one that is looked for, or is not
-either-first : (p : Held) (xs ys : List Held) (h : ℕ) (same : Bool) → (p.handle == h) ≡ same → Rises (λ p. p.handle) (p ∷ xs ++ ys)
+either-first : (p : OpenHandle) (xs ys : List OpenHandle) (h : ℕ) (same : Bool) → (p.handle == h) ≡ same → Rises (λ p. p.handle) (p ∷ xs ++ ys)
     → option_or (value_in ys h) (value_in xs h) ≡ value_in (xs ++ ys) h → option_or (value_in ys h) (value_in (p ∷ xs) h) ≡ value_in (p ∷ xs ++ ys) h
 either-first p xs ys h true e r rest =
     let equal : p.handle ≡ h = grind (arith, nat_tests) in
@@ -74,7 +74,7 @@ either-first p xs ys h false e r rest =
     ap (option_or (value_in ys h)) (value_in-first p xs h false e) ∙ rest ∙ sym (value_in-first p (xs ++ ys) h false e)
 
 -- the first handle is the one that is looked for, or is not
-append-first : (p : Held) (xs ys : List Held) (h : ℕ) (same : Bool) → (p.handle == h) ≡ same
+append-first : (p : OpenHandle) (xs ys : List OpenHandle) (h : ℕ) (same : Bool) → (p.handle == h) ≡ same
     → value_in (xs ++ ys) h ≡ option_or (value_in xs h) (value_in ys h) → value_in (p ∷ xs ++ ys) h ≡ option_or (value_in (p ∷ xs) h) (value_in ys h)
 append-first p xs ys h true e rest =
     value_in-first p (xs ++ ys) h true e ∙ sym (ap (λ o. option_or o (value_in ys h)) (value_in-first p xs h true e))
@@ -82,11 +82,11 @@ append-first p xs ys h false e rest =
     value_in-first p (xs ++ ys) h false e ∙ rest ∙ sym (ap (λ o. option_or o (value_in ys h)) (value_in-first p xs h false e))
 
 -- where the handles rise, one lies in one of two parts at most, so either part may be asked first
-pub value_in-either : (xs ys : List Held) (h : ℕ) → Rises (λ p. p.handle) (xs ++ ys) → option_or (value_in ys h) (value_in xs h) ≡ value_in (xs ++ ys) h
+pub value_in-either : (xs ys : List OpenHandle) (h : ℕ) → Rises (λ p. p.handle) (xs ++ ys) → option_or (value_in ys h) (value_in xs h) ≡ value_in (xs ++ ys) h
 value_in-either [] ys h r = option_or-none (value_in ys h)
 value_in-either (p ∷ xs) ys h r = either-first p xs ys h (p.handle == h) refl r (value_in-either xs ys h (Rises-tail (λ p. p.handle) p (xs ++ ys) r))
 
 -- what the earlier part says, or else the later one
-pub value_in-append : (xs ys : List Held) (h : ℕ) → value_in (xs ++ ys) h ≡ option_or (value_in xs h) (value_in ys h)
+pub value_in-append : (xs ys : List OpenHandle) (h : ℕ) → value_in (xs ++ ys) h ≡ option_or (value_in xs h) (value_in ys h)
 value_in-append [] ys h = refl
 value_in-append (p ∷ xs) ys h = append-first p xs ys h (p.handle == h) refl (value_in-append xs ys h)

@@ -9,12 +9,12 @@ use Rattle.std.proofs.Math.Seq.{drop-length, take-length}
 use Rattle.napi_types.specs.declared.ids.ScopeKind.{ScopeKind}
 use Rattle.napi_types.specs.plain.Lists.{first_changed}
 use Rattle.napi_types.specs.parts.ScopeChanges.{hold_in, open_in, close_in, escape_in, inside}
-use Rattle.napi_types.specs.parts.Scopes.{Held, FrameScopes, opened_scopes}
+use Rattle.napi_types.specs.parts.Scopes.{OpenHandle, FrameScopes, opened_scopes}
 use Rattle.handle_scope.specs.declared.scopes.HeldHandle.{HeldHandle}
 use Rattle.handle_scope.specs.declared.scopes.ScopeMark.{ScopeMark}
 use Rattle.handle_scope.specs.declared.scopes.FrameMark.{FrameMark}
-use Rattle.handle_scope.specs.Marks.{held_of, waiting, with_marked_scope, scopes_above, frames_marked, AreScopesWithin, AreFramesWithin, ArePlaced, Rises, AreInOrder, AreScopesInOrder, AreFramesInOrder}
-use Rattle.handle_scope.proofs.Numbers.{Rises-push, AreAtMost-push, AreAtMost-more, Lacks, Lacks-tail, HasAt, Lacks-after, Lacks-reverse}
+use Rattle.handle_scope.specs.Marks.{held_of, waiting_handle, with_marked_scope, scopes_above, frames_marked, AreScopesWithin, AreFramesWithin, ArePlaced, Rises, AreInOrder, AreScopesInOrder, AreFramesInOrder}
+use Rattle.handle_scope.proofs.HandleNumbers.{Rises-push, AreAtMost-push, AreAtMost-more, Lacks, Lacks-tail, HasAt, Lacks-after, Lacks-reverse}
 
 -- A FRAME'S SCOPES
 -- the frame begins within the stack
@@ -27,61 +27,61 @@ within-more start [] end more le w = omega arith
 within-more start (s ∷ ss) end more le w = (omega (arith, w.0), w.1)
 
 -- once the innermost scope is closed, the stack reaches as far as that scope's mark at least
-closed-end : (s : ScopeMark) (hs : List Held) → s.start ≤ length hs → s.start ≤ length (take s.start hs ++ waiting s)
-closed-end s hs le = omega (arith, length-append (take s.start hs) (waiting s), length-take-le s.start hs le)
+closed-end : (s : ScopeMark) (hs : List OpenHandle) → s.start ≤ length hs → s.start ≤ length (take s.start hs ++ waiting_handle s)
+closed-end s hs le = omega (arith, length-append (take s.start hs) (waiting_handle s), length-take-le s.start hs le)
 
-pub within-closed : (start : ℕ) (s : ScopeMark) (ss : List ScopeMark) (hs : List Held) → AreScopesWithin start (s ∷ ss) (length hs)
-    → AreScopesWithin start ss (length (take s.start hs ++ waiting s))
-within-closed start s ss hs w = within-more start ss s.start (length (take s.start hs ++ waiting s)) (closed-end s hs w.0) w.1
+pub within-closed : (start : ℕ) (s : ScopeMark) (ss : List ScopeMark) (hs : List OpenHandle) → AreScopesWithin start (s ∷ ss) (length hs)
+    → AreScopesWithin start ss (length (take s.start hs ++ waiting_handle s))
+within-closed start s ss hs w = within-more start ss s.start (length (take s.start hs ++ waiting_handle s)) (closed-end s hs w.0) w.1
 
 -- what stands below the mark of a scope is the same after its close
-pub take-closed : (n : ℕ) (s : ScopeMark) (hs : List Held) → n ≤ s.start → s.start ≤ length hs → take n (take s.start hs ++ waiting s) ≡ take n hs
+pub take-closed : (n : ℕ) (s : ScopeMark) (hs : List OpenHandle) → n ≤ s.start → s.start ≤ length hs → take n (take s.start hs ++ waiting_handle s) ≡ take n hs
 take-closed n s hs le within =
-    take-append-le n (take s.start hs) (waiting s) (omega (arith, length-take-le s.start hs within)) ∙ take-take n s.start hs le
+    take-append-le n (take s.start hs) (waiting_handle s) (omega (arith, length-take-le s.start hs within)) ∙ take-take n s.start hs le
 
-scopes-hold : (p : Held) (start : ℕ) (ss : List ScopeMark) (hs : List Held) → AreScopesWithin start ss (length hs)
+scopes-hold : (p : OpenHandle) (start : ℕ) (ss : List ScopeMark) (hs : List OpenHandle) → AreScopesWithin start ss (length hs)
     → scopes_above start ss (hs ++ p ∷ []) ≡ hold_in p (scopes_above start ss hs)
 scopes-hold p start [] hs w = ap (λ own. record { own = own; opened = [] }) (drop-append-le start hs (p ∷ []) w)
 scopes-hold p start (s ∷ ss) hs w =
-    ap (λ held. with_marked_scope s held (scopes_above start ss (take s.start (hs ++ p ∷ []) ++ waiting s))) (drop-append-le s.start hs (p ∷ []) w.0)
-    ∙ ap (λ rest. with_marked_scope s (drop s.start hs ++ p ∷ []) (scopes_above start ss (rest ++ waiting s))) (take-append-le s.start hs (p ∷ []) w.0)
+    ap (λ held. with_marked_scope s held (scopes_above start ss (take s.start (hs ++ p ∷ []) ++ waiting_handle s))) (drop-append-le s.start hs (p ∷ []) w.0)
+    ∙ ap (λ rest. with_marked_scope s (drop s.start hs ++ p ∷ []) (scopes_above start ss (rest ++ waiting_handle s))) (take-append-le s.start hs (p ∷ []) w.0)
 
 -- ORDER
-order-push : (p : Held) (hs : List Held) (most more : ℕ) → AreInOrder hs most → most < p.handle → p.handle ≤ more → AreInOrder (hs ++ p ∷ []) more
+order-push : (p : OpenHandle) (hs : List OpenHandle) (most more : ℕ) → AreInOrder hs most → most < p.handle → p.handle ≤ more → AreInOrder (hs ++ p ∷ []) more
 order-push p hs most more o above le = record {
-  rise = Rises-push (λ (q : Held). q.handle) hs p most o.rise o.issued above;
-  issued = AreAtMost-push (λ (q : Held). q.handle) hs p most more o.issued (omega arith) le;
+  rise = Rises-push (λ (q : OpenHandle). q.handle) hs p most o.rise o.issued above;
+  issued = AreAtMost-push (λ (q : OpenHandle). q.handle) hs p most more o.issued (omega arith) le;
 }
 
-order-more : (hs : List Held) (most more : ℕ) → most ≤ more → AreInOrder hs most → AreInOrder hs more
-order-more hs most more le o = record { rise = o.rise; issued = AreAtMost-more (λ (q : Held). q.handle) hs most more le o.issued }
+order-more : (hs : List OpenHandle) (most more : ℕ) → most ≤ more → AreInOrder hs most → AreInOrder hs more
+order-more hs most more le o = record { rise = o.rise; issued = AreAtMost-more (λ (q : OpenHandle). q.handle) hs most more le o.issued }
 
-scopes-order-more : (ss : List ScopeMark) (hs : List Held) (most more : ℕ) → most ≤ more → AreScopesInOrder ss hs most → AreScopesInOrder ss hs more
+scopes-order-more : (ss : List ScopeMark) (hs : List OpenHandle) (most more : ℕ) → most ≤ more → AreScopesInOrder ss hs most → AreScopesInOrder ss hs more
 scopes-order-more [] hs most more le o = order-more hs most more le o
 scopes-order-more (s ∷ ss) hs most more le o =
-    (order-more hs most more le o.0, scopes-order-more ss (take s.start hs ++ waiting s) most more le o.1)
+    (order-more hs most more le o.0, scopes-order-more ss (take s.start hs ++ waiting_handle s) most more le o.1)
 
-frames-order-more : (fs : List FrameMark) (ss : List ScopeMark) (hs : List Held) (most more : ℕ) → most ≤ more → AreFramesInOrder fs ss hs most → AreFramesInOrder fs ss hs more
+frames-order-more : (fs : List FrameMark) (ss : List ScopeMark) (hs : List OpenHandle) (most more : ℕ) → most ≤ more → AreFramesInOrder fs ss hs most → AreFramesInOrder fs ss hs more
 frames-order-more [] ss hs most more le o = order-more hs most more le o
 frames-order-more (f ∷ fs) ss hs most more le o =
     (scopes-order-more (reverse (drop f.scopes ss)) hs most more le o.0, frames-order-more fs (take f.scopes ss) (take f.start hs) most more le o.1)
 
-scopes-order-first : (ss : List ScopeMark) (hs : List Held) (most : ℕ) → AreScopesInOrder ss hs most → AreInOrder hs most
+scopes-order-first : (ss : List ScopeMark) (hs : List OpenHandle) (most : ℕ) → AreScopesInOrder ss hs most → AreInOrder hs most
 scopes-order-first [] hs most o = o
 scopes-order-first (s ∷ ss) hs most o = o.0
 
 -- the handles of the whole stack are in order
-pub frames-order-first : (fs : List FrameMark) (ss : List ScopeMark) (hs : List Held) (most : ℕ) → AreFramesInOrder fs ss hs most → AreInOrder hs most
+pub frames-order-first : (fs : List FrameMark) (ss : List ScopeMark) (hs : List OpenHandle) (most : ℕ) → AreFramesInOrder fs ss hs most → AreInOrder hs most
 frames-order-first [] ss hs most o = o
 frames-order-first (f ∷ fs) ss hs most o = scopes-order-first (reverse (drop f.scopes ss)) hs most o.0
 
-scopes-order-hold : (p : Held) (start : ℕ) (ss : List ScopeMark) (hs : List Held) (most more : ℕ) → AreScopesWithin start ss (length hs) → most < p.handle → p.handle ≤ more
+scopes-order-hold : (p : OpenHandle) (start : ℕ) (ss : List ScopeMark) (hs : List OpenHandle) (most more : ℕ) → AreScopesWithin start ss (length hs) → most < p.handle → p.handle ≤ more
     → AreScopesInOrder ss hs most → AreScopesInOrder ss (hs ++ p ∷ []) more
 scopes-order-hold p start [] hs most more w above le o = order-push p hs most more o above le
 scopes-order-hold p start (s ∷ ss) hs most more w above le o =
-    let S : List Held → Type 0 = λ x. AreScopesInOrder ss (x ++ waiting s) more in (
+    let S : List OpenHandle → Type 0 = λ x. AreScopesInOrder ss (x ++ waiting_handle s) more in (
       order-push p hs most more o.0 above le,
-      subst S (sym (take-append-le s.start hs (p ∷ []) w.0)) (scopes-order-more ss (take s.start hs ++ waiting s) most more (omega arith) o.1),
+      subst S (sym (take-append-le s.start hs (p ∷ []) w.0)) (scopes-order-more ss (take s.start hs ++ waiting_handle s) most more (omega arith) o.1),
     )
 
 -- MARKS
@@ -93,7 +93,7 @@ marks-push : (k : ℕ) (ss : List ScopeMark) (m : ScopeMark) → k ≤ length ss
 marks-push k ss m le = ap reverse (drop-append-le k ss (m ∷ []) le) ∙ reverse-push (drop k ss) m
 
 -- ISSUE
-pub frames-hold : (p : Held) (fs : List FrameMark) (ss : List ScopeMark) (hs : List Held) → AreFramesWithin fs ss (length hs)
+pub frames-hold : (p : OpenHandle) (fs : List FrameMark) (ss : List ScopeMark) (hs : List OpenHandle) → AreFramesWithin fs ss (length hs)
     → frames_marked fs ss (hs ++ p ∷ []) ≡ first_changed (hold_in p) (frames_marked fs ss hs)
 frames-hold p [] ss hs w = refl
 frames-hold p (f ∷ fs) ss hs w =
@@ -106,13 +106,13 @@ pub within-hold : (fs : List FrameMark) (ss : List ScopeMark) (n m : ℕ) → fs
 within-hold [] ss n m some le w = absurd (some refl)
 within-hold (f ∷ fs) ss n m some le w = (w.0, within-more f.start (reverse (drop f.scopes ss)) n m le w.1, w.2)
 
-pub order-hold : (p : Held) (fs : List FrameMark) (ss : List ScopeMark) (hs : List Held) (most more : ℕ) → AreFramesWithin fs ss (length hs) → most < p.handle → p.handle ≤ more
+pub order-hold : (p : OpenHandle) (fs : List FrameMark) (ss : List ScopeMark) (hs : List OpenHandle) (most more : ℕ) → AreFramesWithin fs ss (length hs) → most < p.handle → p.handle ≤ more
     → AreFramesInOrder fs ss hs most → AreFramesInOrder fs ss (hs ++ p ∷ []) more
 order-hold p [] ss hs most more w above le o = order-push p hs most more o above le
 order-hold p (f ∷ fs) ss hs most more w above le o =
     let ms : List ScopeMark = reverse (drop f.scopes ss) in
     let within : f.start ≤ length hs = start-le f.start ms (length hs) w.1 in
-    let F : List Held → Type 0 = λ x. AreFramesInOrder fs (take f.scopes ss) x more in (
+    let F : List OpenHandle → Type 0 = λ x. AreFramesInOrder fs (take f.scopes ss) x more in (
       scopes-order-hold p f.start ms hs most more w.1 above le o.0,
       subst F (sym (take-append-le f.start hs (p ∷ []) within)) (frames-order-more fs (take f.scopes ss) (take f.start hs) most more (omega arith) o.1),
     )
@@ -123,10 +123,10 @@ abbrev pub opened_mark : ℕ → ScopeKind → ℕ → ℕ → ScopeMark
 opened_mark n kind start place = record { number = n; kind = kind; start = start; place = place; escaped = None }
 
 -- all that stands before the end
-all-taken : (hs : List Held) (n : ℕ) → n ≡ length hs → take n hs ++ [] ≡ hs
+all-taken : (hs : List OpenHandle) (n : ℕ) → n ≡ length hs → take n hs ++ [] ≡ hs
 all-taken hs n e = append-nil (take n hs) ∙ ap (λ k. take k hs) e ∙ take-length hs
 
-pub frames-open : (n : ℕ) (kind : ScopeKind) (at place : ℕ) (fs : List FrameMark) (ss : List ScopeMark) (hs : List Held) → AreFramesWithin fs ss (length hs) → at ≡ length hs
+pub frames-open : (n : ℕ) (kind : ScopeKind) (at place : ℕ) (fs : List FrameMark) (ss : List ScopeMark) (hs : List OpenHandle) → AreFramesWithin fs ss (length hs) → at ≡ length hs
     → frames_marked fs (ss ++ opened_mark n kind at place ∷ []) hs ≡ first_changed (open_in kind n) (frames_marked fs ss hs)
 frames-open n kind at place [] ss hs w e = refl
 frames-open n kind at place (f ∷ fs) ss hs w e =
@@ -150,14 +150,14 @@ within-open m (f ∷ fs) ss n some w e =
       subst F (sym (take-append-le f.scopes ss (m ∷ []) w.0)) w.2,
     )
 
-pub order-open : (n : ℕ) (kind : ScopeKind) (at place : ℕ) (fs : List FrameMark) (ss : List ScopeMark) (hs : List Held) (most : ℕ) → AreFramesWithin fs ss (length hs)
+pub order-open : (n : ℕ) (kind : ScopeKind) (at place : ℕ) (fs : List FrameMark) (ss : List ScopeMark) (hs : List OpenHandle) (most : ℕ) → AreFramesWithin fs ss (length hs)
     → at ≡ length hs → AreFramesInOrder fs ss hs most → AreFramesInOrder fs (ss ++ opened_mark n kind at place ∷ []) hs most
 order-open n kind at place [] ss hs most w e o = o
 order-open n kind at place (f ∷ fs) ss hs most w e o =
     let m : ScopeMark = opened_mark n kind at place in
     let ms : List ScopeMark = reverse (drop f.scopes ss) in
     let S : List ScopeMark → Type 0 = λ x. AreScopesInOrder x hs most in
-    let H : List Held → Type 0 = λ x. AreScopesInOrder ms x most in
+    let H : List OpenHandle → Type 0 = λ x. AreScopesInOrder ms x most in
     let F : List ScopeMark → Type 0 = λ x. AreFramesInOrder fs x (take f.start hs) most in (
       subst S (sym (marks-push f.scopes ss m w.0)) (scopes-order-first ms hs most o.0, subst H (sym (all-taken hs at e)) o.0),
       subst F (sym (take-append-le f.scopes ss (m ∷ []) w.0)) o.1,
@@ -169,26 +169,26 @@ placed-open m ss e p =
     subst P (sym (reverse-push ss m)) (omega (arith, e, length-reverse ss), p)
 
 -- CLOSE
-pub none-opened : (fs : List FrameMark) (hs : List Held) → opened_scopes (frames_marked fs [] hs) ≡ []
+pub none-opened : (fs : List FrameMark) (hs : List OpenHandle) → opened_scopes (frames_marked fs [] hs) ≡ []
 none-opened [] hs = refl
 none-opened (f ∷ fs) hs = ap (λ x. (scopes_above f.start (reverse x) hs).opened) (drop_all f.scopes [] (omega arith))
 
 -- the innermost mark is one of the innermost frame's, where a scope is open there
-mark-inside : (f : FrameMark) (fs : List FrameMark) (ss : List ScopeMark) (m : ScopeMark) (hs : List Held)
+mark-inside : (f : FrameMark) (fs : List FrameMark) (ss : List ScopeMark) (m : ScopeMark) (hs : List OpenHandle)
     → opened_scopes (frames_marked (f ∷ fs) (ss ++ m ∷ []) hs) ≢ [] → f.scopes ≤ length ss
 mark-inside f fs ss m hs some = elim (cases_lt (length ss) f.scopes) [
   | inl above ↦ absurd (some (ap (λ x. (scopes_above f.start (reverse x) hs).opened) (drop_all f.scopes (ss ++ m ∷ []) (omega (arith, length-append ss (m ∷ []))))))
   | inr le ↦ le
 ]
 
-pub record Closes (fs : List FrameMark) (ss : List ScopeMark) (m : ScopeMark) (hs : List Held) : Type 0 where
+pub record ClosesScope (fs : List FrameMark) (ss : List ScopeMark) (m : ScopeMark) (hs : List OpenHandle) : Type 0 where
   pub inside : m.start ≤ length hs
-  pub frames : frames_marked fs ss (take m.start hs ++ waiting m) ≡ first_changed close_in (frames_marked fs (ss ++ m ∷ []) hs)
-  pub within : AreFramesWithin fs ss (length (take m.start hs ++ waiting m))
-  pub in_order : (most : ℕ) → AreFramesInOrder fs (ss ++ m ∷ []) hs most → AreFramesInOrder fs ss (take m.start hs ++ waiting m) most
+  pub frames : frames_marked fs ss (take m.start hs ++ waiting_handle m) ≡ first_changed close_in (frames_marked fs (ss ++ m ∷ []) hs)
+  pub within : AreFramesWithin fs ss (length (take m.start hs ++ waiting_handle m))
+  pub in_order : (most : ℕ) → AreFramesInOrder fs (ss ++ m ∷ []) hs most → AreFramesInOrder fs ss (take m.start hs ++ waiting_handle m) most
 
-pub frames-close : (fs : List FrameMark) (ss : List ScopeMark) (m : ScopeMark) (hs : List Held)
-    → opened_scopes (frames_marked fs (ss ++ m ∷ []) hs) ≢ [] → AreFramesWithin fs (ss ++ m ∷ []) (length hs) → Closes fs ss m hs
+pub frames-close : (fs : List FrameMark) (ss : List ScopeMark) (m : ScopeMark) (hs : List OpenHandle)
+    → opened_scopes (frames_marked fs (ss ++ m ∷ []) hs) ≢ [] → AreFramesWithin fs (ss ++ m ∷ []) (length hs) → ClosesScope fs ss m hs
 frames-close [] ss m hs some w = absurd (some refl)
 frames-close (f ∷ fs) ss m hs some w =
     let le : f.scopes ≤ length ss = mark-inside f fs ss m hs some in
@@ -197,9 +197,9 @@ frames-close (f ∷ fs) ss m hs some w =
     let scopes : AreScopesWithin f.start (m ∷ ms) (length hs) = subst S (marks-push f.scopes ss m le) w.1 in
     let begins : f.start ≤ m.start = start-le f.start ms m.start scopes.1 in
     let outer : take f.scopes (ss ++ m ∷ []) ≡ take f.scopes ss = take-append-le f.scopes ss (m ∷ []) le in
-    let below : take f.start (take m.start hs ++ waiting m) ≡ take f.start hs = take-closed f.start m hs begins scopes.0 in
+    let below : take f.start (take m.start hs ++ waiting_handle m) ≡ take f.start hs = take-closed f.start m hs begins scopes.0 in
     let F : List ScopeMark → Type 0 = λ x. AreFramesWithin fs x f.start in
-    let closed : List Held = take m.start hs ++ waiting m in
+    let closed : List OpenHandle = take m.start hs ++ waiting_handle m in
     record {
       inside = scopes.0;
       within = (le, within-closed f.start m ms hs scopes, subst F outer w.2);
@@ -210,7 +210,7 @@ frames-close (f ∷ fs) ss m hs some w =
       in_order = λ most o.
           let O : List ScopeMark → Type 0 = λ x. AreScopesInOrder x hs most in
           let G : List ScopeMark → Type 0 = λ x. AreFramesInOrder fs x (take f.start hs) most in
-          let H : List Held → Type 0 = λ x. AreFramesInOrder fs (take f.scopes ss) x most in
+          let H : List OpenHandle → Type 0 = λ x. AreFramesInOrder fs (take f.scopes ss) x most in
           let here : AreScopesInOrder (m ∷ ms) hs most = subst O (marks-push f.scopes ss m le) o.0 in
           (here.1, subst H (sym below) (subst G outer o.1));
     }
@@ -220,7 +220,7 @@ pub within-enter : (f : FrameMark) (fs : List FrameMark) (ss : List ScopeMark) (
     → AreFramesWithin fs ss n → AreFramesWithin (f ∷ fs) ss n
 within-enter f fs ss n e g w = rw (e, g, drop-length ss, take-length ss) (omega arith, omega arith, w)
 
-pub order-enter : (f : FrameMark) (fs : List FrameMark) (ss : List ScopeMark) (hs : List Held) (most : ℕ) → f.start ≡ length hs → f.scopes ≡ length ss
+pub order-enter : (f : FrameMark) (fs : List FrameMark) (ss : List ScopeMark) (hs : List OpenHandle) (most : ℕ) → f.start ≡ length hs → f.scopes ≡ length ss
     → AreFramesInOrder fs ss hs most → AreFramesInOrder (f ∷ fs) ss hs most
 order-enter f fs ss hs most e g o = rw (e, g, drop-length ss, take-length ss, take-length hs) (frames-order-first fs ss hs most o, o)
 
@@ -255,27 +255,27 @@ abbrev pub escaped_mark : ScopeMark → HeldHandle → ScopeMark
 escaped_mark m x = record m { escaped = Some x }
 
 -- a scope that is not the one that is looked for stays as it is
-passed-by : (n : ℕ) (s : ScopeMark) (hs : List Held) (p : Held) (f : FrameScopes) → (s.number == n) ≡ false
+passed-by : (n : ℕ) (s : ScopeMark) (hs : List OpenHandle) (p : OpenHandle) (f : FrameScopes) → (s.number == n) ≡ false
     → with_marked_scope s hs (escape_in n p f) ≡ escape_in n p (with_marked_scope s hs f)
 passed-by n s hs p f e = rw e refl
 
-found-here : (n : ℕ) (m : ScopeMark) (x : HeldHandle) (hs : List Held) (f : FrameScopes) → (m.number == n) ≡ true → m.escaped ≡ None
+found-here : (n : ℕ) (m : ScopeMark) (x : HeldHandle) (hs : List OpenHandle) (f : FrameScopes) → (m.number == n) ≡ true → m.escaped ≡ None
     → with_marked_scope (escaped_mark m x) hs (hold_in (held_of x) f) ≡ escape_in n (held_of x) (with_marked_scope m hs f)
 found-here n m x hs f e none = rw e refl
 
-scopes-escape : (n start : ℕ) (ys : List ScopeMark) (m : ScopeMark) (xs : List ScopeMark) (x : HeldHandle) (hs : List Held) → Lacks (λ s. s.number) ys n → m.number ≡ n → m.escaped ≡ None
+scopes-escape : (n start : ℕ) (ys : List ScopeMark) (m : ScopeMark) (xs : List ScopeMark) (x : HeldHandle) (hs : List OpenHandle) → Lacks (λ s. s.number) ys n → m.number ≡ n → m.escaped ≡ None
     → AreScopesWithin start (ys ++ m ∷ xs) (length hs)
     → scopes_above start (ys ++ escaped_mark m x ∷ xs) hs ≡ escape_in n (held_of x) (scopes_above start (ys ++ m ∷ xs) hs)
 scopes-escape n start [] m xs x hs l e none w =
     let P : ℕ → Type 0 = λ k. AreScopesWithin start xs k in
-    let below : List Held = take m.start hs in
+    let below : List OpenHandle = take m.start hs in
     let within : AreScopesWithin start xs (length below) = subst P (sym (length-take-le m.start hs w.0)) w.1 in
-    let before : scopes_above start xs below ≡ scopes_above start xs (below ++ waiting m) = ap (scopes_above start xs) (sym (append-nil below) ∙ ap (λ o. below ++ waiting (record m { escaped = o })) (sym none)) in
+    let before : scopes_above start xs below ≡ scopes_above start xs (below ++ waiting_handle m) = ap (scopes_above start xs) (sym (append-nil below) ∙ ap (λ o. below ++ waiting_handle (record m { escaped = o })) (sym none)) in
     ap (with_marked_scope (escaped_mark m x) (drop m.start hs)) (scopes-hold (held_of x) start xs below within)
     ∙ found-here n m x (drop m.start hs) (scopes_above start xs below) (grind (arith, nat_tests)) none
     ∙ ap (λ f. escape_in n (held_of x) (with_marked_scope m (drop m.start hs) f)) before
 scopes-escape n start (y ∷ ys) m xs x hs l e none w =
-    let below : List Held = take y.start hs ++ waiting y in
+    let below : List OpenHandle = take y.start hs ++ waiting_handle y in
     let other : (y.number == n) ≡ false = grind (arith, nat_tests, l.at 0 y (omega arith)) in
     ap (with_marked_scope y (drop y.start hs)) (scopes-escape n start ys m xs x below (Lacks-tail (λ (s : ScopeMark). s.number) y ys n l) e none (within-closed start y (ys ++ m ∷ xs) hs w))
     ∙ passed-by n y (drop y.start hs) (held_of x) (scopes_above start (ys ++ m ∷ xs) below) other
@@ -285,18 +285,18 @@ scopes-within-escape : (start : ℕ) (ys : List ScopeMark) (m : ScopeMark) (xs :
 scopes-within-escape start [] m xs x end w = w
 scopes-within-escape start (y ∷ ys) m xs x end w = (w.0, scopes-within-escape start ys m xs x y.start w.1)
 
-scopes-order-escape : (start : ℕ) (ys : List ScopeMark) (m : ScopeMark) (xs : List ScopeMark) (x : HeldHandle) (hs : List Held) (most more : ℕ) → m.escaped ≡ None
+scopes-order-escape : (start : ℕ) (ys : List ScopeMark) (m : ScopeMark) (xs : List ScopeMark) (x : HeldHandle) (hs : List OpenHandle) (most more : ℕ) → m.escaped ≡ None
     → AreScopesWithin start (ys ++ m ∷ xs) (length hs) → most < x.handle → x.handle ≤ more
     → AreScopesInOrder (ys ++ m ∷ xs) hs most → AreScopesInOrder (ys ++ escaped_mark m x ∷ xs) hs more
 scopes-order-escape start [] m xs x hs most more none w above le o =
     let P : ℕ → Type 0 = λ k. AreScopesWithin start xs k in
-    let below : List Held = take m.start hs in
+    let below : List OpenHandle = take m.start hs in
     let within : AreScopesWithin start xs (length below) = subst P (sym (length-take-le m.start hs w.0)) w.1 in
-    let nothing : below ++ waiting m ≡ below = ap (λ o. below ++ waiting (record m { escaped = o })) none ∙ append-nil below in
-    let H : List Held → Type 0 = λ l. AreScopesInOrder xs l most in
+    let nothing : below ++ waiting_handle m ≡ below = ap (λ o. below ++ waiting_handle (record m { escaped = o })) none ∙ append-nil below in
+    let H : List OpenHandle → Type 0 = λ l. AreScopesInOrder xs l most in
     (order-more hs most more (omega arith) o.0, scopes-order-hold (held_of x) start xs below most more within above le (subst H nothing o.1))
 scopes-order-escape start (y ∷ ys) m xs x hs most more none w above le o =
-    (order-more hs most more (omega arith) o.0, scopes-order-escape start ys m xs x (take y.start hs ++ waiting y) most more none (within-closed start y (ys ++ m ∷ xs) hs w) above le o.1)
+    (order-more hs most more (omega arith) o.0, scopes-order-escape start ys m xs x (take y.start hs ++ waiting_handle y) most more none (within-closed start y (ys ++ m ∷ xs) hs w) above le o.1)
 
 same-count : (ys : List ScopeMark) (m z : ScopeMark) (xs : List ScopeMark) → length (ys ++ z ∷ xs) ≡ length (ys ++ m ∷ xs)
 same-count ys m z xs = length-append ys (z ∷ xs) ∙ sym (length-append ys (m ∷ xs))
@@ -312,12 +312,12 @@ placed-escape ss i d x inside p =
     subst P (sym (reverse-set ss i (escaped_mark m x) inside)) (placed-middle (reverse (drop (suc i) ss)) m (reverse (take i ss)) x (subst P (reverse-at ss i d inside) p))
 
 -- what an escape from the i-th scope of the innermost frame does
-pub record Escapes (n : ℕ) (fs : List FrameMark) (ss : List ScopeMark) (at : ℕ) (x : HeldHandle) (d : ScopeMark) (hs : List Held) : Type 0 where
+pub record Escapes (n : ℕ) (fs : List FrameMark) (ss : List ScopeMark) (at : ℕ) (x : HeldHandle) (d : ScopeMark) (hs : List OpenHandle) : Type 0 where
   pub frames : frames_marked fs (set ss at (escaped_mark (get_or ss at d) x)) hs ≡ first_changed (escape_in n (held_of x)) (frames_marked fs ss hs)
   pub within : AreFramesWithin fs (set ss at (escaped_mark (get_or ss at d) x)) (length hs)
   pub in_order : (most more : ℕ) → most < x.handle → x.handle ≤ more → AreFramesInOrder fs ss hs most → AreFramesInOrder fs (set ss at (escaped_mark (get_or ss at d) x)) hs more
 
-pub frames-escape : (n : ℕ) (f : FrameMark) (fs : List FrameMark) (ss : List ScopeMark) (i : ℕ) (x : HeldHandle) (d : ScopeMark) (hs : List Held) → AreFramesWithin (f ∷ fs) ss (length hs)
+pub frames-escape : (n : ℕ) (f : FrameMark) (fs : List FrameMark) (ss : List ScopeMark) (i : ℕ) (x : HeldHandle) (d : ScopeMark) (hs : List OpenHandle) → AreFramesWithin (f ∷ fs) ss (length hs)
     → Rises (λ s. s.number) (drop f.scopes ss) → HasAt (λ s. s.number) (drop f.scopes ss) n i → (get_or (drop f.scopes ss) i d).escaped ≡ None
     → get_or (drop f.scopes ss) i d ≡ get_or ss (f.scopes + i) d → Escapes n (f ∷ fs) ss (f.scopes + i) x d hs
 frames-escape n f fs ss i x d hs w r h none there =

@@ -9,19 +9,19 @@ use Rattle.napi_types.specs.declared.ids.ScopeKind.{ScopeKind}
 use Rattle.napi_types.specs.plain.Lists.{first_changed, tail, head}
 use Rattle.napi_types.specs.parts.ScopeChanges.{hold_in, open_in, close_in, escape_in}
 use Rattle.napi_types.specs.parts.ScopeRefusals.{closing, escaping}
-use Rattle.napi_types.specs.parts.Scopes.{Held, opened_scopes, gives, value_in}
+use Rattle.napi_types.specs.parts.Scopes.{OpenHandle, opened_scopes, gives, value_in}
 use Rattle.handle_scope.specs.HandleScopes.{handle_places}
 use Rattle.handle_scope.specs.declared.scopes.HeldHandle.{HeldHandle}
 use Rattle.handle_scope.specs.declared.scopes.ScopeMark.{ScopeMark}
 use Rattle.handle_scope.specs.declared.scopes.FrameMark.{FrameMark}
 use Rattle.handle_scope.specs.declared.scopes.Escape.{Escape}
-use Rattle.handle_scope.specs.Marks.{held_of, waiting, all_waiting, scopes_above, frames_marked, frames_of, places_marked, call_places, place_left, free_escapes, AreFramesWithin, AreStartsWithin, ArePlaced, AreCallsInside, Rises, AreAtMost, AreFramesInOrder, IsStack, IsTracked, IsEscapable, FitsStack}
-use Rattle.handle_scope.proofs.Numbers.{Rises-take, Rises-drop, Rises-front, Rises-push, Rises-same, AreAtMost-take, AreAtMost-front, AreAtMost-push, AreAtMost-more, AreAtMost-same, HasAt}
-use Rattle.handle_scope.proofs.Marks.{reverse-push, start-le, frames-hold, within-hold, order-hold, frames-open, opened_mark, within-open, order-open, placed-open, Closes, frames-close, none-opened, within-enter, order-enter, frames-order-first, placed-left, Escapes, frames-escape, escaped_mark, placed-escape}
-use Rattle.handle_scope.proofs.Places.{starts-frames, places-frames, length-places}
+use Rattle.handle_scope.specs.Marks.{held_of, waiting_handle, all_waiting, scopes_above, frames_marked, frames_of, places_marked, call_places, place_left, free_escapes, AreFramesWithin, AreStartsWithin, ArePlaced, AreCallsInside, Rises, AreAtMost, AreFramesInOrder, IsStack, IsTracked, IsEscapable, FitsStack}
+use Rattle.handle_scope.proofs.HandleNumbers.{Rises-take, Rises-drop, Rises-front, Rises-push, Rises-same, AreAtMost-take, AreAtMost-front, AreAtMost-push, AreAtMost-more, AreAtMost-same, HasAt}
+use Rattle.handle_scope.proofs.Marks.{reverse-push, start-le, frames-hold, within-hold, order-hold, frames-open, opened_mark, within-open, order-open, placed-open, ClosesScope, frames-close, none-opened, within-enter, order-enter, frames-order-first, placed-left, Escapes, frames-escape, escaped_mark, placed-escape}
+use Rattle.handle_scope.proofs.HandlePlaces.{starts-frames, places-frames, length-places}
 use Rattle.handle_scope.proofs.Escapes.{tracked-take, tracked-front, tracked-open, tracked-escape, free-most}
 use Rattle.handle_scope.proofs.Gives.{gives-frames}
-use Rattle.handle_scope.proofs.Refusals.{closing-scopes, escaping-scopes}
+use Rattle.handle_scope.proofs.EscapeRefusals.{closing-scopes, escaping-scopes}
 
 -- the frames part the stack as contracts see it
 parted-held : (fs : List FrameMark) (ss : List ScopeMark) (hs : List HeldHandle) → AreFramesWithin fs ss (length hs) → AreFramesWithin fs ss (length (map held_of hs))
@@ -39,7 +39,7 @@ module _ (fs : List FrameMark) (ss : List ScopeMark) (hs : List HeldHandle) (han
 
   stack-issued : (x : HeldHandle) → frames_of fs ss hs ≢ [] → x.handle ≡ handles + 1 → IsStack fs ss (hs ++ x ∷ []) (handles + 1) numbers
   stack-issued x some e =
-      let O : List Held → Type 0 = λ l. AreFramesInOrder (reverse fs) ss l (handles + 1) in
+      let O : List OpenHandle → Type 0 = λ l. AreFramesInOrder (reverse fs) ss l (handles + 1) in
       record {
         parted = within-hold (reverse fs) ss (length hs) (length (hs ++ x ∷ [])) (some-mark fs ss hs some) (omega (arith, length-append hs (x ∷ []))) k.parted;
         placed = k.placed;
@@ -111,7 +111,7 @@ stack-left : (fs : List FrameMark) (f : FrameMark) (ss : List ScopeMark) (hs : L
 stack-left fs f ss hs handles numbers k =
     let F : List FrameMark → Type 0 = λ l. AreFramesWithin l ss (length hs) in
     let O : List FrameMark → Type 0 = λ l. AreFramesInOrder l ss (map held_of hs) handles in
-    let H : List Held → Type 0 = λ l. AreFramesInOrder (reverse fs) (take f.scopes ss) l handles in
+    let H : List OpenHandle → Type 0 = λ l. AreFramesInOrder (reverse fs) (take f.scopes ss) l handles in
     let w : AreFramesWithin (f ∷ reverse fs) ss (length hs) = subst F (reverse-push fs f) k.parted in
     let o : AreFramesInOrder (f ∷ reverse fs) ss (map held_of hs) handles = subst O (reverse-push fs f) k.in_order in
     let begins : f.start ≤ length hs = start-le f.start (reverse (drop f.scopes ss)) (length hs) w.1 in
@@ -127,12 +127,12 @@ stack-left fs f ss hs handles numbers k =
 -- a scope that closes
 closes : (fs : List FrameMark) (ss : List ScopeMark) (m : ScopeMark) (hs : List HeldHandle) (handles numbers : ℕ)
     → IsStack fs (ss ++ m ∷ []) hs handles numbers → opened_scopes (frames_of fs (ss ++ m ∷ []) hs) ≢ []
-    → Closes (reverse fs) ss m (map held_of hs)
+    → ClosesScope (reverse fs) ss m (map held_of hs)
 closes fs ss m hs handles numbers k some =
     frames-close (reverse fs) ss m (map held_of hs) some (parted-held (reverse fs) (ss ++ m ∷ []) hs k.parted)
 
-held-closed : (m : ScopeMark) (hs : List HeldHandle) → map held_of (take m.start hs ++ option_to_list m.escaped) ≡ take m.start (map held_of hs) ++ waiting m
-held-closed m hs = map-append held_of (take m.start hs) (option_to_list m.escaped) ∙ ap (λ l. l ++ waiting m) (sym (take-map held_of m.start hs))
+held-closed : (m : ScopeMark) (hs : List HeldHandle) → map held_of (take m.start hs ++ option_to_list m.escaped) ≡ take m.start (map held_of hs) ++ waiting_handle m
+held-closed m hs = map-append held_of (take m.start hs) (option_to_list m.escaped) ∙ ap (λ l. l ++ waiting_handle m) (sym (take-map held_of m.start hs))
 
 pub frames-closed : (fs : List FrameMark) (ss : List ScopeMark) (m : ScopeMark) (hs : List HeldHandle) (handles numbers : ℕ)
     → IsStack fs (ss ++ m ∷ []) hs handles numbers → opened_scopes (frames_of fs (ss ++ m ∷ []) hs) ≢ []
@@ -144,10 +144,10 @@ stack-closed : (fs : List FrameMark) (ss : List ScopeMark) (m : ScopeMark) (hs :
     → IsStack fs (ss ++ m ∷ []) hs handles numbers → opened_scopes (frames_of fs (ss ++ m ∷ []) hs) ≢ []
     → IsStack fs ss (take m.start hs ++ option_to_list m.escaped) handles numbers
 stack-closed fs ss m hs handles numbers k some =
-    let c : Closes (reverse fs) ss m (map held_of hs) = closes fs ss m hs handles numbers k some in
+    let c : ClosesScope (reverse fs) ss m (map held_of hs) = closes fs ss m hs handles numbers k some in
     let N : ℕ → Type 0 = λ n. AreFramesWithin (reverse fs) ss n in
     let P : List ScopeMark → Type 0 = λ l. ArePlaced l in
-    let O : List Held → Type 0 = λ l. AreFramesInOrder (reverse fs) ss l handles in
+    let O : List OpenHandle → Type 0 = λ l. AreFramesInOrder (reverse fs) ss l handles in
     record {
       parted = subst N (sym (ap length (held-closed m hs)) ∙ length-map (take m.start hs ++ option_to_list m.escaped) held_of) c.within;
       placed = (subst P (reverse-push ss m) k.placed).1;
@@ -156,7 +156,7 @@ stack-closed fs ss m hs handles numbers k some =
       numbers_issued = AreAtMost-front (λ (s : ScopeMark). s.number) ss (m ∷ []) numbers k.numbers_issued;
     }
 
-length-marked : (fs : List FrameMark) (ss : List ScopeMark) (hs : List Held) → length (frames_marked fs ss hs) ≡ length fs
+length-marked : (fs : List FrameMark) (ss : List ScopeMark) (hs : List OpenHandle) → length (frames_marked fs ss hs) ≡ length fs
 length-marked [] ss hs = refl
 length-marked (f ∷ fs) ss hs = ap suc (length-marked fs (take f.scopes ss) (take f.start hs))
 
@@ -165,11 +165,11 @@ length-frames fs ss hs = length-marked (reverse fs) ss (map held_of hs) ∙ leng
 
 -- THE INNERMOST FRAME
 -- the innermost frame's mark, and its scopes
-record Innermost (f : FrameMark) (fs : List FrameMark) (ss : List ScopeMark) (hs : List Held) (end : ℕ) : Type 0 where
+record Innermost (f : FrameMark) (fs : List FrameMark) (ss : List ScopeMark) (hs : List OpenHandle) (end : ℕ) : Type 0 where
   pub inside : f.scopes ≤ length ss
   pub opened : opened_scopes (frames_marked fs ss hs) ≡ (scopes_above f.start (reverse (drop f.scopes ss)) hs).opened
 
-innermost-marked : (f : FrameMark) (fs : List FrameMark) (ss : List ScopeMark) (hs : List Held) (end : ℕ) → head fs ≡ Some f → AreFramesWithin fs ss end
+innermost-marked : (f : FrameMark) (fs : List FrameMark) (ss : List ScopeMark) (hs : List OpenHandle) (end : ℕ) → head fs ≡ Some f → AreFramesWithin fs ss end
     → Innermost f fs ss hs end
 innermost-marked f [] ss hs end e w = cc
 innermost-marked f (g ∷ fs) ss hs end e w =
@@ -239,7 +239,7 @@ escapable-there n k i ss e le = record {
   free = λ d. ap (λ (s : ScopeMark). s.escaped) (sym (get_or-drop k ss i d)) ∙ e.free d;
 }
 
-escapes-marked : (n : ℕ) (f : FrameMark) (fs : List FrameMark) (ss : List ScopeMark) (i : ℕ) (x : HeldHandle) (d : ScopeMark) (hs : List Held) → head fs ≡ Some f
+escapes-marked : (n : ℕ) (f : FrameMark) (fs : List FrameMark) (ss : List ScopeMark) (i : ℕ) (x : HeldHandle) (d : ScopeMark) (hs : List OpenHandle) → head fs ≡ Some f
     → AreFramesWithin fs ss (length hs) → Rises (λ s. s.number) ss → IsEscapable (drop f.scopes ss) n i → Escapes n fs ss (f.scopes + i) x d hs
 escapes-marked n f [] ss i x d hs e w r s = cc
 escapes-marked n f (g ∷ fs) ss i x d hs e w r s =
@@ -272,7 +272,7 @@ one-most : (o : Option HeldHandle) → length (option_to_list o) ≤ 1
 one-most None = omega arith
 one-most (Some h) = omega arith
 
-no-marks : (fs : List FrameMark) (ss : List ScopeMark) (hs : List Held) → fs ≢ [] → frames_marked fs ss hs ≢ []
+no-marks : (fs : List FrameMark) (ss : List ScopeMark) (hs : List OpenHandle) → fs ≢ [] → frames_marked fs ss hs ≢ []
 no-marks [] ss hs some e = some refl
 no-marks (f ∷ fs) ss hs some e = cc
 
@@ -366,7 +366,7 @@ kept-closed fs ss m hs es left handles numbers spare calls frame_places held_pla
 pub kept-cut : (fs : List FrameMark) (ss : List ScopeMark) (m : ScopeMark) (hs : List HeldHandle) (es : List Escape) (handles numbers spare calls frame_places held_places escape_places : ℕ)
     → FitsStack fs (ss ++ m ∷ []) hs es handles numbers spare calls frame_places held_places escape_places → opened_scopes (frames_of fs (ss ++ m ∷ []) hs) ≢ [] → m.start < held_places
 kept-cut fs ss m hs es handles numbers spare calls frame_places held_places escape_places k some =
-    let c : Closes (reverse fs) ss m (map held_of hs) = closes fs ss m hs handles numbers k.stack some in
+    let c : ClosesScope (reverse fs) ss m (map held_of hs) = closes fs ss m hs handles numbers k.stack some in
     omega (arith, c.inside, length-map hs held_of, k.held_fits, length-append ss (m ∷ []))
 
 -- the innermost frame leaves its caller a place, where a call entered it

@@ -3,7 +3,7 @@ use Rattle.std.specs.Prelude.{ℕ, ◌+◌, ◌-◌, max, Bool, true, false, not
 use Rattle.napi_types.specs.declared.ids.ScopeKind.{ScopeKind}
 use Rattle.napi_types.specs.plain.Lists.{has_number, first_changed, tail, with_number}
 use Rattle.napi_types.specs.parts.ScopeChanges.{hold_in, open_in, close_in, escape_in}
-use Rattle.napi_types.specs.parts.Scopes.{Held, Scope, FrameScopes, no_handles}
+use Rattle.napi_types.specs.parts.Scopes.{OpenHandle, Scope, FrameScopes, no_handles}
 
 -- all handle scopes of an environment, and the numbers that were issued
 pub record HandleScopes : Type 0 where
@@ -63,7 +63,7 @@ abbrev pub with_escaped_handle : ℕ → ℕ → HandleScopes → HandleScopes
 with_escaped_handle n v s = record s { frames = first_changed (escape_in n (record { handle = s.handles + 1; value = v })) s.frames; handles = s.handles + 1 }
 
 -- the values that handles hold, at places that are filled
-abbrev pub held_places : List Held → List (Option ℕ)
+abbrev pub held_places : List OpenHandle → List (Option ℕ)
 held_places hs = map (λ p. Some p.value) hs
 
 -- the place for a handle that escapes from a scope, which lies in the scope that encloses it, as long as none has escaped
@@ -71,7 +71,7 @@ abbrev pub free_place : Scope → List (Option ℕ)
 free_place s = cond s.used [] (None ∷ [])
 
 -- the handle places of a frame: those of an outer scope first, and in each scope in the order of their issue
-abbrev pub frame_places : List Held → List Scope → List (Option ℕ)
+abbrev pub frame_places : List OpenHandle → List Scope → List (Option ℕ)
 frame_places own [] = held_places own
 frame_places own (s ∷ ss) = (frame_places own ss ++ free_place s) ++ held_places s.held
 

@@ -4,7 +4,7 @@ use Rattle.std.specs.Option.{is_some, option_to_list}
 use Rattle.std.specs.List.{list_any}
 use Rattle.napi_types.specs.parts.Frames.{most_frames}
 use Rattle.napi_types.specs.parts.ScopeChanges.{inside}
-use Rattle.napi_types.specs.parts.Scopes.{Held, FrameScopes, value_in}
+use Rattle.napi_types.specs.parts.Scopes.{OpenHandle, FrameScopes, value_in}
 use Rattle.handle_scope.specs.HandleScopes.{HandleScopes, held_places}
 use Rattle.handle_scope.specs.declared.scopes.HeldHandle.{HeldHandle}
 use Rattle.handle_scope.specs.declared.scopes.ScopeMark.{ScopeMark}
@@ -12,25 +12,25 @@ use Rattle.handle_scope.specs.declared.scopes.FrameMark.{FrameMark}
 use Rattle.handle_scope.specs.declared.scopes.Escape.{Escape}
 
 -- a place of the stack holds a handle, and the number of its value
-abbrev pub held_of : HeldHandle → Held
+abbrev pub held_of : HeldHandle → OpenHandle
 held_of h = record { handle = h.handle; value = h.value.0 }
 
 -- the handle that escaped from a scope and waits in its mark, as a list
-abbrev pub waiting : ScopeMark → List Held
-waiting s = map held_of (option_to_list s.escaped)
+abbrev pub waiting_handle : ScopeMark → List OpenHandle
+waiting_handle s = map held_of (option_to_list s.escaped)
 
 -- a frame with one scope more inside its innermost one, the one of this mark, which holds these handles
-abbrev pub with_marked_scope : ScopeMark → List Held → FrameScopes → FrameScopes
+abbrev pub with_marked_scope : ScopeMark → List OpenHandle → FrameScopes → FrameScopes
 with_marked_scope s hs f = inside (record { number = s.number; kind = s.kind; used = is_some s.escaped; held = hs }) f
 
 -- the scopes of a frame that begins at a place of the stack, by the marks of the scopes opened in it, the innermost first:
 -- each scope holds what stands from its mark on, and the scope around it also the handle that waits there
-abbrev pub scopes_above : ℕ → List ScopeMark → List Held → FrameScopes
+abbrev pub scopes_above : ℕ → List ScopeMark → List OpenHandle → FrameScopes
 scopes_above start [] hs = record { own = drop start hs; opened = [] }
-scopes_above start (s ∷ ss) hs = with_marked_scope s (drop s.start hs) (scopes_above start ss (take s.start hs ++ waiting s))
+scopes_above start (s ∷ ss) hs = with_marked_scope s (drop s.start hs) (scopes_above start ss (take s.start hs ++ waiting_handle s))
 
 -- the scopes of all frames, the marks of the frames with the innermost first, those of the scopes with the innermost last
-abbrev pub frames_marked : List FrameMark → List ScopeMark → List Held → List FrameScopes
+abbrev pub frames_marked : List FrameMark → List ScopeMark → List OpenHandle → List FrameScopes
 frames_marked [] ss hs = []
 frames_marked (f ∷ fs) ss hs = scopes_above f.start (reverse (drop f.scopes ss)) hs ∷ frames_marked fs (take f.scopes ss) (take f.start hs)
 
@@ -39,7 +39,7 @@ abbrev pub frames_of : List FrameMark → List ScopeMark → List HeldHandle →
 frames_of fs ss hs = frames_marked (reverse fs) ss (map held_of hs)
 
 -- the handle places by the marks of all scopes, the innermost first: each mark stands for a place before the handles of its scope
-abbrev pub places_marked : List ScopeMark → List Held → List (Option ℕ)
+abbrev pub places_marked : List ScopeMark → List OpenHandle → List (Option ℕ)
 places_marked [] hs = held_places hs
 places_marked (s ∷ ss) hs = places_marked ss (take s.start hs) ++ option_map (λ e. e.value.0) s.escaped ∷ held_places (drop s.start hs)
 
@@ -72,17 +72,17 @@ pub record AreAtMost {A : Type 0} (number : A → ℕ) (xs : List A) (most : ℕ
   pub at : (i : ℕ) (d : A) → i < length xs → number (slice_index_or xs i d) ≤ most
 
 -- handles that rise, and were issued
-pub record AreInOrder (hs : List Held) (handles : ℕ) : Type 0 where
+pub record AreInOrder (hs : List OpenHandle) (handles : ℕ) : Type 0 where
   pub rise : Rises (λ p. p.handle) hs
   pub issued : AreAtMost (λ p. p.handle) hs handles
 
 -- the handles of the stack are in order now, and after each close of one of these scopes, the innermost first
-abbrev pub AreScopesInOrder : List ScopeMark → List Held → ℕ → Type 0
+abbrev pub AreScopesInOrder : List ScopeMark → List OpenHandle → ℕ → Type 0
 AreScopesInOrder [] hs handles = AreInOrder hs handles
-AreScopesInOrder (s ∷ ss) hs handles = AreInOrder hs handles × AreScopesInOrder ss (take s.start hs ++ waiting s) handles
+AreScopesInOrder (s ∷ ss) hs handles = AreInOrder hs handles × AreScopesInOrder ss (take s.start hs ++ waiting_handle s) handles
 
 -- the same in each frame, after the frames inside it are left
-abbrev pub AreFramesInOrder : List FrameMark → List ScopeMark → List Held → ℕ → Type 0
+abbrev pub AreFramesInOrder : List FrameMark → List ScopeMark → List OpenHandle → ℕ → Type 0
 AreFramesInOrder [] ss hs handles = AreInOrder hs handles
 AreFramesInOrder (f ∷ fs) ss hs handles = AreScopesInOrder (reverse (drop f.scopes ss)) hs handles × AreFramesInOrder fs (take f.scopes ss) (take f.start hs) handles
 
@@ -96,12 +96,12 @@ pub record IsStack (frames : List FrameMark) (scopes : List ScopeMark) (held : L
 
 -- the value of a handle that escaped, where it waits in the mark of its scope
 abbrev pub waiting_value : List ScopeMark → Escape → Option ℕ
-waiting_value ss e = option_and_then (λ s. value_in (waiting s) e.handle) (slice_get ss e.scope)
+waiting_value ss e = option_and_then (λ s. value_in (waiting_handle s) e.handle) (slice_get ss e.scope)
 
 -- the handles that wait in these marks
-abbrev pub all_waiting : List ScopeMark → List Held
+abbrev pub all_waiting : List ScopeMark → List OpenHandle
 all_waiting [] = []
-all_waiting (s ∷ ss) = waiting s ++ all_waiting ss
+all_waiting (s ∷ ss) = waiting_handle s ++ all_waiting ss
 
 -- each handle that waits in a mark is found among the escapes, which are in the order of their handles
 pub record IsTracked (scopes : List ScopeMark) (escapes : List Escape) : Type 0 where

@@ -32,17 +32,17 @@ use Rattle.napi_types.proofs.all_runs.Orderly.{is_drained, IsSpent, Orderly, ord
 use Rattle.napi_types.proofs.all_runs.Orders.{none-due}
 use Rattle.machine_laws.specs.Choices.{begins_due_tickets_in, IsOfTicket, IsOfHook, BeginsLowest, BeginsLastHook, BeginsOfHub}
 use Rattle.machine_laws.specs.FinalizerLaws.{FinalizersBeginInTheLoopOrAtTheEnd, HooksBeginAfterTheLoop}
-use Rattle.machine_laws.proofs.Beginning.{lowest-first, hook-first, tickets-begin}
+use Rattle.machine_laws.proofs.BeginningFrames.{lowest-first, hook-first, tickets-begin}
 
 -- the cause that a begin tells
-abbrev told_cause : Cause → Out → Cause
-told_cause c (out.Begin told addon entry d) = told
-told_cause c _ = c
+abbrev cause_told : Cause → Out → Cause
+cause_told c (out.Begin told addon entry d) = told
+cause_told c _ = c
 
 -- the frame of a ticket begins for what the ticket was registered for
 of-ticket : (x : Entry) (n : ℕ) (r : Registration) (c : Cause) (addon entry : ℕ) (d : Duty) → x.reply.out ≡ out.Begin c addon entry (Some d)
     → x ≡ host_entry host.Begin (begin_told (frame_of_duty (due_info n r))) → r.cause ≡ c
-of-ticket x n r c addon entry d told is = sym (ap (λ (y : Entry). told_cause c y.reply.out) is) ∙ ap (told_cause c) told
+of-ticket x n r c addon entry d told is = sym (ap (λ (y : Entry). cause_told c y.reply.out) is) ∙ ap (cause_told c) told
 
 -- that of a hook is its own
 hook-cause : (e : Environment) (h : Hook) (r : Registration) → IsHooked e → last_hook e.hooks ≡ Some h → registration_at e.book h.ticket ≡ Some r → r.cause ≡ cause.Hook
@@ -67,7 +67,7 @@ no-hook-due m phase.Gone n r here orderly begins there due why = cc
 -- that of a duty of the hub is none of a hook
 no-hook-of_hub : (m : Machine) (x : Entry) (addon entry : ℕ) (d : Duty) → BeginsOfHub m d x → x.reply.out ≡ out.Begin cause.Hook addon entry (Some d) → ⊥
 no-hook-of_hub m x addon entry d b told =
-    let why : b.info.cause ≡ cause.Hook = sym (ap (λ (y : Entry). told_cause cause.Hook y.reply.out) b.entry) ∙ ap (told_cause cause.Hook) told in
+    let why : b.info.cause ≡ cause.Hook = sym (ap (λ (y : Entry). cause_told cause.Hook y.reply.out) b.entry) ∙ ap (cause_told cause.Hook) told in
     (delivery-of_hub m.hub b.info b.next).no_hook why
 
 -- a begin is the environment's

@@ -10,15 +10,15 @@ use Rattle.napi_types.specs.parts.Values.{Value, children, with_property, withou
 use Rattle.napi_types.proofs.plain.Lists.{All-left, All-right}
 
 -- the numbers that properties, and elements, name
-abbrev pub named : List Property → List ℕ
-named ps = map (λ p. p.value) ps
+abbrev pub named_values : List Property → List ℕ
+named_values ps = map (λ p. p.value) ps
 
 abbrev pub present : List (Option ℕ) → List ℕ
 present es = filter_map (λ e. e) es
 
 -- what is said of each of them, ..
 abbrev OfProperties : (ℕ → Type 0) → List Property → Type 0
-OfProperties P ps = All P (named ps)
+OfProperties P ps = All P (named_values ps)
 
 abbrev OfElements : (ℕ → Type 0) → List (Option ℕ) → Type 0
 OfElements P es = All P (present es)
@@ -28,13 +28,13 @@ abbrev pub OfChildren : (ℕ → Type 0) → Value → Type 0
 OfChildren P v = All P (children v)
 
 pub children-of : (P : ℕ → Type 0) (v : Value) → OfProperties P v.properties → OfElements P v.elements → OfChildren P v
-children-of P v ps es = All-append P (named v.properties) (present v.elements) ps es
+children-of P v ps es = All-append P (named_values v.properties) (present v.elements) ps es
 
 properties-of : (P : ℕ → Type 0) (v : Value) → OfChildren P v → OfProperties P v.properties
-properties-of P v all = All-left P (named v.properties) (present v.elements) all
+properties-of P v all = All-left P (named_values v.properties) (present v.elements) all
 
 elements-of : (P : ℕ → Type 0) (v : Value) → OfChildren P v → OfElements P v.elements
-elements-of P v all = All-right P (named v.properties) (present v.elements) all
+elements-of P v all = All-right P (named_values v.properties) (present v.elements) all
 
 -- ELEMENTS
 -- an element is a hole, or names such a number
@@ -72,43 +72,43 @@ of-element P at d es here all =
 of-property-set : (P : ℕ → Type 0) (name to : ℕ) (ps : List Property) → P to → OfProperties P ps → OfProperties P (property_set name to ps)
 of-property-set P name to [] here all = All-cons P to [] here (All-nil P)
 of-property-set P name to (p ∷ ps) here all =
-    let rest : OfProperties P ps = All-tail P p.value (named ps) all in
+    let rest : OfProperties P ps = All-tail P p.value (named_values ps) all in
     by (p.name == name) rest (of-property-set P name to ps here rest)
   where
     by : (b : Bool) → OfProperties P ps → OfProperties P (property_set name to ps)
         → OfProperties P (cond b (record p { value = to } ∷ ps) (p ∷ property_set name to ps))
-    by true rest later = All-cons P to (named ps) here rest
-    by false rest later = All-cons P p.value (named (property_set name to ps)) (All-head P p.value (named ps) all) later
+    by true rest later = All-cons P to (named_values ps) here rest
+    by false rest later = All-cons P p.value (named_values (property_set name to ps)) (All-head P p.value (named_values ps) all) later
 
 of-property-removed : (P : ℕ → Type 0) (test : Property → Bool) (ps : List Property) → OfProperties P ps → OfProperties P (filter test ps)
 of-property-removed P test [] all = All-nil P
-of-property-removed P test (p ∷ ps) all = by (test p) (of-property-removed P test ps (All-tail P p.value (named ps) all))
+of-property-removed P test (p ∷ ps) all = by (test p) (of-property-removed P test ps (All-tail P p.value (named_values ps) all))
   where
     by : (b : Bool) → OfProperties P (filter test ps) → OfProperties P (cond b (p ∷ filter test ps) (filter test ps))
-    by true later = All-cons P p.value (named (filter test ps)) (All-head P p.value (named ps) all) later
+    by true later = All-cons P p.value (named_values (filter test ps)) (All-head P p.value (named_values ps) all) later
     by false later = later
 
 pub of-property : (P : ℕ → Type 0) (name d : ℕ) (ps : List Property) → P d → OfProperties P ps → P (unwrap_or (property_at name ps) d)
 of-property P name d [] here all = here
-of-property P name d (p ∷ ps) here all = by (p.name == name) refl (of-property P name d ps here (All-tail P p.value (named ps) all))
+of-property P name d (p ∷ ps) here all = by (p.name == name) refl (of-property P name d ps here (All-tail P p.value (named_values ps) all))
   where
     by : (b : Bool) → (p.name == name) ≡ b → P (unwrap_or (property_at name ps) d) → P (unwrap_or (property_at name (p ∷ ps)) d)
-    by true same later = rw same (All-head P p.value (named ps) all)
+    by true same later = rw same (All-head P p.value (named_values ps) all)
     by false other later = rw other later
 
 -- VALUES
 -- what a change of a value may do: it keeps its number, and its children stay such numbers
-pub record Keeps (P : ℕ → Type 0) (change : Value → Value) : Type 0 where
+pub record KeepsChildren (P : ℕ → Type 0) (change : Value → Value) : Type 0 where
   pub number : (v : Value) → (change v).number ≡ v.number
   pub children : (v : Value) → OfChildren P v → OfChildren P (change v)
 
-pub keeps-property : (P : ℕ → Type 0) (name to : ℕ) → P to → Keeps P (with_property name to)
+pub keeps-property : (P : ℕ → Type 0) (name to : ℕ) → P to → KeepsChildren P (with_property name to)
 keeps-property P name to here = record {
   number = λ v. refl;
   children = λ v all. children-of P (with_property name to v) (of-property-set P name to v.properties here (properties-of P v all)) (elements-of P v all);
 }
 
-pub keeps-removal : (P : ℕ → Type 0) (name : ℕ) → Keeps P (without_property name)
+pub keeps-removal : (P : ℕ → Type 0) (name : ℕ) → KeepsChildren P (without_property name)
 keeps-removal P name = record {
   number = λ v. refl;
   children = λ v all.
@@ -116,7 +116,7 @@ keeps-removal P name = record {
       children-of P (without_property name v) rest (elements-of P v all);
 }
 
-pub keeps-element : (P : ℕ → Type 0) (at to : ℕ) → P to → Keeps P (with_element at to)
+pub keeps-element : (P : ℕ → Type 0) (at to : ℕ) → P to → KeepsChildren P (with_element at to)
 keeps-element P at to here = record {
   number = λ v. refl;
   children = λ v all. children-of P (with_element at to v) (properties-of P v all) (of-element-set P at to v.elements here (elements-of P v all));

@@ -69,22 +69,22 @@ none-in-frames m f fs a x stands who next =
 
 -- WHAT A BEGIN TELLS
 -- where the entry of the step is a begin, it tells of the frame that the step leaves innermost
-abbrev Tells : Step → Type 0
-Tells t = t.entry.what ≡ what.Host host.Begin → TellsFrame t.entry t.after
+abbrev StepTells : Step → Type 0
+StepTells t = t.entry.what ≡ what.Host host.Begin → TellsFrame t.entry t.after
 
 -- what is no begin
-other-tells : (t : Step) (w : What) → t.entry.what ≡ w → is_begin w ≡ false → Tells t
+other-tells : (t : Step) (w : What) → t.entry.what ≡ w → is_begin w ≡ false → StepTells t
 other-tells t w same other is = let z : true ≡ false = ap is_begin (sym is ∙ same) ∙ other in cc
 
-asked-tells : (m : Machine) (c : Call) (n : ℕ) → Tells (locally m (asked_change m.env c n) true)
+asked-tells : (m : Machine) (c : Call) (n : ℕ) → StepTells (locally m (asked_change m.env c n) true)
 asked-tells m c n =
-    asked-by m.env c n (λ d. Tells (locally m d true)) (λ is. cc) (λ receiver f args none is. record { frame = _; outer = _; stands = refl; told = refl })
+    asked-by m.env c n (λ d. StepTells (locally m d true)) (λ is. cc) (λ receiver f args none is. record { frame = _; outer = _; stands = refl; told = refl })
 
-ticket-tells : (m : Machine) (n : ℕ) (r : Option Registration) → Tells (ticket_step m n r)
+ticket-tells : (m : Machine) (n : ℕ) (r : Option Registration) → StepTells (ticket_step m n r)
 ticket-tells m n None is = cc
 ticket-tells m n (Some r) is = record { frame = _; outer = _; stands = refl; told = refl }
 
-event-tells : (m : Machine) (v : Event) → choice m ≡ Some v → IsTrue (event_step m v).may → Tells (event_step m v)
+event-tells : (m : Machine) (v : Event) → choice m ≡ Some v → IsTrue (event_step m v).may → StepTells (event_step m v)
 event-tells m (Inits n) next may is = record { frame = _; outer = _; stands = refl; told = refl }
 event-tells m (Tickets n) next may is = ticket-tells m n (registration_at m.env.book n) is
 event-tells m (Moves (Delivers d)) next may is =
@@ -99,7 +99,7 @@ event-tells m Drains next may is = other-tells (event_step m Drains) _ (event-wh
 event-tells m FinalsCome next may is = other-tells (event_step m FinalsCome) _ (event-what m FinalsCome may) refl is
 event-tells m IsGone next may is = cc
 
-form-tells : (m : Machine) (t : Step) → Form m t → IsTrue t.may → Tells t
+form-tells : (m : Machine) (t : Step) → Form m t → IsTrue t.may → StepTells t
 form-tells m _ (form.calls f fs stands c o alone) may is = asked-tells m c (number_of o) is
 form-tells m t (form.shares f fs stands c o shared answers) may is = other-tells t (what.Call c) (shared-what m c o) refl is
 form-tells m t (form.ends f fs stands v cut b ours is_ours) may is = other-tells t (what.Host host.End) (ended-what m v cut b ours) refl is

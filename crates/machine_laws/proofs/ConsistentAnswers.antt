@@ -47,7 +47,7 @@ pub record IsConsistentButFrames (e : Environment) : Type 0 where
   pub rooted : All (λ r. IsLiveAmong e.heap.values r.value) e.function_roots
 
 -- one environment leads to another, which is good
-pub record LeadsTo (old new : Environment) : Type 0 where
+pub record LeadsToGood (old new : Environment) : Type 0 where
   pub good : IsConsistentButFrames new
   pub stay : HandlesStay old.heap new.heap
 
@@ -76,11 +76,11 @@ whole-of e g same few = record {
   depth = few;
 }
 
-unmoved : (e : Environment) → IsConsistentButFrames e → LeadsTo e e
+unmoved : (e : Environment) → IsConsistentButFrames e → LeadsToGood e e
 unmoved e g = record { good = g; stay = stays e.heap }
 
 -- another heap
-pub in-heap : (e : Environment) (heap : Heap) → IsConsistentButFrames e → ComesTo e.heap heap → LeadsTo e (with_heap e heap)
+pub in-heap : (e : Environment) (heap : Heap) → IsConsistentButFrames e → ComesTo e.heap heap → LeadsToGood e (with_heap e heap)
 in-heap e heap g c =
     let P : Reference → Type 0 = λ r. IfSome r.value (IsLiveAmong e.heap.values) in
     let Q : Reference → Type 0 = λ r. IfSome r.value (IsLiveAmong heap.values) in
@@ -99,10 +99,10 @@ in-heap e heap g c =
 pub with-pending : (e : Environment) (o : Option ℕ) → IsConsistentButFrames e → IfSome o (IsLiveAmong e.heap.values) → IsConsistentButFrames (with_pending o e)
 with-pending e o g live = record { heap = g.heap; referred = g.referred; references = g.references; pending = live; rooted = g.rooted }
 
-thrown-good : (e : Environment) (code : Option TextNo) (message : TextNo) → IsConsistentButFrames e → LeadsTo e (with_thrown_error code message e)
+thrown-good : (e : Environment) (code : Option TextNo) (message : TextNo) → IsConsistentButFrames e → LeadsToGood e (with_thrown_error code message e)
 thrown-good e code message g =
     let heap : Heap = with_thrown code message e.heap in
-    let led : LeadsTo e (with_heap e heap) = in-heap e heap g (with-thrown e.heap code message g.heap) in
+    let led : LeadsToGood e (with_heap e heap) = in-heap e heap g (with-thrown e.heap code message g.heap) in
     record { good = with-pending (with_heap e heap) (Some (thrown_number code message e.heap)) led.good (thrown-live e.heap code message); stay = led.stay }
 
 -- REFERENCES
@@ -140,23 +140,23 @@ row-of P n (r ∷ rs) none all = by (r.number == n) refl (row-of P n rs none (Al
 
 -- other references, of live values
 referring : (e : Environment) (m : ReferenceMap) → IsConsistentButFrames e → OfRows (λ o. IfSome o (IsLiveAmong e.heap.values)) m → IsMap m
-    → LeadsTo e (with_references m e)
+    → LeadsToGood e (with_references m e)
 referring e m g all map = record { good = record { heap = g.heap; referred = all; references = map; pending = g.pending; rooted = g.rooted }; stay = stays e.heap }
 
-counted-good : (e : Environment) (r count : ℕ) → IsConsistentButFrames e → LeadsTo e (with_references (with_count r count e.references) e)
+counted-good : (e : Environment) (r count : ℕ) → IsConsistentButFrames e → LeadsToGood e (with_references (with_count r count e.references) e)
 counted-good e r count g =
     referring e (with_count r count e.references) g (rows-counted (λ o. IfSome o (IsLiveAmong e.heap.values)) r count e.references g.referred)
     (counted-map r count e.references g.references)
 
 -- ATTACHMENTS, HOOKS, INSTANCE DATA AND TICKETS
 -- what else the environment has may change
-besides : (e d : Environment) (exit : Bool) (a : Attachments) (book : Book) (hooks : List Hook) (i : Instances) → LeadsTo e d
-    → LeadsTo e (record d { exit_asked = exit; attachments = a; book = book; hooks = hooks; instances = i })
+besides : (e d : Environment) (exit : Bool) (a : Attachments) (book : Book) (hooks : List Hook) (i : Instances) → LeadsToGood e d
+    → LeadsToGood e (record d { exit_asked = exit; attachments = a; book = book; hooks = hooks; instances = i })
 besides e d exit a book hooks i led =
     record { good = record { heap = led.good.heap; referred = led.good.referred; references = led.good.references; pending = led.good.pending; rooted = led.good.rooted }; stay = led.stay }
 
 -- CALLS
-does-good : (c : Call) (e : Environment) {made dropped : Option Duty} (d : Environment) → Effect c e made dropped d → IsConsistentButFrames e → LeadsTo e d
+does-good : (c : Call) (e : Environment) {made dropped : Option Duty} (d : Environment) → Effect c e made dropped d → IsConsistentButFrames e → LeadsToGood e d
 does-good c e _ does.rests g = unmoved e g
 does-good c e _ (does.tells k) g = in-heap e _ g (heap-call (caller_of e.frames) e.heap c k g.heap)
 does-good c e _ (does.makes payload) g = in-heap e _ g (with-new e.heap (body.External payload) g.heap)
@@ -164,7 +164,7 @@ does-good c e _ (does.throws h) g = record { good = with-pending e (Some (handle
 does-good c e _ (does.raises code message) g = thrown-good e code message g
 does-good c e _ does.clears g =
     let v : ℕ = unwrap_or e.pending undefined_value in
-    let led : LeadsTo e (with_heap e (with_handle v e.heap)) = in-heap e _ g (with-handle e.heap v g.heap (or-undefined e.heap e.pending g.heap g.pending)) in
+    let led : LeadsToGood e (with_heap e (with_handle v e.heap)) = in-heap e _ g (with-handle e.heap v g.heap (or-undefined e.heap e.pending g.heap g.pending)) in
     record { good = with-pending _ None led.good tt; stay = led.stay }
 does-good c e _ (does.recalls r v is) g =
     let Live : Option ℕ → Type 0 = λ o. IfSome o (IsLiveAmong e.heap.values) in
@@ -190,7 +190,7 @@ does-good c e _ does.collects g = record {
 does-good c e _ (does.adds_hook entry argument) g = besides e e _ _ _ _ _ (unmoved e g)
 does-good c e _ (does.removes_hook entry argument) g =
     let t : Option ℕ = hook_ticket (caller_of e.frames) entry argument e.hooks in
-    registered-by e.book t (λ s. LeadsTo e (withdrawing s (accepts out.Nothing (record e { hooks = unhooked t e.hooks }))).after)
+    registered-by e.book t (λ s. LeadsToGood e (withdrawing s (accepts out.Nothing (record e { hooks = unhooked t e.hooks }))).after)
     (besides e e _ _ _ _ _ (unmoved e g)) (λ n here is. besides e e _ _ _ _ _ (unmoved e g))
 does-good c e _ (does.withdraws t on is) g = besides e e _ _ _ _ _ (unmoved e g)
 does-good c e _ (does.asks_exit is) g = besides e e _ _ _ _ _ (unmoved e g)
@@ -198,18 +198,18 @@ does-good c e _ (does.registers {d} payload entry hint before step) g = besides 
 does-good c e _ (does.attaches {d} {a} before on) g = besides e d _ _ _ _ _ (does-good c e d before g)
 does-good c e _ (does.sets {d} i before on) g = besides e d _ _ _ _ _ (does-good c e d before g)
 
-answer-good : (e : Environment) (c : Call) (k : ℕ) → IsConsistentButFrames e → LeadsTo e (answer e c k).after
+answer-good : (e : Environment) (c : Call) (k : ℕ) → IsConsistentButFrames e → LeadsToGood e (answer e c k).after
 answer-good e c k g =
-    answer-by e c k (λ a. LeadsTo e a.after) (λ s. unmoved e g) (λ s. thrown-good e None _ g) (λ none. does-good c e (effect e c k).after (effect-of e c k) g)
+    answer-by e c k (λ a. LeadsToGood e a.after) (λ s. unmoved e g) (λ s. thrown-good e None _ g) (λ none. does-good c e (effect e c k).after (effect-of e c k) g)
 
 -- one environment leads to another, which is consistent
-pub record Follows (old new : Environment) : Type 0 where
+pub record LeadsToConsistent (old new : Environment) : Type 0 where
   pub good : IsConsistent new
   pub stay : HandlesStay old.heap new.heap
 
-pub call_change-follows : (e : Environment) (c : Call) (k : ℕ) → IsConsistent e → Follows e (call_change e c k).after
+pub call_change-follows : (e : Environment) (c : Call) (k : ℕ) → IsConsistent e → LeadsToConsistent e (call_change e c k).after
 call_change-follows e c k old =
-    let led : LeadsTo e _ = answer-good e c k (parts-of e old) in
+    let led : LeadsToGood e _ = answer-good e c k (parts-of e old) in
     let new : Environment = (call_change e c k).after in
     let keeps : KeepsButAsk c e (call_change e c k).entry.reply new = call_change-keeps e c k in
     let good : IsConsistentButFrames new = record {

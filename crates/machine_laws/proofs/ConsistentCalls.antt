@@ -14,7 +14,7 @@ use Rattle.napi_types.specs.parts.Properties.{property_at, element_at}
 use Rattle.napi_types.specs.parts.PropertyCalls.{names_of}
 use Rattle.napi_types.specs.parts.ScopeCalls.{with_scope, with_escaped}
 use Rattle.napi_types.specs.parts.ScopeChanges.{open_in, close_in, escape_in}
-use Rattle.napi_types.specs.parts.Scopes.{Held, gives, held_by_frames}
+use Rattle.napi_types.specs.parts.Scopes.{OpenHandle, gives, held_by_frames}
 use Rattle.napi_types.specs.parts.Values.{undefined_value, true_value, false_value}
 use Rattle.machine_laws.specs.Consistency.{IsLiveAmong}
 use Rattle.machine_laws.proofs.Children.{of-property, of-element, properties-at, elements-at, keeps-property, keeps-removal, keeps-element}
@@ -37,8 +37,8 @@ handle-live heap h g = or-undefined heap (gives heap.scopes h) g (by (gives heap
     by : (o : Option ℕ) → gives heap.scopes h ≡ o → IfSome o (IsLiveAmong heap.values)
     by None e = tt
     by (Some v) e =
-        let held : List Held = held_by_frames heap.scopes in
-        held-all (IsLiveAmong heap.values) (λ (x : Held). x.value) h v v (held-value h v) held g.held (gives-held heap.scopes h v e)
+        let held : List OpenHandle = held_by_frames heap.scopes in
+        held-all (IsLiveAmong heap.values) (λ (x : OpenHandle). x.value) h v v (held-value h v) held g.held (gives-held heap.scopes h v e)
 
 if-given : (heap : Heap) (h : Option HandleId) → IsConsistentHeap heap → IfSome (option_map (λ (k : HandleId). handle_value heap k.0) h) (IsLiveAmong heap.values)
 if-given heap None g = tt
@@ -57,7 +57,7 @@ closing heap g = with-scopes heap (first_changed close_in heap.scopes) heap.scop
 
 escaping : (heap : Heap) (n v : ℕ) → IsLiveAmong heap.values v → IsConsistentHeap heap → ComesTo heap (with_escaped n v heap)
 escaping heap n v live g =
-    let x : Held = record { handle = heap.handles + 1; value = v } in
+    let x : OpenHandle = record { handle = heap.handles + 1; value = v } in
     with-held heap (first_changed (escape_in n x) heap.scopes) v g live (holds-first (one x) (escape_in n x) heap.scopes (escapes-in n x))
 
 property-live : (heap : Heap) (h name : ℕ) → IsConsistentHeap heap

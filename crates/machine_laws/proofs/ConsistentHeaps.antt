@@ -8,12 +8,12 @@ use Rattle.napi_types.specs.parts.Heap.{Heap}
 use Rattle.napi_types.specs.parts.HeapChanges.{with_handle, with_frame, without_frame}
 use Rattle.napi_types.specs.parts.Reach.{numbers}
 use Rattle.napi_types.specs.parts.ScopeChanges.{hold_in}
-use Rattle.napi_types.specs.parts.Scopes.{Held, FrameScopes, no_handles, held_by_frames}
+use Rattle.napi_types.specs.parts.Scopes.{OpenHandle, FrameScopes, no_handles, held_by_frames}
 use Rattle.napi_types.specs.parts.Values.{starting_values}
 use Rattle.machine_laws.specs.Consistency.{AreIssued, held_handles, values_of_handles, IsLiveAmong}
 use Rattle.machine_laws.proofs.Children.{OfChildren}
-use Rattle.machine_laws.proofs.Counting.{Within, counted, within-all, count-cons, issued-fewer, issued-next}
-use Rattle.machine_laws.proofs.Holding.{is_held, within-handles, within-values, holds-in, holds-first, holds-entered, holds-left}
+use Rattle.machine_laws.proofs.Counting.{Within, one_when, within-all, count-cons, issued-fewer, issued-next}
+use Rattle.machine_laws.proofs.Holding.{is_held_as, within-handles, within-values, holds-in, holds-first, holds-entered, holds-left}
 
 -- what holds of a heap
 pub record IsConsistentHeap (heap : Heap) : Type 0 where
@@ -26,7 +26,7 @@ pub record IsConsistentHeap (heap : Heap) : Type 0 where
 -- a number that was issued before is held after only if it was held before, to the same value
 pub record HandlesStay (old new : Heap) : Type 0 where
   pub rises : old.handles ≤ new.handles
-  pub held : (h v : ℕ) → h ≤ old.handles → count_by (is_held h v) (held_by_frames new.scopes) ≤ count_by (is_held h v) (held_by_frames old.scopes)
+  pub held : (h v : ℕ) → h ≤ old.handles → count_by (is_held_as h v) (held_by_frames new.scopes) ≤ count_by (is_held_as h v) (held_by_frames old.scopes)
 
 -- one heap comes to another, which is good: what was live is
 pub record ComesTo (old new : Heap) : Type 0 where
@@ -63,11 +63,11 @@ with-scopes heap fs ns g w = record {
     starting = g.starting;
   };
   live = λ n h. h;
-  stay = record { rises = omega arith; held = λ h v below. omega (arith, w (is_held h v)) };
+  stay = record { rises = omega arith; held = λ h v below. omega (arith, w (is_held_as h v)) };
 }
 
 -- scopes that hold the next handle beside
-abbrev next_held : Heap → ℕ → Held
+abbrev next_held : Heap → ℕ → OpenHandle
 next_held heap v = record { handle = heap.handles + 1; value = v }
 
 pub with-held : (heap : Heap) (fs : List FrameScopes) (v : ℕ) → IsConsistentHeap heap → IsLiveAmong heap.values v
@@ -86,11 +86,11 @@ with-held heap fs v g live w = record {
   stay = record { rises = omega arith; held = older };
 }
   where
-    older : (h k : ℕ) → h ≤ heap.handles → count_by (is_held h k) (held_by_frames fs) ≤ count_by (is_held h k) (held_by_frames heap.scopes)
+    older : (h k : ℕ) → h ≤ heap.handles → count_by (is_held_as h k) (held_by_frames fs) ≤ count_by (is_held_as h k) (held_by_frames heap.scopes)
     older h k below =
         let other : (heap.handles + 1 == h) ≡ false = ne_eqb (heap.handles + 1) h (λ same. omega (arith, below, same)) in
-        let new : is_held h k (next_held heap v) ≡ false = and_left (heap.handles + 1 == h) (v == k) other in
-        omega (arith, w (is_held h k), count-cons (is_held h k) (next_held heap v) [], ap counted new)
+        let new : is_held_as h k (next_held heap v) ≡ false = and_left (heap.handles + 1 == h) (v == k) other in
+        omega (arith, w (is_held_as h k), count-cons (is_held_as h k) (next_held heap v) [], ap one_when new)
 
 pub with-handle : (heap : Heap) (v : ℕ) → IsConsistentHeap heap → IsLiveAmong heap.values v → ComesTo heap (with_handle v heap)
 with-handle heap v g live =

@@ -1,5 +1,5 @@
 -- The environment is consistent as it opens, and so at every moment of a run.
-use Rattle.std.proofs.Common.{◌≡◌, arith, ℕ, ◌+◌, true, false, Bool, List, [], ◌∷◌, ◌++◌, take, refl}
+use Rattle.std.proofs.Common.{◌≡◌, arith, ℕ, ◌+◌, true, List, [], ◌∷◌, ◌++◌, take, refl}
 use Rattle.std.specs.List.{All, list_all}
 use Rattle.std.proofs.lemmas.Bool.{and_parts}
 use Rattle.std.proofs.lemmas.List.Elements.{All-nil, All-cons}
@@ -8,6 +8,7 @@ use Rattle.napi_types.specs.parts.Reach.{numbers}
 use Rattle.napi_types.specs.parts.Values.{Value, children, starting_values}
 use Rattle.napi_types.specs.environment.Environment.{Environment, new_environment}
 use Rattle.napi_types.specs.runs.Setting.{opening_of}
+use Rattle.napi_types.specs.plain.Lists.{is_empty}
 use Rattle.machine_laws.specs.Consistency.{AreIssued, IsConsistent, IsLiveAmong}
 use Rattle.machine_laws.specs.HandleLaws.{EnvironmentsAreConsistent}
 use Rattle.machine_laws.proofs.Children.{OfChildren}
@@ -27,10 +28,6 @@ starting-issued : AreIssued 5 (numbers starting_values)
 starting-issued =
     let two : AreIssued 2 (1 ∷ 2 ∷ []) = issued-pushed 1 (1 ∷ []) (issued-pushed 0 [] (none-issued 0)) in
     issued-pushed 4 (1 ∷ 2 ∷ 3 ∷ 4 ∷ []) (issued-pushed 3 (1 ∷ 2 ∷ 3 ∷ []) (issued-pushed 2 (1 ∷ 2 ∷ []) two))
-
-abbrev is_empty : List ℕ → Bool
-is_empty [] = true
-is_empty (n ∷ ns) = false
 
 all-of-none : (P : ℕ → Type 0) (ns : List ℕ) → is_empty ns ≡ true → All P ns
 all-of-none P [] h = All-nil P

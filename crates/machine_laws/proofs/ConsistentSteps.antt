@@ -45,7 +45,7 @@ use Rattle.napi_types.proofs.runs.Forms.{Form, form-of}
 use Rattle.napi_types.proofs.runs.Runs.{along-entries}
 use Rattle.napi_types.proofs.runs.SharedSteps.{after_shared-alone}
 use Rattle.machine_laws.specs.Consistency.{IsConsistent, IsLiveAmong}
-use Rattle.machine_laws.proofs.ConsistentAnswers.{IsConsistentButFrames, Follows, parts-of, whole-of, in-heap, call_change-follows}
+use Rattle.machine_laws.proofs.ConsistentAnswers.{IsConsistentButFrames, LeadsToConsistent, parts-of, whole-of, in-heap, call_change-follows}
 use Rattle.machine_laws.proofs.ConsistentCalls.{handle-live}
 use Rattle.machine_laws.proofs.ConsistentHeaps.{IsConsistentHeap, ComesTo, HandlesStay, stays, stays-then, and-then, unchanged, with-handle, with-frame, without-frame}
 use Rattle.machine_laws.proofs.Fronts.{steps-front}
@@ -55,17 +55,17 @@ tail-shorter [] = omega arith
 tail-shorter (x ∷ xs) = omega arith
 
 -- nothing of this changes
-pub same-follows : (e : Environment) → IsConsistent e → Follows e e
+pub same-follows : (e : Environment) → IsConsistent e → LeadsToConsistent e e
 same-follows e c = record { good = c; stay = stays e.heap }
 
-then-follows : (a b c : Environment) → Follows a b → Follows b c → Follows a c
+then-follows : (a b c : Environment) → LeadsToConsistent a b → LeadsToConsistent b c → LeadsToConsistent a c
 then-follows a b c one two = record { good = two.good; stay = stays-then a.heap b.heap c.heap one.stay two.stay }
 
 -- THE END OF A FRAME
 -- a frame ends, its heap is left for another, an exception that is pending may be cleared, and the book may change
 ended-follows : (e : Environment) (heap : Heap) (pending : Option ℕ) (s : Status) (book : Book) → IsConsistent e → ComesTo e.heap heap
     → length heap.scopes ≡ length (tail e.heap.scopes) → IsConsistentButFrames (record e { heap = heap; pending = pending })
-    → Follows e (record e { heap = heap; frames = tail e.frames; pending = pending; last = s; book = book })
+    → LeadsToConsistent e (record e { heap = heap; frames = tail e.frames; pending = pending; last = s; book = book })
 ended-follows e heap pending s book c comes same g =
     let new : Environment = record e { heap = heap; frames = tail e.frames; pending = pending; last = s; book = book } in
     let good : IsConsistentButFrames new = record { heap = g.heap; referred = g.referred; references = g.references; pending = g.pending; rooted = g.rooted } in
@@ -76,7 +76,7 @@ ended-follows e heap pending s book c comes same g =
 
 -- .. where it stays pending
 kept-ended : (e : Environment) (heap : Heap) (s : Status) → IsConsistent e → ComesTo e.heap heap → length heap.scopes ≡ length (tail e.heap.scopes)
-    → Follows e (record e { heap = heap; frames = tail e.frames; last = s })
+    → LeadsToConsistent e (record e { heap = heap; frames = tail e.frames; last = s })
 kept-ended e heap s c comes same =
     let g : IsConsistentButFrames (record e { heap = heap }) = (in-heap e heap (parts-of e c) comes).good in
     ended-follows e heap e.pending s e.book c comes same (record { heap = g.heap; referred = g.referred; references = g.references; pending = g.pending; rooted = g.rooted })
@@ -85,7 +85,7 @@ left-live : (e : Environment) (v : Option HandleId) → IsConsistentHeap e.heap 
 left-live e None g = g.starting 0 0 (omega arith)
 left-live e (Some h) g = handle-live e.heap h.0 g
 
-left-follows : (v : Option HandleId) (e : Environment) → IsConsistent e → Follows e (uncut_call_end v e None).after
+left-follows : (v : Option HandleId) (e : Environment) → IsConsistent e → LeadsToConsistent e (uncut_call_end v e None).after
 left-follows v e c =
     let good : IsConsistentHeap e.heap = (parts-of e c).heap in
     let left : ComesTo e.heap (without_frame e.heap) = without-frame e.heap good in
@@ -93,17 +93,17 @@ left-follows v e c =
     let given : ComesTo (without_frame e.heap) heap = with-handle (without_frame e.heap) (left_value e.heap v) left.good (left-live e v good) in
     kept-ended e heap status.Ok c (and-then e.heap (without_frame e.heap) heap left given) (length-changed _ (tail e.heap.scopes))
 
-outermost-follows : (cut : Option Why) (e : Environment) → IsConsistent e → Follows e (outermost_end_change cut e).after
+outermost-follows : (cut : Option Why) (e : Environment) → IsConsistent e → LeadsToConsistent e (outermost_end_change cut e).after
 outermost-follows cut e c =
     let left : ComesTo e.heap (without_frame e.heap) = without-frame e.heap (parts-of e c).heap in
     let g : IsConsistentButFrames (record e { heap = without_frame e.heap }) = (in-heap e (without_frame e.heap) (parts-of e c) left).good in
     ended-follows e (without_frame e.heap) None e.last _ c left refl (record { heap = g.heap; referred = g.referred; references = g.references; pending = tt; rooted = g.rooted })
 
-frame-follows : (v : Option HandleId) (cut : Option Why) (e : Environment) → IsConsistent e → Follows e (end_change v cut e).after
+frame-follows : (v : Option HandleId) (cut : Option Why) (e : Environment) → IsConsistent e → LeadsToConsistent e (end_change v cut e).after
 frame-follows v cut e c =
-    let cut_short : (s : Status) → Follows e (record e { heap = without_frame e.heap; frames = tail e.frames; last = s }) =
+    let cut_short : (s : Status) → LeadsToConsistent e (record e { heap = without_frame e.heap; frames = tail e.frames; last = s }) =
     λ s. kept-ended e (without_frame e.heap) s c (without-frame e.heap (parts-of e c).heap) refl in
-    ended-by v cut e (λ why d. Follows e d.after) (λ w. cut_short _) (λ p. cut_short _) (left-follows v e c) (outermost-follows cut e c)
+    ended-by v cut e (λ why d. LeadsToConsistent e d.after) (λ w. cut_short _) (λ p. cut_short _) (left-follows v e c) (outermost-follows cut e c)
 
 -- THE BEGIN OF A FRAME
 with-receiver : (heap : Heap) (receiver : Option HandleId) → IsConsistentHeap heap → ComesTo heap (with_receiver receiver heap)
@@ -124,7 +124,7 @@ below-limit e receiver f args h =
     omega (arith, leb-false most_frames (length e.frames) shallow)
 
 enter_change-follows : (e : Environment) (receiver : Option HandleId) (f : HandleId) (args : Args) → refusal e (call.CallFunction receiver f args) ≡ None
-    → IsConsistent e → Follows e (enter_change receiver f args e).after
+    → IsConsistent e → LeadsToConsistent e (enter_change receiver f args e).after
 enter_change-follows e receiver f args h c =
     let g : IsConsistentButFrames e = parts-of e c in
     let frame : ComesTo e.heap (with_frame e.heap) = with-frame e.heap g.heap in
@@ -140,19 +140,19 @@ enter_change-follows e receiver f args h c =
       stay = comes.stay;
     }
 
-asked-follows : (e : Environment) (c : Call) (k : ℕ) → IsConsistent e → Follows e (asked_change e c k).after
+asked-follows : (e : Environment) (c : Call) (k : ℕ) → IsConsistent e → LeadsToConsistent e (asked_change e c k).after
 asked-follows e c k old =
-    asked-by e c k (λ d. Follows e d.after) (call_change-follows e c k old) (λ receiver f args none. enter_change-follows e receiver f args none old)
+    asked-by e c k (λ d. LeadsToConsistent e d.after) (call_change-follows e c k old) (λ receiver f args none. enter_change-follows e receiver f args none old)
 
 -- EVENTS WHERE NO FRAME STANDS
 -- what is neither heap, references, pending exception nor frames may change
 other-follows : (e new : Environment) → IsConsistentButFrames new → length new.heap.scopes ≡ length e.heap.scopes → length new.frames ≡ length e.frames
-    → HandlesStay e.heap new.heap → IsConsistent e → Follows e new
+    → HandlesStay e.heap new.heap → IsConsistent e → LeadsToConsistent e new
 other-follows e new g scopes frames stay c = record { good = whole-of new g (scopes ∙ c.frames ∙ sym frames) (omega (arith, frames, c.depth)); stay = stay }
 
 -- an outermost frame begins, and addons that had theirs, the book and the hooks may change
 begun-follows : (e : Environment) (inits : ℕ) (book : Book) (hooks : List Hook) (f : Frame) → e.frames ≡ [] → IsConsistent e
-    → Follows e (record e { inits = inits; book = book; hooks = hooks; heap = with_frame e.heap; frames = f ∷ e.frames })
+    → LeadsToConsistent e (record e { inits = inits; book = book; hooks = hooks; heap = with_frame e.heap; frames = f ∷ e.frames })
 begun-follows e inits book hooks f none c =
     let g : IsConsistentButFrames e = parts-of e c in
     let frame : ComesTo e.heap (with_frame e.heap) = with-frame e.heap g.heap in
@@ -163,40 +163,40 @@ begun-follows e inits book hooks f none c =
 
 -- A SHARED CALL
 -- a new thread-safe function keeps a live value
-abbrev Keeps : Heap → FunctionRoot → Type 0
-Keeps heap r = IsLiveAmong heap.values r.value
+abbrev KeepsLive : Heap → FunctionRoot → Type 0
+KeepsLive heap r = IsLiveAmong heap.values r.value
 
-roots-live : (c : Call) (o : Out) (e : Environment) → IsConsistentHeap e.heap → All (Keeps e.heap) e.function_roots → All (Keeps e.heap) (with_root c o e).function_roots
+roots-live : (c : Call) (o : Out) (e : Environment) → IsConsistentHeap e.heap → All (KeepsLive e.heap) e.function_roots → All (KeepsLive e.heap) (with_root c o e).function_roots
 roots-live (call.CreateThreadsafeFunction (Some f) entry maximum count finalizer context) (out.Function n) e g all =
-    All-push (Keeps e.heap) e.function_roots (record { function = n.0; value = handle_value e.heap f.0 }) all (handle-live e.heap f.0 g)
+    All-push (KeepsLive e.heap) e.function_roots (record { function = n.0; value = handle_value e.heap f.0 }) all (handle-live e.heap f.0 g)
 roots-live _ _ e g all = all
 
 -- the functions that keep values alive may change
-rooted-follows : (e new : Environment) (roots : List FunctionRoot) → All (Keeps e.heap) roots → Follows e new → new.heap ≡ e.heap
-    → Follows e (record new { function_roots = roots })
+rooted-follows : (e new : Environment) (roots : List FunctionRoot) → All (KeepsLive e.heap) roots → LeadsToConsistent e new → new.heap ≡ e.heap
+    → LeadsToConsistent e (record new { function_roots = roots })
 rooted-follows e new roots all follows same =
     let g : IsConsistentButFrames new = parts-of new follows.good in
-    let live : All (Keeps new.heap) roots = subst (λ heap. All (Keeps heap) roots) (sym same) all in
+    let live : All (KeepsLive new.heap) roots = subst (λ heap. All (KeepsLive heap) roots) (sym same) all in
     let good : IsConsistentButFrames (record new { function_roots = roots }) = record { heap = g.heap; referred = g.referred; references = g.references; pending = g.pending; rooted = live } in
     record { good = whole-of (record new { function_roots = roots }) good follows.good.frames follows.good.depth; stay = follows.stay }
 
-noted-follows : (e : Environment) (c : Call) (s : Status) → IsConsistent e → Follows e (with_noted_status c s e)
+noted-follows : (e : Environment) (c : Call) (s : Status) → IsConsistent e → LeadsToConsistent e (with_noted_status c s e)
 noted-follows e c s old =
     let g : IsConsistentButFrames e = parts-of e old in
     let good : IsConsistentButFrames (with_noted_status c s e) = record { heap = g.heap; referred = g.referred; references = g.references; pending = g.pending; rooted = g.rooted } in
     other-follows e (with_noted_status c s e) good refl (length-changed _ e.frames) (stays e.heap) old
 
-shared-follows : (e : Environment) (c : Call) (r : Reply) → IsConsistent e → Follows e (after_shared c r e)
+shared-follows : (e : Environment) (c : Call) (r : Reply) → IsConsistent e → LeadsToConsistent e (after_shared c r e)
 shared-follows e c r old =
     let roots : List FunctionRoot = (with_root c r.out e).function_roots in
-    subst (Follows e) (sym (after_shared-alone c r e))
+    subst (LeadsToConsistent e) (sym (after_shared-alone c r e))
     (rooted-follows e (with_noted_status c r.status e) roots (roots-live c r.out e (parts-of e old).heap (parts-of e old).rooted) (noted-follows e c r.status old) refl)
 
 -- STEPS
 abbrev StepFollows : Machine → Step → Type 0
-StepFollows m s = Follows m.env s.after.env
+StepFollows m s = LeadsToConsistent m.env s.after.env
 
-phase-follows : (e : Environment) (p : Phase) → IsConsistent e → Follows e (in_phase p e)
+phase-follows : (e : Environment) (p : Phase) → IsConsistent e → LeadsToConsistent e (in_phase p e)
 phase-follows e p c =
     let g : IsConsistentButFrames e = parts-of e c in
     let good : IsConsistentButFrames (in_phase p e) = record { heap = g.heap; referred = g.referred; references = g.references; pending = g.pending; rooted = g.rooted } in
@@ -214,7 +214,7 @@ move-follows m (Delivers d) none c = begun-follows m.env m.env.inits m.env.book 
 move-follows m (Closes n) none c = same-follows m.env c
 move-follows m (Finishes n) none c =
     let left : List FunctionRoot = (without_root n m.env).function_roots in
-    rooted-follows m.env m.env left (All-filter (λ (r : FunctionRoot). not (r.function == n)) (Keeps m.env.heap) m.env.function_roots c.rooted) (same-follows m.env c) refl
+    rooted-follows m.env m.env left (All-filter (λ (r : FunctionRoot). not (r.function == n)) (KeepsLive m.env.heap) m.env.function_roots c.rooted) (same-follows m.env c) refl
 
 event-follows : (m : Machine) (event : Event) → m.env.frames ≡ [] → IsConsistent m.env → StepFollows m (event_step m event)
 event-follows m Opens none c =
@@ -249,18 +249,18 @@ form-follows m _ (form.happens alone event next) old = event-follows m event alo
 form-follows m _ (form.others x other same) old = same-follows m.env old
 
 -- RUNS
-next-follows : (m : Machine) (a : Ask) (x : Entry) → IsNext m a x → IsConsistent m.env → Follows m.env (after m a x).env
+next-follows : (m : Machine) (a : Ask) (x : Entry) → IsNext m a x → IsConsistent m.env → LeadsToConsistent m.env (after m a x).env
 next-follows m a x next c = form-follows m (step m a x) (form-of m a x next) c
 
-pub run-follows : (m : Machine) (bs : List Ask) (xs : List Entry) → IsRunBy m bs xs → IsConsistent m.env → Follows m.env (final m bs xs).env
+pub run-follows : (m : Machine) (bs : List Ask) (xs : List Entry) → IsRunBy m bs xs → IsConsistent m.env → LeadsToConsistent m.env (final m bs xs).env
 run-follows =
-    along-entries (λ m bs xs. IsConsistent m.env → Follows m.env (final m bs xs).env) (λ m c. same-follows m.env c) (λ m a bs x xs next rest c.
-    let one : Follows m.env (after m a x).env = next-follows m a x next c in
+    along-entries (λ m bs xs. IsConsistent m.env → LeadsToConsistent m.env (final m bs xs).env) (λ m c. same-follows m.env c) (λ m a bs x xs next rest c.
+    let one : LeadsToConsistent m.env (after m a x).env = next-follows m a x next c in
     then-follows m.env (after m a x).env (final (after m a x) bs xs).env one (rest one.good))
 
 -- from each moment to each later one
 pub later-follows : (m : Machine) (bs : List Ask) (xs : List Entry) (i j : ℕ) → i ≤ j → IsRunBy m bs xs → IsConsistent m.env
-    → Follows (final m (take i bs) (take i xs)).env (final m (take j bs) (take j xs)).env
+    → LeadsToConsistent (final m (take i bs) (take i xs)).env (final m (take j bs) (take j xs)).env
 later-follows m bs xs zero j below run c = run-follows m (take j bs) (take j xs) (steps-front m bs xs j run) c
 later-follows m bs xs (suc i) zero below run c = absurd (omega (arith, below))
 later-follows m (a ∷ bs) (x ∷ xs) (suc i) (suc j) below run c =

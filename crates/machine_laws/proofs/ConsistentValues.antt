@@ -13,7 +13,7 @@ use Rattle.napi_types.specs.parts.NewValues.{made_after, array_of, list_of, erro
 use Rattle.napi_types.specs.parts.Reach.{numbers}
 use Rattle.napi_types.specs.parts.Values.{Value, fresh_value, starting_values, value_changed}
 use Rattle.machine_laws.specs.Consistency.{AreIssued, values_of_handles, IsLiveAmong}
-use Rattle.machine_laws.proofs.Children.{OfChildren, Keeps, named, children-of}
+use Rattle.machine_laws.proofs.Children.{OfChildren, KeepsChildren, named_values, children-of}
 use Rattle.machine_laws.proofs.Counting.{issued-next}
 use Rattle.machine_laws.proofs.ConsistentHeaps.{IsConsistentHeap, ComesTo, unchanged, and-then, with-handle}
 use Rattle.machine_laws.proofs.LiveNumbers.{live-more, live-made, live-pushed, within-pushed, all-made, numbers-changed, children-changed, filter_map-Some}
@@ -53,7 +53,7 @@ with-new heap b g =
     (with-handle (with_value b heap) (heap.made + 1) made.good (live-pushed heap.values (fresh_value (heap.made + 1) b)))
 
 -- a value that is changed
-pub with-changed : (heap : Heap) (h : ℕ) (change : Value → Value) → Keeps (IsLiveAmong heap.values) change → IsConsistentHeap heap
+pub with-changed : (heap : Heap) (h : ℕ) (change : Value → Value) → KeepsChildren (IsLiveAmong heap.values) change → IsConsistentHeap heap
     → ComesTo heap (with_changed h change heap)
 with-changed heap h change keeps g =
     let P : ℕ → Type 0 = IsLiveAmong heap.values in
@@ -125,12 +125,12 @@ with-error heap code message known live g =
     let P : ℕ → Type 0 = IsLiveAmong heap.values in
     let Q : ℕ → Type 0 = IsLiveAmong (heap.values ++ x ∷ []) in
     let wider : (n : ℕ) → P n → Q n = λ n h. live-more n heap.values (x ∷ []) h in
-    let codes : List ℕ = named (code_property code) in
+    let codes : List ℕ = named_values (code_property code) in
     let rest : All Q codes = All-weaker P Q wider codes (of-code P code known) in
     let own : OfChildren Q x = children-of Q x (All-cons Q message codes (wider message live) rest) (All-nil Q) in
     with-pushed heap x refl own g
   where
-    of-code : (P : ℕ → Type 0) (c : Option ℕ) → IfSome c P → All P (named (code_property c))
+    of-code : (P : ℕ → Type 0) (c : Option ℕ) → IfSome c P → All P (named_values (code_property c))
     of-code P None h = All-nil P
     of-code P (Some n) h = All-cons P n [] h (All-nil P)
 

@@ -26,8 +26,8 @@ pub within-map : {A B : Type 0} (f : A → B) (xs ys zs : List A) → Within xs 
 within-map f xs ys zs w p = omega (arith, count-map p f xs, count-map p f ys, count-map p f zs, w (λ x. p (f x)))
 
 -- NUMBERS
-abbrev pub counted : Bool → ℕ
-counted b = cond b 1 0
+abbrev pub one_when : Bool → ℕ
+one_when b = cond b 1 0
 
 -- how many times a number stands in a list
 abbrev pub times : ℕ → List ℕ → ℕ
@@ -40,12 +40,12 @@ times-in P n (m ∷ ns) all h = here (m == n) refl (times-in P n ns (All-tail P 
   where
     here : (b : Bool) → (m == n) ≡ b → (0 < times n ns → P n) → P n
     here true e later = subst P (eqb-true m n e) (All-head P m ns all)
-    here false e later = later (omega (arith, h, count-cons (λ k. k == n) m ns, ap counted e))
+    here false e later = later (omega (arith, h, count-cons (λ k. k == n) m ns, ap one_when e))
 
 all-in : (P : ℕ → Type 0) (ns : List ℕ) → ((n : ℕ) → 0 < times n ns → P n) → All P ns
 all-in P [] f = All-nil P
 all-in P (m ∷ ns) f =
-    All-cons P m ns (f m (omega (arith, count-cons (λ k. k == m) m ns, ap counted (eq-eqb m m refl))))
+    All-cons P m ns (f m (omega (arith, count-cons (λ k. k == m) m ns, ap one_when (eq-eqb m m refl))))
     (all-in P ns (λ n h. f n (omega (arith, h, count-cons (λ k. k == n) m ns))))
 
 pub within-all : (P : ℕ → Type 0) (ms ns ks : List ℕ) → Within ms ns ks → All P ns → All P ks → All P ms
@@ -71,8 +71,8 @@ distinct-times n (m ∷ ns) d = here (m == n) refl (distinct-times n ns (IsDisti
         ]
 
     here : (b : Bool) → (m == n) ≡ b → times n ns ≤ 1 → times n (m ∷ ns) ≤ 1
-    here true e later = omega (arith, count-cons (λ k. k == n) m ns, ap counted e, others (IsDistinct-head nat_eq m ns d) e)
-    here false e later = omega (arith, later, count-cons (λ k. k == n) m ns, ap counted e)
+    here true e later = omega (arith, count-cons (λ k. k == n) m ns, ap one_when e, others (IsDistinct-head nat_eq m ns d) e)
+    here false e later = omega (arith, later, count-cons (λ k. k == n) m ns, ap one_when e)
 
 distinct-none : IsDistinct nat_eq []
 unfolding IsDistinct
@@ -85,7 +85,7 @@ distinct-from (m ∷ ns) h =
     IsDistinct-cons nat_eq m ns (recursion_from_All P ns (all-in P ns (λ n some. ne_eqb m n (other n some)))) (distinct-from ns later)
   where
     other : (n : ℕ) → 0 < times n ns → m ≡ n → ⊥
-    other n some same = omega (arith, some, h n, count-cons (λ k. k == n) m ns, ap counted (eq-eqb m n same))
+    other n some same = omega (arith, some, h n, count-cons (λ k. k == n) m ns, ap one_when (eq-eqb m n same))
 
     later : (n : ℕ) → times n ns ≤ 1
     later n = omega (arith, h n, count-cons (λ k. k == n) m ns)
@@ -126,8 +126,8 @@ issued-next last ms ns w a =
     at-most : (n : ℕ) → times n ms ≤ 1
     at-most n =
         elim (cases_eq (last + 1) n) [
-          | inl same ↦ omega (arith, w (λ m. m == n), count-cons (λ m. m == n) (last + 1) [], ap counted (eq-eqb (last + 1) n same), none-yet n same)
+          | inl same ↦ omega (arith, w (λ m. m == n), count-cons (λ m. m == n) (last + 1) [], ap one_when (eq-eqb (last + 1) n same), none-yet n same)
           | inr other ↦
               let apart : times n ns ≤ 1 = distinct-times n ns a.apart in
-              omega (arith, w (λ m. m == n), count-cons (λ m. m == n) (last + 1) [], ap counted (ne_eqb (last + 1) n other), apart)
+              omega (arith, w (λ m. m == n), count-cons (λ m. m == n) (last + 1) [], ap one_when (ne_eqb (last + 1) n other), apart)
         ]

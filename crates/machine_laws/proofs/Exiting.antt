@@ -48,7 +48,7 @@ use Rattle.napi_types.proofs.all_runs.Orderly.{Orderly, orderly-opens, along-ord
 use Rattle.machine_laws.specs.Choices.{begins_due_tickets_in, is_of_frames, BeginsLowest, BeginsLastHook, BeginsOfHub}
 use Rattle.machine_laws.specs.ExitLaws.{asks_exit, has_exit, reason_of, ExitIsAskedByItsCall, EndsByReason, TheLoopEndsByItsReason, TheLoopEndsByExitOrIdle, WhatIsDueWaitsForFinalsOnceExitWasAsked}
 use Rattle.machine_laws.proofs.Bare.{IsBare, bare-run, bare-idle}
-use Rattle.machine_laws.proofs.Beginning.{tickets-begin}
+use Rattle.machine_laws.proofs.BeginningFrames.{tickets-begin}
 use Rattle.machine_laws.proofs.Choosing.{Happens, happens-next, happens-what, hub-in-phase}
 
 -- WHAT ASKS IT

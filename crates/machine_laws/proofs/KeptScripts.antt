@@ -34,8 +34,8 @@ next_if true r made left x = next_of_thread r made left x x.what
 next_if false r made left x = (x, true)
 
 -- how many calls the thread has made after an entry, and which are left
-abbrev made_after : ℕ → ℕ → Entry → ℕ
-made_after t made x = cond (is_thread t x.actor) (made + 1) made
+abbrev calls_made_after : ℕ → ℕ → Entry → ℕ
+calls_made_after t made x = cond (is_thread t x.actor) (made + 1) made
 
 abbrev left_of_thread : ℕ → Option (List Call) → Entry → Option (List Call)
 left_of_thread t left x = cond (is_thread t x.actor) (left_after left x.what) left
@@ -44,7 +44,7 @@ abbrev script_along : ℕ → ℕ → Hub → ℕ → ℕ → Option (List Call)
 script_along limit t h n made left [] = []
 script_along limit t h n made left (x ∷ xs) =
     next_if (is_thread t x.actor) (history_room h n limit) made left x
-    ∷ script_along limit t (hub_step h x).after (n + 1) (made_after t made x) (left_of_thread t left x) xs
+    ∷ script_along limit t (hub_step h x).after (n + 1) (calls_made_after t made x) (left_of_thread t left x) xs
 
 next-of : (r : Room) (made : ℕ) (left : Option (List Call)) (x : Entry) (w : What) → x.what ≡ w → x ≡ (next_of_thread r made left x w).0
     → IsTrue (next_of_thread r made left x w).1 → IsNextOfThread r made left x w
@@ -70,25 +70,25 @@ keeps-from limit t h n made left [] same may = tt
 keeps-from limit t h n made left (x ∷ xs) same may =
     let r : Room = history_room h n limit in
     let here : Entry × Bool = next_if (is_thread t x.actor) r made left x in
-    let later : List (Entry × Bool) = script_along limit t (hub_step h x).after (n + 1) (made_after t made x) (left_of_thread t left x) xs in
+    let later : List (Entry × Bool) = script_along limit t (hub_step h x).after (n + 1) (calls_made_after t made x) (left_of_thread t left x) xs in
     let may_later : IsTrue (list_all (λ p. p.1) later) = and-right here.1 (list_all (λ p. p.1) later) may in (
       next-if (is_thread t x.actor) r made left x (ap (λ l. unwrap_or (head l) x) same) (and-left here.1 (list_all (λ p. p.1) later) may),
-      keeps-from limit t (hub_step h x).after (n + 1) (made_after t made x) (left_of_thread t left x) xs (ap tail same) may_later,
+      keeps-from limit t (hub_step h x).after (n + 1) (calls_made_after t made x) (left_of_thread t left x) xs (ap tail same) may_later,
     )
 
 -- along a whole history
-abbrev pub script_of : Setting → ℕ → List Op → List Entry → List (Entry × Bool)
-script_of s t operations history = script_along s.limits.history t (opening_of s).hub 0 0 (Some (thread_calls operations)) history
+abbrev pub kept_script : Setting → ℕ → List Op → List Entry → List (Entry × Bool)
+kept_script s t operations history = script_along s.limits.history t (opening_of s).hub 0 0 (Some (thread_calls operations)) history
 
 -- two facts on it show that the history keeps the script
-keeps-script : (s : Setting) (t : ℕ) (operations : List Op) (history : List Entry) → history ≡ map (λ p. p.0) (script_of s t operations history)
-    → IsTrue (list_all (λ p. p.1) (script_of s t operations history)) → KeepsScript s t operations history
+keeps-script : (s : Setting) (t : ℕ) (operations : List Op) (history : List Entry) → history ≡ map (λ p. p.0) (kept_script s t operations history)
+    → IsTrue (list_all (λ p. p.1) (kept_script s t operations history)) → KeepsScript s t operations history
 keeps-script s t operations history same may =
     keeps-from s.limits.history t (opening_of s).hub 0 0 (Some (thread_calls operations)) history same may
 
 -- so the one thread of a setting keeps its script, ..
-pub one-keeps : (s : Setting) (operations : List Op) (history : List Entry) → s.threads ≡ 1 → history ≡ map (λ p. p.0) (script_of s 0 operations history)
-    → IsTrue (list_all (λ p. p.1) (script_of s 0 operations history)) → ThreadsKeep s (operations ∷ []) history
+pub one-keeps : (s : Setting) (operations : List Op) (history : List Entry) → s.threads ≡ 1 → history ≡ map (λ p. p.0) (kept_script s 0 operations history)
+    → IsTrue (list_all (λ p. p.1) (kept_script s 0 operations history)) → ThreadsKeep s (operations ∷ []) history
 one-keeps s operations history one same may = record { count = sym one; each = by }
   where
     by : (t : ℕ) (ops : List Op) → slice_get (operations ∷ []) t ≡ Some ops → KeepsScript s t ops history
@@ -97,8 +97,8 @@ one-keeps s operations history one same may = record { count = sym one; each = b
 
 -- .. and both threads of another
 pub two-keep : (s : Setting) (first second : List Op) (history : List Entry) → s.threads ≡ 2
-    → (history ≡ map (λ p. p.0) (script_of s 0 first history)) × IsTrue (list_all (λ p. p.1) (script_of s 0 first history))
-    → (history ≡ map (λ p. p.0) (script_of s 1 second history)) × IsTrue (list_all (λ p. p.1) (script_of s 1 second history))
+    → (history ≡ map (λ p. p.0) (kept_script s 0 first history)) × IsTrue (list_all (λ p. p.1) (kept_script s 0 first history))
+    → (history ≡ map (λ p. p.0) (kept_script s 1 second history)) × IsTrue (list_all (λ p. p.1) (kept_script s 1 second history))
     → ThreadsKeep s (first ∷ second ∷ []) history
 two-keep s first second history two one other = record { count = sym two; each = by }
   where

@@ -1,7 +1,7 @@
+mod AskLists
 mod Asking
-mod Asks
 mod Bare
-mod Beginning
+mod BeginningFrames
 mod Causes
 mod Children
 mod Choosing
@@ -25,8 +25,8 @@ mod Misses
 mod Naming
 mod Others
 mod Rising
-mod Rows
+mod RowLists
 mod Settling
 mod StableHandles
-mod Standing
+mod StandingMachines
 mod Unordered

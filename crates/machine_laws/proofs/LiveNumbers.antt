@@ -12,7 +12,7 @@ use Rattle.napi_types.specs.parts.Reach.{numbers}
 use Rattle.napi_types.specs.parts.Values.{Value, value_changed}
 use Rattle.napi_types.proofs.plain.Maps.{all-among}
 use Rattle.machine_laws.specs.Consistency.{IsLiveAmong}
-use Rattle.machine_laws.proofs.Children.{OfChildren, Keeps}
+use Rattle.machine_laws.proofs.Children.{OfChildren, KeepsChildren}
 use Rattle.machine_laws.proofs.Counting.{Within, within-map, count-append}
 
 -- VALUES THAT ARE MADE
@@ -51,7 +51,7 @@ all-made vs n bs =
     All-weaker (IsLiveAmong ws) (IsLiveAmong (vs ++ ws)) (λ k h. live-made k vs ws h) (range_with_len (n + 1) (length bs)) there
 
 -- VALUES THAT ARE CHANGED
-pub numbers-changed : (P : ℕ → Type 0) (k : ℕ) (change : Value → Value) (vs : List Value) → Keeps P change → numbers (value_changed k change vs) ≡ numbers vs
+pub numbers-changed : (P : ℕ → Type 0) (k : ℕ) (change : Value → Value) (vs : List Value) → KeepsChildren P change → numbers (value_changed k change vs) ≡ numbers vs
 numbers-changed P k change [] keeps = refl
 numbers-changed P k change (v ∷ vs) keeps = here (v.number == k) (numbers-changed P k change vs keeps)
   where
@@ -59,7 +59,7 @@ numbers-changed P k change (v ∷ vs) keeps = here (v.number == k) (numbers-chan
     here true later = rw (keeps.number v, later) refl
     here false later = rw later refl
 
-pub children-changed : (P : ℕ → Type 0) (k : ℕ) (change : Value → Value) (vs : List Value) → Keeps P change → All (OfChildren P) vs
+pub children-changed : (P : ℕ → Type 0) (k : ℕ) (change : Value → Value) (vs : List Value) → KeepsChildren P change → All (OfChildren P) vs
     → All (OfChildren P) (value_changed k change vs)
 children-changed P k change [] keeps all = All-nil (OfChildren P)
 children-changed P k change (v ∷ vs) keeps all =

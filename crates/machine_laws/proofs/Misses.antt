@@ -34,13 +34,13 @@ use Rattle.napi_types.specs.runs.Step.{step_of, has_room}
 use Rattle.napi_types.proofs.plain.Conditions.{and-left, and-right}
 use Rattle.napi_types.proofs.hub.HubKeeps.{answered-may}
 use Rattle.machine_laws.specs.Computing.{ComputesBy, steps, entries_of, all_may, is_paired}
-use Rattle.machine_laws.specs.Told.{IsRun, all_told, told_asks}
-use Rattle.machine_laws.proofs.Asks.{asks-unique, told-run}
+use Rattle.machine_laws.specs.LegalRuns.{IsRun, all_told, told_asks}
+use Rattle.machine_laws.proofs.AskLists.{asks-unique, told-run}
 use Rattle.machine_laws.proofs.Computing.{computes-of}
 
 -- the entry at a place
-abbrev pub entry_at : ℕ → List Entry → Entry
-entry_at n xs = slice_index_or xs n (host_entry host.Gone out.Nothing)
+abbrev pub entry_in_place : ℕ → List Entry → Entry
+entry_in_place n xs = slice_index_or xs n (host_entry host.Gone out.Nothing)
 
 -- what a result tells, or else what is given
 abbrev pub told_number : ℕ → Out → ℕ
@@ -68,13 +68,13 @@ told_reason d (out.Ended e) = e
 told_reason d _ = d
 
 -- the ticket whose frame begins
-abbrev ticket_of : ℕ → Option Duty → ℕ
-ticket_of d (Some (duty.Ticket n)) = n.0
-ticket_of d _ = d
+abbrev begun_ticket : ℕ → Option Duty → ℕ
+begun_ticket d (Some (duty.Ticket n)) = n.0
+begun_ticket d _ = d
 
-abbrev pub told_ticket : ℕ → Out → ℕ
-told_ticket d (out.Begin cause addon entry due) = ticket_of d due
-told_ticket d _ = d
+abbrev pub ticket_told : ℕ → Out → ℕ
+ticket_told d (out.Begin cause addon entry due) = begun_ticket d due
+ticket_told d _ = d
 
 -- the item whose frame begins, ..
 abbrev item_of : ℕ → Option Duty → ℕ
@@ -86,12 +86,12 @@ told_item d (out.Begin cause addon entry due) = item_of d due
 told_item d _ = d
 
 -- .. the function whose item it is, ..
-abbrev function_of : ℕ → Option Duty → ℕ
-function_of d (Some (duty.Item function n)) = function.0
-function_of d _ = d
+abbrev item_function : ℕ → Option Duty → ℕ
+item_function d (Some (duty.Item function n)) = function.0
+item_function d _ = d
 
 abbrev pub told_function : ℕ → Out → ℕ
-told_function d (out.Begin cause addon entry due) = function_of d due
+told_function d (out.Begin cause addon entry due) = item_function d due
 told_function d _ = d
 
 -- .. and why the frame begins
@@ -100,12 +100,12 @@ told_cause d (out.Begin cause addon entry due) = cause
 told_cause d _ = d
 
 -- the work that starts
-abbrev work_of : ℕ → Duty → ℕ
-work_of d (duty.Work n) = n
-work_of d _ = d
+abbrev started_work : ℕ → Duty → ℕ
+started_work d (duty.Work n) = n
+started_work d _ = d
 
 abbrev pub told_work : ℕ → Out → ℕ
-told_work d (out.Duty due) = work_of d due
+told_work d (out.Duty due) = started_work d due
 told_work d _ = d
 
 -- the work whose completion begins
@@ -140,8 +140,8 @@ told-steps s xs h r =
 
 -- each of its entries is the one that its step gives, ..
 pub told-entry : (s : Setting) (xs : List Entry) (n : ℕ) → IsTrue (all_told s) → IsRun s xs
-    → entry_at n xs ≡ entry_at n (entries_of (steps (opening_of s) (told_asks s xs) xs))
-told-entry s xs n h r = ap (entry_at n) (told-run s xs h r)
+    → entry_in_place n xs ≡ entry_in_place n (entries_of (steps (opening_of s) (told_asks s xs) xs))
+told-entry s xs n h r = ap (entry_in_place n) (told-run s xs h r)
 
 -- .. and may stand
 pub told-may : (s : Setting) (xs : List Entry) → IsTrue (all_told s) → IsRun s xs → IsTrue (all_may (steps (opening_of s) (told_asks s xs) xs))

@@ -22,7 +22,7 @@ use Rattle.napi_types.proofs.runs.Runs.{along-run}
 use Rattle.napi_types.proofs.all_runs.Orderly.{orderly-run}
 use Rattle.machine_laws.specs.Choices.{begins_due_tickets_in, IsOfTicket, GoneComesOnlyAfterFinals}
 use Rattle.machine_laws.specs.FinalizerLaws.{OnlyTheOutermostFrameHasADuty, NoneIsRegisteredFromFinalsOn}
-use Rattle.machine_laws.proofs.Beginning.{lowest-first}
+use Rattle.machine_laws.proofs.BeginningFrames.{lowest-first}
 use Rattle.machine_laws.proofs.Choosing.{gone-last, hub-in-phase}
 
 -- ONLY THE OUTERMOST FRAME

@@ -7,7 +7,7 @@ use Rattle.std.proofs.lemmas.List.Elements.{filter-append}
 use Rattle.napi_types.specs.plain.Lists.{found, has, with_record, as_map, with_number}
 use Rattle.napi_types.specs.parts.References.{Reference}
 use Rattle.napi_types.proofs.plain.Found.{found-with_record, same-self}
-use Rattle.napi_reference.specs.Places.{standing}
+use Rattle.napi_reference.specs.ReferencePlaces.{standing}
 
 -- TWO TESTS
 module _ {A : Type 0} (p q r : A → Bool) (both : (y : A) → (q y && p y) ≡ r y) where

@@ -17,9 +17,9 @@ use Rattle.napi_types.specs.plain.Texts.{fixed_texts}
 use Rattle.napi_types.specs.plain.Weave.{weave}
 use Rattle.napi_types.specs.scripts.Text.{text}
 use Rattle.napi_types.specs.runs.Setting.{Setting}
-use Rattle.machine_laws.specs.HubWords.{shared_journal, script_for, next_after, item, finalizer, function, shared_at, shared_making, target_of, function_created, calls_function, releases, begins, item_begins, runs_empty, function_closes, function_finishes}
+use Rattle.machine_laws.specs.HubWords.{shared_journal, script_for, next_after, item, finalizer, function, shared_at, shared_making, target_at, function_created, calls_function, releases, begins, item_begins, runs_empty, function_closes, function_finishes}
 use Rattle.machine_laws.specs.RunWords.{loop_ended, go_entry, ending_events, opening_lines}
-use Rattle.machine_laws.specs.Told.{IsRun}
+use Rattle.machine_laws.specs.LegalRuns.{IsRun}
 
 -- the script: a function with a call-js entry and a finalizer, for three threads, without a maximum, is called three times and aborted; then it is called three
 -- times again, acquired and released
@@ -52,7 +52,7 @@ finalizing = begins cause.Finalize 2 finalizer
 -- the history
 abbrev pub history : List Entry
 history =
-    function_created 0 (call.CreateThreadsafeFunction None (Some 1) 0 3 (Some 2) 0) (target_of 1) finalizer
+    function_created 0 (call.CreateThreadsafeFunction None (Some 1) 0 3 (Some 2) 0) (target_at 1) finalizer
     ∷ shared_making 1 (calls_function 1 mode.Nonblocking) status.Ok (item 1)
     ∷ shared_making 2 (calls_function 2 mode.Nonblocking) status.Ok (item 2)
     ∷ shared_making 3 (calls_function 3 mode.Nonblocking) status.Ok (item 3)

@@ -11,7 +11,7 @@ use Rattle.napi_types.specs.plain.Texts.{fixed_texts}
 use Rattle.napi_types.specs.scripts.Text.{text}
 use Rattle.napi_types.specs.runs.Setting.{Setting}
 use Rattle.machine_laws.specs.RunWords.{script_of_entries, call_at, call_begins, call_ends, frame_ends, opening_entries, great_events, gone_entry, opening_lines, handle}
-use Rattle.machine_laws.specs.Told.{IsRun}
+use Rattle.machine_laws.specs.LegalRuns.{IsRun}
 
 -- the texts: after the fixed ones a code and a message
 abbrev pub texts : List (List ℕ)

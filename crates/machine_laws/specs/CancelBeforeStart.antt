@@ -16,7 +16,7 @@ use Rattle.napi_types.specs.scripts.Text.{text}
 use Rattle.napi_types.specs.runs.Setting.{Setting, final_registers}
 use Rattle.machine_laws.specs.HubWords.{work_lines, shared_journal, script_for, next_after, work_duty, work, shared_at, shared_making, work_created, completion_begins, drains, finals, worker_starts, worker_ends}
 use Rattle.machine_laws.specs.RunWords.{frame_end, loop_ended, go_entry}
-use Rattle.machine_laws.specs.Told.{IsRun, told_asks}
+use Rattle.machine_laws.specs.LegalRuns.{IsRun, told_asks}
 
 -- the script, with one worker: a work is created, queued and cancelled; then it is queued again, and deleted, and deleted in its completion
 abbrev pub setting : Setting

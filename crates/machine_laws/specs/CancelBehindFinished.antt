@@ -14,7 +14,7 @@ use Rattle.napi_types.specs.scripts.Text.{text}
 use Rattle.napi_types.specs.runs.Setting.{Setting}
 use Rattle.machine_laws.specs.HubWords.{work_lines, shared_journal, script_for, next_after, work_duty, work, shared_at, shared_making, work_created, completion_begins, runs_empty, drains, finals, worker_starts, worker_finishes, worker_ends}
 use Rattle.machine_laws.specs.RunWords.{loop_ended, go_entry}
-use Rattle.machine_laws.specs.Told.{IsRun}
+use Rattle.machine_laws.specs.LegalRuns.{IsRun}
 
 -- the script, with one worker: a work is created and queued, and then another one, which is cancelled
 abbrev pub setting : Setting

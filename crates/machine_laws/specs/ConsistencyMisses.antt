@@ -6,13 +6,13 @@ use Rattle.napi_types.specs.parts.Frames.{Frame, frame_of, most_frames}
 use Rattle.napi_types.specs.parts.Heap.{Heap, new_heap}
 use Rattle.napi_types.specs.parts.NewValues.{array_of}
 use Rattle.napi_types.specs.parts.References.{Reference, with_reference, no_references}
-use Rattle.napi_types.specs.parts.Scopes.{Held, no_handles}
+use Rattle.napi_types.specs.parts.Scopes.{OpenHandle, no_handles}
 use Rattle.napi_types.specs.parts.Values.{undefined_value, null_value, starting_values, fresh_value}
 use Rattle.napi_types.specs.environment.Environment.{Environment, new_environment}
 use Rattle.machine_laws.specs.Consistency.{IsConsistent}
 
 -- a handle of this number to a value
-abbrev pub handle_to : ℕ → ℕ → Held
+abbrev pub handle_to : ℕ → ℕ → OpenHandle
 handle_to value handle = record { handle = handle; value = value }
 
 -- the frame of an addon's init
@@ -20,7 +20,7 @@ abbrev pub init_frame : Frame
 init_frame = frame_of cause.Init 0 0
 
 -- a heap in which one frame's own scope holds these handles, and two handles were issued
-abbrev pub holding : List Held → Heap
+abbrev pub holding : List OpenHandle → Heap
 holding hs = record new_heap { scopes = record { own = hs; opened = [] } ∷ []; handles = 2 }
 
 -- an environment with such a heap, and one frame
@@ -28,7 +28,7 @@ abbrev pub in_init_frame : Heap → Environment
 in_init_frame heap = record (new_environment 1 3) { heap = heap; frames = init_frame ∷ [] }
 
 -- two handles, of undefined and of null
-abbrev pub two_held : List Held
+abbrev pub two_held : List OpenHandle
 two_held = handle_to undefined_value 1 ∷ handle_to null_value 2 ∷ []
 
 -- the number after the starting values', which no value has

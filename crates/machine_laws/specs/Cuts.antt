@@ -82,8 +82,8 @@ abbrev pub object_made : Entry
 object_made = call_at 0 call.CreateObject status.Ok (out.Handle (record { 0 = 1 }))
 
 -- the machine as the frame has begun
-abbrev pub begun : Machine
-begun = final_of tight opening_asks opening_entries
+abbrev pub machine_begun : Machine
+machine_begun = final_of tight opening_asks opening_entries
 
 -- the machine after the first call of the frame
 abbrev pub first_called : Machine
@@ -103,14 +103,14 @@ pub record CutsAtFirstCall : Type 0 where
   -- the first call has its place
   pub first : RunsBy tight (opening_asks ++ create ∷ []) (opening_entries ++ object_made ∷ [])
   -- so its frame is not cut there as full, at no local call that needs one place
-  pub room : (c : Call) → is_shared c ≡ false → need c ≡ 1 → IsNext begun (ask.Do c) (cut_by cause.Init why.Full) → ⊥
+  pub room : (c : Call) → is_shared c ≡ false → need c ≡ 1 → IsNext machine_begun (ask.Do c) (cut_by cause.Init why.Full) → ⊥
   -- but at each shared call, for which the history has no place
-  pub shared : (c : Call) → is_shared c ≡ true → IsCutFull begun c
+  pub shared : (c : Call) → is_shared c ≡ true → IsCutFull machine_begun c
   -- a call of a function needs two, so there it is cut as full, and nothing else may come
-  pub calls : (receiver : Option HandleId) (f : HandleId) (args : Args) → IsOnlyNext begun (ask.Do (call.CallFunction receiver f args)) (cut_by cause.Init why.Full)
+  pub calls : (receiver : Option HandleId) (f : HandleId) (args : Args) → IsOnlyNext machine_begun (ask.Do (call.CallFunction receiver f args)) (cut_by cause.Init why.Full)
   -- for want of memory it may be cut at a call that grows, and not at `typeof`, which does not
-  pub grows : IsNext begun create (cut_by cause.Init why.Memory)
-  pub stays : (h : HandleId) → IsNext begun (ask.Do (call.Typeof h)) (cut_by cause.Init why.Memory) → ⊥
+  pub grows : IsNext machine_begun create (cut_by cause.Init why.Memory)
+  pub stays : (h : HandleId) → IsNext machine_begun (ask.Do (call.Typeof h)) (cut_by cause.Init why.Memory) → ⊥
 
 -- at the second call, whichever it is, the frame is cut as full
 abbrev pub FullAtSecondCall : Type 0

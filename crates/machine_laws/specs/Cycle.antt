@@ -10,7 +10,7 @@ use Rattle.napi_types.specs.plain.Texts.{fixed_texts}
 use Rattle.napi_types.specs.scripts.Text.{text}
 use Rattle.napi_types.specs.runs.Setting.{Setting}
 use Rattle.machine_laws.specs.RunWords.{script_of_entries, call_at, call_making, ticket, finalizer_runs, run_of_finalizers, opening_lines, handle}
-use Rattle.machine_laws.specs.Told.{IsRun}
+use Rattle.machine_laws.specs.LegalRuns.{IsRun}
 
 -- in a scope the script makes two objects, gives each the other as a property, and wraps each with a finalizer; then it closes the scope and collects. The
 -- finalizers run the second entry, which asks nothing

@@ -11,7 +11,7 @@ use Rattle.napi_types.specs.declared.status.Status.{Status}
 use Rattle.napi_types.specs.declared.status.Status.TheVariants as status
 use Rattle.machine_laws.specs.RunWords.{script_of_entries, call_at, call_in, call_begins, call_ends, frame_ends, opening_entries, great_events, gone_entry}
 use Rattle.napi_types.specs.runs.Setting.{Setting}
-use Rattle.machine_laws.specs.Told.{IsRun}
+use Rattle.machine_laws.specs.LegalRuns.{IsRun}
 
 -- the function's handle
 abbrev pub function : HandleId

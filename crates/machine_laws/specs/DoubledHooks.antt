@@ -13,7 +13,7 @@ use Rattle.napi_types.specs.plain.Texts.{fixed_texts}
 use Rattle.napi_types.specs.scripts.Text.{text}
 use Rattle.napi_types.specs.runs.Setting.{Setting}
 use Rattle.machine_laws.specs.RunWords.{script_of_entries, call_at, call_making, call_dropping, ticket, loop_ended, drain_entry, hook_begins, hook_runs, run_of_hooks, opening_lines, handle}
-use Rattle.machine_laws.specs.Told.{IsRun}
+use Rattle.machine_laws.specs.LegalRuns.{IsRun}
 
 -- the script adds a hook twice and another once, removes the first one twice and asks to exit. The hooks run the second entry, which adds one more and makes a
 -- guarded call; register 24 has there the argument that the hook was added with

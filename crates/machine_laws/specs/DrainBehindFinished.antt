@@ -15,7 +15,7 @@ use Rattle.napi_types.specs.scripts.Text.{text}
 use Rattle.napi_types.specs.runs.Setting.{Setting}
 use Rattle.machine_laws.specs.HubWords.{work_lines, script_for, at_length, next_after, work_duty, work, shared_making, work_created, completion_begins, runs_empty, drains, finals, worker_starts, worker_finishes, worker_ends}
 use Rattle.machine_laws.specs.RunWords.{call_at, opening_entries, frame_end, loop_ended, go_entry, gone_entry}
-use Rattle.machine_laws.specs.Told.{IsRun}
+use Rattle.machine_laws.specs.LegalRuns.{IsRun}
 
 -- the script, with one worker: two works are created and queued, and exit is asked
 abbrev pub setting : Setting

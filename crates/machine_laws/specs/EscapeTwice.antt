@@ -12,7 +12,7 @@ use Rattle.napi_types.specs.plain.Texts.{fixed_texts}
 use Rattle.napi_types.specs.scripts.Text.{text}
 use Rattle.napi_types.specs.runs.Setting.{Setting}
 use Rattle.machine_laws.specs.RunWords.{script_of, call_at, run_of_calls, opening_lines}
-use Rattle.machine_laws.specs.Told.{IsRun}
+use Rattle.machine_laws.specs.LegalRuns.{IsRun}
 
 -- the script makes an object in an escapable scope, lets it escape twice, closes the scope, and asks for the kind of the object by the handle that escaped
 -- and by the one that did not

@@ -11,7 +11,7 @@ use Rattle.napi_types.specs.plain.Texts.{fixed_texts}
 use Rattle.napi_types.specs.scripts.Text.{text}
 use Rattle.napi_types.specs.runs.Setting.{Setting}
 use Rattle.machine_laws.specs.RunWords.{script_of_entries, call_at, call_making, ticket, loop_ended, finalizer_begins, finalizer_runs, run_ended_by, opening_lines, handle}
-use Rattle.machine_laws.specs.Told.{IsRun}
+use Rattle.machine_laws.specs.LegalRuns.{IsRun}
 
 -- the script wraps an object with a finalizer, and in a scope another; it closes the scope, collects and asks to exit. The finalizers run the second entry,
 -- which asks nothing

@@ -10,7 +10,7 @@ use Rattle.napi_types.specs.plain.Texts.{fixed_texts}
 use Rattle.napi_types.specs.scripts.Text.{text}
 use Rattle.napi_types.specs.runs.Setting.{Setting}
 use Rattle.machine_laws.specs.RunWords.{script_of_plans, call_at, call_making, ticket, init_begins, opening_entries, frame_end, go_entry, ending_events, gone_entry, finalizer_begins_at, opening_lines, handle}
-use Rattle.machine_laws.specs.Told.{IsRun}
+use Rattle.machine_laws.specs.LegalRuns.{IsRun}
 
 -- the first addon asks to exit and makes an object; the second makes one in a scope, adds a finalizer to it, closes the scope and collects. The finalizer runs
 -- the second addon's second entry, which asks to exit

@@ -20,9 +20,9 @@ use Rattle.napi_types.specs.scripts.Text.{text}
 use Rattle.napi_types.specs.hub.Actors.{Free, Over, worker_along}
 use Rattle.napi_types.specs.runs.Setting.{Setting}
 use Rattle.napi_types.specs.all_runs.HubLaws.{ThreadsKeep}
-use Rattle.machine_laws.specs.HubWords.{script_for, at_length, next_after, work_duty, item, work, shared_making, work_created, target_of, function_created, calls_function, begins, item_begins, completion_begins, runs_empty, function_finishes, drains, finals, by_thread, thread_ends, worker_starts, worker_finishes, worker_ends}
+use Rattle.machine_laws.specs.HubWords.{script_for, at_length, next_after, work_duty, item, work, shared_making, work_created, target_at, function_created, calls_function, begins, item_begins, completion_begins, runs_empty, function_finishes, drains, finals, by_thread, thread_ends, worker_starts, worker_finishes, worker_ends}
 use Rattle.machine_laws.specs.RunWords.{call_at, call_making, ticket, opening_entries, frame_end, loop_ended, go_entry, gone_entry, left_out, opening_lines, handle}
-use Rattle.machine_laws.specs.Told.{IsRun}
+use Rattle.machine_laws.specs.LegalRuns.{IsRun}
 
 -- the script, with one thread and one worker: two hooks are added, an object is wrapped, a work is queued, a function is called, and exit is asked
 abbrev pub setting : Setting
@@ -57,7 +57,7 @@ abbrev pub history : List Entry
 history =
     work_created 4 (call.CreateAsyncWork (job.Sum 3) 2 0) 1
     ∷ shared_making 5 (call.QueueAsyncWork (work 1)) status.Ok (work_duty 1)
-    ∷ function_created 6 (call.CreateThreadsafeFunction None (Some 1) 1 1 None 0) (target_of 1) None
+    ∷ function_created 6 (call.CreateThreadsafeFunction None (Some 1) 1 1 None 0) (target_at 1) None
     ∷ shared_making 7 (calls_function 7 mode.Nonblocking) status.Ok (item 1)
     ∷ worker_starts 0 1
     ∷ go_entry

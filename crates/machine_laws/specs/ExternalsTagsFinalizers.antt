@@ -11,7 +11,7 @@ use Rattle.napi_types.specs.plain.Texts.{fixed_texts}
 use Rattle.napi_types.specs.scripts.Text.{text}
 use Rattle.napi_types.specs.runs.Setting.{Setting}
 use Rattle.machine_laws.specs.RunWords.{script_of_entries, call_at, call_making, ticket, finalizer_begins, finalizer_runs, run_of_finalizers, opening_lines, handle, reference}
-use Rattle.machine_laws.specs.Told.{IsRun}
+use Rattle.machine_laws.specs.LegalRuns.{IsRun}
 
 -- in a scope the script makes an external with a finalizer, reads it and tags it; it makes an object, tags it twice and asks for another tag; it adds two
 -- finalizers, the second with a reference, which it deletes; it asks for a wrap, and closes the scope. The finalizers run the second entry, which compares

@@ -19,7 +19,7 @@ use Rattle.napi_types.specs.scripts.Text.{text}
 use Rattle.napi_types.specs.runs.Parting.{IsParted}
 use Rattle.napi_types.specs.runs.Setting.{Setting, opening_of, final_registers}
 use Rattle.machine_laws.specs.RunWords.{script_of, call_at, opening_entries, frame_end, great_events, gone_entry, loop_ended, left_out, opening_lines}
-use Rattle.machine_laws.specs.Told.{IsRun, told_asks}
+use Rattle.machine_laws.specs.LegalRuns.{IsRun, told_asks}
 
 -- the script: the scope's number goes to register 0, the handle's to register 1, the kind's to register 2
 abbrev pub setting : Setting

@@ -9,9 +9,9 @@ use Rattle.napi_types.specs.declared.entry.Why.TheVariants as why
 use Rattle.napi_types.specs.declared.op.Op.TheVariants as op
 use Rattle.napi_types.specs.declared.status.Status.TheVariants as status
 use Rattle.napi_types.specs.runs.Setting.{Setting}
-use Rattle.machine_laws.specs.HubWords.{script_for, within, item, shared_making, target_of, function_created, calls_function, item_begins, by_thread}
+use Rattle.machine_laws.specs.HubWords.{script_for, within, item, shared_making, target_at, function_created, calls_function, item_begins, by_thread}
 use Rattle.machine_laws.specs.RunWords.{frame_ends, opening_entries, frame_end, go_entry}
-use Rattle.machine_laws.specs.Told.{IsRun}
+use Rattle.machine_laws.specs.LegalRuns.{IsRun}
 
 -- the script, with one thread: a function without a maximum is called once, the item's frame calls it, and so does the thread
 abbrev pub setting : Setting
@@ -25,7 +25,7 @@ setting = within 100 14 (script_for 1 0 (
 abbrev pub front : List Entry
 front =
     opening_entries
-    ++ function_created 0 (call.CreateThreadsafeFunction None (Some 1) 0 1 None 0) (target_of 1) None
+    ++ function_created 0 (call.CreateThreadsafeFunction None (Some 1) 0 1 None 0) (target_at 1) None
     ∷ shared_making 1 (calls_function 1 mode.Nonblocking) status.Ok (item 1)
     ∷ frame_end
     ∷ go_entry

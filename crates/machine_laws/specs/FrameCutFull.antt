@@ -14,9 +14,9 @@ use Rattle.napi_types.specs.plain.Texts.{fixed_texts}
 use Rattle.napi_types.specs.plain.Weave.{weave}
 use Rattle.napi_types.specs.scripts.Text.{text}
 use Rattle.napi_types.specs.runs.Setting.{Setting}
-use Rattle.machine_laws.specs.HubWords.{function_lines, shared_journal, script_for, within, next_after, item, shared_making, target_of, function_created, calls_function, item_begins, function_finishes, drains, finals}
+use Rattle.machine_laws.specs.HubWords.{function_lines, shared_journal, script_for, within, next_after, item, shared_making, target_at, function_created, calls_function, item_begins, function_finishes, drains, finals}
 use Rattle.machine_laws.specs.RunWords.{frame_ends, frame_end, loop_ended, go_entry}
-use Rattle.machine_laws.specs.Told.{IsRun}
+use Rattle.machine_laws.specs.LegalRuns.{IsRun}
 
 -- the script: a function without a maximum is called once, and each item's frame calls it three times; with room for so many entries in the history
 abbrev pub setting_within : ℕ → Setting
@@ -41,7 +41,7 @@ cut_full = frame_ends (out.Cut why.Full)
 -- the history
 abbrev pub history : List Entry
 history =
-    function_created 0 (call.CreateThreadsafeFunction None (Some 1) 0 1 None 0) (target_of 1) None
+    function_created 0 (call.CreateThreadsafeFunction None (Some 1) 0 1 None 0) (target_at 1) None
     ∷ shared_making 1 (calls_function 1 mode.Nonblocking) status.Ok (item 1)
     ∷ go_entry
     ∷ item_begins cause.Item 1

@@ -15,9 +15,9 @@ use Rattle.napi_types.specs.plain.Weave.{weave}
 use Rattle.napi_types.specs.scripts.Text.{text}
 use Rattle.napi_types.specs.runs.Parting.{IsParted}
 use Rattle.napi_types.specs.runs.Setting.{Setting, opening_of}
-use Rattle.machine_laws.specs.HubWords.{function_lines, script_for, within, at_length, next_after, item, shared_making, target_of, function_created, calls_function, item_begins, function_finishes, drains, finals}
+use Rattle.machine_laws.specs.HubWords.{function_lines, script_for, within, at_length, next_after, item, shared_making, target_at, function_created, calls_function, item_begins, function_finishes, drains, finals}
 use Rattle.machine_laws.specs.RunWords.{call_at, frame_ends, opening_entries, frame_end, loop_ended, go_entry, gone_entry}
-use Rattle.machine_laws.specs.Told.{IsRun, told_asks}
+use Rattle.machine_laws.specs.LegalRuns.{IsRun, told_asks}
 
 -- the script: a function is called once, and the item's frame asks the version four times; with room for so many entries in the journal
 abbrev pub setting_within : ℕ → Setting
@@ -42,7 +42,7 @@ cut_full = frame_ends (out.Cut why.Full)
 -- the history up to the begin of the item's frame, and behind its end
 abbrev pub history_front : List Entry
 history_front =
-    function_created 0 (call.CreateThreadsafeFunction None (Some 1) 0 1 None 0) (target_of 1) None
+    function_created 0 (call.CreateThreadsafeFunction None (Some 1) 0 1 None 0) (target_at 1) None
     ∷ shared_making 1 (calls_function 1 mode.Nonblocking) status.Ok (item 1)
     ∷ go_entry
     ∷ item_begins cause.Item 1

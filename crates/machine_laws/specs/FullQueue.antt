@@ -19,9 +19,9 @@ use Rattle.napi_types.specs.plain.Weave.{weave}
 use Rattle.napi_types.specs.scripts.Text.{text}
 use Rattle.napi_types.specs.runs.Setting.{Setting}
 use Rattle.napi_types.specs.all_runs.HubLaws.{KeepsScript}
-use Rattle.machine_laws.specs.HubWords.{function_lines, shared_journal, script_for, next_after, item, target_of, shared_making, function_created, calls_function, releases, item_begins, function_closes, function_finishes, drains, finals, by_thread, thread_ends}
+use Rattle.machine_laws.specs.HubWords.{function_lines, shared_journal, script_for, next_after, item, target_at, shared_making, function_created, calls_function, releases, item_begins, function_closes, function_finishes, drains, finals, by_thread, thread_ends}
 use Rattle.machine_laws.specs.RunWords.{frame_end, go_entry, loop_ended}
-use Rattle.machine_laws.specs.Told.{IsRun}
+use Rattle.machine_laws.specs.LegalRuns.{IsRun}
 
 -- the script: a function with a call-js entry, for one item and one thread, is called once with room and twice without; one thread calls and releases it
 abbrev pub setting : Setting
@@ -56,7 +56,7 @@ thread_call s d = by_thread 0 0 (calls_function 10 mode.Blocking) s d
 -- the history
 abbrev pub history : List Entry
 history =
-    function_created 0 (call.CreateThreadsafeFunction None (Some 1) 1 1 None 0) (target_of 1) None
+    function_created 0 (call.CreateThreadsafeFunction None (Some 1) 1 1 None 0) (target_at 1) None
     ∷ shared_making 1 (calls_function 7 mode.Nonblocking) status.Ok (item 1)
     ∷ second_call status.QueueFull None
     ∷ third_call status.WouldDeadlock None

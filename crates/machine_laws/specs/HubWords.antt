@@ -83,8 +83,8 @@ abbrev pub function : TsfnId
 function = record { 0 = 1 }
 
 -- the target of a function with a call-js entry: its items run that entry, and make asks also once the function is closing
-abbrev pub target_of : ℕ → Target
-target_of entry = record { addon = 0; entry = entry; torn_runs = true }
+abbrev pub target_at : ℕ → Target
+target_at entry = record { addon = 0; entry = entry; torn_runs = true }
 
 -- what the only addon hands to the hub with a call: a new function's target, where it names one
 abbrev pub handed : Option Target → Given

@@ -30,7 +30,8 @@ pub mod FunctionRoots
 pub mod HandleAfterScope
 pub mod HandleLaws
 pub mod HubWords
-pub mod InstanceData
+pub mod InstanceDataRun
+pub mod LegalRuns
 pub mod MapLaws
 pub mod NextHandle
 pub mod OnceMisses
@@ -47,7 +48,6 @@ pub mod RunWords
 pub mod StaleHandle
 pub mod StrongAndWeak
 pub mod ThreadCutFull
-pub mod Told
 pub mod TornWithoutEntry
 pub mod TwoAddons
 pub mod TwoFunctions

@@ -3,7 +3,7 @@ use Rattle.std.specs.Prelude.{◌≡◌, ◌≢◌, ℕ, ◌<◌, ◌==◌, fals
 use Rattle.napi_types.specs.plain.Lists.{found, has, as_map, with_number}
 use Rattle.napi_types.specs.parts.References.{Reference, ReferenceMap, reference_at, with_reference}
 use Rattle.machine_laws.specs.Consistency.{RisesBy}
-use Rattle.napi_reference.specs.Places.{ReferencePlaces, standing, map_of}
+use Rattle.napi_reference.specs.ReferencePlaces.{ReferencePlaces, standing, map_of}
 
 -- one reference more of a map
 pub record AddsOne (m : ReferenceMap) (n value count : ℕ) : Type 0 where

@@ -15,7 +15,7 @@ use Rattle.napi_types.specs.plain.Texts.{fixed_texts}
 use Rattle.napi_types.specs.scripts.Text.{text}
 use Rattle.napi_types.specs.runs.Setting.{Setting, EndsBy}
 use Rattle.machine_laws.specs.RunWords.{script_of, call_at, opening_entries, great_events, gone_entry, run_of_calls, opening_lines, handle}
-use Rattle.machine_laws.specs.Told.{IsRun, told_asks}
+use Rattle.machine_laws.specs.LegalRuns.{IsRun, told_asks}
 
 -- the texts: after the fixed ones a name
 abbrev pub texts : List (List ℕ)

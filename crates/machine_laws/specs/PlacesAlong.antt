@@ -17,19 +17,19 @@ places_along h [] = []
 places_along h (x ∷ xs) = reserved_history (hub_step h x).after ∷ places_along (hub_step h x).after xs
 
 -- those along the history of a run of this script
-abbrev pub places_of : Setting → List Entry → List ℕ
-places_of s history = places_along (opening_of s).hub history
+abbrev pub places_in : Setting → List Entry → List ℕ
+places_in s history = places_along (opening_of s).hub history
 
 -- a call that leaves something to come adds the places of it, an entry that comes of that takes one, and at the end none is left
 pub record OweInOrder : Type 0 where
   -- a function with a finalizer, three items, and calls that make none
-  pub abort : places_of abort.setting abort.history ≡ 8 ∷ 10 ∷ 12 ∷ 14 ∷ 13 ∷ 13 ∷ 13 ∷ 13 ∷ 13 ∷ 13 ∷ 12 ∷ 11 ∷ 10 ∷ 9 ∷ 8 ∷ 7 ∷ 6 ∷ 5 ∷ 4 ∷ 3 ∷ 2 ∷ 1 ∷ 0 ∷ []
+  pub abort : places_in abort.setting abort.history ≡ 8 ∷ 10 ∷ 12 ∷ 14 ∷ 13 ∷ 13 ∷ 13 ∷ 13 ∷ 13 ∷ 13 ∷ 12 ∷ 11 ∷ 10 ∷ 9 ∷ 8 ∷ 7 ∷ 6 ∷ 5 ∷ 4 ∷ 3 ∷ 2 ∷ 1 ∷ 0 ∷ []
   -- a function without one, and two items
-  pub release : places_of release_to_zero.setting release_to_zero.history ≡ 6 ∷ 8 ∷ 10 ∷ 10 ∷ 10 ∷ 9 ∷ 8 ∷ 7 ∷ 6 ∷ 5 ∷ 4 ∷ 3 ∷ 2 ∷ 1 ∷ 0 ∷ []
+  pub release : places_in release_to_zero.setting release_to_zero.history ≡ 6 ∷ 8 ∷ 10 ∷ 10 ∷ 10 ∷ 9 ∷ 8 ∷ 7 ∷ 6 ∷ 5 ∷ 4 ∷ 3 ∷ 2 ∷ 1 ∷ 0 ∷ []
   -- a work and an item, with one thread and one worker
-  pub exit : places_of exit_in_the_middle.setting exit_in_the_middle.history ≡ 6 ∷ 10 ∷ 12 ∷ 14 ∷ 13 ∷ 12 ∷ 11 ∷ 9 ∷ 9 ∷ 8 ∷ 7 ∷ 6 ∷ 5 ∷ 4 ∷ 3 ∷ 2 ∷ 1 ∷ 0 ∷ []
+  pub exit : places_in exit_in_the_middle.setting exit_in_the_middle.history ≡ 6 ∷ 10 ∷ 12 ∷ 14 ∷ 13 ∷ 12 ∷ 11 ∷ 9 ∷ 9 ∷ 8 ∷ 7 ∷ 6 ∷ 5 ∷ 4 ∷ 3 ∷ 2 ∷ 1 ∷ 0 ∷ []
   -- a work and two items, which two threads make
-  pub addon : places_of realistic_addon.setting realistic_addon.history
+  pub addon : places_in realistic_addon.setting realistic_addon.history
       ≡ 7 ∷ 11 ∷ 10 ∷ 12 ∷ 11 ∷ 10 ∷ 12 ∷ 14 ∷ 13 ∷ 13 ∷ 13 ∷ 13 ∷ 12 ∷ 11 ∷ 10 ∷ 9 ∷ 8 ∷ 7 ∷ 6 ∷ 5 ∷ 4 ∷ 3 ∷ 2 ∷ 1 ∷ 0 ∷ []
   -- a work that is cancelled, which gives two places back
-  pub cancel : places_of cancel_before_start.setting cancel_before_start.history ≡ 5 ∷ 9 ∷ 7 ∷ 7 ∷ 7 ∷ 6 ∷ 5 ∷ 5 ∷ 4 ∷ 3 ∷ 2 ∷ 1 ∷ 0 ∷ []
+  pub cancel : places_in cancel_before_start.setting cancel_before_start.history ≡ 5 ∷ 9 ∷ 7 ∷ 7 ∷ 7 ∷ 6 ∷ 5 ∷ 5 ∷ 4 ∷ 3 ∷ 2 ∷ 1 ∷ 0 ∷ []

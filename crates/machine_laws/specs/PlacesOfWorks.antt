@@ -15,7 +15,7 @@ use Rattle.napi_types.specs.runs.Setting.{Setting}
 use Rattle.napi_types.specs.all_runs.HubLaws.{ThreadsKeep}
 use Rattle.machine_laws.specs.HubWords.{script_for, within, at_length, next_after, work_duty, work, shared_at, shared_making, work_created, completion_begins, runs_empty, drains, finals, thread_ends, worker_starts, worker_finishes, worker_ends}
 use Rattle.machine_laws.specs.RunWords.{frame_ends, opening_entries, loop_ended, go_entry, gone_entry}
-use Rattle.machine_laws.specs.Told.{IsRun}
+use Rattle.machine_laws.specs.LegalRuns.{IsRun}
 
 -- QUEUEING
 -- the script, with one thread, which makes no call, and one worker: a work is created and queued, and another created. The history has room for so many entries

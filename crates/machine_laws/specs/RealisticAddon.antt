@@ -22,9 +22,9 @@ use Rattle.napi_types.specs.scripts.Text.{text}
 use Rattle.napi_types.specs.hub.Actors.{Free, Over, worker_along}
 use Rattle.napi_types.specs.runs.Setting.{Setting, final_registers}
 use Rattle.napi_types.specs.all_runs.HubLaws.{ThreadsKeep}
-use Rattle.machine_laws.specs.HubWords.{script_for, at_length, next_after, name, work_duty, item, work, shared_at, shared_making, work_created, target_of, function_created, calls_function, releases, begins, item_begins, completion_begins, runs_empty, function_closes, function_finishes, drains, finals, by_thread, thread_ends, worker_starts, worker_finishes, worker_ends}
+use Rattle.machine_laws.specs.HubWords.{script_for, at_length, next_after, name, work_duty, item, work, shared_at, shared_making, work_created, target_at, function_created, calls_function, releases, begins, item_begins, completion_begins, runs_empty, function_closes, function_finishes, drains, finals, by_thread, thread_ends, worker_starts, worker_finishes, worker_ends}
 use Rattle.machine_laws.specs.RunWords.{call_at, call_making, ticket, opening_entries, frame_end, loop_ended, go_entry, gone_entry, opening_lines, handle, reference}
-use Rattle.machine_laws.specs.Told.{IsRun, told_asks}
+use Rattle.machine_laws.specs.LegalRuns.{IsRun, told_asks}
 
 -- the texts: after the fixed ones the name that the addon sets
 abbrev pub texts : List (List ℕ)
@@ -67,7 +67,7 @@ history =
     work_created 3 (call.CreateAsyncWork (job.Sum 10) 2 0) 1
     ∷ shared_making 4 (call.QueueAsyncWork (work 1)) status.Ok (work_duty 1)
     ∷ worker_starts 0 1
-    ∷ function_created 5 (call.CreateThreadsafeFunction None (Some 1) 4 2 None 0) (target_of 1) None
+    ∷ function_created 5 (call.CreateThreadsafeFunction None (Some 1) 4 2 None 0) (target_at 1) None
     ∷ worker_finishes 0 55
     ∷ go_entry
     ∷ thread_call 0 (item 1)

@@ -17,9 +17,9 @@ use Rattle.napi_types.specs.plain.Texts.{fixed_texts}
 use Rattle.napi_types.specs.plain.Weave.{weave}
 use Rattle.napi_types.specs.scripts.Text.{text}
 use Rattle.napi_types.specs.runs.Setting.{Setting}
-use Rattle.machine_laws.specs.HubWords.{function_lines, shared_journal, script_for, next_after, item, shared_at, shared_making, target_of, function_created, calls_function, releases, item_begins, runs_empty, function_closes, function_finishes}
+use Rattle.machine_laws.specs.HubWords.{function_lines, shared_journal, script_for, next_after, item, shared_at, shared_making, target_at, function_created, calls_function, releases, item_begins, runs_empty, function_closes, function_finishes}
 use Rattle.machine_laws.specs.RunWords.{loop_ended, go_entry, ending_events}
-use Rattle.machine_laws.specs.Told.{IsRun}
+use Rattle.machine_laws.specs.LegalRuns.{IsRun}
 
 -- the script: a function with a call-js entry, for one thread, without a maximum, is called twice, released, and called again
 abbrev pub setting : Setting
@@ -41,7 +41,7 @@ last_call s d = shared_making 4 (calls_function 3 mode.Nonblocking) s d
 -- the history
 abbrev pub history : List Entry
 history =
-    function_created 0 (call.CreateThreadsafeFunction None (Some 1) 0 1 None 5) (target_of 1) None
+    function_created 0 (call.CreateThreadsafeFunction None (Some 1) 0 1 None 5) (target_at 1) None
     ∷ shared_making 1 (calls_function 1 mode.Nonblocking) status.Ok (item 1)
     ∷ shared_making 2 (calls_function 2 mode.Nonblocking) status.Ok (item 2)
     ∷ shared_at 3 (releases release.Release) status.Ok

@@ -11,7 +11,7 @@ use Rattle.napi_types.specs.plain.Texts.{fixed_texts}
 use Rattle.napi_types.specs.scripts.Text.{text}
 use Rattle.napi_types.specs.runs.Setting.{Setting}
 use Rattle.machine_laws.specs.RunWords.{script_of, call_at, run_of_calls, opening_lines, handle, reference}
-use Rattle.machine_laws.specs.Told.{IsRun}
+use Rattle.machine_laws.specs.LegalRuns.{IsRun}
 
 -- the script makes an object and a strong reference to it in a scope, closes the scope and collects; then it makes the reference weak and collects again, asks for
 -- the reference's value, and counts it down and up

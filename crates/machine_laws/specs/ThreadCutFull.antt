@@ -19,9 +19,9 @@ use Rattle.napi_types.specs.plain.Weave.{weave}
 use Rattle.napi_types.specs.scripts.Text.{text}
 use Rattle.napi_types.specs.runs.Setting.{Setting}
 use Rattle.napi_types.specs.all_runs.HubLaws.{KeepsScript}
-use Rattle.machine_laws.specs.HubWords.{function_lines, shared_journal, script_for, within, next_after, item, target_of, function_created, calls_function, releases, item_begins, function_finishes, drains, finals, by_thread, thread_ends}
+use Rattle.machine_laws.specs.HubWords.{function_lines, shared_journal, script_for, within, next_after, item, target_at, function_created, calls_function, releases, item_begins, function_finishes, drains, finals, by_thread, thread_ends}
 use Rattle.machine_laws.specs.RunWords.{frame_end, loop_ended, go_entry}
-use Rattle.machine_laws.specs.Told.{IsRun}
+use Rattle.machine_laws.specs.LegalRuns.{IsRun}
 
 -- the script, with one thread: a function for one item, which the thread calls twice and releases; with room for so many entries in the history
 abbrev pub setting_within : ℕ → Setting
@@ -48,7 +48,7 @@ release_next = by_thread 0 1 (releases release.Release) status.Ok None
 -- the history
 abbrev pub history : List Entry
 history =
-    function_created 0 (call.CreateThreadsafeFunction None (Some 1) 1 1 None 5) (target_of 1) None
+    function_created 0 (call.CreateThreadsafeFunction None (Some 1) 1 1 None 5) (target_at 1) None
     ∷ go_entry
     ∷ by_thread 0 0 (calls_function 1 mode.Blocking) status.Ok (item 1)
     ∷ item_begins cause.Item 1

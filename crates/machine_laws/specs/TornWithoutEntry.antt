@@ -16,9 +16,9 @@ use Rattle.napi_types.specs.plain.Texts.{fixed_texts}
 use Rattle.napi_types.specs.plain.Weave.{weave}
 use Rattle.napi_types.specs.scripts.Text.{text}
 use Rattle.napi_types.specs.runs.Setting.{Setting}
-use Rattle.machine_laws.specs.HubWords.{script_for, at_length, next_after, item, finalizer, shared_at, shared_making, target_of, function_created, calls_function, releases, begins, item_begins, runs_empty, function_finishes}
+use Rattle.machine_laws.specs.HubWords.{script_for, at_length, next_after, item, finalizer, shared_at, shared_making, target_at, function_created, calls_function, releases, begins, item_begins, runs_empty, function_finishes}
 use Rattle.machine_laws.specs.RunWords.{call_at, opening_entries, frame_end, go_entry, ending_events, gone_entry, opening_lines, handle}
-use Rattle.machine_laws.specs.Told.{IsRun}
+use Rattle.machine_laws.specs.LegalRuns.{IsRun}
 
 -- the script: in a scope a function is made, and of it a thread-safe function with a finalizer. The scope closes, and what is not reached is collected. Two items
 -- are called and torn. The function's entry would ask the version, and the finalizer collects again
@@ -40,7 +40,7 @@ setting = script_for 0 0 (
 
 -- its items run entry 1, and ask nothing once it is closing
 abbrev pub target : Target
-target = record (target_of 1) { torn_runs = false }
+target = record (target_at 1) { torn_runs = false }
 
 -- the creation, with its target
 abbrev pub created : Target → Entry

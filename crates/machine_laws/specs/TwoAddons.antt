@@ -7,7 +7,7 @@ use Rattle.napi_types.specs.declared.entry.HostStep.TheVariants as host
 use Rattle.napi_types.specs.declared.entry.Out.TheVariants as out
 use Rattle.napi_types.specs.plain.Entries.{host_entry}
 use Rattle.napi_types.specs.runs.Setting.{Setting}
-use Rattle.machine_laws.specs.Told.{IsRun}
+use Rattle.machine_laws.specs.LegalRuns.{IsRun}
 use Rattle.machine_laws.specs.RunWords.{script_of_plans, init_begins, opening_entries, frame_end, great_events, gone_entry}
 
 -- the script: each addon has one entry without operations

@@ -24,9 +24,9 @@ use Rattle.napi_types.specs.plain.Weave.{weave}
 use Rattle.napi_types.specs.scripts.Plans.{registers_of}
 use Rattle.napi_types.specs.scripts.Text.{text}
 use Rattle.napi_types.specs.runs.Setting.{Setting, final_registers}
-use Rattle.machine_laws.specs.HubWords.{shared_journal, script_for, next_after, shared_replied, shared_at, shared_making, shared_refused, target_of, begins, runs_empty, drains, finals, by_thread, thread_ends}
+use Rattle.machine_laws.specs.HubWords.{shared_journal, script_for, next_after, shared_replied, shared_at, shared_making, shared_refused, target_at, begins, runs_empty, drains, finals, by_thread, thread_ends}
 use Rattle.machine_laws.specs.RunWords.{loop_ended, go_entry, opening_lines}
-use Rattle.machine_laws.specs.Told.{IsRun, told_asks}
+use Rattle.machine_laws.specs.LegalRuns.{IsRun, told_asks}
 
 -- the script, with one thread: a creation that names neither a function nor an entry is refused. Two functions are created and called, the second first; the
 -- first is unreferenced, and the second is acquired and tells its context. The thread releases the second twice
@@ -57,7 +57,7 @@ function_at f = record { 0 = f }
 
 abbrev pub created : ℕ → ℕ → ℕ → Entry
 created n f context =
-    shared_replied n (call.CreateThreadsafeFunction None (Some 1) 0 1 None context) (Some (target_of 1)) (plain status.Ok (out.Function (function_at f)))
+    shared_replied n (call.CreateThreadsafeFunction None (Some 1) 0 1 None context) (Some (target_at 1)) (plain status.Ok (out.Function (function_at f)))
 
 abbrev pub first_item : ℕ → Option Duty
 first_item f = Some (duty.Item (function_at f) 1)

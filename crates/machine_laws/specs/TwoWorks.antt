@@ -8,7 +8,7 @@ use Rattle.napi_types.specs.declared.status.Status.TheVariants as status
 use Rattle.napi_types.specs.runs.Setting.{Setting}
 use Rattle.machine_laws.specs.HubWords.{script_for, next_after, work_duty, work, shared_making, work_created, worker_starts, worker_finishes}
 use Rattle.machine_laws.specs.RunWords.{opening_entries}
-use Rattle.machine_laws.specs.Told.{IsRun}
+use Rattle.machine_laws.specs.LegalRuns.{IsRun}
 
 -- the script, for so many workers: two works are created and queued
 abbrev pub setting_for : ℕ → Setting

@@ -16,7 +16,7 @@ use Rattle.napi_types.specs.scripts.Text.{text}
 use Rattle.napi_types.specs.runs.Setting.{Setting}
 use Rattle.machine_laws.specs.HubWords.{work_lines, shared_journal, script_for, next_after, work_duty, work, shared_at, shared_making, shared_refused, work_created, completion_begins, drains, finals, worker_starts}
 use Rattle.machine_laws.specs.RunWords.{frame_end, loop_ended, go_entry}
-use Rattle.machine_laws.specs.Told.{IsRun}
+use Rattle.machine_laws.specs.LegalRuns.{IsRun}
 
 -- the script, for so many workers: a work is created and queued, and its completion asks to create another, and deletes it
 abbrev pub setting_for : ℕ → Setting

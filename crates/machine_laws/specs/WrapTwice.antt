@@ -11,7 +11,7 @@ use Rattle.napi_types.specs.plain.Texts.{fixed_texts}
 use Rattle.napi_types.specs.scripts.Text.{text}
 use Rattle.napi_types.specs.runs.Setting.{Setting}
 use Rattle.machine_laws.specs.RunWords.{script_of_entries, call_at, call_making, call_dropping, ticket, finalizer_runs, run_of_finalizers, opening_lines, handle}
-use Rattle.machine_laws.specs.Told.{IsRun}
+use Rattle.machine_laws.specs.LegalRuns.{IsRun}
 
 -- in a scope the script makes an object and wraps it with a finalizer, and again; it removes the wrap, wraps the object anew with a finalizer and asks for its
 -- payload; then it closes the scope and collects. The finalizers run the second entry, which asks nothing

@@ -11,7 +11,7 @@ use Rattle.napi_types.specs.parts.Attachments.{no_attachments}
 use Rattle.napi_types.specs.scripts.Text.{text}
 use Rattle.napi_types.specs.runs.Setting.{Setting, final_of}
 use Rattle.machine_laws.specs.RunWords.{script_of, call_at, run_of_calls, opening_lines, handle}
-use Rattle.machine_laws.specs.Told.{IsRun, told_asks}
+use Rattle.machine_laws.specs.LegalRuns.{IsRun, told_asks}
 
 -- in a scope the script makes an object, wraps it and wraps it again, and tags it and tags it again; it asks an external for its payload and for that tag; it
 -- removes the wrap, asks for it and wraps the object anew; then it closes the scope and collects

@@ -1,5 +1,5 @@
 //! Laws of the event that comes next where no frame stands, and a worked run of two addons.
-ghost use Rattle.machine_laws.specs.Told.{EndsAsTold};
+ghost use Rattle.machine_laws.specs.LegalRuns.{EndsAsTold};
 ghost use Rattle.machine_laws.specs.Choices.{NoneIsChosenInFrames, OthersComeWhereTheyAre, BeginsTellTheirFrames, OwnEventsComeFirst, HubEventsComeLast};
 ghost use Rattle.machine_laws.specs.Choices.{GoComesAfterInitFrames, GoneComesAfterFinals, HubIsInPhase};
 ghost use Rattle.machine_laws.specs.Choices.{GoComesOnlyAfterInitFrames, DrainComesOnlyAfterHooks, FinalsComeOnlyOnceAllEnded, GoneComesOnlyAfterFinals};

@@ -1,5 +1,5 @@
 //! Laws of `exit` over all runs, and worked runs in which it is asked.
-ghost use Rattle.machine_laws.specs.Told.{EndsAsTold};
+ghost use Rattle.machine_laws.specs.LegalRuns.{EndsAsTold};
 ghost use Rattle.machine_laws.specs.ExitLaws.{ExitIsAskedByItsCall, TheLoopEndsByItsReason, TheLoopEndsByExitOrIdle, WhatIsDueWaitsForFinalsOnceExitWasAsked};
 ghost use Rattle.machine_laws.specs.ExitBeforeDue as exit_before_due;
 ghost use Rattle.machine_laws.specs.ExitInInitAndInAFinalizer as exit_in_init_and_in_a_finalizer;

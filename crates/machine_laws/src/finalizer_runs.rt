@@ -1,5 +1,5 @@
 //! Worked runs of finalizers, each as laws.
-ghost use Rattle.machine_laws.specs.Told.{EndsAsTold};
+ghost use Rattle.machine_laws.specs.LegalRuns.{EndsAsTold};
 ghost use Rattle.machine_laws.specs.Cycle as cycle;
 ghost use Rattle.machine_laws.specs.WrapTwice as wrap_twice;
 ghost use Rattle.machine_laws.specs.ExternalsTagsFinalizers as externals_tags_finalizers;

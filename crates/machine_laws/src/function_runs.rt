@@ -1,5 +1,5 @@
 //! Worked runs of exceptions and of calls of functions, each as laws.
-ghost use Rattle.machine_laws.specs.Told.{EndsAsTold};
+ghost use Rattle.machine_laws.specs.LegalRuns.{EndsAsTold};
 ghost use Rattle.machine_laws.specs.PendingException as pending_exception;
 ghost use Rattle.machine_laws.specs.CallAndError as call_and_error;
 ghost use Rattle.machine_laws.specs.Depth as depth_limit;

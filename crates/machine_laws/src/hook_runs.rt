@@ -1,7 +1,7 @@
 //! Worked runs of cleanup hooks and of instance data, each as laws.
-ghost use Rattle.machine_laws.specs.Told.{EndsAsTold};
+ghost use Rattle.machine_laws.specs.LegalRuns.{EndsAsTold};
 ghost use Rattle.machine_laws.specs.DoubledHooks as doubled_hooks;
-ghost use Rattle.machine_laws.specs.InstanceData as instance_data;
+ghost use Rattle.machine_laws.specs.InstanceDataRun as instance_data;
 
 /// Hooks that are added twice and removed twice.
 pub fn doubled_hooks_run()

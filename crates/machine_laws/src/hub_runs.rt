@@ -1,7 +1,7 @@
 //! Worked runs of works, thread-safe functions, threads and workers, each as a law: its two lists are a run to its end,
 //! with its text, and near misses are no run.
 ghost use Rattle.napi_types.specs.all_runs.HubLaws.{ThreadsKeep};
-ghost use Rattle.machine_laws.specs.Told.{EndsOnItsLists};
+ghost use Rattle.machine_laws.specs.LegalRuns.{EndsOnItsLists};
 ghost use Rattle.machine_laws.specs.RealisticAddon as realistic_addon;
 ghost use Rattle.machine_laws.specs.CancelBeforeStart as cancel_before_start;
 ghost use Rattle.machine_laws.specs.CancelAfterStart as cancel_after_start;

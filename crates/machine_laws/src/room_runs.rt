@@ -1,6 +1,6 @@
 //! Worked runs over the hub where the journal or the history has little room, each as a law.
 ghost use Rattle.napi_types.specs.all_runs.HubLaws.{ThreadsKeep};
-ghost use Rattle.machine_laws.specs.Told.{EndsOnItsLists};
+ghost use Rattle.machine_laws.specs.LegalRuns.{EndsOnItsLists};
 ghost use Rattle.machine_laws.specs.ThreadCutFull as thread_cut_full;
 ghost use Rattle.machine_laws.specs.FrameCutFull as frame_cut_full;
 ghost use Rattle.machine_laws.specs.FrameCutForMemory as frame_cut_for_memory;

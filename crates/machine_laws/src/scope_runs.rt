@@ -1,5 +1,5 @@
 //! Worked runs of handles and scopes, each as laws: that it is a run to its end, its text, and that near misses are no run.
-ghost use Rattle.machine_laws.specs.Told.{EndsAsTold};
+ghost use Rattle.machine_laws.specs.LegalRuns.{EndsAsTold};
 ghost use Rattle.machine_laws.specs.FirstRun as first_run;
 ghost use Rattle.machine_laws.specs.OrderOfScopes as order_of_scopes;
 ghost use Rattle.machine_laws.specs.HandleAfterScope as handle_after_scope;

@@ -1,5 +1,5 @@
 //! Worked runs of properties, elements, references, wraps, type tags and collections, each as laws.
-ghost use Rattle.machine_laws.specs.Told.{EndsAsTold};
+ghost use Rattle.machine_laws.specs.LegalRuns.{EndsAsTold};
 ghost use Rattle.machine_laws.specs.PropertiesAndElements as properties_and_elements;
 ghost use Rattle.machine_laws.specs.StrongAndWeak as strong_and_weak;
 ghost use Rattle.machine_laws.specs.ReferenceCounts as reference_counts;

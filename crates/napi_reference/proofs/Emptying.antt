@@ -6,11 +6,11 @@ use Rattle.std.proofs.lemmas.List.Elements.{All-head, All-tail}
 use Rattle.napi_types.specs.declared.ids.ValueId.{ValueId}
 use Rattle.napi_types.specs.plain.Lists.{up_to}
 use Rattle.napi_types.specs.parts.References.{Reference, strong_value, strong_values, value_left, emptied}
-use Rattle.napi_reference.specs.declared.rows.Row.{Row}
-use Rattle.napi_reference.specs.Places.{ReferencePlaces, map_of}
-use Rattle.napi_reference.specs.Rows.{reference_of, places_of, id_left, weak_emptied}
-use Rattle.napi_reference.proofs.Numbers.{listed_from, rows-listed}
-use Rattle.napi_reference.proofs.Changes.{same-map}
+use Rattle.napi_reference.specs.declared.rows.ReferenceRow.{ReferenceRow}
+use Rattle.napi_reference.specs.ReferencePlaces.{ReferencePlaces, map_of}
+use Rattle.napi_reference.specs.ReferenceRows.{reference_of, places_of, id_left, weak_emptied}
+use Rattle.napi_reference.proofs.ReferenceNumbers.{listed_from, rows-listed}
+use Rattle.napi_reference.proofs.ReferenceChanges.{same-map}
 
 -- one element more of a list is changed in its place
 changed-more : {X : Type 0} (change : X → X) (xs : List X) (i : ℕ) (d : X) → i < length xs
@@ -46,13 +46,13 @@ value_left-kept collected None kept = refl
 value_left-kept collected (Some v) kept = rw kept refl
 
 -- a row loses its value as its reference does, where a strong one keeps it
-row-emptied : (collected : ℕ → Bool) (n : ℕ) (row : Row) (weak : Bool) → IfSome (cond weak None (option_map (λ v. v.0) row.value)) (λ v. collected v ≡ false)
+row-emptied : (collected : ℕ → Bool) (n : ℕ) (row : ReferenceRow) (weak : Bool) → IfSome (cond weak None (option_map (λ v. v.0) row.value)) (λ v. collected v ≡ false)
     → let r : Reference = record { number = n; value = value_left collected (option_map (λ v. v.0) row.value); count = row.count } in
     r ≡ reference_of n (cond weak (record row { value = id_left collected row.value }) row)
 row-emptied collected n row true kept = ap (λ v. record { number = n; value = v; count = row.count }) (value_left-id collected row.value)
 row-emptied collected n row false kept = ap (λ v. record { number = n; value = v; count = row.count }) (value_left-kept collected (option_map (λ v. v.0) row.value) kept)
 
-listed-emptied : (collected : ℕ → Bool) (k : ℕ) (rows : List (Option Row)) → All (λ v. collected v ≡ false) (filter_map strong_value (listed_from k rows))
+listed-emptied : (collected : ℕ → Bool) (k : ℕ) (rows : List (Option ReferenceRow)) → All (λ v. collected v ≡ false) (filter_map strong_value (listed_from k rows))
     → map (λ (r : Reference). record r { value = value_left collected r.value }) (listed_from k rows) ≡ listed_from k (map (option_map (weak_emptied collected)) rows)
 listed-emptied collected k [] kept = refl
 listed-emptied collected k (None ∷ rows) kept = listed-emptied collected (suc k) rows kept
@@ -62,14 +62,14 @@ listed-emptied collected k (Some row ∷ rows) kept =
     ap (λ r. r ∷ map (λ (q : Reference). record q { value = value_left collected q.value }) (listed_from (suc k) rows)) (row-emptied collected k row (row.count == 0) first)
     ∙ ap (λ rs. reference_of k (weak_emptied collected row) ∷ rs) (listed-emptied collected (suc k) rows others)
 
-pub rows-emptied : (collected : ℕ → Bool) (rows : List (Option Row)) (p : ReferencePlaces) → places_of rows ≡ p → All (λ v. collected v ≡ false) (strong_values (map_of p))
+pub rows-emptied : (collected : ℕ → Bool) (rows : List (Option ReferenceRow)) (p : ReferencePlaces) → places_of rows ≡ p → All (λ v. collected v ≡ false) (strong_values (map_of p))
     → map_of (places_of (map (option_map (weak_emptied collected)) rows)) ≡ emptied collected (map_of p)
 rows-emptied collected rows p view kept =
     let here : All (λ v. collected v ≡ false) (strong_values (map_of (places_of rows))) =
     subst (λ (q : ReferencePlaces). All (λ v. collected v ≡ false) (strong_values (map_of q))) (sym view) kept in
     let listed : All (λ v. collected v ≡ false) (filter_map strong_value (listed_from 1 rows)) =
     subst (λ (rs : List Reference). All (λ v. collected v ≡ false) (filter_map strong_value rs)) (rows-listed rows) here in
-    let after : List (Option Row) = map (option_map (weak_emptied collected)) rows in
+    let after : List (Option ReferenceRow) = map (option_map (weak_emptied collected)) rows in
     rw (← view)
     (same-map _ _ _ _
     (rows-listed after ∙ sym (listed-emptied collected 1 rows listed) ∙ ap (map (λ (r : Reference). record r { value = value_left collected r.value })) (sym (rows-listed rows)))

@@ -1,7 +1,7 @@
-pub mod Changes
-pub mod Counting
+pub mod CountingReferences
 pub mod Emptying
-pub mod Keeping
-pub mod Numbers
+pub mod KeepingReferences
+pub mod ReferenceChanges
+pub mod ReferenceNumbers
 pub mod Searches
 pub mod Strong

@@ -6,9 +6,9 @@ use Rattle.std.proofs.lemmas.List.Folds.{list_any-append}
 use Rattle.napi_types.specs.plain.Lists.{has_number, HaveSameNumbers, as_map}
 use Rattle.napi_types.specs.parts.References.{Reference, strong_value, strong_values}
 use Rattle.napi_types.proofs.plain.Maps.{list_any-as_map}
-use Rattle.napi_reference.specs.declared.rows.Row.{Row}
-use Rattle.napi_reference.specs.Places.{ReferencePlaces, map_of, standing, EachReferenceStandsOnce, strong_in}
-use Rattle.napi_reference.specs.Rows.{reference_of, references_from}
+use Rattle.napi_reference.specs.declared.rows.ReferenceRow.{ReferenceRow}
+use Rattle.napi_reference.specs.ReferencePlaces.{ReferencePlaces, map_of, standing, EachReferenceStandsOnce, strong_in}
+use Rattle.napi_reference.specs.ReferenceRows.{reference_of, references_from}
 
 strong-listed : (places : List (Option Reference)) → filter_map strong_value (standing places) ≡ filter_map strong_in places
 strong-listed [] = refl
@@ -35,7 +35,7 @@ strong_values-places p once = λ n.
     any-keeps n (as_map (λ r. r.number) (standing p.places)) ∙ list_any-as_map (λ (r : Reference). r.number) (keeps n) (standing p.places) once.apart
     ∙ sym (any-keeps n (standing p.places)) ∙ ap (has_number n) (strong-listed p.places)
 
-pub references_from-at : (k : ℕ) (rows : List (Option Row)) (at : ℕ) → slice_index_or (references_from k rows) at None ≡ option_map (reference_of (k + at)) (slice_index_or rows at None)
+pub references_from-at : (k : ℕ) (rows : List (Option ReferenceRow)) (at : ℕ) → slice_index_or (references_from k rows) at None ≡ option_map (reference_of (k + at)) (slice_index_or rows at None)
 references_from-at k [] at = refl
 references_from-at k (row ∷ rows) zero = ap (λ n. option_map (reference_of n) row) (last k)
   where

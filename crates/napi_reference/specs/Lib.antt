@@ -1,3 +1,3 @@
 pub mod Freed
-pub mod Places
-pub mod Rows
+pub mod ReferencePlaces
+pub mod ReferenceRows

@@ -6,9 +6,9 @@ ghost use Rattle.napi_types.specs.declared.call.Call.TheVariants as call;
 ghost use Rattle.napi_types.specs.plain.Lists.{has_number};
 ghost use Rattle.napi_types.specs.parts.ReferenceRefusals.{reference_refusal};
 ghost use Rattle.napi_types.specs.parts.References.{no_references, with_reference, without_reference, with_count, referred_value, reference_count, strong_values, emptied};
-ghost use Rattle.napi_reference.specs.Places.{map_of, EachReferenceStandsOnce, strong_in};
+ghost use Rattle.napi_reference.specs.ReferencePlaces.{map_of, EachReferenceStandsOnce, strong_in};
 
-use crate::rows::{self, Row};
+use crate::rows::{self, ReferenceRow};
 use napi_types::{NoMemory, RefId, Status, ValueId};
 use std::alloc::Global;
 use std::marker::Model;
@@ -18,15 +18,15 @@ use std::marker::Model;
 #[derive(Drop)]
 pub struct Refs {
     // The reference with the number n stands at n - 1. A place whose reference was deleted stays empty.
-    rows: Vec<Option<Row>>,
+    rows: Vec<Option<ReferenceRow>>,
 }
 
 impl Model for Refs {
-    ghost use Rattle.napi_reference.specs.Places.{ReferencePlaces};
+    ghost use Rattle.napi_reference.specs.ReferencePlaces.{ReferencePlaces};
 
     ghost Value = { ReferencePlaces };
 
-    ghost use Rattle.napi_reference.specs.Rows.{places_of};
+    ghost use Rattle.napi_reference.specs.ReferenceRows.{places_of};
 
     ghost view = { λ refs. places_of refs.rows.items };
 }
@@ -52,7 +52,7 @@ impl Refs {
         ensures err { OnErr result (self.new ≡ self.old) }
     {
         let number = self.rows.len() as u64 + 1;
-        let row = Row {
+        let row = ReferenceRow {
             value: Some(value),
             count,
         };
@@ -91,7 +91,7 @@ impl Refs {
             return Ok(0);
         }
         let count = row.count.checked_add(1).ok_or(Status::GenericFailure)?;
-        rows::put(&mut self.rows, id.0, Some(Row { count, ..row }));
+        rows::put(&mut self.rows, id.0, Some(ReferenceRow { count, ..row }));
         Ok(count)
     }
 
@@ -107,7 +107,7 @@ impl Refs {
     {
         let row = rows::row_at(&self.rows, id.0).ok_or(Status::InvalidArg)?;
         let count = row.count.checked_sub(1).ok_or(Status::GenericFailure)?;
-        rows::put(&mut self.rows, id.0, Some(Row { count, ..row }));
+        rows::put(&mut self.rows, id.0, Some(ReferenceRow { count, ..row }));
         Ok(count)
     }
 

@@ -3,6 +3,7 @@ pub mod AcceptedCalls
 pub mod AcceptedCancels
 pub mod CancelledWorks
 pub mod DutySides
+pub mod FrameAddons
 pub mod FunctionAccounts
 pub mod Goings
 pub mod HistoryRooms
@@ -19,7 +20,6 @@ pub mod Orderly
 pub mod Orders
 pub mod QuietRuns
 pub mod Rooms
-pub mod ScriptAddons
 pub mod Scripts
 pub mod Teardowns
 pub mod ThreadsEnd

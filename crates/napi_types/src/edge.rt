@@ -2,7 +2,7 @@
 ghost use Rattle.std.specs.Prelude.{◌≡◌, ℕ, ◌+◌, ◌<◌, ◌≤◌, ◌↔◌, List, [], ◌++◌, None, Some, length, min, drop, IfOk, IfSome, OnOk, OnErr, IsErr, IsTrue, is_ok, if◌then◌else◌};
 ghost use Rattle.std.specs.declared.option.Option.{Option};
 ghost use Rattle.std.specs.Io.KnownBytes.{prepend_known, append_known};
-ghost use Rattle.napi_types.specs.plain.Edge.{HasRisen, moved, CallPlan, opening_plan, fails_next, counted, count_call, count_fault};
+ghost use Rattle.napi_types.specs.plain.Edge.{HasRisen, bytes_moved, CallPlan, opening_plan, fails_next, counted, count_call, count_fault};
 
 use crate::Failed;
 use std::alloc::Global;
@@ -23,7 +23,7 @@ pub trait Source {
     /// It fails where the count of faults rose and nowhere else, and then nothing was read.
     fn read(&mut self, into: &mut [u8]) -> Result<usize, Failed>
         ensures within { IfOk result (λ n. n ≤ length into.new) }
-        ensures gives { left self.old ≡ prepend_known (moved result into.new) (left self.new) }
+        ensures gives { left self.old ≡ prepend_known (bytes_moved result into.new) (left self.new) }
         ensures end { IfOk result (λ n. 0 < length into.new →
             IfSome (left self.old) (λ bytes. (n ≡ 0) ↔ (bytes ≡ []))) }
         ensures failed { OnErr result (HasRisen (faults self.old) (faults self.new)) }
@@ -45,7 +45,7 @@ pub trait Sink {
     fn write(&mut self, from: &[u8]) -> Result<usize, Failed>
         ensures within { IfOk result (λ n. n ≤ length from.now) }
         ensures some { IfOk result (λ n. 0 < length from.now → 0 < n) }
-        ensures takes { taken self.new ≡ append_known (taken self.old) (moved result from.now) }
+        ensures takes { taken self.new ≡ append_known (taken self.old) (bytes_moved result from.now) }
         ensures failed { OnErr result (HasRisen (faults self.old) (faults self.new)) }
         ensures counted { OnOk result (faults self.new ≡ faults self.old) }
         ensures faults { faults self.old ≤ faults self.new };
@@ -68,13 +68,13 @@ impl Gate for OpenGate {
 
 /// Which calls are to fail, how many were made, and how many failed. Both counts stop at their greatest number.
 #[derive(Drop)]
-struct Calls {
+struct PlannedCalls {
     failing: Vec<u64>,
     made: u64,
     faults: u64,
 }
 
-impl Model for Calls {
+impl Model for PlannedCalls {
     ghost use Rattle.napi_types.specs.plain.Edge.{CallPlan};
 
     ghost Value = { CallPlan };
@@ -82,11 +82,11 @@ impl Model for Calls {
     ghost view = { λ calls. record { failing = calls.failing.items; made = calls.made; faults = calls.faults } };
 }
 
-impl Calls {
-    fn new(failing: Vec<u64>) -> Calls
+impl PlannedCalls {
+    fn new(failing: Vec<u64>) -> PlannedCalls
         ensures { result ≡ opening_plan failing.items }
     {
-        Calls {
+        PlannedCalls {
             failing,
             made: 0,
             faults: 0,
@@ -118,7 +118,7 @@ impl Calls {
 #[derive(Drop)]
 pub struct MemSource {
     bytes: Cursor<Vec<u8>>,
-    calls: Calls,
+    calls: PlannedCalls,
 }
 
 impl Model for MemSource {
@@ -141,7 +141,7 @@ impl MemSource {
     {
         MemSource {
             bytes: Cursor::new(bytes),
-            calls: Calls::new(failing),
+            calls: PlannedCalls::new(failing),
         }
     }
 }
@@ -153,7 +153,7 @@ impl Source for MemSource {
 
     fn read(&mut self, into: &mut [u8]) -> Result<usize, Failed>
         ensures within { IfOk result (λ n. n ≤ length into.new) }
-        ensures gives { self.old.left ≡ moved result into.new ++ self.new.left }
+        ensures gives { self.old.left ≡ bytes_moved result into.new ++ self.new.left }
         ensures end { IfOk result (λ n. 0 < length into.new → (n ≡ 0) ↔ (self.old.left ≡ [])) }
         ensures fails { IsTrue (fails_next self.old.calls) ↔ IsErr result }
         ensures counted { self.new.calls ≡ counted self.old.calls }
@@ -212,7 +212,7 @@ impl Source for SafeSource {
 pub struct MemSink {
     bytes: Vec<u8>,
     greatest: usize,
-    calls: Calls,
+    calls: PlannedCalls,
 }
 
 impl Model for MemSink {
@@ -236,7 +236,7 @@ impl MemSink {
         MemSink {
             bytes: Vec::new(alloc),
             greatest,
-            calls: Calls::new(failing),
+            calls: PlannedCalls::new(failing),
         }
     }
 
@@ -257,7 +257,7 @@ impl Sink for MemSink {
     fn write(&mut self, from: &[u8]) -> Result<usize, Failed>
         ensures within { IfOk result (λ n. n ≡ min (length from.now) self.old.greatest) }
         ensures some { IfOk result (λ n. 0 < length from.now → 0 < n) }
-        ensures takes { self.new.taken ≡ self.old.taken ++ moved result from.now }
+        ensures takes { self.new.taken ≡ self.old.taken ++ bytes_moved result from.now }
         ensures fails { IsTrue (fails_next self.old.calls) → IsErr result }
         ensures counted { self.new.calls ≡ (if is_ok result then count_call self.old.calls else count_fault (count_call self.old.calls)) }
         ensures greatest { self.new.greatest ≡ self.old.greatest }

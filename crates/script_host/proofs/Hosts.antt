@@ -29,7 +29,7 @@ use Rattle.script_host.specs.declared.words.Line.{Line}
 use Rattle.script_host.specs.declared.words.Line.TheVariants as line
 use Rattle.script_host.specs.Outside.{Input}
 use Rattle.script_host.specs.Words.{line_status}
-use Rattle.script_host.specs.Host.{IsStatus, Handed, Ran, setting_of, Causes, Gave, HasTooManyAddons, GaveRefused}
+use Rattle.script_host.specs.Host.{IsStatus, Handed, HasRun, setting_of, Causes, Gave, HasTooManyAddons, GaveRefused}
 use Rattle.script_host.proofs.Loading.{length-told, length-told-le}
 
 -- the lists of a run with few addons are within their limits
@@ -60,7 +60,7 @@ pub ran-of : (script : Script) (texts : ℕ) (handed after : Handed) (left : Rec
     → IsEnded (setting_with (told_plans script.addons handed.plans) texts) left.journal left.history (record { registers = after.registers; seen = after.seen }) handed.seen
     → after.plans ≡ told_plans script.addons handed.plans ++ drop (length script.addons) handed.plans
     → drop (length script.addons) after.registers ≡ drop (length script.addons) handed.registers
-    → Ran script handed left after
+    → HasRun script handed left after
 ran-of script texts handed after left counted enough ended loaded others =
     let states : AddonStates = record { registers = after.registers; seen = after.seen } in
     let E : ℕ → Type 0 = λ n. IsEnded (setting_with (told_plans script.addons handed.plans) n) left.journal left.history states handed.seen in

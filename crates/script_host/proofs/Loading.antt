@@ -14,7 +14,7 @@ use Rattle.napi_types.specs.runs.Setting.{Setting}
 use Rattle.env_core.specs.Core.{Core, opened_core}
 use Rattle.addon_trait.specs.Addons.{loaded_at}
 use Rattle.env_loop.specs.Recording.{AddonStates, IsRecorded, IsEnded, IsOf}
-use Rattle.env_loop.specs.Runs.{Run, opened_run, GoesOn}
+use Rattle.env_loop.specs.RecordedRuns.{Run, opened_run, RunGoesOn}
 use Rattle.env_loop.proofs.Recordings.{opened-recorded, gone_change-ended}
 use Rattle.script_host.specs.Loading.{told_plans, setting_with}
 
@@ -112,7 +112,7 @@ pub whole-ended : (given : List AddonPlan) (handed loaded : List Plan) (texts co
     → core ≡ opened_core count texts most_entries → start ≡ opened_run core
     → loaded ≡ told_plans given handed ++ drop (length given) handed
     → ((addon : ℕ) → addon < length given → registers_of all.registers addon ≡ blank_registers) → all.seen ≡ firsts
-    → GoesOn loaded start all ran now → ran.core.env.phase ≡ phase.Gone → journal ≡ ran.core.journal → left ≡ ran.history
+    → RunGoesOn loaded start all ran now → ran.core.env.phase ≡ phase.Gone → journal ≡ ran.core.journal → left ≡ ran.history
     → IsEnded (setting_with (told_plans given handed) texts) journal left now firsts
 whole-ended given handed loaded texts count core start ran journal left all now firsts enough counted opens starts plans blank same_seen goes gone_there lists history =
     let told : List Plan = told_plans given handed in
@@ -120,8 +120,8 @@ whole-ended given handed loaded texts count core start ran journal left all now 
     let as_many : length told ≡ length given = length-told given handed enough in
     let same : count ≡ length told = counted ∙ sym as_many in
     let opened : core ≡ opened_core (length told) texts most_entries = opens ∙ ap (λ n. opened_core n texts most_entries) same in
-    let R : Run → Type 0 = λ r. GoesOn loaded r all ran now in
-    let from_core : GoesOn loaded (opened_run core) all ran now = subst R starts goes in
+    let R : Run → Type 0 = λ r. RunGoesOn loaded r all ran now in
+    let from_core : RunGoesOn loaded (opened_run core) all ran now = subst R starts goes in
     let C : Core → Type 0 = λ c. IsRecorded s c (quiet_hub Before) [] all all.seen in
     let recorded : IsRecorded s core (quiet_hub Before) [] all all.seen = subst C (sym opened) (opened-recorded s all refl refl (λ addon below. blank addon (omega (arith, as_many, below)))) in
     let of : IsOf s loaded core = record {

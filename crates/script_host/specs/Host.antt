@@ -78,7 +78,7 @@ abbrev pub handed_in : {A : Type 0} → (A → Plan) → (A → List ℕ) → (A
 handed_in plan registers seen addons = record { plans = map plan addons; registers = map registers addons; seen = map seen addons }
 
 -- the script's addons were loaded and run, and the others handed in are as they were
-pub record Ran (script : Script) (handed : Handed) (left : Record) (after : Handed) : Type 0 where
+pub record HasRun (script : Script) (handed : Handed) (left : Record) (after : Handed) : Type 0 where
   pub enough : length script.addons ≤ length handed.plans
   pub run : IsRunOf script handed.plans left after.registers handed.seen after.seen
   pub loaded : after.plans ≡ told_plans script.addons handed.plans ++ drop (length script.addons) handed.plans

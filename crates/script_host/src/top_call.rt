@@ -1,7 +1,7 @@
 //! The top call.
 ghost use Rattle.std.specs.Prelude.{◌≡◌, ◌≢◌, ◌≤◌, ◌<◌, ◌^◌, ℕ, ◌↔◌, ◌==◌, List, length, true, false, IfOk, OnOk, OnErr, IfErr, ◌⊎◌};
 ghost use Rattle.napi_types.specs.plain.Edge.{HasRisen};
-ghost use Rattle.script_host.specs.Host.{handed_in, Ran, IsSmall, trace_of, WroteTrace, is_whole, IsStatus, IsRunStatus};
+ghost use Rattle.script_host.specs.Host.{handed_in, HasRun, IsSmall, trace_of, WroteTrace, is_whole, IsStatus, IsRunStatus};
 ghost use Rattle.script_host.specs.Host.{GaveScript, GaveRefused, GaveTooMuch, Causes, WroteLine, IsRead, IsTooLong, IsRefused, IsRunnable};
 ghost use Rattle.script_host.specs.Outside.{input_of, output_of};
 ghost use Rattle.script_host.specs.Reading.{GaveFront};
@@ -97,7 +97,7 @@ fn perform<K: Sink>(
     requires { IsSmall script }
     ensures ran { let before = handed_in (λ b. plan b) (λ b. regs b) (λ b. seen b) addons.old.items in
         let after = handed_in (λ b. plan b) (λ b. regs b) (λ b. seen b) addons.new.items in
-        OnOk result (Ran script before left.new after) }
+        OnOk result (HasRun script before left.new after) }
     ensures wrote { let output = output_of K.taken K.faults sink.old sink.new in
         OnOk result (WroteTrace (is_whole result) output (trace_of script left.new)) }
     ensures counted { result ≡ Ok Written.Whole → K.faults sink.new ≡ K.faults sink.old }
@@ -144,7 +144,7 @@ fn attempt<S: Source, K: Sink>(
         let before = handed_in (λ b. plan b) (λ b. regs b) (λ b. seen b) addons.old.items in
         let after = handed_in (λ b. plan b) (λ b. regs b) (λ b. seen b) addons.new.items in
         OnOk result ((script : Script) × GaveScript input script
-        × Ran script before left.new after × WroteTrace (is_whole result) output (trace_of script left.new)) }
+        × HasRun script before left.new after × WroteTrace (is_whole result) output (trace_of script left.new)) }
     ensures err { let input = input_of S.left S.faults source.old source.new in
         IfErr result (λ line. Causes line words.now input (length addons.old.items)) }
     ensures sink { OnErr result (K.taken sink.new ≡ K.taken sink.old) }
@@ -193,7 +193,7 @@ pub fn host<R: Threads + Wait + Sync, S: Source, K: Sink, G: Gate>(
         let before = handed_in (λ b. plan b) (λ b. regs b) (λ b. seen b) addons.old.items in
         let after = handed_in (λ b. plan b) (λ b. regs b) (λ b. seen b) addons.new.items in
         IsRunStatus result → (script : Script) × GaveScript input script
-        × Ran script before left.new after × WroteTrace (result == 0) output (trace_of script left.new) }
+        × HasRun script before left.new after × WroteTrace (result == 0) output (trace_of script left.new) }
 
     // At every other status a line has its cause, and stands in place of the trace.
     ensures refused { let input = input_of S.left S.faults source.old source.new in

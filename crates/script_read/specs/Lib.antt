@@ -1,3 +1,3 @@
-pub mod Lists
+pub mod ReadLists
 pub mod Reads
 pub mod Table

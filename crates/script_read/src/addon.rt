@@ -6,8 +6,8 @@ ghost use Rattle.napi_types.specs.scripts.ScriptReading.{read_with, each};
 ghost use Rattle.script_read.specs.Reads.{ReadsAs};
 
 use crate::entry::entry_at;
-use crate::json::{Stop, has_members, list_at};
-use crate::texts::Table;
+use crate::json::{ReadingStop, has_members, list_at};
+use crate::texts::TextTable;
 use napi_types::{AddonPlan, LimitName, Listed, OpLists, Place, Plans, Wrong};
 use serde_json::Value;
 use std::alloc::Global;
@@ -20,16 +20,16 @@ fn each_entry(
     alloc: Global,
     entries: u32,
     a: usize,
-    table: &mut Table,
+    table: &mut TextTable,
     items: &[Value],
-) -> Result<OpLists, Stop>
+) -> Result<OpLists, ReadingStop>
     ensures { ReadsAs (read_with table.new) result (each (entry_at entries a) 0 table.old (items_view items.now)) }
 {
     let mut list = Vec::new(alloc);
     for (e, item) in items.iter().enumerate() {
         let entry = entry_at(alloc, entries, a, e, table, item)?;
         let Ok(()) = list.push(entry) else {
-            return Err(Stop::NoMemory);
+            return Err(ReadingStop::NoMemory);
         };
     }
     Ok(Listed::of(list))
@@ -44,15 +44,15 @@ fn is_addon(value: &Value) -> bool
 }
 
 /// An addon: its name, which is a text, and its entries.
-#[tactic(auto, using(crate::proofs::Lists::items_len_of), unfolding(napi_types::specs::scripts::ScriptAddons::addon_at))]
-fn addon_at(alloc: Global, a: usize, table: &mut Table, value: &Value) -> Result<AddonPlan, Stop>
+#[tactic(auto, using(crate::proofs::ReadLists::items_len_of), unfolding(napi_types::specs::scripts::ScriptAddons::addon_at))]
+fn addon_at(alloc: Global, a: usize, table: &mut TextTable, value: &Value) -> Result<AddonPlan, ReadingStop>
     ensures { ReadsAs (read_with table.new) result (addon_at a table.old (view value.now)) }
 {
     if !is_addon(value) {
-        return Err(Stop::Wrong(Wrong::Shape(Place::Addon(a))));
+        return Err(ReadingStop::Wrong(Wrong::Shape(Place::Addon(a))));
     }
     if value.get("name").and_then(Value::as_str).is_none() {
-        return Err(Stop::Wrong(Wrong::Shape(Place::Name(a))));
+        return Err(ReadingStop::Wrong(Wrong::Shape(Place::Name(a))));
     }
     let place = Place::Entries(a);
     let items = list_at(
@@ -66,14 +66,14 @@ fn addon_at(alloc: Global, a: usize, table: &mut Table, value: &Value) -> Result
 }
 
 /// The addons that items are.
-pub(crate) fn each_addon(alloc: Global, table: &mut Table, items: &[Value]) -> Result<Plans, Stop>
+pub(crate) fn each_addon(alloc: Global, table: &mut TextTable, items: &[Value]) -> Result<Plans, ReadingStop>
     ensures { ReadsAs (read_with table.new) result (each addon_at 0 table.old (items_view items.now)) }
 {
     let mut list = Vec::new(alloc);
     for (a, item) in items.iter().enumerate() {
         let addon = addon_at(alloc, a, table, item)?;
         let Ok(()) = list.push(addon) else {
-            return Err(Stop::NoMemory);
+            return Err(ReadingStop::NoMemory);
         };
     }
     Ok(Listed::of(list))

@@ -4,9 +4,9 @@ ghost use Rattle.napi_types.specs.scripts.ScriptAddons.{operation_at, entry_at};
 ghost use Rattle.napi_types.specs.scripts.ScriptReading.{read_with, each};
 ghost use Rattle.script_read.specs.Reads.{ReadsAs};
 
-use crate::json::{Stop, list_at};
+use crate::json::{ReadingStop, list_at};
 use crate::operation::operation_in;
-use crate::texts::Table;
+use crate::texts::TextTable;
 use napi_types::{LimitName, Listed, NoMemory, Op, OpList, Place, Wrong};
 use serde_json::Value;
 use std::alloc::Global;
@@ -22,15 +22,15 @@ fn operation_at(
     a: usize,
     e: usize,
     o: usize,
-    table: &mut Table,
+    table: &mut TextTable,
     value: &Value,
-) -> Result<Op, Stop>
+) -> Result<Op, ReadingStop>
     ensures { ReadsAs (read_with table.new) result (operation_at entries a e o table.old (view value.now)) }
 {
     match operation_in(alloc, entries, table, value) {
         Ok(Some(operation)) => Ok(operation),
-        Ok(None) => Err(Stop::Wrong(Wrong::Shape(Place::Operation(a, e, o)))),
-        Err(NoMemory) => Err(Stop::NoMemory),
+        Ok(None) => Err(ReadingStop::Wrong(Wrong::Shape(Place::Operation(a, e, o)))),
+        Err(NoMemory) => Err(ReadingStop::NoMemory),
     }
 }
 
@@ -40,16 +40,16 @@ fn each_operation(
     entries: u32,
     a: usize,
     e: usize,
-    table: &mut Table,
+    table: &mut TextTable,
     items: &[Value],
-) -> Result<OpList, Stop>
+) -> Result<OpList, ReadingStop>
     ensures { ReadsAs (read_with table.new) result (each (operation_at entries a e) 0 table.old (items_view items.now)) }
 {
     let mut list = Vec::new(alloc);
     for (o, item) in items.iter().enumerate() {
         let operation = operation_at(alloc, entries, a, e, o, table, item)?;
         let Ok(()) = list.push(operation) else {
-            return Err(Stop::NoMemory);
+            return Err(ReadingStop::NoMemory);
         };
     }
     Ok(Listed::of(list))
@@ -62,9 +62,9 @@ pub(crate) fn entry_at(
     entries: u32,
     a: usize,
     e: usize,
-    table: &mut Table,
+    table: &mut TextTable,
     value: &Value,
-) -> Result<OpList, Stop>
+) -> Result<OpList, ReadingStop>
     ensures { ReadsAs (read_with table.new) result (entry_at entries a e table.old (view value.now)) }
 {
     let place = Place::Entry(a, e);

@@ -12,7 +12,7 @@ use std::alloc::Global;
 
 /// Why reading stops before there is a script.
 #[derive(Clone, Copy)]
-pub(crate) enum Stop {
+pub(crate) enum ReadingStop {
     /// The bytes are no JSON text.
     NotJson,
     /// This is the first thing that is wrong with the value.
@@ -22,17 +22,17 @@ pub(crate) enum Stop {
 }
 
 /// The value of a JSON text.
-pub(crate) fn json_of(alloc: Global, bytes: &[u8]) -> Result<Value, Stop>
+pub(crate) fn json_of(alloc: Global, bytes: &[u8]) -> Result<Value, ReadingStop>
     ensures ok { IfOk result (λ value. IsJson bytes.now (view value)) }
-    ensures not_json { result ≡ Err Stop.NotJson → IsNoJson bytes.now }
-    ensures right { (w : Wrong) → ¬ (result ≡ Err (Stop.Wrong w)) }
+    ensures not_json { result ≡ Err ReadingStop.NotJson → IsNoJson bytes.now }
+    ensures right { (w : Wrong) → ¬ (result ≡ Err (ReadingStop.Wrong w)) }
 {
     match Value::from_slice(alloc, bytes) {
         Ok(value) => Ok(value),
         Err(error) => Err(if error.is_memory() {
-            Stop::NoMemory
+            ReadingStop::NoMemory
         } else {
-            Stop::NotJson
+            ReadingStop::NotJson
         }),
     }
 }
@@ -48,28 +48,28 @@ fn items(value: &Value) -> Option<&[Value]>
 }
 
 /// The items of an array with at most so many.
-#[tactic(auto, using(crate::proofs::Lists::items_len_of), unfolding(napi_types::specs::scripts::ScriptReading::list_at))]
+#[tactic(auto, using(crate::proofs::ReadLists::items_len_of), unfolding(napi_types::specs::scripts::ScriptReading::list_at))]
 pub(crate) fn list_at<'v>(
     place: Place,
     which: LimitName,
     most: usize,
     found: Option<&'v Value>,
-) -> Result<&'v [Value], Stop>
+) -> Result<&'v [Value], ReadingStop>
     ensures reads { ReadsAs (λ items. items_view items.now) result (list_at place which most (option_map (λ v. view v.now) found.entry)) }
     ensures few { IfOk result (λ items. length items.now ≤ most) }
 {
     let Some(items) = found.and_then(items) else {
-        return Err(Stop::Wrong(Wrong::Shape(place)));
+        return Err(ReadingStop::Wrong(Wrong::Shape(place)));
     };
     if items.len() <= most {
         Ok(items)
     } else {
-        Err(Stop::Wrong(Wrong::Limit(which)))
+        Err(ReadingStop::Wrong(Wrong::Limit(which)))
     }
 }
 
 /// Whether a value is an object with so many members.
-#[tactic(auto, using(crate::proofs::Lists::members_len_of), unfolding(napi_types::specs::scripts::ScriptAddons::has_members))]
+#[tactic(auto, using(crate::proofs::ReadLists::members_len_of), unfolding(napi_types::specs::scripts::ScriptAddons::has_members))]
 pub(crate) fn has_members(value: &Value, count: usize) -> bool
     ensures { result ≡ has_members count (view value.now) }
 {

@@ -21,7 +21,7 @@ mod schedule;
 mod texts;
 mod threads;
 
-use json::{Stop, json_of};
+use json::{ReadingStop, json_of};
 pub use napi_types::{LimitName, Script};
 use napi_types::{NoMemory, Place, Text, Wrong};
 use root::script;
@@ -43,28 +43,28 @@ pub enum Refusal {
 }
 
 /// The script that bytes are, or why reading them stopped.
-fn read(alloc: Global, bytes: &[u8]) -> Result<Script, Stop>
+fn read(alloc: Global, bytes: &[u8]) -> Result<Script, ReadingStop>
     ensures ok { IfOk result (λ found. IsScript bytes.now found) }
-    ensures json { result ≡ Err Stop.NotJson → IsNoJson bytes.now }
-    ensures wrong { (w : Wrong) → result ≡ Err (Stop.Wrong w) → IsWrong bytes.now w }
+    ensures json { result ≡ Err ReadingStop.NotJson → IsNoJson bytes.now }
+    ensures wrong { (w : Wrong) → result ≡ Err (ReadingStop.Wrong w) → IsWrong bytes.now w }
 {
     let value = json_of(alloc, bytes)?;
     script(alloc, &value)
 }
 
 /// The refusal that tells why reading stopped.
-fn told(alloc: Global, stop: Stop) -> Refusal
-    ensures json { result ≡ Refusal.NotJson → stop ≡ Stop.NotJson }
-    ensures shape { (text : List ℕ) → result ≡ Refusal.Shape text → (p : Place) × (text ≡ path_of p) × (stop ≡ Stop.Wrong (wrong.Shape p)) }
-    ensures limit { (which : LimitName) → result ≡ Refusal.Limit which → stop ≡ Stop.Wrong (wrong.Limit which) }
-    ensures stage { result ≡ Refusal.Stage → stop ≡ Stop.Wrong wrong.Stage }
+fn told(alloc: Global, stop: ReadingStop) -> Refusal
+    ensures json { result ≡ Refusal.NotJson → stop ≡ ReadingStop.NotJson }
+    ensures shape { (text : List ℕ) → result ≡ Refusal.Shape text → (p : Place) × (text ≡ path_of p) × (stop ≡ ReadingStop.Wrong (wrong.Shape p)) }
+    ensures limit { (which : LimitName) → result ≡ Refusal.Limit which → stop ≡ ReadingStop.Wrong (wrong.Limit which) }
+    ensures stage { result ≡ Refusal.Stage → stop ≡ ReadingStop.Wrong wrong.Stage }
 {
     match stop {
-        Stop::NotJson => Refusal::NotJson,
-        Stop::NoMemory => Refusal::NoMemory,
-        Stop::Wrong(Wrong::Stage) => Refusal::Stage,
-        Stop::Wrong(Wrong::Limit(which)) => Refusal::Limit { which },
-        Stop::Wrong(Wrong::Shape(place)) => match place.path(alloc) {
+        ReadingStop::NotJson => Refusal::NotJson,
+        ReadingStop::NoMemory => Refusal::NoMemory,
+        ReadingStop::Wrong(Wrong::Stage) => Refusal::Stage,
+        ReadingStop::Wrong(Wrong::Limit(which)) => Refusal::Limit { which },
+        ReadingStop::Wrong(Wrong::Shape(place)) => match place.path(alloc) {
             Ok(path) => Refusal::Shape { path },
             Err(NoMemory) => Refusal::NoMemory,
         },

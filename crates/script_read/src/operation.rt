@@ -6,7 +6,7 @@ ghost use Rattle.napi_types.specs.scripts.ScriptOperations.{numbered, with_strin
 use crate::arguments::{register, text, text_or_none};
 use crate::forms::plain_operation;
 use crate::named::kind_named;
-use crate::texts::Table;
+use crate::texts::TextTable;
 use napi_types::{NoMemory, Op, TextNo};
 use serde_json::Value;
 use std::alloc::Global;
@@ -15,7 +15,7 @@ use std::alloc::Global;
 #[tactic(auto, unfolding(napi_types::specs::scripts::ScriptOperations::with_string))]
 fn with_string(
     alloc: Global,
-    table: &mut Table,
+    table: &mut TextTable,
     a: &Value,
     b: &Value,
 ) -> Result<Option<Op>, NoMemory>
@@ -48,7 +48,7 @@ fn with_property(kind: Op, x: u8, y: TextNo, z: u8) -> Option<Op>
 #[tactic(auto, unfolding(napi_types::specs::scripts::ScriptOperations::with_name))]
 fn with_name(
     alloc: Global,
-    table: &mut Table,
+    table: &mut TextTable,
     kind: Op,
     a: &Value,
     b: &Value,
@@ -77,7 +77,7 @@ fn with_name(
 #[tactic(auto, unfolding(napi_types::specs::scripts::ScriptOperations::thrown_with, napi_types::specs::scripts::ScriptOperations::thrown))]
 fn thrown_with(
     alloc: Global,
-    table: &mut Table,
+    table: &mut TextTable,
     code: Option<&str>,
     message: &str,
 ) -> Result<Op, NoMemory>
@@ -96,7 +96,7 @@ fn thrown_with(
 #[tactic(auto, unfolding(napi_types::specs::scripts::ScriptOperations::with_error_texts))]
 fn with_error_texts(
     alloc: Global,
-    table: &mut Table,
+    table: &mut TextTable,
     a: &Value,
     b: &Value,
 ) -> Result<Option<Op>, NoMemory>
@@ -115,7 +115,7 @@ fn with_error_texts(
 #[tactic(auto, unfolding(napi_types::specs::scripts::ScriptOperations::with_texts))]
 fn with_texts(
     alloc: Global,
-    table: &mut Table,
+    table: &mut TextTable,
     kind: Op,
     a: &Value,
     b: &Value,
@@ -133,7 +133,7 @@ fn with_texts(
 #[tactic(auto, unfolding(napi_types::specs::scripts::ScriptOperations::text_operation))]
 fn text_operation(
     alloc: Global,
-    table: &mut Table,
+    table: &mut TextTable,
     kind: Op,
     args: &[Value],
 ) -> Result<Option<Op>, NoMemory>
@@ -151,7 +151,7 @@ fn text_operation(
 fn operation_of(
     alloc: Global,
     entries: u32,
-    table: &mut Table,
+    table: &mut TextTable,
     kind: Op,
     args: &[Value],
 ) -> Result<Option<Op>, NoMemory>
@@ -168,7 +168,7 @@ fn operation_of(
 fn operation_named(
     alloc: Global,
     entries: u32,
-    table: &mut Table,
+    table: &mut TextTable,
     name: &str,
     args: &[Value],
 ) -> Result<Option<Op>, NoMemory>
@@ -185,7 +185,7 @@ fn operation_named(
 pub(crate) fn operation_in(
     alloc: Global,
     entries: u32,
-    table: &mut Table,
+    table: &mut TextTable,
     value: &Value,
 ) -> Result<Option<Op>, NoMemory>
     ensures found { IfOk result (λ found. option_map (numbered table.new) found ≡ operation_in entries table.old (view value.now)) }

@@ -10,9 +10,9 @@ ghost use Rattle.script_read.specs.Reads.{Reads, ReadsAs};
 
 use crate::addon::each_addon;
 use crate::arguments::whole;
-use crate::json::{Stop, has_members, list_at};
+use crate::json::{ReadingStop, has_members, list_at};
 use crate::schedule::schedule_in;
-use crate::texts::Table;
+use crate::texts::TextTable;
 use crate::threads::each_thread;
 use napi_types::{
     AddonPlan, LimitName, NAPI_VERSION, NoMemory, OpList, OpLists, Place, Plans, Script, Wrong,
@@ -49,45 +49,45 @@ fn is_root(value: &Value) -> bool
 
 /// The version of Node-API.
 #[tactic(auto, unfolding(napi_types::specs::scripts::Script::version_in))]
-fn version_in(found: Option<&Value>) -> Result<(), Stop>
+fn version_in(found: Option<&Value>) -> Result<(), ReadingStop>
     ensures { Reads result (version_in (option_map (λ v. view v.now) found.entry)) }
 {
     match found.and_then(whole) {
         Some(version) if version == u64::from(NAPI_VERSION) => Ok(()),
-        _ => Err(Stop::Wrong(Wrong::Shape(Place::Version))),
+        _ => Err(ReadingStop::Wrong(Wrong::Shape(Place::Version))),
     }
 }
 
 /// The number of workers.
 #[tactic(auto, unfolding(napi_types::specs::scripts::Script::workers_in))]
-fn workers_in(found: Option<&Value>) -> Result<u32, Stop>
+fn workers_in(found: Option<&Value>) -> Result<u32, ReadingStop>
     ensures { Reads result (workers_in (option_map (λ v. view v.now) found.entry)) }
 {
     let Some(number) = found.and_then(whole) else {
-        return Err(Stop::Wrong(Wrong::Shape(Place::Workers)));
+        return Err(ReadingStop::Wrong(Wrong::Shape(Place::Workers)));
     };
     if number <= MOST_WORKERS {
         Ok(number as u32)
     } else {
-        Err(Stop::Wrong(Wrong::Limit(LimitName::Workers)))
+        Err(ReadingStop::Wrong(Wrong::Limit(LimitName::Workers)))
     }
 }
 
 /// The table of the texts that stand in every one.
-fn first_texts(alloc: Global) -> Result<Table, Stop>
+fn first_texts(alloc: Global) -> Result<TextTable, ReadingStop>
     ensures ok { IfOk result (λ table. table ≡ fixed_texts) }
-    ensures right { (w : Wrong) → ¬ (result ≡ Err (Stop.Wrong w)) }
-    ensures json { ¬ (result ≡ Err Stop.NotJson) }
+    ensures right { (w : Wrong) → ¬ (result ≡ Err (ReadingStop.Wrong w)) }
+    ensures json { ¬ (result ≡ Err ReadingStop.NotJson) }
 {
-    match Table::fixed(alloc) {
+    match TextTable::fixed(alloc) {
         Ok(table) => Ok(table),
-        Err(NoMemory) => Err(Stop::NoMemory),
+        Err(NoMemory) => Err(ReadingStop::NoMemory),
     }
 }
 
 /// The addons, with the table of their texts.
 #[tactic(auto, unfolding(napi_types::specs::scripts::Script::addons_in))]
-fn addons_in(alloc: Global, found: Option<&Value>) -> Result<(Plans, Table), Stop>
+fn addons_in(alloc: Global, found: Option<&Value>) -> Result<(Plans, TextTable), ReadingStop>
     ensures { ReadsAs (λ p. read_with p.1 p.0) result (addons_in (option_map (λ v. view v.now) found.entry)) }
 {
     let items = list_at(Place::Addons, LimitName::Addons, MOST_ADDONS, found)?;
@@ -98,7 +98,7 @@ fn addons_in(alloc: Global, found: Option<&Value>) -> Result<(Plans, Table), Sto
 
 /// The threads.
 #[tactic(auto, unfolding(napi_types::specs::scripts::Script::threads_in))]
-fn threads_in(alloc: Global, found: Option<&Value>) -> Result<OpLists, Stop>
+fn threads_in(alloc: Global, found: Option<&Value>) -> Result<OpLists, ReadingStop>
     ensures { Reads result (threads_in (option_map (λ v. view v.now) found.entry)) }
 {
     let items = list_at(Place::Threads, LimitName::Threads, MOST_THREADS, found)?;
@@ -107,11 +107,11 @@ fn threads_in(alloc: Global, found: Option<&Value>) -> Result<OpLists, Stop>
 
 /// The script that a value is, whether or not all of it is built.
 #[tactic(auto, unfolding(napi_types::specs::scripts::Script::script_in))]
-fn script_in(alloc: Global, value: &Value) -> Result<Script, Stop>
+fn script_in(alloc: Global, value: &Value) -> Result<Script, ReadingStop>
     ensures { Reads result (script_in (view value.now)) }
 {
     if !is_root(value) {
-        return Err(Stop::Wrong(Wrong::Shape(Place::Root)));
+        return Err(ReadingStop::Wrong(Wrong::Shape(Place::Root)));
     }
     version_in(value.get("version"))?;
     let workers = workers_in(value.get("workers"))?;
@@ -172,13 +172,13 @@ fn is_built_script(script: &Script) -> bool
 
 /// The script that a value is, where all of it is built.
 #[tactic(auto, unfolding(napi_types::specs::scripts::Script::script))]
-pub(crate) fn script(alloc: Global, value: &Value) -> Result<Script, Stop>
+pub(crate) fn script(alloc: Global, value: &Value) -> Result<Script, ReadingStop>
     ensures { Reads result (script (view value.now)) }
 {
     let read = script_in(alloc, value)?;
     if is_built_script(&read) {
         Ok(read)
     } else {
-        Err(Stop::Wrong(Wrong::Stage))
+        Err(ReadingStop::Wrong(Wrong::Stage))
     }
 }

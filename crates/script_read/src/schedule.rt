@@ -7,7 +7,7 @@ ghost use Rattle.napi_types.specs.scripts.ScriptThreads.{word_at, schedule_in};
 ghost use Rattle.script_read.specs.Reads.{Reads};
 
 use crate::arguments::text;
-use crate::json::{Stop, list_at};
+use crate::json::{ReadingStop, list_at};
 use napi_types::{Actor, Actors, LimitName, Listed, Place, Wrong};
 use serde_json::Value;
 use std::alloc::Global;
@@ -100,24 +100,24 @@ fn actor_in(threads: usize, workers: usize, value: &Value) -> Option<Actor>
 
 /// A word of the schedule.
 #[tactic(auto, unfolding(napi_types::specs::scripts::ScriptThreads::word_at))]
-fn word_at(threads: usize, workers: usize, s: usize, value: &Value) -> Result<Actor, Stop>
+fn word_at(threads: usize, workers: usize, s: usize, value: &Value) -> Result<Actor, ReadingStop>
     ensures { Reads result (word_at threads workers s (view value.now)) }
 {
     match actor_in(threads, workers, value) {
         Some(actor) => Ok(actor),
-        None => Err(Stop::Wrong(Wrong::Shape(Place::Word(s)))),
+        None => Err(ReadingStop::Wrong(Wrong::Shape(Place::Word(s)))),
     }
 }
 
 /// The words that items are.
-fn each_word(alloc: Global, threads: usize, workers: usize, items: &[Value]) -> Result<Actors, Stop>
+fn each_word(alloc: Global, threads: usize, workers: usize, items: &[Value]) -> Result<Actors, ReadingStop>
     ensures { Reads result (every (word_at threads workers) 0 (items_view items.now)) }
 {
     let mut list = Vec::new(alloc);
     for (s, item) in items.iter().enumerate() {
         let word = word_at(threads, workers, s, item)?;
         let Ok(()) = list.push(word) else {
-            return Err(Stop::NoMemory);
+            return Err(ReadingStop::NoMemory);
         };
     }
     Ok(Listed::of(list))
@@ -130,7 +130,7 @@ pub(crate) fn schedule_in(
     threads: usize,
     workers: usize,
     found: Option<&Value>,
-) -> Result<Option<Actors>, Stop>
+) -> Result<Option<Actors>, ReadingStop>
     ensures { Reads result (schedule_in threads workers (option_map (λ v. view v.now) found.entry)) }
 {
     let Some(value) = found else {

@@ -10,12 +10,12 @@ use std::marker::Model;
 
 /// The texts in the order of their first places, and the number of each by its bytes.
 #[derive(Drop)]
-pub(crate) struct Table {
+pub(crate) struct TextTable {
     texts: Vec<Text>,
     numbers: BTreeMap<String, u32>,
 }
 
-impl Model for Table {
+impl Model for TextTable {
     ghost use Rattle.std.specs.Prelude.{List, ℕ};
     ghost use Rattle.std.specs.BTreeMap.{get_by_text};
     ghost use Rattle.script_read.specs.Table.{IsTable};
@@ -57,9 +57,9 @@ fn put(
     Ok(())
 }
 
-impl Table {
+impl TextTable {
     /// The table of the texts that stand in every one.
-    pub(crate) fn fixed(alloc: Global) -> Result<Table, NoMemory>
+    pub(crate) fn fixed(alloc: Global) -> Result<TextTable, NoMemory>
         ensures { IfOk result (λ table. table ≡ fixed_texts) }
     {
         let mut texts = Vec::new(alloc);
@@ -67,7 +67,7 @@ impl Table {
         put(alloc, &mut texts, &mut numbers, "message")?;
         put(alloc, &mut texts, &mut numbers, "code")?;
         put(alloc, &mut texts, &mut numbers, "stack depth")?;
-        Ok(Table { texts, numbers })
+        Ok(TextTable { texts, numbers })
     }
 
     /// The number of a text: its place, and where it does not stand in the table yet the place that it would get.
@@ -109,7 +109,7 @@ impl Table {
     pub(crate) fn into_texts(self) -> Texts
         ensures { result ≡ self }
     {
-        let Table { texts, numbers: _ } = self;
+        let TextTable { texts, numbers: _ } = self;
         Texts::of(texts)
     }
 }

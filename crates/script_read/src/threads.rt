@@ -7,7 +7,7 @@ ghost use Rattle.napi_types.specs.scripts.ScriptThreads.{thread_operation_at, th
 ghost use Rattle.script_read.specs.Reads.{Reads};
 
 use crate::arguments::{mode, release, whole};
-use crate::json::{Stop, list_at};
+use crate::json::{ReadingStop, list_at};
 use crate::named::named;
 use napi_types::{LimitName, Listed, Op, OpList, OpLists, Place, Wrong};
 use serde_json::Value;
@@ -75,24 +75,24 @@ fn thread_operation(value: &Value) -> Option<Op>
 
 /// An operation of a thread.
 #[tactic(auto, unfolding(napi_types::specs::scripts::ScriptThreads::thread_operation_at))]
-fn thread_operation_at(t: usize, o: usize, value: &Value) -> Result<Op, Stop>
+fn thread_operation_at(t: usize, o: usize, value: &Value) -> Result<Op, ReadingStop>
     ensures { Reads result (thread_operation_at t o (view value.now)) }
 {
     match thread_operation(value) {
         Some(operation) => Ok(operation),
-        None => Err(Stop::Wrong(Wrong::Shape(Place::ThreadOperation(t, o)))),
+        None => Err(ReadingStop::Wrong(Wrong::Shape(Place::ThreadOperation(t, o)))),
     }
 }
 
 /// The operations that items are.
-fn each_operation(alloc: Global, t: usize, items: &[Value]) -> Result<OpList, Stop>
+fn each_operation(alloc: Global, t: usize, items: &[Value]) -> Result<OpList, ReadingStop>
     ensures { Reads result (every (thread_operation_at t) 0 (items_view items.now)) }
 {
     let mut list = Vec::new(alloc);
     for (o, item) in items.iter().enumerate() {
         let operation = thread_operation_at(t, o, item)?;
         let Ok(()) = list.push(operation) else {
-            return Err(Stop::NoMemory);
+            return Err(ReadingStop::NoMemory);
         };
     }
     Ok(Listed::of(list))
@@ -100,7 +100,7 @@ fn each_operation(alloc: Global, t: usize, items: &[Value]) -> Result<OpList, St
 
 /// A thread.
 #[tactic(auto, unfolding(napi_types::specs::scripts::ScriptThreads::thread_at))]
-fn thread_at(alloc: Global, t: usize, value: &Value) -> Result<OpList, Stop>
+fn thread_at(alloc: Global, t: usize, value: &Value) -> Result<OpList, ReadingStop>
     ensures { Reads result (thread_at t (view value.now)) }
 {
     let place = Place::Thread(t);
@@ -109,14 +109,14 @@ fn thread_at(alloc: Global, t: usize, value: &Value) -> Result<OpList, Stop>
 }
 
 /// The threads that items are.
-pub(crate) fn each_thread(alloc: Global, items: &[Value]) -> Result<OpLists, Stop>
+pub(crate) fn each_thread(alloc: Global, items: &[Value]) -> Result<OpLists, ReadingStop>
     ensures { Reads result (every thread_at 0 (items_view items.now)) }
 {
     let mut list = Vec::new(alloc);
     for (t, item) in items.iter().enumerate() {
         let thread = thread_at(alloc, t, item)?;
         let Ok(()) = list.push(thread) else {
-            return Err(Stop::NoMemory);
+            return Err(ReadingStop::NoMemory);
         };
     }
     Ok(Listed::of(list))

@@ -1,7 +1,7 @@
-pub mod Callers
+pub mod CollectCallers
 pub mod Distinct
+pub mod MarkMembers
 pub mod Marking
-pub mod Members
 pub mod Reached
 pub mod Unmarked
 pub mod Unreached

@@ -8,10 +8,10 @@ use Rattle.napi_types.specs.declared.ids.ValueId.{ValueId}
 use Rattle.napi_types.specs.plain.Lists.{has_number, HaveSameNumbers}
 use Rattle.napi_types.specs.parts.Graph.{StoreState}
 use Rattle.napi_types.proofs.plain.Maps.{has-left, has-right}
-use Rattle.value_store.specs.Changes.{id_at, numbers_of}
+use Rattle.value_store.specs.StoreChanges.{id_at, numbers_of}
 use Rattle.value_store.proofs.Clearing.{numbers_of-more}
-use Rattle.value_store.proofs.Naming.{All-has, All-from_has}
-use Rattle.trace_collect.specs.Marks.{is_marked, IsMarked, Marks}
+use Rattle.value_store.proofs.NamedPlaces.{All-has, All-from_has}
+use Rattle.trace_collect.specs.MarkedValues.{is_marked, IsMarked, Marks}
 
 -- more marks keep what is marked
 pub marked-kept : (s : StoreState) (old new : List Bool) → ((place : ℕ) → is_marked old place ≡ true → is_marked new place ≡ true) → (id : ℕ) → IsMarked s old id → IsMarked s new id

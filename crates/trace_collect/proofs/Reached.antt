@@ -9,13 +9,13 @@ use Rattle.napi_types.specs.parts.Reach.{numbers, children_at}
 use Rattle.napi_types.specs.parts.Values.{Value, children, value_at}
 use Rattle.napi_types.proofs.plain.Maps.{has-left, has-right}
 use Rattle.napi_types.proofs.parts.Reaching.{reach-roots, reach-closed, reach-least}
-use Rattle.value_store.specs.Changes.{id_at, children_in, EachStandsOnce}
+use Rattle.value_store.specs.StoreChanges.{id_at, children_in, EachStandsOnce}
 use Rattle.value_store.proofs.LiveValues.{has-numbers, place-live, live-place, graph-live, live-graph, number-apart, graph-children}
-use Rattle.value_store.proofs.Reading.{some-is}
-use Rattle.value_store.proofs.Naming.{All-has}
+use Rattle.value_store.proofs.ReadingPlaces.{some-is}
+use Rattle.value_store.proofs.NamedPlaces.{All-has}
 use Rattle.trace_collect.specs.Collects.{reached}
-use Rattle.trace_collect.specs.Marks.{is_marked, IsMarked, AreMarked, Marks, IsMarking}
-use Rattle.trace_collect.proofs.Members.{has-cases, has-one, has-map, from-map}
+use Rattle.trace_collect.specs.MarkedValues.{is_marked, IsMarked, AreMarked, Marks, IsMarking}
+use Rattle.trace_collect.proofs.MarkMembers.{has-cases, has-one, has-map, from-map}
 use Rattle.trace_collect.proofs.Marking.{marked-kept}
 
 -- the children of a live value

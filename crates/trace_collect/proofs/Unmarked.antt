@@ -6,8 +6,8 @@ use Rattle.std.proofs.lemmas.List.{map-append}
 use Rattle.std.proofs.lemmas.List.Elements.{filter_map-append}
 use Rattle.napi_types.specs.declared.ids.ValueId.{ValueId}
 use Rattle.napi_types.specs.parts.Graph.{StoreState}
-use Rattle.value_store.specs.Changes.{id_at, numbers_of}
-use Rattle.trace_collect.specs.Marks.{is_marked, unmarked_ids}
+use Rattle.value_store.specs.StoreChanges.{id_at, numbers_of}
+use Rattle.trace_collect.specs.MarkedValues.{is_marked, unmarked_ids}
 
 range-more : (from many : ℕ) → range_with_len from (many + 1) ≡ range_with_len from many ++ (from + many) ∷ []
 range-more from zero = by from

@@ -14,14 +14,14 @@ use Rattle.napi_types.specs.parts.Reach.{numbers, children_at}
 use Rattle.napi_types.specs.parts.Values.{Value, children, those_of, all_but}
 use Rattle.napi_types.proofs.plain.Found.{turned}
 use Rattle.napi_types.proofs.parts.Reaching.{reach-roots, reach-closed, has_number-filter, numbers-filter}
-use Rattle.value_store.specs.Changes.{id_at, numbers_of, EachStandsOnce, CanFree}
+use Rattle.value_store.specs.StoreChanges.{id_at, numbers_of, EachStandsOnce, CanFree}
 use Rattle.value_store.proofs.LiveValues.{in-range, place-live, live-place, graph-live, live-graph, number-apart, number-value, graph-children, graph-distinct}
-use Rattle.value_store.proofs.Reading.{some-is}
-use Rattle.value_store.proofs.Naming.{All-from_has}
+use Rattle.value_store.proofs.ReadingPlaces.{some-is}
+use Rattle.value_store.proofs.NamedPlaces.{All-from_has}
 use Rattle.trace_collect.specs.Collects.{reached, HoldsStarting, IsUnreached, AreUnreached}
-use Rattle.trace_collect.specs.Marks.{is_marked, unmarked_ids, AreMarked}
+use Rattle.trace_collect.specs.MarkedValues.{is_marked, unmarked_ids, AreMarked}
 use Rattle.trace_collect.proofs.Distinct.{same-length, distinct-filter, distinct-map, distinct-range}
-use Rattle.trace_collect.proofs.Members.{has-map, from-map, has-filter_map, from-filter_map}
+use Rattle.trace_collect.proofs.MarkMembers.{has-map, from-map, has-filter_map, from-filter_map}
 use Rattle.trace_collect.proofs.Unmarked.{unmarked_at}
 
 -- a place with a value is one of the store's

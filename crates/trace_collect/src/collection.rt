@@ -5,7 +5,7 @@ ghost use Rattle.std.specs.List.Sorted.{IsStrictlyIncreasing};
 ghost use Rattle.napi_types.specs.plain.Lists.{has_number};
 ghost use Rattle.napi_types.specs.parts.Graph.{graph_of, number_in, IsLive};
 ghost use Rattle.napi_types.specs.parts.Values.{those_of, all_but};
-ghost use Rattle.value_store.specs.Changes.{numbers_of, Frees, CanFree};
+ghost use Rattle.value_store.specs.StoreChanges.{numbers_of, Frees, CanFree};
 ghost use Rattle.trace_collect.specs.Collects.{reached, HoldsStarting, AreUnreached};
 
 use crate::marks;

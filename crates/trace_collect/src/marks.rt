@@ -2,8 +2,8 @@
 ghost use Rattle.std.specs.Prelude.{◌≡◌, ◌+◌, ◌≤◌, ◌++◌, [], ◌∷◌, not, count_by, length, replicate, false, vec_capacity, IfOk, OnOk, option_to_list};
 ghost use Rattle.std.specs.List.{All};
 ghost use Rattle.napi_types.specs.parts.Graph.{IsLive, IsSoundStore};
-ghost use Rattle.value_store.specs.Changes.{children_in, numbers_of, EachStandsOnce};
-ghost use Rattle.trace_collect.specs.Marks.{unmarked_ids, AreMarked, Marks, Follows};
+ghost use Rattle.value_store.specs.StoreChanges.{children_in, numbers_of, EachStandsOnce};
+ghost use Rattle.trace_collect.specs.MarkedValues.{unmarked_ids, AreMarked, Marks, Follows};
 
 use napi_types::{NoMemory, ValueId};
 use std::alloc::Global;

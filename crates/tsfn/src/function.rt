@@ -67,7 +67,7 @@ impl Model for Tsfn {
 
     ghost Value = { FunctionState };
 
-    ghost use Rattle.tsfn.specs.Kept.{function_of, IsKept};
+    ghost use Rattle.tsfn.specs.KeptFunction.{function_of, IsKept};
 
     ghost view = { function_of };
 

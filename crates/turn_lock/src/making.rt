@@ -1,7 +1,7 @@
 //! Making a lock with its passes.
 ghost use Rattle.std.specs.Prelude.{◌≡◌, ◌<◌, ◌≤◌, ◌-◌, true, false, [], ◌∷◌, map, IfOk, OnOk};
 ghost use Rattle.std.specs.List.{range_with_len};
-ghost use Rattle.turn_lock.specs.Moves.{first_view, counted, new_view};
+ghost use Rattle.turn_lock.specs.PassMoves.{first_view, counted_view, new_view};
 ghost use Rattle.turn_lock.specs.Passes.{new_pass};
 
 use crate::pass::Pass;
@@ -96,7 +96,7 @@ fn another<S: Told>(
     requires first { (first.old.me.0.number ≡ 0) × (first.old.me.0.is_live ≡ true) × (first.old.me.0.holds ≡ false) }
     requires few { first.old.me.0.count < shared.now.key }
     ensures lock { (first.new.table_id ≡ first.old.table_id) × (result.table_id ≡ first.old.table_id) }
-    ensures first { first.new.me ≡ (counted first.old.me.0, first.old.me.1) }
+    ensures first { first.new.me ≡ (counted_view first.old.me.0, first.old.me.1) }
     ensures made { result.views ≡ new_view first.old.me.0.count ∷ [] }
 {
     shared.split_seat::<Makes>(first).into_badge()

@@ -8,7 +8,7 @@ use Rattle.napi_types.specs.declared.body.Body.{Body}
 use Rattle.napi_types.specs.plain.Lists.{has_number}
 use Rattle.napi_types.specs.parts.Graph.{StoreState, IsSoundStore, IsLive, value_of, creation_number}
 use Rattle.napi_types.specs.parts.Values.{Value, children}
-use Rattle.value_store.specs.Changes.{ChangesOnly, Makes, MakesValue, CanFree}
+use Rattle.value_store.specs.StoreChanges.{ChangesOnly, MakesFresh, MakesValue, CanFree}
 use Rattle.value_store.proofs.Lookup.{other-number}
 
 -- what is live stays so where one value changes
@@ -32,7 +32,7 @@ makes-live s t id v step n h = by (n == id) refl
     by false e = subst (λ (o : Option Value). IsSome o) (sym (step.others n (other-number n id e))) h
 
 -- a value that was just made may be freed again
-pub made-can-free : (s t : StoreState) (id : ℕ) (b : Body) → IsSoundStore s → 5 ≤ s.made → Makes s t id b → CanFree t (id ∷ [])
+pub made-can-free : (s t : StoreState) (id : ℕ) (b : Body) → IsSoundStore s → 5 ≤ s.made → MakesFresh s t id b → CanFree t (id ∷ [])
 unfolding IsDistinct
 made-can-free s t id b sound started step = record {
   live = All-cons (IsLive t) id [] (subst (λ (o : Option Value). IsSome o) (sym step.named) refl) (All-nil (IsLive t));

@@ -6,8 +6,8 @@ use Rattle.napi_types.specs.declared.ids.ValueId.{ValueId}
 use Rattle.napi_types.specs.plain.Lists.{has_number}
 use Rattle.napi_types.specs.parts.Values.{Value}
 use Rattle.napi_types.proofs.plain.Found.{turned}
-use Rattle.value_store.specs.Changes.{numbers_of}
-use Rattle.value_store.specs.Places.{at_number, IsCleared}
+use Rattle.value_store.specs.StoreChanges.{numbers_of}
+use Rattle.value_store.specs.ValuePlaces.{at_number, IsCleared}
 use Rattle.value_store.proofs.Lookup.{at_number-set, number-within}
 
 -- each number of the list has a place

@@ -14,7 +14,7 @@ use Rattle.napi_types.specs.parts.NewValues.{array_of}
 use Rattle.napi_types.specs.parts.Properties.{Property, element_at, element_set}
 use Rattle.napi_types.specs.parts.Values.{with_element}
 use Rattle.napi_types.proofs.plain.Found.{turned}
-use Rattle.value_store.specs.Properties.{property_of, listed_properties, listed_elements, element_of, numbers_in}
+use Rattle.value_store.specs.PropertyMaps.{property_of, listed_properties, listed_elements, element_of, numbers_in}
 use Rattle.value_store.proofs.Lookup.{other-number}
 
 -- each index is below the count

@@ -9,12 +9,12 @@ use Rattle.napi_types.specs.parts.Graph.{StoreState, IsLive, number_in, graph_of
 use Rattle.napi_types.specs.parts.NewValues.{error_of}
 use Rattle.napi_types.specs.parts.Properties.{HasDistinctNames}
 use Rattle.napi_types.specs.parts.Values.{Value, children}
-use Rattle.value_store.specs.Places.{state_of, at_number, IsNumbered}
-use Rattle.value_store.specs.Changes.{MakesValue}
-use Rattle.value_store.proofs.Calls.{pushed-numbered, pushed-makes}
+use Rattle.value_store.specs.ValuePlaces.{state_of, at_number, IsNumbered}
+use Rattle.value_store.specs.StoreChanges.{MakesValue}
+use Rattle.value_store.proofs.StoreCalls.{pushed-numbered, pushed-makes}
 use Rattle.value_store.proofs.GraphCalls.{number-view, many-view, pushed-graph}
-use Rattle.value_store.proofs.Names.{distinct-none}
-use Rattle.value_store.proofs.Reading.{live-there}
+use Rattle.value_store.proofs.PropertyNames.{distinct-none}
+use Rattle.value_store.proofs.ReadingPlaces.{live-there}
 
 -- the number in the store of a code, where there is one
 abbrev code_number : Option ValueId → Option ℕ

@@ -7,15 +7,15 @@ use Rattle.napi_types.specs.declared.body.Body.{Body}
 use Rattle.napi_types.specs.plain.Lists.{has_number}
 use Rattle.napi_types.specs.parts.Graph.{StoreState, value_of, number_in, renamed, graph_of}
 use Rattle.napi_types.specs.parts.Values.{Value, value_at, value_changed, fresh_value, with_property, without_property, with_element}
-use Rattle.value_store.specs.Changes.{CanFree}
-use Rattle.value_store.specs.Places.{state_of, at_number, changed_at, IsNumbered, IsCleared}
+use Rattle.value_store.specs.StoreChanges.{CanFree}
+use Rattle.value_store.specs.ValuePlaces.{state_of, at_number, changed_at, IsNumbered, IsCleared}
 use Rattle.value_store.proofs.Lookup.{value_of-state_of}
-use Rattle.value_store.proofs.Reading.{some-is}
-use Rattle.value_store.proofs.States.{IsGoodChange, changed-numbered}
-use Rattle.value_store.proofs.Calls.{good-property, good-element, good-removal, made-numbered, cleared-numbered}
-use Rattle.value_store.proofs.Graphs.{standing, number-is, graph-is, graph-at, renamed-at, standing-changed, standing-cleared, unchanged-none}
+use Rattle.value_store.proofs.ReadingPlaces.{some-is}
+use Rattle.value_store.proofs.StoreStates.{IsGoodChange, changed-numbered}
+use Rattle.value_store.proofs.StoreCalls.{good-property, good-element, good-removal, made-numbered, cleared-numbered}
+use Rattle.value_store.proofs.Graphs.{standing_values, number-is, graph-is, graph-at, renamed-at, standing-changed, standing-cleared, unchanged-none}
 
-set-is : (ps : List (Option Value)) (k : ℕ) (change : Value → Value) (v : Value) → IsNumbered (at_number ps) → at_number ps k ≡ Some v → standing (changed_at k change ps) ≡ value_changed k change (standing ps)
+set-is : (ps : List (Option Value)) (k : ℕ) (change : Value → Value) (v : Value) → IsNumbered (at_number ps) → at_number ps k ≡ Some v → standing_values (changed_at k change ps) ≡ value_changed k change (standing_values ps)
 set-is ps zero change v all is = let no : ⊥ = cc in absurd no
 set-is ps (suc p) change v all is =
     let place : suc p - 1 ≡ p = omega arith in
@@ -50,7 +50,7 @@ module _ (ps qs : List (Option Value)) (s : StoreState) (view : state_of ps ≡ 
   -- a value that is not there is none of the graph
   pub none-graph : (k : ℕ) (change : Value → Value) → value_of s k ≡ None → graph_of s ≡ value_changed (number_in s k) change (graph_of s)
   none-graph k change none =
-      let graph : graph_of s ≡ standing ps = ap graph_of (sym view) ∙ graph-is ps all in
+      let graph : graph_of s ≡ standing_values ps = ap graph_of (sym view) ∙ graph-is ps all in
       let number : number_in s k ≡ 0 = ap (λ (o : Option Value). unwrap_or (option_map (λ v. v.number) o) 0) none in
       graph ∙ sym (unchanged-none ps change all) ∙ sym (ap (value_changed 0 change) graph) ∙ sym (ap (λ n. value_changed n change (graph_of s)) number)
 

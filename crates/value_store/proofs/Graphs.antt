@@ -9,30 +9,30 @@ use Rattle.napi_types.specs.parts.Graph.{Stored, live, value_of, number_in, rena
 use Rattle.napi_types.specs.parts.Properties.{Property}
 use Rattle.napi_types.specs.parts.Values.{Value, children, value_at, value_changed}
 use Rattle.napi_types.proofs.plain.Found.{apart-below, apart-above}
-use Rattle.value_store.specs.Places.{state_of, stored_as, at_number, IsNumbered, IsCleared}
-use Rattle.value_store.proofs.Naming.{left, right, to_options}
+use Rattle.value_store.specs.ValuePlaces.{state_of, stored_as, at_number, IsNumbered, IsCleared}
+use Rattle.value_store.proofs.NamedPlaces.{left, right, to_options}
 use Rattle.value_store.proofs.Lookup.{value_of-state_of}
 
 -- the values that stand in the list
-abbrev pub standing : List (Option Value) → List Value
-standing ps = filter_map (λ place. place) ps
+abbrev pub standing_values : List (Option Value) → List Value
+standing_values ps = filter_map (λ place. place) ps
 
-live-values : (ps : List (Option Value)) → map (λ (x : Stored). x.value) (live (state_of ps)) ≡ standing ps
+live-values : (ps : List (Option Value)) → map (λ (x : Stored). x.value) (live (state_of ps)) ≡ standing_values ps
 live-values [] = refl
 live-values (None ∷ ps) = live-values ps
 live-values (Some v ∷ ps) = ap (λ l. v ∷ l) (live-values ps)
 
-value_at-live : (ps : List (Option Value)) (n : ℕ) → value_at (standing ps) n ≡ value_of (state_of ps) n
+value_at-live : (ps : List (Option Value)) (n : ℕ) → value_at (standing_values ps) n ≡ value_of (state_of ps) n
 value_at-live [] n = refl
 value_at-live (None ∷ ps) n = value_at-live ps n
 value_at-live (Some v ∷ ps) n = by (value_at-live ps n) (v.number == n)
   where
-    by : value_at (standing ps) n ≡ value_of (state_of ps) n → (b : Bool) → cond b (Some v) (value_at (standing ps) n) ≡ option_map (λ (x : Stored). x.value) (cond b (Some (stored_as v)) (found (λ x. x.id) n (live (state_of ps))))
+    by : value_at (standing_values ps) n ≡ value_of (state_of ps) n → (b : Bool) → cond b (Some v) (value_at (standing_values ps) n) ≡ option_map (λ (x : Stored). x.value) (cond b (Some (stored_as v)) (found (λ x. x.id) n (live (state_of ps))))
     by rest true = refl
     by rest false = rest
 
 -- values at the numbers of a list are the list's
-at-range : (f : ℕ → Option Value) (k : ℕ) (ps : List (Option Value)) → ((p : ℕ) → f (k + p) ≡ slice_index_or ps p None) → filter_map f (range_with_len k (length ps)) ≡ standing ps
+at-range : (f : ℕ → Option Value) (k : ℕ) (ps : List (Option Value)) → ((p : ℕ) → f (k + p) ≡ slice_index_or ps p None) → filter_map f (range_with_len k (length ps)) ≡ standing_values ps
 at-range f k [] same = refl
 at-range f k (x ∷ ps) same =
     let head : f k ≡ x = subst (λ (n : ℕ). f n ≡ x) (plus-none k) (same 0) in
@@ -83,7 +83,7 @@ module _ (ps : List (Option Value)) (all : IsNumbered (at_number ps)) where
   renamed-at (Some v) closed = ap Some (renamed-same v (closed v refl))
 
   -- the graph is the list of the values that stand
-  pub graph-is : graph_of (state_of ps) ≡ standing ps
+  pub graph-is : graph_of (state_of ps) ≡ standing_values ps
   graph-is = at-range (λ n. option_map (renamed (state_of ps)) (value_at (map (λ x. x.value) (live (state_of ps))) n)) 1 ps at
     where
       one : (p : ℕ) → 1 + p ≡ suc p
@@ -102,7 +102,7 @@ module _ (ps : List (Option Value)) (all : IsNumbered (at_number ps)) where
 
 -- a change of one value in the list is a change of one value in the graph
 
-changed-above : (n k : ℕ) (f : Value → Value) (ps : List (Option Value)) → ((p : ℕ) (v : Value) → slice_index_or ps p None ≡ Some v → v.number ≡ k + p + 1) → n ≤ k → value_changed n f (standing ps) ≡ standing ps
+changed-above : (n k : ℕ) (f : Value → Value) (ps : List (Option Value)) → ((p : ℕ) (v : Value) → slice_index_or ps p None ≡ Some v → v.number ≡ k + p + 1) → n ≤ k → value_changed n f (standing_values ps) ≡ standing_values ps
 changed-above n k f [] numbered h = refl
 changed-above n k f (None ∷ ps) numbered h = changed-above n (k + 1) f ps (λ p v e. let q : v.number ≡ k + suc p + 1 = numbered (suc p) v e in omega arith) (omega arith)
 changed-above n k f (Some v ∷ ps) numbered h =
@@ -110,25 +110,25 @@ changed-above n k f (Some v ∷ ps) numbered h =
     let apart : (v.number == n) ≡ false = apart-above n v.number (omega arith) in
     rw apart (ap (λ l. v ∷ l) (changed-above n (k + 1) f ps (λ p w e. let q : w.number ≡ k + suc p + 1 = numbered (suc p) w e in omega arith) (omega arith)))
 
-changed-from : (n k : ℕ) (f : Value → Value) (ps : List (Option Value)) (p : ℕ) (v : Value) → ((p : ℕ) (v : Value) → slice_index_or ps p None ≡ Some v → v.number ≡ k + p + 1) → n ≡ k + p + 1 → slice_index_or ps p None ≡ Some v → standing (set ps p (Some (f v))) ≡ value_changed n f (standing ps)
+changed-from : (n k : ℕ) (f : Value → Value) (ps : List (Option Value)) (p : ℕ) (v : Value) → ((p : ℕ) (v : Value) → slice_index_or ps p None ≡ Some v → v.number ≡ k + p + 1) → n ≡ k + p + 1 → slice_index_or ps p None ≡ Some v → standing_values (set ps p (Some (f v))) ≡ value_changed n f (standing_values ps)
 changed-from n k f [] p v numbered at is = let no : ⊥ = cc in absurd no
 changed-from n k f (None ∷ ps) zero v numbered at is = let no : ⊥ = cc in absurd no
 changed-from n k f (Some w ∷ ps) zero v numbered at is =
     let same : w ≡ v = cc in
     let number : w.number ≡ k + 0 + 1 = numbered 0 w refl in
     let here : (w.number == n) ≡ true = eq-eqb w.number n (omega arith) in
-    rw here (ap (λ u. f u ∷ standing ps) (sym same) ∙ ap (λ l. f w ∷ l) (sym (changed-above n (k + 1) f ps (λ p w e. let q : w.number ≡ k + suc p + 1 = numbered (suc p) w e in omega arith) (omega arith))))
+    rw here (ap (λ u. f u ∷ standing_values ps) (sym same) ∙ ap (λ l. f w ∷ l) (sym (changed-above n (k + 1) f ps (λ p w e. let q : w.number ≡ k + suc p + 1 = numbered (suc p) w e in omega arith) (omega arith))))
 changed-from n k f (None ∷ ps) (suc p) v numbered at is = changed-from n (k + 1) f ps p v (λ p w e. let q : w.number ≡ k + suc p + 1 = numbered (suc p) w e in omega arith) (omega arith) is
 changed-from n k f (Some w ∷ ps) (suc p) v numbered at is =
     let number : w.number ≡ k + 0 + 1 = numbered 0 w refl in
     let apart : (w.number == n) ≡ false = apart-below w.number n (omega arith) in
     rw apart (ap (λ l. w ∷ l) (changed-from n (k + 1) f ps p v (λ p w e. let q : w.number ≡ k + suc p + 1 = numbered (suc p) w e in omega arith) (omega arith) is))
 
-pub standing-changed : (ps : List (Option Value)) (p : ℕ) (f : Value → Value) (v : Value) → IsNumbered (at_number ps) → slice_index_or ps p None ≡ Some v → standing (set ps p (Some (f v))) ≡ value_changed (suc p) f (standing ps)
+pub standing-changed : (ps : List (Option Value)) (p : ℕ) (f : Value → Value) (v : Value) → IsNumbered (at_number ps) → slice_index_or ps p None ≡ Some v → standing_values (set ps p (Some (f v))) ≡ value_changed (suc p) f (standing_values ps)
 standing-changed ps p f v all is = changed-from (suc p) 0 f ps p v (λ p w e. let q : w.number ≡ suc p = all.numbered (suc p) w e in omega arith) (omega arith) is
 
 cleared-from : (k : ℕ) (ids : List ℕ) (ps qs : List (Option Value)) → ((p : ℕ) (v : Value) → slice_index_or ps p None ≡ Some v → v.number ≡ k + p + 1) → ((p : ℕ) → slice_index_or qs p None ≡ cond (has_number (k + p + 1) ids) None (slice_index_or ps p None)) → length qs ≡ length ps
-    → standing qs ≡ filter (λ v. not (has_number v.number ids)) (standing ps)
+    → standing_values qs ≡ filter (λ v. not (has_number v.number ids)) (standing_values ps)
 cleared-from k ids [] [] numbered each many = refl
 cleared-from k ids [] (y ∷ qs) numbered each many = absurd (omega arith)
 cleared-from k ids (x ∷ ps) [] numbered each many = absurd (omega arith)
@@ -139,13 +139,13 @@ cleared-from k ids (x ∷ ps) (y ∷ qs) numbered each many =
     moved : (k p : ℕ) → k + suc p + 1 ≡ k + 1 + p + 1
     moved k p = omega arith
 
-    by : (x : Option Value) (b : Bool) → has_number (k + 0 + 1) ids ≡ b → ((v : Value) → x ≡ Some v → v.number ≡ k + 0 + 1) → y ≡ cond b None x → standing qs ≡ filter (λ v. not (has_number v.number ids)) (standing ps) → cons_option y (standing qs) ≡ filter (λ v. not (has_number v.number ids)) (cons_option x (standing ps))
+    by : (x : Option Value) (b : Bool) → has_number (k + 0 + 1) ids ≡ b → ((v : Value) → x ≡ Some v → v.number ≡ k + 0 + 1) → y ≡ cond b None x → standing_values qs ≡ filter (λ v. not (has_number v.number ids)) (standing_values ps) → cons_option y (standing_values qs) ≡ filter (λ v. not (has_number v.number ids)) (cons_option x (standing_values ps))
     by None true e number is rest = rw is rest
     by None false e number is rest = rw is rest
     by (Some v) true e number is rest = let here : has_number v.number ids ≡ true = ap (λ n. has_number n ids) (number v refl) ∙ e in rw (is, here) rest
     by (Some v) false e number is rest = let here : has_number v.number ids ≡ false = ap (λ n. has_number n ids) (number v refl) ∙ e in rw (is, here) (ap (λ l. v ∷ l) rest)
 
-pub standing-cleared : (ps qs : List (Option Value)) (ids : List ℕ) → IsNumbered (at_number ps) → IsCleared ps qs ids → standing qs ≡ filter (λ v. not (has_number v.number ids)) (standing ps)
+pub standing-cleared : (ps qs : List (Option Value)) (ids : List ℕ) → IsNumbered (at_number ps) → IsCleared ps qs ids → standing_values qs ≡ filter (λ v. not (has_number v.number ids)) (standing_values ps)
 standing-cleared ps qs ids all gone =
     cleared-from 0 ids ps qs (λ p v e. let q : v.number ≡ suc p = all.numbered (suc p) v e in omega arith)
     (λ p. subst (λ (n : ℕ). slice_index_or qs p None ≡ cond (has_number n ids) None (slice_index_or ps p None)) (next p) (gone.values (suc p))) gone.many
@@ -154,5 +154,5 @@ standing-cleared ps qs ids all gone =
     next p = omega arith
 
 -- no value has the number 0
-pub unchanged-none : (ps : List (Option Value)) (f : Value → Value) → IsNumbered (at_number ps) → value_changed 0 f (standing ps) ≡ standing ps
+pub unchanged-none : (ps : List (Option Value)) (f : Value → Value) → IsNumbered (at_number ps) → value_changed 0 f (standing_values ps) ≡ standing_values ps
 unchanged-none ps f all = changed-above 0 0 f ps (λ p v e. let q : v.number ≡ suc p = all.numbered (suc p) v e in omega arith) (omega arith)

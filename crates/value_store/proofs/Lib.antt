@@ -1,5 +1,4 @@
 pub mod Callers
-pub mod Calls
 pub mod Clearing
 pub mod ElementMaps
 pub mod Errors
@@ -8,12 +7,13 @@ pub mod Graphs
 pub mod Listing
 pub mod LiveValues
 pub mod Lookup
-pub mod Names
-pub mod Naming
+pub mod NamedPlaces
 pub mod PlaceValues
-pub mod Properties
-pub mod Reading
-pub mod Setting
+pub mod PropertyMaps
+pub mod PropertyNames
+pub mod ReadingPlaces
+pub mod SettingPlaces
 pub mod Starting
-pub mod States
+pub mod StoreCalls
+pub mod StoreStates
 pub mod Thrown

@@ -13,13 +13,13 @@ use Rattle.napi_types.specs.parts.NewValues.{made_after, array_of, list_of}
 use Rattle.napi_types.specs.parts.Values.{Value, fresh_value, children}
 use Rattle.napi_types.proofs.plain.Issued.{above-up_to, has-up_to}
 use Rattle.napi_types.proofs.plain.Found.{apart-below}
-use Rattle.value_store.specs.Places.{state_of, at_number, IsNumbered}
-use Rattle.value_store.specs.Changes.{MakesList}
+use Rattle.value_store.specs.ValuePlaces.{state_of, at_number, IsNumbered}
+use Rattle.value_store.specs.StoreChanges.{MakesList}
 use Rattle.value_store.proofs.Lookup.{value_of-state_of, at_number-push}
-use Rattle.value_store.proofs.Names.{distinct-none}
-use Rattle.value_store.proofs.States.{given}
-use Rattle.value_store.proofs.Calls.{made-numbered, pushed-numbered}
-use Rattle.value_store.proofs.Graphs.{standing, graph-is}
+use Rattle.value_store.proofs.PropertyNames.{distinct-none}
+use Rattle.value_store.proofs.StoreStates.{given}
+use Rattle.value_store.proofs.StoreCalls.{made-numbered, pushed-numbered}
+use Rattle.value_store.proofs.Graphs.{standing_values, graph-is}
 
 -- WHAT THE LIST IS
 pub length-made_after : (n : ℕ) (bs : List Body) → length (made_after n bs) ≡ length bs
@@ -109,7 +109,7 @@ list-numbered ps bs all =
     (pushed-numbered made array (each-numbered ps bs all) (omega arith) distinct-none closed)
 
 -- WHAT IT DOES TO THE STATE
-pub standing-some : (vs : List Value) → standing (map Some vs) ≡ vs
+pub standing-some : (vs : List Value) → standing_values (map Some vs) ≡ vs
 standing-some [] = refl
 standing-some (v ∷ vs) = ap (λ l. v ∷ l) (standing-some vs)
 
@@ -141,9 +141,9 @@ module _ (ps qs : List (Option Value)) (s : StoreState) (view : state_of ps ≡ 
   pub listed-graph : graph_of (state_of qs) ≡ graph_of s ++ list_of s.made bs
   listed-graph =
       graph-is qs listed-numbered
-      ∙ ap standing is
+      ∙ ap standing_values is
       ∙ filter_map-append (λ (place : Option Value). place) ps (map Some (list_of (length ps) bs))
-      ∙ ap (λ l. standing ps ++ l) (standing-some (list_of (length ps) bs))
+      ∙ ap (λ l. standing_values ps ++ l) (standing-some (list_of (length ps) bs))
       ∙ ap (λ g. g ++ list_of (length ps) bs) (sym (graph-is ps all) ∙ ap graph_of view)
       ∙ ap (λ n. graph_of s ++ list_of n bs) (ap (λ (t : StoreState). t.made) view)
 

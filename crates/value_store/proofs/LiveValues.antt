@@ -10,13 +10,13 @@ use Rattle.napi_types.specs.parts.Graph.{Stored, StoreState, live, value_of, num
 use Rattle.napi_types.specs.parts.Properties.{Property}
 use Rattle.napi_types.specs.parts.Reach.{numbers, children_at}
 use Rattle.napi_types.specs.parts.Values.{Value, children, value_at}
-use Rattle.value_store.specs.Changes.{id_at, EachStandsOnce}
+use Rattle.value_store.specs.StoreChanges.{id_at, EachStandsOnce}
 use Rattle.value_store.proofs.Lookup.{apart-number, other-number}
-use Rattle.value_store.proofs.Reading.{some-is}
+use Rattle.value_store.proofs.ReadingPlaces.{some-is}
 
 -- PLACES
-abbrev standing : List (Option Stored) → List Stored
-standing ps = filter_map (λ place. place) ps
+abbrev standing_stored : List (Option Stored) → List Stored
+standing_stored ps = filter_map (λ place. place) ps
 
 abbrev id_in : List (Option Stored) → ℕ → Option ℕ
 id_in ps place = option_map (λ x. x.id) (slice_index_or ps place None)
@@ -28,34 +28,34 @@ rest-once : (x : Option Stored) (ps : List (Option Stored)) → StandOnce (x ∷
 rest-once x ps once id first second here there = let same : suc first ≡ suc second = once id (suc first) (suc second) here there in omega arith
 
 -- what stands at a place is found by its number
-found-at : (ps : List (Option Stored)) → StandOnce ps → (place : ℕ) (x : Stored) → slice_index_or ps place None ≡ Some x → found (λ y. y.id) x.id (standing ps) ≡ Some x
+found-at : (ps : List (Option Stored)) → StandOnce ps → (place : ℕ) (x : Stored) → slice_index_or ps place None ≡ Some x → found (λ y. y.id) x.id (standing_stored ps) ≡ Some x
 found-at [] once place x is = let no : ⊥ = cc in absurd no
 found-at (None ∷ ps) once zero x is = let no : ⊥ = cc in absurd no
 found-at (None ∷ ps) once (suc place) x is = found-at ps (rest-once None ps once) place x is
 found-at (Some y ∷ ps) once zero x is =
     let same : y ≡ x = cc in
     let here : (y.id == x.id) ≡ true = eq-eqb y.id x.id (ap (λ (z : Stored). z.id) same) in
-    ap (λ b. cond b (Some y) (found (λ z. z.id) x.id (standing ps))) here ∙ is
+    ap (λ b. cond b (Some y) (found (λ z. z.id) x.id (standing_stored ps))) here ∙ is
 found-at (Some y ∷ ps) once (suc place) x is = by (found-at ps (rest-once (Some y) ps once) place x is) (y.id == x.id) refl
   where
-    by : found (λ z. z.id) x.id (standing ps) ≡ Some x → (b : Bool) → (y.id == x.id) ≡ b → cond b (Some y) (found (λ z. z.id) x.id (standing ps)) ≡ Some x
+    by : found (λ z. z.id) x.id (standing_stored ps) ≡ Some x → (b : Bool) → (y.id == x.id) ≡ b → cond b (Some y) (found (λ z. z.id) x.id (standing_stored ps)) ≡ Some x
     by rest true e =
         let two : zero ≡ suc place = once x.id zero (suc place) (ap Some (eqb-true y.id x.id e)) (ap (option_map (λ (z : Stored). z.id)) is) in
         let no : ⊥ = absurd (omega arith) in absurd no
     by rest false e = rest
 
 -- what is found by a number stands at a place
-found-place : (ps : List (Option Stored)) (id : ℕ) (x : Stored) → found (λ y. y.id) id (standing ps) ≡ Some x → (place : ℕ) × (slice_index_or ps place None ≡ Some x) × (x.id ≡ id)
+found-place : (ps : List (Option Stored)) (id : ℕ) (x : Stored) → found (λ y. y.id) id (standing_stored ps) ≡ Some x → (place : ℕ) × (slice_index_or ps place None ≡ Some x) × (x.id ≡ id)
 found-place [] id x is = let no : ⊥ = cc in absurd no
 found-place (None ∷ ps) id x is = let r = found-place ps id x is in (suc r.0, r.1, r.2)
 found-place (Some y ∷ ps) id x is = by (found-place ps id x) (y.id == id) refl is
   where
-    by : (found (λ z. z.id) id (standing ps) ≡ Some x → (place : ℕ) × (slice_index_or ps place None ≡ Some x) × (x.id ≡ id)) → (b : Bool) → (y.id == id) ≡ b → cond b (Some y) (found (λ z. z.id) id (standing ps)) ≡ Some x → (place : ℕ) × (slice_index_or (Some y ∷ ps) place None ≡ Some x) × (x.id ≡ id)
+    by : (found (λ z. z.id) id (standing_stored ps) ≡ Some x → (place : ℕ) × (slice_index_or ps place None ≡ Some x) × (x.id ≡ id)) → (b : Bool) → (y.id == id) ≡ b → cond b (Some y) (found (λ z. z.id) id (standing_stored ps)) ≡ Some x → (place : ℕ) × (slice_index_or (Some y ∷ ps) place None ≡ Some x) × (x.id ≡ id)
     by rest true e is = let same : y ≡ x = cc in (zero, is, sym (ap (λ (z : Stored). z.id) same) ∙ eqb-true y.id id e)
     by rest false e is = let r = rest is in (suc r.0, r.1, r.2)
 
 abbrev values : List (Option Stored) → List Value
-values ps = map (λ x. x.value) (standing ps)
+values ps = map (λ x. x.value) (standing_stored ps)
 
 -- the same by a creation number
 numbered-place : (ps : List (Option Stored)) (n : ℕ) (v : Value) → value_at (values ps) n ≡ Some v → (place : ℕ) × (x : Stored) × (slice_index_or ps place None ≡ Some x) × (x.value ≡ v) × (v.number ≡ n)

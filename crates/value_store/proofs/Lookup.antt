@@ -7,7 +7,7 @@ use Rattle.napi_types.specs.plain.Lists.{found}
 use Rattle.napi_types.specs.parts.Graph.{Stored, value_of}
 use Rattle.napi_types.specs.parts.Values.{Value}
 use Rattle.napi_types.proofs.plain.Found.{apart-below, apart-above, next-same}
-use Rattle.value_store.specs.Places.{state_of, stored_as, at_number}
+use Rattle.value_store.specs.ValuePlaces.{state_of, stored_as, at_number}
 
 pub other-number : (a n : ℕ) → (a == n) ≡ false → a ≢ n
 other-number a n h = grind arith
@@ -16,10 +16,10 @@ pub apart-number : (a n : ℕ) → a ≢ n → (a == n) ≡ false
 apart-number a n h = grind arith
 
 -- the value that a number names among these places
-abbrev named : ℕ → List (Option Value) → Option Value
-named n ps = option_map (λ (x : Stored). x.value) (found (λ x. x.id) n (filter_map (λ place. place) (map (option_map stored_as) ps)))
+abbrev value_named : ℕ → List (Option Value) → Option Value
+value_named n ps = option_map (λ (x : Stored). x.value) (found (λ x. x.id) n (filter_map (λ place. place) (map (option_map stored_as) ps)))
 
-named-below : (k : ℕ) (ps : List (Option Value)) → ((p : ℕ) (v : Value) → slice_index_or ps p None ≡ Some v → v.number ≡ k + p + 1) → (n : ℕ) → n ≤ k → named n ps ≡ None
+named-below : (k : ℕ) (ps : List (Option Value)) → ((p : ℕ) (v : Value) → slice_index_or ps p None ≡ Some v → v.number ≡ k + p + 1) → (n : ℕ) → n ≤ k → value_named n ps ≡ None
 named-below k [] numbered n h = refl
 named-below k (None ∷ ps) numbered n h = named-below (k + 1) ps (λ p v e. let q : v.number ≡ k + suc p + 1 = numbered (suc p) v e in omega arith) n (omega arith)
 named-below k (Some v ∷ ps) numbered n h =
@@ -27,7 +27,7 @@ named-below k (Some v ∷ ps) numbered n h =
     let apart : (v.number == n) ≡ false = apart-above n v.number (omega arith) in
     rw apart (named-below (k + 1) ps (λ p w e. let q : w.number ≡ k + suc p + 1 = numbered (suc p) w e in omega arith) n (omega arith))
 
-named-at : (k : ℕ) (ps : List (Option Value)) → ((p : ℕ) (v : Value) → slice_index_or ps p None ≡ Some v → v.number ≡ k + p + 1) → (p n : ℕ) → n ≡ k + p + 1 → named n ps ≡ slice_index_or ps p None
+named-at : (k : ℕ) (ps : List (Option Value)) → ((p : ℕ) (v : Value) → slice_index_or ps p None ≡ Some v → v.number ≡ k + p + 1) → (p n : ℕ) → n ≡ k + p + 1 → value_named n ps ≡ slice_index_or ps p None
 named-at k [] numbered p n e = refl
 named-at k (None ∷ ps) numbered zero n e = named-below (k + 1) ps (λ p v e. let q : v.number ≡ k + suc p + 1 = numbered (suc p) v e in omega arith) n (omega arith)
 named-at k (Some v ∷ ps) numbered zero n e =

@@ -4,8 +4,8 @@ use Rattle.std.proofs.lemmas.List.Elements.{All-nil}
 use Rattle.napi_types.specs.declared.body.Body.{Body}
 use Rattle.napi_types.specs.declared.body.Body.TheVariants as body
 use Rattle.napi_types.specs.parts.Values.{Value, fresh_value, value_at, starting_values}
-use Rattle.value_store.specs.Places.{at_number, starting_list, IsNumbered}
-use Rattle.value_store.proofs.Names.{distinct-none}
+use Rattle.value_store.specs.ValuePlaces.{at_number, starting_list, IsNumbered}
+use Rattle.value_store.proofs.PropertyNames.{distinct-none}
 
 -- a value of the list is a fresh one of its number
 fresh-at : (n : ℕ) (v : Value) → at_number starting_list n ≡ Some v → (b : Body) × (v ≡ fresh_value n b)

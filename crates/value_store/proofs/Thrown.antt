@@ -12,13 +12,13 @@ use Rattle.napi_types.specs.parts.NewValues.{made_after, error_of, thrown_string
 use Rattle.napi_types.specs.parts.Values.{Value, children}
 use Rattle.napi_types.proofs.plain.Issued.{above-up_to}
 use Rattle.napi_types.proofs.plain.Found.{apart-below}
-use Rattle.value_store.specs.declared.place.Place.{Place}
-use Rattle.value_store.specs.Places.{value_here, state_of, at_number, HasValue, IsNumbered}
-use Rattle.value_store.specs.Changes.{MakesList}
+use Rattle.value_store.specs.declared.place.ValuePlace.{ValuePlace}
+use Rattle.value_store.specs.ValuePlaces.{value_here, state_of, at_number, HasValue, IsNumbered}
+use Rattle.value_store.specs.StoreChanges.{MakesList}
 use Rattle.value_store.proofs.Lookup.{value_of-state_of, at_number-push}
-use Rattle.value_store.proofs.States.{given}
-use Rattle.value_store.proofs.Calls.{pushed-numbered}
-use Rattle.value_store.proofs.Graphs.{standing, graph-is}
+use Rattle.value_store.proofs.StoreStates.{given}
+use Rattle.value_store.proofs.StoreCalls.{pushed-numbered}
+use Rattle.value_store.proofs.Graphs.{standing_values, graph-is}
 use Rattle.value_store.proofs.Errors.{error-names}
 use Rattle.value_store.proofs.Listing.{length-made_after, length-each, each-numbered, there, standing-some, issued-within, before}
 
@@ -27,7 +27,7 @@ pub last-parts : (ps : List (Option Value)) (vs : List Value) (w : Value) → ps
 last-parts ps vs w = ap (λ l. ps ++ l) (map-append Some vs (w ∷ [])) ∙ sym (append_assoc ps (map Some vs) (Some w ∷ []))
 
 -- the steps that add them, one after another
-pub last-done : (ps rs qs ts : List (Option Value)) (bs : List Body) (p : Place) (w : ℕ → Value) → rs ≡ ps → qs ≡ rs ++ map Some (made_after (length rs) bs) → ts ≡ qs ++ value_here (length qs + 1) p ∷ [] → HasValue p w
+pub last-done : (ps rs qs ts : List (Option Value)) (bs : List Body) (p : ValuePlace) (w : ℕ → Value) → rs ≡ ps → qs ≡ rs ++ map Some (made_after (length rs) bs) → ts ≡ qs ++ value_here (length qs + 1) p ∷ [] → HasValue p w
     → ts ≡ ps ++ map Some (made_after (length ps) bs ++ w (length ps + length bs + 1) ∷ [])
 last-done ps rs qs ts bs p w reserved each pushed value =
     let made : qs ≡ ps ++ map Some (made_after (length ps) bs) = each ∙ ap (λ l. l ++ map Some (made_after (length l) bs)) reserved in
@@ -43,9 +43,9 @@ module _ (ps qs : List (Option Value)) (s : StoreState) (view : state_of ps ≡ 
   last-graph : graph_of (state_of qs) ≡ graph_of s ++ (made_after (length ps) bs ++ w ∷ [])
   last-graph =
       graph-is qs numbered
-      ∙ ap standing (is ∙ sym (last-parts ps (made_after (length ps) bs) w))
+      ∙ ap standing_values (is ∙ sym (last-parts ps (made_after (length ps) bs) w))
       ∙ filter_map-append (λ (place : Option Value). place) ps (map Some (made_after (length ps) bs ++ w ∷ []))
-      ∙ ap (λ l. standing ps ++ l) (standing-some (made_after (length ps) bs ++ w ∷ []))
+      ∙ ap (λ l. standing_values ps ++ l) (standing-some (made_after (length ps) bs ++ w ∷ []))
       ∙ ap (λ g. g ++ (made_after (length ps) bs ++ w ∷ [])) (sym (graph-is ps all) ∙ ap graph_of view)
 
   last-many : length qs ≡ length ps + length bs + 1

@@ -1,3 +1,3 @@
-pub mod Changes
-pub mod Places
-pub mod Properties
+pub mod PropertyMaps
+pub mod StoreChanges
+pub mod ValuePlaces

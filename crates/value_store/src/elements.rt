@@ -2,7 +2,7 @@
 ghost use Rattle.std.specs.Prelude.{◌≡◌, ◌^◌, ◌<◌, ◌≤◌, [], length, filter_map, OnOk, OnErr, option_map};
 ghost use Rattle.napi_types.specs.plain.Lists.{HaveSameNumbers};
 ghost use Rattle.napi_types.specs.parts.Properties.{most_index, element_at, element_set};
-ghost use Rattle.value_store.specs.Properties.{numbers_in};
+ghost use Rattle.value_store.specs.PropertyMaps.{numbers_in};
 
 use indexmap::IndexMap;
 use indexmap::map::Slice;
@@ -21,7 +21,7 @@ pub(crate) struct Elements {
 
 impl Model for Elements {
     ghost use Rattle.std.specs.Prelude.{List, ℕ, Option};
-    ghost use Rattle.value_store.specs.Properties.{listed_elements, AreElements};
+    ghost use Rattle.value_store.specs.PropertyMaps.{listed_elements, AreElements};
 
     ghost Value = { List (Option ℕ) };
 

@@ -2,7 +2,7 @@
 ghost use Rattle.std.specs.Prelude.{◌≡◌, ◌+◌, ◌^◌, ◌<◌, ◌≤◌, ◌++◌, [], length, map, filter_map, OnOk, OnErr, option_map, slice_get, slice_index, is_some, Some};
 ghost use Rattle.napi_types.specs.plain.Lists.{HaveSameNumbers};
 ghost use Rattle.napi_types.specs.parts.Properties.{most_index, property_at, property_set, property_removed, element_at, element_set};
-ghost use Rattle.value_store.specs.Properties.{numbers_in};
+ghost use Rattle.value_store.specs.PropertyMaps.{numbers_in};
 
 use crate::elements::Elements;
 use indexmap::IndexMap;
@@ -26,7 +26,7 @@ impl Model for Parts {
     ghost use Rattle.std.specs.List.{IsDistinct};
     ghost use Rattle.std.specs.Map.{keys_of};
     ghost use Rattle.std.specs.Option.{unwrap_or};
-    ghost use Rattle.value_store.specs.Properties.{ListedParts, listed_properties};
+    ghost use Rattle.value_store.specs.PropertyMaps.{ListedParts, listed_properties};
 
     ghost Value = { ListedParts };
 
@@ -166,7 +166,7 @@ pub struct Children<'a> {
 
 impl<'a> Model for Children<'a> {
     ghost use Rattle.std.specs.Prelude.{List, ℕ, ◌+◌, ◌<◌, ◌^◌, ◌++◌, length};
-    ghost use Rattle.value_store.specs.Properties.{numbers_in};
+    ghost use Rattle.value_store.specs.PropertyMaps.{numbers_in};
 
     ghost Value = { List ℕ };
 

@@ -4,7 +4,7 @@ ghost use Rattle.std.specs.List.{range_with_len};
 ghost use Rattle.napi_types.specs.parts.NewValues.{array_of, error_of};
 ghost use Rattle.napi_types.specs.parts.Properties.{most_index, property_at};
 ghost use Rattle.napi_types.specs.parts.Values.{with_property, without_property, with_element};
-ghost use Rattle.value_store.specs.Places.{value_here, properties_here, HasValue, ChangesPlace};
+ghost use Rattle.value_store.specs.ValuePlaces.{value_here, properties_here, HasValue, ChangesPlace};
 
 use crate::ValueInfo;
 use crate::parts::Parts;
@@ -32,7 +32,7 @@ const CODE: TextNo = TextNo(1);
 
 /// A place of a store. The number of a value is told by its place, and not kept in it.
 #[derive(Drop)]
-pub(crate) enum Place {
+pub(crate) enum ValuePlace {
     /// No value: the one that stood here was freed.
     Free,
     /// A value that never had a property or an element.
@@ -42,16 +42,16 @@ pub(crate) enum Place {
 }
 
 // Freed places stay, so a run pays this for each value that it ever made (docs/COST.md).
-const _: () = prove!(size_of::<Place>() == 40);
+const _: () = prove!(size_of::<ValuePlace>() == 40);
 
-impl Place {
+impl ValuePlace {
     /// An array of so many values, whose numbers count up from the first.
-    pub(crate) fn array(alloc: Global, first: u64, count: u32) -> Result<Place, NoMemory>
+    pub(crate) fn array(alloc: Global, first: u64, count: u32) -> Result<ValuePlace, NoMemory>
         requires count { count ≤ most_index + 1 }
         requires numbers { first + count < 2 ^ 64 }
         ensures { IfOk result (λ place. HasValue place (λ n. array_of n (range_with_len first count))) }
     {
-        let mut place = Place::Plain(ARRAY);
+        let mut place = ValuePlace::Plain(ARRAY);
         for at in 0..count {
             place.set_element(alloc, at, ValueId(first + u64::from(at)))?;
         }
@@ -63,10 +63,10 @@ impl Place {
         alloc: Global,
         code: Option<ValueId>,
         message: ValueId,
-    ) -> Result<Place, NoMemory>
+    ) -> Result<ValuePlace, NoMemory>
         ensures { IfOk result (λ place. HasValue place (λ n. error_of n (option_map (λ c. c.0) code) message.0)) }
     {
-        let mut place = Place::Plain(ERROR);
+        let mut place = ValuePlace::Plain(ERROR);
         place.set_prop(alloc, MESSAGE, message)?;
         if let Some(code) = code {
             place.set_prop(alloc, CODE, code)?;
@@ -79,9 +79,9 @@ impl Place {
         ensures { result ≡ value_here number self.now }
     {
         match self {
-            Place::Free => None,
-            Place::Plain(body) => Some(ValueInfo::plain(number, *body)),
-            Place::Full(body, parts) => Some(ValueInfo::full(number, *body, parts)),
+            ValuePlace::Free => None,
+            ValuePlace::Plain(body) => Some(ValueInfo::plain(number, *body)),
+            ValuePlace::Full(body, parts) => Some(ValueInfo::full(number, *body, parts)),
         }
     }
 
@@ -96,14 +96,14 @@ impl Place {
         ensures err { OnErr result (self.new ≡ self.old) }
     {
         match self {
-            Place::Free => Ok(()),
-            Place::Plain(body) => {
+            ValuePlace::Free => Ok(()),
+            ValuePlace::Plain(body) => {
                 let mut parts = Parts::new(alloc);
                 parts.set_prop(name, to)?;
-                *self = Place::Full(*body, Box::new(alloc, parts)?);
+                *self = ValuePlace::Full(*body, Box::new(alloc, parts)?);
                 Ok(())
             }
-            Place::Full(_, parts) => parts.set_prop(name, to),
+            ValuePlace::Full(_, parts) => parts.set_prop(name, to),
         }
     }
 
@@ -113,8 +113,8 @@ impl Place {
         ensures was { result ≡ is_some (property_at name.0 (properties_here self.old)) }
     {
         match self {
-            Place::Free | Place::Plain(_) => false,
-            Place::Full(_, parts) => parts.remove_prop(name),
+            ValuePlace::Free | ValuePlace::Plain(_) => false,
+            ValuePlace::Full(_, parts) => parts.remove_prop(name),
         }
     }
 
@@ -130,14 +130,14 @@ impl Place {
         ensures err { OnErr result (self.new ≡ self.old) }
     {
         match self {
-            Place::Free => Ok(()),
-            Place::Plain(body) => {
+            ValuePlace::Free => Ok(()),
+            ValuePlace::Plain(body) => {
                 let mut parts = Parts::new(alloc);
                 parts.set_element(alloc, at, to)?;
-                *self = Place::Full(*body, Box::new(alloc, parts)?);
+                *self = ValuePlace::Full(*body, Box::new(alloc, parts)?);
                 Ok(())
             }
-            Place::Full(_, parts) => parts.set_element(alloc, at, to),
+            ValuePlace::Full(_, parts) => parts.set_element(alloc, at, to),
         }
     }
 }

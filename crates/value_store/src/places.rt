@@ -3,24 +3,24 @@ ghost use Rattle.std.specs.Prelude.{◌≡◌, ◌+◌, ◌-◌, ◌<◌, ◌≤
 ghost use Rattle.std.specs.List.{All};
 ghost use Rattle.napi_types.specs.parts.NewValues.{made_after, list_of, error_of, thrown_of};
 ghost use Rattle.napi_types.specs.parts.Properties.{most_index};
-ghost use Rattle.value_store.specs.Changes.{numbers_of};
-ghost use Rattle.value_store.specs.Places.{value_here, values_of, at_number, starting_list, IsCleared};
+ghost use Rattle.value_store.specs.StoreChanges.{numbers_of};
+ghost use Rattle.value_store.specs.ValuePlaces.{value_here, values_of, at_number, starting_list, IsCleared};
 
 use crate::ValueInfo;
-use crate::place::Place;
+use crate::place::ValuePlace;
 use napi_types::{Body, NoMemory, TextNo, ValueId};
 use std::alloc::Global;
 
 /// The starting values.
-pub(crate) fn starting(alloc: Global) -> Result<Vec<Place>, NoMemory>
+pub(crate) fn starting(alloc: Global) -> Result<Vec<ValuePlace>, NoMemory>
     ensures { IfOk result (λ values. values_of values.items ≡ starting_list) }
 {
     let values = [
-        Place::Plain(Body::Undefined),
-        Place::Plain(Body::Null),
-        Place::Plain(Body::Boolean(true)),
-        Place::Plain(Body::Boolean(false)),
-        Place::Plain(Body::Object {
+        ValuePlace::Plain(Body::Undefined),
+        ValuePlace::Plain(Body::Null),
+        ValuePlace::Plain(Body::Boolean(true)),
+        ValuePlace::Plain(Body::Boolean(false)),
+        ValuePlace::Plain(Body::Object {
             array: false,
             error: false,
         }),
@@ -29,14 +29,14 @@ pub(crate) fn starting(alloc: Global) -> Result<Vec<Place>, NoMemory>
 }
 
 /// How many places there are.
-pub(crate) fn count(values: &[Place]) -> usize
+pub(crate) fn count(values: &[ValuePlace]) -> usize
     ensures { result ≡ length (values_of values.now) }
 {
     values.len()
 }
 
 /// Adds a value at a new place.
-pub(crate) fn push(values: &mut Vec<Place>, value: Place) -> Result<(), NoMemory>
+pub(crate) fn push(values: &mut Vec<ValuePlace>, value: ValuePlace) -> Result<(), NoMemory>
     ensures pushed { let number = length (values_of values.old.items) + 1 in
         OnOk result (values_of values.new.items ≡ values_of values.old.items ++ value_here number value ∷ []) }
     ensures err { OnErr result (values.new.items ≡ values.old.items) }
@@ -46,7 +46,7 @@ pub(crate) fn push(values: &mut Vec<Place>, value: Place) -> Result<(), NoMemory
 }
 
 /// Adds a value at a new place that is reserved.
-fn push_reserved(values: &mut Vec<Place>, value: Place)
+fn push_reserved(values: &mut Vec<ValuePlace>, value: ValuePlace)
     requires { length (values_of values.old.items) < vec_capacity values.old }
     ensures pushed { let number = length (values_of values.old.items) + 1 in
         values_of values.new.items ≡ values_of values.old.items ++ value_here number value ∷ [] }
@@ -58,7 +58,7 @@ fn push_reserved(values: &mut Vec<Place>, value: Place)
 /// Adds a value of each of these bodies, in their order, and then an array of them. All memory is taken before the first.
 pub(crate) fn push_list(
     alloc: Global,
-    values: &mut Vec<Place>,
+    values: &mut Vec<ValuePlace>,
     bodies: &[Body],
 ) -> Result<(), NoMemory>
     requires count { length bodies.now ≤ most_index + 1 }
@@ -67,7 +67,7 @@ pub(crate) fn push_list(
     ensures err { OnErr result (values.new.items ≡ values.old.items) }
 {
     let first = count(values) as u64 + 1;
-    let array = Place::array(alloc, first, bodies.len() as u32)?;
+    let array = ValuePlace::array(alloc, first, bodies.len() as u32)?;
     reserve(values, bodies.len() + 1)?;
     push_each(values, bodies);
     push_reserved(values, array);
@@ -77,7 +77,7 @@ pub(crate) fn push_list(
 /// Adds a string of each of an error's texts, the message first, and then the error of them. All memory is taken before the first.
 pub(crate) fn push_thrown(
     alloc: Global,
-    values: &mut Vec<Place>,
+    values: &mut Vec<ValuePlace>,
     code: Option<TextNo>,
     message: TextNo,
 ) -> Result<(), NoMemory>
@@ -110,7 +110,7 @@ pub(crate) fn push_thrown(
 /// Adds a value of each of these bodies, in their order, and then an error of the values of these numbers.
 fn push_error(
     alloc: Global,
-    values: &mut Vec<Place>,
+    values: &mut Vec<ValuePlace>,
     strings: &[Body],
     code: Option<ValueId>,
     message: ValueId,
@@ -121,7 +121,7 @@ fn push_error(
         OnOk result (values_of values.new.items ≡ values_of values.old.items ++ map Some (made_after before strings.now ++ error ∷ [])) }
     ensures err { OnErr result (values.new.items ≡ values.old.items) }
 {
-    let error = Place::error(alloc, code, message)?;
+    let error = ValuePlace::error(alloc, code, message)?;
     reserve(values, strings.len() + 1)?;
     push_each(values, strings);
     push_reserved(values, error);
@@ -129,7 +129,7 @@ fn push_error(
 }
 
 /// Takes the memory for so many values more.
-fn reserve(values: &mut Vec<Place>, count: usize) -> Result<(), NoMemory>
+fn reserve(values: &mut Vec<ValuePlace>, count: usize) -> Result<(), NoMemory>
     ensures items { values.new.items ≡ values.old.items }
     ensures reserved { OnOk result (length (values_of values.old.items) + count ≤ vec_capacity values.new) }
 {
@@ -138,19 +138,19 @@ fn reserve(values: &mut Vec<Place>, count: usize) -> Result<(), NoMemory>
 }
 
 /// Adds a value of each of these bodies, in their order, at places that are reserved.
-fn push_each(values: &mut Vec<Place>, bodies: &[Body])
+fn push_each(values: &mut Vec<ValuePlace>, bodies: &[Body])
     requires room { length (values_of values.old.items) + length bodies.now < 2 ^ 48 }
     requires reserved { length (values_of values.old.items) + length bodies.now ≤ vec_capacity values.old }
     ensures made { values_of values.new.items ≡ values_of values.old.items ++ map Some (made_after (length (values_of values.old.items)) bodies.now) }
     ensures capacity { vec_capacity values.new ≡ vec_capacity values.old }
 {
     for body in bodies {
-        push_reserved(values, Place::Plain(*body));
+        push_reserved(values, ValuePlace::Plain(*body));
     }
 }
 
 /// The value of a number.
-pub(crate) fn value_at(values: &[Place], number: u64) -> Option<ValueInfo<'_>>
+pub(crate) fn value_at(values: &[ValuePlace], number: u64) -> Option<ValueInfo<'_>>
     ensures { result ≡ at_number (values_of values.now) number }
 {
     match number.checked_sub(1) {
@@ -160,7 +160,7 @@ pub(crate) fn value_at(values: &[Place], number: u64) -> Option<ValueInfo<'_>>
 }
 
 /// The value at a place.
-pub(crate) fn value_in(values: &[Place], place: usize) -> Option<ValueInfo<'_>>
+pub(crate) fn value_in(values: &[ValuePlace], place: usize) -> Option<ValueInfo<'_>>
     ensures { result ≡ slice_index_or (values_of values.now) place None }
 {
     match values.get(place) {
@@ -178,7 +178,7 @@ pub(crate) fn place_at(number: u64) -> usize
 }
 
 /// Empties the places of these numbers.
-pub(crate) fn clear(values: &mut Vec<Place>, list: &[ValueId])
+pub(crate) fn clear(values: &mut Vec<ValuePlace>, list: &[ValueId])
     requires { All (λ n. IsSome (at_number (values_of values.old.items) n)) (numbers_of list.now) }
     ensures { IsCleared (values_of values.old.items) (values_of values.new.items) (numbers_of list.now) }
 {
@@ -188,10 +188,10 @@ pub(crate) fn clear(values: &mut Vec<Place>, list: &[ValueId])
 }
 
 /// Empties the place of a number.
-fn empty(values: &mut Vec<Place>, number: u64)
+fn empty(values: &mut Vec<ValuePlace>, number: u64)
     requires some { 0 < number }
     requires within { number ≤ length (values_of values.old.items) }
     ensures { values_of values.new.items ≡ slice_set (values_of values.old.items) (number - 1) None }
 {
-    values[place_at(number)] = Place::Free;
+    values[place_at(number)] = ValuePlace::Free;
 }

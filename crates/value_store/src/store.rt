@@ -6,9 +6,9 @@ ghost use Rattle.napi_types.specs.parts.Graph.{value_of, number_in, renamed, gra
 ghost use Rattle.napi_types.specs.parts.NewValues.{error_of, list_of, thrown_strings, thrown_of};
 ghost use Rattle.napi_types.specs.parts.Properties.{most_index, property_at, element_at};
 ghost use Rattle.napi_types.specs.parts.Values.{value_at, value_changed, fresh_value, with_property, without_property, with_element};
-ghost use Rattle.value_store.specs.Changes.{properties_in, elements_in, children_in, id_at, EachStandsOnce, numbers_of, IsNew, IsStarting, IsObject, StandsAt, ChangesOnly, Makes, MakesValue, MakesList, Frees, CanFree};
+ghost use Rattle.value_store.specs.StoreChanges.{properties_in, elements_in, children_in, id_at, EachStandsOnce, numbers_of, IsNew, IsStarting, IsObject, StandsAt, ChangesOnly, MakesFresh, MakesValue, MakesList, Frees, CanFree};
 
-use crate::place::Place;
+use crate::place::ValuePlace;
 use crate::{Children, ValueInfo, places};
 use napi_types::{Body, NoMemory, TextNo, ValueId};
 use std::alloc::Global;
@@ -19,7 +19,7 @@ use std::marker::Model;
 pub struct Store {
     alloc: Global,
     // The value with the number n stands at n - 1. A place whose value was freed stays empty.
-    values: Vec<Place>,
+    values: Vec<ValuePlace>,
 }
 
 impl Model for Store {
@@ -27,7 +27,7 @@ impl Model for Store {
 
     ghost Value = { StoreState };
 
-    ghost use Rattle.value_store.specs.Places.{state_of, values_of, at_number, IsNumbered};
+    ghost use Rattle.value_store.specs.ValuePlaces.{state_of, values_of, at_number, IsNumbered};
 
     ghost view = { λ store. state_of (values_of store.values.items) };
 
@@ -58,13 +58,13 @@ impl Store {
     /// Near constant time: now and then the list of values grows.
     pub fn make(&mut self, body: Body) -> Result<ValueId, NoMemory>
         requires { self.old.made + 2 < 2 ^ 48 }
-        ensures made { IfOk result (λ id. Makes self.old self.new id.0 body) }
+        ensures made { IfOk result (λ id. MakesFresh self.old self.new id.0 body) }
         ensures graph { OnOk result (graph_of self.new ≡ graph_of self.old ++ fresh_value (self.old.made + 1) body ∷ []) }
         ensures err { OnErr result (self.new ≡ self.old) }
         ensures sound { IsSoundStore self.old }
     {
         let number = places::count(&self.values) as u64 + 1;
-        places::push(&mut self.values, Place::Plain(body))?;
+        places::push(&mut self.values, ValuePlace::Plain(body))?;
         Ok(ValueId(number))
     }
 
@@ -88,7 +88,7 @@ impl Store {
         ensures sound { IsSoundStore self.old }
     {
         let number = places::count(&self.values) as u64 + 1;
-        let value = Place::error(self.alloc, code, message)?;
+        let value = ValuePlace::error(self.alloc, code, message)?;
         places::push(&mut self.values, value)?;
         Ok(ValueId(number))
     }

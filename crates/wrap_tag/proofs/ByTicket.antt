@@ -7,42 +7,42 @@ use Rattle.std.proofs.lemmas.Map.Keys.{IsDistinct-tail}
 use Rattle.napi_types.specs.plain.Lists.{found, has_number, with_record, as_map}
 use Rattle.napi_types.specs.parts.Attachments.{Attached}
 use Rattle.napi_types.proofs.plain.Found.{same-tells, same-self, found-append, found-with_record, found-kept, found-as_map, found-same, rising-with_record, rising-filter, rising-as_map}
-use Rattle.wrap_tag.specs.declared.row.Row.{Row}
-use Rattle.wrap_tag.specs.Rows.{tickets_of_chain, tickets_beside, attached_in, row_of, is_attached, AreRows}
-use Rattle.wrap_tag.proofs.ByValue.{row_of-later, equal-tests}
+use Rattle.wrap_tag.specs.declared.row.ValueRow.{ValueRow}
+use Rattle.wrap_tag.specs.ValueRows.{tickets_of_chain, tickets_beside, attached_in, value_row, is_attached, AreRows}
+use Rattle.wrap_tag.proofs.ByValue.{value_row-later, equal-tests}
 
-abbrev pub ticket : Attached → ℕ
-ticket t = t.ticket
+abbrev pub attached_ticket : Attached → ℕ
+attached_ticket t = t.ticket
 
-abbrev pub attached : List (ℕ × Row) → List Attached
+abbrev pub attached : List (ℕ × ValueRow) → List Attached
 attached rows = flat_map (λ e. attached_in e.0 e.1) rows
 
 -- the finalizers of one value
-found-here : (n v : ℕ) (ns : List ℕ) → found ticket n (map (λ m. record { value = v; ticket = m }) ns) ≡ cond (has_number n ns) (Some (record { value = v; ticket = n })) None
+found-here : (n v : ℕ) (ns : List ℕ) → found attached_ticket n (map (λ m. record { value = v; ticket = m }) ns) ≡ cond (has_number n ns) (Some (record { value = v; ticket = n })) None
 found-here n v [] = refl
 found-here n v (m ∷ ms) = by (m == n) (same-tells m n) (found-here n v ms)
   where
-    by : (b : Bool) → (b ≡ true → m ≡ n) → found ticket n (map (λ k. record { value = v; ticket = k }) ms) ≡ cond (has_number n ms) (Some (record { value = v; ticket = n })) None
-        → cond b (Some (record { value = v; ticket = m })) (found ticket n (map (λ k. record { value = v; ticket = k }) ms)) ≡ cond (b || has_number n ms) (Some (record { value = v; ticket = n })) None
+    by : (b : Bool) → (b ≡ true → m ≡ n) → found attached_ticket n (map (λ k. record { value = v; ticket = k }) ms) ≡ cond (has_number n ms) (Some (record { value = v; ticket = n })) None
+        → cond b (Some (record { value = v; ticket = m })) (found attached_ticket n (map (λ k. record { value = v; ticket = k }) ms)) ≡ cond (b || has_number n ms) (Some (record { value = v; ticket = n })) None
     by true same rest = ap (λ k. Some (record { value = v; ticket = k })) (same refl)
     by false same rest = rest
 
 -- whether one is attached tells what the first row and the rest tell
-first-row : (n v : ℕ) (e : ℕ × Row) (es : List (ℕ × Row)) (b : Bool) → nat_eq v e.0 ≡ b → is_attached n v (e ∷ es) ≡ cond b (has_number n (tickets_of_chain e.1.tickets)) (is_attached n v es)
-first-row n v e es true is = ap (λ b. has_number n (tickets_beside (cond b (Some e.1) (row_of v es)))) is
-first-row n v e es false is = ap (λ b. has_number n (tickets_beside (cond b (Some e.1) (row_of v es)))) is
+first-row : (n v : ℕ) (e : ℕ × ValueRow) (es : List (ℕ × ValueRow)) (b : Bool) → nat_eq v e.0 ≡ b → is_attached n v (e ∷ es) ≡ cond b (has_number n (tickets_of_chain e.1.tickets)) (is_attached n v es)
+first-row n v e es true is = ap (λ b. has_number n (tickets_beside (cond b (Some e.1) (value_row v es)))) is
+first-row n v e es false is = ap (λ b. has_number n (tickets_beside (cond b (Some e.1) (value_row v es)))) is
 
 -- WHO A TICKET IS ATTACHED TO
 -- the ticket is attached to this one, or to none
-abbrev pub IsOwner : ℕ → List (ℕ × Row) → Option Attached → Type 0
+abbrev pub IsOwner : ℕ → List (ℕ × ValueRow) → Option Attached → Type 0
 IsOwner n rows o = MatchOption o ((v : ℕ) → is_attached n v rows ≡ false) (λ t. (t.ticket ≡ n) × (is_attached n t.value rows ≡ true))
 
-owner-attached : (n : ℕ) (rows : List (ℕ × Row)) → IsDistinct nat_eq (keys_of rows) → IsOwner n rows (found ticket n (attached rows))
+owner-attached : (n : ℕ) (rows : List (ℕ × ValueRow)) → IsDistinct nat_eq (keys_of rows) → IsOwner n rows (found attached_ticket n (attached rows))
 owner-attached n [] distinct = λ v. refl
 owner-attached n (e ∷ es) distinct =
     let P : Option Attached → Type 0 = IsOwner n (e ∷ es) in
-    subst P (sym (found-append ticket n (attached_in e.0 e.1) (attached es) ∙ ap (λ o. option_or o (found ticket n (attached es))) (found-here n e.0 (tickets_of_chain e.1.tickets))))
-    (by (has_number n (tickets_of_chain e.1.tickets)) refl (found ticket n (attached es)) (owner-attached n es (IsDistinct-tail nat_eq e.0 (keys_of es) distinct)))
+    subst P (sym (found-append attached_ticket n (attached_in e.0 e.1) (attached es) ∙ ap (λ o. option_or o (found attached_ticket n (attached es))) (found-here n e.0 (tickets_of_chain e.1.tickets))))
+    (by (has_number n (tickets_of_chain e.1.tickets)) refl (found attached_ticket n (attached es)) (owner-attached n es (IsDistinct-tail nat_eq e.0 (keys_of es) distinct)))
   where
     self : (m : ℕ) → nat_eq m m ≡ true
     self m = sym (equal-tests m m) ∙ same-self m
@@ -58,13 +58,13 @@ owner-attached n (e ∷ es) distinct =
       where
         case : (b : Bool) → nat_eq t.value e.0 ≡ b → is_attached n t.value (e ∷ es) ≡ true
         case true here =
-            let none : is_attached n t.value es ≡ false = ap (λ o. has_number n (tickets_beside o)) (row_of-later t.value e es distinct here) in
+            let none : is_attached n t.value es ≡ false = ap (λ o. has_number n (tickets_beside o)) (value_row-later t.value e es distinct here) in
             let no : ⊥ = let yes : is_attached n t.value es ≡ true = rest.1 in cc in
             absurd no
         case false apart = first-row n t.value e es false apart ∙ rest.1
 
 -- there is one at most
-pub owner-one : (n : ℕ) (rows : List (ℕ × Row)) → ((v w : ℕ) → is_attached n v rows ≡ true → is_attached n w rows ≡ true → v ≡ w) → (o p : Option Attached) → IsOwner n rows o → IsOwner n rows p → o ≡ p
+pub owner-one : (n : ℕ) (rows : List (ℕ × ValueRow)) → ((v w : ℕ) → is_attached n v rows ≡ true → is_attached n w rows ≡ true → v ≡ w) → (o p : Option Attached) → IsOwner n rows o → IsOwner n rows p → o ≡ p
 owner-one n rows apart None None left right = refl
 owner-one n rows apart None (Some t) left right = let no : ⊥ = let none : is_attached n t.value rows ≡ false = left t.value in let yes : is_attached n t.value rows ≡ true = right.1 in cc in absurd no
 owner-one n rows apart (Some t) None left right = let no : ⊥ = let none : is_attached n t.value rows ≡ false = right t.value in let yes : is_attached n t.value rows ≡ true = left.1 in cc in absurd no
@@ -73,24 +73,24 @@ owner-one n rows apart (Some t) (Some u) left right = one t u (apart t.value u.v
     one : (t u : Attached) → t.value ≡ u.value → t.ticket ≡ u.ticket → Some t ≡ Some u
     one t u value same = ap (λ v. Some (record { value = v; ticket = t.ticket })) value ∙ ap (λ n. Some (record { value = u.value; ticket = n })) same
 
-pub owner-mapped : (n : ℕ) (rows : List (ℕ × Row)) → IsDistinct nat_eq (keys_of rows) → IsOwner n rows (found ticket n (as_map ticket (attached rows)))
-owner-mapped n rows distinct = let P : Option Attached → Type 0 = IsOwner n rows in subst P (sym (found-as_map ticket n (attached rows))) (owner-attached n rows distinct)
+pub owner-mapped : (n : ℕ) (rows : List (ℕ × ValueRow)) → IsDistinct nat_eq (keys_of rows) → IsOwner n rows (found attached_ticket n (as_map attached_ticket (attached rows)))
+owner-mapped n rows distinct = let P : Option Attached → Type 0 = IsOwner n rows in subst P (sym (found-as_map attached_ticket n (attached rows))) (owner-attached n rows distinct)
 
 -- a ticket that is found nowhere is attached to no value, and one that is attached to a value is found with it
-pub absent-attached : (n v : ℕ) (rows : List (ℕ × Row)) → IsDistinct nat_eq (keys_of rows) → found ticket n (as_map ticket (attached rows)) ≡ None → is_attached n v rows ≡ false
+pub absent-attached : (n v : ℕ) (rows : List (ℕ × ValueRow)) → IsDistinct nat_eq (keys_of rows) → found attached_ticket n (as_map attached_ticket (attached rows)) ≡ None → is_attached n v rows ≡ false
 absent-attached n v rows distinct none = let P : Option Attached → Type 0 = IsOwner n rows in subst P none (owner-mapped n rows distinct) v
 
 -- a value gets another row, or tickets are attached as a test says
-module _ (old new : List (ℕ × Row)) (are : AreRows old) (distinct : IsDistinct nat_eq (keys_of new))
+module _ (old new : List (ℕ × ValueRow)) (are : AreRows old) (distinct : IsDistinct nat_eq (keys_of new))
     (apart : (n v w : ℕ) → is_attached n v new ≡ true → is_attached n w new ≡ true → v ≡ w) where
-  found-by_owner : (n : ℕ) (o : Option Attached) → IsOwner n new o → found ticket n (as_map ticket (attached new)) ≡ o
-  found-by_owner n o owns = owner-one n new (apart n) (found ticket n (as_map ticket (attached new))) o (owner-mapped n new distinct) owns
+  found-by_owner : (n : ℕ) (o : Option Attached) → IsOwner n new o → found attached_ticket n (as_map attached_ticket (attached new)) ≡ o
+  found-by_owner n o owns = owner-one n new (apart n) (found attached_ticket n (as_map attached_ticket (attached new))) o (owner-mapped n new distinct) owns
 
   -- the same ones
-  pub attached-same : ((n v : ℕ) → is_attached n v new ≡ is_attached n v old) → as_map ticket (attached new) ≡ as_map ticket (attached old)
+  pub attached-same : ((n v : ℕ) → is_attached n v new ≡ is_attached n v old) → as_map attached_ticket (attached new) ≡ as_map attached_ticket (attached old)
   attached-same same =
-      found-same ticket _ _ (rising-as_map ticket (attached new)) (rising-as_map ticket (attached old))
-      (λ n. found-by_owner n (found ticket n (as_map ticket (attached old))) (by n (found ticket n (as_map ticket (attached old))) (owner-mapped n old are.values)))
+      found-same attached_ticket _ _ (rising-as_map attached_ticket (attached new)) (rising-as_map attached_ticket (attached old))
+      (λ n. found-by_owner n (found attached_ticket n (as_map attached_ticket (attached old))) (by n (found attached_ticket n (as_map attached_ticket (attached old))) (owner-mapped n old are.values)))
     where
       by : (n : ℕ) (o : Option Attached) → IsOwner n old o → IsOwner n new o
       by n None none = λ v. same n v ∙ none v
@@ -98,11 +98,11 @@ module _ (old new : List (ℕ × Row)) (are : AreRows old) (distinct : IsDistinc
 
   -- one more
   pub attached-with : (v t : ℕ) → ((n w : ℕ) → is_attached n w new ≡ (((v == w) && (t == n)) || is_attached n w old))
-      → as_map ticket (attached new) ≡ with_record ticket (record { value = v; ticket = t }) (as_map ticket (attached old))
+      → as_map attached_ticket (attached new) ≡ with_record attached_ticket (record { value = v; ticket = t }) (as_map attached_ticket (attached old))
   attached-with v t more =
-      found-same ticket _ _ (rising-as_map ticket (attached new)) (rising-with_record ticket (record { value = v; ticket = t }) (as_map ticket (attached old)) (rising-as_map ticket (attached old)))
-      (λ n. found-by_owner n _ (by n (t == n) refl (found ticket n (as_map ticket (attached old))) (owner-mapped n old are.values))
-      ∙ sym (found-with_record ticket n (record { value = v; ticket = t }) (as_map ticket (attached old))))
+      found-same attached_ticket _ _ (rising-as_map attached_ticket (attached new)) (rising-with_record attached_ticket (record { value = v; ticket = t }) (as_map attached_ticket (attached old)) (rising-as_map attached_ticket (attached old)))
+      (λ n. found-by_owner n _ (by n (t == n) refl (found attached_ticket n (as_map attached_ticket (attached old))) (owner-mapped n old are.values))
+      ∙ sym (found-with_record attached_ticket n (record { value = v; ticket = t }) (as_map attached_ticket (attached old))))
     where
       and_false : (a b : Bool) → ((a && false) || b) ≡ b
       and_false true b = refl
@@ -118,11 +118,11 @@ module _ (old new : List (ℕ × Row)) (are : AreRows old) (distinct : IsDistinc
 
   -- those of other values
   pub attached-without : (v : ℕ) → ((n w : ℕ) → is_attached n w new ≡ cond (w == v) false (is_attached n w old))
-      → as_map ticket (attached new) ≡ filter (λ t. not (t.value == v)) (as_map ticket (attached old))
+      → as_map attached_ticket (attached new) ≡ filter (λ t. not (t.value == v)) (as_map attached_ticket (attached old))
   attached-without v less =
-      found-same ticket _ _ (rising-as_map ticket (attached new)) (rising-filter ticket (λ t. not (t.value == v)) (as_map ticket (attached old)) (rising-as_map ticket (attached old)))
-      (λ n. found-by_owner n _ (by n (found ticket n (as_map ticket (attached old))) (owner-mapped n old are.values))
-      ∙ sym (found-kept ticket (λ t. not (t.value == v)) n (as_map ticket (attached old)) (rising-as_map ticket (attached old))))
+      found-same attached_ticket _ _ (rising-as_map attached_ticket (attached new)) (rising-filter attached_ticket (λ t. not (t.value == v)) (as_map attached_ticket (attached old)) (rising-as_map attached_ticket (attached old)))
+      (λ n. found-by_owner n _ (by n (found attached_ticket n (as_map attached_ticket (attached old))) (owner-mapped n old are.values))
+      ∙ sym (found-kept attached_ticket (λ t. not (t.value == v)) n (as_map attached_ticket (attached old)) (rising-as_map attached_ticket (attached old))))
     where
       by : (n : ℕ) (o : Option Attached) → IsOwner n old o → IsOwner n new (option_and_then (λ t. cond (not (t.value == v)) (Some t) None) o)
       by n None none = λ w. less n w ∙ ap (λ b. cond (w == v) false b) (none w) ∙ none_left (w == v)

@@ -11,7 +11,7 @@ use Rattle.std.proofs.lemmas.Bool.{or_right}
 use Rattle.napi_types.specs.plain.Lists.{has_number}
 use Rattle.napi_types.specs.parts.Book.{TicketState, Registered, Registration, Book, made_due, moved, moved_from, due_where}
 use Rattle.napi_types.proofs.plain.Found.{same-tells, turned}
-use Rattle.finalizer_queue.proofs.Moves.{length-due_where}
+use Rattle.finalizer_queue.proofs.RowMoves.{length-due_where}
 use Rattle.wrap_tag.specs.Wraps.{AreGiven}
 
 -- a registration that was due stays so

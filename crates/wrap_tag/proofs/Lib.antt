@@ -1,5 +1,5 @@
 pub mod Dues
 pub mod ByValue
 pub mod ByTicket
-pub mod Attaching
-pub mod Freeing
+pub mod AttachingRows
+pub mod FreeingRows

@@ -16,5 +16,5 @@ abbrev pub AreGiven : List ℕ → Book → Type 0
 AreGiven tickets book = All (λ n. (1 ≤ n) × (n ≤ length book)) tickets
 
 -- a value is one of these
-abbrev pub among : List ValueId → ℕ → Bool
-among values v = has_number v (map (λ f. f.0) values)
+abbrev pub is_one_of : List ValueId → ℕ → Bool
+is_one_of values v = has_number v (map (λ f. f.0) values)

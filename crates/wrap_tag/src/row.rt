@@ -2,7 +2,7 @@
 ghost use Rattle.std.specs.Prelude.{◌≡◌, ◌≤◌, ◌∷◌, None, length};
 ghost use Rattle.napi_types.specs.plain.Lists.{has_number};
 ghost use Rattle.napi_types.specs.parts.Book.{due_where};
-ghost use Rattle.wrap_tag.specs.Rows.{tickets_of_chain, ticket_of_wrap, tickets_of_row, blank_row};
+ghost use Rattle.wrap_tag.specs.ValueRows.{tickets_of_chain, ticket_of_wrap, tickets_of_row, blank_row};
 ghost use Rattle.wrap_tag.specs.Wraps.{AreGiven};
 
 use finalizer_queue::Book;
@@ -70,18 +70,18 @@ impl Chain {
 
 /// What is attached to one value.
 #[derive(Drop)]
-pub(crate) struct Row {
+pub(crate) struct ValueRow {
     pub(crate) wrap: Option<Wrap>,
     pub(crate) tag: Option<Tag>,
     pub(crate) tickets: Chain,
 }
 
-impl Row {
+impl ValueRow {
     /// Nothing is attached.
-    pub(crate) fn blank() -> Row
+    pub(crate) fn blank() -> ValueRow
         ensures { result ≡ blank_row }
     {
-        Row {
+        ValueRow {
             wrap: None,
             tag: None,
             tickets: Chain::End,
@@ -94,7 +94,7 @@ impl Row {
         ensures due { book.new.book ≡ due_where (λ n. has_number n (tickets_of_row self)) book.old.book }
         ensures spare { book.old.spare ≤ book.new.spare }
     {
-        let Row { wrap, tickets, .. } = self;
+        let ValueRow { wrap, tickets, .. } = self;
         if let Some(ticket) = ticket_of(wrap) {
             book.make_due(ticket);
         }

@@ -2,23 +2,23 @@
 ghost use Rattle.std.specs.Prelude.{◌≡◌, ◌+◌, ◌<◌, ◌≤◌, None, Some, IsSome, option_map};
 ghost use Rattle.std.specs.HashMap.{spare};
 ghost use Rattle.std.specs.Option.{option_and_then, unwrap_or};
-ghost use Rattle.wrap_tag.specs.Rows.{blank_row, unwrapped_row, row_of, PutsRow};
+ghost use Rattle.wrap_tag.specs.ValueRows.{blank_row, unwrapped_row, value_row, PutsRow};
 
-use crate::row::{Row, Tag, Wrap};
+use crate::row::{ValueRow, Tag, Wrap};
 use napi_types::ValueId;
 use std::collections::HashMap;
 
 /// Takes out the row of a value: a blank one where it has none.
-pub(crate) fn take(rows: &mut HashMap<u64, Row>, value: ValueId) -> Row
-    ensures row { result ≡ unwrap_or (row_of value.0 rows.old.entries) blank_row }
+pub(crate) fn take(rows: &mut HashMap<u64, ValueRow>, value: ValueId) -> ValueRow
+    ensures row { result ≡ unwrap_or (value_row value.0 rows.old.entries) blank_row }
     ensures taken { PutsRow value.0 None rows.old.entries rows.new.entries }
     ensures spare { spare rows.old ≤ spare rows.new }
 {
-    rows.remove(&value.0).unwrap_or(Row::blank())
+    rows.remove(&value.0).unwrap_or(ValueRow::blank())
 }
 
 /// Puts the row of a value. There is room for it.
-pub(crate) fn put(rows: &mut HashMap<u64, Row>, value: ValueId, row: Row)
+pub(crate) fn put(rows: &mut HashMap<u64, ValueRow>, value: ValueId, row: ValueRow)
     requires { 0 < spare rows.old }
     ensures put { PutsRow value.0 (Some row) rows.old.entries rows.new.entries }
     ensures spare { spare rows.old ≤ spare rows.new + 1 }
@@ -29,24 +29,24 @@ pub(crate) fn put(rows: &mut HashMap<u64, Row>, value: ValueId, row: Row)
 }
 
 /// Takes the wrap out of the row of a value.
-pub(crate) fn unwrap_out(rows: &mut HashMap<u64, Row>, value: ValueId) -> Option<Wrap>
-    ensures wrap { result ≡ option_and_then (λ row. row.wrap) (row_of value.0 rows.old.entries) }
-    ensures taken { PutsRow value.0 (option_map unwrapped_row (row_of value.0 rows.old.entries)) rows.old.entries rows.new.entries }
+pub(crate) fn unwrap_out(rows: &mut HashMap<u64, ValueRow>, value: ValueId) -> Option<Wrap>
+    ensures wrap { result ≡ option_and_then (λ row. row.wrap) (value_row value.0 rows.old.entries) }
+    ensures taken { PutsRow value.0 (option_map unwrapped_row (value_row value.0 rows.old.entries)) rows.old.entries rows.new.entries }
     ensures spare { spare rows.new ≡ spare rows.old }
 {
     rows.get_mut(&value.0)?.wrap.take()
 }
 
 /// The wrap of a value.
-pub(crate) fn wrap_at(rows: &HashMap<u64, Row>, value: ValueId) -> Option<Wrap>
-    ensures { result ≡ option_and_then (λ row. row.wrap) (row_of value.0 rows.now.entries) }
+pub(crate) fn wrap_at(rows: &HashMap<u64, ValueRow>, value: ValueId) -> Option<Wrap>
+    ensures { result ≡ option_and_then (λ row. row.wrap) (value_row value.0 rows.now.entries) }
 {
     rows.get(&value.0)?.wrap
 }
 
 /// The tag of a value.
-pub(crate) fn tag_at(rows: &HashMap<u64, Row>, value: ValueId) -> Option<Tag>
-    ensures { result ≡ option_and_then (λ row. row.tag) (row_of value.0 rows.now.entries) }
+pub(crate) fn tag_at(rows: &HashMap<u64, ValueRow>, value: ValueId) -> Option<Tag>
+    ensures { result ≡ option_and_then (λ row. row.tag) (value_row value.0 rows.now.entries) }
 {
     rows.get(&value.0)?.tag
 }

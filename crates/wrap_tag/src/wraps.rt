@@ -4,9 +4,9 @@ ghost use Rattle.std.specs.Option.{option_and_then};
 ghost use Rattle.napi_types.specs.plain.Lists.{has, has_number};
 ghost use Rattle.napi_types.specs.parts.Attachments.{no_attachments, wrap_of, tag_of as tag_at, with_wrap, without_wrap, with_tag, with_attached, tickets_of, tickets_where, hangs_on, left_on};
 ghost use Rattle.napi_types.specs.parts.Book.{due_where};
-ghost use Rattle.wrap_tag.specs.Wraps.{AreGiven, among};
+ghost use Rattle.wrap_tag.specs.Wraps.{AreGiven, is_one_of};
 
-use crate::row::{Chain, Row, Tag, Wrap};
+use crate::row::{Chain, ValueRow, Tag, Wrap};
 use crate::rows;
 use finalizer_queue::Book;
 use napi_types::{NoMemory, Ticket, ValueId};
@@ -20,7 +20,7 @@ use std::marker::Model;
 pub struct Wraps {
     alloc: Global,
     // By the number of the value. A value stands here from its first attachment until it is freed.
-    rows: HashMap<u64, Row>,
+    rows: HashMap<u64, ValueRow>,
     // For the ticket that is attached next.
     link: Option<Box<Chain>>,
 }
@@ -30,7 +30,7 @@ impl Model for Wraps {
     ghost use Rattle.std.specs.HashMap.{spare};
     ghost use Rattle.std.specs.Option.{option_len};
     ghost use Rattle.wrap_tag.specs.Wraps.{WrapState};
-    ghost use Rattle.wrap_tag.specs.Rows.{attachments_of, AreRows};
+    ghost use Rattle.wrap_tag.specs.ValueRows.{attachments_of, AreRows};
 
     ghost Value = { WrapState };
 
@@ -165,9 +165,9 @@ impl Wraps {
     ///
     /// The time grows with the values and their tickets. It takes no memory.
     pub fn gone_all(&mut self, values: &[ValueId], book: &mut Book)
-        requires { AreGiven (tickets_where (among values.now) self.old.attachments) book.old.book }
-        ensures forgotten { self.new.attachments ≡ left_on (among values.now) self.old.attachments }
-        ensures due { book.new.book ≡ due_where (hangs_on (among values.now) self.old.attachments) book.old.book }
+        requires { AreGiven (tickets_where (is_one_of values.now) self.old.attachments) book.old.book }
+        ensures forgotten { self.new.attachments ≡ left_on (is_one_of values.now) self.old.attachments }
+        ensures due { book.new.book ≡ due_where (hangs_on (is_one_of values.now) self.old.attachments) book.old.book }
         ensures spare { self.old.spare ≤ self.new.spare }
         ensures room { book.old.spare ≤ book.new.spare }
     {

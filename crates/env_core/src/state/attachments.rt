@@ -5,7 +5,7 @@ ghost use Rattle.napi_types.specs.environment.Refusals.{timely_refusal};
 ghost use Rattle.env_core.specs.State.{AnswersInTime};
 
 use super::State;
-use crate::handles::{Takes, target};
+use crate::handles::{Attachable, target};
 use crate::registering::{
     attach_if, refer_if, register_if, reserve_attached, reserve_ticket, wants_alone, withdraw_if,
 };
@@ -28,7 +28,7 @@ impl State {
         ensures err { OnErr result (self.new ≡ self.old) }
         ensures unrefused { OnErr result (timely_refusal self.old (call_of.Wrap object payload finalizer hint wanted) ≡ None) }
     {
-        let value = match target(&self.store, &self.scopes, object, Takes::Objects) {
+        let value = match target(&self.store, &self.scopes, object, Attachable::Objects) {
             Ok(value) => value,
             Err(status) => return Ok(Reply::plain(status, Out::Nothing)),
         };
@@ -68,7 +68,7 @@ impl State {
         ensures err { OnErr result (self.new ≡ self.old) }
         ensures unrefused { OnErr result (timely_refusal self.old (call_of.AddFinalizer object payload entry hint wanted) ≡ None) }
     {
-        let value = match target(&self.store, &self.scopes, object, Takes::Objects) {
+        let value = match target(&self.store, &self.scopes, object, Attachable::Objects) {
             Ok(value) => value,
             Err(status) => return Ok(Reply::plain(status, Out::Nothing)),
         };
@@ -89,7 +89,7 @@ impl State {
     pub(super) fn unwrap(&self, object: HandleId) -> Reply
         ensures { AnswersInTime self.now (call_of.Unwrap object) result self.now }
     {
-        let value = match target(&self.store, &self.scopes, object, Takes::Objects) {
+        let value = match target(&self.store, &self.scopes, object, Attachable::Objects) {
             Ok(value) => value,
             Err(status) => return Reply::plain(status, Out::Nothing),
         };
@@ -104,7 +104,7 @@ impl State {
     pub(super) fn remove_wrap(&mut self, object: HandleId) -> Reply
         ensures { AnswersInTime self.old (call_of.RemoveWrap object) result self.new }
     {
-        let value = match target(&self.store, &self.scopes, object, Takes::Objects) {
+        let value = match target(&self.store, &self.scopes, object, Attachable::Objects) {
             Ok(value) => value,
             Err(status) => return Reply::plain(status, Out::Nothing),
         };
@@ -134,7 +134,7 @@ impl State {
             &self.store,
             &self.scopes,
             object,
-            Takes::ObjectsAndExternals,
+            Attachable::ObjectsAndExternals,
         ) {
             Ok(value) => value,
             Err(status) => return Ok(Reply::plain(status, Out::Nothing)),
@@ -155,7 +155,7 @@ impl State {
             &self.store,
             &self.scopes,
             object,
-            Takes::ObjectsAndExternals,
+            Attachable::ObjectsAndExternals,
         ) {
             Ok(value) => value,
             Err(status) => return Reply::plain(status, Out::Nothing),

@@ -13,7 +13,7 @@ ghost use Rattle.napi_types.specs.parts.Properties.{most_names};
 ghost use Rattle.napi_types.specs.parts.Scopes.{gives};
 ghost use Rattle.napi_types.specs.environment.Calls.{with_depth_error};
 ghost use Rattle.napi_types.specs.environment.Refusals.{early_refusal};
-ghost use Rattle.env_values.specs.Seen.{HoldsLive};
+ghost use Rattle.env_values.specs.SeenValues.{HoldsLive};
 ghost use Rattle.env_core.specs.State.{CallsFunction, EntersCall, BeginsScopes, SameScopes};
 
 use super::{State, host_entry};

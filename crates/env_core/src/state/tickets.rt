@@ -9,7 +9,7 @@ ghost use Rattle.napi_types.specs.parts.Frames.{most_frames, duty_of, frame_of_d
 ghost use Rattle.napi_types.specs.environment.Ends.{duty_ended, outermost_end_change};
 ghost use Rattle.napi_types.specs.environment.Hooked.{IsHooked};
 ghost use Rattle.napi_types.specs.environment.Tickets.{next_ticket};
-ghost use Rattle.finalizer_queue.specs.Kept.{ticket_number};
+ghost use Rattle.finalizer_queue.specs.KeptBook.{ticket_number};
 ghost use Rattle.handle_scope.specs.HandleScopes.{with_frame_scopes};
 ghost use Rattle.env_core.specs.Beginning.{BeginsFrame};
 

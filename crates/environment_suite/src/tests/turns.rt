@@ -2,7 +2,7 @@
 ghost use Rattle.std.specs.Prelude.{◌≡◌, ◌≤◌, length};
 ghost use Rattle.napi_types.specs.plain.Room.{most_entries};
 ghost use Rattle.env_core.specs.Core.{opened_core};
-ghost use Rattle.env_loop.specs.Runs.{opened_run};
+ghost use Rattle.env_loop.specs.RecordedRuns.{opened_run};
 
 use super::ample;
 use addon_trait::Addon;

@@ -43,7 +43,7 @@ use Rattle.napi_types.proofs.plain.Found.{same-self}
 use Rattle.napi_types.proofs.environment.Cases.{asked-by}
 use Rattle.napi_types.proofs.environment.FrameEnds.{ended-ends}
 use Rattle.napi_types.proofs.hub.HubKeeps.{hub_step-what, other-calls}
-use Rattle.napi_types.proofs.hub.HubRooms.{IsWork, not-refused, Waits, queued-waits}
+use Rattle.napi_types.proofs.hub.HubRooms.{IsWork, not-refused, WorkWaits, queued-waits}
 use Rattle.napi_types.proofs.runs.Runs.{run-more, final-more}
 use Rattle.napi_types.proofs.runs.StepCases.{StepCase, calls, ends, opens, inits, begins, vanishes, shares, leaves, passes, moves, others, step-case}
 use Rattle.napi_types.proofs.all_runs.CancelledWorks.{cancelled-once, later-run}
@@ -139,7 +139,7 @@ accepted-cancels s bs cs a xs ys x w front whole is accepted =
     let c : CancelsWork m.hub w (after m a x).hub =
     step-cancels m (step m a x) w case next.1 (sym (ap (λ (y : Entry). y.what) next.0) ∙ is) (sym (ap (λ (y : Entry). y.reply.status) next.0) ∙ accepted) in
     let work : IsWork is_queued m.hub.pool w.0 = not-refused is_queued m.hub.pool w.0 c.none in
-    let waits : Waits m.hub.pool work.work = queued-waits m.hub.pool work.work work.state in
+    let waits : WorkWaits m.hub.pool work.work = queued-waits m.hub.pool work.work work.state in
     let number : number_of_work m.hub.pool w.0 ≡ Some waits.number = ap (λ o. option_and_then (λ (v : Work). v.number) o) work.there ∙ waits.is in
     let stands : is_cancelled_in waits.number (after m a x).hub ≡ true =
     subst (λ (g : Hub). is_cancelled_in waits.number g ≡ true) (sym (c.now ∙ ap (λ o. in_pool (cancelled_at o) m.hub) number))

@@ -22,7 +22,7 @@ use Rattle.napi_types.specs.all_runs.Counts.{is_duty}
 use Rattle.napi_types.specs.all_runs.DutyPlaces.{has_item, owes_finalizer, function_passes}
 use Rattle.napi_types.proofs.plain.Found.{found-append, found-All, found-number, same-self, same-tells, found-map}
 use Rattle.napi_types.proofs.hub.HubDutySteps.{ChangesFunction, calls, acquires, releases, refers, closes, finishes, delivers, owes, HubDutyStep, keeps, queues, cancels, starts, works, drains, creates, changes, completes}
-use Rattle.napi_types.proofs.hub.HubFunctions.{AreSoundFrom, changed_at}
+use Rattle.napi_types.proofs.hub.HubFunctions.{AreSoundFrom, function_changed_at}
 use Rattle.napi_types.proofs.all_runs.WorkAccounts.{span-more, span-less}
 
 -- TESTS
@@ -227,14 +227,14 @@ one-id k change same y = by (y.id == k)
 -- the one of this number is changed, and no other
 pub found-changed : (f : FunctionState) (change : FunctionState → FunctionState) → ((y : FunctionState) → (change y).id ≡ y.id) → (fs : List FunctionState)
     → numbered_function f.id fs ≡ Some f
-    → numbered_function f.id (changed_at f.id change fs) ≡ Some (change f)
+    → numbered_function f.id (function_changed_at f.id change fs) ≡ Some (change f)
 found-changed f change same fs there =
     found-mapped f.id (λ (y : FunctionState). cond (y.id == f.id) (change y) y) (one-id f.id change same) fs
     ∙ ap (option_map (λ (y : FunctionState). cond (y.id == f.id) (change y) y)) there ∙ ap (λ b. Some (cond b (change f) f)) (same-self f.id)
 
 pub found-other : (m k : ℕ) (change : FunctionState → FunctionState) → ((y : FunctionState) → (change y).id ≡ y.id) → (fs : List FunctionState)
     → (m == k) ≡ false
-    → numbered_function m (changed_at k change fs) ≡ numbered_function m fs
+    → numbered_function m (function_changed_at k change fs) ≡ numbered_function m fs
 found-other m k change same fs apart =
     found-mapped m (λ (y : FunctionState). cond (y.id == k) (change y) y) (one-id k change same) fs ∙ by (numbered_function m fs) refl
   where

@@ -44,7 +44,7 @@ use Rattle.napi_types.proofs.environment.FrameEnds.{ended-ends}
 use Rattle.napi_types.proofs.hub.HubCases.{HubCase, hub-case}
 use Rattle.napi_types.proofs.hub.HubHolds.{HubSound, hub-sound, spent-holds, opening-sound}
 use Rattle.napi_types.proofs.hub.HubKeeps.{other-calls, thread-shared}
-use Rattle.napi_types.proofs.hub.HubRooms.{places_of, hub-room}
+use Rattle.napi_types.proofs.hub.HubRooms.{places_beside, hub-room}
 use Rattle.napi_types.proofs.runs.CallRooms.{shared-room}
 use Rattle.napi_types.proofs.runs.Chosen as choices
 use Rattle.napi_types.proofs.runs.Chosen.{OwnChoice, HubChoice, own-choice, hub-choice, chosen-by}
@@ -95,7 +95,7 @@ hub-stepped Enough l m n y k r = record {
     case : HubCase m.hub y told left
     case = hub-case m.hub y k.may
 
-    by : (w : What) → y.what ≡ w → reserved_history left + 1 ≤ reserved_history m.hub + places_of w → Enough → m.history_length + 1 + reserved_history left ≤ l.history
+    by : (w : What) → y.what ≡ w → reserved_history left + 1 ≤ reserved_history m.hub + places_beside w → Enough → m.history_length + 1 + reserved_history left ≤ l.history
     by (what.Host event) is fits enough = event-fits m.history_length (reserved_history left) (reserved_history m.hub) l.history fits (r.history enough)
     by (what.Call c) is fits enough =
         let there : (is_shared c ≡ true) × (is_full (room_of m c) c ≡ false) = k.free c is in

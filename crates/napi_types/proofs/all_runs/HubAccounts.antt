@@ -28,7 +28,7 @@ use Rattle.napi_types.specs.all_runs.DutyPlaces.{places_in_pool, places_in_hub}
 use Rattle.napi_types.specs.all_runs.Laws.{is_ticket}
 use Rattle.napi_types.proofs.plain.Tallies.{tally-cons}
 use Rattle.napi_types.proofs.hub.HubDutySteps.{ChangesFunction, calls, acquires, releases, refers, closes, finishes, delivers, owes, HubDutyStep, keeps, queues, cancels, starts, works, drains, creates, changes, completes}
-use Rattle.napi_types.proofs.hub.HubFunctions.{AreSoundFrom, changed_at}
+use Rattle.napi_types.proofs.hub.HubFunctions.{AreSoundFrom, function_changed_at}
 use Rattle.napi_types.proofs.hub.HubHolds.{HubSound}
 use Rattle.napi_types.proofs.runs.Runs.{along-entries, along-run}
 use Rattle.napi_types.proofs.runs.StepCases.{step-case}
@@ -123,7 +123,7 @@ change-well f _ _ _ (owes is) y well = λ over. let no : false ≡ true = over i
 
 all-changed : (k : ℕ) (change : FunctionState → FunctionState) → ((y : FunctionState) → FinishesWell y → FinishesWell (change y))
     → (fs : List FunctionState) → All FinishesWell fs
-    → All FinishesWell (changed_at k change fs)
+    → All FinishesWell (function_changed_at k change fs)
 all-changed k change well-kept fs well =
     All-map FinishesWell (λ (y : FunctionState). cond (y.id == k) (change y) y) fs (λ i d inside. by (get_or fs i d) (well i d inside))
   where

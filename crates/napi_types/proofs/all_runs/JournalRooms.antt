@@ -26,7 +26,6 @@ use Rattle.napi_types.specs.environment.Ends.{end_change}
 use Rattle.napi_types.specs.environment.Entering.{asked_change}
 use Rattle.napi_types.specs.environment.Environment.{Environment}
 use Rattle.napi_types.specs.environment.JournalRoom.{gone_place, reserved_journal, journal_room}
-use Rattle.napi_types.specs.environment.Moments.{is_tearing}
 use Rattle.napi_types.specs.environment.SharedCalls.{shared_entry, after_shared}
 use Rattle.napi_types.specs.hub.Hub.{stage_of, Before, Going, Looped, Drained}
 use Rattle.napi_types.specs.hub.HubMoves.{HubMove, Delivers, Closes, Finishes, hub_move}
@@ -38,8 +37,9 @@ use Rattle.napi_types.specs.runs.Machine.{Machine}
 use Rattle.napi_types.specs.runs.Run.{IsRunBy, after, final, IsNext}
 use Rattle.napi_types.specs.runs.Setting.{Setting, final_of, opening_of}
 use Rattle.napi_types.specs.runs.Step.{Step, by_hub, ticket_step, move_step, event_step, call_step_on, end_step_on, other_step, step}
+use Rattle.napi_types.specs.environment.Hooked.{is_late}
 use Rattle.napi_types.proofs.plain.Conditions.{and-right, not-true}
-use Rattle.napi_types.proofs.parts.Books.{owed-begun, NoneRegistered, all_due-none, none-owed_tickets}
+use Rattle.napi_types.proofs.parts.Books.{owed-begun, NoneRegistered, none-owed_tickets}
 use Rattle.napi_types.proofs.environment.Answers.{SameCourse, course_of, course-parts, local-counted}
 use Rattle.napi_types.proofs.environment.FrameChanges.{KeepsButFrame, ended-keeps, owed-left, KeepsButFrames, asked_change-fits}
 use Rattle.napi_types.proofs.environment.FrameEnds.{Ends, ended-ends}
@@ -53,20 +53,11 @@ use Rattle.napi_types.proofs.runs.Forms.{Form, form-of}
 use Rattle.napi_types.proofs.runs.Runs.{along-entries, along-run}
 use Rattle.napi_types.proofs.runs.SharedSteps.{after_shared-alone, shares-still, moves-still, others-still, end-stage}
 use Rattle.napi_types.proofs.runs.StepCases.{StepCase, shares, leaves, passes, moves, others, stage-moved, step-case}
+use Rattle.napi_types.proofs.all_runs.Orderly.{late-tears, settled-passed}
 
 abbrev pub is_init : Phase → Bool
 is_init phase.Init = true
 is_init _ = false
-
-abbrev pub is_last : Phase → Bool
-is_last phase.Finals = true
-is_last phase.Gone = true
-is_last _ = false
-
-last-tears : (p : Phase) → is_last p ≡ true → is_tearing p ≡ true
-last-tears phase.Finals h = refl
-last-tears phase.Gone h = refl
-last-tears _ h = cc
 
 -- what holds at every moment of a run; that the journal is within its limit, where the limits suffice
 pub record Roomy (Enough : Type 0) (l : Limits) (m : Machine) : Type 0 where
@@ -77,7 +68,7 @@ pub record Roomy (Enough : Type 0) (l : Limits) (m : Machine) : Type 0 where
   pub opened : is_init m.env.phase ≡ false → m.env.opened ≡ true
   pub inits : is_init m.env.phase ≡ false → nat_lt m.env.inits m.env.addons ≡ false
   -- once `finals` has come no ticket is registered, and in the end no frame stands and none is to come
-  pub settled : is_last m.env.phase ≡ true → NoneRegistered m.env.book
+  pub settled : is_late m.env.phase ≡ true → NoneRegistered m.env.book
   pub bare : m.env.phase ≡ phase.Gone → m.env.frames ≡ []
   pub spent : m.env.phase ≡ phase.Gone → owed_tickets m.env.book ≡ 0
 
@@ -90,7 +81,7 @@ same-others d e same = rw (same.opened, same.phase, same.addons, same.inits) ref
 
 -- a step that leaves the phase as it is
 stays : (Enough : Type 0) (l : Limits) (m n : Machine) → Roomy Enough l m → n.limits ≡ m.limits → n.hub.stage ≡ m.hub.stage → SameCourse m.env n.env
-    → (Enough → n.journal_length + reserved_journal n.env ≤ l.journal) → (is_last m.env.phase ≡ true → NoneRegistered n.env.book) → m.env.phase ≢ phase.Gone
+    → (Enough → n.journal_length + reserved_journal n.env ≤ l.journal) → (is_late m.env.phase ≡ true → NoneRegistered n.env.book) → m.env.phase ≢ phase.Gone
     → Roomy Enough l n
 stays Enough l m n r limits stage course journal settled never = record {
   limits = limits ∙ r.limits;
@@ -98,7 +89,7 @@ stays Enough l m n r limits stage course journal settled never = record {
   stage = stage ∙ r.stage ∙ ap stage_of (sym course.phase);
   opened = λ p. course.opened ∙ r.opened (ap is_init (sym course.phase) ∙ p);
   inits = λ p. rw (course.inits, course.addons) (r.inits (ap is_init (sym course.phase) ∙ p));
-  settled = λ p. settled (ap is_last (sym course.phase) ∙ p);
+  settled = λ p. settled (ap is_late (sym course.phase) ∙ p);
   bare = λ p. absurd (never (sym course.phase ∙ p));
   spent = λ p. absurd (never (sym course.phase ∙ p));
 }
@@ -126,7 +117,7 @@ call-room Enough l m c o f fs false local e r h =
     m.limits.journal free k.owed) in
     let P : Limits → Type 0 = λ q. m.journal_length + 1 + reserved_journal d ≤ q.journal in
     stays Enough l m (call_step_on false m c o).after r refl refl course (λ enough. subst P r.limits fits)
-    (λ last. none-asked m.env c n (last-tears m.env.phase last) (r.settled last)) (framed Enough l m f fs e r)
+    (λ last. none-asked m.env c n (late-tears m.env.phase last) (r.settled last)) (framed Enough l m f fs e r)
 call-room Enough l m c o f fs true local e r h =
     let reply : Reply = (hub_step m.hub (shared_entry m.env c o)).entry.reply in
     let d : Environment = after_shared c reply m.env in
@@ -184,11 +175,6 @@ end-room Enough l m v w may f fs true hubs e r =
     (λ last. none-ended m.env v w (r.settled last)) (framed Enough l m f fs e r)
 
 -- THE HUB STARTS A PHASE
-settled-phase : (p : Phase) (book : Book) → p ≢ phase.Gone → is_last p ≡ true → NoneRegistered (book_in p book)
-settled-phase phase.Finals book never last = all_due-none book
-settled-phase phase.Gone book never last = absurd (never refl)
-settled-phase _ book never last = cc
-
 passed-fits : (j b w v x : ℕ) → w ≡ v → j + (b + 2 * v) ≤ x → j + (b + 2 * w) ≤ x
 passed-fits j b w v x e h = omega (arith, e, h)
 
@@ -203,7 +189,7 @@ passed-room Enough l m event p o far g never stands had r = record {
   stage = far;
   opened = λ q. stands;
   inits = λ q. had;
-  settled = settled-phase p m.env.book never;
+  settled = settled-passed p m.env.book never;
   bare = λ q. absurd (never q);
   spent = λ q. absurd (never q);
 }
@@ -300,7 +286,7 @@ own-room Enough l m _ _ e f (choices.due_at_end n lowest) r h =
     ticket-room Enough l m n (registration_at m.env.book n) refl f (not-gone m.env phase.Finals e (λ q. cc)) r h
 own-room Enough l m _ _ e f (choices.ends lowest) r h =
     let j : Enough → m.journal_length + (one_if (not m.env.opened) + 1 + 2 * (m.env.addons - m.env.inits) + 0 + 2 * owed_tickets m.env.book) ≤ l.journal = λ enough. rw (e, f) at (r.journal enough) in
-    let settled : NoneRegistered m.env.book = r.settled (ap is_last e) in
+    let settled : NoneRegistered m.env.book = r.settled (ap is_late e) in
     record {
       limits = r.limits;
       journal = λ enough. rw f (gone-fits m.journal_length (one_if (not m.env.opened)) (2 * (m.env.addons - m.env.inits)) (owed_tickets m.env.book) l.journal (j enough));

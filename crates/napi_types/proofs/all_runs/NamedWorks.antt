@@ -201,24 +201,24 @@ run-told w s bs xs run =
     (opening_of s) bs xs (opens-accountable s) run None (λ n is. let no : None ≡ Some n = is in cc)
 
 -- a run of entries that stand behind others is in two parts
-record Parts (m : Machine) (bs : List Ask) (xs ys : List Entry) : Type 0 where
+record InTwoParts (m : Machine) (bs : List Ask) (xs ys : List Entry) : Type 0 where
   pub front : List Ask
   pub rest : List Ask
   pub whole : front ++ rest ≡ bs
   pub run : IsRunBy m front xs
   pub later : IsRunBy (final m front xs) rest ys
 
-parts-of : (m : Machine) (bs : List Ask) (xs ys : List Entry) → IsRunBy m bs (xs ++ ys) → Parts m bs xs ys
+parts-of : (m : Machine) (bs : List Ask) (xs ys : List Entry) → IsRunBy m bs (xs ++ ys) → InTwoParts m bs xs ys
 parts-of m bs [] ys run = record { front = []; rest = bs; whole = refl; run = tt; later = run }
 parts-of m [] (x ∷ xs) ys run = absurd run
 parts-of m (b ∷ bs) (x ∷ xs) ys run =
-    let k : Parts (after m b x) bs xs ys = parts-of (after m b x) bs xs ys run.1 in
+    let k : InTwoParts (after m b x) bs xs ys = parts-of (after m b x) bs xs ys run.1 in
     record { front = b ∷ k.front; rest = k.rest; whole = ap (λ l. b ∷ l) k.whole; run = (run.0, k.run); later = k.later }
 
 pub cancels-told : CancelsAreTold
 cancels-told s bs xs ys x w whole is accepted = by k.rest k.whole k.later
   where
-    k : Parts (opening_of s) bs xs (x ∷ ys)
+    k : InTwoParts (opening_of s) bs xs (x ∷ ys)
     k = parts-of (opening_of s) bs xs (x ∷ ys) whole.run.steps
 
     by : (rest : List Ask) → k.front ++ rest ≡ bs → IsRunBy (final (opening_of s) k.front xs) rest (x ∷ ys)

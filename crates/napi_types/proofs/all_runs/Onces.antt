@@ -1,7 +1,6 @@
 -- Each ticket that is made begins once or is withdrawn, by an account of its places over every run.
 use Rattle.std.proofs.Common.{◌≡◌, ◌∙◌, ℕ, zero, suc, ◌+◌, ◌≤◌, ◌==◌, Bool, true, false, cond, not, ◌&&◌, List, [], ◌∷◌, ◌++◌, length, length-append, slice_get, IsTrue, refl, ap, sym, subst, Option, Some, None, option_map, is_some, arith}
 use Rattle.std.specs.List.{range_with_len}
-use Rattle.std.specs.Option.{unwrap_or}
 use Rattle.std.proofs.lemmas.Bool.{eqb-true}
 use Rattle.std.proofs.lemmas.List.Sums.{sum_by-cons}
 use Rattle.std.proofs.lemmas.Option.{slice_get_past}
@@ -52,6 +51,7 @@ use Rattle.napi_types.proofs.runs.SharedSteps.{StandsStill, shares-still}
 use Rattle.napi_types.proofs.runs.StepCases.{StepCase, calls, ends, begins, shares, leaves, passes, moves, others, event_before}
 use Rattle.napi_types.proofs.all_runs.Orderly.{Orderly, orderly-opens, next-case, along-orderly}
 use Rattle.napi_types.proofs.all_runs.Rooms.{none-left}
+use Rattle.napi_types.proofs.environment.TornBooks.{tells}
 
 -- WHAT A STEP DOES
 -- the ways in which an entry that makes, withdraws and begins these tickets changes the book
@@ -164,17 +164,13 @@ abbrev pub owed_at : ℕ → Book → ℕ
 owed_at t b = as_one (is_at is_owed b t)
 
 -- 1 where it is this ticket's duty
-abbrev named : ℕ → Option Duty → ℕ
-named t d = as_one (is_duty (ticket_duty t) d)
+abbrev one_if_ticket : ℕ → Option Duty → ℕ
+one_if_ticket t d = as_one (is_duty (ticket_duty t) d)
 
 -- a step gives the ticket that it makes; the frame of one that is made is to come, until it begins or is withdrawn
 record Account (t : ℕ) (b : Book) (made dropped begun : Option Duty) (c : Book) : Type 0 where
-  pub given : given_at t c ≡ given_at t b + named t made
-  pub owed : owed_at t c + named t begun + named t dropped ≡ owed_at t b + named t made
-
--- what is under a ticket passes a test, or there is nothing
-abbrev tells : (TicketState → Bool) → Option Registration → Bool
-tells test o = unwrap_or (option_map (λ (r : Registration). test r.state) o) false
+  pub given : given_at t c ≡ given_at t b + one_if_ticket t made
+  pub owed : owed_at t c + one_if_ticket t begun + one_if_ticket t dropped ≡ owed_at t b + one_if_ticket t made
 
 -- a move gives no ticket
 given-moved : (move : TicketState → TicketState) (test : ℕ → Bool) (t : ℕ) (b : Book) → given_at t (moved_where move test b) ≡ given_at t b
@@ -257,8 +253,8 @@ account-withdrawn t b n is =
 both : (t : ℕ) (b c d : Book) (n m : Duty) → Account t b None (Some n) None c → Account t c (Some m) None None d → Account t b (Some m) (Some n) None d
 both t b c d n m left added =
     record {
-      given = givens (given_at t d) (given_at t c) (given_at t b) (named t (Some m)) added.given left.given;
-      owed = oweds (owed_at t d) (owed_at t c) (owed_at t b) (named t (Some m)) (named t (Some n)) added.owed left.owed;
+      given = givens (given_at t d) (given_at t c) (given_at t b) (one_if_ticket t (Some m)) added.given left.given;
+      owed = oweds (owed_at t d) (owed_at t c) (owed_at t b) (one_if_ticket t (Some m)) (one_if_ticket t (Some n)) added.owed left.owed;
     }
   where
     givens : (x y z k : ℕ) → x ≡ y + k → y ≡ z + 0 → x ≡ z + k
@@ -310,7 +306,7 @@ account t b _ _ _ _ (began p n r c there may e) =
     two a k c h = omega (arith, h)
 
 -- no duty of the hub is this ticket
-hub-unnamed : (t : ℕ) (o : Option Duty) → OfHub o → named t o ≡ 0
+hub-unnamed : (t : ℕ) (o : Option Duty) → OfHub o → one_if_ticket t o ≡ 0
 hub-unnamed t (Some (duty.Ticket u)) ours = cc
 hub-unnamed t _ ours = refl
 
@@ -318,8 +314,8 @@ hub-account : (t : ℕ) (b : Book) (made begun : Option Duty) (c : Book) → OfH
 hub-account t b made begun c ours its same =
     same-account t b made None begun b c same
     (record {
-      given = one (given_at t b) (named t made) (hub-unnamed t made ours);
-      owed = all (owed_at t b) (named t made) (named t begun) (hub-unnamed t made ours) (hub-unnamed t begun its);
+      given = one (given_at t b) (one_if_ticket t made) (hub-unnamed t made ours);
+      owed = all (owed_at t b) (one_if_ticket t made) (one_if_ticket t begun) (hub-unnamed t made ours) (hub-unnamed t begun its);
     })
   where
     one : (g n : ℕ) → n ≡ 0 → g ≡ g + n
@@ -358,11 +354,11 @@ run-account t =
     let e : Book = (final (after m a x) bs xs).env.book in
     let first : Account t b x.reply.made x.reply.dropped (begun_duty x.what x.reply.out) c = duty-account t b _ _ _ c (next-is m a x h next) in
     record {
-      given = givens (given_at t b) (given_at t c) (given_at t e) (named t x.reply.made) (made d xs) (made d (x ∷ xs))
+      given = givens (given_at t b) (given_at t c) (given_at t e) (one_if_ticket t x.reply.made) (made d xs) (made d (x ∷ xs))
           first.given later.given (made-cons d x xs);
-      owed = oweds (owed_at t b) (owed_at t c) (owed_at t e) (named t x.reply.made) (made d xs) (made d (x ∷ xs))
-          (named t (begun_duty x.what x.reply.out)) (begun d xs) (begun d (x ∷ xs))
-          (named t x.reply.dropped) (dropped d xs) (dropped d (x ∷ xs)) first.owed later.owed (made-cons d x xs) (begun-cons d x xs) (dropped-cons d x xs);
+      owed = oweds (owed_at t b) (owed_at t c) (owed_at t e) (one_if_ticket t x.reply.made) (made d xs) (made d (x ∷ xs))
+          (one_if_ticket t (begun_duty x.what x.reply.out)) (begun d xs) (begun d (x ∷ xs))
+          (one_if_ticket t x.reply.dropped) (dropped d xs) (dropped d (x ∷ xs)) first.owed later.owed (made-cons d x xs) (begun-cons d x xs) (dropped-cons d x xs);
     })
   where
     none : (n : ℕ) → n ≡ n + 0
@@ -379,14 +375,14 @@ run-account t =
 
 -- THE TICKETS THAT ARE MADE
 -- a step makes the next ticket, or none
-data Makes (b : Book) : Option Duty → Book → Type 0 where
-  making : (c : Book) → length c ≡ length b + 1 → Makes b (Some (ticket_duty (length b + 1))) c
-  unmade : (made : Option Duty) (c : Book) → made_ticket made ≡ [] → length c ≡ length b → Makes b made c
+data MakesTicket (b : Book) : Option Duty → Book → Type 0 where
+  making : (c : Book) → length c ≡ length b + 1 → MakesTicket b (Some (ticket_duty (length b + 1))) c
+  unmade : (made : Option Duty) (c : Book) → made_ticket made ≡ [] → length c ≡ length b → MakesTicket b made c
 
-made-as : (b : Book) (n : ℕ) (c : Book) → n ≡ length b + 1 → length c ≡ length b + 1 → Makes b (Some (ticket_duty n)) c
-made-as b n c at longer = subst (λ k. Makes b (Some (ticket_duty k)) c) (sym at) (making c longer)
+made-as : (b : Book) (n : ℕ) (c : Book) → n ≡ length b + 1 → length c ≡ length b + 1 → MakesTicket b (Some (ticket_duty n)) c
+made-as b n c at longer = subst (λ k. MakesTicket b (Some (ticket_duty k)) c) (sym at) (making c longer)
 
-book-makes : (addon : ℕ) (b : Book) (made dropped : Option Duty) (c : Book) → BookStep addon b made dropped c → Makes b made c
+book-makes : (addon : ℕ) (b : Book) (made dropped : Option Duty) (c : Book) → BookStep addon b made dropped c → MakesTicket b made c
 book-makes addon b _ _ _ (stays c e) = unmade None c refl (ap length e)
 book-makes addon b _ _ _ (adds r c new who why e) = making c (ap length e ∙ length-append b (r ∷ []))
 book-makes addon b _ _ _ (drops n c is e) = unmade None c refl (ap length e ∙ length-moved made_withdrawn (λ m. m == n) b)
@@ -396,7 +392,7 @@ book-makes addon b _ _ _ (swaps n r c is new who why e) =
     let same : length left ≡ length b = length-moved made_withdrawn (λ m. m == n) b in
     made-as b (new_ticket left) c (ap (λ k. k + 1) same) (ap length e ∙ length-append left (r ∷ []) ∙ ap (λ k. k + 1) same)
 
-step-makes : (b : Book) (made dropped begun : Option Duty) (c : Book) → TicketStep b made dropped begun c → Makes b made c
+step-makes : (b : Book) (made dropped begun : Option Duty) (c : Book) → TicketStep b made dropped begun c → MakesTicket b made c
 step-makes b _ _ _ _ (called addon made dropped c s) = book-makes addon b made dropped c s
 step-makes b _ _ _ _ (began p n r c there may e) = unmade None c refl (ap length e ∙ length-moved (begun_in p) (λ m. m == n) b)
 step-makes b _ _ _ _ (ended n c e) = unmade None c refl (ap length e ∙ length-moved made_ended (λ m. m == n) b)
@@ -405,7 +401,7 @@ hub-makes : (o : Option Duty) → OfHub o → made_ticket o ≡ []
 hub-makes (Some (duty.Ticket t)) ours = cc
 hub-makes _ ours = refl
 
-duty-makes : (b : Book) (made dropped begun : Option Duty) (c : Book) → DutyStep b made dropped begun c → Makes b made c
+duty-makes : (b : Book) (made dropped begun : Option Duty) (c : Book) → DutyStep b made dropped begun c → MakesTicket b made c
 duty-makes b _ _ _ _ (of_tickets made dropped begun c s) = step-makes b made dropped begun c s
 duty-makes b _ _ _ _ (of_hub made begun c ours its same) = unmade made c (hub-makes made ours) (ap length same)
 
@@ -413,7 +409,7 @@ duty-makes b _ _ _ _ (of_hub made begun c ours its same) = unmade made c (hub-ma
 abbrev CountsFrom : ℕ → List ℕ → Type 0
 CountsFrom n ts = ts ≡ range_with_len (n + 1) (length ts)
 
-counts-cons : (b : Book) (made : Option Duty) (c : Book) (ts : List ℕ) → Makes b made c → CountsFrom (length c) ts
+counts-cons : (b : Book) (made : Option Duty) (c : Book) (ts : List ℕ) → MakesTicket b made c → CountsFrom (length c) ts
     → CountsFrom (length b) (made_ticket made ++ ts)
 counts-cons b _ _ ts (unmade made c no_ticket same) later = rw no_ticket (later ∙ ap (λ n. range_with_len (n + 1) (length ts)) same)
 counts-cons b _ _ ts (making c longer) later = ap (λ us. (length b + 1) ∷ us) (later ∙ ap (λ n. range_with_len (n + 1) (length ts)) longer)

@@ -96,7 +96,7 @@ all-spent e hooked early none k d inside why = by (is_owed r.state) refl
         cc
 
 -- the hub starts a phase
-settled-passed : (p : Phase) (book : Book) → p ≢ phase.Gone → is_late p ≡ true → NoneRegistered (book_in p book)
+pub settled-passed : (p : Phase) (book : Book) → p ≢ phase.Gone → is_late p ≡ true → NoneRegistered (book_in p book)
 settled-passed phase.Finals book never late = all_due-none book
 settled-passed phase.Gone book never late = absurd (never refl)
 settled-passed _ book never late = cc

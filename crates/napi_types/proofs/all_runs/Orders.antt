@@ -54,7 +54,7 @@ use Rattle.napi_types.proofs.environment.FrameEnds.{ended-ends}
 use Rattle.napi_types.proofs.environment.Registrations.{registered-holds}
 use Rattle.napi_types.proofs.environment.TornBooks.{NoneMore, asked-more, left-more, begun-more, left-above}
 use Rattle.napi_types.proofs.environment.Cases.{asked-by}
-use Rattle.napi_types.proofs.hub.HubDuties.{IsOfHub, delivery-of_hub}
+use Rattle.napi_types.proofs.hub.HubDuties.{IsDutyOfHub, delivery-of_hub}
 use Rattle.napi_types.proofs.hub.HubKeeps.{hub_step-what}
 use Rattle.napi_types.proofs.runs.SharedSteps.{StandsStill, shares-still, moves-still, others-still, IsNoEvent, others-told, others-none}
 use Rattle.napi_types.proofs.runs.StepCases.{StepCase, calls, ends, opens, inits, begins, vanishes, shares, leaves, passes, moves, others, event_before}
@@ -180,7 +180,7 @@ delivered-hook : (why : Cause) (addon entry : ℕ) (d : Duty) → is_hub_duty (S
 delivered-hook why addon entry (duty.Ticket t) ours = cc
 delivered-hook why addon entry _ ours = refl
 
-delivered-plain : (d : DueInfo) → IsOfHub d → IsPlain (delivery_entry d)
+delivered-plain : (d : DueInfo) → IsDutyOfHub d → IsPlain (delivery_entry d)
 delivered-plain d of =
     record { tickets = delivered-ticket d.cause d.addon d.entry d.duty of.ours; hooks = delivered-hook d.cause d.addon d.entry d.duty of.ours; finals = refl }
 

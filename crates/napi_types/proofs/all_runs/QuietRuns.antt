@@ -135,31 +135,31 @@ choice-quietly m same =
 
 -- FRAMES
 -- no duty of the hub began one of them
-abbrev IsLocal : Frame → Type 0
-IsLocal f = is_hub_duty f.duty ≡ false
+abbrev IsLocalFrame : Frame → Type 0
+IsLocalFrame f = is_hub_duty f.duty ≡ false
 
-innermost-local : (fs : List Frame) → All IsLocal fs → is_hub_duty (duty_of fs) ≡ false
+innermost-local : (fs : List Frame) → All IsLocalFrame fs → is_hub_duty (duty_of fs) ≡ false
 innermost-local [] all = refl
-innermost-local (f ∷ fs) all = All-head IsLocal f fs all
+innermost-local (f ∷ fs) all = All-head IsLocalFrame f fs all
 
-tail-local : (fs : List Frame) → All IsLocal fs → All IsLocal (tail fs)
+tail-local : (fs : List Frame) → All IsLocalFrame fs → All IsLocalFrame (tail fs)
 tail-local [] all = all
-tail-local (f ∷ fs) all = All-tail IsLocal f fs all
+tail-local (f ∷ fs) all = All-tail IsLocalFrame f fs all
 
-counted-local : (fs : List Frame) → All IsLocal fs → All IsLocal (ask_counted fs)
+counted-local : (fs : List Frame) → All IsLocalFrame fs → All IsLocalFrame (ask_counted fs)
 counted-local [] all = all
-counted-local (f ∷ fs) all = All-cons IsLocal (record f { asks = f.asks + 1 }) fs (All-head IsLocal f fs all) (All-tail IsLocal f fs all)
+counted-local (f ∷ fs) all = All-cons IsLocalFrame (record f { asks = f.asks + 1 }) fs (All-head IsLocalFrame f fs all) (All-tail IsLocalFrame f fs all)
 
-called-local : (e : Environment) (c : Call) (n : ℕ) → All IsLocal e.frames → All IsLocal (call_change e c n).after.frames
-called-local e c n all = counted-local (answer e c n).after.frames (subst (λ fs. All IsLocal fs) (sym (answer-keeps e c n).frames) all)
+called-local : (e : Environment) (c : Call) (n : ℕ) → All IsLocalFrame e.frames → All IsLocalFrame (call_change e c n).after.frames
+called-local e c n all = counted-local (answer e c n).after.frames (subst (λ fs. All IsLocalFrame fs) (sym (answer-keeps e c n).frames) all)
 
-asked-local : (e : Environment) (c : Call) (n : ℕ) → All IsLocal e.frames → All IsLocal (asked_change e c n).after.frames
-asked-local e c n all = asked-by e c n (λ d. All IsLocal d.after.frames) (called-local e c n all)
-    (λ receiver f args none. subst (λ fs. All IsLocal fs) (sym (enter_change-keeps receiver f args e).frames)
-    (All-cons IsLocal _ _ refl (counted-local e.frames all)))
+asked-local : (e : Environment) (c : Call) (n : ℕ) → All IsLocalFrame e.frames → All IsLocalFrame (asked_change e c n).after.frames
+asked-local e c n all = asked-by e c n (λ d. All IsLocalFrame d.after.frames) (called-local e c n all)
+    (λ receiver f args none. subst (λ fs. All IsLocalFrame fs) (sym (enter_change-keeps receiver f args e).frames)
+    (All-cons IsLocalFrame _ _ refl (counted-local e.frames all)))
 
-ended-local : (v : Option HandleId) (cut : Option Why) (e : Environment) → All IsLocal e.frames → All IsLocal (end_change v cut e).after.frames
-ended-local v cut e all = subst (λ fs. All IsLocal fs) (sym (ended-keeps v cut e).frames) (tail-local e.frames all)
+ended-local : (v : Option HandleId) (cut : Option Why) (e : Environment) → All IsLocalFrame e.frames → All IsLocalFrame (end_change v cut e).after.frames
+ended-local v cut e all = subst (λ fs. All IsLocalFrame fs) (sym (ended-keeps v cut e).frames) (tail-local e.frames all)
 
 -- ENTRIES
 -- what an entry tells but for its duties
@@ -222,7 +222,7 @@ record QuietStep (s : Step) : Type 0 where
   pub after : IsQuiet s.after
   pub entry : IsQuietEntry s.entry
 
-local-quiet : (m : Machine) (c : Change) (may : Bool) → IsQuiet m → All IsLocal c.after.frames → TellsQuiet c.entry
+local-quiet : (m : Machine) (c : Change) (may : Bool) → IsQuiet m → All IsLocalFrame c.after.frames → TellsQuiet c.entry
     → EntryTickets m.env.book c.entry c.after.book → QuietStep (locally m c may)
 local-quiet m c may q frames tells tickets = record {
   after = record { hub = q.hub; frames = frames };
@@ -234,7 +234,7 @@ ticket-quiet : (m : Machine) (n : ℕ) (o : Option Registration) → registratio
 ticket-quiet m n None there q may = cc
 ticket-quiet m n (Some r) there q may =
     let c : Change = ticket_change n r m.env in
-    local-quiet m c (may_begin_in m.env.phase r.state) q (All-cons IsLocal _ m.env.frames refl q.frames)
+    local-quiet m c (may_begin_in m.env.phase r.state) q (All-cons IsLocalFrame _ m.env.frames refl q.frames)
     (record { actor = refl; unshared = λ c is. cc; loop_ended = λ is. cc; drained = λ is. cc }) (began m.env.phase n r c.after.book there may refl)
 
 -- a great event of the hub
@@ -243,7 +243,7 @@ great-quiet : (m : Machine) (event : HostStep) (s : Step) → IsQuiet m → is_s
 great-quiet m event s q next left same entry = record {
   after = record {
     hub = left ∙ hub-passed m.hub event q.hub next ∙ ap (λ (h : Hub). quiet_hub h.stage) (sym left);
-    frames = subst (λ fs. All IsLocal fs) (sym same) q.frames;
+    frames = subst (λ fs. All IsLocalFrame fs) (sym same) q.frames;
   };
   entry = entry;
 }
@@ -253,7 +253,7 @@ event-quiet m Opens q quietly may =
     local-quiet m (opening_change m.env) true q q.frames (record { actor = refl; unshared = λ c is. cc; loop_ended = λ is. cc; drained = λ is. cc })
     (nothing m.env.book m.env.book refl)
 event-quiet m (Inits n) q quietly may =
-    local-quiet m (init_change n m.env) true q (All-cons IsLocal _ m.env.frames refl q.frames)
+    local-quiet m (init_change n m.env) true q (All-cons IsLocalFrame _ m.env.frames refl q.frames)
     (record { actor = refl; unshared = λ c is. cc; loop_ended = λ is. cc; drained = λ is. cc }) (nothing m.env.book m.env.book refl)
 event-quiet m (Tickets n) q quietly may = ticket-quiet m n (registration_at m.env.book n) refl q may
 event-quiet m (Moves move) q quietly may = cc
@@ -425,7 +425,7 @@ module _ (built : Call → Bool) (unshared : (c : Call) → built c ≡ true →
   along-unshared ps rss m (a ∷ bs) [] = All-nil IsUnshared
 
 pub opens-quiet : (s : Setting) → IsAlone s → IsQuiet (opening_of s)
-opens-quiet s alone = record { hub = rw (alone.threads, alone.workers) refl; frames = All-nil IsLocal }
+opens-quiet s alone = record { hub = rw (alone.threads, alone.workers) refl; frames = All-nil IsLocalFrame }
 
 pub runs-quiet : RunsAloneAreQuiet
 runs-quiet s bs xs alone run =

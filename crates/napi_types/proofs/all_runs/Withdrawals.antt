@@ -35,7 +35,7 @@ use Rattle.napi_types.specs.all_runs.Counts.{may_withdraw, WithdrawsRightly}
 use Rattle.napi_types.specs.all_runs.Laws.{WithdrawnByTheirCalls}
 use Rattle.napi_types.proofs.plain.Conditions.{and-right}
 use Rattle.napi_types.proofs.environment.Cases.{asked-by, ended-by}
-use Rattle.napi_types.proofs.environment.Told.{Told, told_plain, told_made, told_dropped, withdraws, answer-told}
+use Rattle.napi_types.proofs.environment.Told.{MayReply, told_plain, told_made, told_dropped, withdraws, answer-told}
 use Rattle.napi_types.proofs.hub.HubDuties.{hub_step-spares}
 use Rattle.napi_types.proofs.runs.StepCases.{StepCase, calls, ends, shares, leaves, passes, moves, others, step-case}
 use Rattle.napi_types.proofs.all_runs.Orderly.{Orderly, orderly-opens, along-orderly}
@@ -59,7 +59,7 @@ may-withdraw (call.SetInstanceData payload entry hint) may = refl
 may-withdraw (call.RemoveEnvCleanupHook entry argument) may = refl
 may-withdraw c may = cc
 
-told-rightly : (c : Call) (r : Reply) → Told c r → Rightly (what.Call c) r
+told-rightly : (c : Call) (r : Reply) → MayReply c r → Rightly (what.Call c) r
 told-rightly c _ (told_plain r unframed none kept) = nothing (what.Call c) r kept
 told-rightly c _ (told_made r d registers places t) = record { call = (told-rightly c r t).call; accepted = (told-rightly c r t).accepted }
 told-rightly c _ (told_dropped r d may accepted t) = record { call = λ some. may-withdraw c may; accepted = λ some. accepted }

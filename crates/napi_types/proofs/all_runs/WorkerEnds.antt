@@ -41,11 +41,12 @@ use Rattle.napi_types.specs.all_runs.OnceLaws.{WorkersFinishWhatTheyStart}
 use Rattle.napi_types.proofs.plain.Found.{same-tells, has-with_number}
 use Rattle.napi_types.proofs.hub.HubCases.{HubCase, hub-case, asks, creates_work, deletes_work, cancels_work, queues_work, creates_function, alters, goes, ends_loop, drains, comes_to_finals, delivers, closes, finishes, ends, thread_ends, worker_ends, starts, finishes_work}
 use Rattle.napi_types.proofs.hub.HubKeeps.{hub_step-what}
-use Rattle.napi_types.proofs.hub.WorkerTurns.{Stands, StandsSo, next-stands}
+use Rattle.napi_types.proofs.hub.WorkerTurns.{WorkerStands, StandsSo, next-stands}
 use Rattle.napi_types.proofs.runs.HubEntries.{EntryOf, leaves_hub, steps_hub, case-of}
 use Rattle.napi_types.proofs.all_runs.HistoryRooms.{HubRoomy, hub-run, opening-hub, HistorySuffices}
 use Rattle.napi_types.proofs.all_runs.Orderly.{Orderly, along-orderly, orderly-opens}
 use Rattle.napi_types.proofs.all_runs.Rooms.{run-stage}
+use Rattle.napi_types.proofs.hub.ThreadEnds.{is_end}
 
 -- WHO MADE THE ENTRY
 -- the actor of the entry that must stand is the entry's
@@ -129,10 +130,6 @@ hub_step-actor h x = by x.actor refl
     by (actor.Worker w) is = worker-actor h w x x.what is
 
 -- WHO HAS ENDED
-abbrev is_end : What → Bool
-is_end (what.Host host.ActorEnd) = true
-is_end _ = false
-
 abbrev ends_itself : ℕ → Entry → Bool
 ends_itself w x = is_worker w x.actor && is_end x.what
 
@@ -230,7 +227,7 @@ is_ended_worker Over = true
 is_ended_worker _ = false
 
 record TurnsAt (w : ℕ) (h : Hub) (s : WorkerState) : Type 0 where
-  pub stands : Stands w h s
+  pub stands : WorkerStands w h s
   pub over : has_number w h.ended_workers ≡ is_ended_worker s
 
 -- where it stands next, and that this is somewhere

@@ -39,7 +39,7 @@ use Rattle.napi_types.proofs.parts.BookSteps.{BookStep, stays, adds, drops, coll
 use Rattle.napi_types.proofs.environment.Cases.{answer-by}
 use Rattle.napi_types.proofs.environment.Effects as does
 use Rattle.napi_types.proofs.environment.Effects.{Effect, registered-by, effect-of}
-use Rattle.napi_types.proofs.environment.Told.{Told, told_plain, told_made, told_dropped, effect-told, answer-told}
+use Rattle.napi_types.proofs.environment.Told.{MayReply, told_plain, told_made, told_dropped, effect-told, answer-told}
 
 -- what a call keeps of a heap: how many frames have scopes. It issues one number of each kind at most, and makes as many values as an array of names has, with the array
 pub record HeapKeeps (old new : Heap) : Type 0 where
@@ -152,8 +152,8 @@ pub record KeepsBy (old : Environment) (made dropped : Option Duty) (new : Envir
   pub references : length new.references.issued ≤ length old.references.issued + 1
   pub book : BookStep (caller_of old.frames) old.book made dropped new.book
 
-abbrev pub Keeps : Environment → Answer Environment → Type 0
-Keeps old a = KeepsBy old a.reply.made a.reply.dropped a.after
+abbrev pub KeepsTheRest : Environment → Answer Environment → Type 0
+KeepsTheRest old a = KeepsBy old a.reply.made a.reply.dropped a.after
 
 -- the values, the references and the pending exception are others
 keeps-parts : (e : Environment) (heap : Heap) (m : ReferenceMap) (p : Option ℕ) → HeapKeeps e.heap heap → length m.issued ≤ length e.references.issued + 1
@@ -186,7 +186,7 @@ does-keeps c e _ none does.collects =
 does-keeps c e _ none (does.adds_hook entry argument) = keeps-book e _ _ (adds _ _ refl refl (λ h. cc) refl)
 does-keeps c e _ none (does.removes_hook entry argument) =
     let o : Option ℕ = hook_ticket (caller_of e.frames) entry argument e.hooks in
-    registered-by e.book o (λ t. Keeps e (withdrawing t (accepts out.Nothing (record e { hooks = unhooked o e.hooks })))) (keeps-book e _ _ (stays e.book refl))
+    registered-by e.book o (λ t. KeepsTheRest e (withdrawing t (accepts out.Nothing (record e { hooks = unhooked o e.hooks })))) (keeps-book e _ _ (stays e.book refl))
     (λ t here is. keeps-book e _ _ (drops t _ is refl))
 does-keeps c e _ none (does.withdraws t on is) = keeps-book e _ _ (drops t _ is refl)
 does-keeps c e _ none (does.asks_exit is) = record { course = refl; frames = refl; heap = same e.heap; references = omega arith; book = stays e.book refl }
@@ -206,9 +206,9 @@ unrefused e c h =
     let timely : timely_refusal e c ≡ None = none-last (moment_refusal e c) (timely_refusal e c) h in
     none-first (refusal_in e.texts e.heap c) (group_refusal e c) timely
 
-pub answer-keeps : (e : Environment) (c : Call) (n : ℕ) → Keeps e (answer e c n)
+pub answer-keeps : (e : Environment) (c : Call) (n : ℕ) → KeepsTheRest e (answer e c n)
 answer-keeps e c n =
-    answer-by e c n (Keeps e) (λ s. keeps-book e e.book e.hooks (stays e.book refl)) (λ s. keeps-parts e _ _ _ (thrown-keeps e.heap None _) (omega arith))
+    answer-by e c n (KeepsTheRest e) (λ s. keeps-book e e.book e.hooks (stays e.book refl)) (λ s. keeps-parts e _ _ _ (thrown-keeps e.heap None _) (omega arith))
     (λ none. does-keeps c e (effect e c n).after (unrefused e c none) (effect-of e c n))
 
 -- WHAT IS MADE
@@ -220,7 +220,7 @@ pub record MakesFor (c : Call) (made : Option Duty) : Type 0 where
 makes-none : (c : Call) (made : Option Duty) → 1 ≤ need c → made ≡ None → MakesFor c made
 makes-none c made one none = rw none (record { places = omega (arith, one); registers = λ h. cc })
 
-told-makes : (c : Call) (r : Reply) → Told c r → MakesFor c r.made
+told-makes : (c : Call) (r : Reply) → MayReply c r → MakesFor c r.made
 told-makes c _ (told_plain r unframed none kept) = makes-none c r.made (needs-place c) none
 told-makes c _ (told_made r d registers places t) = record { places = omega (arith, places); registers = λ h. registers }
 told-makes c _ (told_dropped r d may accepted t) = told-makes c r t

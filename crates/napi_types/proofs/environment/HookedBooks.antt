@@ -52,13 +52,13 @@ pub late-goes : (p : Phase) (stays : ℕ → Bool) (old new : Book) → (is_late
 late-goes p stays old new late causes = record { causes = causes; spares = λ early. absurd (late early) }
 
 -- every ticket passes, or every other one
-abbrev pub every : ℕ → Bool
-every n = true
+abbrev pub every_ticket : ℕ → Bool
+every_ticket n = true
 
 abbrev pub all_but_ticket : ℕ → ℕ → Bool
 all_but_ticket t n = not (n == t)
 
-pub goes-nowhere : (p : Phase) (book : Book) → BookGoes p every book book
+pub goes-nowhere : (p : Phase) (book : Book) → BookGoes p every_ticket book book
 goes-nowhere p book = record { causes = λ n why is. is; spares = λ early. record { registered = λ n stays hook is. is; owed = λ n hook is. (refl, hook, is) } }
 
 -- ONE REGISTRATION MORE
@@ -68,15 +68,15 @@ push-causes r book n why is =
     at-cause (with_registration r book) n u.registration (registration_at-before book r n u.registration u.there) ∙ ap Some u.holds
 
 -- what is registered is no hook
-pub push-goes : (p : Phase) (r : Registration) (book : Book) → r.cause ≢ cause.Hook → BookGoes p every book (with_registration r book)
+pub push-goes : (p : Phase) (r : Registration) (book : Book) → r.cause ≢ cause.Hook → BookGoes p every_ticket book (with_registration r book)
 push-goes p r book other = record { causes = push-causes r book; spares = λ early. record { registered = registered; owed = owed } }
   where
-    registered : (n : ℕ) → every n ≡ true → cause_at book n ≡ Some cause.Hook → is_at is_registered book n ≡ true → is_at is_registered (with_registration r book) n ≡ true
+    registered : (n : ℕ) → every_ticket n ≡ true → cause_at book n ≡ Some cause.Hook → is_at is_registered book n ≡ true → is_at is_registered (with_registration r book) n ≡ true
     registered n stays hook is =
         let u : IsUnder (BeginsFor cause.Hook) book n = under book n cause.Hook hook in is_at-before is_registered book r n u.registration u.there ∙ is
 
     owed : (n : ℕ) → cause_at (with_registration r book) n ≡ Some cause.Hook → is_at is_owed (with_registration r book) n ≡ true
-        → (every n ≡ true) × (cause_at book n ≡ Some cause.Hook) × (is_at is_owed book n ≡ true)
+        → (every_ticket n ≡ true) × (cause_at book n ≡ Some cause.Hook) × (is_at is_owed book n ≡ true)
     owed n hook is =
         let u : IsUnder (BeginsFor cause.Hook) (with_registration r book) n = under (with_registration r book) n cause.Hook hook in
         ⊎_elim
@@ -117,8 +117,8 @@ moved-spares stays move test book each = record { registered = registered; owed 
 
 -- a move of finalizers alone
 pub finalizers-go : (p : Phase) (move : TicketState → TicketState) (test : ℕ → Bool) (book : Book) → ((n : ℕ) → test n ≡ true → cause_at book n ≡ Some cause.Finalize)
-    → BookGoes p every book (moved_where move test book)
-finalizers-go p move test book finalizers = record { causes = moved-causes move test book; spares = λ early. moved-spares every move test book each }
+    → BookGoes p every_ticket book (moved_where move test book)
+finalizers-go p move test book finalizers = record { causes = moved-causes move test book; spares = λ early. moved-spares every_ticket move test book each }
   where
     each : (n : ℕ) (r : Registration) → registration_at book n ≡ Some r → r.cause ≡ cause.Hook → SparesState true r.state (cond (test n) (move r.state) r.state)
     each n r there hook = by (test n) (finalizers n)
@@ -131,8 +131,8 @@ finalizers-go p move test book finalizers = record { causes = moved-causes move 
         by false finalizer = same-spares r.state
 
 -- a move that leaves what is registered, and brings nothing to be due
-calm-goes : (p : Phase) (move : TicketState → TicketState) (test : ℕ → Bool) (book : Book) → ((s : TicketState) → SparesState true s (move s)) → BookGoes p every book (moved_where move test book)
-calm-goes p move test book calm = record { causes = moved-causes move test book; spares = λ early. moved-spares every move test book (λ n r there hook. by (test n) r.state) }
+calm-goes : (p : Phase) (move : TicketState → TicketState) (test : ℕ → Bool) (book : Book) → ((s : TicketState) → SparesState true s (move s)) → BookGoes p every_ticket book (moved_where move test book)
+calm-goes p move test book calm = record { causes = moved-causes move test book; spares = λ early. moved-spares every_ticket move test book (λ n r there hook. by (test n) r.state) }
   where
     by : (b : Bool) (s : TicketState) → SparesState true s (cond b (move s) s)
     by true s = calm s
@@ -146,12 +146,12 @@ begun-calm : (s : TicketState) → SparesState true s (made_begun s)
 begun-calm Due = record { registered = λ stays is. cc; owed = λ is. cc }
 begun-calm s = same-spares s
 
-pub begun-goes : (p : Phase) (n : ℕ) (book : Book) → BookGoes p every book (moved_at made_begun n book)
+pub begun-goes : (p : Phase) (n : ℕ) (book : Book) → BookGoes p every_ticket book (moved_at made_begun n book)
 begun-goes p n book = calm-goes p made_begun (λ m. m == n) book begun-calm
 
 -- the end of a frame
-pub left-goes : (p : Phase) (c : Cause) (d : Option Duty) (book : Book) → BookGoes p every book (book_left c d book)
-left-goes p c d book = left-kept (BookGoes p every book) book (λ t. calm-goes p made_ended (λ m. m == t) book ended-calm) c d (goes-nowhere p book)
+pub left-goes : (p : Phase) (c : Cause) (d : Option Duty) (book : Book) → BookGoes p every_ticket book (book_left c d book)
+left-goes p c d book = left-kept (BookGoes p every_ticket book) book (λ t. calm-goes p made_ended (λ m. m == t) book ended-calm) c d (goes-nowhere p book)
 
 -- one ticket is moved, and is no longer registered or due
 pub ticket-goes : (p : Phase) (move : TicketState → TicketState) (t : ℕ) (book : Book) → ((r : Registration) → registration_at book t ≡ Some r → is_owed (move r.state) ≡ false)
@@ -167,14 +167,14 @@ ticket-goes p move t book gone = record { causes = moved-causes move (λ m. m ==
 
 -- THE LIST
 -- what the list of hooks and the book say of each other
-pub record Listed (p : Phase) (book : Book) (hooks : List Hook) : Type 0 where
+pub record HooksAgree (p : Phase) (book : Book) (hooks : List Hook) : Type 0 where
   pub rise : TicketsRise (map (λ h. h.ticket) hooks)
   pub stand : All (StandsIn p book) hooks
   pub others : is_late p ≡ false → (n : ℕ) → cause_at book n ≡ Some cause.Hook → is_at is_owed book n ≡ true → has (λ h. h.ticket) n hooks ≡ true
 
 -- the book goes a step, and the hooks stay whose tickets pass
-pub listed-goes : (p q : Phase) (stays : ℕ → Bool) (old new : Book) (hooks : List Hook) → (is_late q ≡ false → is_late p ≡ false) → BookGoes q stays old new → Listed p old hooks
-    → Listed q new (filter (λ h. stays h.ticket) hooks)
+pub listed-goes : (p q : Phase) (stays : ℕ → Bool) (old new : Book) (hooks : List Hook) → (is_late q ≡ false → is_late p ≡ false) → BookGoes q stays old new → HooksAgree p old hooks
+    → HooksAgree q new (filter (λ h. stays h.ticket) hooks)
 listed-goes p q stays old new hooks sooner goes l = record {
   rise = subst TicketsRise (sym (map-filter (λ (h : Hook). h.ticket) (λ h. stays h.ticket) stays (λ h. refl) hooks)) (rise-filter stays (map (λ h. h.ticket) hooks) l.rise);
   stand = λ k d inside. stands _ (filter_passes (λ (h : Hook). stays h.ticket) hooks k d inside) (All-filter (λ h. stays h.ticket) (StandsIn p old) hooks l.stand k d inside);
@@ -199,8 +199,8 @@ listed-within p book hooks all = All-weaker (StandsIn p book) (λ h. h.ticket < 
         registration-within book h.ticket u.registration u.there
 
 -- a hook more, the last one
-pub listed-push : (p : Phase) (book : Book) (hooks : List Hook) (h : Hook) (r : Registration) → h.ticket ≡ new_ticket book → r.cause ≡ cause.Hook → r.state ≡ Registered → Listed p book hooks
-    → Listed p (with_registration r book) (hooks ++ h ∷ [])
+pub listed-push : (p : Phase) (book : Book) (hooks : List Hook) (h : Hook) (r : Registration) → h.ticket ≡ new_ticket book → r.cause ≡ cause.Hook → r.state ≡ Registered → HooksAgree p book hooks
+    → HooksAgree p (with_registration r book) (hooks ++ h ∷ [])
 listed-push p book hooks h r ticket hook state l = record {
   rise = subst TicketsRise (sym (map-append (λ (x : Hook). x.ticket) hooks (h ∷ []))) (rise-push (map (λ x. x.ticket) hooks) h.ticket below l.rise);
   stand = All-push (StandsIn p now) hooks h (All-weaker (StandsIn p book) (StandsIn p now) stands hooks l.stand) here;

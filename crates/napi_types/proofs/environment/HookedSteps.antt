@@ -41,7 +41,7 @@ use Rattle.napi_types.proofs.environment.Answers.{course-parts}
 use Rattle.napi_types.proofs.environment.Effects as does
 use Rattle.napi_types.proofs.environment.Effects.{Finalizes, HangsOn, Attaches, Effect, effect-of}
 use Rattle.napi_types.proofs.environment.FrameChanges.{hangings_of, hangings-parts, SameHangings, book_left, KeepsButFrame, ended-keeps, KeepsAndEnters, enter_change-keeps}
-use Rattle.napi_types.proofs.environment.HookedBooks.{KeepsCauses, BookGoes, every, all_but_ticket, Listed, goes-nowhere, late-goes, push-goes, push-causes, moved-causes, finalizers-go, begun-goes, left-goes, ticket-goes, listed-goes, listed-push, listed-within}
+use Rattle.napi_types.proofs.environment.HookedBooks.{KeepsCauses, BookGoes, every_ticket, all_but_ticket, HooksAgree, goes-nowhere, late-goes, push-goes, push-causes, moved-causes, finalizers-go, begun-goes, left-goes, ticket-goes, listed-goes, listed-push, listed-within}
 use Rattle.napi_types.proofs.environment.Cases.{answer-by, asked-by}
 
 -- FINALIZERS
@@ -59,13 +59,13 @@ instance-finalizes book (i ∷ is) zero all = All-head (HasFinalizer book) i is 
 instance-finalizes book (i ∷ is) (suc addon) all = instance-finalizes book is addon (All-tail (HasFinalizer book) i is all)
 
 -- THE ENVIRONMENT CHANGES
-listed : (e : Environment) → IsHooked e → Listed e.phase e.book e.hooks
+listed : (e : Environment) → IsHooked e → HooksAgree e.phase e.book e.hooks
 listed e h = record { rise = h.rise; stand = h.hooks; others = h.others }
 
 attached : (e : Environment) → IsHooked e → HoldsAttached (Finalizes e.book) e.attachments
 attached e h = HoldsAttached-from (Finalizes e.book) e.attachments h.attached
 
-hooked-by : (e : Environment) → Listed e.phase e.book e.hooks → HoldsAttached (Finalizes e.book) e.attachments → All (HasFinalizer e.book) e.instances → IsHooked e
+hooked-by : (e : Environment) → HooksAgree e.phase e.book e.hooks → HoldsAttached (Finalizes e.book) e.attachments → All (HasFinalizer e.book) e.instances → IsHooked e
 hooked-by e l on is = record { rise = l.rise; hooks = l.stand; others = l.others; attached = tickets_where-holds (Finalizes e.book) e.attachments on (λ v. true); instances = is }
 
 -- the book goes a step, and the hooks stay whose tickets pass
@@ -73,25 +73,25 @@ hooked-goes : (old new : Environment) (stays : ℕ → Bool) → (is_late new.ph
     → new.hooks ≡ filter (λ h. stays h.ticket) old.hooks → new.attachments ≡ old.attachments → new.instances ≡ old.instances → IsHooked old → IsHooked new
 hooked-goes old new stays sooner goes hooks attachments instances h =
     hooked-by new
-    (subst (λ hs. Listed new.phase new.book hs) (sym hooks) (listed-goes old.phase new.phase stays old.book new.book old.hooks sooner goes (listed old h)))
+    (subst (λ hs. HooksAgree new.phase new.book hs) (sym hooks) (listed-goes old.phase new.phase stays old.book new.book old.hooks sooner goes (listed old h)))
     (subst (λ a. HoldsAttached (Finalizes new.book) a) (sym attachments) (attached-goes old.book new.book old.attachments goes.causes (attached old h)))
     (subst (λ is. All (HasFinalizer new.book) is) (sym instances) (instances-go old.book new.book old.instances goes.causes h.instances))
 
-all-stay : (hooks : List Hook) → hooks ≡ filter (λ h. every h.ticket) hooks
-all-stay hooks = sym (filter_all (λ (h : Hook). every h.ticket) hooks (λ k d inside. refl))
+all-stay : (hooks : List Hook) → hooks ≡ filter (λ h. every_ticket h.ticket) hooks
+all-stay hooks = sym (filter_all (λ (h : Hook). every_ticket h.ticket) hooks (λ k d inside. refl))
 
 -- nothing of it changes
 hooked-same : (old new : Environment) → new.phase ≡ old.phase → SameHangings old new → IsHooked old → IsHooked new
 hooked-same old new phase same h =
-    let goes : BookGoes new.phase every old.book new.book = subst (λ b. BookGoes new.phase every old.book b) (sym same.book) (goes-nowhere new.phase old.book) in
-    hooked-goes old new every (λ early. ap is_late (sym phase) ∙ early) goes (same.hooks ∙ all-stay old.hooks) same.attachments same.instances h
+    let goes : BookGoes new.phase every_ticket old.book new.book = subst (λ b. BookGoes new.phase every_ticket old.book b) (sym same.book) (goes-nowhere new.phase old.book) in
+    hooked-goes old new every_ticket (λ early. ap is_late (sym phase) ∙ early) goes (same.hooks ∙ all-stay old.hooks) same.attachments same.instances h
 
 pub unchanged : (old new : Environment) → new.phase ≡ old.phase → hangings_of new ≡ hangings_of old → IsHooked old → IsHooked new
 unchanged old new phase same h = hooked-same old new phase (hangings-parts old new same) h
 
 -- one thing changes alone
-hooked-book : (e : Environment) (book : Book) → BookGoes e.phase every e.book book → IsHooked e → IsHooked (record e { book = book })
-hooked-book e book goes h = hooked-goes e (record e { book = book }) every (λ early. early) goes (all-stay e.hooks) refl refl h
+hooked-book : (e : Environment) (book : Book) → BookGoes e.phase every_ticket e.book book → IsHooked e → IsHooked (record e { book = book })
+hooked-book e book goes h = hooked-goes e (record e { book = book }) every_ticket (λ early. early) goes (all-stay e.hooks) refl refl h
 
 hooked-attachments : (e : Environment) (a : Attachments) → HoldsAttached (Finalizes e.book) a → IsHooked e → IsHooked (record e { attachments = a })
 hooked-attachments e a on h = hooked-by (record e { attachments = a }) (listed e h) on h.instances
@@ -136,18 +136,18 @@ found-holds P test (x ∷ xs) all = by (test x) (found-holds P test xs (All-tail
     by false later = later
 
 -- the ticket of a hook is registered up to `finals`
-abbrev Waits : Environment → ℕ → Type 0
-Waits e t = is_late e.phase ≡ false → is_at is_registered e.book t ≡ true
+abbrev HookWaits : Environment → ℕ → Type 0
+HookWaits e t = is_late e.phase ≡ false → is_at is_registered e.book t ≡ true
 
-hook-waits : (e : Environment) (addon entry argument : ℕ) → IsHooked e → IfSome (hook_ticket addon entry argument e.hooks) (Waits e)
+hook-waits : (e : Environment) (addon entry argument : ℕ) → IsHooked e → IfSome (hook_ticket addon entry argument e.hooks) (HookWaits e)
 hook-waits e addon entry argument h =
     by (find (is_hook addon entry argument) e.hooks) (found-holds (StandsIn e.phase e.book) (is_hook addon entry argument) e.hooks h.hooks)
   where
-    by : (o : Option Hook) → IfSome o (StandsIn e.phase e.book) → IfSome (option_map (λ (x : Hook). x.ticket) o) (Waits e)
+    by : (o : Option Hook) → IfSome o (StandsIn e.phase e.book) → IfSome (option_map (λ (x : Hook). x.ticket) o) (HookWaits e)
     by None s = tt
     by (Some x) s = s.registered
 
-unhooking-hooked : (e : Environment) (t : Option ℕ) → IfSome t (Waits e) → IsHooked e → IsHooked (unhooking e t).after
+unhooking-hooked : (e : Environment) (t : Option ℕ) → IfSome t (HookWaits e) → IsHooked e → IsHooked (unhooking e t).after
 unhooking-hooked e None waits h = unchanged e _ refl refl h
 unhooking-hooked e (Some t) waits h = by (is_at is_registered e.book t) refl
   where
@@ -246,8 +246,8 @@ begun-hooked _ n r e there may h = hooked-book e _ (begun-goes e.phase n e.book)
 pub hooked-begun : (n : ℕ) (r : Registration) (e : Environment) → registration_at e.book n ≡ Some r → may_begin_in e.phase r.state ≡ true → IsHooked e → IsHooked (ticket_change n r e).after
 hooked-begun n r e there may h = unchanged _ (ticket_change n r e).after refl refl (begun-hooked e.phase n r e there may h)
 
-phase-goes : (p : Phase) (book : Book) → BookGoes p every book (book_in p book)
-phase-goes phase.Finals book = late-goes phase.Finals every book (book_in phase.Finals book) (λ early. cc) (moved-causes made_due (λ n. true) book)
+phase-goes : (p : Phase) (book : Book) → BookGoes p every_ticket book (book_in p book)
+phase-goes phase.Finals book = late-goes phase.Finals every_ticket book (book_in phase.Finals book) (λ early. cc) (moved-causes made_due (λ n. true) book)
 phase-goes p book = goes-nowhere p book
 
 sooner : (q p : Phase) → next_phase q ≡ Some p → is_late p ≡ false → is_late q ≡ false
@@ -256,10 +256,10 @@ sooner phase.Gone p next early = let no : ⊥ = cc in absurd no
 sooner _ p next early = refl
 
 pub hooked-phase : (p : Phase) (e : Environment) → next_phase e.phase ≡ Some p → IsHooked e → IsHooked (in_phase p e)
-hooked-phase p e next h = hooked-goes e (in_phase p e) every (sooner e.phase p next) (phase-goes p e.book) (all-stay e.hooks) refl refl h
+hooked-phase p e next h = hooked-goes e (in_phase p e) every_ticket (sooner e.phase p next) (phase-goes p e.book) (all-stay e.hooks) refl refl h
 
 pub hooked-gone : (e : Environment) → IsHooked e → IsHooked (gone_change e).after
-hooked-gone e h = hooked-goes e (gone_change e).after every (λ early. cc) (goes-nowhere phase.Gone e.book) (all-stay e.hooks) refl refl h
+hooked-gone e h = hooked-goes e (gone_change e).after every_ticket (λ early. cc) (goes-nowhere phase.Gone e.book) (all-stay e.hooks) refl refl h
 
 -- WHAT IT TELLS
 pub last-holds : (P : Hook → Type 0) (hooks : List Hook) (h : Hook) → All P hooks → last_hook hooks ≡ Some h → P h

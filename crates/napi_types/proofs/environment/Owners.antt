@@ -56,8 +56,8 @@ use Rattle.napi_types.proofs.environment.Registrations.{registered-holds, call-k
 use Rattle.napi_types.proofs.environment.Cases.{answer-by, asked-by}
 
 -- VALUES
-abbrev Ours : ℕ → Value → Type 0
-Ours n v = BelongsTo n v.body
+abbrev IsOurValue : ℕ → Value → Type 0
+IsOurValue n v = BelongsTo n v.body
 
 abbrev pub Below : ℕ → Frame → Type 0
 Below n f = f.addon < n
@@ -73,26 +73,26 @@ abbrev NoFunction : Body → Type 0
 NoFunction b = is_function b ≡ false
 
 abbrev AreOwned : ℕ → List Value → Type 0
-AreOwned n vs = All (Ours n) vs
+AreOwned n vs = All (IsOurValue n) vs
 
 -- what is no function belongs to nobody
 no-function : (n : ℕ) (b : Body) → is_function b ≡ false → BelongsTo n b
 no-function n b h = λ k. let z : true ≡ false = sym k ∙ h in cc
 
 one-more : (n m : ℕ) (b : Body) (vs : List Value) → AreOwned n vs → BelongsTo n b → AreOwned n (vs ++ fresh_value m b ∷ [])
-one-more n m b vs all here = All-push (Ours n) vs (fresh_value m b) all here
+one-more n m b vs all here = All-push (IsOurValue n) vs (fresh_value m b) all here
 
 made-owned : (n m : ℕ) (bs : List Body) → All NoFunction bs → AreOwned n (made_after m bs)
-made-owned n m [] none = All-nil (Ours n)
+made-owned n m [] none = All-nil (IsOurValue n)
 made-owned n m (b ∷ bs) none =
-    All-cons (Ours n) (fresh_value (m + 1) b) (made_after (m + 1) bs) (no-function n b (All-head NoFunction b bs none)) (made-owned n (m + 1) bs (All-tail NoFunction b bs none))
+    All-cons (IsOurValue n) (fresh_value (m + 1) b) (made_after (m + 1) bs) (no-function n b (All-head NoFunction b bs none)) (made-owned n (m + 1) bs (All-tail NoFunction b bs none))
 
 names-none : (ps : List Property) → All NoFunction (names_of ps)
 names-none [] = All-nil NoFunction
 names-none (p ∷ ps) = All-cons NoFunction (body.Str (record { 0 = p.name })) (names_of ps) refl (names-none ps)
 
 list-owned : (n m : ℕ) (bs : List Body) → All NoFunction bs → AreOwned n (list_of m bs)
-list-owned n m bs none = All-push (Ours n) (made_after m bs) _ (made-owned n m bs none) (no-function n (body.Object true false) refl)
+list-owned n m bs none = All-push (IsOurValue n) (made_after m bs) _ (made-owned n m bs none) (no-function n (body.Object true false) refl)
 
 strings-none : (code : Option TextNo) (message : TextNo) → All NoFunction (thrown_strings code message)
 strings-none None message = All-cons NoFunction (body.Str message) [] refl (All-nil NoFunction)
@@ -100,26 +100,26 @@ strings-none (Some code) message = All-cons NoFunction (body.Str message) (body.
 
 thrown-owned : (n : ℕ) (heap : Heap) (code : Option TextNo) (message : TextNo) → AreOwned n heap.values → AreOwned n (with_thrown code message heap).values
 thrown-owned n heap code message all =
-    All-append (Ours n) heap.values (thrown_of heap.made code message) all
-    (All-push (Ours n) (made_after heap.made (thrown_strings code message)) _ (made-owned n heap.made (thrown_strings code message) (strings-none code message))
+    All-append (IsOurValue n) heap.values (thrown_of heap.made code message) all
+    (All-push (IsOurValue n) (made_after heap.made (thrown_strings code message)) _ (made-owned n heap.made (thrown_strings code message) (strings-none code message))
     (no-function n (body.Object false true) refl))
 
 changed-owned : (n k : ℕ) (change : Value → Value) (vs : List Value) → ((v : Value) → (change v).body ≡ v.body) → AreOwned n vs → AreOwned n (value_changed k change vs)
-changed-owned n k change [] same all = All-nil (Ours n)
+changed-owned n k change [] same all = All-nil (IsOurValue n)
 changed-owned n k change (v ∷ vs) same all =
-    All-cons (Ours n) (cond (v.number == k) (change v) v) (value_changed k change vs) (here (v.number == k)) (changed-owned n k change vs same (All-tail (Ours n) v vs all))
+    All-cons (IsOurValue n) (cond (v.number == k) (change v) v) (value_changed k change vs) (here (v.number == k)) (changed-owned n k change vs same (All-tail (IsOurValue n) v vs all))
   where
     here : (b : Bool) → BelongsTo n (cond b (change v) v).body
-    here true = subst (λ (x : Body). BelongsTo n x) (sym (same v)) (All-head (Ours n) v vs all)
-    here false = All-head (Ours n) v vs all
+    here true = subst (λ (x : Body). BelongsTo n x) (sym (same v)) (All-head (IsOurValue n) v vs all)
+    here false = All-head (IsOurValue n) v vs all
 
 -- what a value's number names belongs to one of them too
 pub body-owned : (n k : ℕ) (vs : List Value) → AreOwned n vs → BelongsTo n (body_of vs k)
 body-owned n k [] all = λ h. cc
-body-owned n k (v ∷ vs) all = here (v.number == k) refl (body-owned n k vs (All-tail (Ours n) v vs all))
+body-owned n k (v ∷ vs) all = here (v.number == k) refl (body-owned n k vs (All-tail (IsOurValue n) v vs all))
   where
     here : (b : Bool) → (v.number == k) ≡ b → BelongsTo n (body_of vs k) → BelongsTo n (body_of (v ∷ vs) k)
-    here true h later = rw h (All-head (Ours n) v vs all)
+    here true h later = rw h (All-head (IsOurValue n) v vs all)
     here false h later = rw h later
 
 -- CALLS
@@ -131,20 +131,20 @@ heap-owned n addon heap (call.CreateStringUtf8 t) k there all = one-more n _ _ h
 heap-owned n addon heap (call.CreateSymbol d) k there all = one-more n _ _ heap.values all (no-function n (body.Symbol (option_map (λ h. text_of (handle_body heap h.0)) d)) refl)
 heap-owned n addon heap call.CreateObject k there all = one-more n _ _ heap.values all (no-function n (body.Object false false) refl)
 heap-owned n addon heap call.CreateArray k there all = one-more n _ _ heap.values all (no-function n (body.Object true false) refl)
-heap-owned n addon heap (call.CreateError code message) k there all = All-push (Ours n) heap.values _ all (no-function n (body.Object false true) refl)
+heap-owned n addon heap (call.CreateError code message) k there all = All-push (IsOurValue n) heap.values _ all (no-function n (body.Object false true) refl)
 heap-owned n addon heap (call.SetNamedProperty o name v) k there all = changed-owned n _ _ heap.values (λ x. refl) all
 heap-owned n addon heap (call.DeleteProperty o name) k there all = changed-owned n _ _ heap.values (λ x. refl) all
 heap-owned n addon heap (call.SetElement o at v) k there all = changed-owned n _ _ heap.values (λ x. refl) all
-heap-owned n addon heap (call.GetPropertyNames o) k there all = All-append (Ours n) heap.values _ all (list-owned n heap.made (names_of (handle_properties heap o.0)) (names-none (handle_properties heap o.0)))
+heap-owned n addon heap (call.GetPropertyNames o) k there all = All-append (IsOurValue n) heap.values _ all (list-owned n heap.made (names_of (handle_properties heap o.0)) (names-none (handle_properties heap o.0)))
 heap-owned n addon heap c k there all = all
 
 -- a collection takes values away
 kept-owned : (n : ℕ) (alive : List ℕ) (vs : List Value) → AreOwned n vs → AreOwned n (those_of alive vs)
-kept-owned n alive [] all = All-nil (Ours n)
-kept-owned n alive (v ∷ vs) all = here (has_number v.number alive) refl (kept-owned n alive vs (All-tail (Ours n) v vs all))
+kept-owned n alive [] all = All-nil (IsOurValue n)
+kept-owned n alive (v ∷ vs) all = here (has_number v.number alive) refl (kept-owned n alive vs (All-tail (IsOurValue n) v vs all))
   where
     here : (b : Bool) → has_number v.number alive ≡ b → AreOwned n (those_of alive vs) → AreOwned n (those_of alive (v ∷ vs))
-    here true h later = rw h (All-cons (Ours n) v (those_of alive vs) (All-head (Ours n) v vs all) later)
+    here true h later = rw h (All-cons (IsOurValue n) v (those_of alive vs) (All-head (IsOurValue n) v vs all) later)
     here false h later = rw h later
 
 does-owned : (n : ℕ) (c : Call) (e : Environment) {made dropped : Option Duty} (d : Environment) → caller_of e.frames < n → AreOwned n e.heap.values
@@ -252,9 +252,9 @@ owned-phase n e p o = record { frames = o.frames; functions = o.functions; ticke
 
 -- the starting values are no functions
 none-owned : (n : ℕ) (vs : List Value) → IsTrue (list_all (λ v. not (is_function v.body)) vs) → AreOwned n vs
-none-owned n [] none = All-nil (Ours n)
+none-owned n [] none = All-nil (IsOurValue n)
 none-owned n (v ∷ vs) none =
-    All-cons (Ours n) v vs (no-function n v.body (not-true (is_function v.body) (and-left _ (list_all (λ x. not (is_function x.body)) vs) none)))
+    All-cons (IsOurValue n) v vs (no-function n v.body (not-true (is_function v.body) (and-left _ (list_all (λ x. not (is_function x.body)) vs) none)))
     (none-owned n vs (and-right (not (is_function v.body)) _ none))
 
 pub owned-opening : (n : ℕ) → AreOwned n starting_values

@@ -38,43 +38,43 @@ withdraws (call.RemoveEnvCleanupHook entry argument) = true
 withdraws _ = false
 
 -- what the call may reply
-pub data Told (c : Call) : Reply → Type 0 where
-  told_plain : (r : Reply) → tells_frame r.out ≡ false → r.made ≡ None → r.dropped ≡ None → Told c r
-  told_made : (r : Reply) (d : Duty) → is_registering c ≡ true → 3 ≤ need c → Told c r → Told c (record r { made = Some d })
-  told_dropped : (r : Reply) (d : Duty) → withdraws c ≡ true → r.status ≡ status.Ok → Told c r → Told c (record r { dropped = Some d })
+pub data MayReply (c : Call) : Reply → Type 0 where
+  told_plain : (r : Reply) → tells_frame r.out ≡ false → r.made ≡ None → r.dropped ≡ None → MayReply c r
+  told_made : (r : Reply) (d : Duty) → is_registering c ≡ true → 3 ≤ need c → MayReply c r → MayReply c (record r { made = Some d })
+  told_dropped : (r : Reply) (d : Duty) → withdraws c ≡ true → r.status ≡ status.Ok → MayReply c r → MayReply c (record r { dropped = Some d })
 
 -- no call tells of a frame
-pub told-unframed : (c : Call) (r : Reply) → Told c r → tells_frame r.out ≡ false
+pub told-unframed : (c : Call) (r : Reply) → MayReply c r → tells_frame r.out ≡ false
 told-unframed c _ (told_plain r unframed none kept) = unframed
 told-unframed c _ (told_made r d registers places t) = told-unframed c r t
 told-unframed c _ (told_dropped r d may accepted t) = told-unframed c r t
 
 -- EACH CALL, ONCE AND FOR ALL
 module _ (c : Call) where
-  registering-told : (o : Out) (d : Duty) → is_registering c ≡ true → 3 ≤ need c → tells_frame o ≡ false → Told c (record (plain status.Ok o) { made = Some d })
+  registering-told : (o : Out) (d : Duty) → is_registering c ≡ true → 3 ≤ need c → tells_frame o ≡ false → MayReply c (record (plain status.Ok o) { made = Some d })
   registering-told o d registers places unframed = told_made (plain status.Ok o) d registers places (told_plain (plain status.Ok o) unframed refl refl)
 
-  withdrawing-told : (t : Option ℕ) (a : Answer Environment) → withdraws c ≡ true → a.reply.status ≡ status.Ok → Told c a.reply → Told c (withdrawing t a).reply
+  withdrawing-told : (t : Option ℕ) (a : Answer Environment) → withdraws c ≡ true → a.reply.status ≡ status.Ok → MayReply c a.reply → MayReply c (withdrawing t a).reply
   withdrawing-told None a may accepted so = so
   withdrawing-told (Some n) a may accepted so = told_dropped a.reply _ may accepted so
 
   setting-told : (f : Registration) (t : Option ℕ) (a : Answer Environment) → is_registering c ≡ true → 3 ≤ need c → withdraws c ≡ true
-      → a.reply.status ≡ status.Ok → Told c a.reply → Told c (registering f (withdrawing t a)).reply
+      → a.reply.status ≡ status.Ok → MayReply c a.reply → MayReply c (registering f (withdrawing t a)).reply
   setting-told f t a registers places may accepted so = told_made (withdrawing t a).reply _ registers places (withdrawing-told t a may accepted so)
 
-  referring-told : (wanted : Bool) (n v : ℕ) (e : Environment) → Told c (referring_if wanted n v e).reply
+  referring-told : (wanted : Bool) (n v : ℕ) (e : Environment) → MayReply c (referring_if wanted n v e).reply
   referring-told false n v e = told_plain _ refl refl refl
   referring-told true n v e = told_plain _ refl refl refl
 
-  counted-told : (r : ℕ) (e : Environment) (v : Option ℕ) → Told c (counted_up r e v).reply
+  counted-told : (r : ℕ) (e : Environment) (v : Option ℕ) → MayReply c (counted_up r e v).reply
   counted-told r e None = told_plain _ refl refl refl
   counted-told r e (Some v) = told_plain _ refl refl refl
 
-  value-told : (e : Environment) (v : Option ℕ) → Told c (value_told e v).reply
+  value-told : (e : Environment) (v : Option ℕ) → MayReply c (value_told e v).reply
   value-told e None = told_plain _ refl refl refl
   value-told e (Some v) = told_plain _ refl refl refl
 
-pub effect-told : (e : Environment) (c : Call) (n : ℕ) → Told c (effect e c n).reply
+pub effect-told : (e : Environment) (c : Call) (n : ℕ) → MayReply c (effect e c n).reply
 effect-told e (call.ReferenceRef r) n = counted-told _ r.0 e (referred_value e.references r.0)
 effect-told e (call.GetReferenceValue r) n = value-told _ e (referred_value e.references r.0)
 effect-told e (call.Wrap v payload None hint wanted) n = referring-told _ wanted n _ _
@@ -96,6 +96,6 @@ effect-told e (call.RemoveEnvCleanupHook entry argument) n =
     withdrawing-told _ (registered_only e.book (hook_ticket (caller_of e.frames) entry argument e.hooks)) _ refl refl (told_plain _ refl refl refl)
 effect-told e c n = told_plain _ refl refl refl
 
-pub answer-told : (e : Environment) (c : Call) (n : ℕ) → Told c (answer e c n).reply
+pub answer-told : (e : Environment) (c : Call) (n : ℕ) → MayReply c (answer e c n).reply
 answer-told e c n =
-    answer-by e c n (λ a. Told c a.reply) (λ s. told_plain _ refl refl refl) (λ s. told_plain _ refl refl refl) (λ taken. effect-told e c n)
+    answer-by e c n (λ a. MayReply c a.reply) (λ s. told_plain _ refl refl refl) (λ s. told_plain _ refl refl refl) (λ taken. effect-told e c n)

@@ -18,7 +18,7 @@ use Rattle.napi_types.proofs.environment.Registrations.{registered-holds, none-k
 
 -- A MOVE
 -- whether what is under a ticket passes a test
-abbrev tells : (TicketState → Bool) → Option Registration → Bool
+abbrev pub tells : (TicketState → Bool) → Option Registration → Bool
 tells test o = unwrap_or (option_map (λ r. test r.state) o) false
 
 -- a ticket that passes a test was so before, if the move brings what is under it to no such state

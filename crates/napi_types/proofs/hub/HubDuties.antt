@@ -41,23 +41,23 @@ use Rattle.napi_types.specs.hub.HubSteps.{hub_step, hub_step_of, environment_ste
 
 -- WHAT A MOVE DELIVERS
 -- a duty of the hub, and never a ticket: neither a call nor a hook begins its frame
-pub record IsOfHub (d : DueInfo) : Type 0 where
+pub record IsDutyOfHub (d : DueInfo) : Type 0 where
   pub ours : is_hub_duty (Some d.duty) ≡ true
   pub uncalled : d.cause ≢ cause.Call
   pub no_hook : d.cause ≢ cause.Hook
 
 abbrev DeliversOfHub : HubMove → Type 0
-DeliversOfHub (Delivers d) = IsOfHub d
+DeliversOfHub (Delivers d) = IsDutyOfHub d
 DeliversOfHub _ = Unit {0}
 
-completion-of_hub : (p : WorkPool) → IfSome (first_completion p) IsOfHub
+completion-of_hub : (p : WorkPool) → IfSome (first_completion p) IsDutyOfHub
 completion-of_hub p = by (head p.finished)
   where
-    told : (o : Outcome) (w : Option Work) → IfSome (option_map (λ w. completion_info w o) w) IsOfHub
+    told : (o : Outcome) (w : Option Work) → IfSome (option_map (λ w. completion_info w o) w) IsDutyOfHub
     told o None = tt
     told o (Some w) = record { ours = refl; uncalled = λ z. cc; no_hook = λ z. cc }
 
-    by : (o : Option Outcome) → IfSome (option_and_then (λ (o : Outcome). option_map (λ w. completion_info w o) (work_numbered p o.work)) o) IsOfHub
+    by : (o : Option Outcome) → IfSome (option_and_then (λ (o : Outcome). option_map (λ w. completion_info w o) (work_numbered p o.work)) o) IsDutyOfHub
     by None = tt
     by (Some o) = told o (work_numbered p o.work)
 
@@ -84,11 +84,11 @@ first-of_hub (f ∷ fs) = by (function_move f) (function-of_hub f f.state f.item
 pub move-of_hub : (h : Hub) → IfSome (hub_move h) DeliversOfHub
 move-of_hub h = by (first_completion h.pool) (completion-of_hub h.pool)
   where
-    by : (o : Option DueInfo) → IfSome o IsOfHub → IfSome (option_or (option_map Delivers o) (first_move h.functions)) DeliversOfHub
+    by : (o : Option DueInfo) → IfSome o IsDutyOfHub → IfSome (option_or (option_map Delivers o) (first_move h.functions)) DeliversOfHub
     by None here = first-of_hub h.functions
     by (Some d) here = here
 
-pub delivery-of_hub : (h : Hub) (d : DueInfo) → hub_move h ≡ Some (Delivers d) → IsOfHub d
+pub delivery-of_hub : (h : Hub) (d : DueInfo) → hub_move h ≡ Some (Delivers d) → IsDutyOfHub d
 delivery-of_hub h d next = subst (λ o. IfSome o DeliversOfHub) next (move-of_hub h)
 
 -- a duty that is there is the hub's

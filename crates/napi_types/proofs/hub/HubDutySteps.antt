@@ -40,8 +40,8 @@ use Rattle.napi_types.specs.hub.ThreadSteps.{is_thread_there, nothing_given, thr
 use Rattle.napi_types.specs.hub.WorkerSteps.{worker_step, worker_event, start_step, work_end_step}
 use Rattle.napi_types.proofs.plain.Conditions.{and-right}
 use Rattle.napi_types.proofs.plain.Found.{same-self, apart-below, found-number}
-use Rattle.napi_types.proofs.hub.HubFunctions.{AreSoundFrom, changed_at}
-use Rattle.napi_types.proofs.hub.HubRooms.{IsWork, not-refused, Waits, queued-waits, WhatMoves, what-moves, move-of_function}
+use Rattle.napi_types.proofs.hub.HubFunctions.{AreSoundFrom, function_changed_at}
+use Rattle.napi_types.proofs.hub.HubRooms.{IsWork, not-refused, WorkWaits, queued-waits, WhatMoves, what-moves, move-of_function}
 
 -- THE WAYS
 -- nothing changes in which duties stand
@@ -75,7 +75,7 @@ pub data HubDutyStep (h : Hub) : Option Duty → Option Duty → Option Duty →
   creates : (s : Status) (addon : ℕ) (target : Target) (maximum count : ℕ) (finalizer : Option ℕ) (context : ℕ)
       → HubDutyStep h (finalizer_duty (new_function_number h) finalizer) None None s (with_function addon target maximum count finalizer context h)
   changes : (s : Status) (f : FunctionState) (change : FunctionState → FunctionState) (made begun : Option Duty) (n : Hub) → function_at h f.id ≡ Some f
-      → ChangesFunction f change made begun → n.pool ≡ h.pool → n.functions ≡ changed_at f.id change h.functions → HubDutyStep h made begun None s n
+      → ChangesFunction f change made begun → n.pool ≡ h.pool → n.functions ≡ function_changed_at f.id change h.functions → HubDutyStep h made begun None s n
   completes : (o : Outcome) (os : List Outcome) (n : Hub) → h.pool.finished ≡ o ∷ os → n.pool ≡ with_completed h.pool → n.functions ≡ h.functions
       → HubDutyStep h None (Some (duty.Work o.work)) None o.status n
 
@@ -131,7 +131,7 @@ called-duties h n payload m who (Some f) there = by (call_status who m f)
 cancelled-duties : (h : Hub) (id : ℕ) → work_refusal is_queued h.pool id ≡ None → HubDutyStep h None None None status.Ok (in_pool (with_cancelled id) h)
 cancelled-duties h id none =
     let w : IsWork is_queued h.pool id = not-refused is_queued h.pool id none in
-    let k : Waits h.pool w.work = queued-waits h.pool w.work w.state in
+    let k : WorkWaits h.pool w.work = queued-waits h.pool w.work w.state in
     let number : number_of_work h.pool id ≡ Some k.number = ap (λ o. option_and_then (λ (v : Work). v.number) o) w.there ∙ k.is in
     cancels status.Ok k.number (in_pool (with_cancelled id) h) k.waits (ap (λ o. in_pool (cancelled_at o) h) number)
 

@@ -59,21 +59,21 @@ more-sound drained k (g ∷ fs) f id here sound = (sound.0, sound.1, more-sound 
 
 -- CHANGES
 -- the functions, where that of a number is changed
-abbrev pub changed_at : ℕ → (FunctionState → FunctionState) → List FunctionState → List FunctionState
-changed_at n change fs = map (λ (f : FunctionState). cond (f.id == n) (change f) f) fs
+abbrev pub function_changed_at : ℕ → (FunctionState → FunctionState) → List FunctionState → List FunctionState
+function_changed_at n change fs = map (λ (f : FunctionState). cond (f.id == n) (change f) f) fs
 
-unchanged-from : (drained : Bool) (k n : ℕ) (change : FunctionState → FunctionState) (fs : List FunctionState) → AreSoundFrom drained k fs → n < k → changed_at n change fs ≡ fs
+unchanged-from : (drained : Bool) (k n : ℕ) (change : FunctionState → FunctionState) (fs : List FunctionState) → AreSoundFrom drained k fs → n < k → function_changed_at n change fs ≡ fs
 unchanged-from drained k n change [] sound below = refl
 unchanged-from drained k n change (f ∷ fs) sound below =
-    ap (λ b. cond b (change f) f ∷ changed_at n change fs) (apart-above n f.id (omega (arith, below, sound.0)))
+    ap (λ b. cond b (change f) f ∷ function_changed_at n change fs) (apart-above n f.id (omega (arith, below, sound.0)))
     ∙ ap (λ gs. f ∷ gs) (unchanged-from drained (suc k) n change fs sound.2 (omega (arith, below)))
 
 -- a function is among them, and a change of it changes no other
 pub record IsAmong (drained : Bool) (k : ℕ) (fs : List FunctionState) (f : FunctionState) : Type 0 where
   pub above : k ≤ f.id
   pub sound : IsSound drained f
-  pub places : (change : FunctionState → FunctionState) → sum_by function_places (changed_at f.id change fs) + function_places f ≡ sum_by function_places fs + function_places (change f)
-  pub kept : (change : FunctionState → FunctionState) → (change f).id ≡ f.id → IsSound drained (change f) → AreSoundFrom drained k (changed_at f.id change fs)
+  pub places : (change : FunctionState → FunctionState) → sum_by function_places (function_changed_at f.id change fs) + function_places f ≡ sum_by function_places fs + function_places (change f)
+  pub kept : (change : FunctionState → FunctionState) → (change f).id ≡ f.id → IsSound drained (change f) → AreSoundFrom drained k (function_changed_at f.id change fs)
 
 among-first : (drained : Bool) (k : ℕ) (f : FunctionState) (fs : List FunctionState) → AreSoundFrom drained k (f ∷ fs) → IsAmong drained k (f ∷ fs) f
 among-first drained k f fs sound = record {
@@ -83,9 +83,9 @@ among-first drained k f fs sound = record {
   kept = λ change id here. subst (AreSoundFrom drained k) (sym (same change)) (id ∙ sound.0, here, sound.2);
 }
   where
-    same : (change : FunctionState → FunctionState) → changed_at f.id change (f ∷ fs) ≡ change f ∷ fs
+    same : (change : FunctionState → FunctionState) → function_changed_at f.id change (f ∷ fs) ≡ change f ∷ fs
     same change =
-        ap (λ b. cond b (change f) f ∷ changed_at f.id change fs) (same-self f.id)
+        ap (λ b. cond b (change f) f ∷ function_changed_at f.id change fs) (same-self f.id)
         ∙ ap (λ gs. change f ∷ gs) (unchanged-from drained (suc k) f.id change fs sound.2 (omega (arith, sound.0)))
 
     sum : (places : FunctionState → ℕ) (g : FunctionState) → sum_by places (g ∷ fs) + places f ≡ sum_by places (f ∷ fs) + places g
@@ -95,12 +95,12 @@ among-later : (drained : Bool) (k : ℕ) (g f : FunctionState) (fs : List Functi
 among-later drained k g f fs sound later = record {
   above = omega (arith, later.above);
   sound = later.sound;
-  places = λ change. rw (same change) (sum function_places (change f) (changed_at f.id change fs) (later.places change));
+  places = λ change. rw (same change) (sum function_places (change f) (function_changed_at f.id change fs) (later.places change));
   kept = λ change id here. subst (AreSoundFrom drained k) (sym (same change)) (sound.0, sound.1, later.kept change id here);
 }
   where
-    same : (change : FunctionState → FunctionState) → changed_at f.id change (g ∷ fs) ≡ g ∷ changed_at f.id change fs
-    same change = ap (λ b. cond b (change g) g ∷ changed_at f.id change fs) (apart-below g.id f.id (omega (arith, sound.0, later.above)))
+    same : (change : FunctionState → FunctionState) → function_changed_at f.id change (g ∷ fs) ≡ g ∷ function_changed_at f.id change fs
+    same change = ap (λ b. cond b (change g) g ∷ function_changed_at f.id change fs) (apart-below g.id f.id (omega (arith, sound.0, later.above)))
 
     sum : (places : FunctionState → ℕ) (h : FunctionState) (gs : List FunctionState) → sum_by places gs + places f ≡ sum_by places fs + places h
         → sum_by places (g ∷ gs) + places f ≡ sum_by places (g ∷ fs) + places h
@@ -119,12 +119,12 @@ found-among drained k n (g ∷ fs) f sound is = by (g.id == n) is (found-among d
 
 -- WHAT A CALL DOES
 -- a function that comes from another has its number, is sound where that is, and takes no more places than these
-pub record Grows (drained : Bool) (places : ℕ) (f g : FunctionState) : Type 0 where
+pub record FunctionGrows (drained : Bool) (places : ℕ) (f g : FunctionState) : Type 0 where
   pub id : g.id ≡ f.id
   pub sound : IsSound drained f → IsSound drained g
   pub room : function_places g + 1 ≤ function_places f + places
 
-same-grows : (drained : Bool) (f : FunctionState) → Grows drained 1 f f
+same-grows : (drained : Bool) (f : FunctionState) → FunctionGrows drained 1 f f
 same-grows drained f = record { id = refl; sound = λ s. s; room = omega arith }
 
 -- of an open one
@@ -143,7 +143,7 @@ over-open _ opened over = cc
 item-more : (p n m : ℕ) → m ≡ n + 1 → p + 2 * m + 1 ≤ p + 2 * n + 3
 item-more p n m e = omega (arith, e)
 
-called-grows : (drained : Bool) (f : FunctionState) (payload : ℕ) (s : Status) → (s ≡ status.Ok → is_open f.state ≡ true) → Grows drained 3 f (called (Some s) payload f)
+called-grows : (drained : Bool) (f : FunctionState) (payload : ℕ) (s : Status) → (s ≡ status.Ok → is_open f.state ≡ true) → FunctionGrows drained 3 f (called (Some s) payload f)
 called-grows drained f payload status.Ok opened = record {
   id = refl;
   sound = λ s. record { settled = λ over. absurd (over-open f.state (opened refl) over); shut = s.shut };
@@ -152,7 +152,7 @@ called-grows drained f payload status.Ok opened = record {
 called-grows drained f payload status.Closing opened = record { id = refl; sound = λ s. record { settled = s.settled; shut = s.shut }; room = omega arith }
 called-grows drained f payload _ opened = record { id = refl; sound = λ s. s; room = omega arith }
 
-acquired-grows : (drained : Bool) (f : FunctionState) (s : Status) → Grows drained 1 f (acquired s f)
+acquired-grows : (drained : Bool) (f : FunctionState) (s : Status) → FunctionGrows drained 1 f (acquired s f)
 acquired-grows drained f status.Ok = record { id = refl; sound = λ s. record { settled = s.settled; shut = s.shut }; room = omega arith }
 acquired-grows drained f _ = record { id = refl; sound = λ s. s; room = omega arith }
 
@@ -184,7 +184,7 @@ all_closed-le [] = omega arith
 all_closed-le (f ∷ fs) =
     omega (arith, closed-le f, all_closed-le fs, sum_by-cons function_places (closed f) (map closed fs), sum_by-cons function_places f fs)
 
-released-grows : (drained : Bool) (f : FunctionState) (s : Status) (m : Release) → Grows drained 1 f (released s m f)
+released-grows : (drained : Bool) (f : FunctionState) (s : Status) (m : Release) → FunctionGrows drained 1 f (released s m f)
 released-grows drained f status.Ok release.Release = record { id = refl; sound = λ s. record { settled = s.settled; shut = s.shut }; room = omega arith }
 released-grows drained f status.Ok release.Abort = record {
   id = refl;
@@ -193,7 +193,7 @@ released-grows drained f status.Ok release.Abort = record {
 }
 released-grows drained f _ m = record { id = refl; sound = λ s. s; room = omega arith }
 
-pub alters-grows : (drained : Bool) (f : FunctionState) (c : Call) (change : FunctionState → FunctionState) → Alters f c change → Grows drained (need c) f (change f)
+pub alters-grows : (drained : Bool) (f : FunctionState) (c : Call) (change : FunctionState → FunctionState) → Alters f c change → FunctionGrows drained (need c) f (change f)
 alters-grows drained f _ _ (calls n payload m who s tells) = called-grows drained f payload s (λ is. called-open who m f (tells ∙ ap Some is))
 alters-grows drained f _ _ (acquires n) = acquired-grows drained f (acquire_status f)
 alters-grows drained f _ _ (releases n m) = released-grows drained f (release_status f) m

@@ -33,7 +33,7 @@ use Rattle.napi_types.specs.hub.HubSteps.{IsHubNext, hub_step, hub_along}
 use Rattle.napi_types.specs.hub.Replays.{HubReplays}
 use Rattle.napi_types.proofs.plain.Conditions.{and-left, and-right}
 use Rattle.napi_types.proofs.hub.HubCases.{HubCase, hub-case, creates_work, deletes_work, cancels_work, queues_work, creates_function, alters, goes, ends_loop, drains, comes_to_finals, delivers, closes, finishes, starts, finishes_work}
-use Rattle.napi_types.proofs.hub.HubFunctions.{is_over, IsSound, AreSoundFrom, fewer-sound, more-sound, IsAmong, found-among, Grows, alters-grows, all_closed-sound, DutyFalls, Moves, first-moves}
+use Rattle.napi_types.proofs.hub.HubFunctions.{is_over, IsSound, AreSoundFrom, fewer-sound, more-sound, IsAmong, found-among, FunctionGrows, alters-grows, all_closed-sound, DutyFalls, Moves, first-moves}
 use Rattle.napi_types.proofs.hub.HubPools.{PoolSound, created-sound, deleted-sound, cancelled-sound, queued-sound, started-sound, worked-sound, completed-sound, drained-sound, fewer-late, finished-there}
 use Rattle.napi_types.proofs.hub.HubRooms.{WhatMoves, what-moves, move-of_function, completion-completes, late-room}
 
@@ -101,7 +101,7 @@ functions-sound h x told _ sound (creates_function f entry maximum count finaliz
     (record { settled = λ over. cc; shut = λ late. absurd (drained-looped h.stage early late) }) sound
 functions-sound h x told _ sound (alters c k f change is there how) =
     let among : IsAmong (is_past_drain h.stage) 1 h.functions f = found-among (is_past_drain h.stage) 1 k h.functions f sound there in
-    let grows : Grows (is_past_drain h.stage) _ f (change f) = alters-grows (is_past_drain h.stage) f c change how in
+    let grows : FunctionGrows (is_past_drain h.stage) _ f (change f) = alters-grows (is_past_drain h.stage) f c change how in
     among.kept change grows.id (grows.sound among.sound)
 functions-sound h x told _ sound (goes is may) = staged-sound h host.Go refl (and-left _ (is_none h.standing) may) sound
 functions-sound h x told _ sound (ends_loop is may) = staged-sound h host.LoopEnd refl (and-left _ (is_none h.standing) may) sound

@@ -54,8 +54,8 @@ Made n w = w.addon < n
 abbrev AreMade : ℕ → WorkPool → Type 0
 AreMade n p = All (Made n) p.works
 
-abbrev Ours : ℕ → FunctionState → Type 0
-Ours n f = IsFunctionOf n f
+abbrev IsOurFunction : ℕ → FunctionState → Type 0
+IsOurFunction n f = IsFunctionOf n f
 
 -- THE POOL
 created-owned : (n id : ℕ) (job : JobSpec) (addon entry payload : ℕ) (p : WorkPool) → addon < n → AreMade n p → AreMade n (with_work id job addon entry payload p)
@@ -85,45 +85,45 @@ finished-owned n worker (Some k) p all = all
 
 -- A FUNCTION
 -- a change of a function that keeps whose it is
-abbrev Keeps : (FunctionState → FunctionState) → Type 0
-Keeps change = (n : ℕ) (f : FunctionState) → Ours n f → Ours n (change f)
+abbrev KeepsOwner : (FunctionState → FunctionState) → Type 0
+KeepsOwner change = (n : ℕ) (f : FunctionState) → IsOurFunction n f → IsOurFunction n (change f)
 
-changed-owned : (n k : ℕ) (change : FunctionState → FunctionState) (fs : List FunctionState) → Keeps change → All (Ours n) fs
-    → All (Ours n) (map (λ (f : FunctionState). cond (f.id == k) (change f) f) fs)
-changed-owned n k change fs keeps all = All-map (Ours n) _ fs (All-weaker (Ours n) (λ (f : FunctionState). Ours n (cond (f.id == k) (change f) f)) by fs all)
+changed-owned : (n k : ℕ) (change : FunctionState → FunctionState) (fs : List FunctionState) → KeepsOwner change → All (IsOurFunction n) fs
+    → All (IsOurFunction n) (map (λ (f : FunctionState). cond (f.id == k) (change f) f) fs)
+changed-owned n k change fs keeps all = All-map (IsOurFunction n) _ fs (All-weaker (IsOurFunction n) (λ (f : FunctionState). IsOurFunction n (cond (f.id == k) (change f) f)) by fs all)
   where
-    at : (b : Bool) (f : FunctionState) → Ours n f → Ours n (cond b (change f) f)
+    at : (b : Bool) (f : FunctionState) → IsOurFunction n f → IsOurFunction n (cond b (change f) f)
     at true f h = keeps n f h
     at false f h = h
 
-    by : (f : FunctionState) → Ours n f → Ours n (cond (f.id == k) (change f) f)
+    by : (f : FunctionState) → IsOurFunction n f → IsOurFunction n (cond (f.id == k) (change f) f)
     by f h = at (f.id == k) f h
 
-function-owned : (n k : ℕ) (change : FunctionState → FunctionState) (h : Hub) → Keeps change → IsOwnedHub n h → IsOwnedHub n (in_function k change h)
+function-owned : (n k : ℕ) (change : FunctionState → FunctionState) (h : Hub) → KeepsOwner change → IsOwnedHub n h → IsOwnedHub n (in_function k change h)
 function-owned n k change h keeps o = record { works = o.works; functions = changed-owned n k change h.functions keeps o.functions }
 
-keeps-called : (s : Status) (payload : ℕ) → Keeps (called (Some s) payload)
+keeps-called : (s : Status) (payload : ℕ) → KeepsOwner (called (Some s) payload)
 keeps-called status.Ok payload n f h = record { creator = h.creator; target = h.target }
 keeps-called status.Closing payload n f h = record { creator = h.creator; target = h.target }
 keeps-called s payload n f h = h
 
-keeps-acquired : (s : Status) → Keeps (acquired s)
+keeps-acquired : (s : Status) → KeepsOwner (acquired s)
 keeps-acquired status.Ok n f h = record { creator = h.creator; target = h.target }
 keeps-acquired s n f h = h
 
-keeps-released : (s : Status) (m : Release) → Keeps (released s m)
+keeps-released : (s : Status) (m : Release) → KeepsOwner (released s m)
 keeps-released status.Ok release.Abort n f h = record { creator = h.creator; target = h.target }
 keeps-released status.Ok release.Release n f h = record { creator = h.creator; target = h.target }
 keeps-released s m n f h = h
 
-keeps-taken : Keeps first_taken
+keeps-taken : KeepsOwner first_taken
 keeps-taken n f h = by (is_some (head f.items))
   where
-    by : (b : Bool) → Ours n (cond b (with_item_taken f) f)
+    by : (b : Bool) → IsOurFunction n (cond b (with_item_taken f) f)
     by true = record { creator = h.creator; target = h.target }
     by false = h
 
-keeps-plainly : (n : ℕ) (f g : FunctionState) → g.addon ≡ f.addon → g.target ≡ f.target → Ours n f → Ours n g
+keeps-plainly : (n : ℕ) (f g : FunctionState) → g.addon ≡ f.addon → g.target ≡ f.target → IsOurFunction n f → IsOurFunction n g
 keeps-plainly n f g creator target h = record { creator = subst (λ a. a < n) (sym creator) h.creator; target = subst (λ (t : Target). t.addon < n) (sym target) h.target }
 
 -- A CALL
@@ -168,7 +168,7 @@ answer-owned n h who g (call.CancelAsyncWork w) k gives o =
 answer-owned n h who g (call.QueueAsyncWork w) k gives o =
     unless-owned n h (work_refusal is_created h.pool w.0) _ o (record { works = queued-owned n w.0 h.pool o.works; functions = o.functions })
 answer-owned n h who g (call.CreateThreadsafeFunction f entry maximum count finalizer context) k gives o =
-    record { works = o.works; functions = All-push (Ours n) h.functions _ o.functions (record { creator = (gives refl).addon; target = (gives refl).target }) }
+    record { works = o.works; functions = All-push (IsOurFunction n) h.functions _ o.functions (record { creator = (gives refl).addon; target = (gives refl).target }) }
 answer-owned n h who g (call.CallThreadsafeFunction f payload m) k gives o = called-owned n h who payload m (function_at h f.0) o
 answer-owned n h who g (call.AcquireThreadsafeFunction f) k gives o =
     on-owned n h _ (function_at h f.0) o (λ x. function-owned n x.id (acquired (acquire_status x)) h (keeps-acquired (acquire_status x)) o)
@@ -278,7 +278,7 @@ pub event-owned : (n : ℕ) (h : Hub) (x : Entry) (event : HostStep) → IsOwned
 event-owned n h x host.Go k = record { works = k.works; functions = k.functions }
 event-owned n h x host.LoopEnd k = loop_end-owned n h x x.reply.out k
 event-owned n h x host.Drain k =
-    record { works = k.works; functions = All-map (Ours n) closed h.functions (All-weaker (Ours n) (λ f. Ours n (closed f)) (λ f here. keeps-plainly n f _ refl refl here) h.functions k.functions) }
+    record { works = k.works; functions = All-map (IsOurFunction n) closed h.functions (All-weaker (IsOurFunction n) (λ f. IsOurFunction n (closed f)) (λ f here. keeps-plainly n f _ refl refl here) h.functions k.functions) }
 event-owned n h x host.Finals k = record { works = k.works; functions = k.functions }
 event-owned n h x host.Begin k = begin-owned n h x (hub_move h) k
 event-owned n h x host.CloseTsfn k = close-owned n h x (hub_move h) k
@@ -308,7 +308,7 @@ completion-owned n (Some k) p all = by p.works all
     by [] all = tt
     by (w ∷ ws) all = at w ws (has_work_number k.work w) (All-head (Made n) w ws all) (by ws (All-tail (Made n) w ws all))
 
-function_move-owned : (n : ℕ) (f : FunctionState) (s : TsfnState) (items : List ℕ) → Ours n f → MoveOwned n (function_move_in f s items)
+function_move-owned : (n : ℕ) (f : FunctionState) (s : TsfnState) (items : List ℕ) → IsOurFunction n f → MoveOwned n (function_move_in f s items)
 function_move-owned n f Open [] o = by (f.count == 0)
   where
     by : (b : Bool) → MoveOwned n (cond b (Some (Closes f.id)) None)
@@ -324,10 +324,10 @@ either-owned : (n : ℕ) (a b : Option HubMove) → MoveOwned n a → MoveOwned 
 either-owned n None b h k = k
 either-owned n (Some m) b h k = h
 
-first-owned : (n : ℕ) (fs : List FunctionState) → All (Ours n) fs → MoveOwned n (first_move fs)
+first-owned : (n : ℕ) (fs : List FunctionState) → All (IsOurFunction n) fs → MoveOwned n (first_move fs)
 first-owned n [] all = tt
 first-owned n (f ∷ fs) all =
-    either-owned n (function_move_in f f.state f.items) (first_move fs) (function_move-owned n f f.state f.items (All-head (Ours n) f fs all)) (first-owned n fs (All-tail (Ours n) f fs all))
+    either-owned n (function_move_in f f.state f.items) (first_move fs) (function_move-owned n f f.state f.items (All-head (IsOurFunction n) f fs all)) (first-owned n fs (All-tail (IsOurFunction n) f fs all))
 
 pub move-owned : (n : ℕ) (h : Hub) → IsOwnedHub n h → MoveOwned n (hub_move h)
 move-owned n h o =

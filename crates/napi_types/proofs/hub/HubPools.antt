@@ -9,12 +9,12 @@ use Rattle.std.proofs.lemmas.List.Folds.{list_any-append, list_any_none}
 use Rattle.napi_types.specs.declared.call.JobSpec.{JobSpec}
 use Rattle.napi_types.specs.plain.Lists.{found, has, has_number, with_number, with_record, tail, one}
 use Rattle.napi_types.specs.parts.Pool.{WorkPool, work_numbered, standing_at, work_state, work_refusal, number_of_work, executed_by, with_work, without_work, new_number, with_queued, cancelled_at, with_cancelled, started_from, with_started, finished_at, with_finished, with_completed, drained}
-use Rattle.napi_types.specs.parts.Works.{Work, Created, Queued, Running, Finished, Completed, Execution, Outcome, is_created, is_queued, is_deletable, is_number, has_work_number, cancelled_outcome}
+use Rattle.napi_types.specs.parts.Works.{Work, Created, Queued, Running, Finished, Completed, Execution, Outcome, is_created, is_queued, is_deletable, is_this_number, has_work_number, cancelled_outcome}
 use Rattle.napi_types.proofs.plain.Found.{IsRising, same-tells, apart-above, same-self, found-number, has-found, rising-filter, rising-with_record, rising-changed, has-with_number}
 use Rattle.napi_types.proofs.plain.Maps.{list_any-with_record, All-with_record}
 use Rattle.napi_types.proofs.plain.Lists.{any-map}
 use Rattle.napi_types.proofs.hub.Executions.{ExecutesOne}
-use Rattle.napi_types.proofs.hub.HubRooms.{IsWork, not-refused, Waits, queued-waits}
+use Rattle.napi_types.proofs.hub.HubRooms.{IsWork, not-refused, WorkWaits, queued-waits}
 
 -- TESTS ON LISTS
 any-filter : {A : Type 0} (test keep : A → Bool) (xs : List A) → All (λ x. keep x ≡ false → test x ≡ false) xs → list_any test xs ≡ true → list_any test (filter keep xs) ≡ true
@@ -90,8 +90,8 @@ pub record PoolSound (late : Bool) (p : WorkPool) : Type 0 where
   pub executes : ExecutesOne p
 
 -- no more works stand, of the same ones
-abbrev StandsIn : WorkPool → WorkPool → Type 0
-StandsIn p q = (n : ℕ) → stands q n ≡ true → stands p n ≡ true
+abbrev WorksStandIn : WorkPool → WorkPool → Type 0
+WorksStandIn p q = (n : ℕ) → stands q n ≡ true → stands p n ≡ true
 
 waits-stands : (p : WorkPool) (n : ℕ) → has_number n p.queued ≡ true → stands p n ≡ true
 waits-stands p n is = or_left (has_number n p.queued) _ is
@@ -113,7 +113,7 @@ by-standing q n P waits runs finishes is =
 
 -- what moves between the three leaves all works there
 kept-sound : (late after : Bool) (p : WorkPool) (queued : List ℕ) (executions : List Execution) (finished : List Outcome) (closing : Bool) → (after ≡ true → queued ≡ [])
-    → StandsIn p (record p { queued = queued; executions = executions; finished = finished; closing = closing })
+    → WorksStandIn p (record p { queued = queued; executions = executions; finished = finished; closing = closing })
     → IsRising (λ (x : Execution). x.worker) executions → PoolSound late p
     → PoolSound after (record p { queued = queued; executions = executions; finished = finished; closing = closing })
 kept-sound late after p queued executions finished closing none stood one s =
@@ -185,7 +185,7 @@ deletable-apart p w n deletable is = by w.number refl deletable
         let here : stands p m ≡ true = ap (stands p) (same-tells m n same) ∙ is in
         sym deletable ∙ standing-deletable (has_number m p.queued) (has (λ (x : Execution). x.work) m p.executions) (has (λ (o : Outcome). o.work) m p.finished) here
 
-    by : (o : Option ℕ) → w.number ≡ o → is_deletable (option_map_or (standing_at p) o Created) ≡ true → is_number n o ≡ false
+    by : (o : Option ℕ) → w.number ≡ o → is_deletable (option_map_or (standing_at p) o Created) ≡ true → is_this_number n o ≡ false
     by None is deletable = refl
     by (Some m) is deletable = numbered m (m == n) refl deletable
 
@@ -211,13 +211,13 @@ deleted-sound late p id none s =
 pub cancelled-sound : (late : Bool) (p : WorkPool) (id : ℕ) → work_refusal is_queued p id ≡ None → PoolSound late p → PoolSound late (with_cancelled id p)
 cancelled-sound late p id none s =
     let w : IsWork is_queued p id = not-refused is_queued p id none in
-    let k : Waits p w.work = queued-waits p w.work w.state in
+    let k : WorkWaits p w.work = queued-waits p w.work w.state in
     let number : number_of_work p id ≡ Some k.number = ap (λ o. option_and_then (λ (v : Work). v.number) o) w.there ∙ k.is in
     subst (λ o. PoolSound late (cancelled_at o p)) (sym number)
     (kept-sound late late p (filter (λ m. not (m == k.number)) p.queued) p.executions (p.finished ++ one (cancelled_outcome k.number)) p.closing
     (λ l. ap (λ ns. filter (λ m. not (m == k.number)) ns) (s.none l)) (stood k.number k.waits) s.executes s)
   where
-    stood : (k : ℕ) → has_number k p.queued ≡ true → StandsIn p (cancelled_at (Some k) p)
+    stood : (k : ℕ) → has_number k p.queued ≡ true → WorksStandIn p (cancelled_at (Some k) p)
     stood k waits n =
         by-standing (cancelled_at (Some k) p) n (stands p n ≡ true) (λ h. waits-stands p n (any-of_filter (λ m. m == n) (λ m. not (m == k)) p.queued h)) (runs-stands p n)
         (λ h. elim (last-finished p.finished (cancelled_outcome k) n h) [
@@ -283,7 +283,7 @@ queued-sound late p id none early s =
     unnumbered n y v none same is = by (y.id == id) refl
       where
         by : (b : Bool) → (y.id == id) ≡ b → has_work_number n (cond b (record y { number = Some (new_number p) }) y) ≡ true
-        by true here = let no : false ≡ true = sym (ap (has_work_number n) (same here) ∙ ap (is_number n) none) ∙ is in cc
+        by true here = let no : false ≡ true = sym (ap (has_work_number n) (same here) ∙ ap (is_this_number n) none) ∙ is in cc
         by false other = is
 
     passes : (n : ℕ) (v : Work) → found (λ (y : Work). y.id) id p.works ≡ Some v → (new_number p == n) ≡ true → has_work_number n (numbered v) ≡ true
@@ -307,7 +307,7 @@ started-sound late p w n later waits free s =
     (λ l. let no : n ∷ later ≡ [] = sym waits ∙ s.none l in cc) stood
     (rising-with_record (λ (x : Execution). x.worker) (record { worker = w; work = n }) p.executions s.executes) s)
   where
-    stood : StandsIn p (started_from (n ∷ later) w p)
+    stood : WorksStandIn p (started_from (n ∷ later) w p)
     stood m =
         by-standing (started_from (n ∷ later) w p) m (stands p m ≡ true) (λ h. waits-stands p m (ap (has_number m) waits ∙ or_right (n == m) (has_number m later) h))
         (λ h. elim (or_cases (n == m) (has (λ (x : Execution). x.work) m p.executions)
@@ -333,7 +333,7 @@ worked-sound late p w n runs s =
     (kept-sound late late p p.queued (filter (λ (x : Execution). not (x.worker == w)) p.executions) (finished_at w (Some n) p).finished p.closing s.none stood
     (rising-filter (λ (x : Execution). x.worker) (λ x. not (x.worker == w)) p.executions s.executes) s)
   where
-    stood : StandsIn p (finished_at w (Some n) p)
+    stood : WorksStandIn p (finished_at w (Some n) p)
     stood m =
         by-standing (finished_at w (Some n) p) m (stands p m ≡ true) (waits-stands p m)
         (λ h. runs-stands p m (any-of_filter (λ (x : Execution). x.work == m) (λ (x : Execution). not (x.worker == w)) p.executions h))

@@ -95,12 +95,12 @@ not-refused test p id none = by (work_at p id) refl none
     by (Some w) there none = passes w (test (work_state p w)) there refl none
 
 -- a work that waits does so under its number
-pub record Waits (p : WorkPool) (w : Work) : Type 0 where
+pub record WorkWaits (p : WorkPool) (w : Work) : Type 0 where
   pub number : ℕ
   pub is : w.number ≡ Some number
   pub waits : has_number number p.queued ≡ true
 
-pub queued-waits : (p : WorkPool) (w : Work) → is_queued (work_state p w) ≡ true → Waits p w
+pub queued-waits : (p : WorkPool) (w : Work) → is_queued (work_state p w) ≡ true → WorkWaits p w
 queued-waits p w is = by w.number refl is
   where
     other : (r f : Bool) → is_queued (cond r Running (cond f Finished Completed)) ≡ false
@@ -108,11 +108,11 @@ queued-waits p w is = by w.number refl is
     other false true = refl
     other false false = refl
 
-    waiting : (n : ℕ) (b r f : Bool) → w.number ≡ Some n → has_number n p.queued ≡ b → is_queued (cond b Queued (cond r Running (cond f Finished Completed))) ≡ true → Waits p w
+    waiting : (n : ℕ) (b r f : Bool) → w.number ≡ Some n → has_number n p.queued ≡ b → is_queued (cond b Queued (cond r Running (cond f Finished Completed))) ≡ true → WorkWaits p w
     waiting n true r f numbered waits is = record { number = n; is = numbered; waits = waits }
     waiting n false r f numbered waits is = let no : false ≡ true = sym (other r f) ∙ is in cc
 
-    by : (o : Option ℕ) → w.number ≡ o → is_queued (option_map_or (standing_at p) o Created) ≡ true → Waits p w
+    by : (o : Option ℕ) → w.number ≡ o → is_queued (option_map_or (standing_at p) o Created) ≡ true → WorkWaits p w
     by None numbered is = cc
     by (Some n) numbered is = waiting n (has_number n p.queued) (has (λ (x : Execution). x.work) n p.executions) (has (λ (o : Outcome). o.work) n p.finished) numbered refl is
 
@@ -122,7 +122,7 @@ cancelled-fits q e f q' f' less more = omega (arith, less, more)
 cancels-fits : (p : WorkPool) (id : ℕ) → work_refusal is_queued p id ≡ None → work_places (with_cancelled id p) + 1 ≤ work_places p + 1
 cancels-fits p id none =
     let w : IsWork is_queued p id = not-refused is_queued p id none in
-    let k : Waits p w.work = queued-waits p w.work w.state in
+    let k : WorkWaits p w.work = queued-waits p w.work w.state in
     let number : number_of_work p id ≡ Some k.number = ap (λ o. option_and_then (λ (v : Work). v.number) o) w.there ∙ k.is in
     subst (λ o. work_places (cancelled_at o p) + 1 ≤ work_places p + 1) (sym number)
     (cancelled-fits (length p.queued) (length p.executions) (length p.finished) (length (filter (λ m. not (m == k.number)) p.queued))
@@ -339,9 +339,9 @@ creates-room h f k fits = in-functions-room h (h.functions ++ one f) 1 k (omega 
 
 -- EACH STEP
 -- the places that an entry takes beside those that are reserved: a call those that it needs
-abbrev pub places_of : What → ℕ
-places_of (what.Call c) = need c
-places_of (what.Host event) = 0
+abbrev pub places_beside : What → ℕ
+places_beside (what.Call c) = need c
+places_beside (what.Host event) = 0
 
 nothing-room : (h : Hub) (k : ℕ) → 1 ≤ k → reserved_history h + 1 ≤ reserved_history h + k
 nothing-room h k some = by (reserved_history h)
@@ -349,10 +349,10 @@ nothing-room h k some = by (reserved_history h)
     by : (r : ℕ) → r + 1 ≤ r + k
     by r = omega (arith, some)
 
-has-places : (a b : ℕ) (x : Entry) (w : What) → x.what ≡ w → a + 1 ≤ b + places_of w → a + 1 ≤ b + places_of x.what
-has-places a b x w is fits = subst (λ v. a + 1 ≤ b + places_of v) (sym is) fits
+has-places : (a b : ℕ) (x : Entry) (w : What) → x.what ≡ w → a + 1 ≤ b + places_beside w → a + 1 ≤ b + places_beside x.what
+has-places a b x w is fits = subst (λ v. a + 1 ≤ b + places_beside v) (sym is) fits
 
-pub hub-room : (late : Bool) (h : Hub) (x : Entry) (told : Out) (n : Hub) → AreSoundFrom late 1 h.functions → HubCase h x told n → reserved_history n + 1 ≤ reserved_history h + places_of x.what
+pub hub-room : (late : Bool) (h : Hub) (x : Entry) (told : Out) (n : Hub) → AreSoundFrom late 1 h.functions → HubCase h x told n → reserved_history n + 1 ≤ reserved_history h + places_beside x.what
 hub-room late h x told _ sound (asks c is shared) = has-places _ _ x _ is (nothing-room h (need c) (needs-place c))
 hub-room late h x told _ sound (creates_work job entry payload addon is fresh tells) =
     has-places _ _ x _ is (in-pool-room h (with_work (work_number x.reply.out) job addon entry payload) 1 1 (omega arith))
@@ -379,8 +379,8 @@ hub-room late h x told _ sound (finishes_work w n is runs) = has-places _ _ x _ 
 
 -- LATE
 -- from the end of the loop on no entry takes more places than it gives back, once no function is open
-one-place : (a b : ℕ) (x : Entry) (w : What) → x.what ≡ w → places_of w ≤ 1 → a + 1 ≤ b + places_of x.what → a ≤ b
-one-place a b x w is one fits = by (places_of w) one (subst (λ v. a + 1 ≤ b + places_of v) is fits)
+one-place : (a b : ℕ) (x : Entry) (w : What) → x.what ≡ w → places_beside w ≤ 1 → a + 1 ≤ b + places_beside x.what → a ≤ b
+one-place a b x w is one fits = by (places_beside w) one (subst (λ v. a + 1 ≤ b + places_beside v) is fits)
   where
     by : (k : ℕ) → k ≤ 1 → a + 1 ≤ b + k → a ≤ b
     by k one fits = omega (arith, one, fits)

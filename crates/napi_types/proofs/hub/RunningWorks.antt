@@ -16,7 +16,7 @@ use Rattle.napi_types.specs.declared.entry.What.TheVariants as what
 use Rattle.napi_types.specs.plain.Lists.{has_number}
 use Rattle.napi_types.specs.parts.Jobs.{job_value}
 use Rattle.napi_types.specs.parts.Pool.{WorkPool, work_numbered, work_refusal, executed_by, number_of_work, with_work, without_work, new_number, with_queued, cancelled_at, started_from, finished_at}
-use Rattle.napi_types.specs.parts.Works.{Work, is_created, is_deletable, is_number, has_work_number}
+use Rattle.napi_types.specs.parts.Works.{Work, is_created, is_deletable, is_this_number, has_work_number}
 use Rattle.napi_types.specs.hub.Actors.{is_worker}
 use Rattle.napi_types.specs.hub.GivenSteps.{is_fresh_work, work_number}
 use Rattle.napi_types.specs.hub.HistoryLaws.{StaysRunning, RunningStaysRunning}
@@ -119,7 +119,7 @@ queued-same late p id n none stood s =
             → (has_work_number n (cond b (record w { number = Some (new_number p) }) w) ≡ has_work_number n w)
             × (has_work_number n w ≡ true → cond b (record w { number = Some (new_number p) }) w ≡ w)
         by true same =
-            let not-it : has_work_number n w ≡ false = ap (has_work_number n) (same refl) ∙ ap (is_number n) (created-none p k.work k.state) in
+            let not-it : has_work_number n w ≡ false = ap (has_work_number n) (same refl) ∙ ap (is_this_number n) (created-none p k.work k.state) in
             (above p.numbered n (s.given n stood) ∙ sym not-it, λ its. (let no : true ≡ false = sym its ∙ not-it in cc))
         by false same = (refl, λ its. refl)
 

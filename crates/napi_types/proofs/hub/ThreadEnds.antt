@@ -23,7 +23,7 @@ use Rattle.napi_types.proofs.plain.Found.{has-with_number}
 use Rattle.napi_types.proofs.hub.HubCases.{HubCase, delivers, thread_ends, hub-case}
 
 -- WHICH THREADS HAVE ENDED
-abbrev is_end : What → Bool
+abbrev pub is_end : What → Bool
 is_end (what.Host host.ActorEnd) = true
 is_end _ = false
 

@@ -162,16 +162,16 @@ others-leave w h x other may = by x.actor other may (hub-case h x may)
 
 -- WHERE A WORKER STANDS
 -- a free one executes nothing, one that has a work executes it, and one that is over has ended
-abbrev pub Stands : ℕ → Hub → WorkerState → Type 0
-Stands w h Free = executed_by h.pool w ≡ None
-Stands w h Working = is_some (executed_by h.pool w) ≡ true
-Stands w h Over = has_number w (workers_left h) ≡ false
+abbrev pub WorkerStands : ℕ → Hub → WorkerState → Type 0
+WorkerStands w h Free = executed_by h.pool w ≡ None
+WorkerStands w h Working = is_some (executed_by h.pool w) ≡ true
+WorkerStands w h Over = has_number w (workers_left h) ≡ false
 
 abbrev pub StandsSo : ℕ → Hub → Option WorkerState → Type 0
 StandsSo w h None = ⊥
-StandsSo w h (Some s) = Stands w h s
+StandsSo w h (Some s) = WorkerStands w h s
 
-leaves-stands : (w : ℕ) (old new : Hub) (s : WorkerState) → LeavesWorker w old new → Stands w old s → Stands w new s
+leaves-stands : (w : ℕ) (old new : Hub) (s : WorkerState) → LeavesWorker w old new → WorkerStands w old s → WorkerStands w new s
 leaves-stands w old new Free k stands = k.executed ∙ stands
 leaves-stands w old new Working k stands = ap is_some k.executed ∙ stands
 leaves-stands w old new Over k stands = k.gone stands
@@ -185,7 +185,7 @@ idle : (o : Option ℕ) → is_none o ≡ true → is_some o ≡ true → ⊥
 idle None none some = cc
 idle (Some n) none some = cc
 
-own-start : (w : ℕ) (h : Hub) (x : Entry) (queued : List ℕ) (s : WorkerState) → h.pool.queued ≡ queued → Stands w h s → IsTrue (start_step h w x queued).may
+own-start : (w : ℕ) (h : Hub) (x : Entry) (queued : List ℕ) (s : WorkerState) → h.pool.queued ≡ queued → WorkerStands w h s → IsTrue (start_step h w x queued).may
     → StandsSo w (start_step h w x queued).after (worker_after s (what.Host host.Start))
 own-start w h x [] s waits stands may = cc
 own-start w h x (n ∷ later) Free waits stands may =
@@ -195,7 +195,7 @@ own-start w h x (n ∷ later) Working waits stands may = idle (executed_by h.poo
 own-start w h x (n ∷ later) Over waits stands may =
     over w h (and-left (is_worker_there h w) (not h.pool.closing) (and-left _ (is_none (executed_by h.pool w)) may)) stands
 
-own-finish : (w : ℕ) (h : Hub) (x : Entry) (o : Option ℕ) (s : WorkerState) → executed_by h.pool w ≡ o → Stands w h s → IsTrue (work_end_step h w x o).may
+own-finish : (w : ℕ) (h : Hub) (x : Entry) (o : Option ℕ) (s : WorkerState) → executed_by h.pool w ≡ o → WorkerStands w h s → IsTrue (work_end_step h w x o).may
     → StandsSo w (work_end_step h w x o).after (worker_after s (what.Host host.Finish))
 own-finish w h x None s runs stands may = cc
 own-finish w h x (Some n) Free runs stands may = let no : Some n ≡ None = sym runs ∙ stands in cc
@@ -203,13 +203,13 @@ own-finish w h x (Some n) Working runs stands may =
     ap (λ o. executed_by (finished_at w o h.pool) w) runs ∙ finished-executes w n w h.pool ∙ ap (λ b. cond b None (executed_by h.pool w)) (same-self w)
 own-finish w h x (Some n) Over runs stands may = over w h may stands
 
-own-end : (w : ℕ) (h : Hub) (x : Entry) (s : WorkerState) → Stands w h s → IsTrue (worker_step h w x (what.Host host.ActorEnd)).may
+own-end : (w : ℕ) (h : Hub) (x : Entry) (s : WorkerState) → WorkerStands w h s → IsTrue (worker_step h w x (what.Host host.ActorEnd)).may
     → StandsSo w (worker_step h w x (what.Host host.ActorEnd)).after (worker_after s (what.Host host.ActorEnd))
 own-end w h x Free stands may = ended-without w w h.workers h.ended_workers ∙ left-out w (workers_left h)
 own-end w h x Working stands may = idle (executed_by h.pool w) (and-right _ (is_none (executed_by h.pool w)) may) stands
 own-end w h x Over stands may = over w h (and-left (is_worker_there h w) h.pool.closing (and-left _ (is_none (executed_by h.pool w)) may)) stands
 
-own-stands : (w : ℕ) (h : Hub) (x : Entry) (it : What) (s : WorkerState) → Stands w h s → IsTrue (worker_step h w x it).may
+own-stands : (w : ℕ) (h : Hub) (x : Entry) (it : What) (s : WorkerState) → WorkerStands w h s → IsTrue (worker_step h w x it).may
     → StandsSo w (worker_step h w x it).after (worker_after s it)
 own-stands w h x (what.Call c) s stands may = cc
 own-stands w h x (what.Host host.Start) s stands may = own-start w h x h.pool.queued s refl stands may
@@ -218,7 +218,7 @@ own-stands w h x (what.Host host.ActorEnd) s stands may = own-end w h x s stands
 own-stands w h x (what.Host event) s stands may = cc
 
 -- EACH ENTRY
-pub next-stands : (w : ℕ) (h : Hub) (x : Entry) (s : WorkerState) → Stands w h s → IsTrue (hub_step h x).may
+pub next-stands : (w : ℕ) (h : Hub) (x : Entry) (s : WorkerState) → WorkerStands w h s → IsTrue (hub_step h x).may
     → StandsSo w (hub_step h x).after (does_next w x (Some s))
 next-stands w h x s stands may = by (is_worker w x.actor) refl
   where
@@ -233,13 +233,13 @@ next-stands w h x s stands may = by (is_worker w x.actor) refl
     by true its = own x.actor its may
     by false other = leaves-stands w h (hub_step h x).after s (others-leave w h x other may) stands
 
-along : (limit w n : ℕ) (h : Hub) (s : WorkerState) (xs : List Entry) → Stands w h s → HubReplays limit h n xs → is_some (worker_along w (Some s) xs) ≡ true
+along : (limit w n : ℕ) (h : Hub) (s : WorkerState) (xs : List Entry) → WorkerStands w h s → HubReplays limit h n xs → is_some (worker_along w (Some s) xs) ≡ true
 along limit w n h s [] stands replays = refl
 along limit w n h s (x ∷ xs) stands replays =
     by (does_next w x (Some s)) (next-stands w h x s stands replays.0.may) (λ t there. along limit w (n + 1) (hub_step h x).after t xs there replays.2)
   where
     by : (o : Option WorkerState) → StandsSo w (hub_step h x).after o
-        → ((t : WorkerState) → Stands w (hub_step h x).after t → is_some (worker_along w (Some t) xs) ≡ true)
+        → ((t : WorkerState) → WorkerStands w (hub_step h x).after t → is_some (worker_along w (Some t) xs) ≡ true)
         → is_some (worker_along w o xs) ≡ true
     by None there rest = absurd there
     by (Some t) there rest = rest t there

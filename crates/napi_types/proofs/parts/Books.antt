@@ -32,8 +32,8 @@ owed-registered r (q ∷ book) new =
     omega (arith, later, before, now)
 
 -- MOVES THAT KEEP IT
-abbrev Keeps : (TicketState → TicketState) → Type 0
-Keeps move = (s : TicketState) → is_owed (move s) ≡ is_owed s
+abbrev KeepsOwed : (TicketState → TicketState) → Type 0
+KeepsOwed move = (s : TicketState) → is_owed (move s) ≡ is_owed s
 
 pub due-keeps : (s : TicketState) → is_owed (made_due s) ≡ is_owed s
 due-keeps Registered = refl
@@ -43,11 +43,11 @@ pub ended-keeps : (s : TicketState) → is_owed (made_ended s) ≡ is_owed s
 ended-keeps Registered = refl
 ended-keeps _ = refl
 
-moved-state : (move : TicketState → TicketState) → Keeps move → (b : Bool) (r : Registration) → is_owed (cond b (moved move r) r).state ≡ is_owed r.state
+moved-state : (move : TicketState → TicketState) → KeepsOwed move → (b : Bool) (r : Registration) → is_owed (cond b (moved move r) r).state ≡ is_owed r.state
 moved-state move keeps true r = keeps r.state
 moved-state move keeps false r = refl
 
-moved_from-keeps : (move : TicketState → TicketState) → Keeps move → (test : ℕ → Bool) (k : ℕ) (rs : Book) → owed_tickets (moved_from k move test rs) ≡ owed_tickets rs
+moved_from-keeps : (move : TicketState → TicketState) → KeepsOwed move → (test : ℕ → Bool) (k : ℕ) (rs : Book) → owed_tickets (moved_from k move test rs) ≡ owed_tickets rs
 moved_from-keeps move keeps test k [] = refl
 moved_from-keeps move keeps test k (r ∷ rs) =
     let first : Registration = cond (test k) (moved move r) r in

@@ -106,14 +106,14 @@ shared-alike m c o alike =
     ∙ sym (ap (λ d. option_to_list (option_map (λ (i : DueInfo). i.duty) d)) (given-keeps m.hub x c x.given).standing)
 
 -- EVENTS
-abbrev Alike : Step → Type 0
-Alike t = StandsAlike t.after.env t.after.hub
+abbrev StepsAlike : Step → Type 0
+StepsAlike t = StandsAlike t.after.env t.after.hub
 
-ticket-alike : (m : Machine) (n : ℕ) (r : Option Registration) → StandsAlike m.env m.hub → Alike (ticket_step m n r)
+ticket-alike : (m : Machine) (n : ℕ) (r : Option Registration) → StandsAlike m.env m.hub → StepsAlike (ticket_step m n r)
 ticket-alike m n None alike = alike
 ticket-alike m n (Some r) alike = alike
 
-move-alike : (m : Machine) (move : HubMove) → hub_move m.hub ≡ Some move → m.env.frames ≡ [] → StandsAlike m.env m.hub → Alike (event_step m (Moves move))
+move-alike : (m : Machine) (move : HubMove) → hub_move m.hub ≡ Some move → m.env.frames ≡ [] → StandsAlike m.env m.hub → StepsAlike (event_step m (Moves move))
 move-alike m (Delivers d) next alone alike =
     hub-head d.duty (duties_of m.env.frames) (delivery-of_hub m.hub d next).ours
     ∙ ap (λ fs. d.duty ∷ hub_duties fs) alone
@@ -123,12 +123,12 @@ move-alike m (Closes n) next alone alike =
 move-alike m (Finishes n) next alone alike =
     alike ∙ sym (ap (λ o. standing_duties (finish_step m.hub (host_entry host.FinishTsfn (out.Function (record { 0 = n }))) o).after) next)
 
-event-alike : (m : Machine) (v : Event) → choice m ≡ Some v → m.env.frames ≡ [] → StandsAlike m.env m.hub → Alike (event_step m v)
+event-alike : (m : Machine) (v : Event) → choice m ≡ Some v → m.env.frames ≡ [] → StandsAlike m.env m.hub → StepsAlike (event_step m v)
 event-alike m (Tickets n) next alone alike = ticket-alike m n (registration_at m.env.book n) alike
 event-alike m (Moves move) next alone alike = move-alike m move (chosen-move m move next) alone alike
 event-alike m _ next alone alike = alike
 
-form-alike : (m : Machine) (t : Step) → Form m t → IsTrue t.may → AreNested m.env.frames → StandsAlike m.env m.hub → Alike t
+form-alike : (m : Machine) (t : Step) → Form m t → IsTrue t.may → AreNested m.env.frames → StandsAlike m.env m.hub → StepsAlike t
 form-alike m _ (form.calls f fs stands c o alone) may nested alike =
     ap (λ ds. filter (λ d. is_hub_duty (Some d)) ds) (duties-asked m.env c (number_of o)) ∙ alike
 form-alike m _ (form.shares f fs stands c o shared answers) may nested alike = shared-alike m c o alike

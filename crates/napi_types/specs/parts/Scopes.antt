@@ -5,7 +5,7 @@ use Rattle.napi_types.specs.declared.ids.ScopeKind.{ScopeKind}
 use Rattle.napi_types.specs.plain.Lists.{found}
 
 -- a handle, and the creation number of its value
-pub record Held : Type 0 where
+pub record OpenHandle : Type 0 where
   pub handle : ℕ
   pub value : ℕ
 
@@ -14,11 +14,11 @@ pub record Scope : Type 0 where
   pub number : ℕ
   pub kind : ScopeKind
   pub used : Bool
-  pub held : List Held
+  pub held : List OpenHandle
 
 -- the scopes of a frame: what its own scope holds, and the scopes that calls opened in it, the innermost first
 pub record FrameScopes : Type 0 where
-  pub own : List Held
+  pub own : List OpenHandle
   pub opened : List Scope
 
 -- the scopes of a frame as it begins
@@ -26,7 +26,7 @@ abbrev pub no_handles : FrameScopes
 no_handles = record { own = []; opened = [] }
 
 -- the value of a handle that is held here
-abbrev pub value_in : List Held → ℕ → Option ℕ
+abbrev pub value_in : List OpenHandle → ℕ → Option ℕ
 value_in hs h = option_map (λ p. p.value) (found (λ p. p.handle) h hs)
 
 -- the value of a handle in these scopes, the innermost asked first
@@ -40,16 +40,16 @@ gives [] h = None
 gives (f ∷ fs) h = option_or (value_in_scopes f.opened h) (option_or (value_in f.own h) (gives fs h))
 
 -- the handles that scopes hold, those of an outer scope first, and in each scope in the order of their issue
-abbrev pub held_by_scopes : List Scope → List Held
+abbrev pub held_by_scopes : List Scope → List OpenHandle
 held_by_scopes [] = []
 held_by_scopes (s ∷ ss) = held_by_scopes ss ++ s.held
 
 -- the handles that a frame's own scope and the scopes opened in it hold
-abbrev pub held_by_frame : FrameScopes → List Held
+abbrev pub held_by_frame : FrameScopes → List OpenHandle
 held_by_frame f = f.own ++ held_by_scopes f.opened
 
 -- the handles that the open scopes of all frames hold
-abbrev pub held_by_frames : List FrameScopes → List Held
+abbrev pub held_by_frames : List FrameScopes → List OpenHandle
 held_by_frames [] = []
 held_by_frames (f ∷ fs) = held_by_frames fs ++ held_by_frame f
 

@@ -56,10 +56,10 @@ is_cancelled status.Cancelled = true
 is_cancelled _ = false
 
 -- the number is this one
-abbrev pub is_number : ℕ → Option ℕ → Bool
-is_number n None = false
-is_number n (Some m) = m == n
+abbrev pub is_this_number : ℕ → Option ℕ → Bool
+is_this_number n None = false
+is_this_number n (Some m) = m == n
 
 -- a work was queued under this number
 abbrev pub has_work_number : ℕ → Work → Bool
-has_work_number n w = is_number n w.number
+has_work_number n w = is_this_number n w.number

@@ -15,9 +15,9 @@ abbrev pub HasRisen : ℕ → ℕ → Type 0
 HasRisen before now = min (before + 1) last_count ≤ now
 
 -- the bytes of a piece that a read put there or a write took: at `Ok n` the first n, at a fault none
-abbrev pub moved : {E : Type 0} → Result ℕ E → List ℕ → List ℕ
-moved (Ok n) piece = take n piece
-moved (Err e) piece = []
+abbrev pub bytes_moved : {E : Type 0} → Result ℕ E → List ℕ → List ℕ
+bytes_moved (Ok n) piece = take n piece
+bytes_moved (Err e) piece = []
 
 -- a sink took a front of these bytes after what it had
 pub record TookFront (had : Option (List ℕ)) (bytes : List ℕ) (has : Option (List ℕ)) : Type 0 where

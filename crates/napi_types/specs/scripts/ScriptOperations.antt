@@ -203,16 +203,16 @@ plain_operation entries kind (item a (item b (item c (item d (item e rest))))) =
 
 -- TEXTS
 -- an operation, with the table that its texts make
-pub record Numbered : Type 0 where
+pub record NumberedOperation : Type 0 where
   pub operation : Op
   pub texts : List (List ℕ)
 
 -- an operation with a table
-abbrev pub numbered : List (List ℕ) → Op → Numbered
+abbrev pub numbered : List (List ℕ) → Op → NumberedOperation
 numbered table o = record { operation = o; texts = table }
 
 -- a string of a text
-unfoldable pub with_string : List (List ℕ) → Data → Data → Option Numbered
+unfoldable pub with_string : List (List ℕ) → Data → Data → Option NumberedOperation
 with_string table a b = do
   x ← text_argument a
   y ← register b
@@ -227,7 +227,7 @@ with_object_and_name (op.DeleteProperty _ _ _) x y z = Some (op.DeleteProperty x
 with_object_and_name _ x y z = None
 
 -- a register, a text and a register
-unfoldable pub with_name : List (List ℕ) → Op → Data → Data → Data → Option Numbered
+unfoldable pub with_name : List (List ℕ) → Op → Data → Data → Data → Option NumberedOperation
 with_name table kind a b c = do
   x ← register a
   y ← text_argument b
@@ -235,44 +235,44 @@ with_name table kind a b c = do
   option_map (numbered (with_text table y)) (with_object_and_name kind x (record { 0 = text_number table y }) z)
 
 -- an error with a message whose text comes after the code's
-unfoldable pub thrown : List (List ℕ) → Option TextNo → List ℕ → Numbered
+unfoldable pub thrown : List (List ℕ) → Option TextNo → List ℕ → NumberedOperation
 thrown table code message = numbered (with_text table message) (op.ThrowError code (record { 0 = text_number table message }))
 
 -- an error with its code, or none, and its message
-unfoldable pub thrown_with : List (List ℕ) → Option (List ℕ) → List ℕ → Numbered
+unfoldable pub thrown_with : List (List ℕ) → Option (List ℕ) → List ℕ → NumberedOperation
 thrown_with table None message = thrown table None message
 thrown_with table (Some code) message = thrown (with_text table code) (Some (record { 0 = text_number table code })) message
 
 -- an error's code, which is a text or none, and its message
-unfoldable pub with_error_texts : List (List ℕ) → Data → Data → Option Numbered
+unfoldable pub with_error_texts : List (List ℕ) → Data → Data → Option NumberedOperation
 with_error_texts table a b = do
   x ← text_or_none a
   y ← text_argument b
   Some (thrown_with table x y)
 
 -- two arguments of which one is a text
-unfoldable pub with_texts : List (List ℕ) → Op → Data → Data → Option Numbered
+unfoldable pub with_texts : List (List ℕ) → Op → Data → Data → Option NumberedOperation
 with_texts table (op.CreateStringUtf8 _ _) a b = with_string table a b
 with_texts table (op.ThrowError _ _) a b = with_error_texts table a b
 with_texts table _ a b = None
 
 -- the operation of a kind with these arguments, where one of them is a text
-unfoldable pub text_operation : List (List ℕ) → Op → Items → Option Numbered
+unfoldable pub text_operation : List (List ℕ) → Op → Items → Option NumberedOperation
 text_operation table kind (item a (item b no_items)) = with_texts table kind a b
 text_operation table kind (item a (item b (item c no_items))) = with_name table kind a b c
 text_operation table kind _ = None
 
 -- THE OPERATION
 -- the operation of a kind with these arguments
-unfoldable pub operation_of : ℕ → List (List ℕ) → Op → Items → Option Numbered
+unfoldable pub operation_of : ℕ → List (List ℕ) → Op → Items → Option NumberedOperation
 operation_of entries table kind args = option_or (option_map (numbered table) (plain_operation entries kind args)) (text_operation table kind args)
 
 -- the operation of a name with these arguments
-unfoldable pub operation_named : ℕ → List (List ℕ) → List ℕ → Items → Option Numbered
+unfoldable pub operation_named : ℕ → List (List ℕ) → List ℕ → Items → Option NumberedOperation
 operation_named entries table name args = named name operations >>= λ kind. operation_of entries table kind args
 
 -- the operation that a value is, in an addon with so many entries: an array of its name and its arguments
-unfoldable pub operation_in : ℕ → List (List ℕ) → Data → Option Numbered
+unfoldable pub operation_in : ℕ → List (List ℕ) → Data → Option NumberedOperation
 operation_in entries table (array (item (string name) args)) = operation_named entries table name args
 operation_in entries table _ = None
 

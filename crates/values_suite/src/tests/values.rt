@@ -2,7 +2,7 @@
 ghost use Rattle.std.specs.Prelude.{◌≡◌, ◌≤◌};
 ghost use Rattle.napi_types.specs.parts.Bodies.{is_object_like as has_properties};
 ghost use Rattle.napi_types.specs.parts.Properties.{most_index};
-ghost use Rattle.value_store.specs.Changes.{IsNew};
+ghost use Rattle.value_store.specs.StoreChanges.{IsNew};
 
 use super::ample;
 use napi_types::{Body, TextNo, ValueId};

@@ -1,5 +1,5 @@
 use Rattle.std.proofs.Common.{◌∙◌, sym, ap, option_map}
-use Rattle.async_work.specs.Places.{place_seen}
+use Rattle.async_work.specs.WorkPlaces.{place_seen}
 use Rattle.async_work.proofs.Ids.{seen_of, place_at-read}
 use Rattle.async_work.proofs.place.place_of.Goals as goal
 

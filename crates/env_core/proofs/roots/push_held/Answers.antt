@@ -1,7 +1,7 @@
 use Rattle.std.proofs.Common.{◌∙◌, ◌++◌, ap, arith}
 use Rattle.std.specs.List.{filter_map}
 use Rattle.std.proofs.lemmas.List.{take_all}
-use Rattle.value_store.specs.Changes.{numbers_of}
+use Rattle.value_store.specs.StoreChanges.{numbers_of}
 use Rattle.handle_scope.specs.HandleScopes.{handle_places}
 use Rattle.env_core.proofs.Rooting.{pushed-more, places-values}
 use Rattle.env_core.proofs.roots.push_held.Goals as goal

@@ -1,6 +1,6 @@
 use Rattle.std.proofs.Common.{◌≡◌, ◌++◌, take}
 use Rattle.std.specs.List.{filter_map}
-use Rattle.value_store.specs.Changes.{numbers_of}
+use Rattle.value_store.specs.StoreChanges.{numbers_of}
 use Rattle.handle_scope.specs.HandleScopes.{handle_places}
 use Rattle.env_core.proofs.roots.push_held.Given as goal
 

@@ -3,8 +3,8 @@ use Rattle.napi_types.specs.plain.Lists.{has_number}
 use Rattle.napi_types.specs.parts.References.{strong_values}
 use Rattle.std.specs.List.{filter_map}
 use Rattle.std.proofs.lemmas.List.{length-map, take_all}
-use Rattle.value_store.specs.Changes.{numbers_of}
-use Rattle.napi_reference.specs.Places.{map_of, strong_in}
+use Rattle.value_store.specs.StoreChanges.{numbers_of}
+use Rattle.napi_reference.specs.ReferencePlaces.{map_of, strong_in}
 use Rattle.napi_reference.proofs.Strong.{strong_values-places}
 use Rattle.env_core.proofs.Rooting.{same-after, pushed-more, strong-places, strong-at}
 use Rattle.env_core.proofs.roots.push_strong.Goals as goal

@@ -1,7 +1,7 @@
 use Rattle.std.proofs.Common.{◌≡◌, ◌++◌, map, take}
 use Rattle.std.specs.List.{filter_map}
-use Rattle.value_store.specs.Changes.{numbers_of}
-use Rattle.napi_reference.specs.Places.{strong_in}
+use Rattle.value_store.specs.StoreChanges.{numbers_of}
+use Rattle.napi_reference.specs.ReferencePlaces.{strong_in}
 use Rattle.env_core.proofs.roots.push_strong.Given as goal
 
 -- the values of the strong references at the places that were passed are pushed

@@ -1,8 +1,8 @@
 use Rattle.std.proofs.Common.{IfSome, Option, Some, None, option_map}
 use Rattle.napi_types.specs.declared.ids.ValueId.{ValueId}
 use Rattle.napi_types.specs.parts.Graph.{StoreState, IsLive}
-use Rattle.value_store.specs.Changes.{numbers_of}
-use Rattle.napi_reference.specs.Places.{map_of}
+use Rattle.value_store.specs.StoreChanges.{numbers_of}
+use Rattle.napi_reference.specs.ReferencePlaces.{map_of}
 use Rattle.env_core.proofs.Rooting.{gathered}
 use Rattle.env_core.proofs.roots.roots_of.Goals as goal
 

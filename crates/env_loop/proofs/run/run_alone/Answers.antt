@@ -1,5 +1,5 @@
 use Rattle.std.proofs.Common.{arith, refl, ◌∙◌}
-use Rattle.env_loop.proofs.Runs.{goes-then, goes-ordered, fewer-after, fewer-turn, others-then, extends-none, extends-turn, extends-event, extends-same}
+use Rattle.env_loop.proofs.RecordedRuns.{goes-then, goes-ordered, fewer-after, fewer-turn, others-then, extends-none, extends-turn, extends-event, extends-same}
 use Rattle.env_loop.proofs.run.run_alone.Goals as goal
 
 pub loop-env-init : goal.loop-env-init

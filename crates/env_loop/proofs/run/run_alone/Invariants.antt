@@ -1,7 +1,7 @@
 use Rattle.std.proofs.Common.{◌≡◌, ℕ, List, Option, length, map, drop}
 use Rattle.napi_types.specs.declared.duties.DueInfo.{DueInfo}
 use Rattle.napi_types.specs.declared.op.Op.{Op}
-use Rattle.env_loop.specs.Runs.{Extends, GoesOn}
+use Rattle.env_loop.specs.RecordedRuns.{Extends, RunGoesOn}
 use Rattle.env_loop.specs.Turns.{turns_left}
 use Rattle.env_loop.proofs.run.run_alone.Given as goal
 
@@ -21,7 +21,7 @@ invariant-loop-env g l =
       others : drop l.fn.env.core.env.addons regs ≡ drop l.fn.env.core.env.addons first_regs;
       limit : l.env.core.limit ≡ l.fn.env.core.limit;
       extends : Extends l.fn.env l.env;
-      goes : GoesOn first_plans l.fn.env (record { registers = first_regs; seen = first_seen }) l.env (record { registers = regs; seen = seen });
+      goes : RunGoesOn first_plans l.fn.env (record { registers = first_regs; seen = first_seen }) l.env (record { registers = regs; seen = seen });
     }
 
 -- each turn fills a place of the journal, and each event of the hub comes once

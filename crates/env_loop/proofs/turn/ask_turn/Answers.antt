@@ -1,11 +1,11 @@
 use Rattle.std.proofs.Common.{arith, [], ◌∷◌, ◌∙◌, refl}
 use Rattle.std.proofs.lemmas.List.{length-map}
 use Rattle.env_core.specs.Standing.{machine_frame}
-use Rattle.env_loop.proofs.Calls.{target-there, replied-turn, replied-held, enter_change-turn}
-use Rattle.env_loop.proofs.Cuts.{stopped-turn-at}
-use Rattle.env_loop.proofs.Ends.{left-turn}
-use Rattle.env_loop.proofs.Registers.{told-from, given-from}
-use Rattle.env_loop.proofs.Steps.{taken-built}
+use Rattle.env_loop.proofs.CallTurns.{target-there, replied-turn, replied-held, enter_change-turn}
+use Rattle.env_loop.proofs.CutTurns.{stopped-turn-at}
+use Rattle.env_loop.proofs.EndTurns.{left-turn}
+use Rattle.env_loop.proofs.RegisterTurns.{told-from, given-from}
+use Rattle.env_loop.proofs.TurnSteps.{taken-built}
 use Rattle.env_loop.proofs.turn.ask_turn.Goals as goal
 
 pub step-requires-clause-built : goal.step-requires-clause-built

@@ -1,6 +1,6 @@
 use Rattle.std.proofs.Common.{arith, sym, ◌∙◌}
 use Rattle.env_core.specs.Standing.{machine_frame}
-use Rattle.env_loop.proofs.Ends.{caller-there, told-caller, plain-left}
+use Rattle.env_loop.proofs.EndTurns.{caller-there, told-caller, plain-left}
 use Rattle.env_loop.proofs.turn.end_frame.Goals as goal
 
 pub note_at-requires : goal.note_at-requires

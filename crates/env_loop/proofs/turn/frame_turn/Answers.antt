@@ -1,7 +1,7 @@
 use Rattle.std.proofs.Common.{arith, refl}
 use Rattle.env_core.specs.Standing.{machine_frame}
-use Rattle.env_loop.proofs.Cuts.{spent-turn}
-use Rattle.env_loop.proofs.Frames.{head-within}
+use Rattle.env_loop.proofs.CutTurns.{spent-turn}
+use Rattle.env_loop.proofs.FrameTurns.{head-within}
 use Rattle.env_loop.proofs.turn.frame_turn.Goals as goal
 
 pub returns-then-frame-ge-MOST_ASKS-clause-turn : goal.returns-then-frame-ge-MOST_ASKS-clause-turn

@@ -1,5 +1,5 @@
 use Rattle.std.proofs.lemmas.List.{length-map}
-use Rattle.env_loop.proofs.Tickets.{ticket-turn}
+use Rattle.env_loop.proofs.TicketTurns.{ticket-turn}
 use Rattle.env_loop.proofs.turn.ticket_turn.Goals as goal
 
 pub returns-clause-made : goal.returns-clause-made

@@ -4,9 +4,9 @@ use Rattle.napi_types.specs.parts.Graph.{number_in}
 use Rattle.napi_types.specs.parts.HeapChanges.{with_error}
 use Rattle.napi_types.specs.parts.NewValues.{error_of}
 use Rattle.handle_scope.specs.HandleScopes.{HandleScopes, with_issued_handle, with_reserved_place}
-use Rattle.env_values.specs.Seen.{heap_of}
+use Rattle.env_values.specs.SeenValues.{heap_of}
 use Rattle.env_values.proofs.Giving.{given-answer, made-heap, made-live}
-use Rattle.env_values.proofs.Keeping.{keeps_made}
+use Rattle.env_values.proofs.KeepingHeaps.{keeps_made}
 use Rattle.env_values.proofs.errors.give_error.Goals as goal
 
 pub returns-clause-gives : goal.returns-clause-gives

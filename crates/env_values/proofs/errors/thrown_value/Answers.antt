@@ -1,6 +1,6 @@
 use Rattle.std.proofs.Common.{length}
 use Rattle.napi_types.specs.parts.NewValues.{thrown_strings}
-use Rattle.env_values.proofs.Keeping.{keeps_listed_or_not, listed_live_or_not, listed_number_or_not, listed_made_or_not}
+use Rattle.env_values.proofs.KeepingHeaps.{keeps_listed_or_not, listed_live_or_not, listed_number_or_not, listed_made_or_not}
 use Rattle.env_values.proofs.errors.thrown_value.Goals as goal
 
 pub returns-clause-live : goal.returns-clause-live

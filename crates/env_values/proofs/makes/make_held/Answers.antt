@@ -3,9 +3,9 @@ use Rattle.std.specs.Option.{unwrap_or}
 use Rattle.napi_types.specs.parts.HeapChanges.{with_value}
 use Rattle.napi_types.specs.parts.Values.{Value, fresh_value}
 use Rattle.handle_scope.specs.HandleScopes.{HandleScopes, with_issued_handle, with_reserved_place}
-use Rattle.env_values.specs.Seen.{heap_of}
+use Rattle.env_values.specs.SeenValues.{heap_of}
 use Rattle.env_values.proofs.Giving.{given-answer, made-heap, made-live}
-use Rattle.env_values.proofs.Keeping.{keeps_made}
+use Rattle.env_values.proofs.KeepingHeaps.{keeps_made}
 use Rattle.env_values.proofs.makes.make_held.Goals as goal
 
 pub returns-clause-gives : goal.returns-clause-gives

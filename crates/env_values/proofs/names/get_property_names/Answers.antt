@@ -2,12 +2,12 @@ use Rattle.std.proofs.Common.{◌∙◌, ap, sym, refl}
 use Rattle.napi_types.specs.declared.call.Call.TheVariants as call
 use Rattle.napi_types.specs.parts.HeapChanges.{new_list}
 use Rattle.napi_types.specs.parts.PropertyCalls.{names_of}
-use Rattle.value_store.specs.Changes.{properties_in}
-use Rattle.env_values.specs.Seen.{heap_of}
+use Rattle.value_store.specs.StoreChanges.{properties_in}
+use Rattle.env_values.specs.SeenValues.{heap_of}
 use Rattle.env_values.proofs.Coming.{comes-without_memory}
 use Rattle.env_values.proofs.HandleValues.{properties-known}
-use Rattle.env_values.proofs.Listing.{names-seen}
-use Rattle.env_values.proofs.Unrefused.{names-unrefused}
+use Rattle.env_values.proofs.ListedNames.{names-seen}
+use Rattle.env_values.proofs.UnrefusedValues.{names-unrefused}
 use Rattle.env_values.proofs.names.get_property_names.Goals as goal
 
 pub returns-in_err-names-clause-comes : goal.returns-in_err-names-clause-comes

@@ -1,9 +1,9 @@
 use Rattle.std.proofs.Common.{◌≡◌, ◌∙◌, ◌+◌, length, ap}
 use Rattle.napi_types.specs.parts.HeapChanges.{with_list}
 use Rattle.handle_scope.specs.HandleScopes.{HandleScopes, with_issued_handle, with_reserved_place}
-use Rattle.env_values.specs.Seen.{heap_of}
+use Rattle.env_values.specs.SeenValues.{heap_of}
 use Rattle.env_values.proofs.Giving.{given-answer, listed-heap, listed-live}
-use Rattle.env_values.proofs.Keeping.{keeps_listed}
+use Rattle.env_values.proofs.KeepingHeaps.{keeps_listed}
 use Rattle.env_values.proofs.names.give_list.Goals as goal
 
 pub returns-clause-gives : goal.returns-clause-gives

@@ -1,7 +1,7 @@
 use Rattle.std.proofs.Common.{◌≤◌, ◌∙◌, ◌++◌, ◌∷◌, [], length, ap, sym, arith}
 use Rattle.napi_types.specs.declared.body.Body.TheVariants as body
-use Rattle.value_store.specs.Changes.{properties_in}
-use Rattle.env_values.proofs.Listing.{name-more, all-names}
+use Rattle.value_store.specs.StoreChanges.{properties_in}
+use Rattle.env_values.proofs.ListedNames.{name-more, all-names}
 use Rattle.env_values.proofs.names.names.Goals as goal
 
 pub loop-at-preserved : goal.loop-at-preserved

@@ -1,6 +1,6 @@
 use Rattle.std.proofs.Common.{◌≡◌, take}
 use Rattle.napi_types.specs.parts.PropertyCalls.{names_of}
-use Rattle.value_store.specs.Changes.{properties_in}
+use Rattle.value_store.specs.StoreChanges.{properties_in}
 use Rattle.env_values.proofs.names.names.Given as goal
 
 -- the names of the properties that were passed

@@ -5,12 +5,12 @@ use Rattle.napi_types.specs.plain.Replies.{accepts}
 use Rattle.napi_types.specs.parts.Heap.{Heap}
 use Rattle.napi_types.specs.parts.HeapChanges.{with_changed}
 use Rattle.napi_types.specs.parts.Values.{with_property}
-use Rattle.env_values.specs.Seen.{heap_of}
+use Rattle.env_values.specs.SeenValues.{heap_of}
 use Rattle.env_values.proofs.Coming.{comes-without_memory}
 use Rattle.env_values.proofs.Giving.{more-live}
 use Rattle.env_values.proofs.Heaps.{with_changed-heap}
-use Rattle.env_values.proofs.Keeping.{keeps_changed}
-use Rattle.env_values.proofs.Unrefused.{set_named-unrefused}
+use Rattle.env_values.proofs.KeepingHeaps.{keeps_changed}
+use Rattle.env_values.proofs.UnrefusedValues.{set_named-unrefused}
 use Rattle.env_values.proofs.properties.set_named_property.Goals as goal
 
 pub returns-in_err-set_prop-clause-comes : goal.returns-in_err-set_prop-clause-comes

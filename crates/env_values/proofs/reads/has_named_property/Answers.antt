@@ -3,7 +3,7 @@ use Rattle.napi_types.specs.declared.entry.Out.TheVariants as out
 use Rattle.napi_types.specs.plain.Replies.{accepts}
 use Rattle.napi_types.specs.parts.Bodies.{is_object_like}
 use Rattle.napi_types.specs.parts.Heap.{handle_body}
-use Rattle.env_values.specs.Seen.{heap_of}
+use Rattle.env_values.specs.SeenValues.{heap_of}
 use Rattle.env_values.proofs.HandleValues.{like-known, property-known, same-there}
 use Rattle.env_values.proofs.reads.has_named_property.Goals as goal
 

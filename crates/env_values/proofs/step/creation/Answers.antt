@@ -1,6 +1,6 @@
 use Rattle.std.proofs.Common.{refl, rules}
 use Rattle.napi_types.specs.declared.call.Call.TheVariants as call
-use Rattle.env_values.specs.Seen.{heap_of}
+use Rattle.env_values.specs.SeenValues.{heap_of}
 use Rattle.env_values.proofs.Coming.{comes-of}
 use Rattle.env_values.proofs.step.creation.Goals as goal
 

@@ -3,10 +3,10 @@ use Rattle.std.specs.Option.{unwrap_or}
 use Rattle.napi_types.specs.declared.call.Call.TheVariants as call
 use Rattle.napi_types.specs.parts.HeapChanges.{handle_of}
 use Rattle.napi_types.specs.parts.Values.{undefined_value}
-use Rattle.env_values.specs.Seen.{heap_of}
+use Rattle.env_values.specs.SeenValues.{heap_of}
 use Rattle.env_values.proofs.Coming.{comes-without_memory}
 use Rattle.env_values.proofs.HandleValues.{property-known, found-number}
-use Rattle.env_values.proofs.Unrefused.{get_named-unrefused}
+use Rattle.env_values.proofs.UnrefusedValues.{get_named-unrefused}
 use Rattle.env_values.proofs.values.get_named_property.Goals as goal
 
 pub returns-in_err-give-clause-comes : goal.returns-in_err-give-clause-comes

@@ -4,9 +4,9 @@ use Rattle.napi_types.specs.declared.ids.ScopeKind.TheVariants as scope_kind
 use Rattle.napi_types.specs.declared.status.Status.TheVariants as status
 use Rattle.napi_types.specs.plain.Lists.{when}
 use Rattle.handle_scope.specs.declared.scopes.ScopeMark.{ScopeMark}
-use Rattle.handle_scope.proofs.Numbers.{search-found, search-lacks}
+use Rattle.handle_scope.proofs.HandleNumbers.{search-found, search-lacks}
 use Rattle.handle_scope.proofs.Marks.{opened_mark}
-use Rattle.handle_scope.proofs.Refusals.{escaping-at, escaping-absent, escapable-at}
+use Rattle.handle_scope.proofs.EscapeRefusals.{escaping-at, escaping-absent, escapable-at}
 use Rattle.handle_scope.proofs.scopes.escapable_among.Goals as goal
 
 pub returns-then-not-is_same_kind-clause-refusal : goal.returns-then-not-is_same_kind-clause-refusal

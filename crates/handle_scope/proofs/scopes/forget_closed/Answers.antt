@@ -4,7 +4,7 @@ use Rattle.std.specs.List.{filter}
 use Rattle.std.proofs.lemmas.Fn.{filter_same}
 use Rattle.handle_scope.specs.declared.scopes.Escape.{Escape}
 use Rattle.handle_scope.specs.Marks.{IsTracked, AreAtMost, waiting_value}
-use Rattle.handle_scope.proofs.Numbers.{AreAtMost-filter}
+use Rattle.handle_scope.proofs.HandleNumbers.{AreAtMost-filter}
 use Rattle.handle_scope.proofs.Escapes.{tracked-filter, waiting-few}
 use Rattle.handle_scope.proofs.scopes.forget_closed.Goals as goal
 

@@ -1,7 +1,7 @@
 use Rattle.std.proofs.Common.{◌∙◌, rules}
 use Rattle.std.proofs.lemmas.List.Sorted.{answers_always}
 use Rattle.handle_scope.specs.declared.scopes.ScopeMark.{ScopeMark}
-use Rattle.handle_scope.proofs.Numbers.{any-search}
+use Rattle.handle_scope.proofs.HandleNumbers.{any-search}
 use Rattle.handle_scope.proofs.scopes.is_opened.Goals as goal
 
 pub returns : goal.returns

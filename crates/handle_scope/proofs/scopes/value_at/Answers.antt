@@ -6,9 +6,9 @@ use Rattle.napi_types.specs.declared.ids.ValueId.{ValueId}
 use Rattle.handle_scope.specs.declared.scopes.HeldHandle.{HeldHandle}
 use Rattle.handle_scope.specs.declared.scopes.ScopeMark.{ScopeMark}
 use Rattle.handle_scope.specs.Marks.{held_of}
-use Rattle.handle_scope.proofs.Numbers.{search-found}
+use Rattle.handle_scope.proofs.HandleNumbers.{search-found}
 use Rattle.handle_scope.proofs.Marks.{opened_mark}
-use Rattle.handle_scope.proofs.Places.{mark-at, held-found, held-value}
+use Rattle.handle_scope.proofs.HandlePlaces.{mark-at, held-found, held-value}
 use Rattle.handle_scope.proofs.scopes.value_at.Goals as goal
 
 pub returns-in_err-scopes-in-Ok : goal.returns-in_err-scopes-in-Ok

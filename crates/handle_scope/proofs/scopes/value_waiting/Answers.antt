@@ -1,7 +1,7 @@
 use Rattle.std.proofs.Common.{◌∙◌, rules}
 use Rattle.std.proofs.lemmas.List.Sorted.{answers_always}
 use Rattle.handle_scope.specs.declared.scopes.Escape.{Escape}
-use Rattle.handle_scope.proofs.Numbers.{search-found, search-lacks}
+use Rattle.handle_scope.proofs.HandleNumbers.{search-found, search-lacks}
 use Rattle.handle_scope.proofs.Escapes.{escape-found, escape-lacks}
 use Rattle.handle_scope.proofs.scopes.value_waiting.Goals as goal
 

@@ -1,5 +1,5 @@
 use Rattle.std.proofs.Common.{sym}
-use Rattle.handle_scope.proofs.Refusals.{closing-there, closing-absent}
+use Rattle.handle_scope.proofs.EscapeRefusals.{closing-there, closing-absent}
 use Rattle.handle_scope.proofs.scopes.why_not_among.Goals as goal
 
 pub returns-then-is_opened : goal.returns-then-is_opened

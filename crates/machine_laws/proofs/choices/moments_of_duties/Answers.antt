@@ -1,4 +1,4 @@
-use Rattle.machine_laws.proofs.Beginning.{lowest-first, lowest-lowest, hook-first, tickets-begin}
+use Rattle.machine_laws.proofs.BeginningFrames.{lowest-first, lowest-lowest, hook-first, tickets-begin}
 use Rattle.machine_laws.proofs.choices.moments_of_duties.Goals as goal
 
 pub returns-clause-lowest : goal.returns-clause-lowest

@@ -1,4 +1,4 @@
-use Rattle.machine_laws.proofs.Standing.{hub-duties-stand, frames-stand}
+use Rattle.machine_laws.proofs.StandingMachines.{hub-duties-stand, frames-stand}
 use Rattle.machine_laws.proofs.cuts.hub_frames_stand_in_the_hub.Goals as goal
 
 pub returns-clause-duties : goal.returns-clause-duties

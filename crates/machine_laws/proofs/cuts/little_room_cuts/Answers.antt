@@ -15,35 +15,35 @@ use Rattle.napi_types.specs.runs.CallRoom.{room_of}
 use Rattle.napi_types.specs.runs.Run.{IsNext}
 use Rattle.napi_types.specs.runs.Setting.{opening_of, RunsBy}
 use Rattle.napi_types.proofs.plain.Conditions.{and-right}
-use Rattle.machine_laws.specs.Cuts.{tight, begun, opening_asks, create, object_made, cut_by, IsOnlyNext, IsCutFull, first_called, FullAtSecondCall, script_within, two_left, external_made}
+use Rattle.machine_laws.specs.Cuts.{tight, machine_begun, opening_asks, create, object_made, cut_by, IsOnlyNext, IsCutFull, first_called, FullAtSecondCall, script_within, two_left, external_made}
 use Rattle.machine_laws.specs.RunWords.{opening_entries}
 use Rattle.machine_laws.proofs.Computing.{run-of}
 use Rattle.machine_laws.proofs.Cutting.{cut-full, taken-full, taken-wants, full-there, two-full}
 use Rattle.machine_laws.proofs.cuts.little_room_cuts.Goals as goal
 
 -- a local call that needs one place is not full at the first ask
-not-full : (c : Call) → is_shared c ≡ false → need c ≡ 1 → is_full (room_of begun c) c ≡ false
+not-full : (c : Call) → is_shared c ≡ false → need c ≡ 1 → is_full (room_of machine_begun c) c ≡ false
 not-full c alone one =
-    ap (λ b. is_full (cond b (history_room begun.hub 0 4) (journal_room begun.env 2 5)) c) alone ∙ ap (λ n. nat_lt 5 (4 + n)) one
+    ap (λ b. is_full (cond b (history_room machine_begun.hub 0 4) (journal_room machine_begun.env 2 5)) c) alone ∙ ap (λ n. nat_lt 5 (4 + n)) one
 
-room : (c : Call) → is_shared c ≡ false → need c ≡ 1 → IsNext begun (ask.Do c) (cut_by cause.Init why.Full) → ⊥
+room : (c : Call) → is_shared c ≡ false → need c ≡ 1 → IsNext machine_begun (ask.Do c) (cut_by cause.Init why.Full) → ⊥
 room c alone one n =
-    let full : IsTrue (is_full (room_of begun c) c) = and-right (may_call begun.env) (is_full (room_of begun c) c) n.1 in
+    let full : IsTrue (is_full (room_of machine_begun c) c) = and-right (may_call machine_begun.env) (is_full (room_of machine_begun c) c) n.1 in
     let no : false ≡ true = sym (not-full c alone one) ∙ full in cc
 
 -- a shared call is
-shared : (c : Call) → is_shared c ≡ true → IsCutFull begun c
+shared : (c : Call) → is_shared c ≡ true → IsCutFull machine_begun c
 shared c is =
-    let room : room_of begun c ≡ history_room begun.hub 0 4 = ap (λ b. cond b (history_room begun.hub 0 4) (journal_room begun.env 2 5)) is in
-    cut-full begun c _ _ refl refl refl refl refl refl refl (ap (λ r. is_full r c) room ∙ taken-full 4 c) (λ shares. ap (λ r. may_want_memory r c) room ∙ taken-wants c)
+    let room : room_of machine_begun c ≡ history_room machine_begun.hub 0 4 = ap (λ b. cond b (history_room machine_begun.hub 0 4) (journal_room machine_begun.env 2 5)) is in
+    cut-full machine_begun c _ _ refl refl refl refl refl refl refl (ap (λ r. is_full r c) room ∙ taken-full 4 c) (λ shares. ap (λ r. may_want_memory r c) room ∙ taken-wants c)
 
-stays : (h : HandleId) → IsNext begun (ask.Do (call.Typeof h)) (cut_by cause.Init why.Memory) → ⊥
+stays : (h : HandleId) → IsNext machine_begun (ask.Do (call.Typeof h)) (cut_by cause.Init why.Memory) → ⊥
 stays h n = cc
 
-calls : (receiver : Option HandleId) (f : HandleId) (args : Args) → IsOnlyNext begun (ask.Do (call.CallFunction receiver f args)) (cut_by cause.Init why.Full)
+calls : (receiver : Option HandleId) (f : HandleId) (args : Args) → IsOnlyNext machine_begun (ask.Do (call.CallFunction receiver f args)) (cut_by cause.Init why.Full)
 calls receiver f args =
     let c : Call = call.CallFunction receiver f args in
-    let full : IsCutFull begun c = cut-full begun c _ _ refl refl refl refl refl refl refl refl (λ shares. cc) in
+    let full : IsCutFull machine_begun c = cut-full machine_begun c _ _ refl refl refl refl refl refl refl refl (λ shares. cc) in
     (full.full, full.local refl)
 
 pub returns-clause-first : goal.returns-clause-first

@@ -4,12 +4,12 @@ use Rattle.napi_types.specs.declared.entry.Out.{Out}
 use Rattle.napi_types.specs.declared.entry.Out.TheVariants as out
 use Rattle.napi_types.specs.declared.status.Status.{Status}
 use Rattle.napi_types.specs.declared.status.Status.TheVariants as status
-use Rattle.machine_laws.specs.Told.{told_asks, IsRun}
+use Rattle.machine_laws.specs.LegalRuns.{told_asks, IsRun}
 use Rattle.machine_laws.specs.CallAndError.{setting, trace, returned, read, last_told}
 use Rattle.machine_laws.specs.RunWords.{handle, call_begins, frame_ends}
-use Rattle.machine_laws.proofs.Rows.{ends-of}
-use Rattle.machine_laws.proofs.Asks.{told-run}
-use Rattle.machine_laws.proofs.Misses.{entry_at, told_number}
+use Rattle.machine_laws.proofs.RowLists.{ends-of}
+use Rattle.machine_laws.proofs.AskLists.{told-run}
+use Rattle.machine_laws.proofs.Misses.{entry_in_place, told_number}
 use Rattle.machine_laws.proofs.function_runs.call_and_error_runs.Goals as goal
 
 pub returns-clause-ends : goal.returns-clause-ends
@@ -33,23 +33,23 @@ told_signed (out.Signed (pos n)) = n
 told_signed _ = 0
 
 same-entry : (n : ℕ) → IsRun setting (set trace 4 (call_begins n)) → n ≡ 1
-same-entry n r = ap (λ xs. told_entry (entry_at 4 xs).reply.out) (told-run setting (set trace 4 (call_begins n)) refl r)
+same-entry n r = ap (λ xs. told_entry (entry_in_place 4 xs).reply.out) (told-run setting (set trace 4 (call_begins n)) refl r)
 
 same-status : (s : Status) → IsRun setting (set trace 5 (returned s (out.Handle (handle 4)))) → s ≡ status.Ok
-same-status s r = ap (λ xs. (entry_at 5 xs).reply.status) (told-run setting (set trace 5 (returned s (out.Handle (handle 4)))) refl r)
+same-status s r = ap (λ xs. (entry_in_place 5 xs).reply.status) (told-run setting (set trace 5 (returned s (out.Handle (handle 4)))) refl r)
 
 next-handle : (h : ℕ) → IsRun setting (set trace 5 (returned status.Ok (out.Handle (handle h)))) → h ≡ 4
-next-handle h r = ap (λ xs. told_handle (entry_at 5 xs).reply.out) (told-run setting (set trace 5 (returned status.Ok (out.Handle (handle h)))) refl r)
+next-handle h r = ap (λ xs. told_handle (entry_in_place 5 xs).reply.out) (told-run setting (set trace 5 (returned status.Ok (out.Handle (handle h)))) refl r)
 
 same-value : (n : ℕ) → IsRun setting (set trace 6 (read 4 n)) → n ≡ 7
-same-value n r = ap (λ xs. told_signed (entry_at 6 xs).reply.out) (told-run setting (set trace 6 (read 4 n)) refl r)
+same-value n r = ap (λ xs. told_signed (entry_in_place 6 xs).reply.out) (told-run setting (set trace 6 (read 4 n)) refl r)
 
 same-last : (n : ℕ) → IsRun setting (set trace 8 (last_told n)) → n ≡ 0
-same-last n r = ap (λ xs. told_number n (entry_at 8 xs).reply.out) (told-run setting (set trace 8 (last_told n)) refl r)
+same-last n r = ap (λ xs. told_number n (entry_in_place 8 xs).reply.out) (told-run setting (set trace 8 (last_told n)) refl r)
 
 not-silent : IsRun setting (set trace 9 (frame_ends out.Nothing)) → ⊥
 not-silent r =
-    let told : out.Nothing ≡ out.Uncaught = ap (λ xs. (entry_at 9 xs).reply.out) (told-run setting (set trace 9 (frame_ends out.Nothing)) refl r) in
+    let told : out.Nothing ≡ out.Uncaught = ap (λ xs. (entry_in_place 9 xs).reply.out) (told-run setting (set trace 9 (frame_ends out.Nothing)) refl r) in
     cc
 
 pub returns-clause-strict : goal.returns-clause-strict

@@ -11,9 +11,9 @@ use Rattle.napi_types.specs.declared.status.Status.TheVariants as status
 use Rattle.machine_laws.specs.Abort.{setting, late_call, history, journal, trace}
 use Rattle.machine_laws.specs.HubWords.{next_after, item_begins, function_closes}
 use Rattle.machine_laws.specs.RunWords.{loop_ended}
-use Rattle.machine_laws.specs.Told.{IsRun}
+use Rattle.machine_laws.specs.LegalRuns.{IsRun}
 use Rattle.machine_laws.proofs.Misses.{told_item, told_cause, told-entry}
-use Rattle.machine_laws.proofs.Rows.{ends-on-lists}
+use Rattle.machine_laws.proofs.RowLists.{ends-on-lists}
 use Rattle.machine_laws.proofs.hub_runs.abort_runs.Goals as goal
 
 pub returns-clause-ends : goal.returns-clause-ends

@@ -7,9 +7,9 @@ use Rattle.napi_types.specs.declared.status.Status.TheVariants as status
 use Rattle.machine_laws.specs.CancelAfterStart.{setting, cancelled, history, journal, trace}
 use Rattle.machine_laws.specs.HubWords.{next_after, completion_begins, worker_finishes, worker_ends}
 use Rattle.machine_laws.specs.RunWords.{go_entry}
-use Rattle.machine_laws.specs.Told.{IsRun}
+use Rattle.machine_laws.specs.LegalRuns.{IsRun}
 use Rattle.machine_laws.proofs.Misses.{told_number, told-entry, told-may}
-use Rattle.machine_laws.proofs.Rows.{ends-on-lists}
+use Rattle.machine_laws.proofs.RowLists.{ends-on-lists}
 use Rattle.machine_laws.proofs.hub_runs.cancel_after_start_runs.Goals as goal
 
 pub returns-clause-ends : goal.returns-clause-ends

@@ -4,9 +4,9 @@ use Rattle.napi_types.specs.declared.status.Status.{Status}
 use Rattle.napi_types.specs.declared.status.Status.TheVariants as status
 use Rattle.machine_laws.specs.DrainBehindFinished.{setting, history, journal, trace}
 use Rattle.machine_laws.specs.HubWords.{next_after, completion_begins, drains, worker_starts}
-use Rattle.machine_laws.specs.Told.{IsRun}
+use Rattle.machine_laws.specs.LegalRuns.{IsRun}
 use Rattle.machine_laws.proofs.Misses.{told_number, told_completed, told-entry, told-may}
-use Rattle.machine_laws.proofs.Rows.{ends-on-lists}
+use Rattle.machine_laws.proofs.RowLists.{ends-on-lists}
 use Rattle.machine_laws.proofs.hub_runs.drain_behind_finished_runs.Goals as goal
 
 pub returns-clause-ends : goal.returns-clause-ends

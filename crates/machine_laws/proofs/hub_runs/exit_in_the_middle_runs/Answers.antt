@@ -12,12 +12,12 @@ use Rattle.napi_types.specs.declared.status.Status.TheVariants as status
 use Rattle.machine_laws.specs.ExitInTheMiddle.{setting, thread_call, history, journal, trace, unfinished}
 use Rattle.machine_laws.specs.HubWords.{next_after, item_begins, drains}
 use Rattle.machine_laws.specs.RunWords.{loop_ended, left_out}
-use Rattle.machine_laws.specs.Told.{IsRun}
+use Rattle.machine_laws.specs.LegalRuns.{IsRun}
 use Rattle.napi_types.specs.declared.call.Mode.TheVariants as mode
 use Rattle.napi_types.specs.declared.op.Op.TheVariants as op
 use Rattle.machine_laws.proofs.KeptScripts.{one-keeps}
 use Rattle.machine_laws.proofs.Misses.{told_reason, told_item, told_cause, told-entry, told-may}
-use Rattle.machine_laws.proofs.Rows.{ends-on-lists}
+use Rattle.machine_laws.proofs.RowLists.{ends-on-lists}
 use Rattle.machine_laws.proofs.hub_runs.exit_in_the_middle_runs.Goals as goal
 
 pub returns-clause-ends : goal.returns-clause-ends

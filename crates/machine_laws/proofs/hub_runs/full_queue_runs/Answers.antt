@@ -11,10 +11,10 @@ use Rattle.napi_types.specs.declared.entry.Out.{Out}
 use Rattle.napi_types.specs.declared.entry.Out.TheVariants as out
 use Rattle.napi_types.specs.all_runs.HubLaws.{KeepsScript}
 use Rattle.machine_laws.specs.HubWords.{next_after, item_begins, by_thread, thread_ends, releases, calls_function}
-use Rattle.machine_laws.specs.Told.{IsRun}
+use Rattle.machine_laws.specs.LegalRuns.{IsRun}
 use Rattle.machine_laws.proofs.KeptScripts.{one-keeps}
 use Rattle.machine_laws.proofs.Misses.{told_item, told-entry, told-may}
-use Rattle.machine_laws.proofs.Rows.{ends-on-lists, runs-as-told}
+use Rattle.machine_laws.proofs.RowLists.{ends-on-lists, runs-as-told}
 use Rattle.machine_laws.proofs.hub_runs.full_queue_runs.Goals as goal
 
 pub returns-clause-ends : goal.returns-clause-ends

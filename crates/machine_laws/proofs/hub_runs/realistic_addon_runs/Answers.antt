@@ -6,10 +6,10 @@ use Rattle.napi_types.specs.declared.entry.Out.{Out}
 use Rattle.napi_types.specs.declared.status.Status.{Status}
 use Rattle.machine_laws.specs.RealisticAddon.{operations, setting, thread_call, call_behind_end, history, journal, trace}
 use Rattle.machine_laws.specs.HubWords.{next_after, item, item_begins, thread_ends, worker_finishes}
-use Rattle.machine_laws.specs.Told.{IsRun}
+use Rattle.machine_laws.specs.LegalRuns.{IsRun}
 use Rattle.machine_laws.proofs.KeptScripts.{two-keep}
 use Rattle.machine_laws.proofs.Misses.{told_number, told_item, told_cause, told-entry, told-may}
-use Rattle.machine_laws.proofs.Rows.{ends-on-lists}
+use Rattle.machine_laws.proofs.RowLists.{ends-on-lists}
 use Rattle.machine_laws.proofs.hub_runs.realistic_addon_runs.Goals as goal
 
 pub returns-clause-ends : goal.returns-clause-ends

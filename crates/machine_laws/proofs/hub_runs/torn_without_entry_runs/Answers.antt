@@ -6,9 +6,9 @@ use Rattle.napi_types.specs.declared.entry.Target.{Target}
 use Rattle.napi_types.specs.declared.status.Status.{Status}
 use Rattle.machine_laws.specs.TornWithoutEntry.{setting, target, created, collected, version_told, history, journal, trace}
 use Rattle.machine_laws.specs.HubWords.{next_after}
-use Rattle.machine_laws.specs.Told.{IsRun}
+use Rattle.machine_laws.specs.LegalRuns.{IsRun}
 use Rattle.machine_laws.proofs.Misses.{told_number, given_target, told-entry}
-use Rattle.machine_laws.proofs.Rows.{ends-on-lists}
+use Rattle.machine_laws.proofs.RowLists.{ends-on-lists}
 use Rattle.machine_laws.proofs.hub_runs.torn_without_entry_runs.Goals as goal
 
 pub returns-clause-ends : goal.returns-clause-ends

@@ -7,10 +7,10 @@ use Rattle.napi_types.specs.declared.entry.LoopEnd.TheVariants as loop_end
 use Rattle.machine_laws.specs.TwoFunctions.{setting, operations, first_item, function_told, history, journal, trace}
 use Rattle.machine_laws.specs.HubWords.{next_after, begins}
 use Rattle.machine_laws.specs.RunWords.{loop_ended}
-use Rattle.machine_laws.specs.Told.{IsRun}
+use Rattle.machine_laws.specs.LegalRuns.{IsRun}
 use Rattle.machine_laws.proofs.Misses.{told_reason, told_function, told-entry, told-may}
 use Rattle.machine_laws.proofs.KeptScripts.{one-keeps}
-use Rattle.machine_laws.proofs.Rows.{ends-on-lists}
+use Rattle.machine_laws.proofs.RowLists.{ends-on-lists}
 use Rattle.machine_laws.proofs.hub_runs.two_functions_run.Goals as goal
 
 pub returns-clause-ends : goal.returns-clause-ends

@@ -3,9 +3,9 @@ use Rattle.napi_types.specs.declared.call.Call.TheVariants as call
 use Rattle.napi_types.specs.declared.call.JobSpec.TheVariants as job
 use Rattle.machine_laws.specs.TwoWorks.{setting_for, front, both}
 use Rattle.machine_laws.specs.HubWords.{next_after, work_created, worker_starts, worker_finishes}
-use Rattle.machine_laws.specs.Told.{IsRun}
+use Rattle.machine_laws.specs.LegalRuns.{IsRun}
 use Rattle.machine_laws.proofs.Misses.{told_work, told-entry, told-may}
-use Rattle.machine_laws.proofs.Rows.{runs-as-told}
+use Rattle.machine_laws.proofs.RowLists.{runs-as-told}
 use Rattle.machine_laws.proofs.hub_runs.two_works_start_in_order.Goals as goal
 
 both-run : IsRun (setting_for 2) both

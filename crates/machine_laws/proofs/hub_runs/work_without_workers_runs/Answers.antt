@@ -9,9 +9,9 @@ use Rattle.napi_types.specs.declared.status.Status.TheVariants as status
 use Rattle.machine_laws.specs.WorkWithoutWorkers.{creates_late, setting_for, setting, history, journal, trace}
 use Rattle.machine_laws.specs.HubWords.{next_after, completion_begins, shared_at, work_created, drains, finals, worker_starts}
 use Rattle.machine_laws.specs.RunWords.{loop_ended}
-use Rattle.machine_laws.specs.Told.{IsRun}
+use Rattle.machine_laws.specs.LegalRuns.{IsRun}
 use Rattle.machine_laws.proofs.Misses.{told_number, told_reason, given_refused, told-entry, told-may}
-use Rattle.machine_laws.proofs.Rows.{ends-on-lists}
+use Rattle.machine_laws.proofs.RowLists.{ends-on-lists}
 use Rattle.machine_laws.proofs.hub_runs.work_without_workers_runs.Goals as goal
 
 pub returns-clause-ends : goal.returns-clause-ends

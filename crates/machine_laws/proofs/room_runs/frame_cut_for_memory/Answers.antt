@@ -3,9 +3,9 @@ use Rattle.napi_types.specs.declared.entry.Out.TheVariants as out
 use Rattle.napi_types.specs.declared.entry.Why.TheVariants as why
 use Rattle.machine_laws.specs.FrameCutForMemory.{setting, front, taken}
 use Rattle.machine_laws.specs.RunWords.{frame_ends}
-use Rattle.machine_laws.specs.Told.{IsRun}
+use Rattle.machine_laws.specs.LegalRuns.{IsRun}
 use Rattle.machine_laws.proofs.Misses.{told-may}
-use Rattle.machine_laws.proofs.Rows.{runs-as-told}
+use Rattle.machine_laws.proofs.RowLists.{runs-as-told}
 use Rattle.machine_laws.proofs.room_runs.frame_cut_for_memory.Goals as goal
 
 has-room : IsRun setting (front ++ frame_ends (out.Cut why.Memory) ∷ [])

@@ -3,9 +3,9 @@ use Rattle.std.specs.Fmt.{digits}
 use Rattle.machine_laws.specs.FrameCutFull.{setting_within, setting, frame_call, cut_full, history, journal, trace}
 use Rattle.machine_laws.specs.HubWords.{next_after}
 use Rattle.machine_laws.specs.RunWords.{frame_end}
-use Rattle.machine_laws.specs.Told.{IsRun}
+use Rattle.machine_laws.specs.LegalRuns.{IsRun}
 use Rattle.machine_laws.proofs.Misses.{told-may}
-use Rattle.machine_laws.proofs.Rows.{ends-on-lists, runs-as-told}
+use Rattle.machine_laws.proofs.RowLists.{ends-on-lists, runs-as-told}
 use Rattle.machine_laws.proofs.room_runs.frame_cut_full_runs.Goals as goal
 
 pub returns-clause-ends : goal.returns-clause-ends

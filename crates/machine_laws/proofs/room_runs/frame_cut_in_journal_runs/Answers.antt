@@ -5,9 +5,9 @@ use Rattle.napi_types.specs.runs.Parting.{IsParted}
 use Rattle.napi_types.specs.runs.Setting.{opening_of}
 use Rattle.machine_laws.specs.FrameCutInJournal.{setting_within, setting, version_told, history_front, history_end, history, journal, trace, journal_with_end}
 use Rattle.machine_laws.specs.HubWords.{next_after}
-use Rattle.machine_laws.specs.Told.{IsRun, told_asks}
+use Rattle.machine_laws.specs.LegalRuns.{IsRun, told_asks}
 use Rattle.machine_laws.proofs.Misses.{told-may}
-use Rattle.machine_laws.proofs.Rows.{ends-on-lists, runs-as-told}
+use Rattle.machine_laws.proofs.RowLists.{ends-on-lists, runs-as-told}
 use Rattle.machine_laws.proofs.room_runs.frame_cut_in_journal_runs.Goals as goal
 
 pub returns-clause-ends : goal.returns-clause-ends

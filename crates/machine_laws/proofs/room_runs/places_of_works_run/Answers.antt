@@ -1,10 +1,10 @@
 use Rattle.std.proofs.Common.{[], ℕ, refl}
 use Rattle.machine_laws.specs.PlacesOfWorks.{setting_within, queued, second_created, cut_full, setting, history, journal, trace, cancelling_within, queued_twice}
 use Rattle.machine_laws.specs.HubWords.{next_after}
-use Rattle.machine_laws.specs.Told.{IsRun}
+use Rattle.machine_laws.specs.LegalRuns.{IsRun}
 use Rattle.machine_laws.proofs.KeptScripts.{one-keeps}
 use Rattle.machine_laws.proofs.Misses.{told-may}
-use Rattle.machine_laws.proofs.Rows.{ends-on-lists, runs-as-told}
+use Rattle.machine_laws.proofs.RowLists.{ends-on-lists, runs-as-told}
 use Rattle.machine_laws.proofs.room_runs.places_of_works_run.Goals as goal
 
 pub returns-clause-ends : goal.returns-clause-ends

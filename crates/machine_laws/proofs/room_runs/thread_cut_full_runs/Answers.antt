@@ -12,9 +12,9 @@ use Rattle.napi_types.specs.all_runs.HubLaws.{KeepsScript}
 use Rattle.machine_laws.specs.HubWords.{next_after, thread_ends, releases, calls_function}
 use Rattle.machine_laws.proofs.KeptScripts.{one-keeps}
 use Rattle.machine_laws.specs.RunWords.{loop_ended}
-use Rattle.machine_laws.specs.Told.{IsRun}
+use Rattle.machine_laws.specs.LegalRuns.{IsRun}
 use Rattle.machine_laws.proofs.Misses.{told_reason, told-entry, told-may}
-use Rattle.machine_laws.proofs.Rows.{ends-on-lists, runs-as-told}
+use Rattle.machine_laws.proofs.RowLists.{ends-on-lists, runs-as-told}
 use Rattle.machine_laws.proofs.room_runs.thread_cut_full_runs.Goals as goal
 
 pub returns-clause-ends : goal.returns-clause-ends

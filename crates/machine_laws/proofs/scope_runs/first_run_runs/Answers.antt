@@ -11,9 +11,9 @@ use Rattle.napi_types.specs.runs.Parting.{IsParted}
 use Rattle.napi_types.specs.runs.Setting.{opening_of, final_of}
 use Rattle.machine_laws.specs.FirstRun.{setting, asks, history, journal_with_go, journal_without_end, trace, typeof_entry}
 use Rattle.machine_laws.specs.RunWords.{frame_end, loop_ended, left_out}
-use Rattle.machine_laws.specs.Told.{IsRun}
-use Rattle.machine_laws.proofs.Asks.{told-run}
-use Rattle.machine_laws.proofs.Misses.{entry_at, told_kind, told_reason, told-steps, IsOver, gone-is-last}
+use Rattle.machine_laws.specs.LegalRuns.{IsRun}
+use Rattle.machine_laws.proofs.AskLists.{told-run}
+use Rattle.machine_laws.proofs.Misses.{entry_in_place, told_kind, told_reason, told-steps, IsOver, gone-is-last}
 use Rattle.machine_laws.proofs.scope_runs.first_run_runs.Goals as goal
 
 pub returns-clause-prints : goal.returns-clause-prints
@@ -33,13 +33,13 @@ pub returns-clause-replies : goal.returns-clause-replies
 returns-clause-replies c = record { own = refl; of_thread = λ n. refl }
 
 no-other-kind : (k : Kind) → IsRun setting (set trace 4 (typeof_entry k)) → k ≡ kind.Object
-no-other-kind k r = ap (λ xs. told_kind k (entry_at 4 xs).reply.out) (told-run setting (set trace 4 (typeof_entry k)) refl r)
+no-other-kind k r = ap (λ xs. told_kind k (entry_in_place 4 xs).reply.out) (told-run setting (set trace 4 (typeof_entry k)) refl r)
 
 no-other-reason : (e : LoopEnd) → IsRun setting (set trace 8 (loop_ended e)) → e ≡ loop_end.Idle
-no-other-reason e r = ap (λ xs. told_reason e (entry_at 8 xs).reply.out) (told-run setting (set trace 8 (loop_ended e)) refl r)
+no-other-reason e r = ap (λ xs. told_reason e (entry_in_place 8 xs).reply.out) (told-run setting (set trace 8 (loop_ended e)) refl r)
 
 no-close : IsRun setting (left_out 5 trace) → ⊥
-no-close r = let w : (entry_at 5 (left_out 5 trace)).what ≡ _ = ap (λ xs. (entry_at 5 xs).what) (told-run setting (left_out 5 trace) refl r) in cc
+no-close r = let w : (entry_in_place 5 (left_out 5 trace)).what ≡ _ = ap (λ xs. (entry_in_place 5 xs).what) (told-run setting (left_out 5 trace) refl r) in cc
 
 over : IsOver (final_of setting asks trace)
 over = record { phase = refl; stage = refl; frames = refl; threads = refl; workers = refl }

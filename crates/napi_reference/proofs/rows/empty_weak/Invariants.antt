@@ -1,6 +1,6 @@
 use Rattle.std.proofs.Common.{◌≡◌, ◌++◌, map, option_map, take, drop}
 use Rattle.napi_types.specs.plain.Lists.{has_number}
-use Rattle.napi_reference.specs.Rows.{weak_emptied}
+use Rattle.napi_reference.specs.ReferenceRows.{weak_emptied}
 use Rattle.napi_reference.proofs.rows.empty_weak.Given as goal
 
 abbrev pub invariant-loop-place : goal.invariant-loop-place

@@ -2,7 +2,7 @@ use Rattle.std.proofs.Common.{◌≡◌, drop}
 use Rattle.serde_json.specs.View.{items_view}
 use Rattle.napi_types.specs.scripts.ScriptAddons.{addon_at}
 use Rattle.napi_types.specs.scripts.ScriptReading.{each}
-use Rattle.script_read.specs.Lists.{onto}
+use Rattle.script_read.specs.ReadLists.{onto}
 use Rattle.script_read.proofs.addon.each_addon.Given as goal
 
 abbrev pub invariant-loop-a : goal.invariant-loop-a

@@ -1,5 +1,5 @@
 use Rattle.std.proofs.Common.{◌≡◌, Err, arith, rules}
-use Rattle.script_read.proofs.Lists.{each-next, each-stopped, each-ends}
+use Rattle.script_read.proofs.ReadLists.{each-next, each-stopped, each-ends}
 use Rattle.script_read.proofs.entry.each_operation.Goals as goal
 
 pub returns-in_err-operation : goal.returns-in_err-operation

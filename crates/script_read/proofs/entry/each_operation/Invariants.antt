@@ -2,7 +2,7 @@ use Rattle.std.proofs.Common.{◌≡◌, drop}
 use Rattle.serde_json.specs.View.{items_view}
 use Rattle.napi_types.specs.scripts.ScriptAddons.{operation_at}
 use Rattle.napi_types.specs.scripts.ScriptReading.{each}
-use Rattle.script_read.specs.Lists.{onto}
+use Rattle.script_read.specs.ReadLists.{onto}
 use Rattle.script_read.proofs.entry.each_operation.Given as goal
 
 abbrev pub invariant-loop-o : goal.invariant-loop-o

@@ -1,5 +1,5 @@
 use Rattle.std.proofs.Common.{◌≡◌, Err, arith, rules}
-use Rattle.script_read.proofs.Lists.{every-next, every-stopped, every-ends}
+use Rattle.script_read.proofs.ReadLists.{every-next, every-stopped, every-ends}
 use Rattle.script_read.proofs.schedule.each_word.Goals as goal
 
 pub returns-in_err-word : goal.returns-in_err-word

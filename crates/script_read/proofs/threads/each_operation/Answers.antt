@@ -1,5 +1,5 @@
 use Rattle.std.proofs.Common.{◌≡◌, Err, arith, rules}
-use Rattle.script_read.proofs.Lists.{every-next, every-stopped, every-ends}
+use Rattle.script_read.proofs.ReadLists.{every-next, every-stopped, every-ends}
 use Rattle.script_read.proofs.threads.each_operation.Goals as goal
 
 pub returns-in_err-operation : goal.returns-in_err-operation

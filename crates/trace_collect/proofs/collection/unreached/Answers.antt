@@ -2,7 +2,7 @@ use Rattle.std.proofs.Common.{◌∙◌, sym, rules}
 use Rattle.std.proofs.lemmas.List.{length-map}
 use Rattle.std.proofs.lemmas.List.Sorted.{IsNonDecreasingBy-from_sort_by_key}
 use Rattle.napi_types.specs.declared.ids.ValueId.{ValueId}
-use Rattle.value_store.specs.Changes.{numbers_of}
+use Rattle.value_store.specs.StoreChanges.{numbers_of}
 use Rattle.trace_collect.proofs.Unreached.{sorted-distinct, sorted-unreached, sorted-rising, roots-kept, kept-graph, freed-count, unreached-can-free}
 use Rattle.trace_collect.proofs.collection.unreached.Goals as goal
 

@@ -1,8 +1,8 @@
 use Rattle.std.proofs.Common.{◌≡◌, ◌+◌, ◌++◌, [], ◌∷◌, List, ℕ, length, count_by, not, ap, arith, subst, ◌∙◌}
 use Rattle.std.proofs.lemmas.List.{map-append}
 use Rattle.napi_types.specs.declared.ids.ValueId.{ValueId}
-use Rattle.value_store.specs.Changes.{numbers_of}
-use Rattle.trace_collect.specs.Marks.{IsMarking}
+use Rattle.value_store.specs.StoreChanges.{numbers_of}
+use Rattle.trace_collect.specs.MarkedValues.{IsMarking}
 use Rattle.trace_collect.proofs.Marking.{room-kept}
 use Rattle.trace_collect.proofs.Reached.{marking-turn}
 use Rattle.trace_collect.proofs.marks.follow.Goals as goal

@@ -1,6 +1,6 @@
 use Rattle.std.proofs.Common.{◌+◌, ◌≤◌, ℕ, List, length, not, count_by, vec_capacity}
-use Rattle.value_store.specs.Changes.{numbers_of}
-use Rattle.trace_collect.specs.Marks.{IsMarking}
+use Rattle.value_store.specs.StoreChanges.{numbers_of}
+use Rattle.trace_collect.specs.MarkedValues.{IsMarking}
 use Rattle.trace_collect.proofs.marks.follow.Given as goal
 
 abbrev pub invariant-loop-id : goal.invariant-loop-id

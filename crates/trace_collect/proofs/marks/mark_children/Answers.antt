@@ -1,8 +1,8 @@
 use Rattle.std.proofs.Common.{◌≡◌, ◌<◌, ◌∙◌, ℕ, List, length, take, take_all, subst, sym, arith}
 use Rattle.std.proofs.lemmas.List.Elements.{All-get_or}
 use Rattle.napi_types.specs.parts.Graph.{IsLive}
-use Rattle.value_store.specs.Changes.{numbers_of}
-use Rattle.trace_collect.specs.Marks.{Marks}
+use Rattle.value_store.specs.StoreChanges.{numbers_of}
+use Rattle.trace_collect.specs.MarkedValues.{Marks}
 use Rattle.trace_collect.proofs.Marking.{child-next, marks-same}
 use Rattle.trace_collect.proofs.marks.mark_children.Goals as goal
 

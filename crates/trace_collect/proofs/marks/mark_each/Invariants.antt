@@ -1,6 +1,6 @@
 use Rattle.std.proofs.Common.{◌≡◌, take, vec_capacity}
-use Rattle.value_store.specs.Changes.{numbers_of}
-use Rattle.trace_collect.specs.Marks.{Marks}
+use Rattle.value_store.specs.StoreChanges.{numbers_of}
+use Rattle.trace_collect.specs.MarkedValues.{Marks}
 use Rattle.trace_collect.proofs.marks.mark_each.Given as goal
 
 abbrev pub invariant-loop-id : goal.invariant-loop-id

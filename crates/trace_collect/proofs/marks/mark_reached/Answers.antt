@@ -1,5 +1,5 @@
 use Rattle.std.proofs.Common.{length}
-use Rattle.value_store.specs.Changes.{numbers_of}
+use Rattle.value_store.specs.StoreChanges.{numbers_of}
 use Rattle.trace_collect.proofs.Reached.{marking-start, marked-all}
 use Rattle.trace_collect.proofs.marks.mark_reached.Goals as goal
 

@@ -1,6 +1,6 @@
 use Rattle.std.proofs.Common.{◌≡◌}
-use Rattle.value_store.specs.Changes.{numbers_of}
-use Rattle.trace_collect.specs.Marks.{unmarked_ids}
+use Rattle.value_store.specs.StoreChanges.{numbers_of}
+use Rattle.trace_collect.specs.MarkedValues.{unmarked_ids}
 use Rattle.trace_collect.proofs.marks.unmarked.Given as goal
 
 abbrev pub invariant-loop-place : goal.invariant-loop-place

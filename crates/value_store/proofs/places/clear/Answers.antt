@@ -1,6 +1,6 @@
 use Rattle.std.proofs.Common.{◌≡◌, ◌<◌, ◌≤◌, ℕ, length, get_or, arith}
 use Rattle.napi_types.specs.declared.ids.ValueId.{ValueId}
-use Rattle.value_store.specs.Places.{values_of}
+use Rattle.value_store.specs.ValuePlaces.{values_of}
 use Rattle.value_store.proofs.Clearing.{listed-within, cleared-more}
 use Rattle.value_store.proofs.places.clear.Goals as goal
 

@@ -1,6 +1,6 @@
 use Rattle.std.proofs.Common.{take}
-use Rattle.value_store.specs.Changes.{numbers_of}
-use Rattle.value_store.specs.Places.{values_of, IsCleared}
+use Rattle.value_store.specs.StoreChanges.{numbers_of}
+use Rattle.value_store.specs.ValuePlaces.{values_of, IsCleared}
 use Rattle.value_store.proofs.places.clear.Given as goal
 
 abbrev pub invariant-loop-id : goal.invariant-loop-id

@@ -1,5 +1,5 @@
 use Rattle.std.proofs.Common.{◌≡◌, ◌+◌, length, length-append, ap, arith, refl, ◌∙◌}
-use Rattle.value_store.specs.Places.{values_of}
+use Rattle.value_store.specs.ValuePlaces.{values_of}
 use Rattle.value_store.proofs.Listing.{each-turn}
 use Rattle.value_store.proofs.places.push_each.Goals as goal
 

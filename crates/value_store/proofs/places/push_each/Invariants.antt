@@ -1,6 +1,6 @@
 use Rattle.std.proofs.Common.{◌≡◌, ◌+◌, ◌++◌, length, map, take, vec_capacity, Some}
 use Rattle.napi_types.specs.parts.NewValues.{made_after}
-use Rattle.value_store.specs.Places.{values_of}
+use Rattle.value_store.specs.ValuePlaces.{values_of}
 use Rattle.value_store.proofs.places.push_each.Given as goal
 
 abbrev pub invariant-loop-body : goal.invariant-loop-body

@@ -1,7 +1,7 @@
 use Rattle.std.proofs.Common.{◌≡◌, ◌+◌, ◌∙◌, length, ap, arith, option_map}
 use Rattle.napi_types.specs.declared.ids.ValueId.{ValueId}
 use Rattle.napi_types.specs.parts.NewValues.{error_of}
-use Rattle.value_store.specs.Places.{values_of}
+use Rattle.value_store.specs.ValuePlaces.{values_of}
 use Rattle.value_store.proofs.Listing.{length-each}
 use Rattle.value_store.proofs.Thrown.{last-done}
 use Rattle.value_store.proofs.places.push_error.Goals as goal

@@ -1,7 +1,7 @@
 use Rattle.std.proofs.Common.{◌≡◌, ◌+◌, ◌∙◌, length, ap, arith}
 use Rattle.std.specs.List.{range_with_len}
 use Rattle.napi_types.specs.parts.NewValues.{array_of}
-use Rattle.value_store.specs.Places.{values_of}
+use Rattle.value_store.specs.ValuePlaces.{values_of}
 use Rattle.value_store.proofs.Listing.{length-each}
 use Rattle.value_store.proofs.Thrown.{last-done}
 use Rattle.value_store.proofs.places.push_list.Goals as goal

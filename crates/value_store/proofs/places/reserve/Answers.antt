@@ -1,5 +1,5 @@
 use Rattle.std.proofs.Common.{◌≡◌, length, arith}
-use Rattle.value_store.specs.Places.{values_of}
+use Rattle.value_store.specs.ValuePlaces.{values_of}
 use Rattle.value_store.proofs.PlaceValues.{length-values_from}
 use Rattle.value_store.proofs.places.reserve.Goals as goal
 

@@ -1,8 +1,8 @@
 use Rattle.std.proofs.Common.{◌+◌, ◌≤◌, ◌∙◌, length, ap, sym, arith}
 use Rattle.std.proofs.lemmas.Bool.{ltb-false}
 use Rattle.std.proofs.lemmas.List.{get_or_read, get_or_past}
-use Rattle.value_store.specs.declared.place.Place.TheVariants.{Free}
-use Rattle.value_store.specs.Places.{value_here}
+use Rattle.value_store.specs.declared.place.ValuePlace.TheVariants.{Free}
+use Rattle.value_store.specs.ValuePlaces.{value_here}
 use Rattle.value_store.proofs.PlaceValues.{standing-at}
 use Rattle.value_store.proofs.places.value_in.Goals as goal
 

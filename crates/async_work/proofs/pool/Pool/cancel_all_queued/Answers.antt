@@ -3,7 +3,7 @@ use Rattle.napi_types.specs.plain.Lists.{has_number, head, tail}
 use Rattle.napi_types.specs.parts.Pool.{WorkPool}
 use Rattle.async_work.specs.Draining.{IsDraining}
 use Rattle.async_work.proofs.Draining.{has-first, none-first, draining-start, draining-more, draining-less, draining-end}
-use Rattle.async_work.proofs.Keeping.{kept-closed}
+use Rattle.async_work.proofs.KeepingPools.{kept-closed}
 use Rattle.async_work.proofs.pool.Pool.cancel_all_queued.Goals as goal
 use Rattle.async_work.proofs.pool.Pool.cancel_all_queued.Goals.{After-cancel_queued, After-self-1}
 

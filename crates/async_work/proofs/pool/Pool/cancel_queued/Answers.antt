@@ -3,7 +3,7 @@ use Rattle.std.proofs.lemmas.List.{length-map}
 use Rattle.napi_types.specs.plain.Lists.{has_number}
 use Rattle.napi_types.specs.parts.Pool.{WorkPool, cancelled_at}
 use Rattle.async_work.specs.Line.{line_seen, outcome_seen, waits, CameOut, Ended, unstarted_outcome}
-use Rattle.async_work.proofs.Keeping.{kept-cancelled, room-to-cancel}
+use Rattle.async_work.proofs.KeepingPools.{kept-cancelled, room-to-cancel}
 use Rattle.async_work.proofs.Queueing.{has-waiting, waits-within, bounds-at, line-set, outcomes-push, waits-read, IsWaiting, some-is}
 use Rattle.async_work.proofs.Viewing.{view-cancelled}
 use Rattle.async_work.proofs.pool.Pool.cancel_queued.Goals as goal

@@ -3,9 +3,9 @@ use Rattle.std.proofs.lemmas.List.{length-map, map-append}
 use Rattle.napi_types.specs.plain.Lists.{has_number}
 use Rattle.napi_types.specs.parts.Pool.{WorkPool, with_work}
 use Rattle.async_work.specs.Line.{entry_seen, outcome_seen}
-use Rattle.async_work.specs.Places.{place_seen, places_seen}
+use Rattle.async_work.specs.WorkPlaces.{place_seen, places_seen}
 use Rattle.async_work.proofs.Ids.{issued-fresh}
-use Rattle.async_work.proofs.Keeping.{kept-more, kept-created}
+use Rattle.async_work.proofs.KeepingPools.{kept-more, kept-created}
 use Rattle.async_work.proofs.Viewing.{view-created}
 use Rattle.async_work.proofs.pool.Pool.create.Goals as goal
 use Rattle.async_work.proofs.pool.Pool.create.Goals.{After-push_reserved}

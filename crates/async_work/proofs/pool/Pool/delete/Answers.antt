@@ -4,11 +4,11 @@ use Rattle.napi_types.specs.plain.Lists.{unless}
 use Rattle.napi_types.specs.parts.Pool.{work_at, work_state, without_work}
 use Rattle.napi_types.specs.parts.Works.{is_deletable}
 use Rattle.async_work.specs.Line.{line_seen}
-use Rattle.async_work.specs.Places.{Placed, places_seen, place_at}
-use Rattle.async_work.specs.States.{state_seen, place_state}
+use Rattle.async_work.specs.WorkPlaces.{Placed, places_seen, place_at}
+use Rattle.async_work.specs.WorkStates.{state_seen, place_state}
 use Rattle.async_work.proofs.Ids.{place-bounds, places-set}
-use Rattle.async_work.proofs.Keeping.{kept-deleted}
-use Rattle.async_work.proofs.Standing.{refusal-of, states-of, state-place, deletable-done}
+use Rattle.async_work.proofs.KeepingPools.{kept-deleted}
+use Rattle.async_work.proofs.StandingWorks.{refusal-of, states-of, state-place, deletable-done}
 use Rattle.async_work.proofs.Viewing.{view-deleted}
 use Rattle.async_work.proofs.pool.Pool.delete.Goals as goal
 use Rattle.async_work.proofs.pool.Pool.delete.Goals.{In_ok-state, Joined-index_mut}

@@ -1,9 +1,9 @@
 use Rattle.std.proofs.Common.{◌≡◌, ◌∙◌, ◌-◌, ◌≤◌, ◌++◌, [], ◌∷◌, Some, length, set, refl, sym, ap, arith}
 use Rattle.std.proofs.lemmas.List.{length-map}
 use Rattle.napi_types.specs.parts.Pool.{WorkPool, executed_by, value_of_work, with_finished}
-use Rattle.async_work.specs.Line.{CameOut, Ended, entry_seen, line_seen, outcome_seen, outcomes_seen, entry_at, stage_at, runner, runner_at, with_stage, ran_outcome}
-use Rattle.async_work.proofs.Executions.{executed}
-use Rattle.async_work.proofs.Keeping.{only-runs, live-bounds, runs-read, kept-finished, room-to-finish}
+use Rattle.async_work.specs.Line.{CameOut, Ended, entry_seen, line_seen, outcome_seen, outcomes_seen, line_work_at, line_stage_at, runner, runner_at, with_stage, ran_outcome}
+use Rattle.async_work.proofs.PoolExecutions.{executed}
+use Rattle.async_work.proofs.KeepingPools.{only-runs, live-bounds, runs-read, kept-finished, room-to-finish}
 use Rattle.async_work.proofs.Queueing.{line-set, outcomes-push, some-is}
 use Rattle.async_work.proofs.Viewing.{view-finished}
 use Rattle.async_work.proofs.pool.Pool.finish.Goals as goal
@@ -19,7 +19,7 @@ runs g c =
     (ap (λ (p : WorkPool). executed_by p c.args.worker) c.self.view_is ∙ executes g c)
 
 bounds : (g : _) (c : After-index_mut-arg-1 g) → (1 ≤ c.into_parts-number.result.0) × (c.into_parts-number.result.0 ≤ length c.self.inside.line.items)
-bounds g c = live-bounds g.J.Job.spec c.self.inside.line.items c.into_parts-number.result.0 (only-runs (stage_at
+bounds g c = live-bounds g.J.Job.spec c.self.inside.line.items c.into_parts-number.result.0 (only-runs (line_stage_at
     (line_seen g.J.Job.spec c.self.inside.line.items) c.into_parts-number.result.0) c.args.worker (runs g c)).unfinished
 
 pub overflow_sub-number : goal.overflow_sub-number
@@ -29,7 +29,7 @@ pub index_mut-requires : goal.index_mut-requires
 index_mut-requires g c = let within = bounds g c in omega (arith, within.0, within.1, c.self.inside.line.ok.0)
 
 -- and it is the one that is read
-read : (g : _) (c : After-index_mut g) → (entry_at (line_seen g.J.Job.spec c.self.inside.line.items) c.into_parts-number.result.0 ≡ Some
+read : (g : _) (c : After-index_mut g) → (line_work_at (line_seen g.J.Job.spec c.self.inside.line.items) c.into_parts-number.result.0 ≡ Some
     (entry_seen g.J.Job.spec c.index_mut.result.now)) × (runner (entry_seen g.J.Job.spec c.index_mut.result.now).stage ≡ Some c.args.worker)
 read g c = runs-read g.J.Job.spec c.self.inside.line.items c.into_parts-number.result.0 c.args.worker c.index_mut.result.now
     (runs g c.before) c.index_mut.ensures.value

@@ -3,7 +3,7 @@ use Rattle.std.proofs.lemmas.List.{length-map}
 use Rattle.napi_types.specs.plain.Lists.{head, tail}
 use Rattle.napi_types.specs.parts.Pool.{WorkPool}
 use Rattle.async_work.specs.Line.{entry_seen, line_seen, waits}
-use Rattle.async_work.proofs.Keeping.{kept-passed, none-waits, next-waits, rest-waits}
+use Rattle.async_work.proofs.KeepingPools.{kept-passed, none-waits, next-waits, rest-waits}
 use Rattle.async_work.proofs.Queueing.{rising-waiting}
 use Rattle.async_work.proofs.pool.Pool.first_queued.Goals as goal
 use Rattle.async_work.proofs.pool.Pool.first_queued.Goals.{After-next_queued-self-inside, Else-self-end}

@@ -1,7 +1,7 @@
 use Rattle.std.proofs.Common.{ap}
 use Rattle.async_work.specs.Line.{line_seen, outcomes_seen}
-use Rattle.async_work.specs.Places.{places_seen}
-use Rattle.async_work.proofs.Keeping.{kept-new}
+use Rattle.async_work.specs.WorkPlaces.{places_seen}
+use Rattle.async_work.proofs.KeepingPools.{kept-new}
 use Rattle.async_work.proofs.pool.Pool.new.Goals as goal
 
 pub invariant_of-result : goal.invariant_of-result

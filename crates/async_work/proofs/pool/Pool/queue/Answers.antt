@@ -5,12 +5,12 @@ use Rattle.napi_types.specs.plain.Lists.{unless}
 use Rattle.napi_types.specs.parts.Pool.{WorkPool, work_at, work_state, with_queued}
 use Rattle.napi_types.specs.parts.Works.{is_created}
 use Rattle.async_work.specs.Line.{Waits, entry_seen, line_seen}
-use Rattle.async_work.specs.Places.{Placed, places_seen, place_at, held_job, with_place_number}
-use Rattle.async_work.specs.States.{state_seen}
+use Rattle.async_work.specs.WorkPlaces.{Placed, places_seen, place_at, held_job, with_place_number}
+use Rattle.async_work.specs.WorkStates.{state_seen}
 use Rattle.async_work.proofs.Ids.{place-bounds, place-read, places-set}
-use Rattle.async_work.proofs.Keeping.{kept-queued, room-to-queue}
+use Rattle.async_work.proofs.KeepingPools.{kept-queued, room-to-queue}
 use Rattle.async_work.proofs.Queueing.{some-is}
-use Rattle.async_work.proofs.Standing.{refusal-of, states-of, state-place, created-none, not-created}
+use Rattle.async_work.proofs.StandingWorks.{refusal-of, states-of, state-place, created-none, not-created}
 use Rattle.async_work.proofs.Viewing.{view-queued}
 use Rattle.async_work.proofs.pool.Pool.queue.Goals as goal
 use Rattle.async_work.proofs.pool.Pool.queue.Goals.{In_ok-ok_or, In-Created, After-push_reserved}

@@ -4,15 +4,15 @@ use Rattle.napi_types.specs.plain.Lists.{head, tail}
 use Rattle.napi_types.specs.parts.Pool.{WorkPool, executed_by, with_started}
 use Rattle.napi_types.specs.parts.Works.{Work}
 use Rattle.async_work.specs.Executing.{StartedWork}
-use Rattle.async_work.specs.Kept.{pool_of, Stands}
-use Rattle.async_work.specs.Line.{Runs, entry_seen, line_seen, outcomes_seen, waits, with_stage, waiting}
+use Rattle.async_work.specs.KeptPool.{pool_of, StandsInLine}
+use Rattle.async_work.specs.Line.{Runs, entry_seen, line_seen, outcomes_seen, waits, with_stage, waiting_works}
 use Rattle.async_work.specs.Picking.{work_to_start, first_to_start}
-use Rattle.async_work.specs.Places.{places_seen}
+use Rattle.async_work.specs.WorkPlaces.{places_seen}
 use Rattle.async_work.proofs.Draining.{first-of, none-first}
-use Rattle.async_work.proofs.Keeping.{only-waits, kept-started, rest-waits}
+use Rattle.async_work.proofs.KeepingPools.{only-waits, kept-started, rest-waits}
 use Rattle.async_work.proofs.Linking.{if-some}
 use Rattle.async_work.proofs.Queueing.{IsWaiting, waits-read, bounds-at, waits-within, head-first, rising-waiting, line-set, some-is}
-use Rattle.async_work.proofs.Standing.{numbered-at}
+use Rattle.async_work.proofs.StandingWorks.{numbered-at}
 use Rattle.async_work.proofs.Viewing.{view-started}
 use Rattle.async_work.proofs.pool.Pool.start.Goals as goal
 use Rattle.async_work.proofs.pool.Pool.start.Goals.{After-index_mut-arg-1, After-index_mut, After-new}
@@ -29,7 +29,7 @@ view : (g : _) (c : After-index_mut-arg-1 g) → pool_of (places_seen g.J.Job.sp
 view g c = c.self-2.view_is ∙ c.first_queued.ensures.same
 
 -- and the work waits first
-first : (g : _) (c : After-index_mut-arg-1 g) → head (waiting (line_seen g.J.Job.spec c.self-2.inside.line.items)) ≡ Some c.in-Some.number
+first : (g : _) (c : After-index_mut-arg-1 g) → head (waiting_works (line_seen g.J.Job.spec c.self-2.inside.line.items)) ≡ Some c.in-Some.number
 first g c = ap (λ (p : WorkPool). head p.queued) (view g c) ∙ sym c.first_queued.ensures.first ∙ c.in-Some.is
 
 here : (g : _) (c : After-index_mut-arg-1 g) → waits (line_seen g.J.Job.spec c.self-2.inside.line.items) c.in-Some.number ≡ true
@@ -73,7 +73,7 @@ returns-clause-job g c =
     let at = (goal.at.returns-clause-job g c).After-index_mut in
     let n = c.in-Some.number in
     let x = read g at in
-    let stands : Stands (places_seen g.J.Job.spec c.self-2.inside.places.items) n
+    let stands : StandsInLine (places_seen g.J.Job.spec c.self-2.inside.places.items) n
     (entry_seen g.J.Job.spec c.index_mut.result.now) = c.self-2.invariant.linked.placed n _ x.there (only-waits _ x.job x.waits_for).unfinished in
     let same : g.J.Job.spec c.start-job.result ≡ stands.place.spec = if-some (λ s. s ≡ stands.place.spec) _ _ c.start-job.ensures.job stands.job in
     ap (λ (w : StartedWork). Some w) c.new.ensures ∙ ap (λ s. Some (record { number = n; spec = s })) same
@@ -89,6 +89,6 @@ returns-clause-started g c =
     let x = read g at in
     let L = line_seen g.J.Job.spec c.self-2.inside.line.items in
     view-started _ _ _ _ _ _ _ _ _ c.self-2.invariant _ c.in-Some.number _ x.there c.args.worker x.job _ (lines g c) x.waits_for (free g at)
-    (first-of _ c.in-Some.number (first g at.before)) (if-some (λ n. filter (λ m. not (m == n)) (waiting L) ≡ tail (waiting L)) _ c.in-Some.number
-    (first g at.before) (rest-waits (waiting L) (rising-waiting L)))
+    (first-of _ c.in-Some.number (first g at.before)) (if-some (λ n. filter (λ m. not (m == n)) (waiting_works L) ≡ tail (waiting_works L)) _ c.in-Some.number
+    (first g at.before) (rest-waits (waiting_works L) (rising-waiting L)))
     ∙ ap (with_started c.args.worker) (view g at.before)

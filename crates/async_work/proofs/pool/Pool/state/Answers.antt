@@ -2,15 +2,15 @@ use Rattle.std.proofs.Common.{◌≡◌, ◌∙◌, ◌+◌, ◌-◌, ◌≤◌,
 use Rattle.std.specs.Option.{option_and_then, option_map_or}
 use Rattle.napi_types.specs.parts.Pool.{WorkPool, work_at, work_state, number_of_work}
 use Rattle.napi_types.specs.parts.Works.{WorkState, Created}
-use Rattle.async_work.specs.declared.line.Stage.{Stage}
-use Rattle.async_work.specs.Line.{line_seen, stage_seen, stage_state, stage_at, entry_at}
-use Rattle.async_work.specs.Places.{Placed, place_seen, places_seen, place_at, standing_number}
-use Rattle.async_work.specs.States.{state_seen, numbered_state, place_state}
-use Rattle.async_work.proofs.Counting.{some}
+use Rattle.async_work.specs.declared.line.WorkStage.{WorkStage}
+use Rattle.async_work.specs.Line.{line_seen, stage_seen, stage_state, line_stage_at, line_work_at}
+use Rattle.async_work.specs.WorkPlaces.{Placed, place_seen, places_seen, place_at, standing_number}
+use Rattle.async_work.specs.WorkStates.{state_seen, numbered_state, place_state}
+use Rattle.async_work.proofs.CountingWorks.{some}
 use Rattle.async_work.proofs.Ids.{unnumbered}
 use Rattle.async_work.proofs.Linking.{if-some}
 use Rattle.async_work.proofs.Queueing.{bounds-at, stage-read}
-use Rattle.async_work.proofs.Standing.{states-of, number-at, has-number}
+use Rattle.async_work.proofs.StandingWorks.{states-of, number-at, has-number}
 use Rattle.async_work.proofs.pool.Pool.state.Goals as goal
 use Rattle.async_work.proofs.pool.Pool.state.Goals.{In_ok-place, In-Numbered, After-index}
 
@@ -45,7 +45,7 @@ number g c = ap (standing_number g.J.Job.spec) c.in-Numbered.is
 bounds : (g : _) (c : In-Numbered g) → (1 ≤ c.in-Numbered.number) × (c.in-Numbered.number ≤ length c.self.inside.line.items)
 bounds g c =
     let there = if-some _ _ c.in-Numbered.number (number g c) (has-number _ _ _ _ _ _ _ _ _ c.self.invariant c.args.id.0 _ (placed g c.before)) in
-    let e = some (entry_at (line_seen g.J.Job.spec c.self.inside.line.items) c.in-Numbered.number) there in
+    let e = some (line_work_at (line_seen g.J.Job.spec c.self.inside.line.items) c.in-Numbered.number) there in
     bounds-at g.J.Job.spec c.self.inside.line.items c.in-Numbered.number e.0 e.1
 
 pub overflow_sub-number : goal.overflow_sub-number
@@ -55,13 +55,13 @@ pub index-requires : goal.index-requires
 index-requires g c = let within = bounds g (goal.at.index-requires g c).In-Numbered in omega (arith, within.0, within.1, c.self.inside.line.ok.0)
 
 -- the stage that is read is that of the work
-staged : (g : _) (c : After-index g) (s : Stage g.row.J.Denot) → c.index.result.now.stage ≡ s
+staged : (g : _) (c : After-index g) (s : WorkStage g.row.J.Denot) → c.index.result.now.stage ≡ s
     → place_state (line_seen g.J.Job.spec c.self.inside.line.items) (place_seen g.J.Job.spec c.in_ok-place.place.now) ≡ stage_state (stage_seen g.J.Job.spec s)
 staged g c s is =
     let within = bounds g c.before in
     let next : c.in-Numbered.number - 1 + 1 ≡ c.in-Numbered.number = omega (arith, within.0) in
     ap (λ o. option_map_or (numbered_state (line_seen g.J.Job.spec c.self.inside.line.items)) o Created) (number g c.before)
-    ∙ ap (λ k. stage_state (stage_at (line_seen g.J.Job.spec c.self.inside.line.items) k)) (sym next)
+    ∙ ap (λ k. stage_state (line_stage_at (line_seen g.J.Job.spec c.self.inside.line.items) k)) (sym next)
     ∙ ap stage_state (stage-read g.J.Job.spec c.self.inside.line.items (c.in-Numbered.number - 1) c.index.result.now s (omega (
       arith,
       within.0,

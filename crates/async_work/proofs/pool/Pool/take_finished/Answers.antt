@@ -4,14 +4,14 @@ use Rattle.napi_types.specs.declared.duties.DueInfo.{DueInfo}
 use Rattle.napi_types.specs.plain.Lists.{head}
 use Rattle.napi_types.specs.parts.Pool.{WorkPool, work_numbered, completion_info, first_completion, with_completed}
 use Rattle.napi_types.specs.parts.Works.{Outcome}
-use Rattle.async_work.specs.Kept.{pool_of, Stands, CameOutOnce}
-use Rattle.async_work.specs.Line.{Done, entry_seen, line_seen, outcome_seen, outcomes_seen, outcome_of, outcome_status, entry_at, stage_at, has_ended, is_done, with_stage}
+use Rattle.async_work.specs.KeptPool.{pool_of, StandsInLine, CameOutOnce}
+use Rattle.async_work.specs.Line.{Done, entry_seen, line_seen, outcome_seen, outcomes_seen, outcome_of, outcome_status, line_work_at, line_stage_at, has_ended, is_done_in_line, with_stage}
 use Rattle.async_work.specs.Picking.{unspent_spec}
-use Rattle.async_work.specs.Places.{place_seen, places_seen, work_of}
-use Rattle.async_work.proofs.Keeping.{OnlyEnded, only-ended, live-bounds, live-read, kept-completed}
+use Rattle.async_work.specs.WorkPlaces.{place_seen, places_seen, work_of}
+use Rattle.async_work.proofs.KeepingPools.{OnlyEnded, only-ended, live-bounds, live-read, kept-completed}
 use Rattle.async_work.proofs.Linking.{ended-unfinished, first-ended, first-told, same-some, spec-stands, stage-of}
 use Rattle.async_work.proofs.Queueing.{line-set}
-use Rattle.async_work.proofs.Standing.{numbered-at, unspent-of}
+use Rattle.async_work.proofs.StandingWorks.{numbered-at, unspent-of}
 use Rattle.async_work.proofs.Viewing.{view-completed}
 use Rattle.async_work.proofs.pool.Pool.take_finished.Goals as goal
 use Rattle.async_work.proofs.pool.Pool.take_finished.Goals.{After-index_mut-arg-1, After-index_mut, After-finished_of}
@@ -28,7 +28,7 @@ came_out g c = subst (CameOutOnce (places_seen g.J.Job.spec c.self.inside.places
     (outcomes g c) c.self.invariant.came_out
 
 -- and its work has ended
-unfinished : (g : _) (c : After-index_mut-arg-1 g) → is_done (stage_at (line_seen g.J.Job.spec c.self.inside.line.items) c.in_ok-outcome.outcome.number) ≡ false
+unfinished : (g : _) (c : After-index_mut-arg-1 g) → is_done_in_line (line_stage_at (line_seen g.J.Job.spec c.self.inside.line.items) c.in_ok-outcome.outcome.number) ≡ false
 unfinished g c = ended-unfinished _ (first-ended _ (line_seen g.J.Job.spec c.self.inside.line.items) (outcome_seen g.J.Job.spec c.in_ok-outcome.outcome) _
     (came_out g c))
 
@@ -40,14 +40,14 @@ index_mut-requires g c =
     let bounds = live-bounds g.J.Job.spec c.self.inside.line.items c.in_ok-outcome.outcome.number (unfinished g c) in
     omega (arith, bounds.0, bounds.1, c.self.inside.line.ok.0)
 
-there : (g : _) (c : After-index_mut g) → entry_at (line_seen g.J.Job.spec c.self.inside.line.items) c.in_ok-outcome.outcome.number ≡ Some
+there : (g : _) (c : After-index_mut g) → line_work_at (line_seen g.J.Job.spec c.self.inside.line.items) c.in_ok-outcome.outcome.number ≡ Some
     (entry_seen g.J.Job.spec c.index_mut.result.now)
 there g c = live-read g.J.Job.spec c.self.inside.line.items c.in_ok-outcome.outcome.number c.index_mut.result.now
     (unfinished g c.before) c.index_mut.ensures.value
 
-stands : (g : _) (c : After-index_mut g) → Stands (places_seen g.J.Job.spec c.self.inside.places.items) c.in_ok-outcome.outcome.number
+stands : (g : _) (c : After-index_mut g) → StandsInLine (places_seen g.J.Job.spec c.self.inside.places.items) c.in_ok-outcome.outcome.number
     (entry_seen g.J.Job.spec c.index_mut.result.now)
-stands g c = c.self.invariant.linked.placed c.in_ok-outcome.outcome.number _ (there g c) (ap is_done (sym (stage-of
+stands g c = c.self.invariant.linked.placed c.in_ok-outcome.outcome.number _ (there g c) (ap is_done_in_line (sym (stage-of
     (line_seen g.J.Job.spec c.self.inside.line.items) c.in_ok-outcome.outcome.number _ (there g c))) ∙ unfinished g c.before)
 
 pub unreachable-requires : goal.unreachable-requires
@@ -76,7 +76,7 @@ invariant_of-self-2 g c =
     (lines g c))
 
 -- the place that is told of is that of the work
-placed : (g : _) (c : After-finished_of g) (s : Stands (places_seen g.J.Job.spec c.self.inside.places.items) c.in_ok-outcome.outcome.number
+placed : (g : _) (c : After-finished_of g) (s : StandsInLine (places_seen g.J.Job.spec c.self.inside.places.items) c.in_ok-outcome.outcome.number
     (entry_seen g.J.Job.spec c.index_mut.result.now)) → place_seen g.J.Job.spec c.in-Some.place.now ≡ s.place
 placed g c s = same-some _ _ (rw (c.deref.ensures.value, c.complete-id.ensures.id) at c.in-Some.ensures ∙ s.there)
 

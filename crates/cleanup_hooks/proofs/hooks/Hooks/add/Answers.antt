@@ -2,9 +2,9 @@ use Rattle.std.proofs.Common.{◌∙◌, ◌<◌, ap, arith}
 use Rattle.std.proofs.lemmas.List.Elements.{All-same}
 use Rattle.napi_types.specs.parts.Hooks.{Hook, hook_ticket}
 use Rattle.cleanup_hooks.specs.declared.key.HookKey.{HookKey}
-use Rattle.cleanup_hooks.proofs.Found.{found}
-use Rattle.cleanup_hooks.proofs.Kept.{kept-added, kept-restored}
-use Rattle.cleanup_hooks.proofs.Order.{hooks_of-insert_entry, lookup-past}
+use Rattle.cleanup_hooks.proofs.FoundHooks.{found}
+use Rattle.cleanup_hooks.proofs.KeptHooks.{kept-added, kept-restored}
+use Rattle.cleanup_hooks.proofs.HookOrder.{hooks_of-insert_entry, lookup-past}
 use Rattle.cleanup_hooks.proofs.hooks.Hooks.add.Goals as goal
 
 pub invariant_of-self-in-Ok : goal.invariant_of-self-in-Ok

@@ -1,7 +1,7 @@
 use Rattle.std.proofs.Common.{◌≡◌, ◌∙◌, None, sym, ap, arith}
 use Rattle.std.specs.Option.{option_copied}
 use Rattle.napi_types.specs.parts.Hooks.{hook_ticket}
-use Rattle.cleanup_hooks.proofs.Found.{found}
+use Rattle.cleanup_hooks.proofs.FoundHooks.{found}
 use Rattle.cleanup_hooks.proofs.hooks.Hooks.find.Goals as goal
 
 pub returns-in_err-ticket : goal.returns-in_err-ticket

@@ -1,5 +1,5 @@
 use Rattle.std.proofs.Common.{◌∙◌, sym}
-use Rattle.cleanup_hooks.proofs.Kept.{kept-removed}
+use Rattle.cleanup_hooks.proofs.KeptHooks.{kept-removed}
 use Rattle.cleanup_hooks.proofs.hooks.Hooks.remove.Goals as goal
 
 pub invariant_of-self : goal.invariant_of-self

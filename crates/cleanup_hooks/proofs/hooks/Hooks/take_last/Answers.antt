@@ -1,4 +1,4 @@
-use Rattle.cleanup_hooks.proofs.Kept.{kept-removed}
+use Rattle.cleanup_hooks.proofs.KeptHooks.{kept-removed}
 use Rattle.cleanup_hooks.proofs.hooks.Hooks.take_last.Goals as goal
 
 pub invariant_of-self-2 : goal.invariant_of-self-2

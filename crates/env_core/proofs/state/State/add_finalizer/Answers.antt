@@ -1,9 +1,9 @@
 use Rattle.std.proofs.Common.{◌∙◌, Some, option_map, ap}
 use Rattle.napi_types.specs.parts.Book.{Book}
 use Rattle.napi_types.specs.environment.ExternalCalls.{attached_if}
-use Rattle.finalizer_queue.specs.Rows.{registration_of}
-use Rattle.napi_reference.specs.Places.{map_of}
-use Rattle.env_core.specs.Registering.{ticket_for, with_registration_if, duty_if}
+use Rattle.finalizer_queue.specs.TicketRows.{registration_of}
+use Rattle.napi_reference.specs.ReferencePlaces.{map_of}
+use Rattle.env_core.specs.RegisteringWants.{ticket_for, with_registration_if, duty_if}
 use Rattle.env_core.specs.contracts.state.State.{the_view}
 use Rattle.env_core.proofs.Registered.{book-asked, next-free, refers-live, attached-finalized, finalizer-answers}
 use Rattle.env_core.proofs.state.State.add_finalizer.Goals as goal

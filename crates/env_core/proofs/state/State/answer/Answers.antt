@@ -1,4 +1,4 @@
-use Rattle.env_core.proofs.Exceptions.{in-time}
+use Rattle.env_core.proofs.CoreExceptions.{in-time}
 use Rattle.env_core.proofs.Unrefused.{unrefused-in-time}
 use Rattle.env_core.proofs.state.State.answer.Goals as goal
 

@@ -2,7 +2,7 @@ use Rattle.std.proofs.Common.{◌≡◌, ◌∙◌, [], ap, refl, sym}
 use Rattle.napi_types.specs.declared.duties.DueInfo.{DueInfo}
 use Rattle.napi_types.specs.parts.Book.{is_begun, is_at, due_info, made_begun}
 use Rattle.napi_types.specs.environment.Environment.{Environment}
-use Rattle.finalizer_queue.specs.Kept.{ticket_number}
+use Rattle.finalizer_queue.specs.KeptBook.{ticket_number}
 use Rattle.finalizer_queue.proofs.Taken.{takes-begun}
 use Rattle.env_core.proofs.Beginning.{attached-at, book-begun, ticket-uncalled, state-begun}
 use Rattle.env_core.proofs.state.State.begin_due.Goals as goal

@@ -8,8 +8,8 @@ use Rattle.napi_types.specs.environment.Environment.{Environment}
 use Rattle.napi_types.specs.environment.Hooked.{is_late}
 use Rattle.napi_types.specs.environment.Tickets.{ticket_in}
 use Rattle.napi_types.proofs.parts.Moved.{IsUnder, PassesTest}
-use Rattle.finalizer_queue.specs.Kept.{ticket_number}
-use Rattle.env_values.specs.Seen.{heap_of}
+use Rattle.finalizer_queue.specs.KeptBook.{ticket_number}
+use Rattle.env_values.specs.SeenValues.{heap_of}
 use Rattle.env_core.specs.contracts.state.State.{the_view}
 use Rattle.env_core.proofs.Beginning.{last-registered, hook-begun, begun-hook, attached-at, book-begun, ticket-uncalled, state-begun}
 use Rattle.env_core.proofs.state.State.begin_hook.Goals.{After-begin_frame-begin}

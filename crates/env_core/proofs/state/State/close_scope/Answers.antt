@@ -1,5 +1,5 @@
 use Rattle.env_core.specs.contracts.state.State.{the_view}
-use Rattle.env_core.proofs.Scopes.{refused-close, accepted-close, state-closed}
+use Rattle.env_core.proofs.CoreScopes.{refused-close, accepted-close, state-closed}
 use Rattle.env_core.proofs.state.State.close_scope.Goals as goal
 
 pub returns-in-Err : goal.returns-in-Err

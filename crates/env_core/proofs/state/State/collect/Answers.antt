@@ -1,6 +1,6 @@
 use Rattle.std.proofs.Common.{ℕ, Option, subst, refl, ◌∙◌}
-use Rattle.value_store.specs.Changes.{numbers_of}
-use Rattle.napi_reference.specs.Places.{map_of}
+use Rattle.value_store.specs.StoreChanges.{numbers_of}
+use Rattle.napi_reference.specs.ReferencePlaces.{map_of}
 use Rattle.trace_collect.specs.Collects.{reached}
 use Rattle.env_core.specs.Rooting.{AreRoots}
 use Rattle.env_core.specs.contracts.state.State.{the_view}

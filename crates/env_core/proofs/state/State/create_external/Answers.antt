@@ -1,11 +1,11 @@
 use Rattle.std.proofs.Common.{◌∙◌, option_map, ap}
 use Rattle.napi_types.specs.parts.Book.{Book}
 use Rattle.napi_types.specs.environment.ExternalCalls.{attached_if}
-use Rattle.finalizer_queue.specs.Rows.{registration_of}
-use Rattle.napi_reference.specs.Places.{map_of}
-use Rattle.env_core.specs.Registering.{ticket_for, with_registration_if, duty_if}
+use Rattle.finalizer_queue.specs.TicketRows.{registration_of}
+use Rattle.napi_reference.specs.ReferencePlaces.{map_of}
+use Rattle.env_core.specs.RegisteringWants.{ticket_for, with_registration_if, duty_if}
 use Rattle.env_core.specs.contracts.state.State.{the_view}
-use Rattle.env_values.specs.Seen.{heap_of}
+use Rattle.env_values.specs.SeenValues.{heap_of}
 use Rattle.env_core.proofs.Attaching.{attached-kept, attachments-kept}
 use Rattle.env_core.proofs.Registered.{book-asked, next-free, attached-finalized, given-frames, external-answers}
 use Rattle.env_core.proofs.Unrefused.{on-err}

@@ -2,8 +2,8 @@ use Rattle.std.proofs.Common.{ap, subst, sym, refl}
 use Rattle.napi_types.specs.declared.call.Call.TheVariants as call
 use Rattle.napi_types.specs.parts.Graph.{IsLive}
 use Rattle.napi_types.specs.parts.References.{ReferenceMap}
-use Rattle.napi_reference.specs.Places.{map_of}
-use Rattle.napi_reference.proofs.Keeping.{AllValues-without_reference}
+use Rattle.napi_reference.specs.ReferencePlaces.{map_of}
+use Rattle.napi_reference.proofs.KeepingReferences.{AllValues-without_reference}
 use Rattle.env_core.specs.Referring.{RefersToLive}
 use Rattle.env_core.specs.contracts.state.State.{the_view}
 use Rattle.env_core.proofs.Referring.{refused-answers, deleted-answers}

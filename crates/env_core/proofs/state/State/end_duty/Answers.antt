@@ -2,7 +2,7 @@ use Rattle.std.proofs.Common.{◌∙◌, ap, refl}
 use Rattle.napi_types.specs.plain.Lists.{tail}
 use Rattle.napi_types.specs.parts.Frames.{duty_of}
 use Rattle.napi_types.specs.environment.Environment.{Environment}
-use Rattle.env_values.specs.Seen.{seen_frame}
+use Rattle.env_values.specs.SeenValues.{seen_frame}
 use Rattle.env_core.specs.contracts.state.State.{the_view}
 use Rattle.env_core.proofs.Beginning.{attached-ended, begun-local, book-ended, innermost-begun, left-with}
 use Rattle.env_core.proofs.Ending.{state-left}

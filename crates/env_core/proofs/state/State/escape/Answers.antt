@@ -1,5 +1,5 @@
 use Rattle.env_core.specs.contracts.state.State.{the_view}
-use Rattle.env_core.proofs.Scopes.{unknown-escape, refused-escape, accepted-escape, state-escaped-or-not}
+use Rattle.env_core.proofs.CoreScopes.{unknown-escape, refused-escape, accepted-escape, state-escaped-or-not}
 use Rattle.env_core.proofs.state.State.escape.Goals.{in-Ok, in-Err}
 use Rattle.env_core.proofs.state.State.escape.Goals as goal
 

@@ -1,9 +1,9 @@
 use Rattle.std.proofs.Common.{None}
-use Rattle.napi_reference.specs.Places.{map_of}
+use Rattle.napi_reference.specs.ReferencePlaces.{map_of}
 use Rattle.env_core.specs.contracts.state.State.{the_view}
 use Rattle.env_values.proofs.Giving.{thrown-heap}
 use Rattle.env_core.proofs.Attaching.{attachments-kept}
-use Rattle.env_core.proofs.Exceptions.{limit-thrown}
+use Rattle.env_core.proofs.CoreExceptions.{limit-thrown}
 use Rattle.env_core.proofs.ValueAnswers.{references-kept}
 use Rattle.env_core.proofs.state.State.exceed_depth.Goals as goal
 

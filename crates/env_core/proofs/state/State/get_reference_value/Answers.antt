@@ -2,10 +2,10 @@ use Rattle.std.proofs.Common.{option_map, refl, ap, sym, ◌∙◌}
 use Rattle.napi_types.specs.declared.call.Call.TheVariants as call
 use Rattle.napi_types.specs.declared.ids.ValueId.{ValueId}
 use Rattle.napi_types.specs.parts.Graph.{number_in}
-use Rattle.napi_reference.specs.Places.{map_of}
+use Rattle.napi_reference.specs.ReferencePlaces.{map_of}
 use Rattle.env_core.specs.contracts.state.State.{the_view}
 use Rattle.env_values.proofs.Giving.{given-heap}
-use Rattle.env_core.proofs.Exceptions.{state-issued}
+use Rattle.env_core.proofs.CoreExceptions.{state-issued}
 use Rattle.env_core.proofs.Referring.{refused-answers, gone-answers, told-answers, value-live}
 use Rattle.env_core.proofs.Unrefused.{on-err, reference-unrefused}
 use Rattle.env_core.proofs.state.State.get_reference_value.Goals as goal

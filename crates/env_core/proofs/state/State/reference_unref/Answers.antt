@@ -1,4 +1,4 @@
-use Rattle.napi_reference.specs.Places.{map_of}
+use Rattle.napi_reference.specs.ReferencePlaces.{map_of}
 use Rattle.env_core.specs.contracts.state.State.{the_view}
 use Rattle.env_core.proofs.Referring.{lowered-told, lowered-told-live, err-mapped}
 use Rattle.env_core.proofs.state.State.reference_unref.Goals as goal

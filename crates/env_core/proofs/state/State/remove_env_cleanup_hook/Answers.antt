@@ -1,6 +1,6 @@
 use Rattle.std.proofs.Common.{Some}
 use Rattle.napi_types.specs.environment.Registering.{registered_only}
-use Rattle.env_core.specs.Registering.{withdrawn_if}
+use Rattle.env_core.specs.RegisteringWants.{withdrawn_if}
 use Rattle.env_core.proofs.Registered.{book-dropped, longer-withdrawn, attached-longer}
 use Rattle.env_core.proofs.state.State.remove_env_cleanup_hook.Goals as goal
 

@@ -6,9 +6,9 @@ use Rattle.napi_types.specs.declared.ids.Ticket.{Ticket}
 use Rattle.napi_types.specs.plain.Replies.{plain}
 use Rattle.napi_types.specs.parts.Attachments.{Attachments, without_wrap}
 use Rattle.napi_types.specs.environment.Registering.{registered_only}
-use Rattle.napi_reference.specs.Places.{map_of}
+use Rattle.napi_reference.specs.ReferencePlaces.{map_of}
 use Rattle.wrap_tag.specs.Wraps.{WrapState}
-use Rattle.env_core.specs.Registering.{withdrawn_if}
+use Rattle.env_core.specs.RegisteringWants.{withdrawn_if}
 use Rattle.env_core.specs.State.{AnswersInTime}
 use Rattle.env_core.specs.contracts.state.State.{the_view}
 use Rattle.env_core.proofs.Attaching.{attaching, remove-unrefused, remove-refused, attached-without_wrap}

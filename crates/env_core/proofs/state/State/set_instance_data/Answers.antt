@@ -3,8 +3,8 @@ use Rattle.napi_types.specs.declared.ids.Ticket.{Ticket}
 use Rattle.napi_types.specs.parts.Book.{Book}
 use Rattle.napi_types.specs.environment.Environment.{Environment}
 use Rattle.napi_types.specs.environment.Registering.{registered_only}
-use Rattle.finalizer_queue.specs.Rows.{registration_of}
-use Rattle.env_core.specs.Registering.{withdrawn_if}
+use Rattle.finalizer_queue.specs.TicketRows.{registration_of}
+use Rattle.env_core.specs.RegisteringWants.{withdrawn_if}
 use Rattle.env_core.proofs.Registered.{book-asked, book-dropped, longer, length-withdrawn, attached-longer}
 use Rattle.env_core.proofs.state.State.set_instance_data.Goals.{After-register_if-arg-1}
 use Rattle.env_core.proofs.state.State.set_instance_data.Goals as goal

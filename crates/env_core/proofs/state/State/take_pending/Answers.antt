@@ -1,4 +1,4 @@
-use Rattle.env_core.proofs.Exceptions.{state-taken}
+use Rattle.env_core.proofs.CoreExceptions.{state-taken}
 use Rattle.env_core.proofs.state.State.take_pending.Goals as goal
 
 pub invariant_of-self-2 : goal.invariant_of-self-2

@@ -1,6 +1,6 @@
 use Rattle.env_core.specs.contracts.state.State.{the_view}
 use Rattle.env_values.proofs.HandleValues.{given-live}
-use Rattle.env_core.proofs.Exceptions.{unknown-throw, accepted-throw}
+use Rattle.env_core.proofs.CoreExceptions.{unknown-throw, accepted-throw}
 use Rattle.env_core.proofs.state.State.throw.Goals as goal
 
 pub returns-in_default : goal.returns-in_default

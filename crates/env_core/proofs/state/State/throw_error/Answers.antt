@@ -2,12 +2,12 @@ use Rattle.std.proofs.Common.{◌≡◌, true, subst, sym}
 use Rattle.napi_types.specs.declared.call.Call.TheVariants as call_of
 use Rattle.napi_types.specs.parts.NamedNumbers.{is_known}
 use Rattle.napi_types.specs.environment.Environment.{Environment}
-use Rattle.napi_reference.specs.Places.{map_of}
+use Rattle.napi_reference.specs.ReferencePlaces.{map_of}
 use Rattle.env_core.specs.contracts.state.State.{the_view}
-use Rattle.env_values.specs.Seen.{heap_of}
+use Rattle.env_values.specs.SeenValues.{heap_of}
 use Rattle.env_values.proofs.Giving.{thrown-heap}
 use Rattle.env_core.proofs.Attaching.{attachments-kept}
-use Rattle.env_core.proofs.Exceptions.{accepted-thrown}
+use Rattle.env_core.proofs.CoreExceptions.{accepted-thrown}
 use Rattle.env_core.proofs.Unrefused.{on-err, thrown-unrefused}
 use Rattle.env_core.proofs.ValueAnswers.{references-kept}
 use Rattle.env_core.proofs.state.State.throw_error.Goals as goal

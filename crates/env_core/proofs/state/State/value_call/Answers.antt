@@ -1,7 +1,7 @@
 use Rattle.std.proofs.Common.{◌∙◌}
-use Rattle.napi_reference.specs.Places.{map_of}
+use Rattle.napi_reference.specs.ReferencePlaces.{map_of}
 use Rattle.env_core.specs.contracts.state.State.{the_view}
-use Rattle.env_values.specs.Seen.{heap_of}
+use Rattle.env_values.specs.SeenValues.{heap_of}
 use Rattle.env_core.proofs.Attaching.{attached-kept, attachments-kept}
 use Rattle.env_core.proofs.ValueAnswers.{value-answers, value-frames, pending-live, pending-kept, referred-live, references-kept, stopped-same}
 use Rattle.env_core.proofs.Unrefused.{value-unrefused}

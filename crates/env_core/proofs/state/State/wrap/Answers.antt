@@ -1,9 +1,9 @@
 use Rattle.std.proofs.Common.{◌∙◌, ◌||◌, is_some, option_map, refl, sym, ap}
 use Rattle.napi_types.specs.parts.Attachments.{Wrapped, wrap_of, with_wrap}
 use Rattle.napi_types.specs.parts.Book.{Book}
-use Rattle.finalizer_queue.specs.Rows.{registration_of}
-use Rattle.napi_reference.specs.Places.{map_of}
-use Rattle.env_core.specs.Registering.{ticket_for, with_registration_if, duty_if}
+use Rattle.finalizer_queue.specs.TicketRows.{registration_of}
+use Rattle.napi_reference.specs.ReferencePlaces.{map_of}
+use Rattle.env_core.specs.RegisteringWants.{ticket_for, with_registration_if, duty_if}
 use Rattle.env_core.specs.contracts.state.State.{the_view}
 use Rattle.env_core.proofs.Attaching.{wrap-refused, wrap-unrefused, untold}
 use Rattle.env_core.proofs.Registered.{book-asked, refers-live, attached-wrapped, wrap-answers}

@@ -1,7 +1,7 @@
 use Rattle.std.proofs.Common.{◌≡◌, ◌∙◌, ap, is_some, sym}
 use Rattle.napi_types.specs.environment.Tickets.{next_ticket}
 use Rattle.env_teardown.specs.Hubs.{quiet_end}
-use Rattle.env_loop.specs.Runs.{Run}
+use Rattle.env_loop.specs.RecordedRuns.{Run}
 use Rattle.env_loop.specs.Turns.{turn_of}
 use Rattle.env_loop.proofs.HubTurns.{go-moves, loop_end-moves, torn-moves, moved-running}
 use Rattle.env_loop.proofs.run.EnvRun.hub_turn.Goals as goal

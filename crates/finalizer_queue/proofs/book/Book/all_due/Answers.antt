@@ -1,8 +1,8 @@
 use Rattle.std.proofs.Common.{◌≡◌, ◌∙◌, ◌+◌, length, sym, ap, arith}
 use Rattle.std.proofs.lemmas.List.{length-map}
 use Rattle.napi_types.specs.parts.Book.{made_due, moved_at}
-use Rattle.finalizer_queue.specs.Rows.{row_registration}
-use Rattle.finalizer_queue.proofs.Moves.{due_where-none, due_where-more, due_where-all, length-due_where}
+use Rattle.finalizer_queue.specs.TicketRows.{row_registration}
+use Rattle.finalizer_queue.proofs.RowMoves.{due_where-none, due_where-more, due_where-all, length-due_where}
 use Rattle.finalizer_queue.proofs.book.Book.all_due.Goals as goal
 use Rattle.finalizer_queue.proofs.book.Book.all_due.Goals.{After-len-place-end, After-loop-place}
 

@@ -3,10 +3,10 @@ use Rattle.std.proofs.lemmas.Bool.{or_parts}
 use Rattle.napi_types.specs.declared.duties.DueInfo.{DueInfo}
 use Rattle.napi_types.specs.parts.Book.{is_begun, is_at, made_ended, moved_at}
 use Rattle.napi_types.proofs.parts.Moves.{Ends, unowed-moved}
-use Rattle.finalizer_queue.specs.Kept.{ticket_number}
-use Rattle.finalizer_queue.specs.Rows.{state_of}
-use Rattle.finalizer_queue.proofs.Kept.{kept-spent, begun-unowed}
-use Rattle.finalizer_queue.proofs.Moves.{IsRow, book_of-moved, row-passes}
+use Rattle.finalizer_queue.specs.KeptBook.{ticket_number}
+use Rattle.finalizer_queue.specs.TicketRows.{row_state}
+use Rattle.finalizer_queue.proofs.KeptBook.{kept-spent, begun-unowed}
+use Rattle.finalizer_queue.proofs.RowMoves.{IsTicketRow, book_of-moved, row-passes}
 use Rattle.finalizer_queue.proofs.book.Book.done.Goals as goal
 use Rattle.finalizer_queue.proofs.book.Book.done.Goals.{After-index_mut}
 
@@ -14,7 +14,7 @@ use Rattle.finalizer_queue.proofs.book.Book.done.Goals.{After-index_mut}
 numbered : (c : After-index_mut) → ticket_number c.args.begun.duty ≡ c.in-Ticket.ticket.0
 numbered c = ap (λ (d : DueInfo). ticket_number d.duty) (sym c.end.ensures) ∙ ap ticket_number c.in-Ticket.is
 
-row : (c : After-index_mut) → IsRow c.self.inside.rows.items c.in-Ticket.ticket.0 c.index_mut.result.now × (is_begun (state_of c.index_mut.result.now.state) ≡ true)
+row : (c : After-index_mut) → IsTicketRow c.self.inside.rows.items c.in-Ticket.ticket.0 c.index_mut.result.now × (is_begun (row_state c.index_mut.result.now.state) ≡ true)
 row c = row-passes is_begun c.self.inside.rows.items _ c.in-Ticket.ticket.0 _ (ap (λ k. k.book) c.self.view_is) (ap (is_at is_begun c.args.self.now.book) (sym (numbered c)) ∙ c.requires) c.index_mut.ensures.value
 
 pub end-requires-2 : goal.end-requires-2

@@ -1,7 +1,7 @@
 use Rattle.std.proofs.Common.{◌∙◌, sym, ap, not}
 use Rattle.std.specs.Option.{is_some}
 use Rattle.napi_types.specs.parts.Book.{lowest_due}
-use Rattle.finalizer_queue.proofs.Kept.{filled-lowest}
+use Rattle.finalizer_queue.proofs.KeptBook.{filled-lowest}
 use Rattle.finalizer_queue.proofs.book.Book.has_due.Goals as goal
 
 pub returns : goal.returns

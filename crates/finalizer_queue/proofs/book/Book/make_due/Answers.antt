@@ -1,13 +1,13 @@
 use Rattle.std.proofs.Common.{◌≡◌, ◌∙◌, length, sym, ap, refl, arith}
 use Rattle.std.proofs.lemmas.List.{length-map}
 use Rattle.napi_types.specs.parts.Book.{made_due, moved_at}
-use Rattle.finalizer_queue.specs.Rows.{row_registration}
-use Rattle.finalizer_queue.proofs.Kept.{kept-due, kept-stays, room-free, never_refused}
-use Rattle.finalizer_queue.proofs.Moves.{IsRow, book_of-moved}
+use Rattle.finalizer_queue.specs.TicketRows.{row_registration}
+use Rattle.finalizer_queue.proofs.KeptBook.{kept-due, kept-stays, room-free, never_refused}
+use Rattle.finalizer_queue.proofs.RowMoves.{IsTicketRow, book_of-moved}
 use Rattle.finalizer_queue.proofs.book.Book.make_due.Goals as goal
 use Rattle.finalizer_queue.proofs.book.Book.make_due.Goals.{After-index_mut}
 
-row : (c : After-index_mut) → IsRow c.self.inside.rows.items c.args.ticket.0 c.index_mut.result.now
+row : (c : After-index_mut) → IsTicketRow c.self.inside.rows.items c.args.ticket.0 c.index_mut.result.now
 row c =
     let long : length c.self.inside.rows.items ≡ length c.args.self.now.book = sym (length-map c.self.inside.rows.items row_registration) ∙ ap (λ k. length k.book) c.self.view_is in
     record { here = c.index_mut.ensures.value; above = c.requires.0; within = omega (arith, long, c.requires.1) }

@@ -1,6 +1,6 @@
 use Rattle.std.proofs.Common.{◌≡◌, ◌∙◌, sym, ap, refl}
-use Rattle.finalizer_queue.specs.Rows.{spare_slips}
-use Rattle.finalizer_queue.proofs.Kept.{kept-registered}
+use Rattle.finalizer_queue.specs.TicketRows.{spare_slips}
+use Rattle.finalizer_queue.proofs.KeptBook.{kept-registered}
 use Rattle.finalizer_queue.proofs.book.Book.register.Goals as goal
 
 pub invariant_of-self-2 : goal.invariant_of-self-2

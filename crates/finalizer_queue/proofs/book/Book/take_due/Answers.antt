@@ -1,8 +1,8 @@
 use Rattle.std.proofs.Common.{◌≡◌, ◌∙◌, true, Some, refl, sym, ap, arith, heap_items}
 use Rattle.napi_types.specs.parts.Book.{is_due, is_at, made_begun, moved_at, registration_at, lowest_due}
-use Rattle.finalizer_queue.specs.Rows.{state_of, row_registration, book_of}
-use Rattle.finalizer_queue.proofs.Kept.{kept-taken, popped-due, popped-lowest, empty-lowest, due-waits, moved-begun, nil-length}
-use Rattle.finalizer_queue.proofs.Moves.{IsRow, book_of-moved, registration_at-row, is_at-within, row-passes}
+use Rattle.finalizer_queue.specs.TicketRows.{row_state, row_registration, book_of}
+use Rattle.finalizer_queue.proofs.KeptBook.{kept-taken, popped-due, popped-lowest, empty-lowest, due-waits, moved-begun, nil-length}
+use Rattle.finalizer_queue.proofs.RowMoves.{IsTicketRow, book_of-moved, registration_at-row, is_at-within, row-passes}
 use Rattle.finalizer_queue.proofs.book.Book.take_due.Goals as goal
 use Rattle.finalizer_queue.proofs.book.Book.take_due.Goals.{In_ok-number, After-index_mut}
 
@@ -10,7 +10,7 @@ use Rattle.finalizer_queue.proofs.book.Book.take_due.Goals.{In_ok-number, After-
 due : (c : In_ok-number) → is_at is_due (book_of c.self.inside.rows.items) c.in_ok-number.field-0.0 ≡ true
 due c = popped-due _ _ _ _ _ _ _ c.in_ok-number.field-0 c.self.invariant c.in_ok-number.ensures.permutation
 
-row : (c : After-index_mut) → IsRow c.self.inside.rows.items c.in_ok-number.field-0.0 c.index_mut.result.now × (is_due (state_of c.index_mut.result.now.state) ≡ true)
+row : (c : After-index_mut) → IsTicketRow c.self.inside.rows.items c.in_ok-number.field-0.0 c.index_mut.result.now × (is_due (row_state c.index_mut.result.now.state) ≡ true)
 row c = row-passes is_due c.self.inside.rows.items _ c.in_ok-number.field-0.0 _ refl (due (goal.at.begin-due-requires c).In_ok-number) c.index_mut.ensures.value
 
 pub overflow_sub-number : goal.overflow_sub-number

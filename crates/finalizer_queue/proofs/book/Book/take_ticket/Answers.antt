@@ -1,13 +1,13 @@
 use Rattle.std.proofs.Common.{◌≡◌, ◌∙◌, true, Some, sym, ap}
 use Rattle.napi_types.specs.parts.Book.{is_registered, registration_at, made_due_and_begun, moved_at}
 use Rattle.napi_types.proofs.parts.Books.{hook-leaves}
-use Rattle.finalizer_queue.specs.Rows.{state_of, row_registration}
-use Rattle.finalizer_queue.proofs.Kept.{kept-spent, registered-undue, registered-waits}
-use Rattle.finalizer_queue.proofs.Moves.{IsRow, book_of-moved, registration_at-row, row-passes}
+use Rattle.finalizer_queue.specs.TicketRows.{row_state, row_registration}
+use Rattle.finalizer_queue.proofs.KeptBook.{kept-spent, registered-undue, registered-waits}
+use Rattle.finalizer_queue.proofs.RowMoves.{IsTicketRow, book_of-moved, registration_at-row, row-passes}
 use Rattle.finalizer_queue.proofs.book.Book.take_ticket.Goals as goal
 use Rattle.finalizer_queue.proofs.book.Book.take_ticket.Goals.{After-index_mut}
 
-row : (c : After-index_mut) → IsRow c.self.inside.rows.items c.args.ticket.0 c.index_mut.result.now × (is_registered (state_of c.index_mut.result.now.state) ≡ true)
+row : (c : After-index_mut) → IsTicketRow c.self.inside.rows.items c.args.ticket.0 c.index_mut.result.now × (is_registered (row_state c.index_mut.result.now.state) ≡ true)
 row c = row-passes is_registered c.self.inside.rows.items _ c.args.ticket.0 _ (ap (λ k. k.book) c.self.view_is) c.requires c.index_mut.ensures.value
 
 pub begin-requires : goal.begin-requires

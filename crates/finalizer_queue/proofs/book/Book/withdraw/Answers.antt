@@ -1,8 +1,8 @@
 use Rattle.std.proofs.Common.{◌∙◌, ap}
 use Rattle.napi_types.specs.parts.Book.{is_registered, made_withdrawn, moved_at}
 use Rattle.napi_types.proofs.parts.Books.{withdrawn-leaves}
-use Rattle.finalizer_queue.proofs.Kept.{kept-spent, registered-undue}
-use Rattle.finalizer_queue.proofs.Moves.{book_of-moved, row-passes}
+use Rattle.finalizer_queue.proofs.KeptBook.{kept-spent, registered-undue}
+use Rattle.finalizer_queue.proofs.RowMoves.{book_of-moved, row-passes}
 use Rattle.finalizer_queue.proofs.book.Book.withdraw.Goals as goal
 
 pub withdraw-requires : goal.withdraw-requires

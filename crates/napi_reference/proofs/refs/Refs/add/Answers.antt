@@ -1,9 +1,9 @@
 use Rattle.std.proofs.Common.{◌∙◌, ◌+◌, refl, sym, ap, arith}
 use Rattle.napi_types.specs.declared.call.Call.TheVariants as call
-use Rattle.napi_reference.specs.Places.{map_of}
-use Rattle.napi_reference.proofs.Changes.{counted}
-use Rattle.napi_reference.proofs.Counting.{refused_unknown, add_of_gone, add_of_full, add_of_less}
-use Rattle.napi_reference.proofs.Numbers.{row-read, none-read, value-gone, value-there}
+use Rattle.napi_reference.specs.ReferencePlaces.{map_of}
+use Rattle.napi_reference.proofs.ReferenceChanges.{counted}
+use Rattle.napi_reference.proofs.CountingReferences.{refused_unknown, add_of_gone, add_of_full, add_of_less}
+use Rattle.napi_reference.proofs.ReferenceNumbers.{row-read, none-read, value-gone, value-there}
 use Rattle.napi_reference.proofs.refs.Refs.add.Goals as goal
 
 pub returns-in_err-row-clause-refusal : goal.returns-in_err-row-clause-refusal

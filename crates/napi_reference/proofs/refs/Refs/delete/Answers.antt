@@ -1,9 +1,9 @@
 use Rattle.std.proofs.Common.{◌∙◌, refl, sym, arith}
 use Rattle.napi_types.specs.declared.call.Call.TheVariants as call
-use Rattle.napi_reference.specs.Places.{map_of}
-use Rattle.napi_reference.proofs.Changes.{deleted}
-use Rattle.napi_reference.proofs.Counting.{refused_unknown, refused_known}
-use Rattle.napi_reference.proofs.Numbers.{row-read, none-read}
+use Rattle.napi_reference.specs.ReferencePlaces.{map_of}
+use Rattle.napi_reference.proofs.ReferenceChanges.{deleted}
+use Rattle.napi_reference.proofs.CountingReferences.{refused_unknown, refused_known}
+use Rattle.napi_reference.proofs.ReferenceNumbers.{row-read, none-read}
 use Rattle.napi_reference.proofs.refs.Refs.delete.Goals as goal
 
 pub returns-in_err-ok_or-clause-refusal : goal.returns-in_err-ok_or-clause-refusal

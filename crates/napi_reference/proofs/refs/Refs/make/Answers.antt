@@ -1,5 +1,5 @@
 use Rattle.std.proofs.Common.{◌≡◌, ◌+◌, length, ap, rules}
-use Rattle.napi_reference.proofs.Changes.{made, fresh}
+use Rattle.napi_reference.proofs.ReferenceChanges.{made, fresh}
 use Rattle.napi_reference.proofs.refs.Refs.make.Goals as goal
 
 pub returns-clause-fresh : goal.returns-clause-fresh

@@ -1,6 +1,6 @@
 use Rattle.std.proofs.Common.{◌≡◌, length, ap, rules, arith, subst}
-use Rattle.napi_reference.specs.Places.{ReferencePlaces, EachReferenceStandsOnce}
-use Rattle.napi_reference.proofs.Numbers.{length-references_from, stands-once}
+use Rattle.napi_reference.specs.ReferencePlaces.{ReferencePlaces, EachReferenceStandsOnce}
+use Rattle.napi_reference.proofs.ReferenceNumbers.{length-references_from, stands-once}
 use Rattle.napi_reference.proofs.refs.Refs.rows.Goals as goal
 
 pub returns-clause-places : goal.returns-clause-places

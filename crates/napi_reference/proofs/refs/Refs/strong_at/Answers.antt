@@ -1,8 +1,8 @@
 use Rattle.std.proofs.Common.{◌≡◌, ◌∙◌, ◌+◌, ◌<◌, None, length, option_map, slice_index_or, ap, sym, arith}
 use Rattle.std.proofs.lemmas.List.{get_or_read}
-use Rattle.napi_reference.specs.Places.{ReferencePlaces, strong_in}
-use Rattle.napi_reference.specs.Rows.{reference_of}
-use Rattle.napi_reference.proofs.Numbers.{length-references_from}
+use Rattle.napi_reference.specs.ReferencePlaces.{ReferencePlaces, strong_in}
+use Rattle.napi_reference.specs.ReferenceRows.{reference_of}
+use Rattle.napi_reference.proofs.ReferenceNumbers.{length-references_from}
 use Rattle.napi_reference.proofs.Strong.{references_from-at}
 use Rattle.napi_reference.proofs.refs.Refs.strong_at.Goals as goal
 

@@ -1,9 +1,9 @@
 use Rattle.std.proofs.Common.{◌∙◌, ◌-◌, refl, sym, ap, arith}
 use Rattle.napi_types.specs.declared.call.Call.TheVariants as call
-use Rattle.napi_reference.specs.Places.{map_of}
-use Rattle.napi_reference.proofs.Changes.{counted}
-use Rattle.napi_reference.proofs.Counting.{refused_unknown, take_of_none, take_of_some}
-use Rattle.napi_reference.proofs.Numbers.{row-read, none-read}
+use Rattle.napi_reference.specs.ReferencePlaces.{map_of}
+use Rattle.napi_reference.proofs.ReferenceChanges.{counted}
+use Rattle.napi_reference.proofs.CountingReferences.{refused_unknown, take_of_none, take_of_some}
+use Rattle.napi_reference.proofs.ReferenceNumbers.{row-read, none-read}
 use Rattle.napi_reference.proofs.refs.Refs.take.Goals as goal
 
 pub returns-in_err-row-clause-refusal : goal.returns-in_err-row-clause-refusal

@@ -1,6 +1,6 @@
 use Rattle.std.proofs.Common.{sym}
 use Rattle.std.proofs.lemmas.List.FromFn.{length-map-range_with_len}
-use Rattle.value_store.specs.Properties.{element_of}
+use Rattle.value_store.specs.PropertyMaps.{element_of}
 use Rattle.value_store.proofs.elements.Elements.count.Goals as goal
 
 pub returns : goal.returns

@@ -1,5 +1,5 @@
 use Rattle.std.proofs.Common.{◌≡◌, length, ap, arith}
-use Rattle.value_store.specs.Properties.{ListedParts, listed_properties}
+use Rattle.value_store.specs.PropertyMaps.{ListedParts, listed_properties}
 use Rattle.value_store.proofs.ElementMaps.{children-parts}
 use Rattle.value_store.proofs.parts.Parts.children.Goals as goal
 

@@ -1,6 +1,6 @@
 use Rattle.std.proofs.Common.{◌∙◌, sym, ap, option_map}
 use Rattle.napi_types.specs.declared.ids.ValueId.{ValueId}
-use Rattle.value_store.proofs.Properties.{property_at-listed_properties}
+use Rattle.value_store.proofs.PropertyMaps.{property_at-listed_properties}
 use Rattle.value_store.proofs.parts.Parts.get_prop.Goals as goal
 
 pub returns : goal.returns

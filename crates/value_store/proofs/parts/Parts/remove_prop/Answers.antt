@@ -1,5 +1,5 @@
 use Rattle.std.proofs.Common.{◌∙◌, ap, is_some, refl}
-use Rattle.value_store.proofs.Properties.{property_at-listed_properties, listed_properties-remove_entry, is_some-option_map}
+use Rattle.value_store.proofs.PropertyMaps.{property_at-listed_properties, listed_properties-remove_entry, is_some-option_map}
 use Rattle.value_store.proofs.parts.Parts.remove_prop.Goals as goal
 
 pub returns-clause-removed : goal.returns-clause-removed

@@ -1,5 +1,5 @@
 use Rattle.std.proofs.Common.{refl}
-use Rattle.value_store.proofs.Properties.{listed_properties-insert_entry}
+use Rattle.value_store.proofs.PropertyMaps.{listed_properties-insert_entry}
 use Rattle.value_store.proofs.parts.Parts.set_prop.Goals as goal
 
 pub returns-clause-set : goal.returns-clause-set

@@ -1,6 +1,6 @@
 use Rattle.std.proofs.Common.{sym}
-use Rattle.value_store.specs.Places.{values_of}
-use Rattle.value_store.proofs.Reading.{standing-live}
+use Rattle.value_store.specs.ValuePlaces.{values_of}
+use Rattle.value_store.proofs.ReadingPlaces.{standing-live}
 use Rattle.value_store.proofs.store.Store.at_place.Goals as goal
 
 pub returns-clause-live : goal.returns-clause-live

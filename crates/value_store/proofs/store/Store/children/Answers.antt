@@ -1,5 +1,5 @@
 use Rattle.std.proofs.Common.{sym}
-use Rattle.value_store.proofs.Reading.{children-live}
+use Rattle.value_store.proofs.ReadingPlaces.{children-live}
 use Rattle.value_store.proofs.store.Store.children.Goals as goal
 
 pub returns-in-Some-clause-live : goal.returns-in-Some-clause-live

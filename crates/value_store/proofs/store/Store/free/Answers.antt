@@ -1,9 +1,9 @@
 use Rattle.std.proofs.Common.{sym, subst}
 use Rattle.napi_types.specs.parts.Graph.{StoreState}
-use Rattle.value_store.specs.Changes.{CanFree, Frees, numbers_of}
-use Rattle.value_store.specs.Places.{values_of, state_of}
-use Rattle.value_store.proofs.Reading.{live-there}
-use Rattle.value_store.proofs.Calls.{cleared-numbered, frees}
+use Rattle.value_store.specs.StoreChanges.{CanFree, Frees, numbers_of}
+use Rattle.value_store.specs.ValuePlaces.{values_of, state_of}
+use Rattle.value_store.proofs.ReadingPlaces.{live-there}
+use Rattle.value_store.proofs.StoreCalls.{cleared-numbered, frees}
 use Rattle.value_store.proofs.GraphCalls.{freed-graph}
 use Rattle.value_store.proofs.store.Store.free.Goals as goal
 

@@ -1,6 +1,6 @@
 use Rattle.std.proofs.Common.{◌∙◌, sym}
-use Rattle.value_store.specs.Places.{values_of}
-use Rattle.value_store.proofs.Reading.{value_of-view, sound-view}
+use Rattle.value_store.specs.ValuePlaces.{values_of}
+use Rattle.value_store.proofs.ReadingPlaces.{value_of-view, sound-view}
 use Rattle.value_store.proofs.GraphCalls.{value-graph}
 use Rattle.value_store.proofs.store.Store.get.Goals as goal
 

@@ -1,5 +1,5 @@
 use Rattle.std.proofs.Common.{sym}
-use Rattle.value_store.proofs.Reading.{element-live}
+use Rattle.value_store.proofs.ReadingPlaces.{element-live}
 use Rattle.value_store.proofs.store.Store.get_element.Goals as goal
 
 pub returns-clause-live : goal.returns-clause-live

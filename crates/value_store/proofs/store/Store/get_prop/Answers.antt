@@ -1,5 +1,5 @@
 use Rattle.std.proofs.Common.{sym}
-use Rattle.value_store.proofs.Reading.{property-live}
+use Rattle.value_store.proofs.ReadingPlaces.{property-live}
 use Rattle.value_store.proofs.store.Store.get_prop.Goals as goal
 
 pub returns-clause-live : goal.returns-clause-live

@@ -1,8 +1,8 @@
 use Rattle.std.proofs.Common.{rules, ◌≡◌, length}
-use Rattle.value_store.specs.Places.{values_of}
-use Rattle.value_store.proofs.Calls.{made-numbered, makes}
+use Rattle.value_store.specs.ValuePlaces.{values_of}
+use Rattle.value_store.proofs.StoreCalls.{made-numbered, makes}
 use Rattle.value_store.proofs.GraphCalls.{made-graph}
-use Rattle.value_store.proofs.Reading.{sound-view}
+use Rattle.value_store.proofs.ReadingPlaces.{sound-view}
 use Rattle.value_store.proofs.store.Store.make.Goals as goal
 
 pub invariant_of-self-2 : goal.invariant_of-self-2

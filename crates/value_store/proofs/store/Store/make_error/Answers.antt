@@ -1,7 +1,7 @@
 use Rattle.std.proofs.Common.{rules, ◌≡◌, ◌+◌, ◌++◌, ◌∷◌, [], ◌∙◌, ap, length}
-use Rattle.value_store.specs.Places.{values_of}
+use Rattle.value_store.specs.ValuePlaces.{values_of}
 use Rattle.value_store.proofs.Errors.{errors-numbered, errors-made, errors-graph}
-use Rattle.value_store.proofs.Reading.{sound-view}
+use Rattle.value_store.proofs.ReadingPlaces.{sound-view}
 use Rattle.value_store.proofs.store.Store.make_error.Goals as goal
 
 pub invariant_of-self-2 : goal.invariant_of-self-2

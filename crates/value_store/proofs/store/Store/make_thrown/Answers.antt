@@ -1,7 +1,7 @@
 use Rattle.std.proofs.Common.{rules, ◌≡◌, length}
-use Rattle.value_store.specs.Places.{values_of}
+use Rattle.value_store.specs.ValuePlaces.{values_of}
 use Rattle.value_store.proofs.Thrown.{thrown-makes, thrown-graph, thrown-numbered}
-use Rattle.value_store.proofs.Reading.{sound-view}
+use Rattle.value_store.proofs.ReadingPlaces.{sound-view}
 use Rattle.value_store.proofs.store.Store.make_thrown.Goals as goal
 
 pub invariant_of-self-2 : goal.invariant_of-self-2

@@ -1,6 +1,6 @@
 use Rattle.std.proofs.Common.{List, Option, subst, sym}
 use Rattle.napi_types.specs.parts.Values.{Value}
-use Rattle.value_store.specs.Places.{at_number, IsNumbered}
+use Rattle.value_store.specs.ValuePlaces.{at_number, IsNumbered}
 use Rattle.value_store.proofs.Starting.{starting-numbered}
 use Rattle.value_store.proofs.store.Store.new.Goals as goal
 

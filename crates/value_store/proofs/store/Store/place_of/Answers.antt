@@ -1,6 +1,6 @@
-use Rattle.value_store.specs.Places.{values_of}
+use Rattle.value_store.specs.ValuePlaces.{values_of}
 use Rattle.value_store.proofs.Lookup.{number-within}
-use Rattle.value_store.proofs.Reading.{live-there, stands-at}
+use Rattle.value_store.proofs.ReadingPlaces.{live-there, stands-at}
 use Rattle.value_store.proofs.store.Store.place_of.Goals as goal
 
 pub place_at-requires : goal.place_at-requires

@@ -1,5 +1,5 @@
-use Rattle.value_store.specs.Places.{values_of}
-use Rattle.value_store.proofs.Reading.{stands-once, sound-view}
+use Rattle.value_store.specs.ValuePlaces.{values_of}
+use Rattle.value_store.proofs.ReadingPlaces.{stands-once, sound-view}
 use Rattle.value_store.proofs.store.Store.places.Goals as goal
 
 pub returns-clause-once : goal.returns-clause-once

@@ -2,10 +2,10 @@ use Rattle.std.proofs.Common.{◌∙◌, not, is_some, sym, ap, arith}
 use Rattle.napi_types.specs.parts.Graph.{value_of}
 use Rattle.napi_types.specs.parts.Properties.{property_at}
 use Rattle.napi_types.specs.parts.Values.{without_property}
-use Rattle.value_store.specs.Places.{values_of}
+use Rattle.value_store.specs.ValuePlaces.{values_of}
 use Rattle.value_store.proofs.GraphCalls.{none-graph}
-use Rattle.value_store.proofs.Reading.{none-is}
-use Rattle.value_store.proofs.Setting.{live-within, removed-numbered, removed-only, removed-graph, properties-read}
+use Rattle.value_store.proofs.ReadingPlaces.{none-is}
+use Rattle.value_store.proofs.SettingPlaces.{live-within, removed-numbered, removed-only, removed-graph, properties-read}
 use Rattle.value_store.proofs.store.Store.remove_prop.Goals as goal
 
 pub returns-then-is_none-clause-graph : goal.returns-then-is_none-clause-graph

@@ -1,6 +1,6 @@
 use Rattle.std.proofs.Common.{arith}
 use Rattle.napi_types.specs.parts.Values.{with_element}
-use Rattle.value_store.proofs.Setting.{live-within, set-numbered, set-only, good-index-to, element-set}
+use Rattle.value_store.proofs.SettingPlaces.{live-within, set-numbered, set-only, good-index-to, element-set}
 use Rattle.value_store.proofs.store.Store.set_element.Goals as goal
 
 pub place_at-requires : goal.place_at-requires

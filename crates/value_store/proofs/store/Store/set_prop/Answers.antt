@@ -1,7 +1,7 @@
 use Rattle.std.proofs.Common.{arith}
 use Rattle.napi_types.specs.parts.Values.{with_property}
-use Rattle.value_store.proofs.Reading.{object-live}
-use Rattle.value_store.proofs.Setting.{live-within, set-numbered, set-only, good-name-to, property-set}
+use Rattle.value_store.proofs.ReadingPlaces.{object-live}
+use Rattle.value_store.proofs.SettingPlaces.{live-within, set-numbered, set-only, good-name-to, property-set}
 use Rattle.value_store.proofs.store.Store.set_prop.Goals as goal
 
 pub place_at-requires : goal.place_at-requires

@@ -1,5 +1,5 @@
-use Rattle.value_store.specs.Places.{values_of}
-use Rattle.value_store.proofs.Reading.{is-starting}
+use Rattle.value_store.specs.ValuePlaces.{values_of}
+use Rattle.value_store.proofs.ReadingPlaces.{is-starting}
 use Rattle.value_store.proofs.store.Store.starting.Goals as goal
 
 pub returns : goal.returns

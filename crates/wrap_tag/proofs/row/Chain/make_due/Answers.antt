@@ -1,7 +1,7 @@
 use Rattle.std.proofs.Common.{◌≡◌, ◌∙◌, ◌∷◌, sym, ap, arith}
 use Rattle.napi_types.specs.plain.Lists.{has_number}
 use Rattle.napi_types.specs.parts.Book.{due_where}
-use Rattle.wrap_tag.specs.Rows.{tickets_of_chain}
+use Rattle.wrap_tag.specs.ValueRows.{tickets_of_chain}
 use Rattle.wrap_tag.proofs.Dues.{due_where-none, due_where-next, given-next}
 use Rattle.wrap_tag.proofs.row.Chain.make_due.Goals as goal
 

@@ -1,7 +1,7 @@
 use Rattle.std.proofs.Common.{◌∙◌, ap}
 use Rattle.napi_types.specs.plain.Lists.{has}
 use Rattle.napi_types.specs.parts.Attachments.{with_attached}
-use Rattle.wrap_tag.proofs.Attaching.{attached-rows}
+use Rattle.wrap_tag.proofs.AttachingRows.{attached-rows}
 use Rattle.wrap_tag.proofs.wraps.Wraps.attach.Goals as goal
 
 pub invariant_of-self : goal.invariant_of-self

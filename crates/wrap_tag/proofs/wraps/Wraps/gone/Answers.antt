@@ -1,9 +1,9 @@
 use Rattle.std.proofs.Common.{◌≡◌, ◌∙◌, ℕ, ◌==◌, sym, ap, refl}
 use Rattle.napi_types.specs.plain.Lists.{has_number}
 use Rattle.napi_types.specs.parts.Attachments.{tickets_of, left_on}
-use Rattle.wrap_tag.specs.Rows.{tickets_of_row}
-use Rattle.wrap_tag.proofs.Attaching.{maps-left}
-use Rattle.wrap_tag.proofs.Freeing.{has-tickets_of}
+use Rattle.wrap_tag.specs.ValueRows.{tickets_of_row}
+use Rattle.wrap_tag.proofs.AttachingRows.{maps-left}
+use Rattle.wrap_tag.proofs.FreeingRows.{has-tickets_of}
 use Rattle.wrap_tag.proofs.Dues.{due_where-same, given-among}
 use Rattle.wrap_tag.proofs.wraps.Wraps.gone.Goals as goal
 

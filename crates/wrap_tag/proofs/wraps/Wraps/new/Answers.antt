@@ -1,6 +1,6 @@
 use Rattle.std.proofs.Common.{◌∙◌, ap}
-use Rattle.wrap_tag.specs.Rows.{attachments_of}
-use Rattle.wrap_tag.proofs.Attaching.{attachments_of-none}
+use Rattle.wrap_tag.specs.ValueRows.{attachments_of}
+use Rattle.wrap_tag.proofs.AttachingRows.{attachments_of-none}
 use Rattle.wrap_tag.proofs.wraps.Wraps.new.Goals as goal
 
 pub returns : goal.returns

@@ -1,6 +1,6 @@
 use Rattle.std.proofs.Common.{◌≡◌, ◌∙◌, ap}
-use Rattle.wrap_tag.specs.Rows.{attachments_of}
-use Rattle.wrap_tag.proofs.Attaching.{reordered-maps}
+use Rattle.wrap_tag.specs.ValueRows.{attachments_of}
+use Rattle.wrap_tag.proofs.AttachingRows.{reordered-maps}
 use Rattle.wrap_tag.proofs.wraps.Wraps.reserve.Goals.{in-Some-1, in-None-1}
 use Rattle.wrap_tag.proofs.wraps.Wraps.reserve.Goals as goal
 

@@ -1,6 +1,6 @@
 use Rattle.std.proofs.Common.{◌∙◌, ap}
 use Rattle.napi_types.specs.parts.Attachments.{with_tag}
-use Rattle.wrap_tag.proofs.Attaching.{tagged-rows}
+use Rattle.wrap_tag.proofs.AttachingRows.{tagged-rows}
 use Rattle.wrap_tag.proofs.wraps.Wraps.tag.Goals as goal
 
 pub invariant_of-self : goal.invariant_of-self

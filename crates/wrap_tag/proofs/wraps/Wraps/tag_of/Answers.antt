@@ -1,5 +1,5 @@
 use Rattle.std.proofs.Common.{◌∙◌, None, Some, ℕ, option_map, sym, ap}
-use Rattle.wrap_tag.proofs.Attaching.{tag_of-part}
+use Rattle.wrap_tag.proofs.AttachingRows.{tag_of-part}
 use Rattle.wrap_tag.proofs.wraps.Wraps.tag_of.Goals as goal
 
 pub returns-in_err-tag : goal.returns-in_err-tag

@@ -1,7 +1,7 @@
 use Rattle.std.proofs.Common.{◌∙◌, None, Some, option_map, min, sym, ap}
 use Rattle.std.specs.Option.{option_and_then, option_len}
 use Rattle.napi_types.specs.parts.Attachments.{without_wrap}
-use Rattle.wrap_tag.proofs.Attaching.{wrap_of-part, unwrapped-are, unwrapped-maps, unwrapped-none, same-state}
+use Rattle.wrap_tag.proofs.AttachingRows.{wrap_of-part, unwrapped-are, unwrapped-maps, unwrapped-none, same-state}
 use Rattle.wrap_tag.proofs.wraps.Wraps.unwrap_out.Goals as goal
 
 pub invariant_of-self : goal.invariant_of-self

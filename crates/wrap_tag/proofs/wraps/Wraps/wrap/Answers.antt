@@ -1,6 +1,6 @@
 use Rattle.std.proofs.Common.{◌∙◌, option_map, ap}
 use Rattle.napi_types.specs.parts.Attachments.{with_wrap}
-use Rattle.wrap_tag.proofs.Attaching.{wrapped-rows}
+use Rattle.wrap_tag.proofs.AttachingRows.{wrapped-rows}
 use Rattle.wrap_tag.proofs.wraps.Wraps.wrap.Goals as goal
 
 pub invariant_of-self : goal.invariant_of-self

@@ -1,5 +1,5 @@
 use Rattle.std.proofs.Common.{◌∙◌, None, Some, option_map, sym, ap}
-use Rattle.wrap_tag.proofs.Attaching.{wrap_of-part}
+use Rattle.wrap_tag.proofs.AttachingRows.{wrap_of-part}
 use Rattle.wrap_tag.proofs.wraps.Wraps.wrapped.Goals as goal
 
 pub returns-in_err-wrap : goal.returns-in_err-wrap

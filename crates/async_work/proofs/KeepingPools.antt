@@ -1,0 +1,595 @@
+-- Places, line and what came out go on standing for a pool.
+use Rattle.std.proofs.Common.{◌≡◌, ◌∙◌, ℕ, zero, suc, ◌+◌, ◌-◌, ◌<◌, ◌≤◌, ◌==◌, Bool, true, false, not, cond, List, [], ◌∷◌, ◌++◌, length, filter, set, get_or, Option, Some, None, IfSome, is_some, option_map, ◌⊎◌, refl, ap, sym, subst, arith, length-append, inl, inr}
+use Rattle.std.specs.List.{count_by}
+use Rattle.std.specs.Option.{option_map_or}
+use Rattle.std.proofs.lemmas.Bool.{cases_lt}
+use Rattle.std.proofs.lemmas.List.Sums.{sum_by-cons, sum_by-append, sum_by-set}
+use Rattle.std.proofs.lemmas.List.Elements.{All-nil}
+use Rattle.std.proofs.lemmas.Option.{get_or_from_slice_get}
+use Rattle.napi_types.specs.declared.call.JobSpec.{JobSpec}
+use Rattle.napi_types.specs.plain.Lists.{found, has_number, with_record, one, head, tail}
+use Rattle.napi_types.proofs.plain.Found.{IsRising, same-self, same-tells, apart-above}
+use Rattle.napi_types.proofs.plain.Maps.{filter_all}
+use Rattle.napi_types.specs.plain.Counted.{element}
+use Rattle.async_work.specs.declared.line.Numbered.{Numbered}
+use Rattle.async_work.specs.WorkPlaces.{Placed, place_at, is_held, with_place_number}
+use Rattle.async_work.specs.Line.{LineStage, Waits, Runs, Ended, Done, InLine, CameOut, entry_seen, line_seen, waiting_job, runner, has_ended, is_done_in_line, with_stage, line_work_at, line_stage_at, waits, runner_at, ended_at, waiting_works, executions}
+use Rattle.async_work.specs.KeptPool.{StandsInLine, spec_at, KeepsJob, IsLine, CameOutOnce, IsKeptPool}
+use Rattle.napi_types.proofs.plain.Counted.{element-within}
+use Rattle.async_work.proofs.Ids.{Replaced, replaced, element-place}
+use Rattle.async_work.proofs.Queueing.{Restaged, restaged, stage-restaged, stage-push, stage-past, waiting-same, waiting-less, waiting-more, waiting-none, waiting-first, has-waiting, length-less, read-at, bounds-at}
+use Rattle.async_work.proofs.PoolExecutions.{AreApart, apart-less, apart-started, executions-same, executions-started, executions-finished, length-finished, idle-worker}
+use Rattle.async_work.proofs.Linking.{linked-created, linked-deleted, linked-queued, linked-restaged, out-created, out-deleted, out-queued, out-started, out-ended, out-completed, spec-stands, first-ended}
+
+-- STAGES
+pub record OnlyWaits (s : LineStage) : Type 0 where
+  pub idle : runner s ≡ None
+  pub lives : has_ended s ≡ false
+  pub unfinished : is_done_in_line s ≡ false
+
+pub only-waits : (s : LineStage) (job : JobSpec) → waiting_job s ≡ Some job → OnlyWaits s
+only-waits (Waits spec) job is = record { idle = refl; lives = refl; unfinished = refl }
+only-waits (Runs w) job is = let no : ⊥ = cc in absurd no
+only-waits Ended job is = let no : ⊥ = cc in absurd no
+only-waits Done job is = let no : ⊥ = cc in absurd no
+
+pub record OnlyRuns (s : LineStage) : Type 0 where
+  pub started : waiting_job s ≡ None
+  pub lives : has_ended s ≡ false
+  pub unfinished : is_done_in_line s ≡ false
+
+pub only-runs : (s : LineStage) (w : ℕ) → runner s ≡ Some w → OnlyRuns s
+only-runs (Waits spec) w is = let no : ⊥ = cc in absurd no
+only-runs (Runs v) w is = record { started = refl; lives = refl; unfinished = refl }
+only-runs Ended w is = let no : ⊥ = cc in absurd no
+only-runs Done w is = let no : ⊥ = cc in absurd no
+
+pub record OnlyEnded (s : LineStage) : Type 0 where
+  pub started : waiting_job s ≡ None
+  pub idle : runner s ≡ None
+  pub unfinished : is_done_in_line s ≡ false
+
+pub only-ended : (s : LineStage) → has_ended s ≡ true → OnlyEnded s
+only-ended (Waits spec) is = let no : ⊥ = cc in absurd no
+only-ended (Runs v) is = let no : ⊥ = cc in absurd no
+only-ended Ended is = record { started = refl; idle = refl; unfinished = refl }
+only-ended Done is = let no : ⊥ = cc in absurd no
+
+-- a work of which something is known stands in line
+pub entry-live : (line : List InLine) (n : ℕ) → is_done_in_line (line_stage_at line n) ≡ false → (e : InLine) × (line_work_at line n ≡ Some e)
+entry-live line n unfinished = by (line_work_at line n) refl unfinished
+  where
+    by : (o : Option InLine) → line_work_at line n ≡ o → is_done_in_line (option_map_or (λ (e : InLine). e.stage) o Done) ≡ false
+        → (e : InLine) × (line_work_at line n ≡ Some e)
+    by None at told = let no : ⊥ = cc in absurd no
+    by (Some e) at told = (e, at)
+
+-- one more that waits runs no more than those before
+pub runner-queued : (line : List InLine) (e : InLine) (job : JobSpec) → waiting_job e.stage ≡ Some job → (m : ℕ)
+    → runner_at (line ++ e ∷ []) m ≡ runner_at line m
+runner-queued line e job waits_for m = stage-push runner line e m ∙ by (length line + 1 == m) refl
+  where
+    by : (b : Bool) → (length line + 1 == m) ≡ b → cond b (runner e.stage) (runner_at line m) ≡ runner_at line m
+    by true same = let at : length line + 1 ≡ m = same-tells (length line + 1) m same in (only-waits e.stage job waits_for).idle
+        ∙ sym (stage-past runner line m (omega (arith, at)))
+    by false same = refl
+
+-- HOW MANY PLACES HOLD A JOB
+held-replaced : (places : List (Option Placed)) (id : ℕ) (p : Placed) (place : Option Placed) → place_at places id ≡ Some p
+    → count_by is_held (set places (id - 1) place) + cond (is_some p.job) 1 0 ≡ count_by is_held places + cond (is_held place) 1 0
+held-replaced places id p place is = by id refl is
+  where
+    by : (n : ℕ) → n ≡ id → place_at places n ≡ Some p → count_by is_held (set places (n - 1) place) + cond
+        (is_some p.job) 1 0 ≡ count_by is_held places + cond (is_held place) 1 0
+    by zero same at = let no : ⊥ = cc in absurd no
+    by (suc k) same at =
+        let there : element places (suc k) ≡ Some (Some p) = element-place places (suc k) p at in
+        let within = element-within places (suc k) (Some p) there in
+        let read : get_or places k None ≡ Some p = get_or_from_slice_get places k (Some p) None there in
+        let place_is : suc k - 1 ≡ k = omega arith in
+        ap (λ i. count_by is_held (set places i place) + cond (is_some p.job) 1 0) place_is
+        ∙ ap (λ q. count_by is_held (set places k place) + cond (is_held q) 1 0) (sym read)
+        ∙ sum_by-set (λ q. cond (is_held q) 1 0) places k place None (omega (arith, within.1))
+
+counts_one : (o : Option JobSpec) (job : JobSpec) → o ≡ Some job → cond {A = ℕ} (is_some o) 1 0 ≡ 1
+counts_one None job is = let no : ⊥ = cc in absurd no
+counts_one (Some t) job is = refl
+
+-- one that holds a job is one at least
+held-some : (places : List (Option Placed)) (id : ℕ) (p : Placed) (job : JobSpec) → place_at places id ≡ Some p → p.job ≡ Some job → 1 ≤ count_by is_held places
+held-some places id p job is holds =
+    let less = held-replaced places id p None is in
+    let counts = counts_one p.job job holds in
+    omega (arith, less, counts)
+
+-- ROOM
+module _ (places : List (Option Placed)) (line : List InLine) (finished : List CameOut) (first queued running : ℕ) (closing : Bool)
+    (line_places finished_places : ℕ)
+    (kept : IsKeptPool places line finished first queued running closing line_places finished_places) where
+  pub room-to-queue : (id : ℕ) (p : Placed) → place_at places id ≡ Some p → p.number ≡ None → length line < line_places
+  room-to-queue id p is none =
+      let held = held-some places id p p.spec is (kept.linked.held id p is none) in
+      omega (arith, held, kept.room.to_queue, kept.room.line_room)
+
+  pub queued-some : (n : ℕ) → waits line n ≡ true → 1 ≤ queued
+  queued-some n is = let less = length-less line n is in omega (arith, less, kept.room.queued_are)
+
+  pub room-to-cancel : (n : ℕ) → waits line n ≡ true → length finished < finished_places
+  room-to-cancel n is =
+      let some = queued-some n is in
+      omega (arith, some, kept.room.to_finish, kept.room.to_queue, kept.room.finished_room)
+
+  pub running-some : (n w : ℕ) → runner_at line n ≡ Some w → 1 ≤ running
+  running-some n w is =
+      let live = entry-live line n (only-runs (line_stage_at line n) w is).unfinished in
+      let change = restaged line n live.0 Done live.1 in
+      let less = length-finished line (set line (n - 1) (with_stage Done live.0)) n w kept.in_line.apart is (stage-restaged line (set line (n - 1)
+      (with_stage Done live.0)) n live.0 Done change runner) in
+      omega (arith, less, kept.room.running_are)
+
+  pub room-to-finish : (n w : ℕ) → runner_at line n ≡ Some w → length finished < finished_places
+  room-to-finish n w is =
+      let some = running-some n w is in
+      omega (arith, some, kept.room.to_finish, kept.room.to_queue, kept.room.finished_room)
+
+  -- MEMORY WAS TAKEN
+  pub kept-more : (more_line more_finished : ℕ) → line_places ≤ more_line → finished_places ≤ more_finished
+      → IsKeptPool places line finished first queued running closing more_line more_finished
+  kept-more more_line more_finished a b = record {
+    linked = kept.linked;
+    in_line = kept.in_line;
+    came_out = kept.came_out;
+    room = record {
+      queued_are = kept.room.queued_are;
+      running_are = kept.room.running_are;
+      to_queue = kept.room.to_queue;
+      to_finish = kept.room.to_finish;
+      line_room = omega (arith, kept.room.line_room, a);
+      finished_room = omega (arith, kept.room.finished_room, b);
+    };
+    shut = kept.shut;
+  }
+
+  -- A WORK IS CREATED
+  pub kept-created : (others : List (Option Placed)) (p : Placed) (more_line more_finished : ℕ) → others ≡ places ++ Some p ∷ [] → p.number ≡ None
+      → p.job ≡ Some p.spec
+      → length places + 1 ≤ more_line → length places + 1 ≤ more_finished → IsKeptPool others line finished first queued running closing more_line more_finished
+  kept-created others p more_line more_finished is none held a b = rw is (record {
+    linked = linked-created places line p kept.linked none held;
+    in_line = kept.in_line;
+    came_out = out-created places line finished (Some p) kept.came_out;
+    room = record {
+      queued_are = kept.room.queued_are;
+      running_are = kept.room.running_are;
+      to_queue = omega (arith, kept.room.to_queue, longer, counted);
+      to_finish = kept.room.to_finish;
+      line_room = omega (arith, longer, a);
+      finished_room = omega (arith, longer, b);
+    };
+    shut = kept.shut;
+  })
+    where
+      longer : length (places ++ Some p ∷ []) ≡ length places + 1
+      longer = length-append places (Some p ∷ [])
+
+      counted : count_by is_held (places ++ Some p ∷ []) ≡ count_by is_held places + 1
+      counted =
+          sum_by-append (λ q. cond (is_held q) 1 0) places (Some p ∷ [])
+          ∙ ap (λ k. count_by is_held places + k) (sum_by-cons (λ q. cond (is_held q) 1 0) (Some p) [] ∙ ap (λ o. cond (is_some o) 1 0 + 0) held)
+
+  -- A WORK IS DELETED
+  pub kept-deleted : (others : List (Option Placed)) (id : ℕ) (p : Placed) → others ≡ set places (id - 1) None → place_at places id ≡ Some p → ((n : ℕ)
+      → p.number ≡ Some n → is_done_in_line (line_stage_at line n) ≡ true)
+      → IsKeptPool others line finished first queued running closing line_places finished_places
+  kept-deleted others id p same is done = rw same (record {
+    linked = linked-deleted places (set places (id - 1) None) line id p kept.linked is change done;
+    in_line = kept.in_line;
+    came_out = out-deleted places (set places (id - 1) None) line finished id p kept.linked kept.came_out is change done;
+    room = record {
+      queued_are = kept.room.queued_are;
+      running_are = kept.room.running_are;
+      to_queue = omega (arith, kept.room.to_queue, change.long, counted);
+      to_finish = kept.room.to_finish;
+      line_room = omega (arith, change.long, kept.room.line_room);
+      finished_room = omega (arith, change.long, kept.room.finished_room);
+    };
+    shut = kept.shut;
+  })
+    where
+      change : Replaced places (set places (id - 1) None) id None
+      change = replaced places id p None is
+
+      counted : count_by is_held (set places (id - 1) None) + cond (is_some p.job) 1 0 ≡ count_by is_held places + 0
+      counted = held-replaced places id p None is
+
+  -- A WORK IS QUEUED
+  pub kept-queued : (others : List (Option Placed)) (lines : List InLine) (id n more : ℕ) (p : Placed) (e : InLine)
+      → others ≡ set places (id - 1) (Some (with_place_number n p)) → lines ≡ line ++ e ∷ [] → closing ≡ false
+      → n ≡ length line + 1 → place_at places id ≡ Some p → p.number ≡ None → e.id ≡ id → waiting_job e.stage ≡ Some p.spec → more ≡ queued + 1
+      → IsKeptPool others lines finished first more running closing line_places finished_places
+  kept-queued others lines id n more p e places_are line_is still_open number is none its waits_for more_is = rw (places_are, line_is) (record {
+    linked = linked-queued places (set places (id - 1) (Some (with_place_number n p))) line id n p e kept.linked number is none change its waits_for;
+    in_line = record {
+      apart = λ a b w here there. kept.in_line.apart a b w (sym (same_runner a) ∙ here) (sym (same_runner b) ∙ there);
+      within = omega (arith, longer, kept.in_line.within);
+      passed = λ m before. still m before;
+    };
+    came_out = out-queued places (set places (id - 1) (Some (with_place_number n p))) line finished id n p e kept.came_out is change only.lives;
+    room = record {
+      queued_are = omega (
+        arith,
+        more_is,
+        kept.room.queued_are,
+        ap length (waiting-more line e p.spec waits_for),
+        length-append (waiting_works line) (one (length line + 1)),
+      );
+      running_are = kept.room.running_are ∙ ap length (sym (executions-same line (line ++ e ∷ []) same_runner));
+      to_queue = omega (arith, kept.room.to_queue, longer, change.long, counted, counts);
+      to_finish = omega (arith, kept.room.to_finish, longer, more_is);
+      line_room = omega (arith, change.long, kept.room.line_room);
+      finished_room = omega (arith, change.long, kept.room.finished_room);
+    };
+    shut = λ shut. let no : ⊥ = cc in absurd no;
+  })
+    where
+      change : Replaced places (set places (id - 1) (Some (with_place_number n p))) id (Some (with_place_number n p))
+      change = replaced places id p (Some (with_place_number n p)) is
+
+      only : OnlyWaits e.stage
+      only = only-waits e.stage p.spec waits_for
+
+      longer : length (line ++ e ∷ []) ≡ length line + 1
+      longer = length-append line (e ∷ [])
+
+      counts : cond {A = ℕ} (is_some p.job) 1 0 ≡ 1
+      counts = counts_one p.job p.spec (kept.linked.held id p is none)
+
+      counted : count_by is_held (set places (id - 1) (Some (with_place_number n p))) + cond (is_some p.job) 1 0 ≡ count_by is_held places + 0
+      counted = held-replaced places id p (Some (with_place_number n p)) is
+
+      same_runner : (m : ℕ) → runner_at (line ++ e ∷ []) m ≡ runner_at line m
+      same_runner = runner-queued line e p.spec waits_for
+
+      still : (m : ℕ) → m ≤ first → waits (line ++ e ∷ []) m ≡ false
+      still m before = stage-push (λ s. is_some (waiting_job s)) line e m ∙ by (length line + 1 == m) refl
+        where
+          by : (b : Bool) → (length line + 1 == m) ≡ b → cond b (is_some (waiting_job e.stage)) (waits line m) ≡ false
+          by true same = let at : length line + 1 ≡ m = same-tells (length line + 1) m same in absurd (omega (arith, at, before, kept.in_line.within))
+          by false same = kept.in_line.passed m before
+
+  -- WORKS ARE PASSED OVER THAT DO NOT WAIT
+  pub kept-passed : (next : ℕ) → next ≤ length line → ((m : ℕ) → first < m → m ≤ next → waits line m ≡ false)
+      → IsKeptPool places line finished next queued running closing line_places finished_places
+  kept-passed next within passed = record {
+    linked = kept.linked;
+    in_line = record { apart = kept.in_line.apart; within = within; passed = λ m before. by m before (cases_lt first m) };
+    came_out = kept.came_out;
+    room = kept.room;
+    shut = kept.shut;
+  }
+    where
+      by : (m : ℕ) → m ≤ next → (first < m) ⊎ (m ≤ first) → waits line m ≡ false
+      by m before (inl later) = passed m later before
+      by m before (inr sooner) = kept.in_line.passed m sooner
+
+  -- A WORK IN LINE COMES FURTHER
+  module _ (lines : List InLine) (n : ℕ) (e : InLine) (there : line_work_at line n ≡ Some e) where
+    at-stage : line_stage_at line n ≡ e.stage
+    at-stage = ap (λ o. option_map_or (λ (x : InLine). x.stage) o Done) there
+
+    -- where it does not wait any more
+    pub passed-over : (s : LineStage) → waiting_job s ≡ None → (m : ℕ) → waits (set line (n - 1) (with_stage s e)) m ≡ cond (n == m) false (waits line m)
+    passed-over s none m =
+        stage-restaged line (set line (n - 1) (with_stage s e)) n e s (restaged line n e s there) (λ t. is_some (waiting_job t)) m
+        ∙ ap (λ o. cond (n == m) (is_some o) (waits line m)) none
+
+    still-passed : (s : LineStage) → waiting_job s ≡ None → (m : ℕ) → m ≤ first → waits (set line (n - 1) (with_stage s e)) m ≡ false
+    still-passed s none m before = passed-over s none m ∙ by (n == m)
+      where
+        by : (b : Bool) → cond b false (waits line m) ≡ false
+        by true = refl
+        by false = kept.in_line.passed m before
+
+    pub waiting-still : (s : LineStage) → waiting_job s ≡ None → waiting_job e.stage ≡ None → waiting_works (set line (n - 1) (with_stage s e)) ≡ waiting_works line
+    waiting-still s none none_before = waiting-same line (set line (n - 1) (with_stage s e)) (λ m. passed-over s none m ∙ by m (n == m) refl)
+      where
+        by : (m : ℕ) (b : Bool) → (n == m) ≡ b → cond b false (waits line m) ≡ waits line m
+        by m true same = sym (ap (waits line) (sym (same-tells n m same)) ∙ ap (λ t. is_some (waiting_job t)) at-stage ∙ ap is_some none_before)
+        by m false same = refl
+
+    -- where it does not run any more
+    pub fewer-run : (s : LineStage) → runner s ≡ None → (m : ℕ) → runner_at (set line (n - 1) (with_stage s e)) m ≡ cond (n == m) None (runner_at line m)
+    fewer-run s none m =
+        stage-restaged line (set line (n - 1) (with_stage s e)) n e s (restaged line n e s there) runner m
+        ∙ ap (λ o. cond (n == m) o (runner_at line m)) none
+
+    pub executions-still : (s : LineStage) → runner s ≡ None → runner e.stage ≡ None → executions (set line (n - 1) (with_stage s e)) ≡ executions line
+    executions-still s none none_before = executions-same line (set line (n - 1) (with_stage s e)) (λ m. fewer-run s none m ∙ by m (n == m) refl)
+      where
+        by : (m : ℕ) (b : Bool) → (n == m) ≡ b → cond b None (runner_at line m) ≡ runner_at line m
+        by m true same = sym (ap (runner_at line) (sym (same-tells n m same)) ∙ ap runner at-stage ∙ none_before)
+        by m false same = refl
+
+    waits-here : (job : JobSpec) → waiting_job e.stage ≡ Some job → waits line n ≡ true
+    waits-here job is = ap (λ t. is_some (waiting_job t)) at-stage ∙ ap is_some is
+
+    fewer-wait : (s : LineStage) (job : JobSpec) → waiting_job s ≡ None → waiting_job e.stage ≡ Some job
+        → length (waiting_works (set line (n - 1) (with_stage s e))) + 1 ≡ length (waiting_works line)
+    fewer-wait s job none waits_for =
+        ap (λ ns. length ns + 1) (waiting-less line (set line (n - 1) (with_stage s e)) n (passed-over s none)) ∙ length-less line n (waits-here job waits_for)
+
+    -- it starts
+    module _ (w : ℕ) (job : JobSpec) (waits_for : waiting_job e.stage ≡ Some job) (free : option_map (λ x. x.work) (found (λ x. x.worker) w
+        (executions line)) ≡ None) where
+      runs-now : (m : ℕ) → runner_at (set line (n - 1) (with_stage (Runs w) e)) m ≡ cond (n == m) (Some w) (runner_at line m)
+      runs-now m = stage-restaged line (set line (n - 1) (with_stage (Runs w) e)) n e (Runs w) (restaged line n e (Runs w) there) runner m
+
+      idle : (m : ℕ) → runner_at line m ≡ Some w → ⊥
+      idle = idle-worker line w kept.in_line.apart free
+
+      waited : runner_at line n ≡ None
+      waited = ap runner at-stage ∙ (only-waits e.stage job waits_for).idle
+
+      apart-now : AreApart (set line (n - 1) (with_stage (Runs w) e))
+      apart-now = apart-started line (set line (n - 1) (with_stage (Runs w) e)) n w kept.in_line.apart idle waited runs-now
+
+      pub executions-now : executions (set line (n - 1) (with_stage (Runs w) e)) ≡ with_record (λ x. x.worker) (record { worker = w; work = n })
+          (executions line)
+      executions-now = executions-started line (set line (n - 1) (with_stage (Runs w) e)) n w kept.in_line.apart idle waited runs-now
+
+      more-run : length (executions line) + 1 ≡ length (executions (set line (n - 1) (with_stage (Runs w) e)))
+      more-run =
+          ap (λ xs. length xs + 1) (executions-finished (set line (n - 1) (with_stage (Runs w) e)) line n w apart-now its back)
+          ∙ length-finished (set line (n - 1) (with_stage (Runs w) e)) line n w apart-now its back
+        where
+          its : runner_at (set line (n - 1) (with_stage (Runs w) e)) n ≡ Some w
+          its = runs-now n ∙ ap (λ b. cond b (Some w) (runner_at line n)) (same-self n)
+
+          back : (m : ℕ) → runner_at line m ≡ cond (n == m) None (runner_at (set line (n - 1) (with_stage (Runs w) e)) m)
+          back m = by (n == m) refl ∙ ap (cond (n == m) None) (sym (runs-now m))
+            where
+              by : (b : Bool) → (n == m) ≡ b → runner_at line m ≡ cond b None (cond b (Some w) (runner_at line m))
+              by true same = ap (runner_at line) (sym (same-tells n m same)) ∙ waited
+              by false same = refl
+
+      pub kept-started : (fewer more : ℕ) → lines ≡ set line (n - 1) (with_stage (Runs w) e) → closing ≡ false → fewer ≡ queued - 1 → more ≡ running + 1
+          → IsKeptPool places lines finished first fewer more closing line_places finished_places
+      kept-started fewer more is still_open fewer_is more_is = rw is (record {
+        linked = linked-restaged places line (set line (n - 1) (with_stage (Runs w) e)) n e (Runs w) kept.linked change refl (λ _. only.unfinished);
+        in_line = record { apart = apart-now; within = omega (arith, change.long, kept.in_line.within); passed = still-passed (Runs w) refl };
+        came_out = out-started places line (set line (n - 1) (with_stage (Runs w) e)) finished n e (Runs w) kept.came_out change refl only.lives;
+        room = record {
+          queued_are = omega (arith, fewer_is, kept.room.queued_are, fewer-wait (Runs w) job refl waits_for);
+          running_are = omega (arith, more_is, kept.room.running_are, more-run);
+          to_queue = omega (arith, change.long, kept.room.to_queue);
+          to_finish = omega (arith, change.long, kept.room.to_finish, fewer_is, more_is, queued-some n (waits-here job waits_for));
+          line_room = kept.room.line_room;
+          finished_room = kept.room.finished_room;
+        };
+        shut = λ shut. let no : ⊥ = cc in absurd no;
+      })
+        where
+          change : Restaged line (set line (n - 1) (with_stage (Runs w) e)) n e (Runs w)
+          change = restaged line n e (Runs w) there
+
+          only : OnlyWaits e.stage
+          only = only-waits e.stage job waits_for
+
+    -- it is cancelled
+    pub kept-cancelled : (outcomes : List CameOut) (o : CameOut) (fewer : ℕ) (job : JobSpec) → lines ≡ set line (n - 1) (with_stage Ended e)
+        → outcomes ≡ finished ++ o ∷ [] → waiting_job e.stage ≡ Some job
+        → o.number ≡ n → o.unspent ≡ Some job → fewer ≡ queued - 1 → IsKeptPool places lines outcomes first fewer running closing line_places finished_places
+    kept-cancelled outcomes o fewer job is out_is waits_for its unspent fewer_is = rw (is, out_is) (record {
+      linked = linked-restaged places line (set line (n - 1) (with_stage Ended e)) n e Ended kept.linked change refl (λ _. only.unfinished);
+      in_line = record {
+        apart = apart-less line (set line (n - 1) (with_stage Ended e)) n kept.in_line.apart (fewer-run Ended refl);
+        within = omega (arith, change.long, kept.in_line.within);
+        passed = still-passed Ended refl;
+      };
+      came_out = out-ended places line (set line (n - 1) (with_stage Ended e)) finished n e Ended kept.came_out change o refl only.lives its told;
+      room = record {
+        queued_are = omega (arith, fewer_is, kept.room.queued_are, fewer-wait Ended job refl waits_for);
+        running_are = kept.room.running_are ∙ ap length (sym (executions-still Ended refl only.idle));
+        to_queue = omega (arith, change.long, kept.room.to_queue);
+        to_finish = omega (arith, change.long, kept.room.to_finish, fewer_is, queued-some n (waits-here job waits_for), length-append finished (o ∷ []));
+        line_room = kept.room.line_room;
+        finished_room = kept.room.finished_room;
+      };
+      shut = λ shut. let none : waits line n ≡ false = sym (has-waiting line n) ∙ ap (has_number n)
+          (kept.shut shut) in let here = waits-here job waits_for in let no : ⊥ = cc in absurd no;
+    })
+      where
+        change : Restaged line (set line (n - 1) (with_stage Ended e)) n e Ended
+        change = restaged line n e Ended there
+
+        only : OnlyWaits e.stage
+        only = only-waits e.stage job waits_for
+
+        stands : StandsInLine places n e
+        stands = kept.linked.placed n e there only.unfinished
+
+        told : IfSome o.unspent (λ t. spec_at places line n ≡ Some t)
+        told = subst (λ u. IfSome u (λ t. spec_at places line n ≡ Some t)) (sym unspent) (spec-stands places line n e there stands
+            ∙ ap (λ t. Some t) (sym (subst (λ u. IfSome u (λ t. t ≡ stands.place.spec)) waits_for stands.job)))
+
+    -- it finishes
+    pub kept-finished : (outcomes : List CameOut) (o : CameOut) (w fewer : ℕ) → lines ≡ set line (n - 1) (with_stage Ended e)
+        → outcomes ≡ finished ++ o ∷ [] → runner e.stage ≡ Some w
+        → o.number ≡ n → o.unspent ≡ None → fewer ≡ running - 1 → IsKeptPool places lines outcomes first queued fewer closing line_places finished_places
+    kept-finished outcomes o w fewer is out_is runs its unspent fewer_is = rw (is, out_is) (record {
+      linked = linked-restaged places line (set line (n - 1) (with_stage Ended e)) n e Ended kept.linked change refl (λ _. only.unfinished);
+      in_line = record {
+        apart = apart-less line (set line (n - 1) (with_stage Ended e)) n kept.in_line.apart (fewer-run Ended refl);
+        within = omega (arith, change.long, kept.in_line.within);
+        passed = still-passed Ended refl;
+      };
+      came_out = out-ended places line (set line (n - 1) (with_stage Ended e)) finished n e Ended kept.came_out change o refl only.lives its (subst
+          (λ u. IfSome u (λ t. spec_at places line n ≡ Some t)) (sym unspent) tt);
+      room = record {
+        queued_are = kept.room.queued_are ∙ ap length (sym (waiting-still Ended refl only.started));
+        running_are = omega (arith, fewer_is, kept.room.running_are, less);
+        to_queue = omega (arith, change.long, kept.room.to_queue);
+        to_finish = omega (arith, change.long, kept.room.to_finish, fewer_is, running-some n w runs_here, length-append finished (o ∷ []));
+        line_room = kept.room.line_room;
+        finished_room = kept.room.finished_room;
+      };
+      shut = λ shut. waiting-still Ended refl only.started ∙ kept.shut shut;
+    })
+      where
+        change : Restaged line (set line (n - 1) (with_stage Ended e)) n e Ended
+        change = restaged line n e Ended there
+
+        only : OnlyRuns e.stage
+        only = only-runs e.stage w runs
+
+        runs_here : runner_at line n ≡ Some w
+        runs_here = ap runner at-stage ∙ runs
+
+        less : length (executions (set line (n - 1) (with_stage Ended e))) + 1 ≡ length (executions line)
+        less =
+            ap (λ xs. length xs + 1) (executions-finished line (set line (n - 1) (with_stage Ended e)) n w kept.in_line.apart runs_here (fewer-run Ended refl))
+            ∙ length-finished line (set line (n - 1) (with_stage Ended e)) n w kept.in_line.apart runs_here (fewer-run Ended refl)
+
+-- its completion begins
+pub kept-completed : (places : List (Option Placed)) (line lines : List InLine) (finished outcomes : List CameOut) (o : CameOut) (first queued running : ℕ)
+    (closing : Bool) (line_places finished_places : ℕ) (e : InLine)
+    → IsKeptPool places line finished first queued running closing line_places finished_places → finished ≡ o ∷ outcomes → line_work_at line o.number ≡ Some e
+    → lines ≡ set line (o.number - 1) (with_stage Done e)
+    → IsKeptPool places lines outcomes first queued running closing line_places finished_places
+kept-completed places line lines finished outcomes o first queued running closing line_places finished_places e kept out_is there is = rw is (record {
+  linked = linked-restaged places line (set line (o.number - 1) (with_stage Done e)) o.number e Done kept.linked change refl
+      (λ no. let not_so : ⊥ = cc in absurd not_so);
+  in_line = record {
+    apart = apart-less line (set line (o.number - 1) (with_stage Done e)) o.number kept.in_line.apart
+        (fewer-run places line finished first queued running closing line_places finished_places kept lines o.number e there Done refl);
+    within = omega (arith, change.long, kept.in_line.within);
+    passed = still-passed places line finished first queued running closing line_places finished_places kept lines o.number e there Done refl;
+  };
+  came_out = out-completed places line (set line (o.number - 1) (with_stage Done e)) o outcomes e Done out change refl;
+  room = record {
+    queued_are = kept.room.queued_are ∙ ap length (sym waiting_same);
+    running_are = kept.room.running_are ∙ ap length (sym
+        (executions-still places line finished first queued running closing line_places finished_places kept lines o.number e there Done refl only.idle));
+    to_queue = omega (arith, change.long, kept.room.to_queue);
+    to_finish = omega (arith, change.long, kept.room.to_finish, ap length out_is);
+    line_room = kept.room.line_room;
+    finished_room = kept.room.finished_room;
+  };
+  shut = λ shut. waiting_same ∙ kept.shut shut;
+})
+  where
+    change : Restaged line (set line (o.number - 1) (with_stage Done e)) o.number e Done
+    change = restaged line o.number e Done there
+
+    out : CameOutOnce places line (o ∷ outcomes)
+    out = rw (← out_is) kept.came_out
+
+    only : OnlyEnded e.stage
+    only = only-ended e.stage (ap has_ended (sym (ap (λ x. option_map_or (λ (y : InLine). y.stage) x Done) there)) ∙ first-ended places line o outcomes out)
+
+    waiting_same : waiting_works (set line (o.number - 1) (with_stage Done e)) ≡ waiting_works line
+    waiting_same = waiting-still places line finished first queued running closing line_places finished_places kept lines o.number e there Done refl only.started
+
+-- where none waits, any work may start or none
+pub kept-closed : (places : List (Option Placed)) (line : List InLine) (finished : List CameOut) (first queued running : ℕ) (closing now : Bool)
+    (line_places finished_places : ℕ)
+    → IsKeptPool places line finished first queued running closing line_places finished_places → waiting_works line ≡ []
+    → IsKeptPool places line finished first queued running now line_places finished_places
+kept-closed places line finished first queued running closing now line_places finished_places kept none = record {
+  linked = kept.linked;
+  in_line = kept.in_line;
+  came_out = kept.came_out;
+  room = kept.room;
+  shut = λ _. none;
+}
+
+-- before the first work is created
+pub kept-new : (places : List (Option Placed)) (line : List InLine) (finished : List CameOut) (line_places finished_places : ℕ) → places ≡ [] → line ≡ []
+    → finished ≡ [] → IsKeptPool places line finished 0 0 0 false line_places finished_places
+kept-new places line finished line_places finished_places no_places no_line no_finished = rw (no_places, no_line, no_finished) (record {
+  linked = record {
+    named = λ id p is. absurd (nowhere id p is);
+    held = λ id p is. absurd (nowhere id p is);
+    placed = λ n e is. absurd (no_entry n e is);
+  };
+  in_line = record {
+    apart = λ n m w here. absurd (nobody n w here);
+    within = omega arith;
+    passed = λ n before. nothing n;
+  };
+  came_out = record {
+    once = λ n. sym (ap (λ b. cond b 1 0) (unended n));
+    told = All-nil (KeepsJob [] []);
+  };
+  room = record {
+    queued_are = refl;
+    running_are = refl;
+    to_queue = omega arith;
+    to_finish = omega arith;
+    line_room = omega arith;
+    finished_room = omega arith;
+  };
+  shut = λ _. refl;
+})
+  where
+    nowhere : (id : ℕ) (p : Placed) → place_at [] id ≡ Some p → ⊥
+    nowhere zero p is = cc
+    nowhere (suc k) p is = cc
+
+    no_entry : (n : ℕ) (e : InLine) → line_work_at [] n ≡ Some e → ⊥
+    no_entry zero e is = cc
+    no_entry (suc k) e is = cc
+
+    nobody : (n w : ℕ) → runner_at [] n ≡ Some w → ⊥
+    nobody zero w is = cc
+    nobody (suc k) w is = cc
+
+    nothing : (n : ℕ) → waits [] n ≡ false
+    nothing zero = refl
+    nothing (suc k) = refl
+
+    unended : (n : ℕ) → ended_at [] n ≡ false
+    unended zero = refl
+    unended (suc k) = refl
+
+-- where the first work that waits would stand
+module _ (line : List InLine) (first next : ℕ) (in_line : IsLine line first) (within : next ≤ length line) (passed : (m : ℕ) → first < m → m ≤ next
+    → waits line m ≡ false) where
+  before-next : (m : ℕ) → m ≤ next → waits line m ≡ false
+  before-next m before = by (cases_lt first m)
+    where
+      by : (first < m) ⊎ (m ≤ first) → waits line m ≡ false
+      by (inl later) = passed m later before
+      by (inr sooner) = in_line.passed m sooner
+
+  pub none-waits : next ≡ length line → waiting_works line ≡ []
+  none-waits at_end = waiting-none line (λ m. by m (cases_lt next m))
+    where
+      by : (m : ℕ) → (next < m) ⊎ (m ≤ next) → waits line m ≡ false
+      by m (inl past) = stage-past (λ s. is_some (waiting_job s)) line m (omega (arith, at_end, past))
+      by m (inr before) = before-next m before
+
+  pub next-waits : waits line (next + 1) ≡ true → waiting_works line ≡ (next + 1) ∷ filter (λ m. not (m == next + 1)) (waiting_works line)
+  next-waits here = waiting-first line (next + 1) here (λ m before. before-next m (omega (arith, before)))
+
+-- the others wait behind the first
+pub rest-waits : (ns : List ℕ) → IsRising (λ m. m) ns → IfSome (head ns) (λ n. filter (λ m. not (m == n)) ns ≡ tail ns)
+rest-waits [] rises = tt
+rest-waits (n ∷ ns) rises = ap (λ b. cond (not b) (n ∷ filter (λ m. not (m == n)) ns) (filter (λ m. not (m == n)) ns)) (same-self n)
+    ∙ filter_all (λ m. not (m == n)) ns (λ k d inside. ap not (apart-above n (get_or ns k d) (rises.0 k d inside)))
+
+-- a work that has not begun its completion, as it is read
+pub live-read : {J : Type 0} (spec : J → JobSpec) (line : List (Numbered J)) (n : ℕ) (x : Numbered J) → is_done_in_line (line_stage_at (line_seen spec line) n) ≡ false
+    → x ≡ get_or line (n - 1) x → line_work_at (line_seen spec line) n ≡ Some (entry_seen spec x)
+live-read spec line n x unfinished here = let e = entry-live (line_seen spec line) n unfinished in read-at spec line n x e.0 e.1 here
+
+pub live-bounds : {J : Type 0} (spec : J → JobSpec) (line : List (Numbered J)) (n : ℕ) → is_done_in_line (line_stage_at (line_seen spec line) n) ≡ false
+    → (1 ≤ n) × (n ≤ length line)
+live-bounds spec line n unfinished = let e = entry-live (line_seen spec line) n unfinished in bounds-at spec line n e.0 e.1
+
+pub runs-read : {J : Type 0} (spec : J → JobSpec) (line : List (Numbered J)) (n w : ℕ) (x : Numbered J) → runner_at (line_seen spec line) n ≡ Some w
+    → x ≡ get_or line (n - 1) x
+    → (line_work_at (line_seen spec line) n ≡ Some (entry_seen spec x)) × (runner (entry_seen spec x).stage ≡ Some w)
+runs-read spec line n w x runs here =
+    let there = live-read spec line n x (only-runs (line_stage_at (line_seen spec line) n) w runs).unfinished here in
+    (there, sym (ap (λ o. runner (option_map_or (λ (y : InLine). y.stage) o Done)) there) ∙ runs)

@@ -1,0 +1,10 @@
+use Rattle.std.proofs.Common.{◌+◌, ◌∙◌, Some, option_map, ap}
+use Rattle.napi_types.specs.parts.Values.{with_element}
+use Rattle.value_store.proofs.ElementMaps.{array-next}
+use Rattle.value_store.proofs.place.ValuePlace.array.Goals as goal
+
+pub loop-at-preserved : goal.loop-at-preserved
+loop-at-preserved c = λ n.
+    (rw c.from.ensures at c.in_ok-set_element.ensures.set) n
+    ∙ ap (option_map (with_element c.loop-at.at (c.args.first + c.loop-at.at))) (c.loop-at.invariant n)
+    ∙ ap Some (array-next n c.args.first c.loop-at.at)
