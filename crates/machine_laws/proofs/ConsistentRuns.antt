@@ -11,8 +11,9 @@ use Rattle.napi_types.specs.runs.Setting.{opening_of}
 use Rattle.napi_types.specs.plain.Lists.{is_empty}
 use Rattle.machine_laws.specs.Consistency.{AreIssued, IsConsistent, IsLiveAmong}
 use Rattle.machine_laws.specs.HandleLaws.{EnvironmentsAreConsistent}
+use Rattle.napi_types.proofs.plain.Tallies.{tally-append}
 use Rattle.machine_laws.proofs.Children.{OfChildren}
-use Rattle.machine_laws.proofs.Counting.{count-append, none-issued, issued-next}
+use Rattle.machine_laws.proofs.Counting.{none-issued, issued-next}
 use Rattle.machine_laws.proofs.ConsistentAnswers.{whole-of}
 use Rattle.machine_laws.proofs.ConsistentHeaps.{IsConsistentHeap}
 use Rattle.machine_laws.proofs.ConsistentSteps.{run-follows}
@@ -22,7 +23,7 @@ use Rattle.machine_laws.proofs.Rising.{none-map}
 
 -- THE OPENING
 issued-pushed : (last : ℕ) (ns : List ℕ) → AreIssued last ns → AreIssued (last + 1) (ns ++ (last + 1) ∷ [])
-issued-pushed last ns a = issued-next last (ns ++ (last + 1) ∷ []) ns (λ p. omega (arith, count-append p ns ((last + 1) ∷ []))) a
+issued-pushed last ns a = issued-next last (ns ++ (last + 1) ∷ []) ns (λ p. omega (arith, tally-append p ns ((last + 1) ∷ []))) a
 
 starting-issued : AreIssued 5 (numbers starting_values)
 starting-issued =

@@ -6,24 +6,18 @@ use Rattle.std.proofs.lemmas.List.Elements.{All-nil, All-cons, All-head, All-tai
 use Rattle.std.proofs.lemmas.List.Sums.{sum_by-append, sum_by-cons}
 use Rattle.std.proofs.lemmas.Map.Keys.{IsDistinct-head, IsDistinct-tail, IsDistinct-cons}
 use Rattle.machine_laws.specs.Consistency.{AreIssued}
+use Rattle.napi_types.proofs.plain.Tallies.{tally-map}
 
 -- COUNTS
 -- the first list has no more of anything than the other two together
 abbrev pub Within : {A : Type 0} → List A → List A → List A → Type 0
 Within {A} xs ys zs = (p : A → Bool) → count_by p xs ≤ count_by p ys + count_by p zs
 
-pub count-append : {A : Type 0} (p : A → Bool) (xs ys : List A) → count_by p (xs ++ ys) ≡ count_by p xs + count_by p ys
-count-append p xs ys = sum_by-append (λ x. cond (p x) 1 0) xs ys
-
 pub count-cons : {A : Type 0} (p : A → Bool) (x : A) (xs : List A) → count_by p (x ∷ xs) ≡ cond (p x) 1 0 + count_by p xs
 count-cons p x xs = sum_by-cons (λ x. cond (p x) 1 0) x xs
 
-pub count-map : {A B : Type 0} (p : B → Bool) (f : A → B) (xs : List A) → count_by p (map f xs) ≡ count_by (λ x. p (f x)) xs
-count-map p f [] = refl
-count-map p f (x ∷ xs) = count-cons p (f x) (map f xs) ∙ ap (λ n. cond (p (f x)) 1 0 + n) (count-map p f xs) ∙ sym (count-cons (λ y. p (f y)) x xs)
-
 pub within-map : {A B : Type 0} (f : A → B) (xs ys zs : List A) → Within xs ys zs → Within (map f xs) (map f ys) (map f zs)
-within-map f xs ys zs w p = omega (arith, count-map p f xs, count-map p f ys, count-map p f zs, w (λ x. p (f x)))
+within-map f xs ys zs w p = omega (arith, tally-map p f xs, tally-map p f ys, tally-map p f zs, w (λ x. p (f x)))
 
 -- NUMBERS
 abbrev pub one_when : Bool → ℕ

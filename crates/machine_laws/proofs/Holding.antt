@@ -10,15 +10,16 @@ use Rattle.napi_types.specs.plain.Lists.{first_changed, tail, one, found}
 use Rattle.napi_types.specs.parts.ScopeChanges.{hold_at, hold_in, open_in, close_in, inside, escape_at, escape_in}
 use Rattle.napi_types.specs.parts.Scopes.{OpenHandle, Scope, FrameScopes, no_handles, value_in, value_in_scopes, gives, held_by_scopes, held_by_frame, held_by_frames}
 use Rattle.machine_laws.specs.Consistency.{held_handles, values_of_handles}
-use Rattle.machine_laws.proofs.Counting.{Within, within-map, one_when, count-append, count-cons}
+use Rattle.napi_types.proofs.plain.Tallies.{tally-append}
+use Rattle.machine_laws.proofs.Counting.{Within, within-map, one_when, count-cons}
 
 -- ONE FRAME
 -- how often what passes a test is held by a frame, and by its scopes
 in-frame : (p : OpenHandle → Bool) (f : FrameScopes) → count_by p (held_by_frame f) ≡ count_by p f.own + count_by p (held_by_scopes f.opened)
-in-frame p f = count-append p f.own (held_by_scopes f.opened)
+in-frame p f = tally-append p f.own (held_by_scopes f.opened)
 
 in-scopes : (p : OpenHandle → Bool) (s : Scope) (ss : List Scope) → count_by p (held_by_scopes (s ∷ ss)) ≡ count_by p (held_by_scopes ss) + count_by p s.held
-in-scopes p s ss = count-append p (held_by_scopes ss) s.held
+in-scopes p s ss = tally-append p (held_by_scopes ss) s.held
 
 in-inside : (p : OpenHandle → Bool) (s : Scope) (f : FrameScopes) → count_by p (held_by_frame (inside s f)) ≡ count_by p (held_by_frame f) + count_by p s.held
 in-inside p s f = omega (arith, in-frame p (inside s f), in-frame p f, in-scopes p s f.opened)
@@ -29,13 +30,13 @@ HoldsMore more old new = Within (held_by_frame new) (held_by_frame old) more
 
 holds-at : (x : OpenHandle) (own : List OpenHandle) (ss : List Scope) → HoldsMore (one x) (record { own = own; opened = ss }) (hold_at x own ss)
 holds-at x own [] p =
-    omega (arith, in-frame p (record { own = own ++ one x; opened = [] }), in-frame p (record { own = own; opened = [] }), count-append p own (one x))
+    omega (arith, in-frame p (record { own = own ++ one x; opened = [] }), in-frame p (record { own = own; opened = [] }), tally-append p own (one x))
 holds-at x own (s ∷ ss) p =
     omega (
       arith,
       in-inside p (record s { held = s.held ++ one x }) (record { own = own; opened = ss }),
       in-inside p s (record { own = own; opened = ss }),
-      count-append p s.held (one x),
+      tally-append p s.held (one x),
     )
 
 pub holds-in : (x : OpenHandle) (f : FrameScopes) → HoldsMore (one x) f (hold_in x f)
@@ -72,7 +73,7 @@ escapes-in n x f = escapes-at n x f.own f.opened
 -- ALL FRAMES
 in-frames : (p : OpenHandle → Bool) (f : FrameScopes) (fs : List FrameScopes)
     → count_by p (held_by_frames (f ∷ fs)) ≡ count_by p (held_by_frames fs) + count_by p (held_by_frame f)
-in-frames p f fs = count-append p (held_by_frames fs) (held_by_frame f)
+in-frames p f fs = tally-append p (held_by_frames fs) (held_by_frame f)
 
 pub holds-first : (more : List OpenHandle) (change : FrameScopes → FrameScopes) (fs : List FrameScopes) → ((f : FrameScopes) → HoldsMore more f (change f))
     → Within (held_by_frames (first_changed change fs)) (held_by_frames fs) more

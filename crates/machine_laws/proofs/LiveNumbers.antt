@@ -11,9 +11,10 @@ use Rattle.napi_types.specs.parts.NewValues.{made_after}
 use Rattle.napi_types.specs.parts.Reach.{numbers}
 use Rattle.napi_types.specs.parts.Values.{Value, value_changed}
 use Rattle.napi_types.proofs.plain.Maps.{all-among}
+use Rattle.napi_types.proofs.plain.Tallies.{tally-append}
 use Rattle.machine_laws.specs.Consistency.{IsLiveAmong}
 use Rattle.machine_laws.proofs.Children.{OfChildren, KeepsChildren}
-use Rattle.machine_laws.proofs.Counting.{Within, within-map, count-append}
+use Rattle.machine_laws.proofs.Counting.{Within, within-map}
 
 -- VALUES THAT ARE MADE
 live-append : (n : ℕ) (vs ws : List Value) → has_number n (numbers (vs ++ ws)) ≡ (has_number n (numbers vs) || has_number n (numbers ws))
@@ -32,7 +33,7 @@ live-pushed vs v = live-made v.number vs (v ∷ []) (or_left (v.number == v.numb
 
 pub within-pushed : (vs : List Value) (v : Value) (n : ℕ) → v.number ≡ n → Within (numbers (vs ++ v ∷ [])) (numbers vs) (n ∷ [])
 within-pushed vs v n same =
-    let w : Within (vs ++ v ∷ []) vs (v ∷ []) = λ p. omega (arith, count-append p vs (v ∷ [])) in
+    let w : Within (vs ++ v ∷ []) vs (v ∷ []) = λ p. omega (arith, tally-append p vs (v ∷ [])) in
     subst (λ k. Within (numbers (vs ++ v ∷ [])) (numbers vs) (k ∷ [])) same (within-map (λ w. w.number) (vs ++ v ∷ []) vs (v ∷ []) w)
 
 -- the numbers of a list are all in it

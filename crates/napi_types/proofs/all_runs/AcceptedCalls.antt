@@ -44,6 +44,7 @@ use Rattle.napi_types.specs.runs.Setting.{opening_of}
 use Rattle.napi_types.specs.runs.Step.{Step, event_step, end_step_on, has_room, step}
 use Rattle.napi_types.specs.all_runs.AcceptedCalls.{TellsItsDuty, AcceptedCallsTellTheirDuty}
 use Rattle.napi_types.proofs.plain.Conditions.{and-right}
+use Rattle.napi_types.proofs.all_runs.AcceptedCancels.{called-what}
 use Rattle.napi_types.proofs.environment.Cases.{asked-by}
 use Rattle.napi_types.proofs.environment.MadeTickets.{unrefused-makes}
 use Rattle.napi_types.proofs.hub.HubKeeps.{hub_step-what}
@@ -57,9 +58,6 @@ use Rattle.napi_types.proofs.all_runs.NoRefusals.{no-refusal-accepts}
 event-tells : (x : Entry) (event : HostStep) → x.what ≡ what.Host event → TellsItsDuty x
 event-tells x event is c called = let no : what.Host event ≡ what.Call c = sym is ∙ called in cc
 
-same-call : (c d : Call) → what.Call c ≡ what.Call d → c ≡ d
-same-call c d same = cc
-
 -- CALLS OF THE ENVIRONMENT
 refused-status : (e : Environment) (c : Call) (n : ℕ) (s : Status) (early deep : Option Status) → option_or early deep ≡ Some s
     → (answer_unless_deep e c n early deep).reply.status ≡ s
@@ -72,7 +70,7 @@ call-tells : (e : Environment) (c : Call) (n : ℕ) → is_shared c ≡ false �
 call-tells e c n local d called makes ok = by (refusal e c) refl
   where
     same : c ≡ d
-    same = same-call c d called
+    same = called-what c d called
 
     by : (o : Option Status) → refusal e c ≡ o → is_some (call_change e c n).entry.reply.made ≡ true
     by None told = ap is_some (unrefused-makes e c n (ap makes_duty same ∙ makes) local told)
@@ -118,7 +116,7 @@ answered-tells : (h : Hub) (x : Entry) (may : Bool) (c : Call) (o : Option (Answ
     → IsTrue (answered_step h x may o).may → TellsItsDuty (answered_step h x may o).entry
 answered-tells h x may c None is tells comes d called makes ok = cc
 answered-tells h x may c (Some a) is tells comes d called makes ok =
-    (tells (ap makes_duty (same-call c d (sym is ∙ called)) ∙ makes)).so ok
+    (tells (ap makes_duty (called-what c d (sym is ∙ called)) ∙ makes)).so ok
 
 given-tells : (h : Hub) (g : Given) (c : Call) (n : ℕ) (s : Option Status) → (s ≡ Some status.Ok → ⊥) → makes_duty c ≡ true → IfSome (answer_unless_given h g c n s) Tells
 given-tells h g c n None never makes = hub-tells h actor.Env g c n makes

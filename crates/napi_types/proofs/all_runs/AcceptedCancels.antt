@@ -67,7 +67,7 @@ no-call : (w : What) (c : Call) → is_of_call w ≡ false → w ≡ what.Call c
 no-call w c plain is = let both : true ≡ false = sym (ap is_of_call is) ∙ plain in cc
 
 -- THE ENTRY OF A LOCAL CALL
-called-what : (c d : Call) → what.Call c ≡ what.Call d → c ≡ d
+pub called-what : (c d : Call) → what.Call c ≡ what.Call d → c ≡ d
 called-what c d is = cc
 
 asked-what : (e : Environment) (c : Call) (n : ℕ) (w : WorkId) → (asked_change e c n).entry.what ≡ what.Call (call.CancelAsyncWork w)

@@ -57,7 +57,7 @@ same-threads s bs xs run =
 
 -- AT ITS END
 -- one that has not ended is left
-some-left : (a n t : ℕ) (ended : List ℕ) → a ≤ t → t < a + n → has_number t ended ≡ false → 1 ≤ length (filter (λ k. not (has_number k ended)) (range_with_len a n))
+pub some-left : (a n t : ℕ) (ended : List ℕ) → a ≤ t → t < a + n → has_number t ended ≡ false → 1 ≤ length (filter (λ k. not (has_number k ended)) (range_with_len a n))
 some-left a zero t ended low high gone = absurd (omega (arith, low, high))
 some-left a (suc n) t ended low high gone =
     by (a == t) refl (not (has_number a ended)) refl (λ above. some-left (a + 1) n t ended above (omega (arith, high)) gone)

@@ -17,6 +17,7 @@ use Rattle.napi_types.specs.all_runs.Counts.{is_duty}
 use Rattle.napi_types.specs.all_runs.DutyPlaces.{places_in_pool}
 use Rattle.napi_types.proofs.plain.Found.{has-found, same-tells}
 use Rattle.napi_types.proofs.plain.Tallies.{tally-cons, tally-append, tally-one, tally-map, tally-never, tally-without, tally-gone, tally-there, tally-with_record, tally-lost}
+use Rattle.napi_types.proofs.plain.Conditions.{and-false}
 use Rattle.napi_types.proofs.hub.Executions.{ExecutesOne}
 use Rattle.napi_types.proofs.hub.HubDutySteps.{ChangesFunction, calls, acquires, releases, refers, closes, finishes, delivers, owes, HubDutyStep, keeps, queues, cancels, starts, works, drains, creates, changes, completes}
 
@@ -46,10 +47,6 @@ span-more t n k le = by (nat_lt t k) (nat_lt (n + 1) k) (nat_lt n k) (k == n + 1
 
 pub span-less : (t n k : ℕ) → t < n → one_if (nat_lt (t + 1) k && not (nat_lt n k)) + one_if (k == t + 1) ≡ one_if (nat_lt t k && not (nat_lt n k))
 span-less t n k lt = grind (arith, nat_tests)
-
-and-false : (b : Bool) → (b && false) ≡ false
-and-false true = refl
-and-false false = refl
 
 and-true : (b : Bool) → (b && true) ≡ b
 and-true true = refl

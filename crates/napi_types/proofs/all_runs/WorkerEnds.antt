@@ -39,6 +39,8 @@ use Rattle.napi_types.specs.runs.Setting.{opening_of, final_of}
 use Rattle.napi_types.specs.runs.Step.{step}
 use Rattle.napi_types.specs.all_runs.OnceLaws.{WorkersFinishWhatTheyStart}
 use Rattle.napi_types.proofs.plain.Found.{same-tells, has-with_number}
+use Rattle.napi_types.proofs.plain.Conditions.{and-false}
+use Rattle.napi_types.proofs.all_runs.ThreadsEnd.{some-left}
 use Rattle.napi_types.proofs.hub.HubCases.{HubCase, hub-case, asks, creates_work, deletes_work, cancels_work, queues_work, creates_function, alters, goes, ends_loop, drains, comes_to_finals, delivers, closes, finishes, ends, thread_ends, worker_ends, starts, finishes_work}
 use Rattle.napi_types.proofs.hub.HubKeeps.{hub_step-what}
 use Rattle.napi_types.proofs.hub.WorkerTurns.{WorkerStands, StandsSo, next-stands}
@@ -176,13 +178,6 @@ record EndsWorker (w : ℕ) (h : Hub) (x : Entry) (n : Hub) : Type 0 where
   pub ended : has_number w n.ended_workers ≡ (ends_itself w x || has_number w h.ended_workers)
   pub workers : n.workers ≡ h.workers
 
-and-none : (b : Bool) → (b && false) ≡ false
-and-none true = refl
-and-none false = refl
-
-turned : (a b : ℕ) → (a == b) ≡ (b == a)
-turned a b = grind (arith, nat_tests)
-
 end-of : (w : ℕ) (h : Hub) (x : Entry) (who : Actor) → x.actor ≡ who → x.what ≡ what.Host host.ActorEnd → IsTrue (hub_step_of h x who).may
     → EndsWorker w h x (hub_step_of h x who).after
 end-of w h x actor.Env is end may =
@@ -217,7 +212,7 @@ step-ended w h x may = by (is_end x.what) refl
     by false is =
         let k : KeepsEnded h (hub_step h x).after = case-ended h x _ _ is (hub-case h x may) in
         record {
-          ended = ap (has_number w) k.ended ∙ sym (ap (λ b. b || has_number w h.ended_workers) (ap (λ b. is_worker w x.actor && b) is ∙ and-none (is_worker w x.actor)));
+          ended = ap (has_number w) k.ended ∙ sym (ap (λ b. b || has_number w h.ended_workers) (ap (λ b. is_worker w x.actor && b) is ∙ and-false (is_worker w x.actor)));
           workers = k.workers;
         }
 
@@ -311,27 +306,6 @@ run-turns w m bs xs s h k run =
     }) m bs xs h run s k
 
 -- AT THE END
-some-left : (a n w : ℕ) (ended : List ℕ) → a ≤ w → w < a + n → has_number w ended ≡ false
-    → 1 ≤ length (filter (λ k. not (has_number k ended)) (range_with_len a n))
-some-left a zero w ended low high gone = absurd (omega (arith, low, high))
-some-left a (suc n) w ended low high gone =
-    by (a == w) refl (not (has_number a ended)) refl (λ above. some-left (a + 1) n w ended above (omega (arith, high)) gone)
-  where
-    rest : List ℕ
-    rest = filter (λ k. not (has_number k ended)) (range_with_len (a + 1) n)
-
-    wrong : (b : Bool) → not b ≡ false → b ≡ false → ⊥
-    wrong true n g = let no : true ≡ false = g in cc
-    wrong false n g = let no : true ≡ false = n in cc
-
-    above : (a w : ℕ) → a ≤ w → (a == w) ≡ false → a + 1 ≤ w
-    above a w low apart = grind (arith, nat_tests)
-
-    by : (b : Bool) → (a == w) ≡ b → (c : Bool) → not (has_number a ended) ≡ c → (a + 1 ≤ w → 1 ≤ length rest) → 1 ≤ length (cond c (a ∷ rest) rest)
-    by b is true left later = omega arith
-    by true is false left later = absurd (wrong (has_number a ended) left (ap (λ m. has_number m ended) (same-tells a w is) ∙ gone))
-    by false is false left later = later (above a w low is)
-
 none-left : (h : Hub) → reserved_history h ≡ 0 → length (workers_left h) ≡ 0
 none-left h none =
     by (stage_places h.stage + length (threads_left h)) (length (workers_left h)) (work_places h.pool + sum_by function_places h.functions + one_if (is_some h.standing))

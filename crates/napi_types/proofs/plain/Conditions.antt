@@ -22,3 +22,7 @@ pub alike : (a b : Bool) → (a ≡ true → b ≡ true) → (b ≡ true → a �
 alike true b there back = sym (there refl)
 alike false true there back = back refl
 alike false false there back = refl
+
+pub and-false : (b : Bool) → (b && false) ≡ false
+and-false true = refl
+and-false false = refl

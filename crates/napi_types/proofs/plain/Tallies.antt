@@ -8,6 +8,7 @@ use Rattle.std.proofs.lemmas.List.Sums.{sum_by-cons, sum_by-append}
 use Rattle.napi_types.specs.plain.Lists.{found, has, has_number, with_record, one}
 use Rattle.napi_types.specs.plain.Room.{one_if}
 use Rattle.napi_types.proofs.plain.Found.{IsRising, same-tells, apart-above, turned}
+use Rattle.napi_types.proofs.plain.Maps.{one-below}
 
 -- 1 where a test holds
 pub is-one : (b : Bool) → cond b 1 0 ≡ one_if b
@@ -87,15 +88,12 @@ tally-there k (x ∷ xs) is = by (x == k) refl is (tally-there k xs)
 
 -- RECORDS BY A NUMBER
 module _ {A : Type 0} (number : A → ℕ) (p : A → Bool) where
-  either : (n m : ℕ) → (n == m) ≡ false → nat_lt n m ≡ not (nat_lt m n)
-  either n m apart = grind (arith, nat_tests)
-
   parts : (x : A) (xs : List A) → has number (number x) xs ≡ false
       → count_by p (filter (λ y. nat_lt (number y) (number x)) xs) + count_by p (filter (λ y. nat_lt (number x) (number y)) xs) ≡ count_by p xs
   parts x [] absent = refl
   parts x (y ∷ ys) absent =
       let both = or_parts (number y == number x) (has number (number x) ys) absent in
-      by (nat_lt (number y) (number x)) (nat_lt (number x) (number y)) (either (number y) (number x) both.0) (parts x ys both.1)
+      by (nat_lt (number y) (number x)) (nat_lt (number x) (number y)) (one-below (number y) (number x) both.0) (parts x ys both.1)
     where
       lower : List A
       lower = filter (λ z. nat_lt (number z) (number x)) ys

@@ -16,7 +16,7 @@ use Rattle.napi_types.specs.environment.Environment.{Environment}
 use Rattle.napi_types.specs.environment.Moments.{moment_refusal}
 use Rattle.napi_types.specs.environment.Refusals.{early_refusal, depth_refusal, group_refusal, timely_refusal}
 use Rattle.machine_laws.specs.CallLaws.{RefusedCallsChangeNothing, RefusesUnknownHandles, RefusesUnknownInEachRow, TakesKnownHandles}
-use Rattle.machine_laws.proofs.Naming.{fails-all, passes-all}
+use Rattle.machine_laws.proofs.Naming.{fails-all, passes-all, named-alone, hooks-alone}
 use Rattle.machine_laws.proofs.calls.refusals.Goals as goal
 
 reply-of : (e : Environment) (c : Call) (n : ℕ) (early deep : Option Status) (s : Status) → option_or early deep ≡ Some s → (answer_unless_deep e c n early deep).reply ≡ plain s out.Nothing
