@@ -11,8 +11,8 @@ ghost use Rattle.async_work.specs.Picking.{is_closing, is_nothing, picked_work, 
 ghost use Rattle.async_work.specs.WorkPlaces.{place_seen, work_of};
 ghost use Rattle.async_work.specs.WorkStates.{state_seen, state_number};
 
-use crate::line::{self, Ending, Numbered, EndedWork, WorkStage};
-use crate::place::{self, WorkPlace, Standing};
+use crate::line::{self, EndedWork, Ending, Numbered, WorkStage};
+use crate::place::{self, Standing, WorkPlace};
 use crate::{Job, Ran, Running};
 use napi_types::{JobSpec, NoMemory, Slip, Status, WorkId};
 use std::alloc::Global;

@@ -5,7 +5,7 @@ ghost use Rattle.napi_types.specs.parts.Book.{is_registered, is_begun, is_at, re
 ghost use Rattle.finalizer_queue.specs.KeptBook.{ticket_number, LowestBegins};
 ghost use Rattle.finalizer_queue.specs.TicketRows.{registration_of};
 
-use crate::rows::{self, NewDuty, TicketRow, RowState};
+use crate::rows::{self, NewDuty, RowState, TicketRow};
 use napi_types::{Begun, Due, Duty, NoMemory, Slip, Ticket};
 use std::alloc::Global;
 use std::cmp::Reverse;

@@ -15,7 +15,7 @@ ghost use Rattle.machine_laws.specs.TornWithoutEntry as torn_without_entry;
 ghost use Rattle.machine_laws.specs.ReleaseToZero as release_to_zero;
 ghost use Rattle.machine_laws.specs.TwoFunctions as two_functions;
 ghost use Rattle.machine_laws.specs.ExitInTheMiddle as exit_in_the_middle;
-ghost use Rattle.machine_laws.specs.DutyMisses.{OnceOfTheHubIsStrict};
+ghost use Rattle.machine_laws.specs.DutyMisses.{OnceOfTheHubIsStrict, ItemOrderIsStrict, CompletionsAreStrict};
 
 /// A realistic addon: a work, a thread-safe function that two threads call, and a finalizer.
 pub fn realistic_addon_runs()
@@ -114,7 +114,15 @@ pub fn exit_in_the_middle_runs()
     ensures strict { exit_in_the_middle.IsStrict }
 {}
 
-/// Beside two of these runs: not each duty is once where an item begins twice, nor where a function's finalizer never begins.
+/// What becomes of the duties of the hub in some of these runs, and in entries that differ from them in one duty.
 pub fn duties_of_the_hub()
-    ensures { OnceOfTheHubIsStrict }
+    // Each is once. It is not where an item begins twice, nor where a function's finalizer never begins.
+    ensures once { OnceOfTheHubIsStrict }
+
+    // Items begin in the order in which they were accepted. They do not where one begins before an earlier one, or twice.
+    ensures items { ItemOrderIsStrict }
+
+    // A completion tells whether its work started, and a work that is cancelled never starts. It is not so with 11 of a work that started, with 0 of
+    // one that did not or whose cancelling was accepted, nor where a work starts behind its cancelling.
+    ensures completions { CompletionsAreStrict }
 {}

@@ -45,7 +45,12 @@ fn is_addon(value: &Value) -> bool
 
 /// An addon: its name, which is a text, and its entries.
 #[tactic(auto, using(crate::proofs::ReadLists::items_len_of), unfolding(napi_types::specs::scripts::ScriptAddons::addon_at))]
-fn addon_at(alloc: Global, a: usize, table: &mut TextTable, value: &Value) -> Result<AddonPlan, ReadingStop>
+fn addon_at(
+    alloc: Global,
+    a: usize,
+    table: &mut TextTable,
+    value: &Value,
+) -> Result<AddonPlan, ReadingStop>
     ensures { ReadsAs (read_with table.new) result (addon_at a table.old (view value.now)) }
 {
     if !is_addon(value) {
@@ -66,7 +71,11 @@ fn addon_at(alloc: Global, a: usize, table: &mut TextTable, value: &Value) -> Re
 }
 
 /// The addons that items are.
-pub(crate) fn each_addon(alloc: Global, table: &mut TextTable, items: &[Value]) -> Result<Plans, ReadingStop>
+pub(crate) fn each_addon(
+    alloc: Global,
+    table: &mut TextTable,
+    items: &[Value],
+) -> Result<Plans, ReadingStop>
     ensures { ReadsAs (read_with table.new) result (each addon_at 0 table.old (items_view items.now)) }
 {
     let mut list = Vec::new(alloc);

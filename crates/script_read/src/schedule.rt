@@ -110,7 +110,12 @@ fn word_at(threads: usize, workers: usize, s: usize, value: &Value) -> Result<Ac
 }
 
 /// The words that items are.
-fn each_word(alloc: Global, threads: usize, workers: usize, items: &[Value]) -> Result<Actors, ReadingStop>
+fn each_word(
+    alloc: Global,
+    threads: usize,
+    workers: usize,
+    items: &[Value],
+) -> Result<Actors, ReadingStop>
     ensures { Reads result (every (word_at threads workers) 0 (items_view items.now)) }
 {
     let mut list = Vec::new(alloc);

@@ -4,7 +4,7 @@ ghost use Rattle.std.specs.HashMap.{spare};
 ghost use Rattle.std.specs.Option.{option_and_then, unwrap_or};
 ghost use Rattle.wrap_tag.specs.ValueRows.{blank_row, unwrapped_row, value_row, PutsRow};
 
-use crate::row::{ValueRow, Tag, Wrap};
+use crate::row::{Tag, ValueRow, Wrap};
 use napi_types::ValueId;
 use std::collections::HashMap;
 

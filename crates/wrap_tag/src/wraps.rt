@@ -6,7 +6,7 @@ ghost use Rattle.napi_types.specs.parts.Attachments.{no_attachments, wrap_of, ta
 ghost use Rattle.napi_types.specs.parts.Book.{due_where};
 ghost use Rattle.wrap_tag.specs.Wraps.{AreGiven, is_one_of};
 
-use crate::row::{Chain, ValueRow, Tag, Wrap};
+use crate::row::{Chain, Tag, ValueRow, Wrap};
 use crate::rows;
 use finalizer_queue::Book;
 use napi_types::{NoMemory, Ticket, ValueId};

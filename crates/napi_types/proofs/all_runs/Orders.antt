@@ -436,9 +436,10 @@ run-late =
 
 run-finals : (m : Machine) (bs : List Ask) (xs : List Entry) → Orderly m → IsRunBy m bs xs → IsRunBy m bs xs × FinalsRise xs
 run-finals = along-orderly (λ m bs xs. IsRunBy m bs xs × FinalsRise xs) (λ m. (tt, tt)) (λ m a bs x xs h next s k rest. (
-    (next, rest.0),
-    by xs rest.1 (is_finals x.what) (λ is.
-    (run-late (after m a x) bs xs k rest.0 (finals-start m (step m a x) s next.1 (sym (ap (λ (y : Entry). is_finals y.what) next.0) ∙ is))).0)))
+  (next, rest.0),
+  by xs rest.1 (is_finals x.what) (λ is.
+      (run-late (after m a x) bs xs k rest.0 (finals-start m (step m a x) s next.1 (sym (ap (λ (y : Entry). is_finals y.what) next.0) ∙ is))).0),
+))
   where
     by : (xs : List Entry) → FinalsRise xs → (b : Bool) → (b ≡ true → TicketsRise (tickets_begun xs))
         → TicketsRise (cond b (tickets_begun xs) (finals_begun xs))

@@ -51,4 +51,4 @@ abbrev pub given_step : Hub → Entry → Call → Option Given → HubStep
 given_step h x c None = no_hub_step h x
 given_step h x c (Some g) =
     answered_step h x (is_shared c && is_timely h.stage c g.refused && is_fresh_work h x.reply.out)
-        (answer_unless_given h g c (work_number x.reply.out) g.refused)
+    (answer_unless_given h g c (work_number x.reply.out) g.refused)

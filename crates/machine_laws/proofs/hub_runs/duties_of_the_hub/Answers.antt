@@ -1,9 +1,23 @@
-use Rattle.std.proofs.Common.{◌≡◌, arith, refl}
+use Rattle.std.proofs.Common.{◌≡◌, arith, ap, refl, slice_index_or}
 use Rattle.napi_types.specs.declared.entry.Duty.TheVariants as duty
-use Rattle.napi_types.specs.all_runs.Counts.{Once}
-use Rattle.machine_laws.specs.DutyMisses.{first_twice, unfinalized}
+use Rattle.napi_types.specs.all_runs.Counts.{Once, TellsStarts}
+use Rattle.napi_types.specs.all_runs.ItemOrder.{CountItems}
+use Rattle.napi_types.specs.all_runs.OnceLaws.{IsCancelledOnce}
+use Rattle.napi_types.proofs.all_runs.OncePlaces.{each-once}
+use Rattle.machine_laws.specs.Abort as abort
+use Rattle.machine_laws.specs.DutyMisses.{first_twice, second_first, unfinalized, started_and_cancelled, never_started_but_done, cancelled_but_done, cancelled_and_started}
 use Rattle.machine_laws.specs.HubWords.{function}
+use Rattle.machine_laws.specs.ReleaseToZero as release_to_zero
+use Rattle.machine_laws.specs.LegalRuns.{EndsAsTold, told_asks}
+use Rattle.machine_laws.proofs.RowLists.{ends-of}
 use Rattle.machine_laws.proofs.hub_runs.duties_of_the_hub.Goals as goal
+
+-- ONCE
+released : EndsAsTold release_to_zero.setting release_to_zero.trace
+released = ends-of release_to_zero.setting (told_asks release_to_zero.setting release_to_zero.trace) release_to_zero.trace (refl, refl) refl refl
+
+aborted : EndsAsTold abort.setting abort.trace
+aborted = ends-of abort.setting (told_asks abort.setting abort.trace) abort.trace (refl, refl) refl refl
 
 not-twice : Once first_twice → ⊥
 not-twice o = let z : 2 ≡ 1 = (o.each (duty.Item function 1)).kept refl refl in absurd (omega (arith, z))
@@ -11,5 +25,44 @@ not-twice o = let z : 2 ≡ 1 = (o.each (duty.Item function 1)).kept refl refl i
 not-never : Once unfinalized → ⊥
 not-never o = let z : 0 ≡ 1 = (o.each (duty.Function function)).kept refl refl in absurd (omega (arith, z))
 
-pub returns : goal.returns
-returns c = record { twice = not-twice; never = not-never }
+pub returns-clause-once : goal.returns-clause-once
+returns-clause-once c = record {
+  items = each-once release_to_zero.setting (told_asks release_to_zero.setting release_to_zero.trace) release_to_zero.trace released;
+  finalizer = each-once abort.setting (told_asks abort.setting abort.trace) abort.trace aborted;
+  twice = not-twice;
+  never = not-never;
+}
+
+-- ITEMS
+not-earlier : CountItems 1 second_first → ⊥
+not-earlier c = let z : 2 ≡ 1 = ap (λ l. slice_index_or l 0 0) c.begun in absurd (omega (arith, z))
+
+not-again : CountItems 1 first_twice → ⊥
+not-again c = let z : 1 ≡ 2 = ap (λ l. slice_index_or l 1 0) c.begun in absurd (omega (arith, z))
+
+pub returns-clause-items : goal.returns-clause-items
+returns-clause-items c = record { run = record { made = refl; begun = refl }; earlier = not-earlier; twice = not-again }
+
+-- COMPLETIONS
+not-eleven : TellsStarts (duty.Work 1) started_and_cancelled → ⊥
+not-eleven t = let z : 0 ≡ 1 = t.uncancelled in absurd (omega (arith, z))
+
+not-zero : TellsStarts (duty.Work 1) never_started_but_done → ⊥
+not-zero t = let z : 1 ≡ 0 = t.uncancelled in absurd (omega (arith, z))
+
+not-accepted : IsCancelledOnce 1 cancelled_but_done → ⊥
+not-accepted i = let z : 0 ≡ 1 = i.cancelled in absurd (omega (arith, z))
+
+not-late : IsCancelledOnce 1 cancelled_and_started → ⊥
+not-late i = let z : 1 ≡ 0 = i.never in absurd (omega (arith, z))
+
+pub returns-clause-completions : goal.returns-clause-completions
+returns-clause-completions c = record {
+  started = record { uncancelled = refl; cancelled = refl };
+  cancelled = record { never = refl; cancelled = refl };
+  drained = record { never = refl; cancelled = refl };
+  eleven = not-eleven;
+  zero = not-zero;
+  accepted = not-accepted;
+  late = not-late;
+}
