@@ -7,7 +7,7 @@ ghost use Rattle.napi_types.specs.parts.Heap.{handle_value, handle_body};
 ghost use Rattle.env_core.specs.Attaching.{is_accepted, target_refusal};
 ghost use Rattle.env_values.specs.SeenValues.{heap_of, HoldsLive};
 
-use env_values::or_undefined;
+use env_values::{or_undefined, value_of_handle};
 use handle_scope::Scopes;
 use napi_types::{Body, HandleId, Status, ValueId};
 use value_store::Store;
@@ -82,11 +82,9 @@ pub fn target(
     ensures refusal { result_err result ≡ target_refusal takes (heap_of store.now scopes.now) handle }
     ensures sound { OnOk result (IsSoundStore store.now) }
 {
-    if scopes.look(handle).is_none() {
-        return Err(Status::InvalidArg);
-    }
-    if !takes.accepts(body_of(store, scopes, handle)) {
+    let value = value_of_handle(store, scopes, handle)?;
+    if !takes.accepts(value.body) {
         return Err(Status::ObjectExpected);
     }
-    Ok(value_of(store, scopes, handle))
+    Ok(value.id)
 }

@@ -16,13 +16,13 @@ use value_store::Store;
 
 /// The value that a handle gives: its number in the store, and what it is.
 #[derive(Clone, Copy)]
-pub(crate) struct HandleValue {
-    pub(crate) id: ValueId,
-    pub(crate) body: Body,
+pub struct HandleValue {
+    pub id: ValueId,
+    pub body: Body,
 }
 
 /// The value of a handle, refused as an invalid argument where no open scope holds the handle.
-pub(crate) fn value_of_handle(
+pub fn value_of_handle(
     store: &Store,
     scopes: &Scopes,
     handle: HandleId,
@@ -31,6 +31,7 @@ pub(crate) fn value_of_handle(
     ensures ok { IfOk result (λ value. IsValueOf store.now scopes.now handle.0 value) }
     ensures unknown { IfErr result (λ status. is_some (gives (heap_of store.now scopes.now).scopes handle.0) ≡ false) }
     ensures refused { IfErr result (λ status. status ≡ Status.InvalidArg) }
+    ensures sound { OnOk result (IsSoundStore store.now) }
 {
     let Some(id) = scopes.look(handle) else {
         return Err(Status::InvalidArg);
