@@ -1,7 +1,6 @@
 -- Each worker comes to its end, by turns.
-use Rattle.std.proofs.Common.{◌≡◌, ◌∙◌, ℕ, zero, suc, ◌+◌, ◌<◌, ◌≤◌, ◌==◌, Bool, true, false, not, cond, ◌&&◌, ◌||◌, List, [], ◌∷◌, length, filter, IsTrue, refl, ap, sym, subst, arith, Option, Some, None, is_some}
-use Rattle.std.specs.List.{range_with_len, sum_by}
-use Rattle.std.proofs.lemmas.Bool.Decides.{nat_tests}
+use Rattle.std.proofs.Common.{◌≡◌, ◌∙◌, ℕ, ◌+◌, ◌≤◌, ◌==◌, Bool, true, false, cond, ◌&&◌, ◌||◌, List, [], ◌∷◌, length, IsTrue, refl, ap, sym, subst, arith, Option, Some, None, is_some}
+use Rattle.std.specs.List.{sum_by}
 use Rattle.napi_types.specs.declared.call.Ask.{Ask}
 use Rattle.napi_types.specs.declared.call.Call.{Call}
 use Rattle.napi_types.specs.declared.duties.DueInfo.{DueInfo}
@@ -38,7 +37,7 @@ use Rattle.napi_types.specs.runs.Run.{IsRunBy, after, final}
 use Rattle.napi_types.specs.runs.Setting.{opening_of, final_of}
 use Rattle.napi_types.specs.runs.Step.{step}
 use Rattle.napi_types.specs.all_runs.OnceLaws.{WorkersFinishWhatTheyStart}
-use Rattle.napi_types.proofs.plain.Found.{same-tells, has-with_number}
+use Rattle.napi_types.proofs.plain.Found.{has-with_number}
 use Rattle.napi_types.proofs.plain.Conditions.{and-false}
 use Rattle.napi_types.proofs.all_runs.ThreadsEnd.{some-left}
 use Rattle.napi_types.proofs.hub.HubCases.{HubCase, hub-case, asks, creates_work, deletes_work, cancels_work, queues_work, creates_function, alters, goes, ends_loop, drains, comes_to_finals, delivers, closes, finishes, ends, thread_ends, worker_ends, starts, finishes_work}
