@@ -1,12 +1,14 @@
 -- Nothing refuses a call that finds no memory.
-use Rattle.std.proofs.Common.{◌≡◌, ◌∙◌, true, ap, sym, refl, Option, None, Result, Ok, Err, OnErr}
+use Rattle.std.proofs.Common.{◌≡◌, ◌∙◌, true, IsTrue, ap, sym, refl, Option, None, Result, Ok, Err, OnErr}
 use Rattle.std.specs.Option.{option_or}
 use Rattle.napi_types.specs.declared.call.Call.{Call}
 use Rattle.napi_types.specs.declared.call.Call.TheVariants as call
 use Rattle.napi_types.specs.declared.ids.ScopeKind.{ScopeKind}
 use Rattle.napi_types.specs.declared.ids.ScopeKind.TheVariants as scope_kind
 use Rattle.napi_types.specs.declared.ids.TextNo.{TextNo}
+use Rattle.napi_types.specs.declared.status.Status.{Status}
 use Rattle.napi_types.specs.plain.Built.{is_value_call}
+use Rattle.napi_types.specs.plain.Guards.{is_growing}
 use Rattle.napi_types.specs.parts.Graph.{StoreState}
 use Rattle.napi_types.specs.parts.HeapRefusals.{refusal_in}
 use Rattle.napi_types.specs.parts.NamedNumbers.{is_known}
@@ -15,7 +17,7 @@ use Rattle.napi_types.specs.parts.References.{ReferenceMap}
 use Rattle.napi_types.specs.environment.Environment.{Environment}
 use Rattle.napi_types.specs.environment.Moments.{moment_refusal}
 use Rattle.napi_types.specs.environment.Refusals.{timely_refusal, early_refusal}
-use Rattle.env_core.specs.State.{opening_call}
+use Rattle.env_core.specs.State.{opening_call, FindsNoMemory}
 use Rattle.env_core.proofs.CoreExceptions.{thrown-refusal}
 use Rattle.env_core.proofs.Referring.{referring, NamesReference, by-reference, seen-refusal}
 use Rattle.env_core.proofs.ValueAnswers.{timely-value}
@@ -24,6 +26,12 @@ use Rattle.env_core.proofs.ValueAnswers.{timely-value}
 pub on-err : {A E P : Type 0} (r : Result A E) → P → OnErr r P
 on-err (Ok x) p = tt
 on-err (Err x) p = p
+
+-- a call stops so where its parts say that it leaves all as it was, and that nothing refuses it
+pub stopped : {A E : Type 0} (old new : Environment) (c : Call) (refused : Option Status) (r : Result A E)
+    → OnErr r (new ≡ old) → OnErr r (IsTrue (is_growing c)) → OnErr r (refused ≡ None) → OnErr r (FindsNoMemory old c refused new)
+stopped old new c refused (Ok x) same grows none = tt
+stopped old new c refused (Err x) same grows none = record { same = same; grows = grows; unrefused = none }
 
 -- CALLS AT A RIGHT MOMENT
 -- a scope is opened
@@ -48,6 +56,8 @@ value-unrefused e c (Err x) h none = timely-value e c h ∙ none
 
 -- THE MOMENT
 -- a call at a right moment finds no memory
-pub unrefused-in-time : {A E : Type 0} (e : Environment) (c : Call) (r : Result A E) → None ≡ moment_refusal e c → OnErr r (timely_refusal e c ≡ None) → OnErr r (early_refusal e c ≡ None)
-unrefused-in-time e c (Ok x) h none = tt
-unrefused-in-time e c (Err x) h none = ap (λ o. option_or o (timely_refusal e c)) (sym h) ∙ none
+pub stopped-in-time : {A E : Type 0} (old new : Environment) (c : Call) (r : Result A E) → None ≡ moment_refusal old c
+    → OnErr r (FindsNoMemory old c (timely_refusal old c) new) → OnErr r (FindsNoMemory old c (early_refusal old c) new)
+stopped-in-time old new c (Ok x) h stops = tt
+stopped-in-time old new c (Err x) h stops =
+    record { same = stops.same; grows = stops.grows; unrefused = ap (λ o. option_or o (timely_refusal old c)) (sym h) ∙ stops.unrefused }

@@ -12,6 +12,8 @@ use Rattle.napi_types.specs.declared.entry.Cause.TheVariants as cause
 use Rattle.napi_types.specs.declared.entry.Entry.{Entry}
 use Rattle.napi_types.specs.declared.entry.Reply.{Reply}
 use Rattle.napi_types.specs.declared.entry.Target.{Target}
+use Rattle.napi_types.specs.declared.status.Status.{Status}
+use Rattle.napi_types.specs.plain.Guards.{is_growing}
 use Rattle.napi_types.specs.plain.Replies.{Answer}
 use Rattle.napi_types.specs.parts.Frames.{Frame}
 use Rattle.napi_types.specs.parts.FunctionCalls.{callee_of, call_gifts, receiver_handle, with_receiver}
@@ -84,6 +86,12 @@ Answers old c r new = AnswersBy (answer old c) old r new
 -- the same where the call comes at a right moment, so that it is not asked whether it is guarded or registers
 abbrev pub AnswersInTime : Environment → Call → Reply → Environment → Type 0
 AnswersInTime old c r new = AnswersBy (λ n. answer_unless old c n (timely_refusal old c)) old r new
+
+-- the call grows, nothing that is asked before memory refuses it, and the environment is as it was
+pub record FindsNoMemory (old : Environment) (c : Call) (refused : Option Status) (new : Environment) : Type 0 where
+  pub same : new ≡ old
+  pub grows : IsTrue (is_growing c)
+  pub unrefused : refused ≡ None
 
 -- CALLS OF FUNCTIONS
 -- a call that is refused answers at once, as every other call does

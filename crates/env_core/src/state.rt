@@ -3,7 +3,6 @@ ghost use Rattle.std.specs.Prelude.{◌≡◌, ◌≢◌, ◌+◌, ◌<◌, ◌^
 ghost use Rattle.napi_types.specs.declared.call.Call.TheVariants as call_of;
 ghost use Rattle.napi_types.specs.plain.Built.{is_built, is_calling, is_value_call};
 ghost use Rattle.napi_types.specs.plain.Entries.{host_entry as entry_of, host_told as told_of};
-ghost use Rattle.napi_types.specs.plain.Guards.{is_growing};
 ghost use Rattle.napi_types.specs.plain.Lists.{head};
 ghost use Rattle.napi_types.specs.plain.Numbers.{napi_version};
 ghost use Rattle.napi_types.specs.parts.Frames.{caller_of, asks_made, most_asks};
@@ -18,7 +17,7 @@ ghost use Rattle.napi_types.specs.environment.Registering.{finalizer_if};
 ghost use Rattle.env_core.specs.Standing.{machine_frame};
 ghost use Rattle.finalizer_queue.specs.TicketRows.{registration_of};
 ghost use Rattle.env_core.specs.Core.{next_init};
-ghost use Rattle.env_core.specs.State.{HasNumbersFor, Calls, Answers, AnswersInTime, opening_call, closing_call};
+ghost use Rattle.env_core.specs.State.{HasNumbersFor, Calls, Answers, AnswersInTime, FindsNoMemory, opening_call, closing_call};
 
 mod attachments;
 mod calling;
@@ -181,9 +180,7 @@ impl State {
         requires numbers { HasNumbersFor self.old }
         requires hooked { IsHooked self.old }
         ensures ok { IfOk result (λ entry. Calls self.old call.now entry self.new) }
-        ensures err { OnErr result (self.new ≡ self.old) }
-        ensures growing { OnErr result (IsTrue (is_growing call.now)) }
-        ensures unrefused { OnErr result (early_refusal self.old call.now ≡ None) }
+        ensures stopped { OnErr result (FindsNoMemory self.old call.now (early_refusal self.old call.now) self.new) }
     {
         let reply = self.answer(call)?;
         Ok(self.write_call(step, call, reply))
@@ -241,9 +238,7 @@ impl State {
         requires numbers { HasNumbersFor self.old }
         requires hooked { IsHooked self.old }
         ensures ok { IfOk result (λ reply. Answers self.old call.now reply self.new) }
-        ensures err { OnErr result (self.new ≡ self.old) }
-        ensures growing { OnErr result (IsTrue (is_growing call.now)) }
-        ensures unrefused { OnErr result (early_refusal self.old call.now ≡ None) }
+        ensures stopped { OnErr result (FindsNoMemory self.old call.now (early_refusal self.old call.now) self.new) }
     {
         match self.untimely(call) {
             Some(status) => Ok(Reply::plain(status, Out::Nothing)),
@@ -274,6 +269,7 @@ impl State {
     }
 
     /// What a call that comes at a right moment answers, refused or accepted.
+    #[tactic(auto, using(crate::proofs::Unrefused::stopped))]
     fn answer_in_time(&mut self, call: &Call) -> Result<Reply, NoMemory>
         requires standing { self.old.frames ≢ [] }
         requires built { is_built call.now ≡ true }
@@ -281,9 +277,7 @@ impl State {
         requires numbers { HasNumbersFor self.old }
         requires hooked { IsHooked self.old }
         ensures ok { IfOk result (λ reply. AnswersInTime self.old call.now reply self.new) }
-        ensures err { OnErr result (self.new ≡ self.old) }
-        ensures growing { OnErr result (IsTrue (is_growing call.now)) }
-        ensures unrefused { OnErr result (timely_refusal self.old call.now ≡ None) }
+        ensures stopped { OnErr result (FindsNoMemory self.old call.now (timely_refusal self.old call.now) self.new) }
     {
         if call.is_value_call() {
             return self.value_call(call);
@@ -351,9 +345,7 @@ impl State {
         requires values { self.old.heap.made + most_names + 8 < 2 ^ 48 }
         requires handles { self.old.heap.handles < 2 ^ 62 }
         ensures ok { IfOk result (λ reply. AnswersInTime self.old call.now reply self.new) }
-        ensures err { OnErr result (self.new ≡ self.old) }
-        ensures growing { OnErr result (IsTrue (is_growing call.now)) }
-        ensures unrefused { OnErr result (timely_refusal self.old call.now ≡ None) }
+        ensures stopped { OnErr result (FindsNoMemory self.old call.now (timely_refusal self.old call.now) self.new) }
     {
         let addon = self.caller();
         value_step(

@@ -4,7 +4,7 @@ use Rattle.env_core.specs.contracts.state.State.{the_view}
 use Rattle.env_values.specs.SeenValues.{heap_of}
 use Rattle.env_core.proofs.Attaching.{attached-kept, attachments-kept}
 use Rattle.env_core.proofs.ValueAnswers.{value-answers, value-frames, pending-live, pending-kept, referred-live, references-kept, stopped-same}
-use Rattle.env_core.proofs.Unrefused.{value-unrefused}
+use Rattle.env_core.proofs.Unrefused.{value-unrefused, stopped}
 use Rattle.env_core.proofs.state.State.value_call.Goals as goal
 
 pub invariant_of-self : goal.invariant_of-self
@@ -34,12 +34,12 @@ returns-clause-ok c =
     )
     (value-answers (the_view s) c.caller-addon.result c.args.call.now (heap_of k.new.store k.new.scopes) k.result c.requires.value_call (rw (← c.self.view_is) at c.caller-addon.ensures) k.ensures.reply k.ensures.after))
 
-pub returns-clause-err : goal.returns-clause-err
-returns-clause-err c =
+pub returns-clause-stopped : goal.returns-clause-stopped
+returns-clause-stopped c =
     let s = c.self.inside in
     let k = c.value_step in
     rw (← c.self.view_is)
+    (stopped (the_view s) _ c.args.call.now _ k.result
     (stopped-same (the_view s) s.store k.new.store s.scopes k.new.scopes (map_of s.references) s.wraps.attachments s.book.book s.exceptions.pending k.result k.ensures.kept c.self.invariant.0.referred c.self.invariant.1 c.self.invariant.0.pending k.ensures.err)
-
-pub returns-clause-unrefused : goal.returns-clause-unrefused
-returns-clause-unrefused c = rw (← c.self.view_is) (value-unrefused (the_view c.self.inside) c.args.call.now c.value_step.result c.requires.value_call c.value_step.ensures.unrefused)
+    k.ensures.growing
+    (value-unrefused (the_view s) c.args.call.now k.result c.requires.value_call k.ensures.unrefused))
