@@ -12,6 +12,7 @@ pub mod ItemOrders
 pub mod Joining
 pub mod JournalRooms
 pub mod Keeping
+pub mod LedHubs
 pub mod NamedWorks
 pub mod NoRefusals
 pub mod OncePlaces
@@ -21,6 +22,7 @@ pub mod Orders
 pub mod QuietRuns
 pub mod Rooms
 pub mod Scripts
+pub mod SingleWorks
 pub mod Teardowns
 pub mod ThreadsEnd
 pub mod Withdrawals

@@ -1,5 +1,6 @@
 -- On the hub: the cases of its step, what its steps keep, and its histories.
 pub mod ClosingPools
+pub mod EarlyWorkers
 pub mod Executions
 pub mod GrowingHistories
 pub mod HubBounds

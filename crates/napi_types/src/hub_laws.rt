@@ -1,7 +1,7 @@
 //! What the machine's definitions come to over all runs in which threads and workers take part, as laws: each function does nothing, and its
 //! contract states a law.
-ghost use Rattle.napi_types.specs.hub.HistoryLaws.{OthersKeepTheHub, OthersLowerNothing, OthersOccupyNoLess, CallsStayPressed, PoolsCloseAtTheDrain, HubsAreWithin, NoCallWaitsFromTheDrainOn, EndedThreadsHaveNoneLeft, WorkersTakeTurns, RunningStaysRunning};
-ghost use Rattle.napi_types.specs.all_runs.HubLaws.{OthersJoin, AddonsAreTheScripts, ScriptsStayAsOthersGoOn, FrontsKeepScripts, ThreadsKeepAsOthersGoOn, FrontsOfThreadsKeep, ThreadsComeToTheirEnd};
+ghost use Rattle.napi_types.specs.hub.HistoryLaws.{OthersKeepTheHub, OthersLowerNothing, OthersOccupyNoLess, CallsStayPressed, PoolsCloseAtTheDrain, WorkersEndAfterTheDrain, ExecutingWorkersAreThere, HubsAreWithin, NoCallWaitsFromTheDrainOn, EndedThreadsHaveNoneLeft, WorkersTakeTurns, RunningStaysRunning};
+ghost use Rattle.napi_types.specs.all_runs.HubLaws.{OthersJoin, HistoriesLeadToTheirHub, AddonsAreTheScripts, ScriptsStayAsOthersGoOn, FrontsKeepScripts, ThreadsKeepAsOthersGoOn, FrontsOfThreadsKeep, ThreadsComeToTheirEnd};
 ghost use Rattle.napi_types.specs.all_runs.AcceptedCalls.{AcceptedCallsTellTheirDuty};
 ghost use Rattle.napi_types.specs.all_runs.Goings.{NextEventsMayCome, TeardownNeverStandsStill};
 ghost use Rattle.napi_types.specs.runs.LoopEnds.{LoopsEndForTheReason, LoopsEndIdleOrQuiet};
@@ -13,6 +13,11 @@ ghost use Rattle.napi_types.specs.environment.SharedCalls.{SharedEntriesAreHande
 /// and the whole history are a run, which leaves the environment and the registers as they were.
 pub fn others_join()
     ensures { OthersJoin }
+{}
+
+/// Every hub to which a run comes is the one to which its history leads.
+pub fn histories_lead_to_their_hub()
+    ensures { HistoriesLeadToTheirHub }
 {}
 
 /// At every moment of a run the addons of frames, functions, tickets, works and thread-safe functions are those of the script.
@@ -54,6 +59,12 @@ pub fn calls_stay_pressed()
 /// Over every history that replays at the hub the pool is closing from the drain on.
 pub fn pools_close_at_the_drain()
     ensures { PoolsCloseAtTheDrain }
+{}
+
+/// Over every history that replays at the hub no worker has ended before the drain, and a worker that executes a work has not ended.
+pub fn workers_end_after_the_drain()
+    ensures early { WorkersEndAfterTheDrain }
+    ensures executing { ExecutingWorkersAreThere }
 {}
 
 /// No more works were created, no more were queued, no more functions made and no more items accepted than the history has entries.

@@ -1,5 +1,5 @@
 //! What becomes of each duty over all runs, whatever threads and workers do, as laws: each function does nothing, and its contract states a law.
-ghost use Rattle.napi_types.specs.all_runs.OnceLaws.{EachDutyHasOnePlace, NoPlaceIsLeft, OnePlaceGivesOnce, CompletionsTellStarts, CancelledWorksNeverStart, AcceptedCancelsCancel, CancelsAreTold, ItemsBeginInOrder, WorkersFinishWhatTheyStart, NoRefusalAccepts};
+ghost use Rattle.napi_types.specs.all_runs.OnceLaws.{EachDutyHasOnePlace, NoPlaceIsLeft, OnePlaceGivesOnce, WorksStandOnce, CompletionsTellStarts, CancelledWorksNeverStart, AcceptedCancelsCancel, CancelsAreTold, ItemsBeginInOrder, WorkersFinishWhatTheyStart, NoRefusalAccepts};
 
 /// After each entry of every run, whatever threads and workers do, a duty that was made and not withdrawn has exactly one place, or its frame began
 /// once. A place is: queued, executed or finished in the pool; an item in its function's list; a finalizer that its function still owes; registered
@@ -16,6 +16,11 @@ pub fn no_place_is_left()
 /// A duty that has one place at most, and of which none is left, is once.
 pub fn one_place_gives_once()
     ensures { OnePlaceGivesOnce }
+{}
+
+/// Over every history that replays at the hub no work stands twice among those that are queued, executed and finished.
+pub fn works_stand_once()
+    ensures { WorksStandOnce }
 {}
 
 /// In every run to its end the completion of a work begins as cancelled exactly where the work never starts.

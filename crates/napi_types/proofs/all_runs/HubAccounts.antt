@@ -18,7 +18,7 @@ use Rattle.napi_types.specs.plain.Lists.{head}
 use Rattle.napi_types.specs.plain.Room.{one_if}
 use Rattle.napi_types.specs.parts.Functions.{FunctionState, is_finished, called, acquired, released, closed_state, closed, with_item_taken}
 use Rattle.napi_types.specs.parts.Works.{is_cancelled}
-use Rattle.napi_types.specs.hub.Hub.{Hub, is_past_drain}
+use Rattle.napi_types.specs.hub.Hub.{Hub, new_hub, is_past_drain}
 use Rattle.napi_types.specs.runs.Machine.{Machine}
 use Rattle.napi_types.specs.runs.Run.{IsNext, IsRunBy, after, final}
 use Rattle.napi_types.specs.runs.Setting.{Setting, opening_of, final_of}
@@ -155,7 +155,7 @@ ticket-none h (duty.Work k) is = cc
 ticket-none h (duty.Item t j) is = cc
 ticket-none h (duty.Function t) is = cc
 
-step-facts : (h : Hub) (made begun started : Option Duty) (s : Status) (n : Hub) → HubSound h → HubFacts h
+pub step-facts : (h : Hub) (made begun started : Option Duty) (s : Status) (n : Hub) → HubSound h → HubFacts h
     → HubDutyStep h made begun started s n → HubFacts n
 step-facts h made begun started s n sound facts step = record {
   well = step-well h made begun started s n facts.well step;
@@ -306,11 +306,11 @@ run-facts l =
     })
 
 -- FROM THE OPENING
-pub none-at_first : (s : Setting) (d : Duty) → (given_in_hub (opening_of s).hub d ≡ 0) × (places_in_hub (opening_of s).hub d ≡ 0)
-none-at_first s (duty.Ticket t) = (refl, refl)
-none-at_first s (duty.Item f n) = (refl, refl)
-none-at_first s (duty.Function f) = (refl, refl)
-none-at_first s (duty.Work n) = (by n, refl)
+none-in_new : (threads workers : ℕ) (d : Duty) → (given_in_hub (new_hub threads workers) d ≡ 0) × (places_in_hub (new_hub threads workers) d ≡ 0)
+none-in_new threads workers (duty.Ticket t) = (refl, refl)
+none-in_new threads workers (duty.Item f n) = (refl, refl)
+none-in_new threads workers (duty.Function f) = (refl, refl)
+none-in_new threads workers (duty.Work n) = (by n, refl)
   where
     by : (n : ℕ) → one_if (nat_lt 0 n && not (nat_lt 0 n)) ≡ 0
     by n = on (nat_lt 0 n)
@@ -319,12 +319,21 @@ none-at_first s (duty.Work n) = (by n, refl)
         on true = refl
         on false = refl
 
+pub none-at_first : (s : Setting) (d : Duty) → (given_in_hub (opening_of s).hub d ≡ 0) × (places_in_hub (opening_of s).hub d ≡ 0)
+none-at_first s d = none-in_new s.threads s.workers d
+
+pub opening-facts : (threads workers : ℕ) → HubFacts (new_hub threads workers)
+opening-facts threads workers = record {
+  well = All-nil FinishesWell;
+  placed = λ d. let none = none-in_new threads workers d in omega (arith, none.0, none.1);
+}
+
 pub opens-accountable : (s : Setting) → Accountable s.limits (opening_of s)
 opens-accountable s = record {
   roomy = let r : HubRoomy (HistorySuffices s) s.limits (opening_of s) = opening-hub s in
       record { limits = r.limits; sound = r.sound; history = λ none. absurd none; spent = r.spent };
   orderly = orderly-opens s;
-  facts = record { well = All-nil FinishesWell; placed = λ d. let none = none-at_first s d in omega (arith, none.0, none.1) };
+  facts = opening-facts s.threads s.workers;
 }
 
 -- so is every machine of a run

@@ -18,15 +18,15 @@ use Rattle.napi_types.proofs.hub.HubCases.{HubCase, asks, creates_work, deletes_
 abbrev pub IsShut : Hub → Type 0
 IsShut h = h.pool.closing ≡ is_past_drain h.stage
 
-cancelled-closing : (o : Option ℕ) (p : WorkPool) → (cancelled_at o p).closing ≡ p.closing
+pub cancelled-closing : (o : Option ℕ) (p : WorkPool) → (cancelled_at o p).closing ≡ p.closing
 cancelled-closing None p = refl
 cancelled-closing (Some n) p = refl
 
-started-closing : (ns : List ℕ) (w : ℕ) (p : WorkPool) → (started_from ns w p).closing ≡ p.closing
+pub started-closing : (ns : List ℕ) (w : ℕ) (p : WorkPool) → (started_from ns w p).closing ≡ p.closing
 started-closing [] w p = refl
 started-closing (n ∷ ns) w p = refl
 
-finished-closing : (w : ℕ) (o : Option ℕ) (p : WorkPool) → (finished_at w o p).closing ≡ p.closing
+pub finished-closing : (w : ℕ) (o : Option ℕ) (p : WorkPool) → (finished_at w o p).closing ≡ p.closing
 finished-closing w None p = refl
 finished-closing w (Some n) p = refl
 

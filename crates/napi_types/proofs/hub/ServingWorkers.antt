@@ -1,5 +1,5 @@
 -- A worker that executes a work has not ended.
-use Rattle.std.proofs.Common.{◌≡◌, ◌∙◌, ℕ, ◌==◌, Bool, true, false, not, cond, ◌||◌, List, [], ◌∷◌, filter, IsTrue, refl, ap, sym, subst, Option, Some, None, is_some, is_none}
+use Rattle.std.proofs.Common.{◌≡◌, ◌∙◌, ℕ, ◌+◌, ◌==◌, Bool, true, false, not, cond, ◌||◌, List, [], ◌∷◌, filter, IsTrue, refl, ap, sym, subst, Option, Some, None, is_some, is_none}
 use Rattle.napi_types.specs.declared.entry.Actor.{Actor}
 use Rattle.napi_types.specs.declared.entry.Actor.TheVariants as actor
 use Rattle.napi_types.specs.declared.entry.Duty.{Duty}
@@ -11,9 +11,11 @@ use Rattle.napi_types.specs.declared.entry.What.{What}
 use Rattle.napi_types.specs.declared.entry.What.TheVariants as what
 use Rattle.napi_types.specs.plain.Lists.{has_number}
 use Rattle.napi_types.specs.parts.Pool.{executed_by, number_of_work, started_from, finished_at}
-use Rattle.napi_types.specs.hub.Hub.{Hub, workers_left}
+use Rattle.napi_types.specs.hub.HistoryLaws.{ExecutingWorkersAreThere}
+use Rattle.napi_types.specs.hub.Hub.{Hub, new_hub, workers_left}
 use Rattle.napi_types.specs.hub.HubMoves.{without_duty}
-use Rattle.napi_types.specs.hub.HubSteps.{hub_step, hub_step_of, environment_step}
+use Rattle.napi_types.specs.hub.HubSteps.{hub_step, hub_step_of, hub_along, environment_step}
+use Rattle.napi_types.specs.hub.Replays.{HubReplays}
 use Rattle.napi_types.specs.hub.ThreadSteps.{thread_step}
 use Rattle.napi_types.specs.hub.WorkerSteps.{is_worker_there, worker_step, start_step, work_end_step}
 use Rattle.napi_types.proofs.plain.Conditions.{and-left, and-right}
@@ -120,3 +122,12 @@ step-serves w h x may serves = by x.actor may (hub-case h x may)
     by actor.Env may case = environment-serves w h x x.what refl may case serves
     by (actor.Thread t) may case = thread-serves w h t x x.what refl may case serves
     by (actor.Worker v) may case = worker-serves w h v x x.what may serves
+
+-- ALONG A HISTORY
+along-serves : (limit n w : ℕ) (h : Hub) (xs : List Entry) → IsServing w h → HubReplays limit h n xs → IsServing w (hub_along h xs)
+along-serves limit n w h [] serves replays = serves
+along-serves limit n w h (x ∷ xs) serves replays = along-serves limit (n + 1) w (hub_step h x).after xs (step-serves w h x replays.0.may serves) replays.2
+
+pub executing-workers-are-there : ExecutingWorkersAreThere
+executing-workers-are-there limit threads workers w history h led =
+    subst (IsServing w) led.hub (along-serves limit 0 w (new_hub threads workers) history (λ runs. let no : false ≡ true = runs in cc) led.replays)

@@ -31,7 +31,7 @@ duty-ends-none : (d : Duty) (h : Hub) → (without_duty d h).ended_threads ≡ h
 duty-ends-none (duty.Work n) h = refl
 duty-ends-none _ h = refl
 
-is-no-end : (x : Entry) → x.what ≡ what.Host host.ActorEnd → is_end x.what ≡ false → ⊥
+pub is-no-end : (x : Entry) → x.what ≡ what.Host host.ActorEnd → is_end x.what ≡ false → ⊥
 is-no-end x is none = let no : true ≡ false = sym (ap is_end is) ∙ none in cc
 
 -- what is no actor's end leaves them

@@ -6,10 +6,13 @@ use Rattle.napi_types.specs.declared.call.Call.{Call}
 use Rattle.napi_types.specs.declared.entry.Entry.{Entry}
 use Rattle.napi_types.specs.declared.entry.Local.{Local}
 use Rattle.napi_types.specs.declared.op.Op.{Op}
+use Rattle.napi_types.specs.plain.Weave.{weave}
 use Rattle.napi_types.specs.environment.Owners.{IsOwned}
 use Rattle.napi_types.specs.hub.Actors.{is_thread, thread_calls, KeepsScriptFrom, left_along}
+use Rattle.napi_types.specs.hub.HistoryLaws.{LeadsTo}
 use Rattle.napi_types.specs.hub.HubOwners.{IsOwnedHub}
 use Rattle.napi_types.specs.runs.Machine.{Machine}
+use Rattle.napi_types.specs.runs.Parting.{IsParted}
 use Rattle.napi_types.specs.runs.Run.{IsRunBy}
 use Rattle.napi_types.specs.runs.Setting.{Setting, EndsBy, opening_of, final_of}
 use Rattle.napi_types.specs.all_runs.Joined.{AreJoined, GoesOnJoined}
@@ -17,6 +20,12 @@ use Rattle.napi_types.specs.all_runs.Joined.{AreJoined, GoesOnJoined}
 -- where the environment and the hub are joined, the journal and the whole history are a run, and all but the hub is as it was
 abbrev pub OthersJoin : Type 0
 OthersJoin = (s : Setting) (asks : List Ask) (journal : List Local) (front rest : List Entry) → AreJoined s asks journal front rest → GoesOnJoined s asks journal front rest
+
+-- every hub to which a run comes is the one to which its history leads
+abbrev pub HistoriesLeadToTheirHub : Type 0
+HistoriesLeadToTheirHub = (s : Setting) (asks : List Ask) (journal : List Local) (history : List Entry) → IsRunBy (opening_of s) asks (weave journal history)
+    → IsParted (opening_of s) asks journal history
+    → LeadsTo s.limits.history s.threads s.workers history (final_of s asks (weave journal history)).hub
 
 -- the addons of frames, functions, tickets, works and thread-safe functions are those of the script
 pub record AreOfScript (count : ℕ) (m : Machine) : Type 0 where

@@ -1,5 +1,5 @@
 -- Laws over all runs, whatever threads and workers do: each duty begins exactly once or is withdrawn, and what works, items and workers come to.
-use Rattle.std.specs.Prelude.{◌≡◌, ◌≢◌, ℕ, ◌<◌, ◌==◌, ◌&&◌, Bool, true, cond, List, [], ◌∷◌, ◌++◌, Option, Some, None}
+use Rattle.std.specs.Prelude.{◌≡◌, ◌≢◌, ℕ, ◌<◌, ◌≤◌, ◌==◌, ◌&&◌, Bool, true, cond, List, [], ◌∷◌, ◌++◌, Option, Some, None}
 use Rattle.std.specs.List.{list_any}
 use Rattle.std.specs.Option.{option_or}
 use Rattle.napi_types.specs.declared.call.Ask.{Ask}
@@ -17,12 +17,13 @@ use Rattle.napi_types.specs.parts.Works.{is_cancelled}
 use Rattle.napi_types.specs.environment.Environment.{Environment}
 use Rattle.napi_types.specs.environment.Refusals.{refusal}
 use Rattle.napi_types.specs.hub.Actors.{Free, Over, worker_along}
+use Rattle.napi_types.specs.hub.HistoryLaws.{LeadsTo}
 use Rattle.napi_types.specs.hub.Hub.{Hub}
 use Rattle.napi_types.specs.runs.Machine.{Machine}
 use Rattle.napi_types.specs.runs.Run.{IsRunBy}
 use Rattle.napi_types.specs.runs.Setting.{Setting, RunsBy, EndsBy, opening_of, final_of}
 use Rattle.napi_types.specs.all_runs.Counts.{started, begun_cancelled, IsOnce, TellsStarts}
-use Rattle.napi_types.specs.all_runs.DutyPlaces.{places_in_machine, HasOnePlace}
+use Rattle.napi_types.specs.all_runs.DutyPlaces.{places_in_pool, places_in_machine, HasOnePlace}
 use Rattle.napi_types.specs.all_runs.ItemOrder.{CountItems}
 
 -- PLACES
@@ -39,6 +40,10 @@ abbrev pub OnePlaceGivesOnce : Type 0
 OnePlaceGivesOnce = (m : Machine) (d : Duty) (xs : List Entry) → HasOnePlace m d xs → places_in_machine m d ≡ 0 → IsOnce d xs
 
 -- WORKS
+-- in every hub to which a history leads no work stands twice among those that are queued, executed and finished
+abbrev pub WorksStandOnce : Type 0
+WorksStandOnce = (limit threads workers n : ℕ) (history : List Entry) (h : Hub) → LeadsTo limit threads workers history h → places_in_pool n h.pool ≤ 1
+
 -- in every run to its end the completion of each work tells whether the work started
 abbrev pub CompletionsTellStarts : Type 0
 CompletionsTellStarts = (s : Setting) (bs : List Ask) (xs : List Entry) (n : ℕ) → EndsBy s bs xs → TellsStarts (duty.Work n) xs

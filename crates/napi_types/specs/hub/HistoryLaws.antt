@@ -1,5 +1,5 @@
 -- Laws over all histories of the hub.
-use Rattle.std.specs.Prelude.{◌≡◌, ℕ, ◌+◌, ◌≤◌, true, false, List, length, Some, is_some, is_none}
+use Rattle.std.specs.Prelude.{◌≡◌, ℕ, ◌+◌, ◌≤◌, true, false, List, [], length, Some, is_some, is_none}
 use Rattle.std.specs.List.{All}
 use Rattle.napi_types.specs.declared.call.Call.{Call}
 use Rattle.napi_types.specs.declared.call.Call.TheVariants as call
@@ -20,6 +20,7 @@ use Rattle.napi_types.specs.hub.HubCalls.{hub_answer}
 use Rattle.napi_types.specs.hub.HubOwners.{IsOwnedHub}
 use Rattle.napi_types.specs.hub.HubSteps.{IsHubNext, hub_step, hub_along}
 use Rattle.napi_types.specs.hub.Replays.{HubReplays}
+use Rattle.napi_types.specs.hub.WorkerSteps.{is_worker_there}
 
 -- how far the hub is, the duty whose frame stands, and how many threads and workers there are
 pub record KeepsStanding (old new : Hub) : Type 0 where
@@ -66,6 +67,16 @@ CallsStayPressed = (limit threads workers : ℕ) (history rest : List Entry) (h 
 -- the pool is closing from the drain on
 abbrev pub PoolsCloseAtTheDrain : Type 0
 PoolsCloseAtTheDrain = (limit threads workers : ℕ) (history : List Entry) (h : Hub) → LeadsTo limit threads workers history h → h.pool.closing ≡ is_past_drain h.stage
+
+-- before the drain no worker has ended
+abbrev pub WorkersEndAfterTheDrain : Type 0
+WorkersEndAfterTheDrain = (limit threads workers : ℕ) (history : List Entry) (h : Hub) → LeadsTo limit threads workers history h
+    → is_past_drain h.stage ≡ false → h.ended_workers ≡ []
+
+-- a worker that executes a work has not ended
+abbrev pub ExecutingWorkersAreThere : Type 0
+ExecutingWorkersAreThere = (limit threads workers w : ℕ) (history : List Entry) (h : Hub) → LeadsTo limit threads workers history h
+    → is_some (executed_by h.pool w) ≡ true → is_worker_there h w ≡ true
 
 -- a hub has no more works that were created, no more that were queued and no more functions than so many, and none of these accepted more items
 pub record IsHubWithin (n : ℕ) (h : Hub) : Type 0 where
