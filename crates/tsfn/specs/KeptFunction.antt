@@ -8,7 +8,7 @@ use Rattle.tsfn.specs.declared.function.Tsfn.TheInside.{Inside}
 -- the function that the fields stand for
 abbrev pub function_of : Inside → FunctionState
 function_of t = record {
-  id = t.about.id.0;
+  id = t.id.0;
   addon = t.about.addon;
   target = t.about.target;
   maximum = t.about.max;

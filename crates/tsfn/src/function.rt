@@ -1,8 +1,12 @@
 //! One thread-safe function.
 ghost use Rattle.std.specs.Prelude.{◌≡◌, ◌+◌, ◌<◌, ◌^◌, [], true, false, length, Some, IfOk, OnOk, OnErr, option_map};
 ghost use Rattle.std.specs.Option.{is_some};
+ghost use Rattle.napi_types.specs.hub.HistoryRoom.{function_places};
+ghost use Rattle.napi_types.specs.hub.HubMoves.{function_move};
 ghost use Rattle.napi_types.specs.plain.Lists.{head};
 ghost use Rattle.napi_types.specs.parts.Functions.{new_function, is_full_queue, accepted_items, call_status, called, acquire_status, acquired, release_status, released, closed, with_referenced, item_info, torn_info, first_taken, finished, function_info, done};
+ghost use Rattle.tsfn.specs.FunctionMoves.{move_of, moved_by, is_busy};
+ghost use Rattle.tsfn.specs.KeptFunctions.{holds_loop};
 ghost use Rattle.tsfn.specs.Trials.{tried_of};
 
 use napi_types::{
@@ -16,7 +20,6 @@ use std::marker::Model;
 /// What a function is created with: the arguments of the manual's `napi_create_threadsafe_function`.
 #[derive(Clone, Copy)]
 pub struct TsfnNew {
-    pub id: TsfnId,
     /// The addon that creates it, counted from 0.
     pub addon: u32,
     /// Where its items are delivered.
@@ -28,6 +31,16 @@ pub struct TsfnNew {
     /// The entry of its finalizer in the creating addon, where it has one.
     pub finalize: Option<u32>,
     pub context: u64,
+}
+
+/// What a function did of its own. A duty that begins has to be spent.
+pub enum Moved {
+    /// The frame of a duty begins: of an item, or of its finalizer.
+    Delivers(Due),
+    /// It began to close, since no thread holds it and no item waits.
+    Closes(TsfnId),
+    /// It finished: it is done, or waits for its finalizer where it has one.
+    Finishes(TsfnId),
 }
 
 /// What a call of a function comes out as.
@@ -49,6 +62,7 @@ struct Item {
 /// A thread-safe function: the manual's `napi_threadsafe_function`.
 #[derive(Drop)]
 pub struct Tsfn {
+    id: TsfnId,
     about: TsfnNew,
     // Those that wait, the first to be delivered first.
     items: VecDeque<Item>,
@@ -78,9 +92,9 @@ impl Tsfn {
     /// A function that is open, referenced and without items. At least one thread holds it.
     ///
     /// Constant time. It takes memory for its finalizer alone, where it has one.
-    pub fn new(alloc: Global, about: TsfnNew) -> Result<Tsfn, NoMemory>
+    pub fn new(alloc: Global, id: TsfnId, about: TsfnNew) -> Result<Tsfn, NoMemory>
         requires { 0 < about.initial }
-        ensures made { IfOk result (λ made. made ≡ new_function about.id.0 about.addon about.target about.max about.initial about.finalize about.context) }
+        ensures made { IfOk result (λ made. made ≡ new_function id.0 about.addon about.target about.max about.initial about.finalize about.context) }
         ensures memory { OnErr result (is_some about.finalize ≡ true) }
     {
         let slip = match about.finalize {
@@ -88,6 +102,7 @@ impl Tsfn {
             None => None,
         };
         Ok(Tsfn {
+            id,
             about,
             items: VecDeque::new(alloc),
             taken: 0,
@@ -218,12 +233,13 @@ impl Tsfn {
         Some(slip.arm(info))
     }
 
-    /// An open function begins to close. Constant time, and no memory.
+    /// An open function begins to close. In any other state nothing changes. Constant time, and no memory.
     pub fn begin_close(&mut self)
-        requires { self.old.state ≡ TsfnState.Open }
         ensures { self.new ≡ closed self.old }
     {
-        self.state = TsfnState::Closing;
+        if self.state == TsfnState::Open {
+            self.state = TsfnState::Closing;
+        }
     }
 
     /// A closing function that has no items is finished where it has a finalizer, and done where it has none. Constant time, and
@@ -252,7 +268,7 @@ impl Tsfn {
         };
         self.state = TsfnState::Done;
         slip.arm(DueInfo {
-            duty: Duty::Function(self.about.id),
+            duty: Duty::Function(self.id),
             cause: Cause::Finalize,
             addon: self.about.addon,
             entry,
@@ -260,6 +276,56 @@ impl Tsfn {
             gifts: [self.about.context, 0, 0, 0, 0, 0, 0, 0],
             runs: true,
         })
+    }
+
+    /// It does what it has to do next. While it is open its first item is delivered; where none waits it begins to close once nobody holds
+    /// it. While it is closing the items that wait are torn; where none is left it finishes. Once it is finished its finalizer begins.
+    /// `None` exactly where it has nothing to do, and then nothing changes.
+    ///
+    /// Constant time. It takes no memory.
+    pub fn take_move(&mut self) -> Option<Moved>
+        ensures told { option_map move_of result ≡ function_move self.old }
+        ensures left { self.new ≡ moved_by (function_move self.old) self.old }
+    {
+        match self.state {
+            TsfnState::Open => self.move_open(),
+            TsfnState::Closing => Some(self.move_closing()),
+            TsfnState::Finished => Some(Moved::Delivers(self.take_final())),
+            TsfnState::Done => None,
+        }
+    }
+
+    /// Whether it has something to do of its own. Constant time.
+    pub fn has_move(&self) -> bool
+        ensures { result ≡ is_busy self.now }
+    {
+        match self.state {
+            TsfnState::Open => !self.items.is_empty() || self.count == 0,
+            TsfnState::Closing | TsfnState::Finished => true,
+            TsfnState::Done => false,
+        }
+    }
+
+    /// Whether the loop waits for it: it is referenced and not done. Constant time.
+    pub fn holds_loop(&self) -> bool
+        ensures { result ≡ holds_loop self.now }
+    {
+        self.is_referenced && self.state != TsfnState::Done
+    }
+
+    /// How many places of the history it owes: those of its close, its finish and its finalizer's frame that are to come, and of the frame of
+    /// each item that waits. Constant time.
+    pub fn places(&self) -> u64
+        ensures { result ≡ function_places self.now }
+    {
+        let finalizer = if self.about.finalize.is_some() { 2 } else { 0 };
+        let own = match self.state {
+            TsfnState::Open => 2 + finalizer,
+            TsfnState::Closing => 1 + finalizer,
+            TsfnState::Finished => 2,
+            TsfnState::Done => 0,
+        };
+        own + 2 * self.items.len() as u64
     }
 
     /// Its context: the manual's `napi_get_threadsafe_function_context`. Constant time.
@@ -297,6 +363,35 @@ impl Tsfn {
         self.is_referenced
     }
 
+    /// The move of an open function, where it has one.
+    fn move_open(&mut self) -> Option<Moved>
+        requires { self.old.state ≡ TsfnState.Open }
+        ensures told { option_map move_of result ≡ function_move self.old }
+        ensures left { self.new ≡ moved_by (function_move self.old) self.old }
+    {
+        if let Some(due) = self.pop() {
+            return Some(Moved::Delivers(due));
+        }
+        if self.count > 0 {
+            return None;
+        }
+        self.begin_close();
+        Some(Moved::Closes(self.id))
+    }
+
+    /// The move of a closing function.
+    fn move_closing(&mut self) -> Moved
+        requires { self.old.state ≡ TsfnState.Closing }
+        ensures told { Some (move_of result) ≡ function_move self.old }
+        ensures left { self.new ≡ moved_by (function_move self.old) self.old }
+    {
+        if let Some(due) = self.pop_torn() {
+            return Moved::Delivers(due);
+        }
+        self.finish();
+        Moved::Finishes(self.id)
+    }
+
     /// Whether no further item may wait: where any number may, never.
     fn is_full(&self) -> bool
         ensures { result ≡ is_full_queue self.now }
@@ -312,7 +407,7 @@ impl Tsfn {
         let Item { payload, slip } = self.items.pop_front()?;
         self.taken += 1;
         let info = DueInfo {
-            duty: Duty::Item(self.about.id, self.taken),
+            duty: Duty::Item(self.id, self.taken),
             cause: Cause::Item,
             addon: self.about.target.addon,
             entry: self.about.target.entry,

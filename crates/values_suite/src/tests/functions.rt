@@ -57,7 +57,6 @@ fn created(rt: &impl Abort, alloc: Global, max: u32, initial: u32, finalize: Opt
     ensures { accepted_items result ≡ 0 }
 {
     let about = TsfnNew {
-        id: ID,
         addon: 5,
         target: Target {
             addon: 6,
@@ -69,7 +68,7 @@ fn created(rt: &impl Abort, alloc: Global, max: u32, initial: u32, finalize: Opt
         finalize,
         context: 80,
     };
-    ample(rt, Tsfn::new(alloc, about))
+    ample(rt, Tsfn::new(alloc, ID, about))
 }
 
 /// What is told of a function: its state, its count, and how many items wait.
