@@ -6,6 +6,8 @@ use napi_types::JobSpec;
 use std::marker::Model;
 
 /// What a worker executes for a work: the manual's `execute` callback.
+///
+/// A job is made, and dropped where it never runs, under the lock of the hub: both are to be short. It runs without the lock.
 pub trait Job: Send + Drop {
     ghost use Rattle.napi_types.specs.declared.call.JobSpec.{JobSpec};
 

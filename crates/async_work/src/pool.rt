@@ -14,29 +14,60 @@ ghost use Rattle.async_work.specs.WorkStates.{state_seen, state_number};
 use crate::line::{self, EndedWork, Ending, Numbered, WorkStage};
 use crate::place::{self, Standing, WorkPlace};
 use crate::{Job, Ran, Running};
-use napi_types::{JobSpec, NoMemory, Slip, Status, WorkId};
+use napi_types::{Cause, Due, DueInfo, Duty, JobSpec, NoMemory, Slip, Status, WorkId};
 use std::alloc::Global;
 use std::collections::VecDeque;
 use std::marker::Model;
 
-/// A work that came out, as its completion begins: the manual's `complete` callback. It has to be spent.
+/// A work that came out, as its completion begins: the manual's `complete` callback. It has to be spent, by [`Finished::into_due`].
 pub struct Finished<J> {
-    /// The memory for the line of its completion in a list of what was seen.
-    pub slip: Slip,
-    /// The number of the work in the order of queueing.
-    pub number: u64,
-    /// The addon that is told, counted from 0.
-    pub addon: u32,
-    /// The entry of the addon that runs, counted from 0.
-    pub entry: u32,
-    /// The data that it is given.
-    pub payload: u64,
-    /// `Ok` where its job ran, `Cancelled` where it was cancelled before.
-    pub status: Status,
-    /// The value that its job computed, 0 where it was cancelled.
-    pub value: u64,
-    /// Its job, where it was cancelled.
-    pub job: Option<J>,
+    // The memory for the line of its completion in a list of what was seen.
+    slip: Slip,
+    // The number of the work in the order of queueing.
+    number: u64,
+    // The addon that is told, counted from 0.
+    addon: u32,
+    // The entry of the addon that runs, counted from 0.
+    entry: u32,
+    // The data that it is given.
+    payload: u64,
+    // `Ok` where its job ran, `Cancelled` where it was cancelled before.
+    status: Status,
+    // The value that its job computed, 0 where it was cancelled.
+    value: u64,
+    // Its job, where it was cancelled.
+    job: Option<J>,
+}
+
+impl<J> Finished<J> {
+    /// Its completion, which is due, and its job, which is there exactly where it was cancelled.
+    ///
+    /// Constant time. It takes no memory.
+    pub fn into_due(self) -> (Due, Option<J>)
+        ensures due { result.0 ≡ finished_info self }
+        ensures job { result.1 ≡ self.job }
+    {
+        let Finished {
+            slip,
+            number,
+            addon,
+            entry,
+            payload,
+            status,
+            value,
+            job,
+        } = self;
+        let due = slip.arm(DueInfo {
+            duty: Duty::Work(number),
+            cause: Cause::Complete,
+            addon,
+            entry,
+            status,
+            gifts: [status.number() as u64, value, payload, 0, 0, 0, 0, 0],
+            runs: true,
+        });
+        (due, job)
+    }
 }
 
 /// What a worker is to do. A work has to be spent.
@@ -279,6 +310,13 @@ impl<J: Job> Pool<J> {
         }
         self.closing = true;
         count
+    }
+
+    /// Whether no work starts any more. Constant time.
+    pub fn is_closing(&self) -> bool
+        ensures { result ≡ self.now.closing }
+    {
+        self.closing
     }
 
     /// How many works wait for a worker. Constant time.

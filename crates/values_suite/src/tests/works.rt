@@ -5,8 +5,8 @@ ghost use Rattle.napi_types.specs.parts.Jobs.{job_value};
 ghost use Rattle.napi_types.specs.parts.Pool.{new_pool, executed_by, value_of_work};
 
 use super::ample;
-use async_work::{Finished, Job, Picked, Pool, Running};
-use napi_types::{JobSpec, Status, WorkId};
+use async_work::{Job, Picked, Pool, Running};
+use napi_types::{DueInfo, Duty, JobSpec, SeenList, Status, WorkId};
 use script_addon::ScriptJob;
 use std::alloc::Global;
 use std::process::Abort;
@@ -101,28 +101,26 @@ fn run(rt: &impl Abort, works: &mut Works)
     works.finish(0, running.execute());
 }
 
-/// What a completion tells: the number, the addon, the entry, the payload, the status and the value; and the value of the job where
+/// What a completion tells: the work, the addon, the entry, the payload, the status and the value; and the value of the job where
 /// it did not run.
-type Told = (u64, u32, u32, u64, Status, u64, Option<u64>);
+type Told = (Duty, u32, u32, u64, Status, u64, Option<u64>);
 
 /// The completion of the work that came out first begins.
 fn complete(works: &mut Works) -> Option<Told>
     ensures executed { works.new.executions ≡ works.old.executions }
     ensures closing { works.new.closing ≡ works.old.closing }
 {
-    let Finished {
-        slip,
-        number,
+    let (due, job) = works.take_finished()?.into_due();
+    let DueInfo {
+        duty,
         addon,
         entry,
-        payload,
         status,
-        value,
-        job,
-    } = works.take_finished()?;
-    slip.discard();
+        gifts: [_, value, payload, ..],
+        ..
+    } = due.begin(&mut SeenList::new()).end();
     let unspent = job.map(|job| job.execute());
-    Some((number, addon, entry, payload, status, value, unspent))
+    Some((duty, addon, entry, payload, status, value, unspent))
 }
 
 /// A work that was created comes so far; one that is to run is queued.
@@ -264,9 +262,9 @@ fn completions(works: &mut Works) -> [Option<Told>; 5] {
 const NUMBERS: [u64; 4] = [1, 2, 3, 4];
 
 const BY_THEIR_ENDS: [Option<Told>; 5] = [
-    Some((3, 5, 6, 3, Status::Cancelled, 0, Some(6))),
-    Some((2, 5, 6, 1, Status::Ok, 1, None)),
-    Some((1, 5, 6, 2, Status::Ok, 3, None)),
+    Some((Duty::Work(3), 5, 6, 3, Status::Cancelled, 0, Some(6))),
+    Some((Duty::Work(2), 5, 6, 1, Status::Ok, 1, None)),
+    Some((Duty::Work(1), 5, 6, 2, Status::Ok, 3, None)),
     None,
     None,
 ];
@@ -312,10 +310,10 @@ fn cancel_all_in_run(rt: &impl Abort, works: &mut Works) -> ([bool; 3], [u64; 2]
 }
 
 const ALL_CANCELLED: [Option<Told>; 5] = [
-    Some((2, 5, 6, 1, Status::Cancelled, 0, Some(1))),
-    Some((3, 5, 6, 3, Status::Cancelled, 0, Some(6))),
-    Some((4, 5, 6, 4, Status::Cancelled, 0, Some(10))),
-    Some((1, 5, 6, 2, Status::Ok, 3, None)),
+    Some((Duty::Work(2), 5, 6, 1, Status::Cancelled, 0, Some(1))),
+    Some((Duty::Work(3), 5, 6, 3, Status::Cancelled, 0, Some(6))),
+    Some((Duty::Work(4), 5, 6, 4, Status::Cancelled, 0, Some(10))),
+    Some((Duty::Work(1), 5, 6, 2, Status::Ok, 3, None)),
     None,
 ];
 
