@@ -1,5 +1,5 @@
 -- The move of the first function that has something to do.
-use Rattle.std.proofs.Common.{◌≡◌, ◌∙◌, ◌<◌, ◌≤◌, ℕ, zero, suc, ◌==◌, Bool, true, false, cond, List, [], ◌∷◌, length, map, set, get_or, refl, ap, sym, arith, Option, Some, None, is_some}
+use Rattle.std.proofs.Common.{◌≡◌, ◌∙◌, ◌<◌, ◌≤◌, ℕ, zero, suc, ◌==◌, Bool, true, false, cond, List, [], ◌∷◌, length, map, set, get_or, refl, ap, sym, arith, Option, Some, None, is_some, IfSome, IfNone}
 use Rattle.std.specs.Option.{option_or}
 use Rattle.std.proofs.lemmas.List.{set-get_or, length-map, get_or-map}
 use Rattle.napi_types.specs.declared.entry.TsfnState.{TsfnState}
@@ -7,7 +7,7 @@ use Rattle.napi_types.specs.declared.entry.TsfnState.TheVariants.{Open, Closing,
 use Rattle.napi_types.specs.parts.Functions.{FunctionState, first_taken, closed, finished, done}
 use Rattle.napi_types.specs.hub.HubMoves.{HubMove, Closes, function_move_in, function_move, first_move}
 use Rattle.tsfn.specs.BusyPlaces.{is_busy_at, IsLowestBusy, NoneIsBusy}
-use Rattle.tsfn.specs.FunctionList.{with_function_changed, after_move}
+use Rattle.tsfn.specs.FunctionList.{with_function_changed, functions_after_move}
 use Rattle.tsfn.specs.FunctionMoves.{is_busy, moved_by}
 use Rattle.tsfn.specs.KeptFunctions.{AreNumberedFrom}
 use Rattle.tsfn.proofs.NumberedFunctions.{id-at, changed-at}
@@ -49,6 +49,16 @@ moves-first fs i f here lowest =
     let is : is_busy (get_or fs i f) ≡ true = sym (get_or-map is_busy fs i f false within) ∙ lowest.is in
     record { within = within; move = first-at fs i f within is lowest.lowest ∙ ap function_move (sym here) }
 
+-- so there is a move exactly where a place is busy
+pub busy-move : (fs : List FunctionState) (lowest : Option ℕ) → IfSome lowest (λ i. IsLowestBusy (map is_busy fs) i) → IfNone lowest (NoneIsBusy (map is_busy fs))
+    → is_some lowest ≡ is_some (first_move fs)
+busy-move fs None some none = ap is_some (sym (first-none fs none))
+busy-move [] (Some i) some none = let within : i < 0 = some.within in absurd (omega (arith, within))
+busy-move (d ∷ fs) (Some i) some none =
+    let within : i < length (d ∷ fs) = let in_busy = some.within in omega (arith, in_busy, length-map (d ∷ fs) is_busy) in
+    let is : is_busy (get_or (d ∷ fs) i d) ≡ true = sym (get_or-map is_busy (d ∷ fs) i d false within) ∙ some.is in
+    sym (ap is_some (first-at (d ∷ fs) i d within is some.lowest) ∙ is)
+
 -- a move changes the function whose move it is
 module _ (fs : List FunctionState) (i : ℕ) (f : FunctionState) (numbered : AreNumberedFrom 1 fs) (within : i < length fs) (here : f ≡ get_or fs i f) where
   changed : (change : FunctionState → FunctionState) → with_function_changed f.id change fs ≡ set fs i (change f)
@@ -59,13 +69,13 @@ module _ (fs : List FunctionState) (i : ℕ) (f : FunctionState) (numbered : Are
   same : fs ≡ set fs i f
   same = sym (ap (λ (g : FunctionState). set fs i g) here ∙ set-get_or fs i f)
 
-  pub moved-at : after_move (function_move f) fs ≡ set fs i (moved_by (function_move f) f)
+  pub moved-at : functions_after_move (function_move f) fs ≡ set fs i (moved_by (function_move f) f)
   moved-at = by f.state f.items
     where
-      by : (s : TsfnState) (items : List ℕ) → after_move (function_move_in f s items) fs ≡ set fs i (moved_by (function_move_in f s items) f)
+      by : (s : TsfnState) (items : List ℕ) → functions_after_move (function_move_in f s items) fs ≡ set fs i (moved_by (function_move_in f s items) f)
       by Open [] = case (f.count == 0)
         where
-          case : (b : Bool) → after_move (cond b (Some (Closes f.id)) None) fs ≡ set fs i (moved_by (cond b (Some (Closes f.id)) None) f)
+          case : (b : Bool) → functions_after_move (cond b (Some (Closes f.id)) None) fs ≡ set fs i (moved_by (cond b (Some (Closes f.id)) None) f)
           case true = changed closed
           case false = same
       by Open (payload ∷ later) = changed first_taken

@@ -45,14 +45,14 @@ context_there (Some f) = Ok f.context
 
 -- MOVES
 -- the functions as the frame of a duty begins
-abbrev pub after_duty : Duty → List FunctionState → List FunctionState
-after_duty (duty.Item id n) fs = with_function_changed id.0 first_taken fs
-after_duty (duty.Function id) fs = with_function_changed id.0 done fs
-after_duty _ fs = fs
+abbrev pub functions_after_duty : Duty → List FunctionState → List FunctionState
+functions_after_duty (duty.Item id n) fs = with_function_changed id.0 first_taken fs
+functions_after_duty (duty.Function id) fs = with_function_changed id.0 done fs
+functions_after_duty _ fs = fs
 
 -- and after a move
-abbrev pub after_move : Option HubMove → List FunctionState → List FunctionState
-after_move None fs = fs
-after_move (Some (Delivers d)) fs = after_duty d.duty fs
-after_move (Some (Closes id)) fs = with_function_changed id closed fs
-after_move (Some (Finishes id)) fs = with_function_changed id finished fs
+abbrev pub functions_after_move : Option HubMove → List FunctionState → List FunctionState
+functions_after_move None fs = fs
+functions_after_move (Some (Delivers d)) fs = functions_after_duty d.duty fs
+functions_after_move (Some (Closes id)) fs = with_function_changed id closed fs
+functions_after_move (Some (Finishes id)) fs = with_function_changed id finished fs

@@ -2,12 +2,12 @@
 ghost use Rattle.std.specs.Prelude.{◌≡◌, ◌+◌, ◌-◌, ◌<◌, ◌≤◌, ◌^◌, ◌==◌, ◌||◌, [], ◌∷◌, ◌++◌, true, false, not, cond, length, map, sum_by, slice_index_or, slice_set};
 ghost use Rattle.std.specs.Prelude.{None, Some, IfSome, IfNone, IfOk, OnOk, OnErr, option_map};
 ghost use Rattle.std.specs.List.{All, list_all};
-ghost use Rattle.std.specs.Option.{option_and_then};
+ghost use Rattle.std.specs.Option.{option_and_then, is_some};
 ghost use Rattle.napi_types.specs.hub.HistoryRoom.{function_places};
 ghost use Rattle.napi_types.specs.hub.HubMoves.{first_move};
 ghost use Rattle.napi_types.specs.parts.Functions.{FunctionState, new_function, accepted_items, call_status, called, acquire_status, acquired, release_status, released, closed, with_referenced, is_done};
 ghost use Rattle.tsfn.specs.BusyPlaces.{is_busy_at, IsLowestBusy};
-ghost use Rattle.tsfn.specs.FunctionList.{function_numbered, status_there, changed_there, tried_there, context_there, after_move};
+ghost use Rattle.tsfn.specs.FunctionList.{function_numbered, status_there, changed_there, tried_there, context_there, functions_after_move};
 ghost use Rattle.tsfn.specs.FunctionMoves.{is_busy, move_of};
 ghost use Rattle.tsfn.specs.KeptFunctions.{holds_loop, MayRecount, IsRecounted};
 
@@ -220,7 +220,7 @@ impl Functions {
     /// In time logarithmic in how many functions have something to do. It takes no memory.
     pub fn take_move(&mut self) -> Option<Moved>
         ensures told { option_map move_of result ≡ first_move self.old }
-        ensures left { self.new ≡ after_move (first_move self.old) self.old }
+        ensures left { self.new ≡ functions_after_move (first_move self.old) self.old }
     {
         let place = self.overview.busy.lowest()?;
         let function = &mut self.list[place];
@@ -228,6 +228,13 @@ impl Functions {
         let moved = function.take_move();
         self.overview.note_move(place, before, function);
         moved
+    }
+
+    /// Whether one of them has something to do. Constant time.
+    pub fn has_move(&self) -> bool
+        ensures { result ≡ is_some (first_move self.now) }
+    {
+        self.overview.busy.lowest().is_some()
     }
 
     /// Every open function begins to close, as at the drain.

@@ -2,7 +2,7 @@ use Rattle.std.proofs.Common.{◌∙◌, ◌<◌, ◌≤◌, ◌+◌, ◌^◌, s
 use Rattle.napi_types.specs.hub.HubMoves.{first_move}
 use Rattle.napi_types.specs.hub.HistoryRoom.{function_places}
 use Rattle.tsfn.specs.BusyPlaces.{IsLowestBusy, NoneIsBusy}
-use Rattle.tsfn.specs.FunctionList.{after_move}
+use Rattle.tsfn.specs.FunctionList.{functions_after_move}
 use Rattle.tsfn.proofs.FirstMoves.{MovesFirst, moves-first, first-none, moved-at}
 use Rattle.tsfn.proofs.FunctionChanges.{IsMoved, moved-keeps}
 use Rattle.tsfn.proofs.Overviews.{Stands, may-recount, kept-changed, still-few}
@@ -61,5 +61,5 @@ returns-in_err-place-clause-told c =
 
 pub returns-in_err-place-clause-left : goal.returns-in_err-place-clause-left
 returns-in_err-place-clause-left c =
-    ap (λ m. after_move m c.args.self.now)
+    ap (λ m. functions_after_move m c.args.self.now)
     (sym (first-none c.self.inside.list.items (subst NoneIsBusy c.self.invariant.busy_are c.in_err-place.ensures.none)) ∙ ap first_move c.self.view_is)
