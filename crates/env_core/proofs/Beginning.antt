@@ -23,7 +23,7 @@ use Rattle.napi_types.specs.parts.Hooks.{Hook, last_hook, without_hook}
 use Rattle.napi_types.specs.parts.References.{ReferenceMap}
 use Rattle.napi_types.specs.parts.Scopes.{OpenHandle, held_by_frames}
 use Rattle.napi_types.specs.environment.Ends.{duty_ended, without_innermost_frame, outermost_end_change}
-use Rattle.napi_types.specs.environment.Environment.{Environment}
+use Rattle.napi_types.specs.environment.Environment.{Environment, FunctionRoot}
 use Rattle.napi_types.specs.environment.Hooked.{is_late, IsHooked}
 use Rattle.napi_types.specs.environment.Tickets.{hooks_left, ticket_change}
 use Rattle.napi_types.proofs.plain.Found.{same-self}
@@ -180,8 +180,8 @@ not-by-call : (c : Cause) → c ≢ cause.Call → is_by_call c ≡ false
 not-by-call cause.Call uncalled = absurd (uncalled refl)
 not-by-call _ uncalled = refl
 
-pub state-begun : {m : ReferenceMap} (store : StoreState) (old new : HandleScopes) (frames left : List Frame) (thrown : Option ℕ) (f : Frame) → IsState store old frames thrown m
-    → new ≡ with_frame_scopes old → left ≡ f ∷ frames → f.cause ≢ cause.Call → IsState store new left thrown m
+pub state-begun : {m : ReferenceMap} {rs : List FunctionRoot} (store : StoreState) (old new : HandleScopes) (frames left : List Frame) (thrown : Option ℕ) (f : Frame) → IsState store old frames thrown m rs
+    → new ≡ with_frame_scopes old → left ≡ f ∷ frames → f.cause ≢ cause.Call → IsState store new left thrown m rs
 state-begun store old new frames left thrown f s scopes is uncalled =
     let P : List OpenHandle → Type 0 = λ hs. All (λ (h : OpenHandle). IsLive store h.value) hs in
     rw (scopes, is) (record {
@@ -190,6 +190,7 @@ state-begun store old new frames left thrown f s scopes is uncalled =
       calls = ap (λ bs. false ∷ bs) s.calls ∙ ap (λ b. b ∷ map (λ (g : Frame). is_by_call g.cause) frames) (sym (not-by-call f.cause uncalled));
       pending = s.pending;
       referred = s.referred;
+      rooted = s.rooted;
     })
 
 -- the duty of the innermost frame has begun

@@ -25,7 +25,7 @@ use Rattle.napi_types.specs.parts.Scopes.{gives}
 use Rattle.napi_types.specs.parts.Values.{undefined_value}
 use Rattle.napi_types.specs.environment.Calls.{answer_unless, answer_unless_deep, answer}
 use Rattle.napi_types.specs.environment.Changes.{number_of}
-use Rattle.napi_types.specs.environment.Environment.{Environment, with_heap}
+use Rattle.napi_types.specs.environment.Environment.{Environment, with_heap, FunctionRoot}
 use Rattle.napi_types.specs.environment.ExceptionCalls.{with_pending, with_thrown_error}
 use Rattle.napi_types.specs.environment.Moments.{moment_refusal}
 use Rattle.napi_types.specs.environment.Refusals.{timely_refusal, early_refusal, depth_refusal}
@@ -161,19 +161,20 @@ taken-pending e store old new n h value next heap = record {
 }
 
 -- the scopes hold one handle more
-pub state-issued : {m : ReferenceMap} (store : StoreState) (old new : HandleScopes) (frame : List Frame) (thrown : Option ℕ) (v : ℕ)
-    → IsState store old frame thrown m → IsLive store v → new ≡ with_issued_handle v old → IsState store new frame thrown m
+pub state-issued : {m : ReferenceMap} {rs : List FunctionRoot} (store : StoreState) (old new : HandleScopes) (frame : List Frame) (thrown : Option ℕ) (v : ℕ)
+    → IsState store old frame thrown m rs → IsLive store v → new ≡ with_issued_handle v old → IsState store new frame thrown m rs
 state-issued store old new frame thrown v s live is = record {
   live = issued-live store old new v is live s.live;
   frames = ap (λ (x : HandleScopes). length x.frames) is ∙ length-changed (hold_in (record { handle = old.handles + 1; value = v })) old.frames ∙ s.frames;
   calls = ap (λ (x : HandleScopes). x.by_call) is ∙ s.calls;
   pending = s.pending;
   referred = s.referred;
+  rooted = s.rooted;
 }
 
 -- and no exception is pending
-pub state-taken : {m : ReferenceMap} (store : StoreState) (old new : HandleScopes) (frame : List Frame) (thrown : Option ℕ) (v : ℕ)
-    → IsState store old frame thrown m → IsLive store v → new ≡ with_issued_handle v old → IsState store new frame None m
-state-taken {m = m} store old new frame thrown v s live is =
-    let i : IsState store new frame thrown m = state-issued store old new frame thrown v s live is in
-    record { live = i.live; frames = i.frames; calls = i.calls; pending = tt; referred = i.referred }
+pub state-taken : {m : ReferenceMap} {rs : List FunctionRoot} (store : StoreState) (old new : HandleScopes) (frame : List Frame) (thrown : Option ℕ) (v : ℕ)
+    → IsState store old frame thrown m rs → IsLive store v → new ≡ with_issued_handle v old → IsState store new frame None m rs
+state-taken {m = m} {rs = rs} store old new frame thrown v s live is =
+    let i : IsState store new frame thrown m rs = state-issued store old new frame thrown v s live is in
+    record { live = i.live; frames = i.frames; calls = i.calls; pending = tt; referred = i.referred; rooted = i.rooted }

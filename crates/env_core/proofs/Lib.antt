@@ -7,6 +7,7 @@ pub mod CoreScopes
 pub mod Cores
 pub mod Ending
 pub mod Freeing
+pub mod FunctionRooting
 pub mod Knowing
 pub mod Looking
 pub mod Referring

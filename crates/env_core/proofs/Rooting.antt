@@ -11,7 +11,7 @@ use Rattle.napi_types.specs.parts.Reach.{numbers}
 use Rattle.napi_types.specs.parts.References.{Reference, ReferenceMap, strong_value, strong_values}
 use Rattle.napi_types.specs.parts.Scopes.{OpenHandle, Scope, FrameScopes, held_by_scopes, held_by_frame, held_by_frames}
 use Rattle.napi_types.specs.parts.Values.{starting_values}
-use Rattle.napi_types.specs.environment.Environment.{Environment}
+use Rattle.napi_types.specs.environment.Environment.{Environment, FunctionRoot}
 use Rattle.napi_types.specs.environment.Roots.{roots}
 use Rattle.napi_types.proofs.plain.Maps.{among-holds, all-among}
 use Rattle.napi_types.proofs.plain.Conditions.{alike}
@@ -21,9 +21,11 @@ use Rattle.env_values.specs.SeenValues.{seen_held, seen_scope, seen_frame, heap_
 use Rattle.napi_reference.specs.ReferencePlaces.{strong_in}
 use Rattle.napi_reference.proofs.KeepingReferences.{strong_values-AllValues}
 use Rattle.trace_collect.specs.Collects.{HoldsStarting}
+use Rattle.env_core.specs.FunctionRooting.{function_roots_seen, RootsAreLive}
 use Rattle.env_core.specs.Referring.{seen_reference, references_seen, RefersToLive}
 use Rattle.env_core.specs.Rooting.{AreStarting, AreRoots, held_values}
 use Rattle.env_core.specs.State.{pending_seen}
+use Rattle.env_core.proofs.FunctionRooting.{values-seen}
 
 -- THE SAME NUMBERS
 -- what some of these numbers give, the others give
@@ -48,9 +50,13 @@ pub same-holds : (P : ℕ → Type 0) (ms ns : List ℕ) → HaveSameNumbers ms 
 same-holds P ms ns same all = all-among P ns (λ n here. among-holds P ms n all (same n ∙ here))
 
 -- THE MACHINE'S ROOTS
--- the environment with these values, scopes, references and pending exception; no thread-safe function keeps a value alive
-abbrev pub whole_environment : Environment → StoreState → HandleScopes → ReferenceMap → Option ℕ → Environment
-whole_environment e s scopes m p = record e { heap = heap_of s scopes; references = references_seen s m; function_roots = []; pending = pending_seen s p }
+-- the environment with these values, scopes, references, roots of functions and pending exception
+abbrev pub whole_environment : Environment → StoreState → HandleScopes → ReferenceMap → List FunctionRoot → Option ℕ → Environment
+whole_environment e s scopes m rs p =
+    record e { heap = heap_of s scopes; references = references_seen s m; function_roots = function_roots_seen s rs; pending = pending_seen s p }
+
+abbrev root_values : List FunctionRoot → List ℕ
+root_values rs = map (λ r. r.value) rs
 
 abbrev handle_values : List OpenHandle → List ℕ
 handle_values hs = map (λ h. h.value) hs
@@ -100,26 +106,32 @@ module _ (s : StoreState) where
   pending-at (Some v) = refl
 
   -- the roots in the order of the machine
-  in-order : (e : Environment) (scopes : HandleScopes) (m : ReferenceMap) (p : Option ℕ) (starting : List ℕ) → AreStarting s starting
-      → map (number_in s) (starting ++ held_values scopes ++ strong_values m ++ option_to_list p) ≡ roots (whole_environment e s scopes m p)
-  in-order e scopes m p starting are =
+  in-order : (e : Environment) (scopes : HandleScopes) (m : ReferenceMap) (rs : List FunctionRoot) (p : Option ℕ) (starting : List ℕ) → AreStarting s starting
+      → map (number_in s) (starting ++ held_values scopes ++ strong_values m ++ root_values rs ++ option_to_list p) ≡ roots (whole_environment e s scopes m rs p)
+  in-order e scopes m rs p starting are =
       let n : List ℕ → List ℕ = map (number_in s) in
+      let first : List ℕ = numbers starting_values in
       let held : List ℕ = held_values scopes in
       let seen : List ℕ = handle_values (held_by_frames (map (seen_frame s) scopes.frames)) in
-      map-append (number_in s) (starting ++ held ++ strong_values m) (option_to_list p)
-      ∙ ap (λ l. l ++ n (option_to_list p)) (map-append (number_in s) (starting ++ held) (strong_values m))
-      ∙ ap (λ l. l ++ n (strong_values m) ++ n (option_to_list p)) (map-append (number_in s) starting held)
-      ∙ ap (λ l. l ++ n held ++ n (strong_values m) ++ n (option_to_list p)) are.numbers_are
-      ∙ ap (λ l. numbers starting_values ++ l ++ n (strong_values m) ++ n (option_to_list p)) (sym (frames-seen scopes.frames))
-      ∙ ap (λ l. numbers starting_values ++ seen ++ l ++ n (option_to_list p)) (sym (rows-strong m.rows))
-      ∙ ap (λ l. numbers starting_values ++ seen ++ strong_values (references_seen s m) ++ l) (sym (pending-at p))
-      ∙ ap (λ l. l ++ option_to_list (pending_seen s p)) (sym (append-nil (numbers starting_values ++ seen ++ strong_values (references_seen s m))))
+      let strong : List ℕ = strong_values m in
+      let functions : List ℕ = root_values rs in
+      let last : List ℕ = option_to_list p in
+      map-append (number_in s) (starting ++ held ++ strong ++ functions) last
+      ∙ ap (λ l. l ++ n last) (map-append (number_in s) (starting ++ held ++ strong) functions)
+      ∙ ap (λ l. l ++ n functions ++ n last) (map-append (number_in s) (starting ++ held) strong)
+      ∙ ap (λ l. l ++ n strong ++ n functions ++ n last) (map-append (number_in s) starting held)
+      ∙ ap (λ l. l ++ n held ++ n strong ++ n functions ++ n last) are.numbers_are
+      ∙ ap (λ l. first ++ l ++ n strong ++ n functions ++ n last) (sym (frames-seen scopes.frames))
+      ∙ ap (λ l. first ++ seen ++ l ++ n functions ++ n last) (sym (rows-strong m.rows))
+      ∙ ap (λ l. first ++ seen ++ strong_values (references_seen s m) ++ l ++ n last) (sym (values-seen s rs))
+      ∙ ap (λ l. first ++ seen ++ strong_values (references_seen s m) ++ root_values (function_roots_seen s rs) ++ l) (sym (pending-at p))
 
   -- and in any order
-  pub roots-seen : (e : Environment) (scopes : HandleScopes) (m : ReferenceMap) (p : Option ℕ) (ids : List ℕ) → AreRoots s scopes m p ids
-      → HaveSameNumbers (map (number_in s) ids) (roots (whole_environment e s scopes m p))
-  roots-seen e scopes m p ids r =
-      λ n. same-mapped (number_in s) ids (r.starting ++ held_values scopes ++ strong_values m ++ option_to_list p) r.are n ∙ ap (has_number n) (in-order e scopes m p r.starting r.are_starting)
+  pub roots-seen : (e : Environment) (scopes : HandleScopes) (m : ReferenceMap) (rs : List FunctionRoot) (p : Option ℕ) (ids : List ℕ) → AreRoots s scopes m rs p ids
+      → HaveSameNumbers (map (number_in s) ids) (roots (whole_environment e s scopes m rs p))
+  roots-seen e scopes m rs p ids r =
+      λ n. same-mapped (number_in s) ids (r.starting ++ held_values scopes ++ strong_values m ++ root_values rs ++ option_to_list p) r.are n
+      ∙ ap (has_number n) (in-order e scopes m rs p r.starting r.are_starting)
 
 -- the starting values are among them
 starts-with : (which : ℕ) (ns : List ℕ) → which < 5 → has_number (which + 1) (numbers starting_values ++ ns) ≡ true
@@ -130,11 +142,11 @@ starts-with (suc (suc (suc zero))) ns h = refl
 starts-with (suc (suc (suc (suc zero)))) ns h = refl
 starts-with (suc (suc (suc (suc (suc which))))) ns h = absurd (omega (arith, h))
 
-pub roots-start : (s : StoreState) (scopes : HandleScopes) (m : ReferenceMap) (p : Option ℕ) (ids : List ℕ) → AreRoots s scopes m p ids → HoldsStarting s ids
-roots-start s scopes m p ids r which h =
+pub roots-start : (s : StoreState) (scopes : HandleScopes) (m : ReferenceMap) (rs : List FunctionRoot) (p : Option ℕ) (ids : List ℕ) → AreRoots s scopes m rs p ids → HoldsStarting s ids
+roots-start s scopes m rs p ids r which h =
     let n : List ℕ → List ℕ = map (number_in s) in
-    let rest : List ℕ = held_values scopes ++ (strong_values m ++ option_to_list p) in
-    let all : List ℕ = r.starting ++ held_values scopes ++ strong_values m ++ option_to_list p in
+    let rest : List ℕ = held_values scopes ++ (strong_values m ++ (root_values rs ++ option_to_list p)) in
+    let all : List ℕ = r.starting ++ held_values scopes ++ strong_values m ++ root_values rs ++ option_to_list p in
     let are : all ≡ r.starting ++ rest = simp append_assoc in
     let seen : n all ≡ numbers starting_values ++ n rest = ap n are ∙ map-append (number_in s) r.starting rest ∙ ap (λ l. l ++ n rest) r.are_starting.numbers_are in
     same-mapped (number_in s) ids all r.are (which + 1) ∙ ap (has_number (which + 1)) seen ∙ starts-with which (n rest) h
@@ -210,16 +222,22 @@ pending-live s None live = All-nil (IsLive s)
 pending-live s (Some v) live = All-cons (IsLive s) v [] live (All-nil (IsLive s))
 
 -- what was gathered are the roots
-pub gathered : (s : StoreState) (scopes : HandleScopes) (m : ReferenceMap) (p : Option ℕ) (first second third ids : List ℕ) → HoldsLive s scopes → RefersToLive s m → IfSome p (IsLive s)
-    → AreStarting s first → second ≡ first ++ held_values scopes → HaveSameNumbers third (second ++ strong_values m) → ids ≡ third ++ option_to_list p → AreRoots s scopes m p ids
-gathered s scopes m p first second third ids held referred pending start a b c =
+pub gathered : (s : StoreState) (scopes : HandleScopes) (m : ReferenceMap) (rs : List FunctionRoot) (p : Option ℕ) (first second third fourth ids : List ℕ) → HoldsLive s scopes → RefersToLive s m
+    → RootsAreLive s rs → IfSome p (IsLive s) → AreStarting s first → second ≡ first ++ held_values scopes → HaveSameNumbers third (second ++ strong_values m) → fourth ≡ third ++ root_values rs
+    → ids ≡ fourth ++ option_to_list p → AreRoots s scopes m rs p ids
+gathered s scopes m rs p first second third fourth ids held referred rooted pending start a b c d =
     let L : ℕ → Type 0 = IsLive s in
-    let all : List ℕ = first ++ held_values scopes ++ strong_values m ++ option_to_list p in
+    let outer : List ℕ = first ++ held_values scopes ++ strong_values m in
+    let all : List ℕ = outer ++ root_values rs ++ option_to_list p in
     let are : HaveSameNumbers ids all =
-    λ n. ap (has_number n) c ∙ same-before (option_to_list p) third (second ++ strong_values m) b n ∙ ap (λ l. has_number n (l ++ strong_values m ++ option_to_list p)) a in
+    λ n. ap (has_number n) (d ∙ ap (λ l. l ++ option_to_list p) c)
+    ∙ same-before (option_to_list p) (third ++ root_values rs) (second ++ strong_values m ++ root_values rs) (same-before (root_values rs) third (second ++ strong_values m) b) n
+    ∙ ap (λ l. has_number n (l ++ strong_values m ++ root_values rs ++ option_to_list p)) a in
     let live : All L all =
-    All-append L (first ++ held_values scopes ++ strong_values m) (option_to_list p)
+    All-append L (outer ++ root_values rs) (option_to_list p)
+    (All-append L outer (root_values rs)
     (All-append L (first ++ held_values scopes) (strong_values m)
     (All-append L first (held_values scopes) start.live (All-map L (λ (h : OpenHandle). h.value) (held_by_frames scopes.frames) held))
-    (strong_values-AllValues L m referred)) (pending-live s p pending) in
+    (strong_values-AllValues L m referred))
+    (All-map L (λ (r : FunctionRoot). r.value) rs rooted)) (pending-live s p pending) in
     record { starting = first; are_starting = start; are = are; live = same-holds L all ids (λ n. sym (are n)) live }

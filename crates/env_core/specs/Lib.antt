@@ -2,6 +2,7 @@ pub mod Attaching
 pub mod Beginning
 pub mod Core
 pub mod CoreSteps
+pub mod FunctionRooting
 pub mod Instancing
 pub mod Journal
 pub mod Referring

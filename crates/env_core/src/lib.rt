@@ -6,6 +6,7 @@
 
 mod env;
 mod frames;
+mod function_roots;
 mod handles;
 mod instances;
 mod journal;

@@ -7,34 +7,41 @@ ghost use Rattle.std.specs.Option.{option_to_list};
 ghost use Rattle.value_store.specs.StoreChanges.{numbers_of};
 ghost use Rattle.napi_reference.specs.ReferencePlaces.{map_of};
 ghost use Rattle.env_values.specs.SeenValues.{HoldsLive};
+ghost use Rattle.env_core.specs.FunctionRooting.{RootsAreLive};
 ghost use Rattle.env_core.specs.Referring.{RefersToLive};
 ghost use Rattle.env_core.specs.Rooting.{AreRoots, AreStarting, held_values};
 
+use crate::function_roots::FunctionRoots;
 use handle_scope::Scopes;
 use napi_reference::Refs;
 use napi_types::{NoMemory, ValueId};
 use std::alloc::Global;
 use value_store::Store;
 
-/// The roots: the starting values, the values of handles in open scopes, those of strong references, and the pending exception.
+/// The roots: the starting values, the values of handles in open scopes, those of strong references, those that thread-safe
+/// functions keep, and the pending exception.
 ///
-/// It takes time linear in the handle places, for each of them logarithmic in the open scopes, and in the references that were
-/// ever made.
+/// It takes time linear in the handle places, for each of them logarithmic in the open scopes, in the references that were ever
+/// made, and in the roots of functions.
 pub fn roots_of(
     alloc: Global,
     store: &Store,
     scopes: &Scopes,
     references: &Refs,
+    functions: &FunctionRoots,
     pending: Option<ValueId>,
 ) -> Result<Vec<ValueId>, NoMemory>
     requires held { HoldsLive store.now scopes.now }
     requires referred { RefersToLive store.now (map_of references.now) }
+    requires rooted { RootsAreLive store.now functions.now }
     requires pending { IfSome pending (λ v. IsLive store.now v.0) }
-    ensures { IfOk result (λ roots. AreRoots store.now scopes.now (map_of references.now) (option_map (λ v. v.0) pending) (numbers_of roots.items)) }
+    ensures { let thrown = option_map (λ v. v.0) pending in
+        IfOk result (λ roots. AreRoots store.now scopes.now (map_of references.now) functions.now thrown (numbers_of roots.items)) }
 {
     let mut roots = starting(alloc, store)?;
     push_held(&mut roots, scopes)?;
     push_strong(&mut roots, references)?;
+    functions.push_values(&mut roots)?;
     push(&mut roots, pending)?;
     Ok(roots)
 }

@@ -25,12 +25,14 @@ mod collection;
 mod ends;
 mod exceptions;
 mod externals;
+mod function_roots;
 mod hooks;
 mod instances;
 mod references;
 mod tickets;
 
 use crate::frames::{Frames, StandingFrame};
+use crate::function_roots::FunctionRoots;
 use crate::instances::InstanceTable;
 pub use calling::Called;
 use cleanup_hooks::Hooks;
@@ -66,6 +68,7 @@ pub struct State {
     book: Book,
     hooks: Hooks,
     instances: InstanceTable,
+    function_roots: FunctionRoots,
     exceptions: Exceptions,
 }
 
@@ -79,10 +82,10 @@ impl Model for State {
     ghost use Rattle.napi_reference.specs.ReferencePlaces.{map_of};
     ghost use Rattle.env_core.specs.Attaching.{attachments_seen, IsAttached};
     ghost use Rattle.env_core.specs.Beginning.{IsBookOf};
+    ghost use Rattle.env_core.specs.FunctionRooting.{function_roots_seen};
     ghost use Rattle.env_core.specs.Referring.{references_seen};
     ghost use Rattle.env_core.specs.State.{pending_seen, IsState};
 
-    // No thread-safe function keeps a value alive so far.
     ghost view = { λ state. record {
       addons = state.addons;
       texts = state.texts;
@@ -97,12 +100,12 @@ impl Model for State {
       book = state.book.book;
       hooks = state.hooks;
       instances = state.instances;
-      function_roots = [];
+      function_roots = function_roots_seen state.store state.function_roots;
       pending = pending_seen state.store state.exceptions.pending;
       last = state.exceptions.last;
     } };
 
-    ghost invariant = { λ state. IsState state.store state.scopes state.frames state.exceptions.pending (map_of state.references)
+    ghost invariant = { λ state. IsState state.store state.scopes state.frames state.exceptions.pending (map_of state.references) state.function_roots
         × IsAttached state.store state.wraps.attachments state.book.book
         × IsBookOf state.frames state.book.book };
 }
@@ -135,6 +138,7 @@ impl State {
             book,
             hooks: Hooks::new(alloc),
             instances,
+            function_roots: FunctionRoots::new(alloc),
             exceptions: Exceptions::new(),
         })
     }

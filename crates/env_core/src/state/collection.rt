@@ -22,6 +22,7 @@ impl State {
             &self.store,
             &self.scopes,
             &self.references,
+            &self.function_roots,
             self.exceptions.pending(),
         )?;
         // What is attached to live values is told apart by their creation numbers.

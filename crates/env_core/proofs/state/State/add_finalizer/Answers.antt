@@ -27,6 +27,7 @@ invariant_of-self-2 c =
         calls = i.calls;
         pending = i.pending;
         referred = refers-live s.store c.args.wanted v (map_of s.references) (map_of c.refer_if.new.references) c.in_ok-out.out c.in_ok-out.ensures.ok live i.referred;
+        rooted = i.rooted;
       },
       rw (c.attach_if.ensures, c.register_if-made.ensures.registered, c.reserve_attached.ensures.attachments, c.reserve_attached.ensures.same, c.in_ok-ticket.ensures.ticket)
           (attached-finalized s.store s.wraps.attachments s.book.book v f c.self.invariant.1 live),

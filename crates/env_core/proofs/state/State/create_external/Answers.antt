@@ -7,6 +7,7 @@ use Rattle.env_core.specs.RegisteringWants.{ticket_for, with_registration_if, du
 use Rattle.env_core.specs.contracts.state.State.{the_view}
 use Rattle.env_values.specs.SeenValues.{heap_of}
 use Rattle.env_core.proofs.Attaching.{attached-kept, attachments-kept}
+use Rattle.env_core.proofs.FunctionRooting.{roots-live, roots-kept}
 use Rattle.env_core.proofs.Registered.{book-asked, next-free, attached-finalized, given-frames, external-answers}
 use Rattle.env_core.proofs.Unrefused.{on-err}
 use Rattle.env_core.proofs.ValueAnswers.{pending-live, pending-kept, referred-live, references-kept, same-seen}
@@ -18,8 +19,8 @@ returns-in_err-value-clause-err c =
     let g = c.make_held in
     rw (← c.self.view_is, c.reserve_attached.ensures.attachments, c.reserve_attached.ensures.same)
     (on-err _
-    (same-seen (the_view s) s.store g.new.store s.scopes g.new.scopes (map_of s.references) s.wraps.attachments s.book.book s.exceptions.pending g.ensures.keeps.values
-    c.self.invariant.0.referred c.self.invariant.1 c.self.invariant.0.pending c.in_err-value.ensures.err))
+    (same-seen (the_view s) s.store g.new.store s.scopes g.new.scopes (map_of s.references) s.function_roots s.wraps.attachments s.book.book s.exceptions.pending g.ensures.keeps.values
+    c.self.invariant.0.referred c.self.invariant.0.rooted c.self.invariant.1 c.self.invariant.0.pending c.in_err-value.ensures.err))
 
 pub attach_if-requires-clause-absent : goal.attach_if-requires-clause-absent
 attach_if-requires-clause-absent c =
@@ -39,6 +40,7 @@ invariant_of-self-2 c =
         calls = g.ensures.keeps.scopes.calls ∙ i.calls;
         pending = pending-live s.store g.new.store s.exceptions.pending g.ensures.keeps.values i.pending;
         referred = referred-live s.store g.new.store (map_of s.references) g.ensures.keeps.values i.referred;
+        rooted = roots-live s.store g.new.store s.function_roots g.ensures.keeps.values i.rooted;
       },
       rw (c.attach_if.ensures, c.register_if-made.ensures.registered, c.reserve_attached.ensures.attachments, c.reserve_attached.ensures.same, c.in_ok-ticket.ensures.ticket)
           (attached-finalized g.new.store s.wraps.attachments s.book.book c.in_ok-value.value.0 f (attached-kept s.store g.new.store g.ensures.keeps.values s.wraps.attachments s.book.book c.self.invariant.1) c.in_ok-value.ensures.live),
@@ -56,6 +58,7 @@ returns-clause-ok c =
     (rw (
       pending-kept s.store g.new.store s.exceptions.pending g.ensures.keeps.values c.self.invariant.0.pending,
       references-kept s.store g.new.store (map_of s.references) g.ensures.keeps.values c.self.invariant.0.referred,
+      roots-kept s.store g.new.store s.function_roots g.ensures.keeps.values c.self.invariant.0.rooted,
     )
     (external-answers (the_view s) s.store g.new.store s.wraps.attachments s.book.book c.args.payload c.args.hint c.args.finalizer c.in_ok-value.out (heap_of g.new.store g.new.scopes) v f
     c.register_if-made.result c.attach_if.new.wraps.attachments c.register_if-made.new.book.book c.in_ok-value.ensures.gives c.in_ok-value.ensures.number

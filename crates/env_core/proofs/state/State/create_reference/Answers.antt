@@ -21,6 +21,7 @@ invariant_of-self-2 c =
         referred =
             subst (RefersToLive s.store) (sym c.in_ok-reference.ensures.made)
             (AllValues-with_reference (IsLive s.store) c.in_ok-reference.reference.0 c.value_of-value.result.0 c.args.count (map_of s.references) c.value_of-value.ensures.live i.referred);
+        rooted = i.rooted;
       },
       c.self.invariant.1,
       c.self.invariant.2,

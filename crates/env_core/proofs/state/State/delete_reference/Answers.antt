@@ -24,6 +24,7 @@ invariant_of-self c =
           | in-Ok w ↦ subst P (sym w.in-Ok.ensures.deleted) (AllValues-without_reference (IsLive s.store) c.args.reference.0 (map_of s.references) i.referred)
           | in-Err w ↦ subst P (sym (ap map_of w.in-Err.ensures.err)) i.referred
         ];
+        rooted = i.rooted;
       },
       c.self.invariant.1,
       c.self.invariant.2,

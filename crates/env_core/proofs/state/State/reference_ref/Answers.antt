@@ -14,6 +14,7 @@ invariant_of-self c =
         calls = i.calls;
         pending = i.pending;
         referred = raised-told-live s.store (map_of s.references) (map_of c.add.new.self) c.args.reference.0 c.add.result i.referred c.add.ensures.counted (λ none. ap map_of (c.add.ensures.gone_stays none)) (err-mapped c.add.result s.references c.add.new.self c.add.ensures.err);
+        rooted = i.rooted;
       },
       c.self.invariant.1,
       c.self.invariant.2,

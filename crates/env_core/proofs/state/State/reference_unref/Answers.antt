@@ -13,6 +13,7 @@ invariant_of-self c =
         calls = i.calls;
         pending = i.pending;
         referred = lowered-told-live s.store (map_of s.references) (map_of c.take.new.self) c.args.reference.0 c.take.result i.referred c.take.ensures.counted (err-mapped c.take.result s.references c.take.new.self c.take.ensures.err);
+        rooted = i.rooted;
       },
       c.self.invariant.1,
       c.self.invariant.2,

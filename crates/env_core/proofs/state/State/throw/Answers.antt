@@ -18,6 +18,7 @@ invariant_of-self c =
         calls = c.self.invariant.0.calls;
         pending = given-live s.store s.scopes c.args.handle.0 c.in-Some.value.0 c.self.invariant.0.live c.in-Some.ensures;
         referred = c.self.invariant.0.referred;
+        rooted = c.self.invariant.0.rooted;
       },
       c.self.invariant.1,
       c.self.invariant.2,

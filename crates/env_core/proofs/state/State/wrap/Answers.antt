@@ -69,6 +69,7 @@ invariant_of-self-2 c =
         calls = i.calls;
         pending = i.pending;
         referred = refers-live s.store c.args.wanted v (map_of s.references) (map_of c.refer_if.new.references) c.in_ok-out.out c.in_ok-out.ensures.ok live i.referred;
+        rooted = i.rooted;
       },
       rw (c.wrap.ensures.wrapped, c.register_if-made.ensures.registered, c.reserve.ensures.same, c.reserve_ticket.ensures.same, c.in_ok-ticket.ensures.ticket)
           (attached-wrapped s.store s.wraps.attachments s.book.book v c.args.payload f c.self.invariant.1 live),

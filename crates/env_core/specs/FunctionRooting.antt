@@ -1,0 +1,37 @@
+-- The roots of thread-safe functions.
+use Rattle.std.specs.Prelude.{◌≡◌, ℕ, ◌<◌, List, ◌++◌, length, map}
+use Rattle.std.specs.List.{All}
+use Rattle.napi_types.specs.declared.ids.HandleId.{HandleId}
+use Rattle.napi_types.specs.plain.Lists.{one, as_map}
+use Rattle.napi_types.specs.parts.Graph.{StoreState, IsLive, number_in}
+use Rattle.napi_types.specs.parts.Heap.{handle_value}
+use Rattle.napi_types.specs.environment.Environment.{Environment, FunctionRoot}
+use Rattle.env_core.specs.declared.function_roots.RootRow.{RootRow}
+
+-- the root that a row tells, by the store's number of its value
+abbrev pub root_of_row : RootRow → FunctionRoot
+root_of_row r = record { function = r.function.0; value = r.value.0 }
+
+-- the numbers of the functions rise, so that no function has two roots
+abbrev pub AreRising : List FunctionRoot → Type 0
+AreRising roots = as_map (λ r. r.function) roots ≡ roots
+
+-- a root has the creation number of its value, where the store's number is kept
+abbrev pub root_seen : StoreState → FunctionRoot → FunctionRoot
+root_seen store r = record r { value = number_in store r.value }
+
+-- all roots
+abbrev pub function_roots_seen : StoreState → List FunctionRoot → List FunctionRoot
+function_roots_seen store roots = map (root_seen store) roots
+
+-- the value of each root is live
+abbrev pub RootsAreLive : StoreState → List FunctionRoot → Type 0
+RootsAreLive store roots = All (λ r. IsLive store r.value) roots
+
+-- there is room for the root of one function more
+abbrev pub HasRootPlace : ℕ → Environment → Type 0
+HasRootPlace room e = length e.function_roots < room
+
+-- the function of this number keeps the value of a handle alive
+abbrev pub with_function_root : ℕ → HandleId → Environment → Environment
+with_function_root n f e = record e { function_roots = e.function_roots ++ one (record { function = n; value = handle_value e.heap f.0 }) }
