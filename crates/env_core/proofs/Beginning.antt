@@ -35,7 +35,7 @@ use Rattle.napi_types.proofs.environment.Registrations.{registered-holds, left-k
 use Rattle.finalizer_queue.specs.KeptBook.{ticket_number}
 use Rattle.handle_scope.specs.HandleScopes.{HandleScopes, with_frame_scopes}
 use Rattle.env_core.specs.Attaching.{IsAttached}
-use Rattle.env_core.specs.Beginning.{AreBegun, IsBookOf}
+use Rattle.env_core.specs.Beginning.{HasBegun, AreBegun, IsBookOf}
 use Rattle.env_core.specs.State.{IsState, is_by_call}
 
 -- THE BOOK CHANGES
@@ -43,8 +43,12 @@ use Rattle.env_core.specs.State.{IsState, is_by_call}
 abbrev StayBegun : Book → Book → Type 0
 StayBegun old new = (n : ℕ) → is_at is_begun old n ≡ true → is_at is_begun new n ≡ true
 
+begun-still : (old new : Book) → StayBegun old new → (d : Duty) → HasBegun old d → HasBegun new d
+begun-still old new stays (duty.Ticket t) begun = stays t.0 begun
+begun-still old new stays _ begun = tt
+
 stays-begun : (frames : List Frame) (old new : Book) → StayBegun old new → AreBegun frames old → AreBegun frames new
-stays-begun frames old new stays begun = λ k d inside. stays (ticket_number (get_or (duties_of frames) k d)) (begun k d inside)
+stays-begun frames old new stays begun = λ k d inside. begun-still old new stays (get_or (duties_of frames) k d) (begun k d inside)
 
 same-book : (frames : List Frame) (mid new : Book) → new ≡ mid → IsBookOf frames mid → IsBookOf frames new
 same-book frames mid new is book = let P : Book → Type 0 = λ b. IsBookOf frames b in subst P (sym is) book
@@ -114,29 +118,49 @@ book-left frames left book is k = let P : List Frame → Type 0 = λ fs. IsBookO
   where
     fewer : (fs : List Frame) → AreBegun fs book → AreBegun (tail fs) book
     fewer [] all = all
-    fewer (f ∷ fs) all = less-begun (λ d. is_at is_begun book (ticket_number d) ≡ true) f.duty (duties_of fs) all
+    fewer (f ∷ fs) all = less-begun (HasBegun book) f.duty (duties_of fs) all
 
 -- the only frame is gone, and its duty has ended
 pub book-ended : (frames left : List Frame) (old new : Book) (d : Duty) → left ≡ [] → new ≡ duty_ended (Some d) old → IsBookOf frames old → IsBookOf left new
 book-ended frames left old new d none is book =
     let P : List Frame → Type 0 = λ fs. IsBookOf fs new in
     subst P (sym none) (same-book [] (duty_ended (Some d) old) new is (record {
-      begun = All-nil (λ (q : Duty). is_at is_begun (duty_ended (Some d) old) (ticket_number q) ≡ true);
+      begun = All-nil (HasBegun (duty_ended (Some d) old));
       uncalled = left-kept AreUncalled old (λ t. moved-uncalled made_ended (λ m. m == t) old book.uncalled) cause.Init (Some d) book.uncalled;
     }))
 
--- the frame of a ticket that begins stands alone
+-- the frame of a duty that begins stands alone
+begun-alone : (frames : List Frame) (book : Book) (f : Frame) (d : Duty) → frames ≡ [] → f.duty ≡ Some d → HasBegun book d → AreBegun (f ∷ frames) book
+begun-alone frames book f d none of begun =
+    let Q : List Duty → Type 0 = λ ds. All (HasBegun book) ds in
+    let duties : duties_of (f ∷ frames) ≡ d ∷ [] = ap (λ o. cons_option o (duties_of frames)) of ∙ ap (λ fs. d ∷ duties_of fs) none in
+    subst Q (sym duties) (All-cons (HasBegun book) d [] begun (All-nil (HasBegun book)))
+
+-- that of a ticket
+begun-ticket : (book : Book) (d : Duty) → is_at is_begun book (ticket_number d) ≡ true → HasBegun book d
+begun-ticket book (duty.Ticket t) begun = begun
+begun-ticket book _ begun = tt
+
 pub book-begun : (frames left : List Frame) (old new : Book) (f : Frame) (d : Duty) (move : TicketState → TicketState) (n : ℕ) → frames ≡ [] → new ≡ moved_at move n old → left ≡ f ∷ frames → f.duty ≡ Some d
     → is_at is_begun new (ticket_number d) ≡ true → IsBookOf frames old → IsBookOf left new
 book-begun frames left old new f d move n none moves is of begun book =
     let P : List Frame → Type 0 = λ fs. IsBookOf fs new in
-    let Q : List Duty → Type 0 = λ ds. All (λ (q : Duty). is_at is_begun new (ticket_number q) ≡ true) ds in
     let R : Book → Type 0 = λ b. All (λ (r : Registration). r.cause ≢ cause.Call) b in
-    let duties : duties_of (f ∷ frames) ≡ d ∷ [] = ap (λ o. cons_option o (duties_of frames)) of ∙ ap (λ fs. d ∷ duties_of fs) none in
     subst P (sym is) (record {
-      begun = subst Q (sym duties) (All-cons (λ (q : Duty). is_at is_begun new (ticket_number q) ≡ true) d [] begun (All-nil (λ (q : Duty). is_at is_begun new (ticket_number q) ≡ true)));
+      begun = begun-alone frames new f d none of (begun-ticket new d begun);
       uncalled = subst R (sym moves) (moved-uncalled move (λ m. m == n) old book.uncalled);
     })
+
+-- that of a duty of the hub, of which the book tells nothing
+untold : (book : Book) (d : Duty) → is_hub_duty (Some d) ≡ true → HasBegun book d
+untold book (duty.Ticket t) hub = let no : ⊥ = cc in absurd no
+untold book _ hub = tt
+
+pub book-delivered : (frames left : List Frame) (book : Book) (f : Frame) (d : Duty) → frames ≡ [] → left ≡ f ∷ frames → f.duty ≡ Some d → is_hub_duty (Some d) ≡ true
+    → IsBookOf frames book → IsBookOf left book
+book-delivered frames left book f d none is of hub k =
+    let P : List Frame → Type 0 = λ fs. IsBookOf fs book in
+    subst P (sym is) (record { begun = begun-alone frames book f d none of (untold book d hub); uncalled = k.uncalled })
 
 -- before `finals` the ticket of the hook that was added last is registered
 pub last-registered : (e : Environment) (n : ℕ) → IsHooked e → is_late e.phase ≡ false → Some n ≡ option_map (λ h. h.ticket) (last_hook e.hooks)
@@ -193,22 +217,22 @@ state-begun store old new frames left thrown f s scopes is uncalled =
       rooted = s.rooted;
     })
 
--- the duty of the innermost frame has begun
-pub innermost-begun : (frames : List Frame) (book : Book) (d : Duty) → duty_of frames ≡ Some d → AreBegun frames book → is_at is_begun book (ticket_number d) ≡ true
-innermost-begun [] book d has begun = let no : ⊥ = cc in absurd no
-innermost-begun (f ∷ frames) book d has begun =
-    let P : List Duty → Type 0 = λ ds. All (λ (q : Duty). is_at is_begun book (ticket_number q) ≡ true) ds in
-    All-head (λ (q : Duty). is_at is_begun book (ticket_number q) ≡ true) d (duties_of frames) (subst P (ap (λ o. cons_option o (duties_of frames)) has) begun)
+-- the duty of the innermost frame has begun, where it is none of the hub
+ticket-begun : (book : Book) (d : Duty) → is_hub_duty (Some d) ≡ false → HasBegun book d → is_at is_begun book (ticket_number d) ≡ true
+ticket-begun book (duty.Ticket t) local begun = begun
+ticket-begun book _ local begun = let no : ⊥ = cc in absurd no
+
+pub innermost-begun : (frames : List Frame) (book : Book) (d : Duty) → duty_of frames ≡ Some d → is_hub_duty (Some d) ≡ false → AreBegun frames book
+    → is_at is_begun book (ticket_number d) ≡ true
+innermost-begun [] book d has local begun = let no : ⊥ = cc in absurd no
+innermost-begun (f ∷ frames) book d has local begun =
+    let P : List Duty → Type 0 = λ ds. All (HasBegun book) ds in
+    ticket-begun book d local (All-head (HasBegun book) d (duties_of frames) (subst P (ap (λ o. cons_option o (duties_of frames)) has) begun))
 
 -- and its ticket ends with the frame
 pub duty_ticket : (d : Duty) (book : Book) → is_at is_begun book (ticket_number d) ≡ true → moved_at made_ended (ticket_number d) book ≡ duty_ended (Some d) book
 duty_ticket (duty.Ticket t) book begun = refl
 duty_ticket _ book begun = cc
-
--- so it is none of the hub
-pub begun-local : (d : Duty) (book : Book) → is_at is_begun book (ticket_number d) ≡ true → is_hub_duty (Some d) ≡ false
-begun-local (duty.Ticket t) book begun = refl
-begun-local _ book begun = cc
 
 pub length-duty : (d : Option Duty) (book : Book) → length (duty_ended d book) ≡ length book
 length-duty (Some (duty.Ticket t)) book = length-moved made_ended (λ m. m == t.0) book

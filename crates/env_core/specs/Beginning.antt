@@ -3,17 +3,23 @@ use Rattle.std.specs.Prelude.{◌≡◌, ◌≢◌, ℕ, true, List, Some}
 use Rattle.std.specs.List.{All}
 use Rattle.napi_types.specs.declared.duties.DueInfo.{DueInfo}
 use Rattle.napi_types.specs.declared.entry.Cause.TheVariants as cause
+use Rattle.napi_types.specs.declared.entry.Duty.{Duty}
+use Rattle.napi_types.specs.declared.entry.Duty.TheVariants as duty
 use Rattle.napi_types.specs.declared.entry.Entry.{Entry}
 use Rattle.napi_types.specs.parts.Book.{Book, Registration, is_begun, is_at, registration_at, due_info}
 use Rattle.napi_types.specs.parts.Duties.{duties_of}
 use Rattle.napi_types.specs.parts.Frames.{Frame}
 use Rattle.napi_types.specs.environment.Environment.{Environment}
 use Rattle.napi_types.specs.environment.Tickets.{ticket_change, next_ticket}
-use Rattle.finalizer_queue.specs.KeptBook.{ticket_number}
 
--- each duty whose frame stands is that of a ticket that has begun
+-- a ticket that has begun; what the hub's duties have come to the book does not tell
+abbrev pub HasBegun : Book → Duty → Type 0
+HasBegun book (duty.Ticket ticket) = is_at is_begun book ticket.0 ≡ true
+HasBegun book _ = Unit {0}
+
+-- each ticket whose frame stands has begun
 abbrev pub AreBegun : List Frame → Book → Type 0
-AreBegun frames book = All (λ d. is_at is_begun book (ticket_number d) ≡ true) (duties_of frames)
+AreBegun frames book = All (HasBegun book) (duties_of frames)
 
 -- a book beside the frames that stand: the tickets of those frames have begun, and no ticket's frame is one that a call begins
 pub record IsBookOf (frames : List Frame) (book : Book) : Type 0 where

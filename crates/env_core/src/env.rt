@@ -237,15 +237,14 @@ impl EnvCore {
         self.state.has_local()
     }
 
-    /// Ends the frame of a ticket, which stands alone, cut or not. Nobody is told the reply of its `end`. It takes no memory. So far
-    /// every duty whose frame stands is that of a ticket, and none is the hub's.
+    /// Ends the frame of a ticket, which stands alone, cut or not. Nobody is told the reply of its `end`. It takes no memory.
     pub fn end_duty(&mut self, begun: Begun, cut: Option<Why>)
         requires duty { duty_of self.old.env.frames ≡ Some begun.duty }
+        requires local { is_hub_duty (Some begun.duty) ≡ false }
         requires alone { tail self.old.env.frames ≡ [] }
         requires outermost { cause_of self.old.env.frames ≢ cause.Call }
         requires asks { cut ≡ Some Why.Asks → asks_made self.old.env.frames ≡ most_asks }
         ensures ended { self.new ≡ after_change (end_change None cut self.old.env) self.old }
-        ensures local { is_hub_duty (Some begun.duty) ≡ false }
     {
         let entry = self.state.end_duty(begun, cut);
         self.journal.push(entry);

@@ -8,14 +8,15 @@ use napi_types::{Cause, Duty, MOST_FRAMES, NoMemory};
 use std::alloc::Global;
 use std::marker::Model;
 
-/// A frame: why it began, which entry of which addon it runs, the duty that began it where one did, and how many asks it made.
-/// Its scopes stand beside it.
+/// A frame: why it began, which entry of which addon it runs, the duty that began it where one did, whether it makes asks, and how
+/// many it made. Its scopes stand beside it.
 #[derive(Clone, Copy)]
 pub struct StandingFrame {
     pub cause: Cause,
     pub addon: u32,
     pub entry: u32,
     pub duty: Option<Duty>,
+    pub makes_asks: bool,
     pub asks: u32,
 }
 

@@ -168,6 +168,7 @@ impl State {
             addon,
             entry: 0,
             duty: None,
+            makes_asks: true,
             asks: 0,
         });
         self.inits += 1;

@@ -172,6 +172,7 @@ impl State {
                     addon,
                     entry,
                     duty: None,
+                    makes_asks: true,
                     asks: 0,
                 });
                 let begin = host_entry(

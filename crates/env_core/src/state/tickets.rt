@@ -76,13 +76,13 @@ impl State {
     }
 
     /// The frame of a ticket ends, which stands alone, cut or not, and its scopes close. The ticket has ended, and an exception that
-    /// is pending is cleared. The duty is never one of the hub.
+    /// is pending is cleared.
     pub fn end_duty(&mut self, begun: Begun, cut: Option<Why>) -> Entry
         requires duty { duty_of self.old.frames ≡ Some begun.duty }
+        requires local { is_hub_duty (Some begun.duty) ≡ false }
         requires alone { tail self.old.frames ≡ [] }
         ensures entry { result ≡ (outermost_end_change cut self.old).entry }
         ensures after { self.new ≡ (outermost_end_change cut self.old).after }
-        ensures local { is_hub_duty (Some begun.duty) ≡ false }
     {
         let out = self.clear_at_end(cut);
         self.scopes.leave_frame();
@@ -92,9 +92,8 @@ impl State {
     }
 }
 
-/// The frame of a duty begins, which makes asks, with a scope of its own: its entry.
+/// The frame of a duty begins, with a scope of its own: its entry.
 fn begin_frame(scopes: &mut Scopes, frames: &mut Frames, told: DueInfo) -> Entry
-    requires asks { told.runs ≡ true }
     requires scopes { length scopes.old.frames < most_frames }
     requires frames { length frames.old < most_frames }
     ensures entry { result ≡ entry_of host.Begin (begin_told (frame_of_duty told)) }
@@ -107,6 +106,7 @@ fn begin_frame(scopes: &mut Scopes, frames: &mut Frames, told: DueInfo) -> Entry
         addon: told.addon,
         entry: told.entry,
         duty: Some(told.duty),
+        makes_asks: told.runs,
         asks: 0,
     });
     host_entry(

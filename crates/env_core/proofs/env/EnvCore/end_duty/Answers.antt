@@ -11,5 +11,5 @@ invariant_of-self c =
     let outermost = rw (← c.self.view_is) at c.requires.outermost in
     let stands = duty-stands s.state.frames c.args.begun.duty (rw (← c.self.view_is) at c.requires.duty) in
     core-ended s.state c.end_duty-entry.new.self s.journal c.push.new.self c.end_duty-entry.result None c.args.cut c.self.invariant stands
-    (ap is_hub_duty (rw (← c.self.view_is) at c.requires.duty) ∙ c.end_duty-entry.ensures.local)
+    (ap is_hub_duty (rw (← c.self.view_is) at c.requires.duty) ∙ c.requires.local)
     (c.end_duty-entry.ensures.after ∙ sym (ap (λ (x : Change). x.after) (end-outermost None c.args.cut s.state (cause_of s.state.frames) outermost))) c.push.ensures

@@ -4,7 +4,7 @@ use Rattle.napi_types.specs.parts.Frames.{duty_of}
 use Rattle.napi_types.specs.environment.Environment.{Environment}
 use Rattle.env_values.specs.SeenValues.{seen_frame}
 use Rattle.env_core.specs.contracts.state.State.{the_view}
-use Rattle.env_core.proofs.Beginning.{attached-ended, begun-local, book-ended, innermost-begun, left-with}
+use Rattle.env_core.proofs.Beginning.{attached-ended, book-ended, innermost-begun, left-with}
 use Rattle.env_core.proofs.Ending.{state-left}
 use Rattle.env_core.proofs.SeenScopes.{map-tail}
 use Rattle.env_core.proofs.state.State.end_duty.Goals as goal
@@ -13,7 +13,7 @@ pub end_ticket-requires : goal.end_ticket-requires
 end_ticket-requires c =
     let s = c.self.inside in
     let same = ap (λ (e : Environment). e.frames) (c.self.view_is ∙ c.clear_at_end-out.ensures.cleared) in
-    innermost-begun s.frames s.book.book c.args.begun.duty (ap duty_of same ∙ c.requires.duty) c.self.invariant.2.begun
+    innermost-begun s.frames s.book.book c.args.begun.duty (ap duty_of same ∙ c.requires.duty) c.requires.local c.self.invariant.2.begun
 
 pub invariant_of-self : goal.invariant_of-self
 invariant_of-self c =
@@ -29,9 +29,3 @@ returns-clause-after c =
     let s = c.self.inside in
     left-with c.args.self.now (the_view s) _ c.args.cut c.args.begun.duty (c.self.view_is ∙ c.clear_at_end-out.ensures.cleared) c.requires.duty
     (rw (c.leave_frame.ensures, c.pop.ensures, c.end_ticket.ensures, map-tail (seen_frame s.store) s.scopes.frames) refl)
-
-pub returns-clause-local : goal.returns-clause-local
-returns-clause-local c =
-    let s = c.self.inside in
-    let same = ap (λ (e : Environment). e.frames) (c.self.view_is ∙ c.clear_at_end-out.ensures.cleared) in
-    begun-local c.args.begun.duty s.book.book (innermost-begun s.frames s.book.book c.args.begun.duty (ap duty_of same ∙ c.requires.duty) c.self.invariant.2.begun)
