@@ -12,7 +12,7 @@ use Rattle.napi_types.specs.plain.Built.{is_built, built_ask}
 use Rattle.napi_types.specs.plain.Guards.{is_growing}
 use Rattle.napi_types.specs.plain.Lists.{head, tail}
 use Rattle.napi_types.specs.plain.Room.{Room, is_full, need, first_places, may_want_memory}
-use Rattle.napi_types.specs.parts.Frames.{Frame, asks_made, duty_of, is_hub_duty, most_asks}
+use Rattle.napi_types.specs.parts.Frames.{Frame, asks_made, most_asks}
 use Rattle.napi_types.specs.scripts.Plans.{Plan, plan_of, Registers, registers_of}
 use Rattle.napi_types.specs.scripts.Registers.{plan_ask}
 use Rattle.napi_types.specs.environment.Changes.{may_call}
@@ -31,6 +31,7 @@ use Rattle.env_loop.specs.RecordedRuns.{IsSoundEnvironment}
 use Rattle.env_loop.specs.Turns.{IsAsked, IsTurn}
 use Rattle.env_loop.proofs.TurnSteps.{two_may, both_may, taken-built, cut-next, same-room}
 use Rattle.env_loop.proofs.FrameTurns.{InFrame, in-stands, in-calls}
+use Rattle.env_loop.proofs.LocalFrames.{innermost-local}
 use Rattle.env_loop.proofs.RegisterTurns.{told-from}
 use Rattle.env_loop.proofs.EndTurns.{callers_of, IsToldEnd, ended-turn}
 
@@ -39,11 +40,11 @@ abbrev MayCut : Core → Ask → Why → Type 0
 MayCut core a w = (s : Setting) (hub : Hub) (history : List Entry) → core.limit ≡ s.limits.journal → may_cut (machine_of s.limits core hub history) a w ≡ true
 
 cut-turn : {ps : List Plan} {core : Core} {all : AddonStates} {f : Frame} {a : Ask} → InFrame ps core.env all.registers f a → (w : Why) (new : Core) (now : AddonStates)
-    → MayCut core (built_ask is_built a) w → is_hub_duty (duty_of core.env.frames) ≡ false
-    → new ≡ after_change (end_change None (Some w) core.env) core → IsToldEnd ps all.registers core.env None (Some w) now.registers → now.seen ≡ all.seen → IsTurn ps core all new now
-cut-turn {ps} {core} {all} {f} {a} i w new now may local made told same =
+    → MayCut core (built_ask is_built a) w → new ≡ after_change (end_change None (Some w) core.env) core → IsToldEnd ps all.registers core.env None (Some w) now.registers → now.seen ≡ all.seen → IsTurn ps core all new now
+cut-turn {ps} {core} {all} {f} {a} i w new now may made told same =
     ended-turn i None (Some w) new now
-    (λ s hub history limit. cut-next (machine_of s.limits core hub history) (built_ask is_built a) w (end_change None (Some w) core.env).entry.reply.out f (tail core.env.frames) (in-stands i) local
+    (λ s hub history limit. cut-next (machine_of s.limits core hub history) (built_ask is_built a) w (end_change None (Some w) core.env).entry.reply.out f (tail core.env.frames) (in-stands i)
+    (innermost-local core.env.frames i.sound.local)
     (ended-ends None (Some w) core.env).told (may s hub history limit)) made told same
 
 -- ITS CALL STOPPED
@@ -77,22 +78,21 @@ stopped-may s core hub history a c t limit may made stops =
 
 stopped-turn : (ps : List Plan) (core new : Core) (all now : AddonStates) (f : Frame) (a : Ask) (c : Call) (t : Status) (w : Why) → InFrame ps core.env all.registers f a
     → f.asks < most_asks → ask.Do c ≡ built_ask is_built a
-    → StopsBy core.env (room_in core) c t → w ≡ why_stopped t → is_hub_duty (duty_of core.env.frames) ≡ false → new ≡ after_change (end_change None (Some w) core.env) core → IsToldEnd ps all.registers core.env None (Some w) now.registers → now.seen ≡ all.seen
+    → StopsBy core.env (room_in core) c t → w ≡ why_stopped t → new ≡ after_change (end_change None (Some w) core.env) core → IsToldEnd ps all.registers core.env None (Some w) now.registers → now.seen ≡ all.seen
     → IsTurn ps core all new now
-stopped-turn ps core new all now f a c t w i below made stops reason local ended told same =
+stopped-turn ps core new all now f a c t w i below made stops reason ended told same =
     cut-turn i w new now
-    (λ s hub history limit. ap (λ x. may_cut (machine_of s.limits core hub history) (built_ask is_built a) x) reason ∙ stopped-may s core hub history a c t limit (in-calls i below) made stops) local ended told same
+    (λ s hub history limit. ap (λ x. may_cut (machine_of s.limits core hub history) (built_ask is_built a) x) reason ∙ stopped-may s core hub history a c t limit (in-calls i below) made stops) ended told same
 
 -- a call that stopped changed nothing, so its frame ends where it stood
 pub stopped-turn-at : (ps qs : List Plan) (core stopped new : Core) (all : AddonStates) (mid : Registers) (now : AddonStates) (f : Frame) (a : Ask) (c : Call) (t : Status) (w : Why)
     → InFrame ps core.env all.registers f a → f.asks < most_asks → ask.Do c ≡ built_ask is_built a → StopsBy core.env (room_in core) c t → w ≡ why_stopped t
-    → stopped ≡ core → is_hub_duty (duty_of stopped.env.frames) ≡ false → new ≡ after_change (end_change None (Some w) stopped.env) stopped → qs ≡ ps → mid ≡ all.registers → IsToldEnd qs mid stopped.env None (Some w) now.registers → now.seen ≡ all.seen
+    → stopped ≡ core → new ≡ after_change (end_change None (Some w) stopped.env) stopped → qs ≡ ps → mid ≡ all.registers → IsToldEnd qs mid stopped.env None (Some w) now.registers → now.seen ≡ all.seen
     → IsTurn ps core all new now
-stopped-turn-at ps qs core stopped new all mid now f a c t w i below made stops reason same local ended plans registers told unseen =
+stopped-turn-at ps qs core stopped new all mid now f a c t w i below made stops reason same ended plans registers told unseen =
     let P : Core → Type 0 = λ x. new ≡ after_change (end_change None (Some w) x.env) x in
     let Q : Core → Type 0 = λ x. IsToldEnd ps all.registers x.env None (Some w) now.registers in
-    let R : Core → Type 0 = λ x. is_hub_duty (duty_of x.env.frames) ≡ false in
-    stopped-turn ps core new all now f a c t w i below made stops reason (subst R same local) (subst P same ended)
+    stopped-turn ps core new all now f a c t w i below made stops reason (subst P same ended)
     (subst Q same (told-from ps qs all.registers mid now.registers (callers_of stopped.env) (end_change None (Some w) stopped.env).entry.reply plans registers told)) unseen
 
 -- IT HAS MADE ALL ITS ASKS
@@ -104,11 +104,10 @@ some-ask ps all f = by (plan_of ps f.addon)
     by None = (ask.Leave None, tt)
     by (Some p) = (plan_ask p (registers_of all f.addon) f.entry f.asks, refl)
 
-pub spent-turn : (ps : List Plan) (core new : Core) (all now : AddonStates) (f : Frame) → IsSoundEnvironment core.env → head core.env.frames ≡ Some f → f.makes_asks ≡ true
-    → f.asks ≡ most_asks → is_hub_duty (duty_of core.env.frames) ≡ false
-    → new ≡ after_change (end_change None (Some why.Asks) core.env) core → IsToldEnd ps all.registers core.env None (Some why.Asks) now.registers → now.seen ≡ all.seen → IsTurn ps core all new now
-spent-turn ps core new all now f sound top makes spent local made told same =
+pub spent-turn : (ps : List Plan) (core new : Core) (all now : AddonStates) (f : Frame) → IsSoundEnvironment core.env → head core.env.frames ≡ Some f
+    → f.asks ≡ most_asks → new ≡ after_change (end_change None (Some why.Asks) core.env) core → IsToldEnd ps all.registers core.env None (Some why.Asks) now.registers → now.seen ≡ all.seen → IsTurn ps core all new now
+spent-turn ps core new all now f sound top spent made told same =
     let would = some-ask ps all.registers f in
-    let i : InFrame ps core.env all.registers f would.0 = record { sound = sound; top = top; makes = makes; asked = would.1 } in
+    let i : InFrame ps core.env all.registers f would.0 = record { sound = sound; top = top; asked = would.1 } in
     let all_made : (asks_made core.env.frames == most_asks) ≡ true = ap (λ gs. asks_made gs == most_asks) (in-stands i) ∙ ap (λ k. k == most_asks) spent in
-    cut-turn i why.Asks new now (λ s hub history limit. all_made) local made told same
+    cut-turn i why.Asks new now (λ s hub history limit. all_made) made told same

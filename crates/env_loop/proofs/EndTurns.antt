@@ -13,7 +13,7 @@ use Rattle.napi_types.specs.declared.ids.HandleId.{HandleId}
 use Rattle.napi_types.specs.plain.Built.{is_built, built_ask}
 use Rattle.napi_types.specs.plain.Lists.{head, tail}
 use Rattle.napi_types.specs.parts.Duties.{duties_of}
-use Rattle.napi_types.specs.parts.Frames.{Frame, duty_of, is_hub_duty, at_last_ask, most_asks}
+use Rattle.napi_types.specs.parts.Frames.{Frame, duty_of, at_last_ask, most_asks}
 use Rattle.napi_types.specs.scripts.Plans.{Plan, plan_of, Registers, registers_of}
 use Rattle.napi_types.specs.scripts.Registers.{registers_after_reply}
 use Rattle.napi_types.specs.environment.Changes.{Change}
@@ -34,6 +34,7 @@ use Rattle.env_core.specs.Core.{Core, after_change}
 use Rattle.env_loop.specs.Recording.{AddonStates, machine_of, HasSeen, Continues}
 use Rattle.env_loop.specs.RecordedRuns.{IsSoundEnvironment, Holds}
 use Rattle.env_loop.specs.Turns.{IsTold, OnlyInnermostChanges, IsTurn}
+use Rattle.env_loop.proofs.LocalFrames.{innermost-local}
 use Rattle.env_loop.proofs.Recordings.{local-grown}
 use Rattle.env_loop.proofs.TurnSteps.{leave-next, by-env, ended-untold}
 use Rattle.env_loop.proofs.FrameTurns.{head-stands, head-below, tail-below, InFrame, in-stands, in-some, in-asks, sound-ended}
@@ -90,11 +91,12 @@ ended-turn {ps} {core} {all} {f} {a} i v cut new now next made told same =
 
 -- the frame leaves
 pub left-turn : (ps : List Plan) (core new : Core) (all now : AddonStates) (f : Frame) (a : Ask) (v : Option HandleId) → InFrame ps core.env all.registers f a
-    → f.asks < most_asks → ask.Leave v ≡ built_ask is_built a → is_hub_duty (duty_of core.env.frames) ≡ false
+    → f.asks < most_asks → ask.Leave v ≡ built_ask is_built a
     → new ≡ after_change (end_change v None core.env) core → IsToldEnd ps all.registers core.env v None now.registers → now.seen ≡ all.seen → IsTurn ps core all new now
-left-turn ps core new all now f a v i below left local made told same =
+left-turn ps core new all now f a v i below left made told same =
     ended-turn i v None new now
-    (λ s hub history limit. leave-next (machine_of s.limits core hub history) (built_ask is_built a) v (end_change v None core.env).entry.reply.out f (tail core.env.frames) (in-stands i) local left
+    (λ s hub history limit. leave-next (machine_of s.limits core hub history) (built_ask is_built a) v (end_change v None core.env).entry.reply.out f (tail core.env.frames) (in-stands i)
+    (innermost-local core.env.frames i.sound.local) left
     (ended-ends v None core.env).told (in-asks i below)) made told same
 
 -- THE CALLER IS TOLD

@@ -23,8 +23,9 @@ use Rattle.napi_types.proofs.environment.HookedSteps.{hooked-asked, hooked-ended
 use Rattle.napi_types.proofs.environment.Owners.{owned-asked, owned-ended, within-asked, within-ended}
 use Rattle.napi_types.proofs.environment.Registrations.{AreUncalled, uncalled-asked, uncalled-ended}
 use Rattle.napi_types.proofs.environment.StandingFrames.{nested-asked, nested-ended}
-use Rattle.env_loop.specs.RecordedRuns.{IsSoundEnvironment}
+use Rattle.env_loop.specs.RecordedRuns.{AsksLocally, IsSoundEnvironment}
 use Rattle.env_loop.specs.Turns.{IsAsked}
+use Rattle.env_loop.proofs.LocalFrames.{local-asked, local-ended, innermost-asks}
 use Rattle.env_loop.proofs.TurnSteps.{two_may}
 
 -- WHERE A FRAME STANDS
@@ -68,7 +69,6 @@ below-most fs n e h = ap (λ k. nat_lt k most_asks) e ∙ lt-true n most_asks h
 pub record InFrame (ps : List Plan) (e : Environment) (all : Registers) (f : Frame) (a : Ask) : Type 0 where
   pub sound : IsSoundEnvironment e
   pub top : head e.frames ≡ Some f
-  pub makes : f.makes_asks ≡ true
   pub asked : IsAsked ps all f a
 
 pub in-stands : {ps : List Plan} {e : Environment} {all : Registers} {f : Frame} {a : Ask} → InFrame ps e all f a → e.frames ≡ f ∷ tail e.frames
@@ -81,6 +81,10 @@ in-some i = stands-some _ _ i.top
 pub in-there : {ps : List Plan} {e : Environment} {all : Registers} {f : Frame} {a : Ask} → InFrame ps e all f a → f.addon < e.addons
 in-there i = head-below _ _ _ i.top i.sound.owned.frames
 
+-- it makes asks
+pub in-makes : {ps : List Plan} {e : Environment} {all : Registers} {f : Frame} {a : Ask} → InFrame ps e all f a → f.makes_asks ≡ true
+in-makes i = innermost-asks _ _ i.top i.sound.local
+
 -- it may ask, and call
 pub in-spare : {ps : List Plan} {e : Environment} {all : Registers} {f : Frame} {a : Ask} → InFrame ps e all f a → f.asks < most_asks
     → asks_made e.frames < most_asks
@@ -90,18 +94,19 @@ pub in-asks : {ps : List Plan} {e : Environment} {all : Registers} {f : Frame} {
 in-asks {ps} {e} {all} {f} {a} i below = below-most e.frames f.asks (ap asks_made (in-stands i)) below
 
 pub in-calls : {ps : List Plan} {e : Environment} {all : Registers} {f : Frame} {a : Ask} → InFrame ps e all f a → f.asks < most_asks → may_call e ≡ true
-in-calls {ps} {e} {all} {f} {a} i below = two_may (may_ask e) (is_asking e.frames) (in-asks i below) (ap is_asking (in-stands i) ∙ i.makes)
+in-calls {ps} {e} {all} {f} {a} i below = two_may (may_ask e) (is_asking e.frames) (in-asks i below) (ap is_asking (in-stands i) ∙ in-makes i)
 
 -- THE ENVIRONMENT STAYS SOUND
 -- where its frames do
 sound-after : (old new : Environment) → old.frames ≢ [] → IsSoundEnvironment old → new.opened ≡ old.opened → new.addons ≡ old.addons → new.phase ≡ old.phase
-    → IsOwned old.addons new → All (λ x. x.asks ≤ most_asks) new.frames → AreNested new.frames → AreUncalled new.book → IsHooked new → IsSoundEnvironment new
-sound-after old new some s opened addons same owned asks nested uncalled hooked =
+    → IsOwned old.addons new → All (λ x. x.asks ≤ most_asks) new.frames → All AsksLocally new.frames → AreNested new.frames → AreUncalled new.book → IsHooked new → IsSoundEnvironment new
+sound-after old new some s opened addons same owned asks local nested uncalled hooked =
     let P : ℕ → Type 0 = λ n. IsOwned n new in
     record {
       opened = opened ∙ s.opened;
       owned = subst P (sym addons) owned;
       asks = asks;
+      local = local;
       nested = nested;
       uncalled = uncalled;
       hooked = hooked;
@@ -115,7 +120,7 @@ sound-asked {ps} {e} {all} {f} {a} i below c n =
     let k : KeepsButFrames e (asked_change e c n).after (need c) = asked_change-fits e c n in
     let course = course-parts e (asked_change e c n).after k.course in
     sound-after e (asked_change e c n).after (in-some i) i.sound course.opened course.addons course.phase (owned-asked e.addons e c n (in-some i) i.sound.owned) (within-asked e c n (in-spare i below) i.sound.asks)
-    (nested-asked e c n (in-some i) i.sound.nested) (uncalled-asked e c n i.sound.uncalled) (hooked-asked e c n i.sound.hooked)
+    (local-asked e c n i.sound.local) (nested-asked e c n (in-some i) i.sound.nested) (uncalled-asked e c n i.sound.uncalled) (hooked-asked e c n i.sound.hooked)
 
 -- .. and after the end of a frame
 pub sound-ended : {ps : List Plan} {e : Environment} {all : Registers} {f : Frame} {a : Ask} → InFrame ps e all f a → (v : Option HandleId) (cut : Option Why)
@@ -124,4 +129,4 @@ sound-ended {ps} {e} {all} {f} {a} i v cut =
     let k : KeepsButFrame e (end_change v cut e).after = ended-keeps v cut e in
     let course = course-parts e (end_change v cut e).after k.course in
     sound-after e (end_change v cut e).after (in-some i) i.sound course.opened course.addons course.phase (owned-ended e.addons e v cut i.sound.owned) (within-ended e v cut i.sound.asks)
-    (nested-ended e v cut i.sound.nested) (uncalled-ended e v cut i.sound.uncalled) (hooked-ended v cut e i.sound.hooked)
+    (local-ended e v cut i.sound.local) (nested-ended e v cut i.sound.nested) (uncalled-ended e v cut i.sound.uncalled) (hooked-ended v cut e i.sound.hooked)

@@ -109,6 +109,7 @@ moved-sound e p next other s = record {
   opened = s.opened;
   owned = owned-phase e.addons e p s.owned;
   asks = s.asks;
+  local = s.local;
   nested = s.nested;
   uncalled = uncalled-phase p e.book s.uncalled;
   hooked = hooked-phase p e next s.hooked;

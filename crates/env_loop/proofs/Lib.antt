@@ -3,6 +3,7 @@ pub mod CutTurns
 pub mod EndTurns
 pub mod FrameTurns
 pub mod HubTurns
+pub mod LocalFrames
 pub mod RecordedRuns
 pub mod Recordings
 pub mod RegisterTurns

@@ -21,7 +21,7 @@ use Rattle.addon_trait.specs.Addons.{OthersStay}
 use Rattle.env_core.specs.Core.{Core}
 use Rattle.env_loop.specs.Recording.{AddonStates, IsOf, AgreesWhereTold, AgreesWith, IsRecorded}
 use Rattle.env_loop.specs.Turns.{IsTold, OnlyGiven, OnlyInnermostChanges}
-use Rattle.env_loop.proofs.FrameTurns.{InFrame, in-stands, in-there}
+use Rattle.env_loop.proofs.FrameTurns.{InFrame, in-stands, in-there, in-makes}
 use Rattle.env_loop.proofs.TurnSteps.{taken-twice}
 
 -- WHAT IS ASKED, AND WHAT IS KEPT
@@ -172,7 +172,7 @@ asked-in {ps} {core} {all} {f} {a} i s hub history firsts of r =
     let own : List ℕ = registers_of r.own f.addon in
     let b : Ask = built_ask is_built a in
     frame-asked (plan_of ps f.addon) p f (registers_of all.registers f.addon) own a (of.first f.addon below) (r.agrees f.addon below) i.asked
-    ∙ ap (λ t. cond t (built_ask is_built (frame_ask p own f b)) (ask.Leave None)) (sym i.makes)
+    ∙ ap (λ t. cond t (built_ask is_built (frame_ask p own f b)) (ask.Leave None)) (sym (in-makes i))
     ∙ ap (λ built. taken_ask built p own f b) (sym of.built)
     ∙ ap (λ gs. frames_ask s.built s.plans r.own gs b) (sym (in-stands i))
 

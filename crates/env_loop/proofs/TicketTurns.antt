@@ -36,6 +36,7 @@ use Rattle.env_loop.specs.declared.turn.LocalTurn.TheVariants as turn
 use Rattle.env_loop.specs.Recording.{AddonStates, HasSeen, machine_of, IsRecorded}
 use Rattle.env_loop.specs.RecordedRuns.{IsSoundEnvironment}
 use Rattle.env_loop.specs.Turns.{turn_at, turn_of, side_of, uncounted, begins_next, IsTurn}
+use Rattle.env_loop.proofs.LocalFrames.{local-begun}
 use Rattle.env_loop.proofs.Recordings.{local-grown}
 use Rattle.env_loop.proofs.RegisterTurns.{Kept, begun-touched, others-given, given-others, given-kept}
 use Rattle.env_loop.proofs.SeenLists.{begins-ticket, seen-begun}
@@ -111,6 +112,7 @@ ticket-turn ps all now core new due info sound alone unasked begins enough as_ma
       opened = sound.opened;
       owned = owned;
       asks = within-ticket core.env n r sound.asks;
+      local = local-begun (frame_of_duty d) core.env.frames refl refl sound.local;
       nested = nested-ticket n r core.env begins.registered sound.uncalled alone;
       uncalled = uncalled-begun core.env.phase n core.env.book sound.uncalled;
       hooked = hooked-begun n r core.env begins.registered (next-may core.env n r sound.hooked begins.next begins.registered) sound.hooked;

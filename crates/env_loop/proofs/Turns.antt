@@ -3,8 +3,9 @@ use Rattle.std.proofs.Common.{◌≡◌, ◌<◌, ℕ, nat_lt, Bool, true, false
 use Rattle.std.proofs.lemmas.Bool.{ltb-true}
 use Rattle.std.specs.Option.{option_to_list}
 use Rattle.napi_types.specs.declared.duties.DueInfo.{DueInfo}
+use Rattle.napi_types.specs.declared.entry.Cause.TheVariants as cause
 use Rattle.napi_types.specs.declared.entry.Phase.TheVariants as phase
-use Rattle.napi_types.specs.parts.Frames.{duty_of}
+use Rattle.napi_types.specs.parts.Frames.{duty_of, frame_of}
 use Rattle.napi_types.specs.scripts.Plans.{Plan}
 use Rattle.napi_types.specs.environment.Changes.{Change, init_change, gone_change}
 use Rattle.napi_types.specs.environment.Environment.{Environment}
@@ -17,6 +18,7 @@ use Rattle.env_core.specs.Core.{Core, after_change, next_init}
 use Rattle.env_loop.specs.Recording.{AddonStates, HasSeen, Continues}
 use Rattle.env_loop.specs.RecordedRuns.{IsSoundEnvironment}
 use Rattle.env_loop.specs.Turns.{begins_next, OnlyInnermostChanges, IsTurn}
+use Rattle.env_loop.proofs.LocalFrames.{local-begun}
 use Rattle.env_loop.proofs.RegisterTurns.{none-touched}
 use Rattle.env_loop.proofs.SeenLists.{begins-ticket, seen-same}
 use Rattle.env_loop.proofs.Recordings.{init-grown, gone_change-grown}
@@ -70,6 +72,7 @@ init-turn ps all core new i sound alone here next made =
       opened = sound.opened;
       owned = owned-init core.env.addons core.env i there sound.owned;
       asks = within-init core.env i sound.asks;
+      local = local-begun (frame_of cause.Init i 0) core.env.frames refl refl sound.local;
       nested = nested-init i core.env alone;
       uncalled = sound.uncalled;
       hooked = hooked-init i core.env sound.hooked;
@@ -87,6 +90,7 @@ gone_from ps all core new sound alone here none made =
       opened = sound.opened;
       owned = record { frames = sound.owned.frames; functions = sound.owned.functions; tickets = sound.owned.tickets };
       asks = sound.asks;
+      local = sound.local;
       nested = sound.nested;
       uncalled = sound.uncalled;
       hooked = hooked-gone core.env sound.hooked;

@@ -1,5 +1,5 @@
 -- A running environment: its core, the hub's entries so far, and the duty whose frame stands.
-use Rattle.std.specs.Prelude.{◌≡◌, ◌≢◌, ◌+◌, true, List, [], ◌∷◌, ◌++◌, Option, None, option_map}
+use Rattle.std.specs.Prelude.{◌≡◌, ◌≢◌, ◌+◌, true, false, List, [], ◌∷◌, ◌++◌, Option, None, option_map}
 use Rattle.std.specs.List.{All}
 use Rattle.std.specs.Option.{option_to_list}
 use Rattle.napi_types.specs.declared.duties.DueInfo.{DueInfo}
@@ -9,7 +9,7 @@ use Rattle.napi_types.specs.declared.entry.Local.{Local}
 use Rattle.napi_types.specs.declared.entry.Phase.TheVariants as phase
 use Rattle.napi_types.specs.plain.Weave.{weave}
 use Rattle.napi_types.specs.parts.Duties.{duties_of, AreNested}
-use Rattle.napi_types.specs.parts.Frames.{Frame}
+use Rattle.napi_types.specs.parts.Frames.{Frame, is_hub_duty}
 use Rattle.napi_types.specs.scripts.Plans.{Plan}
 use Rattle.napi_types.specs.environment.Asks.{AsksWithin}
 use Rattle.napi_types.specs.environment.Environment.{Environment}
@@ -37,13 +37,19 @@ opened_run core = record { core = core; hub = quiet_hub Before; history = []; be
 abbrev pub IsOpened : Core → Type 0
 IsOpened core = core ≡ opened_core core.env.addons core.env.texts core.limit
 
+-- a frame makes asks, and no duty of the hub began it
+pub record AsksLocally (f : Frame) : Type 0 where
+  pub asks : f.makes_asks ≡ true
+  pub local : is_hub_duty f.duty ≡ false
+
 -- what the frames of a run keep: each runs an addon of the script and makes no more asks than it may, a frame that a duty began is the outermost one, and no
--- call begins the frame of a ticket; each function and each ticket belongs to an addon of the script, each hook is registered up to `finals`, and no frame stands
+-- call begins the frame of a ticket; so far the hub has no duties, and every frame makes asks; each function and each ticket belongs to an addon of the script, each hook is registered up to `finals`, and no frame stands
 -- once the environment is gone
 pub record IsSoundEnvironment (e : Environment) : Type 0 where
   pub opened : e.opened ≡ true
   pub owned : IsOwned e.addons e
   pub asks : AsksWithin e
+  pub local : All AsksLocally e.frames
   pub nested : AreNested e.frames
   pub uncalled : All (λ r. r.cause ≢ cause.Call) e.book
   pub hooked : IsHooked e

@@ -2,7 +2,7 @@
 ghost use Rattle.std.specs.Prelude.{◌≡◌, ◌≢◌, ◌<◌, ◌≤◌, [], length, map, Some, None, true, false, is_some};
 ghost use Rattle.napi_types.specs.plain.Built.{is_built, built_ask};
 ghost use Rattle.napi_types.specs.plain.Lists.{head, tail};
-ghost use Rattle.napi_types.specs.parts.Frames.{at_last_ask, asks_made, duty_of, is_hub_duty, most_asks};
+ghost use Rattle.napi_types.specs.parts.Frames.{at_last_ask, asks_made, duty_of, most_asks};
 ghost use Rattle.napi_types.specs.environment.Ends.{end_change};
 ghost use Rattle.napi_types.specs.environment.Tickets.{next_ticket};
 ghost use Rattle.env_core.specs.Standing.{machine_frame};
@@ -54,7 +54,6 @@ fn end_duty(core: &mut EnvCore, begun: &mut Option<Begun>, cut: Option<Why>)
     requires duty { duty_of core.old.env.frames ≢ None }
     requires asks { cut ≡ Some Why.Asks → asks_made core.old.env.frames ≡ most_asks }
     ensures ended { core.new ≡ after_change (end_change None cut core.old.env) core.old }
-    ensures local { is_hub_duty (duty_of core.old.env.frames) ≡ false }
     ensures spent { begun.new ≡ None }
 {
     let Some(standing) = begun.take() else {
@@ -64,7 +63,7 @@ fn end_duty(core: &mut EnvCore, begun: &mut Option<Begun>, cut: Option<Why>)
 }
 
 /// Ends the innermost frame, which this duty began, if one did; the duty ends with it, and nobody is told a reply. Where a call began the
-/// frame, the addon of its caller is told the reply. No addon has seen anything more. The duty is never one of the hub.
+/// frame, the addon of its caller is told the reply. No addon has seen anything more.
 fn end_frame(
     core: &mut EnvCore,
     begun: &mut Option<Begun>,
@@ -83,7 +82,6 @@ fn end_frame(
     ensures plans { map (λ b. plan b) addons.new.items ≡ map (λ b. plan b) addons.old.items }
     ensures seen { map (λ b. seen b) addons.new.items ≡ map (λ b. seen b) addons.old.items }
     ensures ended { core.new ≡ after_change (end_change value cut core.old.env) core.old }
-    ensures local { is_hub_duty (duty_of core.old.env.frames) ≡ false }
     ensures held { Holds core.new.env.frames begun.new }
     ensures told { let before = map (λ b. regs b) addons.old.items in
         let after = map (λ b. regs b) addons.new.items in

@@ -1,14 +1,14 @@
 //! What is done with an environment, step by step, and compared with what it is to come to. A step that cannot be made ends the test.
-ghost use Rattle.std.specs.Prelude.{◌≡◌, ◌≢◌, [], true, Some};
+ghost use Rattle.std.specs.Prelude.{◌≡◌, ◌≢◌, [], true, false, Some};
 ghost use Rattle.napi_types.specs.plain.Lists.{tail};
 ghost use Rattle.napi_types.specs.plain.Phases.{next_phase};
-ghost use Rattle.napi_types.specs.parts.Frames.{cause_of, duty_of};
+ghost use Rattle.napi_types.specs.parts.Frames.{cause_of, duty_of, is_hub_duty};
 
 use super::{Found, NONE, ample, ticket_of, told};
 use addon_trait::Phased;
 use env_core::{EnvCore, Stepped};
 use napi_types::{
-    Call, Cause, DueInfo, HandleId, Limits, NAPI_VERSION, Phase, SeenList, TsfnId, Why,
+    Call, Cause, DueInfo, Duty, HandleId, Limits, NAPI_VERSION, Phase, SeenList, TsfnId, Why,
 };
 use std::alloc::Global;
 use std::process::Abort;
@@ -151,14 +151,21 @@ pub fn finish_and_close<P: Phased>(core: &mut P, finished: u64, closed: u64) {
     core.moved(closed);
 }
 
+/// Whether the duty is one of the hub.
+fn is_of_hub(duty: Duty) -> bool
+    ensures { result ≡ is_hub_duty (Some duty) }
+{
+    !matches!(duty, Duty::Ticket(_))
+}
+
 /// Whether the frame of this duty stands, and stands alone.
-fn stands(core: &EnvCore, info: &DueInfo) -> bool
+fn stands(core: &EnvCore, duty: Duty) -> bool
     ensures { let frames = core.now.env.frames in
-        result ≡ true → (duty_of frames ≡ Some info.now.duty) × (tail frames ≡ []) × (cause_of frames ≢ Cause.Call) }
+        result ≡ true → (duty_of frames ≡ Some duty) × (tail frames ≡ []) × (cause_of frames ≢ Cause.Call) }
 {
     match core.frame() {
         Some(frame) if frame.cause != Cause::Call => {
-            frame.duty == Some(info.duty) && core.depth() == 1
+            frame.duty == Some(duty) && core.depth() == 1
         }
         _ => false,
     }
@@ -187,7 +194,7 @@ fn ran(rt: &impl Abort, core: &mut EnvCore, cut: Option<Why>) -> Found
     let info = *due.info();
     let begun = due.begin(&mut SeenList::new());
     assert!(rt;
-        stands(core, &info),
+        stands(core, info.duty) && !is_of_hub(info.duty),
         "the frame of the ticket does not stand alone"
     );
     core.end_duty(begun, cut);
