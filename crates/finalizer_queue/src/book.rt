@@ -1,5 +1,5 @@
 //! The tickets, each with what was registered under it.
-ghost use Rattle.std.specs.Prelude.{◌≡◌, ◌+◌, ◌<◌, ◌≤◌, ◌^◌, ◌++◌, ◌∷◌, ◌↔◌, [], length, true, None, IfSome, IfOk, OnOk};
+ghost use Rattle.std.specs.Prelude.{◌≡◌, ◌+◌, ◌<◌, ◌≤◌, ◌^◌, ◌++◌, ◌∷◌, ◌↔◌, [], length, true, None, IfSome, IfOk, OnOk, OnErr};
 ghost use Rattle.std.specs.Option.{is_some};
 ghost use Rattle.napi_types.specs.parts.Book.{is_registered, is_begun, is_at, registration_at, lowest_due, due_info, made_due, made_withdrawn, made_ended, made_due_and_begun, moved_at, all_due};
 ghost use Rattle.finalizer_queue.specs.KeptBook.{ticket_number, LowestBegins};
@@ -50,13 +50,15 @@ impl Book {
         })
     }
 
-    /// Takes the memory for one ticket more, so that [`Book::register`] needs none. One that is spare already is enough.
+    /// Takes the memory for one ticket more, so that [`Book::register`] needs none. Where one is spare already it takes none, and
+    /// changes nothing.
     ///
     /// Near constant time: now and then the book grows.
     pub fn reserve(&mut self) -> Result<(), NoMemory>
         ensures ok { OnOk result (0 < self.new.spare) }
         ensures same { self.new.book ≡ self.old.book }
-        ensures spare { self.old.spare ≤ self.new.spare }
+        ensures memory { OnErr result (self.old.spare ≡ 0) }
+        ensures enough { 0 < self.old.spare → self.new ≡ self.old }
     {
         if self.spare.is_none() {
             let places = self.rows.len() + 1 - self.due.len();

@@ -1,5 +1,5 @@
 //! What is attached to values.
-ghost use Rattle.std.specs.Prelude.{◌≡◌, ◌==◌, ◌+◌, ◌<◌, ◌≤◌, None, false, IfOk, IfSome, OnOk, option_map};
+ghost use Rattle.std.specs.Prelude.{◌≡◌, ◌==◌, ◌+◌, ◌<◌, ◌≤◌, None, false, IfOk, IfSome, OnOk, OnErr, option_map};
 ghost use Rattle.std.specs.Option.{option_and_then};
 ghost use Rattle.napi_types.specs.plain.Lists.{has, has_number};
 ghost use Rattle.napi_types.specs.parts.Attachments.{no_attachments, wrap_of, tag_of as tag_at, with_wrap, without_wrap, with_tag, with_attached, tickets_of, tickets_where, hangs_on, left_on};
@@ -51,13 +51,15 @@ impl Wraps {
         })
     }
 
-    /// Takes the memory for one more of each: a wrap, a tag or a ticket is then added without any.
+    /// Takes the memory for one more of each: a wrap, a tag or a ticket is then added without any. Where one of each is spare already
+    /// it takes none, and changes nothing.
     ///
     /// Near constant time: now and then the table of values grows.
     pub fn reserve(&mut self) -> Result<(), NoMemory>
         ensures ok { OnOk result (0 < self.new.spare) }
         ensures same { self.new.attachments ≡ self.old.attachments }
-        ensures spare { self.old.spare ≤ self.new.spare }
+        ensures memory { OnErr result (self.old.spare ≡ 0) }
+        ensures enough { 0 < self.old.spare → self.new ≡ self.old }
     {
         self.rows.reserve(1)?;
         if self.link.is_none() {
