@@ -6,6 +6,8 @@ use std::process::Abort;
 
 mod functions;
 mod jobs;
+mod many;
+mod registered;
 mod values;
 mod works;
 

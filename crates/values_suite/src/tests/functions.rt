@@ -1,6 +1,6 @@
 //! What shows of a thread-safe function in every state at every call, and of how its items are delivered, where there is memory.
 //! The answers were worked out by hand.
-ghost use Rattle.std.specs.Prelude.{◌≡◌, ◌+◌, ◌<◌, ◌≤◌};
+ghost use Rattle.std.specs.Prelude.{◌≡◌, ◌+◌, ◌<◌, ◌≤◌, ◌^◌};
 ghost use Rattle.napi_types.specs.parts.Functions.{accepted_items};
 
 use super::ample;
@@ -52,7 +52,13 @@ const ROWS: [(TsfnState, u32, Option<Status>, Status, Status, TsfnState); 12] = 
 ];
 
 /// The function 3 of addon 5, whose items are delivered in addon 6.
-fn created(rt: &impl Abort, alloc: Global, max: u32, initial: u32, finalize: Option<u32>) -> Tsfn
+pub fn created(
+    rt: &impl Abort,
+    alloc: Global,
+    max: u32,
+    initial: u32,
+    finalize: Option<u32>,
+) -> Tsfn
     requires { 0 < initial }
     ensures { accepted_items result ≡ 0 }
 {
@@ -79,8 +85,8 @@ fn shown(function: &Tsfn) -> Shown {
 }
 
 /// An item is queued, where the function takes it.
-fn add(rt: &impl Abort, function: &mut Tsfn, payload: u64)
-    requires { accepted_items function.old < 9 }
+pub fn add(rt: &impl Abort, function: &mut Tsfn, payload: u64)
+    requires { accepted_items function.old < 2 ^ 20 }
     ensures { accepted_items function.new ≤ accepted_items function.old + 1 }
 {
     ample(
@@ -254,7 +260,7 @@ fn holders_come_and_go_by_state_and_count(rt: HostRuntime) {
 }
 
 /// What a duty told as its frame began: duty, cause, addon, entry, the first three gifts, and whether the frame makes asks.
-type Told = (Duty, Cause, u32, u32, [u64; 3], bool);
+pub type Told = (Duty, Cause, u32, u32, [u64; 3], bool);
 
 /// It begins and ends.
 fn run(due: Due) -> Told {
@@ -271,7 +277,7 @@ fn run(due: Due) -> Told {
 }
 
 /// What the first item tells, where one waits.
-fn deliver(rt: &impl Abort, function: &mut Tsfn) -> Option<Told> {
+pub fn deliver(rt: &impl Abort, function: &mut Tsfn) -> Option<Told> {
     match function.state() {
         Open => function.pop().map(run),
         Closing => function.pop_torn().map(run),

@@ -1,5 +1,5 @@
 //! What shows of a work in every state at every call, and of the order in which works start and come out, where there is memory.
-ghost use Rattle.std.specs.Prelude.{◌≡◌, ◌+◌, ◌<◌, ◌≤◌, [], false, true, length, None, Ok, OnErr};
+ghost use Rattle.std.specs.Prelude.{◌≡◌, ◌+◌, ◌<◌, ◌≤◌, ◌^◌, [], false, true, length, None, Ok, OnErr};
 ghost use Rattle.napi_types.specs.plain.Lists.{with_record};
 ghost use Rattle.napi_types.specs.parts.Jobs.{job_value};
 ghost use Rattle.napi_types.specs.parts.Pool.{new_pool, executed_by, value_of_work};
@@ -11,7 +11,7 @@ use script_addon::ScriptJob;
 use std::alloc::Global;
 use std::process::Abort;
 
-type Works = Pool<ScriptJob>;
+pub type Works = Pool<ScriptJob>;
 
 /// What a call on a work is answered.
 type Answer = Result<(), Status>;
@@ -68,7 +68,7 @@ fn ask(works: &mut Works, id: WorkId, asked: Asked) -> Answer
 }
 
 /// What was answered where nothing is refused.
-fn accepted<T>(rt: &impl Abort, outcome: Result<T, Status>) -> T
+pub fn accepted<T>(rt: &impl Abort, outcome: Result<T, Status>) -> T
     ensures { outcome ≡ Ok result }
 {
     match outcome {
@@ -92,7 +92,7 @@ fn start(rt: &impl Abort, works: &mut Works, worker: u32) -> Running<ScriptJob>
 }
 
 /// A worker executes that work.
-fn run(rt: &impl Abort, works: &mut Works)
+pub fn run(rt: &impl Abort, works: &mut Works)
     requires { works.old.executions ≡ [] }
     ensures executed { works.new.executions ≡ [] }
     ensures closing { works.new.closing ≡ works.old.closing }
@@ -103,10 +103,10 @@ fn run(rt: &impl Abort, works: &mut Works)
 
 /// What a completion tells: the work, the addon, the entry, the payload, the status and the value; and the value of the job where
 /// it did not run.
-type Told = (Duty, u32, u32, u64, Status, u64, Option<u64>);
+pub type Told = (Duty, u32, u32, u64, Status, u64, Option<u64>);
 
 /// The completion of the work that came out first begins.
-fn complete(works: &mut Works) -> Option<Told>
+pub fn complete(works: &mut Works) -> Option<Told>
     ensures executed { works.new.executions ≡ works.old.executions }
     ensures closing { works.new.closing ≡ works.old.closing }
 {
@@ -192,8 +192,8 @@ fn calls_are_answered_by_state(rt: HostRuntime) {
 }
 
 /// A work is created whose job computes the sum up to its payload.
-fn create(rt: &impl Abort, works: &mut Works, payload: u64) -> WorkId
-    requires { length works.old.issued < 9 }
+pub fn create(rt: &impl Abort, works: &mut Works, payload: u64) -> WorkId
+    requires { length works.old.issued < 2 ^ 20 }
     ensures few { length works.new.issued ≤ length works.old.issued + 1 }
     ensures executed { works.new.executions ≡ works.old.executions }
     ensures closing { works.new.closing ≡ works.old.closing }
@@ -202,8 +202,9 @@ fn create(rt: &impl Abort, works: &mut Works, payload: u64) -> WorkId
 }
 
 /// A work is queued, and this is its number.
-fn queue(rt: &impl Abort, works: &mut Works, id: WorkId) -> u64
+pub fn queue(rt: &impl Abort, works: &mut Works, id: WorkId) -> u64
     requires { works.old.closing ≡ false }
+    ensures issued { works.new.issued ≡ works.old.issued }
     ensures executed { works.new.executions ≡ works.old.executions }
     ensures closing { works.new.closing ≡ false }
 {
@@ -231,7 +232,7 @@ fn four(rt: &impl Abort, works: &mut Works) -> (WorkId, [u64; 4])
 }
 
 /// How many are queued, running and finished.
-fn counts(works: &Works) -> [u64; 3] {
+pub fn counts(works: &Works) -> [u64; 3] {
     [works.queued(), works.running(), works.finished()]
 }
 

@@ -1,0 +1,186 @@
+//! Many tickets, hooks, references and wraps, and many finalizers of one value: that each is accepted where there is memory, from whatever
+//! number on, and that a long chain of tickets, or of lines that were seen, is let go and falls due within the stack. No clause says so.
+ghost use Rattle.std.specs.Prelude.{◌≡◌, ◌+◌, ◌<◌, ◌≤◌, ◌^◌, [], length};
+ghost use Rattle.std.specs.List.{All};
+ghost use Rattle.napi_types.specs.parts.Attachments.{no_attachments};
+
+use super::ample;
+use cleanup_hooks::Hooks;
+use finalizer_queue::{Book, NewDuty};
+use napi_reference::Refs;
+use napi_types::{Cause, SeenList, Ticket, ValueId};
+use std::alloc::Global;
+use std::process::Abort;
+use wrap_tag::Wraps;
+
+/// How many there are of each.
+const MANY: u64 = 70_000;
+
+/// How many finalizers one value has.
+const FINALIZERS: u64 = 200_000;
+
+const VALUE: ValueId = ValueId(9);
+
+/// A finalizer is registered.
+fn register(rt: &impl Abort, book: &mut Book) -> Ticket
+    requires { length book.old.book < 2 ^ 20 }
+    ensures ticket { result.0 ≡ length book.new.book }
+    ensures count { length book.new.book ≡ length book.old.book + 1 }
+{
+    ample(rt, book.reserve());
+    book.register(NewDuty {
+        cause: Cause::Finalize,
+        addon: 1,
+        entry: 2,
+        payload: 3,
+        hint: 4,
+    })
+}
+
+/// Finalizers are registered, and each is withdrawn.
+fn register_many(rt: &impl Abort, book: &mut Book)
+    requires { book.old.book ≡ [] }
+{
+    for _number in 0..MANY {
+        let ticket = register(rt, book);
+        assert!(rt; book.is_registered(ticket));
+        book.withdraw(ticket);
+    }
+}
+
+/// A hook is added, whose argument is the number of those before it.
+fn add_hook(rt: &impl Abort, hooks: &mut Hooks, argument: u64)
+    requires few { argument < 2 ^ 20 }
+    requires before { All (λ h. h.ticket ≤ argument) hooks.old }
+    ensures { All (λ h. h.ticket ≤ argument + 1) hooks.new }
+{
+    assert!(rt; hooks.find(1, 2, argument).is_none());
+    ample(rt, hooks.add(1, 2, argument, Ticket(argument + 1)));
+}
+
+fn add_hooks(rt: &impl Abort, hooks: &mut Hooks)
+    requires { hooks.old ≡ [] }
+{
+    for argument in 0..MANY {
+        add_hook(rt, hooks, argument);
+    }
+}
+
+fn make_reference(rt: &impl Abort, references: &mut Refs)
+    requires { length references.old.issued < 2 ^ 20 }
+    ensures { length references.new.issued ≤ length references.old.issued + 1 }
+{
+    ample(rt, references.make(VALUE, 0));
+}
+
+fn make_references(rt: &impl Abort, references: &mut Refs)
+    requires { references.old.issued ≡ [] }
+{
+    for _number in 0..MANY {
+        make_reference(rt, references);
+    }
+}
+
+/// As many values are wrapped, with their numbers.
+fn wrap_many(rt: &impl Abort, wraps: &mut Wraps) {
+    for number in 0..MANY {
+        let value = ValueId(number);
+        assert!(rt; wraps.wrapped(value).is_none());
+        ample(rt, wraps.reserve());
+        wraps.wrap(value, number, None);
+    }
+}
+
+/// What comes of many: the next ticket, that of the last hook, how many references stand, and the payload of the last wrap.
+type Found = (Ticket, Option<Ticket>, usize, Option<u64>);
+
+fn many(rt: &impl Abort, alloc: Global) -> Found {
+    let mut book = ample(rt, Book::new(alloc));
+    register_many(rt, &mut book);
+    let mut hooks = Hooks::new(alloc);
+    add_hooks(rt, &mut hooks);
+    let mut references = ample(rt, Refs::new(alloc));
+    make_references(rt, &mut references);
+    let mut wraps = ample(rt, Wraps::new(alloc));
+    wrap_many(rt, &mut wraps);
+    (
+        book.next(),
+        hooks.last_added(),
+        references.rows(),
+        wraps.wrapped(ValueId(MANY - 1)),
+    )
+}
+
+#[test]
+fn many_are_accepted(rt: HostRuntime) {
+    let want = (
+        Ticket(MANY + 1),
+        Some(Ticket(MANY)),
+        MANY as usize,
+        Some(MANY - 1),
+    );
+    assert_eq!(rt; many(&rt, rt.alloc()), want);
+}
+
+/// A finalizer of the value is registered and attached. No value is wrapped, and the book gave each ticket that is attached.
+fn attach(rt: &impl Abort, book: &mut Book, wraps: &mut Wraps)
+    requires few { length book.old.book < 2 ^ 20 }
+    requires bare { wraps.old.attachments.wraps ≡ [] }
+    requires given { All (λ t. (1 ≤ t.ticket) × (t.ticket ≤ length book.old.book)) wraps.old.attachments.tickets }
+    ensures bare { wraps.new.attachments.wraps ≡ [] }
+    ensures given { All (λ t. (1 ≤ t.ticket) × (t.ticket ≤ length book.new.book)) wraps.new.attachments.tickets }
+    ensures count { length book.new.book ≡ length book.old.book + 1 }
+{
+    ample(rt, wraps.reserve());
+    let ticket = register(rt, book);
+    wraps.attach(VALUE, ticket);
+}
+
+/// Many finalizers of the value are registered and attached.
+fn attach_many(rt: &impl Abort, book: &mut Book, wraps: &mut Wraps)
+    requires blank { book.old.book ≡ [] }
+    requires bare { wraps.old.attachments ≡ no_attachments }
+    ensures bare { wraps.new.attachments.wraps ≡ [] }
+    ensures given { All (λ t. (1 ≤ t.ticket) × (t.ticket ≤ length book.new.book)) wraps.new.attachments.tickets }
+{
+    for _number in 0..FINALIZERS {
+        attach(rt, book, wraps);
+    }
+}
+
+/// The value is freed. How many finalizers begin and are seen; the list of them is let go.
+fn free(book: &mut Book, wraps: &mut Wraps) -> u64
+    requires bare { wraps.old.attachments.wraps ≡ [] }
+    requires given { All (λ t. (1 ≤ t.ticket) × (t.ticket ≤ length book.old.book)) wraps.old.attachments.tickets }
+{
+    wraps.gone(VALUE, book);
+    let mut seen = SeenList::new();
+    for _number in 0..FINALIZERS {
+        if let Some(due) = book.take_due() {
+            due.begin(&mut seen).end();
+        }
+    }
+    seen.len()
+}
+
+/// A value gets many finalizers, and all that is attached is let go. The next ticket.
+fn let_go(rt: &impl Abort, alloc: Global) -> Ticket {
+    let mut book = ample(rt, Book::new(alloc));
+    let mut wraps = ample(rt, Wraps::new(alloc));
+    attach_many(rt, &mut book, &mut wraps);
+    book.next()
+}
+
+/// A value gets many finalizers, and is freed. How many begin.
+fn freed(rt: &impl Abort, alloc: Global) -> u64 {
+    let mut book = ample(rt, Book::new(alloc));
+    let mut wraps = ample(rt, Wraps::new(alloc));
+    attach_many(rt, &mut book, &mut wraps);
+    free(&mut book, &mut wraps)
+}
+
+#[test]
+fn long_chains_take_no_stack(rt: HostRuntime) {
+    let found = (let_go(&rt, rt.alloc()), freed(&rt, rt.alloc()));
+    assert_eq!(rt; found, (Ticket(FINALIZERS + 1), FINALIZERS));
+}
