@@ -1,4 +1,4 @@
-//! What both tests use.
+//! What the tests use.
 ghost use Rattle.std.specs.Prelude.{◌≡◌, Ok};
 
 use crate::rows::{Rows, add};
@@ -8,6 +8,7 @@ use std::sync::Wait;
 use turn_lock::{Pass, Turn};
 
 mod counting;
+mod many;
 mod waiting;
 
 /// What was made where there was memory.
