@@ -23,7 +23,7 @@ pub mod QuietRuns
 pub mod Rooms
 pub mod Scripts
 pub mod SingleWorks
-pub mod Teardowns
+pub mod Stillness
 pub mod ThreadsEnd
 pub mod Withdrawals
 pub mod WorkAccounts

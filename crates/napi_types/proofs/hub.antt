@@ -22,4 +22,5 @@ pub mod OthersTell
 pub mod RunningWorks
 pub mod ServingWorkers
 pub mod ThreadEnds
+pub mod Waits
 pub mod WorkerTurns

@@ -9,6 +9,7 @@ pub mod GivenSteps
 pub mod HubEvents
 pub mod ThreadSteps
 pub mod WorkerSteps
+pub mod Waits
 pub mod HubSteps
 pub mod HubOwners
 pub mod Actors

@@ -3,7 +3,7 @@
 ghost use Rattle.napi_types.specs.hub.HistoryLaws.{OthersKeepTheHub, OthersLowerNothing, OthersOccupyNoLess, CallsStayPressed, PoolsCloseAtTheDrain, WorkersEndAfterTheDrain, ExecutingWorkersAreThere, HubsAreWithin, NoCallWaitsFromTheDrainOn, EndedThreadsHaveNoneLeft, WorkersTakeTurns, RunningStaysRunning};
 ghost use Rattle.napi_types.specs.all_runs.HubLaws.{OthersJoin, HistoriesLeadToTheirHub, AddonsAreTheScripts, ScriptsStayAsOthersGoOn, FrontsKeepScripts, ThreadsKeepAsOthersGoOn, FrontsOfThreadsKeep, ThreadsComeToTheirEnd};
 ghost use Rattle.napi_types.specs.all_runs.AcceptedCalls.{AcceptedCallsTellTheirDuty};
-ghost use Rattle.napi_types.specs.all_runs.Goings.{NextEventsMayCome, TeardownNeverStandsStill};
+ghost use Rattle.napi_types.specs.all_runs.Goings.{NextEventsMayCome, SomebodyAlwaysGoesOn, RunsNeverStandStill};
 ghost use Rattle.napi_types.specs.runs.LoopEnds.{LoopsEndForTheReason, LoopsEndIdleOrQuiet};
 ghost use Rattle.napi_types.specs.environment.MadeTickets.{UnrefusedCallsMakeTheirTicket};
 ghost use Rattle.napi_types.specs.hub.MadeDuties.{AnswersMakeTheirDuty, NoWorkRefusalAccepts};
@@ -108,9 +108,15 @@ pub fn next_events_may_come()
     ensures { NextEventsMayCome }
 {}
 
-/// From the end of the loop until the environment is gone, where no frame stands and the environment has no event, a thread or a worker may make an entry.
-pub fn teardown_never_stands_still()
-    ensures { TeardownNeverStandsStill }
+/// Over every history that replays at the hub, until `finals`: where the hub has no event a thread or a worker goes on, which has not ended and does not
+/// wait. So in the loop and after the drain not all that are left wait.
+pub fn somebody_always_goes_on()
+    ensures { SomebodyAlwaysGoesOn }
+{}
+
+/// Until the environment is gone, where no frame stands and the environment has no event, a thread or a worker may make an entry.
+pub fn runs_never_stand_still()
+    ensures { RunsNeverStandStill }
 {}
 
 /// Over every history that replays at the hub no call of a thread-safe function waits from the drain on. So no thread stands still in one.

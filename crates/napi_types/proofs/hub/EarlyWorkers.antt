@@ -23,7 +23,7 @@ use Rattle.napi_types.proofs.hub.HubCases.{HubCase, cancels_work, drains, delive
 use Rattle.napi_types.proofs.hub.ThreadEnds.{is_end, is-no-end}
 
 -- while the pool is not closing no worker has ended
-abbrev IsStaffed : Hub → Type 0
+abbrev pub IsStaffed : Hub → Type 0
 IsStaffed h = h.pool.closing ≡ false → h.ended_workers ≡ []
 
 -- WHAT IS NO END
@@ -59,7 +59,7 @@ worker-staffed h w x (what.Host host.ActorEnd) is may case s = λ opened. (
     let no : true ≡ false = sym closing ∙ opened in cc)
 worker-staffed h w x it is may case s = case-staffed h x _ _ (ap is_end is) case s
 
-step-staffed : (h : Hub) (x : Entry) → IsTrue (hub_step h x).may → IsStaffed h → IsStaffed (hub_step h x).after
+pub step-staffed : (h : Hub) (x : Entry) → IsTrue (hub_step h x).may → IsStaffed h → IsStaffed (hub_step h x).after
 step-staffed h x may s = by x.actor may (hub-case h x may)
   where
     by : (who : Actor) → IsTrue (hub_step_of h x who).may → HubCase h x (hub_step_of h x who).entry.reply.out (hub_step_of h x who).after

@@ -21,7 +21,7 @@ answers-at-once who m f shut = by (f.count == 0) (is_open f.state) shut
     by false true shut = cc
     by false false shut = refl
 
-told-answer : (h : Hub) (payload : ℕ) (f : FunctionState) (s : Option Status) → is_some s ≡ true → is_some (option_map (called_answer h payload f) s) ≡ true
+pub told-answer : (h : Hub) (payload : ℕ) (f : FunctionState) (s : Option Status) → is_some s ≡ true → is_some (option_map (called_answer h payload f) s) ≡ true
 told-answer h payload f None some = cc
 told-answer h payload f (Some s) some = refl
 
