@@ -1,6 +1,6 @@
 //! What the machine's definitions come to over all runs in which threads and workers take part, as laws: each function does nothing, and its
 //! contract states a law.
-ghost use Rattle.napi_types.specs.hub.HistoryLaws.{OthersKeepTheHub, OthersLowerNothing, OthersOccupyNoLess, CallsStayPressed, PoolsCloseAtTheDrain, WorkersEndAfterTheDrain, ExecutingWorkersAreThere, HubsAreWithin, NoCallWaitsFromTheDrainOn, EndedThreadsHaveNoneLeft, WorkersTakeTurns, RunningStaysRunning};
+ghost use Rattle.napi_types.specs.hub.HistoryLaws.{FrontsReplay, OthersKeepTheHub, OthersLowerNothing, OthersOccupyNoLess, CallsStayPressed, PoolsCloseAtTheDrain, WorkersEndAfterTheDrain, ExecutingWorkersAreThere, HubsAreWithin, NoCallWaitsFromTheDrainOn, EndedThreadsHaveNoneLeft, WorkersTakeTurns, RunningStaysRunning};
 ghost use Rattle.napi_types.specs.all_runs.HubLaws.{OthersJoin, HistoriesLeadToTheirHub, AddonsAreTheScripts, ScriptsStayAsOthersGoOn, FrontsKeepScripts, ThreadsKeepAsOthersGoOn, FrontsOfThreadsKeep, ThreadsComeToTheirEnd};
 ghost use Rattle.napi_types.specs.all_runs.AcceptedCalls.{AcceptedCallsTellTheirDuty};
 ghost use Rattle.napi_types.specs.all_runs.Goings.{NextEventsMayCome, SomebodyAlwaysGoesOn, RunsNeverStandStill};
@@ -18,6 +18,11 @@ pub fn others_join()
 /// Every hub to which a run comes is the one to which its history leads.
 pub fn histories_lead_to_their_hub()
     ensures { HistoriesLeadToTheirHub }
+{}
+
+/// Each front of a history that replays at the hub replays too. What stands behind it replays from there on, and leads to the same hub.
+pub fn fronts_replay()
+    ensures { FrontsReplay }
 {}
 
 /// At every moment of a run the addons of frames, functions, tickets, works and thread-safe functions are those of the script.

@@ -1,9 +1,9 @@
--- A history that grows at its end.
+-- A history that grows at its end, and its fronts.
 use Rattle.std.proofs.Common.{◌≡◌, ◌∙◌, ℕ, ◌+◌, suc, List, [], ◌∷◌, ◌++◌, length, IsTrue, refl, ap, sym, subst, arith}
 use Rattle.napi_types.specs.declared.entry.Entry.{Entry}
 use Rattle.napi_types.specs.plain.Lists.{one}
 use Rattle.napi_types.specs.plain.Room.{fits_in}
-use Rattle.napi_types.specs.hub.HistoryLaws.{LeadsTo}
+use Rattle.napi_types.specs.hub.HistoryLaws.{LeadsTo, FrontsReplay}
 use Rattle.napi_types.specs.hub.HistoryRoom.{history_room}
 use Rattle.napi_types.specs.hub.Hub.{Hub, new_hub}
 use Rattle.napi_types.specs.hub.HubSteps.{IsHubNext, hub_step, hub_along}
@@ -41,3 +41,37 @@ leads-more limit threads workers history h x led next fits = record {
   where
     zero-left : (n : ℕ) → n ≡ 0 + n
     zero-left n = omega arith
+
+-- FRONTS
+along-parts : (h : Hub) (front rest : List Entry) → hub_along h (front ++ rest) ≡ hub_along (hub_along h front) rest
+along-parts h [] rest = refl
+along-parts h (x ∷ front) rest = along-parts (hub_step h x).after front rest
+
+front-replays : (limit : ℕ) (h : Hub) (n : ℕ) (front rest : List Entry) → HubReplays limit h n (front ++ rest) → HubReplays limit h n front
+front-replays limit h n [] rest replays = tt
+front-replays limit h n (x ∷ front) rest replays = (replays.0, replays.1, front-replays limit (hub_step h x).after (n + 1) front rest replays.2)
+
+replays-behind : (limit : ℕ) (h : Hub) (n : ℕ) (front rest : List Entry) → HubReplays limit h n (front ++ rest)
+    → HubReplays limit (hub_along h front) (n + length front) rest
+replays-behind limit h n [] rest replays = subst (λ k. HubReplays limit h k rest) (same n) replays
+  where
+    same : (k : ℕ) → k ≡ k + 0
+    same k = omega arith
+replays-behind limit h n (x ∷ front) rest replays =
+    subst (λ k. HubReplays limit (hub_along (hub_step h x).after front) k rest) (same n (length front))
+    (replays-behind limit (hub_step h x).after (n + 1) front rest replays.2)
+  where
+    same : (k l : ℕ) → k + 1 + l ≡ k + suc l
+    same k l = omega arith
+
+pub fronts-replay : FrontsReplay
+fronts-replay limit threads workers front rest h led = record {
+  leads = record { replays = front-replays limit (new_hub threads workers) 0 front rest led.replays; hub = refl };
+  replays =
+      subst (λ n. HubReplays limit (hub_along (new_hub threads workers) front) n rest) (zero-more (length front))
+      (replays-behind limit (new_hub threads workers) 0 front rest led.replays);
+  hub = sym (along-parts (new_hub threads workers) front rest) ∙ led.hub;
+}
+  where
+    zero-more : (n : ℕ) → 0 + n ≡ n
+    zero-more n = omega arith

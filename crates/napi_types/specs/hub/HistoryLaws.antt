@@ -1,5 +1,5 @@
 -- Laws over all histories of the hub.
-use Rattle.std.specs.Prelude.{◌≡◌, ℕ, ◌+◌, ◌≤◌, true, false, List, [], length, Some, is_some, is_none}
+use Rattle.std.specs.Prelude.{◌≡◌, ℕ, ◌+◌, ◌≤◌, true, false, List, [], ◌++◌, length, Some, is_some, is_none}
 use Rattle.std.specs.List.{All}
 use Rattle.napi_types.specs.declared.call.Call.{Call}
 use Rattle.napi_types.specs.declared.call.Call.TheVariants as call
@@ -41,6 +41,17 @@ OthersKeepTheHub = (h : Hub) (x : Entry) → is_environment x.actor ≡ false �
 pub record LeadsTo (limit threads workers : ℕ) (history : List Entry) (h : Hub) : Type 0 where
   pub replays : HubReplays limit (new_hub threads workers) 0 history
   pub hub : hub_along (new_hub threads workers) history ≡ h
+
+-- a history in two parts: its front has led to a hub, and what stands behind it replays from there on, to this hub
+pub record GoesOnBehind (limit threads workers : ℕ) (front rest : List Entry) (h : Hub) : Type 0 where
+  pub leads : LeadsTo limit threads workers front (hub_along (new_hub threads workers) front)
+  pub replays : HubReplays limit (hub_along (new_hub threads workers) front) (length front) rest
+  pub hub : hub_along (hub_along (new_hub threads workers) front) rest ≡ h
+
+-- a history that has led to a hub may be parted so behind each front of it
+abbrev pub FrontsReplay : Type 0
+FrontsReplay = (limit threads workers : ℕ) (front rest : List Entry) (h : Hub) → LeadsTo limit threads workers (front ++ rest) h
+    → GoesOnBehind limit threads workers front rest h
 
 -- there no entry of a thread or a worker lowers the sum of the history's entries and reserved places
 abbrev pub OthersLowerNothing : Type 0
