@@ -1,4 +1,5 @@
 -- On the hub: the cases of its step, what its steps keep, and its histories.
+pub mod ActorsGoOn
 pub mod ClosingPools
 pub mod EarlyWorkers
 pub mod Executions

@@ -13,6 +13,7 @@ pub mod Waits
 pub mod HubSteps
 pub mod HubOwners
 pub mod Actors
+pub mod ActorLaws
 pub mod HistoryLaws
 pub mod HistoryRoom
 pub mod Replays

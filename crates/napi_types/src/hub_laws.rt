@@ -1,5 +1,6 @@
 //! What the machine's definitions come to over all runs in which threads and workers take part, as laws: each function does nothing, and its
 //! contract states a law.
+ghost use Rattle.napi_types.specs.hub.ActorLaws.{ThreadsGoOn, ThreadsStandAsOthersGoOn};
 ghost use Rattle.napi_types.specs.hub.HistoryLaws.{FrontsReplay, OthersKeepTheHub, OthersLowerNothing, OthersOccupyNoLess, CallsStayPressed, PoolsCloseAtTheDrain, WorkersEndAfterTheDrain, ExecutingWorkersAreThere, HubsAreWithin, NoCallWaitsFromTheDrainOn, EndedThreadsHaveNoneLeft, WorkersTakeTurns, RunningStaysRunning};
 ghost use Rattle.napi_types.specs.all_runs.HubLaws.{OthersJoin, HistoriesLeadToTheirHub, AddonsAreTheScripts, ScriptsStayAsOthersGoOn, FrontsKeepScripts, ThreadsKeepAsOthersGoOn, FrontsOfThreadsKeep, ThreadsComeToTheirEnd};
 ghost use Rattle.napi_types.specs.all_runs.AcceptedCalls.{AcceptedCallsTellTheirDuty};
@@ -86,6 +87,13 @@ pub fn workers_take_turns()
 /// While a worker executes a work, no entry of another actor changes that: it executes the same work, which is there as it was, with its value.
 pub fn running_stays_running()
     ensures { RunningStaysRunning }
+{}
+
+/// Where a thread stands after a history: what it made and which of its calls are left. With its next entry behind the history, a call or its end, it stands one
+/// further, and entries of other actors leave it where it stands.
+pub fn threads_go_on()
+    ensures next { ThreadsGoOn }
+    ensures others { ThreadsStandAsOthersGoOn }
 {}
 
 /// Where each thread keeps its script, each still does after entries of workers and of the environment.
