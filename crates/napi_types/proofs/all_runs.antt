@@ -28,3 +28,4 @@ pub mod ThreadsEnd
 pub mod Withdrawals
 pub mod WorkAccounts
 pub mod WorkerEnds
+pub mod WorkersStand

@@ -24,4 +24,5 @@ pub mod RunningWorks
 pub mod ServingWorkers
 pub mod ThreadEnds
 pub mod Waits
+pub mod WhoIsLeft
 pub mod WorkerTurns

@@ -1,6 +1,6 @@
 //! What the machine's definitions come to over all runs in which threads and workers take part, as laws: each function does nothing, and its
 //! contract states a law.
-ghost use Rattle.napi_types.specs.hub.ActorLaws.{ThreadsGoOn, ThreadsStandAsOthersGoOn};
+ghost use Rattle.napi_types.specs.hub.ActorLaws.{ThreadsGoOn, ThreadsStandAsOthersGoOn, WorkersGoOn, WorkersStandAsOthersGoOn, WorkersStandAsTheHubSays};
 ghost use Rattle.napi_types.specs.hub.HistoryLaws.{FrontsReplay, OthersKeepTheHub, OthersLowerNothing, OthersOccupyNoLess, CallsStayPressed, PoolsCloseAtTheDrain, WorkersEndAfterTheDrain, ExecutingWorkersAreThere, HubsAreWithin, NoCallWaitsFromTheDrainOn, EndedThreadsHaveNoneLeft, WorkersTakeTurns, RunningStaysRunning};
 ghost use Rattle.napi_types.specs.all_runs.HubLaws.{OthersJoin, HistoriesLeadToTheirHub, AddonsAreTheScripts, ScriptsStayAsOthersGoOn, FrontsKeepScripts, ThreadsKeepAsOthersGoOn, FrontsOfThreadsKeep, ThreadsComeToTheirEnd};
 ghost use Rattle.napi_types.specs.all_runs.AcceptedCalls.{AcceptedCallsTellTheirDuty};
@@ -94,6 +94,14 @@ pub fn running_stays_running()
 pub fn threads_go_on()
     ensures next { ThreadsGoOn }
     ensures others { ThreadsStandAsOthersGoOn }
+{}
+
+/// Where a worker stands after a history: free, with a work, or ended. Its next entry alone moves it, and over every history that replays at the hub that is where
+/// the hub says that it stands.
+pub fn workers_go_on()
+    ensures next { WorkersGoOn }
+    ensures others { WorkersStandAsOthersGoOn }
+    ensures hub { WorkersStandAsTheHubSays }
 {}
 
 /// Where each thread keeps its script, each still does after entries of workers and of the environment.

@@ -131,7 +131,7 @@ hub_step-actor h x = by x.actor refl
     by (actor.Worker w) is = worker-actor h w x x.what is
 
 -- WHO HAS ENDED
-abbrev ends_itself : ℕ → Entry → Bool
+abbrev pub ends_itself : ℕ → Entry → Bool
 ends_itself w x = is_worker w x.actor && is_end x.what
 
 record KeepsEnded (h n : Hub) : Type 0 where
@@ -173,7 +173,7 @@ case-ended h x told _ none (starts w n later is waits free) = record { ended = r
 case-ended h x told _ none (finishes_work w n is runs) = record { ended = refl; workers = refl }
 
 -- what a step does to the ended ones
-record EndsWorker (w : ℕ) (h : Hub) (x : Entry) (n : Hub) : Type 0 where
+pub record EndsWorker (w : ℕ) (h : Hub) (x : Entry) (n : Hub) : Type 0 where
   pub ended : has_number w n.ended_workers ≡ (ends_itself w x || has_number w h.ended_workers)
   pub workers : n.workers ≡ h.workers
 
@@ -198,7 +198,7 @@ end-of w h x (actor.Worker v) is end may =
     by true = refl
     by false = refl
 
-step-ended : (w : ℕ) (h : Hub) (x : Entry) → IsTrue (hub_step h x).may → EndsWorker w h x (hub_step h x).after
+pub step-ended : (w : ℕ) (h : Hub) (x : Entry) → IsTrue (hub_step h x).may → EndsWorker w h x (hub_step h x).after
 step-ended w h x may = by (is_end x.what) refl
   where
     is-end : (it : What) → is_end it ≡ true → it ≡ what.Host host.ActorEnd
@@ -216,16 +216,16 @@ step-ended w h x may = by (is_end x.what) refl
         }
 
 -- ONE WORKER
-abbrev is_ended_worker : WorkerState → Bool
+abbrev pub is_ended_worker : WorkerState → Bool
 is_ended_worker Over = true
 is_ended_worker _ = false
 
-record TurnsAt (w : ℕ) (h : Hub) (s : WorkerState) : Type 0 where
+pub record TurnsAt (w : ℕ) (h : Hub) (s : WorkerState) : Type 0 where
   pub stands : WorkerStands w h s
   pub over : has_number w h.ended_workers ≡ is_ended_worker s
 
 -- where it stands next, and that this is somewhere
-record TurnsTo (w : ℕ) (x : Entry) (s : WorkerState) (n : Hub) : Type 0 where
+pub record TurnsTo (w : ℕ) (x : Entry) (s : WorkerState) (n : Hub) : Type 0 where
   pub state : WorkerState
   pub is : does_next w x (Some s) ≡ Some state
   pub turns : TurnsAt w n state
@@ -238,7 +238,7 @@ over-after _ Free t is = cc
 over-after _ Working t is = cc
 over-after _ Over t is = cc
 
-hub-turns : (w : ℕ) (h : Hub) (y : Entry) (s : WorkerState) → IsTrue (hub_step h y).may → TurnsAt w h s → TurnsTo w y s (hub_step h y).after
+pub hub-turns : (w : ℕ) (h : Hub) (y : Entry) (s : WorkerState) → IsTrue (hub_step h y).may → TurnsAt w h s → TurnsTo w y s (hub_step h y).after
 hub-turns w h y s may k = by (does_next w y (Some s)) refl (next-stands w h y s k.stands may)
   where
     e : EndsWorker w h y (hub_step h y).after

@@ -1,13 +1,13 @@
--- How far a thread is along a history that grows at its end.
-use Rattle.std.proofs.Common.{◌≡◌, ◌∙◌, ℕ, suc, ◌+◌, Bool, true, false, cond, List, [], ◌∷◌, ◌++◌, length, refl, ap, sym, subst, arith, Option, Some}
+-- How far a thread or a worker is along a history that grows at its end.
+use Rattle.std.proofs.Common.{◌≡◌, ◌∙◌, ℕ, suc, ◌+◌, Bool, true, false, cond, List, [], ◌∷◌, ◌++◌, length, refl, ap, sym, subst, arith, Option, Some, None}
 use Rattle.std.proofs.lemmas.List.Elements.{All-head, All-tail}
 use Rattle.std.specs.List.{All}
 use Rattle.napi_types.specs.declared.call.Call.{Call}
 use Rattle.napi_types.specs.declared.entry.Entry.{Entry}
 use Rattle.napi_types.specs.plain.Lists.{one}
 use Rattle.napi_types.specs.plain.Room.{one_if}
-use Rattle.napi_types.specs.hub.Actors.{is_thread, IsNextOfThread, left_after, KeepsScriptFrom, left_along}
-use Rattle.napi_types.specs.hub.ActorLaws.{entries_of_thread, ThreadsGoOn, ThreadsStandAsOthersGoOn}
+use Rattle.napi_types.specs.hub.Actors.{is_thread, IsNextOfThread, left_after, KeepsScriptFrom, left_along, is_worker, WorkerState, Free, worker_after, does_next, worker_along}
+use Rattle.napi_types.specs.hub.ActorLaws.{entries_of_thread, ThreadsGoOn, ThreadsStandAsOthersGoOn, WorkersGoOn, WorkersStandAsOthersGoOn}
 use Rattle.napi_types.specs.hub.HistoryRoom.{history_room}
 use Rattle.napi_types.specs.hub.Hub.{Hub, new_hub}
 use Rattle.napi_types.specs.hub.HubSteps.{hub_step, hub_along}
@@ -126,3 +126,27 @@ threads-stand limit threads workers t made calls left history rest k others = re
       ∙ no-more (entries_of_thread t history) ∙ k.made_is;
   left_is = more-left t (Some calls) history rest others ∙ k.left_is;
 }
+
+-- WORKERS
+next-along : (w : ℕ) (s : Option WorkerState) (xs : List Entry) (x : Entry) → worker_along w s (xs ++ one x) ≡ does_next w x (worker_along w s xs)
+next-along w s [] x = refl
+next-along w s (y ∷ ys) x = next-along w (does_next w y s) ys x
+
+pub workers-go-on : WorkersGoOn
+workers-go-on w s history x stands its =
+    next-along w (Some Free) history x ∙ ap (does_next w x) stands ∙ ap (λ b. cond b (worker_after s x.what) (Some s)) its
+
+rests : (w : ℕ) (s : Option WorkerState) (x : Entry) → is_worker w x.actor ≡ false → does_next w x s ≡ s
+rests w None x other = refl
+rests w (Some s) x other = ap (λ b. cond b (worker_after s x.what) (Some s)) other
+
+more-along : (w : ℕ) (s : Option WorkerState) (xs rest : List Entry) → All (λ x. is_worker w x.actor ≡ false) rest
+    → worker_along w s (xs ++ rest) ≡ worker_along w s xs
+more-along w s [] [] others = refl
+more-along w s [] (x ∷ xs) others =
+    ap (λ o. worker_along w o xs) (rests w s x (All-head (λ (y : Entry). is_worker w y.actor ≡ false) x xs others))
+    ∙ more-along w s [] xs (All-tail (λ (y : Entry). is_worker w y.actor ≡ false) x xs others)
+more-along w s (x ∷ xs) rest others = more-along w (does_next w x s) xs rest others
+
+pub workers-stand : WorkersStandAsOthersGoOn
+workers-stand w history rest others = more-along w (Some Free) history rest others
