@@ -2,13 +2,19 @@
 //! contract states a law.
 ghost use Rattle.napi_types.specs.hub.ActorLaws.{ThreadsGoOn, ThreadsStandAsOthersGoOn, WorkersGoOn, WorkersStandAsOthersGoOn, WorkersStandAsTheHubSays};
 ghost use Rattle.napi_types.specs.hub.HistoryLaws.{FrontsReplay, OthersKeepTheHub, OthersLowerNothing, OthersOccupyNoLess, CallsStayPressed, PoolsCloseAtTheDrain, WorkersEndAfterTheDrain, ExecutingWorkersAreThere, HubsAreWithin, NoCallWaitsFromTheDrainOn, EndedThreadsHaveNoneLeft, WorkersTakeTurns, RunningStaysRunning};
-ghost use Rattle.napi_types.specs.all_runs.HubLaws.{OthersJoin, HistoriesLeadToTheirHub, AddonsAreTheScripts, ScriptsStayAsOthersGoOn, FrontsKeepScripts, ThreadsKeepAsOthersGoOn, FrontsOfThreadsKeep, ThreadsComeToTheirEnd};
+ghost use Rattle.napi_types.specs.all_runs.HubLaws.{FrontsJoin, OthersJoin, HistoriesLeadToTheirHub, AddonsAreTheScripts, ScriptsStayAsOthersGoOn, FrontsKeepScripts, ThreadsKeepAsOthersGoOn, FrontsOfThreadsKeep, ThreadsComeToTheirEnd};
 ghost use Rattle.napi_types.specs.all_runs.AcceptedCalls.{AcceptedCallsTellTheirDuty};
 ghost use Rattle.napi_types.specs.all_runs.Goings.{NextEventsMayCome, SomebodyAlwaysGoesOn, RunsNeverStandStill};
 ghost use Rattle.napi_types.specs.runs.LoopEnds.{LoopsEndForTheReason, LoopsEndIdleOrQuiet};
 ghost use Rattle.napi_types.specs.environment.MadeTickets.{UnrefusedCallsMakeTheirTicket};
 ghost use Rattle.napi_types.specs.hub.MadeDuties.{AnswersMakeTheirDuty, NoWorkRefusalAccepts};
 ghost use Rattle.napi_types.specs.environment.SharedCalls.{SharedEntriesAreHanded, SharedRefusals};
+
+/// The environment sees a front of the history. Where its journal and that front are a run, the whole history replays at the hub, and behind the front stand
+/// entries of other actors alone, the environment and the hub are joined.
+pub fn fronts_join()
+    ensures { FrontsJoin }
+{}
 
 /// The environment sees a front of the history. Where its journal and that front are a run, and other actors went on behind it, the journal
 /// and the whole history are a run, which leaves the environment and the registers as they were.

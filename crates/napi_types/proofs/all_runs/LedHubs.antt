@@ -1,5 +1,5 @@
--- The history of a run leads to its hub.
-use Rattle.std.proofs.Common.{◌≡◌, ◌∙◌, ℕ, ◌+◌, ◌==◌, Bool, true, false, not, ◌&&◌, List, [], ◌∷◌, ◌++◌, length, map, filter, IsTrue, refl, ap, sym, subst, Option, Some, None}
+-- The history of a run leads to its hub. Where others went on behind a front, the environment and the hub are joined.
+use Rattle.std.proofs.Common.{◌≡◌, ◌∙◌, ℕ, suc, ◌+◌, ◌==◌, Bool, true, false, not, ◌&&◌, List, [], ◌∷◌, ◌++◌, length, map, filter, IsTrue, refl, ap, sym, subst, arith, Option, Some, None}
 use Rattle.napi_types.specs.declared.call.Ask.{Ask}
 use Rattle.napi_types.specs.declared.call.Call.{Call}
 use Rattle.napi_types.specs.declared.duties.DueInfo.{DueInfo}
@@ -36,13 +36,15 @@ use Rattle.napi_types.specs.hub.Replays.{HubReplays}
 use Rattle.napi_types.specs.runs.CallRoom.{room_of}
 use Rattle.napi_types.specs.runs.Loop.{Event, Tickets, Moves, Goes, EndsLoop, Drains, FinalsCome}
 use Rattle.napi_types.specs.runs.Machine.{Machine}
-use Rattle.napi_types.specs.runs.Parting.{sides_along}
+use Rattle.napi_types.specs.runs.Parting.{IsParted, sides_along}
 use Rattle.napi_types.specs.runs.Run.{IsRunBy, after, final}
-use Rattle.napi_types.specs.runs.Setting.{opening_of, final_of}
+use Rattle.napi_types.specs.runs.Setting.{Setting, opening_of, final_of}
 use Rattle.napi_types.specs.runs.Step.{Step, shared, ticket_step, move_step, event_step, end_step_on, shared_call_step, has_room, step}
-use Rattle.napi_types.specs.all_runs.HubLaws.{HistoriesLeadToTheirHub}
+use Rattle.napi_types.specs.all_runs.HubLaws.{FrontsJoin, HistoriesLeadToTheirHub}
 use Rattle.napi_types.proofs.plain.Conditions.{and-left, and-right}
+use Rattle.napi_types.proofs.plain.Tallies.{none-more}
 use Rattle.napi_types.proofs.environment.FrameEnds.{ended-ends}
+use Rattle.napi_types.proofs.hub.GrowingHistories.{fronts-replay}
 use Rattle.napi_types.proofs.hub.HubKeeps.{hub_step-what}
 use Rattle.napi_types.proofs.runs.CallRooms.{shared-room}
 use Rattle.napi_types.proofs.runs.Forms as form
@@ -195,6 +197,8 @@ from_history _ _ = []
 record Leads (m : Machine) (history : List Entry) (n : Machine) : Type 0 where
   pub replays : HubReplays m.limits.history m.hub m.history_length history
   pub hub : hub_along m.hub history ≡ n.hub
+  pub counted : n.history_length ≡ m.history_length + length history
+  pub limits : n.limits ≡ m.limits
 
 leads-cons : (m n g : Machine) (t : Side) (x : Entry) (ts : List Side) (xs : List Entry) → n.limits ≡ m.limits → StepsOn m t x n
     → Leads n (from_history ts xs) g → Leads m (from_history (t ∷ ts) (x ∷ xs)) g
@@ -204,6 +208,8 @@ leads-cons m n g Journal x ts xs limits stands k = record {
       (subst (λ (h : Hub). HubReplays n.limits.history h m.history_length (from_history ts xs)) stands.hub
       (subst (λ p. HubReplays n.limits.history n.hub p (from_history ts xs)) stands.length k.replays));
   hub = ap (λ (h : Hub). hub_along h (from_history ts xs)) (sym stands.hub) ∙ k.hub;
+  counted = k.counted ∙ ap (λ p. p + length (from_history ts xs)) stands.length;
+  limits = k.limits ∙ limits;
 }
 leads-cons m n g History x ts xs limits stands k = record {
   replays = (
@@ -214,11 +220,19 @@ leads-cons m n g History x ts xs limits stands k = record {
         (subst (λ p. HubReplays n.limits.history n.hub p (from_history ts xs)) stands.length k.replays)),
   );
   hub = ap (λ (h : Hub). hub_along h (from_history ts xs)) (sym stands.hub) ∙ k.hub;
+  counted = k.counted ∙ ap (λ p. p + length (from_history ts xs)) stands.length ∙ behind m.history_length (length (from_history ts xs));
+  limits = k.limits ∙ limits;
 }
+  where
+    behind : (p n : ℕ) → p + 1 + n ≡ p + suc n
+    behind p n = omega arith
+
+no-more : (n : ℕ) → n ≡ n + 0
+no-more n = omega arith
 
 run-leads : (m : Machine) (bs : List Ask) (xs : List Entry) → IsRunBy m bs xs → Leads m (from_history (sides_along m bs xs) xs) (final m bs xs)
 run-leads =
-    along-entries (λ m bs xs. Leads m (from_history (sides_along m bs xs) xs) (final m bs xs)) (λ m. record { replays = tt; hub = refl })
+    along-entries (λ m bs xs. Leads m (from_history (sides_along m bs xs) xs) (final m bs xs)) (λ m. record { replays = tt; hub = refl; counted = no-more m.history_length; limits = refl })
     (λ m a bs x xs next rest.
     let k : StepsOnList m (step m a x) = form-stands m (step m a x) (form-of m a x next) next.1 in
     leads-cons m (after m a x) (final (after m a x) bs xs) (step m a x).side x (sides_along (after m a x) bs xs) xs k.limits
@@ -242,13 +256,39 @@ woven-history p ls (k ∷ ks) =
     past-locals (filter (λ l. l.at == p) ls) (History ∷ weave_by (λ l. Journal) (λ k. History) (p + 1) ls ks) (k ∷ weave_by (λ l. l.entry) (λ k. k) (p + 1) ls ks)
     ∙ ap (λ xs. k ∷ xs) (woven-history (p + 1) ls ks)
 
-pub histories-lead : HistoriesLeadToTheirHub
-histories-lead s asks journal history run parted =
-    let k : Leads (opening_of s) (from_history (sides_along (opening_of s) asks (weave journal history)) (weave journal history)) (final_of s asks (weave journal history)) =
-    run-leads (opening_of s) asks (weave journal history) run in
+woven-leads : (s : Setting) (asks : List Ask) (journal : List Local) (history : List Entry) → IsRunBy (opening_of s) asks (weave journal history)
+    → IsParted (opening_of s) asks journal history → Leads (opening_of s) history (final_of s asks (weave journal history))
+woven-leads s asks journal history run parted =
     let is : from_history (sides_along (opening_of s) asks (weave journal history)) (weave journal history) ≡ history =
     ap (λ ts. from_history ts (weave journal history)) parted ∙ woven-history 0 journal history in
-    record {
-      replays = subst (λ ks. HubReplays s.limits.history (new_hub s.threads s.workers) 0 ks) is k.replays;
-      hub = ap (hub_along (new_hub s.threads s.workers)) (sym is) ∙ k.hub;
-    }
+    subst (λ ks. Leads (opening_of s) ks (final_of s asks (weave journal history))) is (run-leads (opening_of s) asks (weave journal history) run)
+
+pub histories-lead : HistoriesLeadToTheirHub
+histories-lead s asks journal history run parted =
+    let k : Leads (opening_of s) history (final_of s asks (weave journal history)) = woven-leads s asks journal history run parted in
+    record { replays = k.replays; hub = k.hub }
+
+-- FRONTS
+pub fronts-join : FrontsJoin
+fronts-join s asks journal front rest h run rises parted led others = record {
+  run = run;
+  rises = rises;
+  parted = parted;
+  others = record { others = others; replays = replays };
+}
+  where
+    m : Machine
+    m = final_of s asks (weave journal front)
+
+    k : Leads (opening_of s) front m
+    k = woven-leads s asks journal front run.steps parted
+
+    counted : m.history_length ≡ length front
+    counted = k.counted ∙ none-more (length front)
+
+    replays : HubReplays m.limits.history m.hub m.history_length rest
+    replays =
+        subst (λ (l : Limits). HubReplays l.history m.hub m.history_length rest) (sym k.limits)
+        (subst (λ g. HubReplays s.limits.history g m.history_length rest) k.hub
+        (subst (λ n. HubReplays s.limits.history (hub_along (new_hub s.threads s.workers) front) n rest) (sym counted)
+        (fronts-replay s.limits.history s.threads s.workers front rest h led).replays))

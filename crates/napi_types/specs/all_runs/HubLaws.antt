@@ -6,16 +6,25 @@ use Rattle.napi_types.specs.declared.call.Call.{Call}
 use Rattle.napi_types.specs.declared.entry.Entry.{Entry}
 use Rattle.napi_types.specs.declared.entry.Local.{Local}
 use Rattle.napi_types.specs.declared.op.Op.{Op}
-use Rattle.napi_types.specs.plain.Weave.{weave}
+use Rattle.napi_types.specs.plain.Entries.{is_environment}
+use Rattle.napi_types.specs.plain.Weave.{weave, RisesBetween}
 use Rattle.napi_types.specs.environment.Owners.{IsOwned}
 use Rattle.napi_types.specs.hub.Actors.{is_thread, thread_calls, KeepsScriptFrom, left_along}
 use Rattle.napi_types.specs.hub.HistoryLaws.{LeadsTo}
+use Rattle.napi_types.specs.hub.Hub.{Hub}
 use Rattle.napi_types.specs.hub.HubOwners.{IsOwnedHub}
 use Rattle.napi_types.specs.runs.Machine.{Machine}
 use Rattle.napi_types.specs.runs.Parting.{IsParted}
 use Rattle.napi_types.specs.runs.Run.{IsRunBy}
-use Rattle.napi_types.specs.runs.Setting.{Setting, EndsBy, opening_of, final_of}
+use Rattle.napi_types.specs.runs.Setting.{Setting, RunsBy, EndsBy, opening_of, final_of}
 use Rattle.napi_types.specs.all_runs.Joined.{AreJoined, GoesOnJoined}
+
+-- where the journal and the front of a history that replays at the hub are a run, and the entries behind that front are others', the two are joined
+abbrev pub FrontsJoin : Type 0
+FrontsJoin = (s : Setting) (asks : List Ask) (journal : List Local) (front rest : List Entry) (h : Hub)
+    → RunsBy s asks (weave journal front) → RisesBetween 0 (length front) journal → IsParted (opening_of s) asks journal front
+    → LeadsTo s.limits.history s.threads s.workers (front ++ rest) h → All (λ x. is_environment x.actor ≡ false) rest
+    → AreJoined s asks journal front rest
 
 -- where the environment and the hub are joined, the journal and the whole history are a run, and all but the hub is as it was
 abbrev pub OthersJoin : Type 0
