@@ -141,7 +141,7 @@ pub fn somebody_always_goes_on()
     ensures { SomebodyAlwaysGoesOn }
 {}
 
-/// Until the environment is gone, where no frame stands and the environment has no event, a thread or a worker may make an entry.
+/// Until the environment is gone, where no frame stands and the environment has no event, a thread or a worker goes on, and may make an entry.
 pub fn runs_never_stand_still()
     ensures { RunsNeverStandStill }
 {}

@@ -132,11 +132,12 @@ not-final e phase.Gone later never none = absurd (never refl)
 
 pub runs-never-stand-still : RunsNeverStandStill
 runs-never-stand-still s bs xs run never alone none =
-    enters m (somebody-goes m.hub (hub-kept IsShut step-shut (opening_of s) bs xs run refl)
+    let on : SomebodyGoesOn m.hub = somebody-goes m.hub (hub-kept IsShut step-shut (opening_of s) bs xs run refl)
     (hub-kept IsStaffed step-staffed (opening_of s) bs xs run (λ opened. refl))
     (λ w. hub-kept (IsServing w) (step-serves w) (opening_of s) bs xs run (λ runs. cc))
     (λ final. not-final m.env m.env.phase (hub_choice m.hub) never none (sym (orderly-run s bs xs run).stage ∙ final))
-    (none-last (local_choice m.env) (hub_choice m.hub) none))
+    (none-last (local_choice m.env) (hub_choice m.hub) none) in
+    (on, enters m on)
   where
     m : Machine
     m = final_of s bs xs

@@ -31,8 +31,8 @@ pub record AnotherGoesOn (m : Machine) : Type 0 where
   pub other : is_environment entry.actor ≡ false
   pub next : IsNext m (ask.Leave None) entry
 
--- until the environment is gone, where no frame stands and the environment has no event, there is such an entry
+-- until the environment is gone, where no frame stands and the environment has no event, a thread or a worker goes on, and there is such an entry
 abbrev pub RunsNeverStandStill : Type 0
 RunsNeverStandStill = (s : Setting) (bs : List Ask) (xs : List Entry) → IsRunBy (opening_of s) bs xs
     → (final_of s bs xs).env.phase ≢ phase.Gone → (final_of s bs xs).env.frames ≡ []
-    → choice (final_of s bs xs) ≡ None → AnotherGoesOn (final_of s bs xs)
+    → choice (final_of s bs xs) ≡ None → SomebodyGoesOn (final_of s bs xs).hub × AnotherGoesOn (final_of s bs xs)
