@@ -1,5 +1,5 @@
 -- A work is cancelled after its start: too late. It runs to its finish, and its completion has its value.
-use Rattle.std.specs.Prelude.{◌≡◌, ℕ, List, [], ◌∷◌, ◌++◌, take, replicate, codes}
+use Rattle.std.specs.Prelude.{◌≡◌, ℕ, true, false, List, [], ◌∷◌, ◌++◌, take, replicate, codes}
 use Rattle.napi_types.specs.declared.call.Call.TheVariants as call
 use Rattle.napi_types.specs.declared.call.JobSpec.TheVariants as job
 use Rattle.napi_types.specs.declared.entry.Actor.TheVariants as actor
@@ -13,8 +13,11 @@ use Rattle.napi_types.specs.plain.Texts.{fixed_texts}
 use Rattle.napi_types.specs.plain.Weave.{weave}
 use Rattle.napi_types.specs.scripts.Plans.{registers_of}
 use Rattle.napi_types.specs.scripts.Text.{text}
+use Rattle.napi_types.specs.hub.ActorLaws.{worker_at}
+use Rattle.napi_types.specs.hub.Actors.{Free, Working, Over}
+use Rattle.napi_types.specs.hub.Waits.{worker_waits}
 use Rattle.napi_types.specs.runs.Setting.{Setting, final_registers}
-use Rattle.machine_laws.specs.HubWords.{work_lines, shared_journal, script_for, next_after, work_duty, work, shared_at, shared_making, work_created, completion_begins, runs_empty, drains, finals, worker_starts, worker_finishes, worker_ends}
+use Rattle.machine_laws.specs.HubWords.{work_lines, shared_journal, script_for, hub_behind, next_after, work_duty, work, shared_at, shared_making, work_created, completion_begins, runs_empty, drains, finals, worker_starts, worker_finishes, worker_ends}
 use Rattle.machine_laws.specs.RunWords.{loop_ended, go_entry}
 use Rattle.machine_laws.specs.LegalRuns.{IsRun, told_asks}
 
@@ -85,5 +88,11 @@ pub record IsStrict : Type 0 where
   pub runs : (x : Entry) → IsRun setting (take 7 trace ++ go_entry ∷ record x { actor = actor.Env } ∷ []) → ⊥
   -- its completion tells that it ran, and not that it was cancelled, since it started
   pub completion : (s : Status) → IsRun setting (next_after 9 trace (completion_begins 1 s 1)) → s ≡ status.Ok
-  -- the worker does not end before the drain
+  -- the worker executes it between these two, and then waits until the drain comes
+  pub working : worker_at (hub_behind setting 3 history) 0 ≡ Working
+  pub free : worker_at (hub_behind setting 5 history) 0 ≡ Free
+  pub idle : worker_waits (hub_behind setting 9 history) 0 ≡ true
+  pub woken : worker_waits (hub_behind setting 10 history) 0 ≡ false
+  pub over : worker_at (hub_behind setting 11 history) 0 ≡ Over
+  -- it does not end before the drain
   pub end : IsRun setting (next_after 12 trace (worker_ends 0)) → ⊥

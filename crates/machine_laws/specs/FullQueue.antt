@@ -1,5 +1,5 @@
 -- A queue of one item is full: the environment's calls are refused, by their mode, and a thread's call waits until the item is taken out.
-use Rattle.std.specs.Prelude.{◌≡◌, ℕ, List, [], ◌∷◌, ◌++◌, Option, Some, None, codes}
+use Rattle.std.specs.Prelude.{◌≡◌, ℕ, true, false, List, [], ◌∷◌, ◌++◌, Option, Some, None, codes}
 use Rattle.napi_types.specs.declared.call.Call.TheVariants as call
 use Rattle.napi_types.specs.declared.call.Mode.TheVariants as mode
 use Rattle.napi_types.specs.declared.call.Release.TheVariants as release
@@ -17,9 +17,10 @@ use Rattle.napi_types.specs.declared.status.Status.TheVariants as status
 use Rattle.napi_types.specs.plain.Texts.{fixed_texts}
 use Rattle.napi_types.specs.plain.Weave.{weave}
 use Rattle.napi_types.specs.scripts.Text.{text}
+use Rattle.napi_types.specs.hub.Waits.{waits_at}
 use Rattle.napi_types.specs.runs.Setting.{Setting}
 use Rattle.napi_types.specs.all_runs.HubLaws.{KeepsScript}
-use Rattle.machine_laws.specs.HubWords.{function_lines, shared_journal, script_for, next_after, item, target_at, shared_making, function_created, calls_function, releases, item_begins, function_closes, function_finishes, drains, finals, by_thread, thread_ends}
+use Rattle.machine_laws.specs.HubWords.{function_lines, shared_journal, script_for, hub_behind, next_after, item, target_at, shared_making, function_created, calls_function, releases, item_begins, function_closes, function_finishes, drains, finals, by_thread, thread_ends}
 use Rattle.machine_laws.specs.RunWords.{frame_end, go_entry, loop_ended}
 use Rattle.machine_laws.specs.LegalRuns.{IsRun}
 
@@ -116,6 +117,9 @@ pub record IsStrict : Type 0 where
   pub again : (n : ℕ) → IsRun setting (next_after 12 trace (item_begins cause.Item n)) → n ≡ 2
   -- that of a thread waits: it has no answer before the item is taken out
   pub waits : (s : Status) (d : Option Duty) → IsRun setting (next_after 8 trace (thread_call s d)) → ⊥
+  -- so the thread waits there, and no longer once the item is taken out
+  pub blocked : waits_at (hub_behind setting 5 history) 0 (calls_function 10 mode.Blocking) ≡ true
+  pub woken : waits_at (hub_behind setting 6 history) 0 (calls_function 10 mode.Blocking) ≡ false
   -- nor does the thread call before `go`
   pub before : (s : Status) (d : Option Duty) → IsRun setting (next_after 3 trace (thread_call s d)) → ⊥
   -- it does not release the function first, ..

@@ -27,6 +27,8 @@ use Rattle.napi_types.specs.declared.status.Status.{Status}
 use Rattle.napi_types.specs.declared.status.Status.TheVariants as status
 use Rattle.napi_types.specs.plain.Entries.{host_told, host_entry}
 use Rattle.napi_types.specs.plain.Replies.{plain}
+use Rattle.napi_types.specs.hub.Hub.{Hub, new_hub}
+use Rattle.napi_types.specs.hub.HubSteps.{hub_along}
 use Rattle.napi_types.specs.runs.Setting.{Setting}
 use Rattle.machine_laws.specs.RunWords.{script_of_entries, opening_entries, opening_lines, call_replied, frame_end, gone_entry}
 
@@ -38,6 +40,10 @@ script_for threads workers entries = record (script_of_entries entries) { thread
 -- a script with room for so many entries in the journal, and so many in the history
 abbrev pub within : ℕ → ℕ → Setting → Setting
 within journal history s = record s { limits = record { journal = journal; history = history } }
+
+-- the hub of a script behind so many entries of a history
+abbrev pub hub_behind : Setting → ℕ → List Entry → Hub
+hub_behind s n history = hub_along (new_hub s.threads s.workers) (take n history)
 
 -- these entries of the journal stand at this length of the history
 abbrev pub at_length : ℕ → List Entry → List Local

@@ -35,4 +35,15 @@ no-end : IsRun setting (next_after 12 trace (worker_ends 0)) → ⊥
 no-end r = let z : _ = told-may setting _ refl r in cc
 
 pub returns-clause-strict : goal.returns-clause-strict
-returns-clause-strict c = record { late = is-late; value = no-other-value; runs = runs-on; completion = is-completed; end = no-end }
+returns-clause-strict c = record {
+  late = is-late;
+  value = no-other-value;
+  runs = runs-on;
+  completion = is-completed;
+  working = refl;
+  free = refl;
+  idle = refl;
+  woken = refl;
+  over = refl;
+  end = no-end;
+}
