@@ -1,4 +1,4 @@
-//! Many works, and many items of a thread-safe function: that each call is accepted where there is memory, from whatever number on, and
+//! Many works, and many items of a thread-safe function: that each call is accepted where there is memory, also after 65,535 others, and
 //! that works start in time. No clause says so.
 ghost use Rattle.std.specs.Prelude.{◌≡◌, ◌<◌, ◌^◌, [], false};
 ghost use Rattle.napi_types.specs.parts.Functions.{accepted_items};

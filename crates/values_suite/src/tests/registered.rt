@@ -1,5 +1,5 @@
-//! Many tickets, hooks, references and wraps, and many finalizers of one value: that each is accepted where there is memory, from whatever
-//! number on, and that a long chain of tickets, or of lines that were seen, is let go and falls due within the stack. No clause says so.
+//! Many tickets, hooks, references and wraps, and many finalizers of one value: that each is accepted where there is memory, also after
+//! 65,535 others, and that a long chain of tickets, or of lines that were seen, is let go and falls due within the stack. No clause says so.
 ghost use Rattle.std.specs.Prelude.{◌≡◌, ◌+◌, ◌<◌, ◌≤◌, ◌^◌, [], length};
 ghost use Rattle.std.specs.List.{All};
 ghost use Rattle.napi_types.specs.parts.Attachments.{no_attachments};
