@@ -12,6 +12,7 @@ use Rattle.napi_types.specs.declared.entry.Local.{Local}
 use Rattle.napi_types.specs.declared.entry.Phase.{Phase}
 use Rattle.napi_types.specs.declared.entry.Phase.TheVariants as phase
 use Rattle.napi_types.specs.declared.entry.Reply.{Reply}
+use Rattle.napi_types.specs.declared.entry.SharedCall.{SharedCall}
 use Rattle.napi_types.specs.declared.entry.Why.{Why}
 use Rattle.napi_types.specs.declared.ids.HandleId.{HandleId}
 use Rattle.napi_types.specs.declared.status.Status.{Status}
@@ -44,9 +45,9 @@ use Rattle.env_core.specs.State.{Calls}
 use Rattle.env_core.specs.CoreSteps.{Replies}
 use Rattle.env_core.proofs.Beginning.{last-registered, length-duty}
 
--- the core of an environment and a journal
-abbrev pub core_of : Environment → Pages → Core
-core_of e pages = record { env = e; journal = pages.entries; limit = pages.limit; position = pages.position }
+-- the core of an environment and a journal, and of what is awaited
+abbrev pub core_of : Environment → Pages → Option SharedCall → Core
+core_of e pages awaited = record { env = e; journal = pages.entries; limit = pages.limit; position = pages.position; awaited = awaited }
 
 -- the journal with an entry more, and so many places promised
 abbrev pub written : Entry → ℕ → Pages → Pages
@@ -236,29 +237,29 @@ pub other-at-once : (e : Environment) (c : Call) → is_calling c ≡ false → 
 other-at-once e c h = ap (λ b. b && is_none (refusal e c)) h
 
 -- a call fits where its places were promised
-pub fits-in : (e : Environment) (pages : Pages) (c : Call) (n : ℕ) → IsCore e pages → need c ≡ n → length pages.entries + pages.promised + n ≤ pages.limit
-    → is_full (room_in (core_of e pages)) c ≡ false
-fits-in e pages c n k same room =
+pub fits-in : (e : Environment) (pages : Pages) (a : Option SharedCall) (c : Call) (n : ℕ) → IsCore e pages → need c ≡ n → length pages.entries + pages.promised + n ≤ pages.limit
+    → is_full (room_in (core_of e pages a)) c ≡ false
+fits-in e pages a c n k same room =
     le-ltb pages.limit (length pages.entries + reserved_journal e + need c) (omega (arith, k.reserved, same, room))
 
 pub never-full : {X : Type 0} (b : Bool) → b ≡ false → IsTrue b → X
 never-full true h t = cc
 never-full false h t = cc
 
-after_change-as : (env new : Environment) (pages after : Pages) (x : Entry) (k : ℕ) → after ≡ written x k pages
-    → core_of new after ≡ after_change (record { entry = x; after = new }) (core_of env pages)
-after_change-as env new pages after x k e = ap (core_of new) e
+after_change-as : (env new : Environment) (pages after : Pages) (a : Option SharedCall) (x : Entry) (k : ℕ) → after ≡ written x k pages
+    → core_of new after a ≡ after_change (record { entry = x; after = new }) (core_of env pages a)
+after_change-as env new pages after a x k e = ap (λ p. core_of new p a) e
 
 -- a reply is the machine's answer
-pub replied : (env new : Environment) (pages after : Pages) (c : Call) (x : Entry) (k : ℕ) → after ≡ written x k pages → is_entering env c ≡ false
-    → is_full (room_in (core_of env pages)) c ≡ false → Calls env c x new → Replies (core_of env pages) c x.reply (core_of new after)
-replied env new pages after c x k e once fits calls = record {
+pub replied : (env new : Environment) (pages after : Pages) (a : Option SharedCall) (c : Call) (x : Entry) (k : ℕ) → after ≡ written x k pages → is_entering env c ≡ false
+    → is_full (room_in (core_of env pages a)) c ≡ false → Calls env c x new → Replies (core_of env pages a) c x.reply (core_of new after a)
+replied env new pages after a c x k e once fits calls = record {
   at_once = once;
   fits = fits;
   fresh = calls.fresh;
   answer = ap (λ (y : Entry). y.reply) calls.entry;
   after =
-      after_change-as env new pages after x k e
-      ∙ ap (λ y. after_change (record { entry = y; after = new }) (core_of env pages)) calls.entry
-      ∙ ap (λ s. after_change (record { entry = (call_change env c (number_of x.reply.out)).entry; after = s }) (core_of env pages)) calls.after;
+      after_change-as env new pages after a x k e
+      ∙ ap (λ y. after_change (record { entry = y; after = new }) (core_of env pages a)) calls.entry
+      ∙ ap (λ s. after_change (record { entry = (call_change env c (number_of x.reply.out)).entry; after = s }) (core_of env pages a)) calls.after;
 }

@@ -10,10 +10,12 @@ pub mod Freeing
 pub mod FunctionRooting
 pub mod Knowing
 pub mod Looking
+pub mod OwnRefusals
 pub mod Referring
 pub mod Registered
 pub mod Renaming
 pub mod Rooting
 pub mod SeenScopes
+pub mod Sharing
 pub mod Unrefused
 pub mod ValueAnswers

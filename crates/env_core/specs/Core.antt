@@ -3,6 +3,7 @@ use Rattle.std.specs.Prelude.{◌≡◌, ℕ, ◌+◌, ◌*◌, ◌≤◌, List,
 use Rattle.napi_types.specs.declared.entry.Local.{Local}
 use Rattle.napi_types.specs.declared.entry.Phase.{Phase}
 use Rattle.napi_types.specs.declared.entry.Phase.TheVariants as phase
+use Rattle.napi_types.specs.declared.entry.SharedCall.{SharedCall}
 use Rattle.napi_types.specs.plain.Room.{Room, most_entries}
 use Rattle.napi_types.specs.environment.Changes.{Change, opening_change, gone_change, in_phase}
 use Rattle.napi_types.specs.environment.Environment.{Environment, new_environment}
@@ -10,21 +11,23 @@ use Rattle.napi_types.specs.environment.Hooked.{IsHooked}
 use Rattle.napi_types.specs.environment.JournalRoom.{journal_room, reserved_journal}
 use Rattle.env_core.specs.Journal.{Pages}
 
--- the environment, its journal, the journal's limit, and the length of the history as it was noted last
+-- the environment, its journal, the journal's limit, the length of the history as it was noted last, and the call that was handed to the hub and that the hub
+-- has not answered yet, where there is one
 pub record Core : Type 0 where
   pub env : Environment
   pub journal : List Local
   pub limit : ℕ
   pub position : ℕ
+  pub awaited : Option SharedCall
 
--- a change of the environment leaves its entry in the journal
+-- a change of the environment leaves its entry in the journal, at the position that was noted last
 abbrev pub after_change : Change → Core → Core
 after_change c core = record core { env = c.after; journal = core.journal ++ record { at = core.position; entry = c.entry } ∷ [] }
 
 -- a core as it opens
 abbrev pub opened_core : ℕ → ℕ → ℕ → Core
 opened_core addons texts limit =
-    after_change (opening_change (new_environment addons texts)) (record { env = new_environment addons texts; journal = []; limit = limit; position = 0 })
+    after_change (opening_change (new_environment addons texts)) (record { env = new_environment addons texts; journal = []; limit = limit; position = 0; awaited = None })
 
 -- a phase starts at an event of the hub, after which the history has that length; the last one starts at an entry of its own
 abbrev pub after_phase : Phase → ℕ → Core → Core

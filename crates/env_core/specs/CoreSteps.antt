@@ -1,5 +1,5 @@
 -- What a step of a frame comes to.
-use Rattle.std.specs.Prelude.{◌≡◌, ℕ, ◌+◌, ◌<◌, ◌⊎◌, false, IsTrue, List, min, Option, Some, None}
+use Rattle.std.specs.Prelude.{◌≡◌, ℕ, ◌+◌, ◌<◌, ◌⊎◌, true, false, IsTrue, List, min, Option, Some, None}
 use Rattle.napi_types.specs.declared.call.Args.{Args}
 use Rattle.napi_types.specs.declared.call.Call.{Call}
 use Rattle.napi_types.specs.declared.call.Call.TheVariants as call
@@ -18,10 +18,12 @@ use Rattle.napi_types.specs.environment.Changes.{Change, call_change, call_entry
 use Rattle.napi_types.specs.environment.Entering.{is_entering, enter_change}
 use Rattle.napi_types.specs.environment.Environment.{Environment}
 use Rattle.napi_types.specs.environment.Refusals.{early_refusal}
+use Rattle.napi_types.specs.environment.SharedCalls.{shared_call_of}
 use Rattle.napi_types.specs.environment.Tickets.{ticket_change, next_ticket}
 use Rattle.env_core.specs.declared.env.Stepped.{Stepped}
 use Rattle.env_core.specs.declared.env.Stepped.TheVariants as stepped
 use Rattle.env_core.specs.Core.{Core, after_change, room_in}
+use Rattle.env_core.specs.Sharing.{awaiting, wants_root}
 use Rattle.env_core.specs.State.{IsAccepted}
 
 -- a fact of the reply, where the step is one
@@ -50,6 +52,13 @@ abbrev pub IsLocal : Stepped → Type 0
 IsLocal (stepped.Shared c) = ⊥
 IsLocal _ = Unit {0}
 
+-- a shared call is handed to the hub with what the environment gives, and the core awaits the answer. It stops before that only where there is no memory for
+-- the root that it wants
+abbrev pub IsHandedOver : Core → Call → Stepped → Core → Type 0
+IsHandedOver old c (stepped.Shared s) new = (s ≡ shared_call_of old.env c) × (new ≡ awaiting s old)
+IsHandedOver old c (stepped.Stop s) new = (s ≡ status.NoMemory) × (wants_root (shared_call_of old.env c) ≡ true)
+IsHandedOver old c _ new = ⊥
+
 -- the call grows, and nothing refuses it, the depth limit left aside
 pub record GrowsUnrefused (e : Environment) (c : Call) : Type 0 where
   pub grows : IsTrue (is_growing c)
@@ -59,7 +68,7 @@ pub record GrowsUnrefused (e : Environment) (c : Call) : Type 0 where
 abbrev pub PassesFirstPlaces : Room → Call → Type 0
 PassesFirstPlaces room c = min first_places room.limit < room.occupied + need c
 
--- why a call may stop: it finds no room, or else no memory. Memory for its places is looked for before any refusal, and memory to grow after them
+-- why a local call may stop: it finds no room, or else no memory. Memory for its places is looked for before any refusal, and memory to grow after them
 abbrev pub StopsBy : Environment → Room → Call → Status → Type 0
 StopsBy e room c status.TraceFull = IsTrue (is_full room c)
 StopsBy e room c status.NoMemory = (GrowsUnrefused e c ⊎ PassesFirstPlaces room c) × (is_full room c ≡ false)

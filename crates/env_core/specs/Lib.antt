@@ -8,5 +8,6 @@ pub mod Journal
 pub mod Referring
 pub mod RegisteringWants
 pub mod Rooting
+pub mod Sharing
 pub mod Standing
 pub mod State

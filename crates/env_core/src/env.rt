@@ -3,6 +3,7 @@ ghost use Rattle.std.specs.Prelude.{◌≡◌, ◌≢◌, ℕ, ◌+◌, ◌-◌,
 ghost use Rattle.napi_types.specs.declared.call.Call.TheVariants as call_of;
 ghost use Rattle.napi_types.specs.declared.entry.Cause.TheVariants as cause;
 ghost use Rattle.napi_types.specs.plain.Built.{is_built, is_calling};
+ghost use Rattle.napi_types.specs.plain.Guards.{is_shared as is_shared_call};
 ghost use Rattle.napi_types.specs.plain.Lists.{head, tail};
 ghost use Rattle.napi_types.specs.plain.Numbers.{napi_version};
 ghost use Rattle.napi_types.specs.plain.Phases.{next_phase};
@@ -15,11 +16,16 @@ ghost use Rattle.napi_types.specs.environment.Refusals.{early_refusal, depth_ref
 ghost use Rattle.napi_types.specs.environment.Tickets.{next_ticket};
 ghost use Rattle.env_core.specs.Standing.{machine_frame};
 ghost use Rattle.env_core.specs.Core.{opened_core, after_change, after_phase, at_position, next_init, room_in};
-ghost use Rattle.env_core.specs.CoreSteps.{IfReply, IfEnter, IfStop, Replies, Enters, EntersBy, RefusedAs, StopsBy, IsAtOnce, IsLocal, BeginsTicket};
+ghost use Rattle.env_core.specs.CoreSteps.{IfReply, IfEnter, IfStop, Replies, Enters, EntersBy, RefusedAs, StopsBy, IsAtOnce, IsLocal, IsHandedOver};
+ghost use Rattle.env_core.specs.CoreSteps.{BeginsTicket};
+ghost use Rattle.env_core.specs.Sharing.{after_finish};
+
+mod hub;
 
 use crate::frames::StandingFrame;
+use crate::function_roots::RootRoom;
 use crate::journal::Journal;
-use crate::state::{Called, State};
+use crate::state::{Called, State, is_shared};
 use addon_trait::Phased;
 use napi_types::{
     Args, Begun, Call, Due, Duty, Entry, HandleId, Limits, Local, LocalList, NoMemory, Phase,
@@ -35,7 +41,7 @@ pub enum Stepped {
     Reply(Reply),
     /// An accepted call of a function: the frame that it enters, and its gifts.
     Enter(Target, [u64; 8]),
-    /// A call that the hub answers.
+    /// A call that the hub answers. The answer is awaited.
     Shared(SharedCall),
     /// The call stopped, with `NoMemory` or `TraceFull`. It left no entry and changed nothing.
     Stop(Status),
@@ -46,10 +52,14 @@ pub enum Stepped {
 pub struct EnvCore {
     state: State,
     journal: Journal,
+    // The call that the hub has not answered yet, and the memory for the root that it may want.
+    awaited: Option<SharedCall>,
+    root_room: RootRoom,
 }
 
 impl Model for EnvCore {
     ghost use Rattle.env_core.specs.Core.{Core, IsCore};
+    ghost use Rattle.env_core.specs.Sharing.{MayAwait};
 
     ghost Value = { Core };
 
@@ -58,9 +68,10 @@ impl Model for EnvCore {
       journal = core.journal.entries;
       limit = core.journal.limit;
       position = core.journal.position;
+      awaited = core.awaited;
     } };
 
-    ghost invariant = { λ core. IsCore core.state core.journal };
+    ghost invariant = { λ core. IsCore core.state core.journal × MayAwait core.state core.root_room core.awaited };
 }
 
 impl EnvCore {
@@ -84,17 +95,21 @@ impl EnvCore {
         let mut journal = Journal::new(alloc, limits.journal, 2 + 2 * addons)?;
         let mut state = State::new(alloc, addons, texts)?;
         journal.push(state.open(version));
-        Ok(EnvCore { state, journal })
+        Ok(EnvCore {
+            state,
+            journal,
+            awaited: None,
+            root_room: RootRoom::new(alloc),
+        })
     }
 
-    /// Makes a call, one that is built, of the innermost frame, which stands. `step` is the number of the ask in its frame, from 0
-    /// to 65,535.
+    /// Makes a call of the innermost frame, which stands. `step` is the number of the ask in its frame, from 0 to 65,535.
     ///
-    /// An accepted call of a function enters the function's frame, whose `end` will have the call's reply. Every other call
-    /// answers at once.
+    /// An accepted call of a function enters the function's frame, whose `end` will have the call's reply. A shared call is handed to the
+    /// hub: until [`EnvCore::settle`] or [`EnvCore::unsettle`] no other step is taken. Every other call answers at once.
     pub fn step(&mut self, step: u32, call: &Call) -> Stepped
         requires standing { self.old.env.frames ≢ [] }
-        requires built { is_built call.now ≡ true }
+        requires idle { self.old.awaited ≡ None }
         requires ask { step ≡ asks_made self.old.env.frames }
         requires within { step < most_asks }
 
@@ -111,14 +126,19 @@ impl EnvCore {
         ensures depth_limit { (s : Status) → early_refusal self.old.env call.now ≡ None → depth_refusal self.old.env.frames call.now ≡ Some s
             → IfReply result (λ reply. RefusedAs self.old call.now s (with_depth_error self.old.env) reply self.new) }
 
-        // A call that stops changes nothing, and says why it stopped: a refusal comes before a growth that finds no memory.
+        // A call that stops changes nothing. A local one says why it stopped: a refusal comes before a growth that finds no memory. Where it
+        // finds no room it stops as `TraceFull`.
         ensures stop { IfStop result (λ status. self.new ≡ self.old) }
-        ensures cause { IfStop result (λ status. StopsBy self.old.env (room_in self.old) call.now status) }
+        ensures cause { is_shared_call call.now ≡ false → IfStop result (λ status. StopsBy self.old.env (room_in self.old) call.now status) }
+        ensures full { is_shared_call call.now ≡ false → IsTrue (is_full (room_in self.old) call.now) → result ≡ Stepped.Stop Status.TraceFull }
 
-        // A call that finds no room stops as `TraceFull`.
-        ensures full { IsTrue (is_full (room_in self.old) call.now) → result ≡ Stepped.Stop Status.TraceFull }
-        ensures local { IsLocal result }
+        // Exactly a shared call is handed to the hub.
+        ensures local { is_shared_call call.now ≡ false → IsLocal result }
+        ensures shared { is_shared_call call.now ≡ true → IsHandedOver self.old call.now result self.new }
     {
+        if is_shared(call) {
+            return self.hand_over(step, call);
+        }
         match call {
             Call::CallFunction(receiver, function, args) => {
                 self.call_function(step, *receiver, *function, args)
@@ -130,6 +150,7 @@ impl EnvCore {
     /// A call that is no call of a function.
     fn answer(&mut self, step: u32, call: &Call) -> Stepped
         requires standing { self.old.env.frames ≢ [] }
+        requires idle { self.old.awaited ≡ None }
         requires built { is_built call.now ≡ true }
         requires at_once { is_calling call.now ≡ false }
         requires ask { step ≡ asks_made self.old.env.frames }
@@ -169,6 +190,7 @@ impl EnvCore {
         args: &Args,
     ) -> Stepped
         requires standing { self.old.env.frames ≢ [] }
+        requires idle { self.old.awaited ≡ None }
         requires ask { step ≡ asks_made self.old.env.frames }
         requires within { step < most_asks }
         ensures reply { IfReply result (λ reply. Replies self.old (call_of.CallFunction receiver function args.now) reply self.new) }
@@ -237,9 +259,11 @@ impl EnvCore {
         self.state.has_local()
     }
 
-    /// Ends the frame of a ticket, which stands alone, cut or not. Nobody is told the reply of its `end`. It takes no memory.
+    /// Ends the frame of a ticket, which stands alone, cut or not. Nobody is told the reply of its `end`. It takes no memory. The frame of
+    /// a duty of the hub ends by [`EnvCore::leave_hub_frame`].
     pub fn end_duty(&mut self, begun: Begun, cut: Option<Why>)
         requires duty { duty_of self.old.env.frames ≡ Some begun.duty }
+        requires idle { self.old.awaited ≡ None }
         requires local { is_hub_duty (Some begun.duty) ≡ false }
         requires alone { tail self.old.env.frames ≡ [] }
         requires outermost { cause_of self.old.env.frames ≢ cause.Call }
@@ -256,6 +280,7 @@ impl EnvCore {
     /// was not cut and no exception is pending; an init frame leaves its value to nobody, so `value` changes nothing.
     pub fn leave(&mut self, value: Option<HandleId>, cut: Option<Why>) -> Reply
         requires standing { self.old.env.frames ≢ [] }
+        requires idle { self.old.awaited ≡ None }
         requires plain { duty_of self.old.env.frames ≡ None }
         requires asks { cut ≡ Some Why.Asks → asks_made self.old.env.frames ≡ most_asks }
         ensures reply { result ≡ (end_change value cut self.old.env).entry.reply }
@@ -335,7 +360,7 @@ impl EnvCore {
     pub fn into_journal(self) -> LocalList
         ensures { result ≡ self.journal }
     {
-        let EnvCore { state: _, journal } = self;
+        let EnvCore { journal, .. } = self;
         journal.into_entries()
     }
 
@@ -357,8 +382,7 @@ impl Phased for EnvCore {
 
     ghost advances = { λ core to position new. new ≡ after_phase to position core };
 
-    // No root is that of a thread-safe function so far.
-    ghost finishes = { λ core _ position new. new ≡ at_position position core };
+    ghost finishes = { λ core id position new. new ≡ after_finish id.0 position core };
 
     ghost moves = { λ core position new. new ≡ at_position position core };
 
@@ -374,7 +398,8 @@ impl Phased for EnvCore {
         EnvCore::advance(self, to, position);
     }
 
-    fn function_finished(&mut self, _: TsfnId, position: u64) {
+    fn function_finished(&mut self, id: TsfnId, position: u64) {
+        self.state.drop_root(id);
         self.journal.note(position);
     }
 

@@ -107,6 +107,13 @@ impl Journal {
         self.position = position;
     }
 
+    /// The length of the history, as it was noted last.
+    pub fn position(&self) -> u64
+        ensures { result ≡ self.now.position }
+    {
+        self.position
+    }
+
     /// The entries in their order.
     pub fn entries(&self) -> &[Local]
         ensures { result.now ≡ self.now.entries }

@@ -29,6 +29,7 @@ mod function_roots;
 mod hooks;
 mod instances;
 mod references;
+mod shared;
 mod tickets;
 
 use crate::frames::{Frames, StandingFrame};
@@ -45,6 +46,7 @@ use napi_types::{
     Actor, Call, Cause, Entry, HandleId, HostStep, NAPI_VERSION, NoMemory, Out, Phase, Reply,
     ScopeId, Status, TextNo, What,
 };
+pub use shared::is_shared;
 use std::alloc::Global;
 use std::marker::Model;
 use value_store::Store;

@@ -98,7 +98,7 @@ impl State {
     }
 
     /// Whether an open scope holds the handle, where there is one.
-    fn holds_if(&self, handle: Option<HandleId>) -> bool
+    pub(super) fn holds_if(&self, handle: Option<HandleId>) -> bool
         ensures { result ≡ list_all (λ h. is_some (gives self.now.heap.scopes h)) (handle_if handle) }
     {
         match handle {
@@ -122,7 +122,7 @@ impl State {
     }
 
     /// Whether the value of a handle is a function.
-    fn is_function(&self, handle: HandleId) -> bool
+    pub(super) fn is_function(&self, handle: HandleId) -> bool
         ensures { result ≡ is_function_body (handle_body self.now.heap handle.0) }
     {
         matches!(

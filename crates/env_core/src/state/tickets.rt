@@ -93,7 +93,7 @@ impl State {
 }
 
 /// The frame of a duty begins, with a scope of its own: its entry.
-fn begin_frame(scopes: &mut Scopes, frames: &mut Frames, told: DueInfo) -> Entry
+pub(super) fn begin_frame(scopes: &mut Scopes, frames: &mut Frames, told: DueInfo) -> Entry
     requires scopes { length scopes.old.frames < most_frames }
     requires frames { length frames.old < most_frames }
     ensures entry { result ≡ entry_of host.Begin (begin_told (frame_of_duty told)) }

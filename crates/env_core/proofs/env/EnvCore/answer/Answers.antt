@@ -1,6 +1,7 @@
 use Rattle.std.proofs.Common.{◌∙◌, ◌+◌, ◌-◌, ℕ, ap, arith, sym}
 use Rattle.env_core.specs.Journal.{Pages}
 use Rattle.env_core.proofs.Cores.{KeepsPlaces, written, calls-keep, calls-hooked, places-kept, core-call_change, replied, other-at-once, fits-in, never-full}
+use Rattle.env_core.proofs.Sharing.{idle-may}
 use Rattle.env_core.proofs.env.EnvCore.answer.Goals as goal
 use Rattle.env_core.proofs.env.EnvCore.answer.Goals.{After-give_back-arg-1}
 
@@ -8,14 +9,14 @@ use Rattle.env_core.proofs.env.EnvCore.answer.Goals.{After-give_back-arg-1}
 kept : (c : After-give_back-arg-1) → KeepsPlaces c.self.inside.journal.promised c.args.call.now c.in-Ok.entry.reply
 kept c =
     let s = c.self.inside in
-    places-kept s.state c.call.new.self s.journal c.args.call.now c.in-Ok.entry.reply c.self.invariant (calls-keep s.state c.call.new.self c.args.call.now c.in-Ok.entry c.in-Ok.ensures.ok)
+    places-kept s.state c.call.new.self s.journal c.args.call.now c.in-Ok.entry.reply c.self.invariant.0 (calls-keep s.state c.call.new.self c.args.call.now c.in-Ok.entry c.in-Ok.ensures.ok)
 
 -- a call has a place for its entry
 pub push-requires : goal.push-requires
 push-requires c =
     let s = c.self.inside in
     let x = c.in-Ok.entry in
-    let k : KeepsPlaces s.journal.promised c.args.call.now x.reply = places-kept s.state c.call.new.self s.journal c.args.call.now x.reply c.self.invariant (calls-keep s.state c.call.new.self c.args.call.now x c.in-Ok.ensures.ok) in
+    let k : KeepsPlaces s.journal.promised c.args.call.now x.reply = places-kept s.state c.call.new.self s.journal c.args.call.now x.reply c.self.invariant.0 (calls-keep s.state c.call.new.self c.args.call.now x c.in-Ok.ensures.ok) in
     omega (arith, k.made, c.places_of-places.ensures, ap (λ (p : Pages). p.promised) c.in_default.ensures.ok)
 
 pub overflow_sub-places : goal.overflow_sub-places
@@ -43,12 +44,14 @@ invariant_of-self-in-Ok c =
     let s = c.self.inside in
     let x = c.in-Ok.entry in
     let left : ℕ = c.places_of-places.result - 1 - c.frame_places-kept.result + c.frame_places-freed.result in
-    let k : KeepsPlaces s.journal.promised c.args.call.now x.reply = places-kept s.state c.call.new.self s.journal c.args.call.now x.reply c.self.invariant (calls-keep s.state c.call.new.self c.args.call.now x c.in-Ok.ensures.ok) in
-    core-call_change s.state c.call.new.self s.journal c.give_back.new.self c.args.call.now x (s.journal.promised + c.places_of-places.result - 1 - left) c.self.invariant
-    (calls-keep s.state c.call.new.self c.args.call.now x c.in-Ok.ensures.ok) (calls-hooked s.state c.call.new.self c.args.call.now x c.in-Ok.ensures.ok c.self.invariant.hooked)
-    (omega (arith, c.places_of-places.ensures, c.in_default.ensures.room))
-    (omega (arith, c.places_of-places.ensures, c.frame_places-kept.ensures, c.frame_places-freed.ensures, k.made, k.dropped))
-    (c.give_back.ensures ∙ ap (λ (p : Pages). record p { promised = p.promised - left }) c.push.ensures ∙ ap (λ (p : Pages). written x (p.promised - 1 - left) p) c.in_default.ensures.ok)
+    let k : KeepsPlaces s.journal.promised c.args.call.now x.reply = places-kept s.state c.call.new.self s.journal c.args.call.now x.reply c.self.invariant.0 (calls-keep s.state c.call.new.self c.args.call.now x c.in-Ok.ensures.ok) in (
+      core-call_change s.state c.call.new.self s.journal c.give_back.new.self c.args.call.now x (s.journal.promised + c.places_of-places.result - 1 - left) c.self.invariant.0
+          (calls-keep s.state c.call.new.self c.args.call.now x c.in-Ok.ensures.ok) (calls-hooked s.state c.call.new.self c.args.call.now x c.in-Ok.ensures.ok c.self.invariant.0.hooked)
+          (omega (arith, c.places_of-places.ensures, c.in_default.ensures.room))
+          (omega (arith, c.places_of-places.ensures, c.frame_places-kept.ensures, c.frame_places-freed.ensures, k.made, k.dropped))
+          (c.give_back.ensures ∙ ap (λ (p : Pages). record p { promised = p.promised - left }) c.push.ensures ∙ ap (λ (p : Pages). written x (p.promised - 1 - left) p) c.in_default.ensures.ok),
+      idle-may c.call.new.self s.root_room s.awaited (rw (← c.self.view_is) at c.requires.idle),
+    )
 
 pub returns-in-Ok-clause-reply : goal.returns-in-Ok-clause-reply
 returns-in-Ok-clause-reply c =
@@ -56,14 +59,14 @@ returns-in-Ok-clause-reply c =
     let x = c.in-Ok.entry in
     let left : ℕ = c.places_of-places.result - 1 - c.frame_places-kept.result + c.frame_places-freed.result in
     rw (← c.self.view_is)
-    (replied s.state c.call.new.self s.journal c.give_back.new.self c.args.call.now x (s.journal.promised + c.places_of-places.result - 1 - left)
+    (replied s.state c.call.new.self s.journal c.give_back.new.self s.awaited c.args.call.now x (s.journal.promised + c.places_of-places.result - 1 - left)
     (c.give_back.ensures ∙ ap (λ (p : Pages). record p { promised = p.promised - left }) c.push.ensures ∙ ap (λ (p : Pages). written x (p.promised - 1 - left) p) c.in_default.ensures.ok)
     (other-at-once s.state c.args.call.now c.requires.at_once)
-    (fits-in s.state s.journal c.args.call.now c.places_of-places.result c.self.invariant (sym c.places_of-places.ensures) c.in_default.ensures.room)
+    (fits-in s.state s.journal s.awaited c.args.call.now c.places_of-places.result c.self.invariant.0 (sym c.places_of-places.ensures) c.in_default.ensures.room)
     c.in-Ok.ensures.ok)
 
 pub returns-in-Ok-clause-full : goal.returns-in-Ok-clause-full
 returns-in-Ok-clause-full c =
     let s = c.self.inside in
     rw (← c.self.view_is)
-    (never-full _ (fits-in s.state s.journal c.args.call.now c.places_of-places.result c.self.invariant (sym c.places_of-places.ensures) c.in_default.ensures.room))
+    (never-full _ (fits-in s.state s.journal s.awaited c.args.call.now c.places_of-places.result c.self.invariant.0 (sym c.places_of-places.ensures) c.in_default.ensures.room))
