@@ -149,6 +149,7 @@ moved-on core new hub later event o p shown reached written made next other plac
       addons = refl;
       limit = refl;
       journal = refl;
+      awaited = refl;
       frames = refl;
       begun = refl;
       sound = moved-sound core.env p next other;
@@ -218,6 +219,7 @@ torn-moves core new hub later t needs not_init not_live shown step event moved =
 pub moved-running : (core new : Core) (hub later : QuietHub) (begun : Option DueInfo) → IsRunning core hub begun → HubMoves core hub new later → IsRunning new later begun
 moved-running core new hub later begun running m = record {
   sound = (m.moves begun).sound running.sound;
+  idle = (m.moves begun).awaited ∙ running.idle;
   held = ap duties_of (m.moves begun).frames ∙ running.held;
   shown = m.shown;
 }

@@ -42,7 +42,7 @@ after_change-turn ps core new all now change made others untouched seen sound ad
       untouched = untouched;
       seen = seen;
       sound = sound;
-      kept = record { addons = addons; stage = stage; limit = refl; one = record { entry = record { at = core.position; entry = change.entry }; last = refl } };
+      kept = record { addons = addons; stage = stage; limit = refl; awaited = refl; one = record { entry = record { at = core.position; entry = change.entry }; last = refl } };
       recorded = goes;
     })
 

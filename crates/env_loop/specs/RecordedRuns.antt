@@ -59,9 +59,10 @@ pub record IsSoundEnvironment (e : Environment) : Type 0 where
 abbrev pub Holds : List Frame → Option DueInfo → Type 0
 Holds fs begun = duties_of fs ≡ option_to_list (option_map (λ d. d.duty) begun)
 
--- the same of a run, the duty of its frames is the one that it holds, and its phase shows how far its hub is
+-- the same of a run, the hub owes its core no answer, the duty of its frames is the one that it holds, and its phase shows how far its hub is
 pub record IsRunning (core : Core) (hub : QuietHub) (begun : Option DueInfo) : Type 0 where
   pub sound : IsSoundEnvironment core.env
+  pub idle : core.awaited ≡ None
   pub held : Holds core.env.frames begun
   pub shown : hub.stage ≡ stage_of core.env.phase
 
@@ -92,7 +93,8 @@ abbrev pub EndsInOrder : List Plan → Run → AddonStates → Run → Type 0
 EndsInOrder plans old all new =
     (s : Setting) (firsts : List (List DueInfo)) → IsOf s plans old.core → IsRecorded s old.core old.hub old.history all firsts → BeganInOrder new
 
--- the hub made its next event, which is one entry more in the history; the journal, the limit, the frames, the addons and what is seen of them are as before
+-- the hub made its next event, which is one entry more in the history; the journal, the limit, what is awaited, the frames, the addons and what is seen of them
+-- are as before
 pub record MovesOn (old new : Run) : Type 0 where
   pub left : stage_places (stage_of old.core.env.phase) ≡ stage_places (stage_of new.core.env.phase) + 1
   pub event : Entry
@@ -100,6 +102,7 @@ pub record MovesOn (old new : Run) : Type 0 where
   pub addons : new.core.env.addons ≡ old.core.env.addons
   pub limit : new.core.limit ≡ old.core.limit
   pub journal : new.core.journal ≡ old.core.journal
+  pub awaited : new.core.awaited ≡ old.core.awaited
   pub frames : new.core.env.frames ≡ old.core.env.frames
   pub begun : new.begun ≡ old.begun
   pub sound : IsSoundEnvironment old.core.env → IsSoundEnvironment new.core.env

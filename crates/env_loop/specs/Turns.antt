@@ -84,11 +84,12 @@ OnlyInnermostChanges before [] all now = now ≡ all
 OnlyInnermostChanges [] (g ∷ gs) all now = OnlyGiven g.duty g.addon all now
 OnlyInnermostChanges (f ∷ fs) (g ∷ gs) all now = OthersStay all now g.addon
 
--- a turn keeps the addons and the journal's limit and makes no event of the hub; it leaves one entry
+-- a turn keeps the addons and the journal's limit and makes no event of the hub, to which it hands no call; it leaves one entry
 pub record KeepsRun (old new : Core) : Type 0 where
   pub addons : new.env.addons ≡ old.env.addons
   pub stage : stage_of new.env.phase ≡ stage_of old.env.phase
   pub limit : new.limit ≡ old.limit
+  pub awaited : new.awaited ≡ old.awaited
   pub one : OneMore old.journal new.journal
 
 -- a turn: the addons that are no addons of the script keep their registers, only the innermost frame's addon may have other ones, an addon has seen a duty

@@ -50,6 +50,7 @@ fn taken(ask: Ask) -> Ask
 /// Ends the frame of a duty, which stands alone, and the duty with it.
 fn end_duty(core: &mut EnvCore, begun: &mut Option<Begun>, cut: Option<Why>)
     requires sound { IsSoundEnvironment core.old.env }
+    requires idle { core.old.awaited ≡ None }
     requires held { Holds core.old.env.frames begun.old }
     requires duty { duty_of core.old.env.frames ≢ None }
     requires asks { cut ≡ Some Why.Asks → asks_made core.old.env.frames ≡ most_asks }
@@ -73,6 +74,7 @@ fn end_frame(
     cut: Option<Why>,
 )
     requires sound { IsSoundEnvironment core.old.env }
+    requires idle { core.old.awaited ≡ None }
     requires held { Holds core.old.env.frames begun.old }
     requires duty { duty ≡ duty_of core.old.env.frames }
     requires enough { core.old.env.addons ≤ length addons.old.items }
@@ -109,6 +111,7 @@ fn ask_turn(
     frame: StandingFrame,
 )
     requires sound { IsSoundEnvironment core.old.env }
+    requires idle { core.old.awaited ≡ None }
     requires held { Holds core.old.env.frames begun.old }
     requires enough { core.old.env.addons ≤ length addons.old.items }
     requires stands { head core.old.env.frames ≡ Some (machine_frame frame) }
@@ -146,6 +149,7 @@ fn frame_turn(
     frame: StandingFrame,
 )
     requires sound { IsSoundEnvironment core.old.env }
+    requires idle { core.old.awaited ≡ None }
     requires held { Holds core.old.env.frames begun.old }
     requires enough { core.old.env.addons ≤ length addons.old.items }
     requires stands { head core.old.env.frames ≡ Some (machine_frame frame) }
@@ -220,6 +224,7 @@ fn event_turn(
     ensures count { length addons.new.items ≡ length addons.old.items }
     ensures plans { map (λ b. plan b) addons.new.items ≡ map (λ b. plan b) addons.old.items }
     ensures held { Holds core.new.env.frames begun.new }
+    ensures awaited { core.new.awaited ≡ core.old.awaited }
     ensures turn { result ≡ turn_of core.old.env }
     ensures made { let before : AddonStates = record { registers = map (λ b. regs b) addons.old.items; seen = map (λ b. seen b) addons.old.items } in
         let after : AddonStates = record { registers = map (λ b. regs b) addons.new.items; seen = map (λ b. seen b) addons.new.items } in
@@ -265,11 +270,13 @@ pub(crate) fn turn(
     addons: &mut Vec<Box<dyn Addon>>,
 ) -> LocalTurn
     requires sound { IsSoundEnvironment core.old.env }
+    requires idle { core.old.awaited ≡ None }
     requires held { Holds core.old.env.frames begun.old }
     requires enough { core.old.env.addons ≤ length addons.old.items }
     ensures count { length addons.new.items ≡ length addons.old.items }
     ensures plans { map (λ b. plan b) addons.new.items ≡ map (λ b. plan b) addons.old.items }
     ensures held { Holds core.new.env.frames begun.new }
+    ensures awaited { core.new.awaited ≡ core.old.awaited }
     ensures turn { result ≡ turn_of core.old.env }
     ensures made { let before : AddonStates = record { registers = map (λ b. regs b) addons.old.items; seen = map (λ b. seen b) addons.old.items } in
         let after : AddonStates = record { registers = map (λ b. regs b) addons.new.items; seen = map (λ b. seen b) addons.new.items } in

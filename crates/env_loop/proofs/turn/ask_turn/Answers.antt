@@ -1,5 +1,6 @@
 use Rattle.std.proofs.Common.{arith, [], ◌∷◌, ◌∙◌, refl}
 use Rattle.std.proofs.lemmas.List.{length-map}
+use Rattle.napi_types.proofs.plain.CallFacts.{built-local}
 use Rattle.env_core.specs.Standing.{machine_frame}
 use Rattle.env_loop.proofs.CallTurns.{target-there, replied-turn, replied-held, enter_change-turn}
 use Rattle.env_loop.proofs.CutTurns.{stopped-turn-at}
@@ -8,8 +9,9 @@ use Rattle.env_loop.proofs.RegisterTurns.{told-from, given-from}
 use Rattle.env_loop.proofs.TurnSteps.{taken-built}
 use Rattle.env_loop.proofs.turn.ask_turn.Goals as goal
 
-pub step-requires-clause-built : goal.step-requires-clause-built
-step-requires-clause-built g c = taken-built c.ask_at-ask.result c.in-Do.call c.in-Do.ensures
+-- a call that is built is not handed to the hub
+pub unreachable-requires : goal.unreachable-requires
+unreachable-requires g c = c.in-Shared.ensures.local (built-local c.in-Do.call (taken-built c.ask_at-ask.result c.in-Do.call c.in-Do.ensures))
 
 pub enter_at-requires : goal.enter_at-requires
 enter_at-requires g c =
@@ -40,7 +42,7 @@ returns-in-Enter-clause-turn g c =
 pub returns-in-Stop-clause-turn : goal.returns-in-Stop-clause-turn
 returns-in-Stop-clause-turn g c =
     stopped-turn-at _ _ c.args.core.now c.step.new.self c.end_frame-in-Stop.new.core _ _ _ (machine_frame c.args.frame) c.ask_at-ask.result c.in-Do.call c.in-Stop.status c.why.result
-    (record { sound = c.requires.sound; top = c.requires.stands; asked = c.ask_at-ask.ensures.asked }) c.requires.within c.in-Do.ensures c.in-Stop.ensures.cause c.why.ensures c.in-Stop.ensures.stop c.end_frame-in-Stop.ensures.ended
+    (record { sound = c.requires.sound; top = c.requires.stands; asked = c.ask_at-ask.ensures.asked }) c.requires.within c.in-Do.ensures (c.in-Stop.ensures.cause (built-local c.in-Do.call (taken-built c.ask_at-ask.result c.in-Do.call c.in-Do.ensures))) c.why.ensures c.in-Stop.ensures.stop c.end_frame-in-Stop.ensures.ended
     c.ask_at-ask.ensures.plans c.ask_at-ask.ensures.regs c.end_frame-in-Stop.ensures.told (c.end_frame-in-Stop.ensures.seen ∙ c.ask_at-ask.ensures.seen)
 
 pub returns-in-Reply-clause-held : goal.returns-in-Reply-clause-held
