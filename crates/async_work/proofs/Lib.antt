@@ -1,5 +1,6 @@
 pub mod CountingWorks
 pub mod Draining
+pub mod FirstCompletions
 pub mod Ids
 pub mod KeepingPools
 pub mod Linking

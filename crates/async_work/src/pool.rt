@@ -1,7 +1,7 @@
 //! The pool.
 ghost use Rattle.std.specs.Prelude.{◌≡◌, ◌+◌, ◌<◌, ◌^◌, ◌==◌, ◌&&◌, [], ◌∷◌, true, false, not, length, filter, option_map};
 ghost use Rattle.std.specs.Prelude.{None, Some, IfSome, IfOk, OnOk, OnErr};
-ghost use Rattle.std.specs.Option.{is_none};
+ghost use Rattle.std.specs.Option.{is_none, is_some};
 ghost use Rattle.std.specs.Result.{result_err};
 ghost use Rattle.napi_types.specs.plain.Lists.{has_number, head, tail, is_empty};
 ghost use Rattle.napi_types.specs.parts.Pool.{new_pool, work_at, work_state, work_refusal, number_of_work, new_number, executed_by, value_of_work, completion_info, first_completion, with_work, without_work, with_queued, with_cancelled, cancelled_at, with_started, with_finished, with_completed, drained};
@@ -317,6 +317,13 @@ impl<J: Job> Pool<J> {
         ensures { result ≡ self.now.closing }
     {
         self.closing
+    }
+
+    /// Whether a work came out whose completion has not begun. Constant time.
+    pub fn has_finished(&self) -> bool
+        ensures { result ≡ is_some (first_completion self.now) }
+    {
+        !self.finished.is_empty()
     }
 
     /// How many works wait for a worker. Constant time.
