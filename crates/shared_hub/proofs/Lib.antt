@@ -1,0 +1,11 @@
+pub mod ActorsLeft
+pub mod EventSteps
+pub mod FunctionCalls
+pub mod FunctionsMove
+pub mod HandingOn
+pub mod HubHistories
+pub mod HubPlaces
+pub mod LoopReasons
+pub mod OpenedHubs
+pub mod RowsOfHistories
+pub mod SharedSteps

@@ -1,0 +1,121 @@
+//! The state of the hub, with its history.
+ghost use Rattle.std.specs.Prelude.{◌≡◌, ◌+◌, ◌≤◌, ◌&&◌, [], true, IfOk};
+ghost use Rattle.napi_types.specs.plain.Room.{most_entries};
+ghost use Rattle.napi_types.specs.hub.HistoryRoom.{reserved_history};
+ghost use Rattle.napi_types.specs.hub.ThreadSteps.{is_gone_on};
+ghost use Rattle.shared_hub.specs.HubStates.{hub_seen};
+ghost use Rattle.shared_hub.specs.KeptHubs.{IsLedHub};
+
+mod calls;
+mod events;
+mod moves;
+mod workers;
+
+use crate::naming::Naming;
+use crate::parts::SharedParts;
+use crate::progress::HubProgress;
+use crate::room::FIRST_PLACES;
+use crate::sleepers::Sleepers;
+use async_work::Job;
+use napi_types::{Entry, EntryList, Limits, Listed, NoMemory};
+use std::alloc::Global;
+use std::marker::{Model, PhantomData};
+
+/// The state of a hub: its works, its thread-safe functions, how far it has come, and its history.
+///
+/// Each call that changes it adds one entry to the history, which its contract names. Every other outcome changes nothing.
+#[derive(Drop)]
+pub struct HubState<J: Job, N: Naming> {
+    entries: Vec<Entry>,
+    limit: u32,
+    parts: SharedParts<J>,
+    progress: HubProgress,
+    // No contract sees it.
+    sleepers: Sleepers,
+    of: PhantomData<N>,
+}
+
+impl<J: Job, N: Naming> Model for HubState<J, N> {
+    ghost use Rattle.std.specs.Prelude.{vec_capacity};
+    ghost use Rattle.shared_hub.specs.HubStates.{HubSeen, hub_seen, led_by};
+    ghost use Rattle.shared_hub.specs.KeptHubs.{IsKeptHistory, AreFieldsOf};
+
+    ghost Value = { HubSeen };
+
+    ghost view = { λ s. hub_seen N.numbers s.entries.items };
+
+    ghost invariant = { λ s. IsKeptHistory N.numbers s.entries.items s.limit (vec_capacity s.entries)
+        × AreFieldsOf (led_by N.numbers s.entries.items) s.parts s.progress };
+}
+
+impl<J: Job, N: Naming> HubState<J, N> {
+    /// A hub as it opens, with an empty history, for these threads and workers. `limits.history` is from `4 + threads + workers`, the places
+    /// of the events that every run has, to 4,194,304; `limits.journal` is not read. The memory of the history's first places is taken
+    /// here.
+    pub fn new(
+        alloc: Global,
+        threads: u32,
+        workers: u32,
+        limits: Limits,
+    ) -> Result<HubState<J, N>, NoMemory>
+        requires named { N.numbers ≡ record { threads = threads; workers = workers; limits = limits } }
+        requires room { 4 + threads + workers ≤ limits.history }
+        requires most { limits.history ≤ most_entries }
+        ensures { IfOk result (λ state. state ≡ hub_seen N.numbers []) }
+    {
+        let owed = 4 + threads + workers;
+        let first = FIRST_PLACES.min(limits.history).max(owed);
+        Ok(HubState {
+            entries: Vec::with_capacity(alloc, first as usize)?,
+            limit: limits.history,
+            parts: SharedParts::new(alloc)?,
+            progress: HubProgress::new(threads, workers),
+            sleepers: Sleepers::new(),
+            of: PhantomData,
+        })
+    }
+
+    /// The history. Constant time.
+    pub fn history(&self) -> &[Entry]
+        ensures { result.now ≡ self.now.history }
+    {
+        &self.entries
+    }
+
+    /// Hands out the history. All else is dropped. It takes no memory.
+    pub fn into_history(self) -> EntryList
+        ensures { result ≡ self.history }
+    {
+        let HubState {
+            entries,
+            limit: _,
+            parts: _,
+            progress: _,
+            sleepers: _,
+            of: _,
+        } = self;
+        Listed::of(entries)
+    }
+
+    /// Whether `go` has happened, also after `loop_end`. Constant time.
+    pub fn is_live(&self) -> bool
+        ensures { result ≡ is_gone_on self.now.hub.stage }
+    {
+        self.progress.is_live()
+    }
+
+    /// Does nothing. Its contract tells what the type keeps: the history replays and has led to the hub, at the numbers that the type
+    /// names, and its entries and the places that it owes are within the limit.
+    pub fn knows(&self)
+        ensures { IsLedHub N.numbers self.now }
+    {
+        let _limit = self.limit;
+    }
+
+    /// How many places the history owes. Constant time.
+    fn reserved(&self) -> u32
+        ensures { result ≡ reserved_history self.now.hub }
+    {
+        (self.progress.places() + self.parts.places()) as u32
+    }
+}

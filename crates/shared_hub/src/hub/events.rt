@@ -1,0 +1,128 @@
+//! The four great events of the hub.
+ghost use Rattle.std.specs.Prelude.{◌≡◌, ◌&&◌, ◌==◌, ◌||◌, length, None, Some, is_none, is_some, IfSome, MatchBool};
+ghost use Rattle.std.specs.Option.{IfNone};
+ghost use Rattle.napi_types.specs.declared.entry.HostStep.TheVariants as host;
+ghost use Rattle.napi_types.specs.declared.entry.Out.TheVariants as out;
+ghost use Rattle.napi_types.specs.plain.Entries.{host_entry as entry_of};
+ghost use Rattle.napi_types.specs.hub.Hub.{Stage, Before, Going, Looped, Drained};
+ghost use Rattle.napi_types.specs.hub.HubMoves.{hub_move, is_quiet, is_spent, loop_end_of};
+ghost use Rattle.shared_hub.specs.HubStates.{AddsEntry};
+
+use super::HubState;
+use crate::naming::Naming;
+use crate::progress::HubStage;
+use async_work::Job;
+use napi_types::{Actor, Entry, HostStep, LoopEnd, Out, Reply, Status, What};
+
+impl<J: Job, N: Naming> HubState<J, N> {
+    /// `go`: the init frames are over, and threads may make calls. Constant time. It takes no memory.
+    pub fn go(&mut self)
+        requires first { self.old.hub.stage ≡ Before }
+        requires alone { self.old.hub.standing ≡ None }
+        ensures { AddsEntry self.old (entry_of host.Go out.Nothing) self.new }
+    {
+        self.progress.stage = HubStage::Going;
+        self.entries
+            .push_reserved(host_entry(HostStep::Go, Out::Nothing));
+    }
+
+    /// `loop_end`, where the loop ends. It ends for `Exit` where exit was asked, else not while a ticket is due (`due`) or the hub has a
+    /// move. Else it ends idle, where nothing is left to do, or quiet, where nobody is left who could give it something to do. `None`
+    /// where it does not end, and nothing changes.
+    ///
+    /// Constant time. It takes no memory.
+    pub fn loop_end(&mut self, exit: bool, due: bool) -> Option<LoopEnd>
+        requires going { self.old.hub.stage ≡ Going }
+        requires alone { self.old.hub.standing ≡ None }
+        ensures reason { result ≡ loop_end_of exit due self.old.hub }
+        ensures ended { IfSome result (λ why. AddsEntry self.old (entry_of host.LoopEnd (out.Ended why)) self.new) }
+        ensures goes_on { IfNone result (self.new ≡ self.old) }
+    {
+        let why = self.end_reason(exit, due)?;
+        self.progress.stage = HubStage::Looped;
+        self.entries
+            .push_reserved(host_entry(HostStep::LoopEnd, Out::Ended(why)));
+        Some(why)
+    }
+
+    /// `drain`: no work starts any more, those that wait are cancelled, and every open function begins to close. How many works waited.
+    ///
+    /// In time linear in the works that waited and in the functions. It takes no memory.
+    pub fn drain(&mut self) -> u64
+        requires looped { self.old.hub.stage ≡ Looped }
+        requires alone { self.old.hub.standing ≡ None }
+        ensures count { result ≡ length self.old.hub.pool.queued }
+        ensures drained { AddsEntry self.old (entry_of host.Drain (out.Unsigned (length self.old.hub.pool.queued))) self.new }
+    {
+        let count = self.parts.drain();
+        self.progress.stage = HubStage::Drained;
+        self.entries
+            .push_reserved(host_entry(HostStep::Drain, Out::Unsigned(count)));
+        count
+    }
+
+    /// `finals`, where it may come: once every thread and every worker has ended, no work runs and the hub has no move. Whether it came;
+    /// where it did not nothing changes.
+    ///
+    /// Constant time. It takes no memory.
+    pub fn finals(&mut self) -> bool
+        requires drained { self.old.hub.stage ≡ Drained }
+        requires alone { self.old.hub.standing ≡ None }
+        ensures may { result ≡ (is_none (hub_move self.old.hub) && is_spent self.old.hub) }
+        ensures comes { MatchBool result (AddsEntry self.old (entry_of host.Finals out.Nothing) self.new) (self.new ≡ self.old) }
+    {
+        if self.parts.has_move() || !self.is_spent() {
+            return false;
+        }
+        self.progress.stage = HubStage::Final;
+        self.entries
+            .push_reserved(host_entry(HostStep::Finals, Out::Nothing));
+        true
+    }
+
+    /// Why the loop ends, where it does.
+    fn end_reason(&self, exit: bool, due: bool) -> Option<LoopEnd>
+        ensures { result ≡ loop_end_of exit due self.now.hub }
+    {
+        if exit {
+            return Some(LoopEnd::Exit);
+        }
+        if due || self.parts.has_move() {
+            return None;
+        }
+        if self.parts.is_idle() {
+            return Some(LoopEnd::Idle);
+        }
+        self.is_quiet().then_some(LoopEnd::Quiet)
+    }
+
+    /// Whether nobody is left who could give the hub something to do.
+    fn is_quiet(&self) -> bool
+        ensures { result ≡ is_quiet self.now.hub }
+    {
+        self.progress.threads_left == 0
+            && self.parts.running() == 0
+            && (self.parts.queued() == 0 || self.progress.workers == 0)
+    }
+
+    /// Whether every thread and every worker has ended, and no work runs.
+    fn is_spent(&self) -> bool
+        ensures { result ≡ is_spent self.now.hub }
+    {
+        self.progress.is_deserted() && self.parts.running() == 0
+    }
+}
+
+/// The entry of an event of the environment, with status 0.
+pub(super) fn host_entry(event: HostStep, told: Out) -> Entry
+    ensures { result ≡ entry_of event told }
+{
+    Entry {
+        actor: Actor::Env,
+        depth: 0,
+        step: 0,
+        what: What::Host(event),
+        reply: Reply::plain(Status::Ok, told),
+        given: None,
+    }
+}

@@ -1,0 +1,53 @@
+//! The room in the history.
+ghost use Rattle.std.specs.Prelude.{◌≡◌, ◌⊎◌, ◌+◌, ◌<◌, ◌≤◌, ◌↔◌, length, min, vec_capacity, IsTrue, IfErr, OnOk};
+ghost use Rattle.napi_types.specs.plain.Guards.{is_shared};
+ghost use Rattle.napi_types.specs.plain.Room.{need, first_places, most_entries};
+
+use napi_types::{Call, Entry, Status};
+
+/// How many places of the history have their memory from the start.
+pub(crate) const FIRST_PLACES: u32 = 65536;
+
+/// How many places of the history a shared call needs, counted as if it were accepted.
+pub(crate) fn places_needed(call: &Call) -> u32
+    requires { IsTrue (is_shared call.now) }
+    ensures { result ≡ need call.now }
+{
+    match call {
+        Call::QueueAsyncWork(_) => 5,
+        Call::CreateThreadsafeFunction(_, _, _, _, finalizer, _) => {
+            if finalizer.is_some() { 5 } else { 3 }
+        }
+        Call::CallThreadsafeFunction(..) => 3,
+        _ => 1,
+    }
+}
+
+/// Takes the memory for so many places more than the history's entries and the places that it owes: `TraceFull` exactly where they pass
+/// the limit, and `NoMemory` only where they pass the first places.
+pub(crate) fn make_room(
+    entries: &mut Vec<Entry>,
+    limit: u32,
+    reserved: u32,
+    places: u32,
+) -> Result<(), Status>
+    requires within { length entries.old.items + reserved ≤ limit }
+    requires small { (limit ≤ most_entries) × (places ≤ 8) }
+    requires first { min first_places limit ≤ vec_capacity entries.old }
+    ensures items { entries.new.items ≡ entries.old.items }
+    ensures capacity { vec_capacity entries.old ≤ vec_capacity entries.new }
+    ensures full { (result ≡ Err Status.TraceFull) ↔ (limit < length entries.old.items + reserved + places) }
+    ensures room { OnOk result (length entries.old.items + reserved + places ≤ limit) }
+    ensures memory { OnOk result (length entries.old.items + reserved + places ≤ vec_capacity entries.new) }
+    ensures cause { IfErr result (λ status. (status ≡ Status.TraceFull) ⊎ (status ≡ Status.NoMemory)) }
+    ensures wanted { result ≡ Err Status.NoMemory → min first_places limit < length entries.old.items + reserved + places }
+{
+    let wanted = reserved + places;
+    if entries.len() as u32 + wanted > limit {
+        return Err(Status::TraceFull);
+    }
+    match entries.reserve(wanted as usize) {
+        Ok(()) => Ok(()),
+        Err(_) => Err(Status::NoMemory),
+    }
+}
