@@ -106,7 +106,8 @@ impl EnvCore {
     /// Makes a call of the innermost frame, which stands. `step` is the number of the ask in its frame, from 0 to 65,535.
     ///
     /// An accepted call of a function enters the function's frame, whose `end` will have the call's reply. A shared call is handed to the
-    /// hub: until [`EnvCore::settle`] or [`EnvCore::unsettle`] no other step is taken. Every other call answers at once.
+    /// hub: until [`EnvCore::settle`] or [`EnvCore::unsettle`] no other step is taken, and the only memory that it takes is that for the
+    /// root of a new thread-safe function. Every other call answers at once.
     pub fn step(&mut self, step: u32, call: &Call) -> Stepped
         requires standing { self.old.env.frames ≢ [] }
         requires idle { self.old.awaited ≡ None }

@@ -6,6 +6,7 @@ use std::process::Abort;
 
 mod calls;
 mod journals;
+mod shared;
 mod steps;
 mod turns;
 
@@ -54,6 +55,7 @@ fn word_of(status: u64, out: Out) -> (&'static str, u64) {
         Out::Text(text) => ("text", text.0 as u64),
         Out::Kind(kind) => ("kind", kind.number() as u64),
         Out::Begin(_, _, _, duty) => ("begin", ticket_of(duty)),
+        Out::Uncaught => ("uncaught", status),
         _ => ("other", 0),
     }
 }

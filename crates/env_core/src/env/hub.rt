@@ -46,7 +46,7 @@ impl EnvCore {
     }
 
     /// Takes in the hub's answer to the call that is awaited: its status is the last one, its ask is counted, and a new thread-safe
-    /// function keeps the value of its function alive. It takes no memory.
+    /// function keeps the value of its function alive. It takes no memory, and near constant time.
     ///
     /// `position` is the length of the history just after the call's entry. A call that the environment refused is answered with that
     /// refusal, and with no result.

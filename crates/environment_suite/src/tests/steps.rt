@@ -3,12 +3,14 @@ ghost use Rattle.std.specs.Prelude.{◌≡◌, ◌≢◌, [], true, false, Some}
 ghost use Rattle.napi_types.specs.plain.Lists.{tail};
 ghost use Rattle.napi_types.specs.plain.Phases.{next_phase};
 ghost use Rattle.napi_types.specs.parts.Frames.{cause_of, duty_of, is_hub_duty};
+ghost use Rattle.env_core.specs.Sharing.{IsAnswer};
 
-use super::{Found, NONE, ample, ticket_of, told};
+use super::{Found, NONE, ample, ticket_of, told, word_of};
 use addon_trait::Phased;
 use env_core::{EnvCore, Stepped};
 use napi_types::{
-    Call, Cause, DueInfo, Duty, HandleId, Limits, NAPI_VERSION, Phase, SeenList, TsfnId, Why,
+    Begun, Call, Cause, DueInfo, Duty, HandleId, Limits, NAPI_VERSION, Out, Phase, Reply, SeenList,
+    SharedCall, Status, TsfnId, Why,
 };
 use std::alloc::Global;
 use std::process::Abort;
@@ -30,19 +32,42 @@ fn compare(rt: &impl Abort, core: &EnvCore, found: Found, expected: Found) {
     assert_eq!(rt; found, expected, "with {entries} entries");
 }
 
+/// What a shared call is handed over with: the status of the environment's own refusal, 0 where it refuses nothing; how many frames stand, the number of the
+/// ask, and the addon that calls; and of a target that it is there, its addon, its entry, and whether its torn items run.
+fn handed(shared: &SharedCall) -> Found {
+    let refused = match shared.refused {
+        Some(status) => status.number() as u64,
+        None => 0,
+    };
+    let target = match shared.target {
+        Some(target) => [
+            1,
+            target.addon as u64,
+            target.entry as u64,
+            target.torn_runs as u64,
+        ],
+        None => [0; 4],
+    };
+    let (depth, step, addon) = (shared.depth as u64, shared.step as u64, shared.addon as u64);
+    let numbers = [
+        depth, step, addon, target[0], target[1], target[2], target[3], 0,
+    ];
+    ("shared", refused, numbers)
+}
+
 /// What a call of the innermost frame comes to.
 fn called(rt: &impl Abort, core: &mut EnvCore, call: &Call) -> Found {
     let Some(frame) = core.frame() else {
         panic!(rt; "no frame stands");
     };
     assert!(rt;
-        frame.asks < 65_536 && call.is_built(),
+        frame.asks < 65_536 && core.awaited().is_none(),
         "the call cannot be made"
     );
     match core.step(frame.asks, call) {
         Stepped::Reply(reply) => told(&reply),
         Stepped::Enter(target, gifts) => ("entry", target.entry as u64, gifts),
-        Stepped::Shared(_) => ("shared", 0, NONE),
+        Stepped::Shared(shared) => handed(&shared),
         Stepped::Stop(status) => ("stop", status.number() as u64, NONE),
     }
 }
@@ -51,6 +76,43 @@ fn called(rt: &impl Abort, core: &mut EnvCore, call: &Call) -> Found {
 pub fn tells(rt: &impl Abort, core: &mut EnvCore, call: Call, word: &'static str, number: u64) {
     let found = called(rt, core, &call);
     compare(rt, core, found, (word, number, NONE));
+}
+
+/// A shared call is handed over with this, and the environment refuses it with the status of this number, 0 where it does not.
+pub fn hands(rt: &impl Abort, core: &mut EnvCore, call: Call, refused: u64, numbers: [u64; 8]) {
+    let found = called(rt, core, &call);
+    compare(rt, core, found, ("shared", refused, numbers));
+}
+
+/// Whether a shared call that may be handed over stops for want of memory.
+pub fn wants_memory(rt: &impl Abort, core: &mut EnvCore, call: Call) -> bool {
+    called(rt, core, &call) == ("stop", 1000, NONE)
+}
+
+/// The reply to a shared call with this result, or with the environment's own refusal where there is one.
+fn reply_to(shared: &SharedCall, out: Out) -> Reply
+    ensures { IsAnswer shared.now result }
+{
+    match shared.refused {
+        Some(status) => Reply::plain(status, Out::Nothing),
+        None => Reply::plain(Status::Ok, out),
+    }
+}
+
+/// The hub answers the call that is awaited, with this result where the environment does not refuse it; its history has this length then.
+pub fn answers(rt: &impl Abort, core: &mut EnvCore, out: Out, position: u64) {
+    assert!(rt; core.position() <= position, "the history was longer");
+    let Some(shared) = core.awaited() else {
+        panic!(rt; "no call is awaited");
+    };
+    core.settle(reply_to(&shared, out), position);
+}
+
+/// The hub stops at the call that is awaited; its history has this length then.
+pub fn stops(rt: &impl Abort, core: &mut EnvCore, position: u64) {
+    assert!(rt; core.position() <= position, "the history was longer");
+    assert!(rt; core.awaited().is_some(), "no call is awaited");
+    core.unsettle(position);
 }
 
 /// A call is accepted and tells nothing.
@@ -99,7 +161,10 @@ fn left(rt: &impl Abort, core: &mut EnvCore, value: Option<HandleId>, cut: Optio
     let Some(frame) = core.frame() else {
         panic!(rt; "no frame stands");
     };
-    assert!(rt; frame.duty.is_none(), "a ticket began the frame");
+    assert!(rt;
+        frame.duty.is_none() && core.awaited().is_none(),
+        "the frame cannot end"
+    );
     told(&core.leave(value, cut))
 }
 
@@ -179,26 +244,77 @@ fn ticket_told(info: &DueInfo) -> Found {
     ("ticket", ticket_of(Some(info.duty)), numbers)
 }
 
-/// The frame of the next ticket begins, where no frame stands, and ends so. The answer is what the ticket tells.
-fn ran(rt: &impl Abort, core: &mut EnvCore, cut: Option<Why>) -> Found
-    requires { cut ≢ Some Why.Asks }
-{
+/// The frame of the next ticket begins, where no frame stands and a ticket is next.
+fn begun(rt: &impl Abort, core: &mut EnvCore) -> Option<Begun> {
     assert!(rt; core.frame().is_none(), "a frame stands");
     assert!(rt;
         core.phase() != Phase::Live || !core.exit_asked(),
         "the loop is to end"
     );
-    let Some(due) = core.next_local() else {
-        return ("no ticket", 0, NONE);
-    };
-    let info = *due.info();
-    let begun = due.begin(&mut SeenList::new());
+    let due = core.next_local()?;
+    Some(due.begin(&mut SeenList::new()))
+}
+
+/// The frame of a ticket, which stands alone, ends so.
+pub fn end_ticket(rt: &impl Abort, core: &mut EnvCore, begun: Begun, cut: Option<Why>)
+    requires { cut ≢ Some Why.Asks }
+{
+    let duty = begun.info().duty;
     assert!(rt;
-        stands(core, info.duty) && !is_of_hub(info.duty),
-        "the frame of the ticket does not stand alone"
+        stands(core, duty) && !is_of_hub(duty) && core.awaited().is_none(),
+        "the frame of the ticket cannot end"
     );
     core.end_duty(begun, cut);
-    ticket_told(&info)
+}
+
+/// The frame of the next ticket begins, where no frame stands, and ends so. The answer is what the ticket tells.
+fn ran(rt: &impl Abort, core: &mut EnvCore, cut: Option<Why>) -> Found
+    requires { cut ≢ Some Why.Asks }
+{
+    match begun(rt, core) {
+        Some(begun) => {
+            let info = *begun.info();
+            end_ticket(rt, core, begun, cut);
+            ticket_told(&info)
+        }
+        None => ("no ticket", 0, NONE),
+    }
+}
+
+/// The frame of the next ticket begins, where there is one, and stays.
+pub fn start_next(rt: &impl Abort, core: &mut EnvCore) -> Begun {
+    match begun(rt, core) {
+        Some(begun) => begun,
+        None => panic!(rt; "no ticket is next"),
+    }
+}
+
+/// The frame of a duty of the hub begins, where no frame stands; the history has this length then.
+pub fn start_delivery(rt: &impl Abort, core: &mut EnvCore, info: &DueInfo, position: u64) {
+    assert!(rt; core.position() <= position, "the history was longer");
+    assert!(rt; core.frame().is_none(), "a frame stands");
+    assert!(rt;
+        is_of_hub(info.duty) && info.cause != Cause::Call,
+        "the duty is none of the hub"
+    );
+    core.enter_hub_frame(info, position);
+}
+
+/// The frame of this duty of the hub ends so, and its end tells this; the history has this length then.
+pub fn end_delivery(
+    rt: &impl Abort,
+    core: &mut EnvCore,
+    info: &DueInfo,
+    position: u64,
+    expected: (&'static str, u64),
+) {
+    assert!(rt; core.position() <= position, "the history was longer");
+    assert!(rt;
+        stands(core, info.duty) && is_of_hub(info.duty) && core.awaited().is_none(),
+        "the frame of the duty cannot end"
+    );
+    let out = core.leave_hub_frame(None, position);
+    assert_eq!(rt; word_of(0, out), expected);
 }
 
 /// The frame of the next ticket begins and ends so, and the ticket tells this.
