@@ -10,7 +10,7 @@ none-ended : (a count : ℕ) → length (not_among [] (range_with_len a count)) 
 none-ended a zero = refl
 none-ended a (suc count) = ap suc (none-ended (a + 1) count)
 
-pub all-are-left : (count : ℕ) → length (left_of count []) ≡ count
+pub all-are-left : (count : ℕ) → length (not_among [] (range_with_len 0 count)) ≡ count
 all-are-left count = none-ended 0 count
 
 -- a number below these is not among them

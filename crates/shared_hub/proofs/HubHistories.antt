@@ -1,5 +1,5 @@
 -- The history of a hub, with its next entry.
-use Rattle.std.proofs.Common.{◌≡◌, ◌∙◌, ◌<◌, ◌≤◌, ℕ, ◌+◌, Bool, true, not, IsTrue, nat_lt, List, [], ◌∷◌, ◌++◌, length, length-append, min, refl, ap, sym, subst, arith}
+use Rattle.std.proofs.Common.{◌≡◌, ◌∙◌, ◌<◌, ◌≤◌, ℕ, ◌+◌, Bool, true, not, IsTrue, nat_lt, Some, List, [], ◌∷◌, ◌++◌, length, length-append, min, refl, ap, sym, subst, arith}
 use Rattle.napi_types.specs.declared.call.Call.{Call}
 use Rattle.napi_types.specs.declared.entry.Entry.{Entry}
 use Rattle.napi_types.specs.declared.entry.HostStep.{HostStep}
@@ -7,7 +7,8 @@ use Rattle.napi_types.specs.declared.entry.What.{What}
 use Rattle.napi_types.specs.declared.entry.What.TheVariants as what
 use Rattle.napi_types.specs.plain.Lists.{one}
 use Rattle.napi_types.specs.plain.Room.{fits_in, need, first_places, most_entries}
-use Rattle.napi_types.specs.hub.HistoryLaws.{LeadsTo}
+use Rattle.napi_types.specs.declared.duties.DueInfo.{DueInfo}
+use Rattle.napi_types.specs.hub.HistoryLaws.{LeadsTo, KeepsStanding}
 use Rattle.napi_types.specs.hub.HistoryRoom.{history_room, reserved_history}
 use Rattle.napi_types.specs.hub.Hub.{Hub, new_hub, is_past_drain}
 use Rattle.napi_types.specs.hub.HubStep.{HubStep}
@@ -18,7 +19,7 @@ use Rattle.napi_types.proofs.hub.HubHolds.{led-sound}
 use Rattle.napi_types.proofs.hub.HubRooms.{places_beside, hub-room}
 use Rattle.shared_hub.specs.declared.naming.Numbers.{Numbers}
 use Rattle.shared_hub.specs.declared.progress.HubProgress.{HubProgress}
-use Rattle.shared_hub.specs.HubParts.{HubParts}
+use Rattle.shared_hub.specs.HubParts.{HubParts, hub_with}
 use Rattle.shared_hub.specs.HubStates.{HubSeen, led_by, hub_seen, AddsEntry}
 use Rattle.shared_hub.specs.KeptHubs.{IsKeptHistory, AreFieldsOf}
 
@@ -133,3 +134,15 @@ call-kept n history limit capacity room x c left parts p k comes is fields fits 
   where
     with_need : (bound : ℕ) → length history + reserved_history (led_by n history) + need c ≤ bound → length history + reserved_history (led_by n history) + places_beside x.what ≤ bound
     with_need bound le = subst (λ w. length history + reserved_history (led_by n history) + places_beside w ≤ bound) (sym is) le
+
+-- a call keeps how far the hub is, and what stands
+pub call-keeps : (n : Numbers) (history : List Entry) (x : Entry) (new : HubParts) → ComesNext (led_by n history) x (hub_with new (led_by n history))
+    → KeepsStanding (led_by n history) (led_by n (history ++ one x))
+call-keeps n history x new comes =
+    subst (λ (g : Hub). KeepsStanding (led_by n history) g) (sym (along-more (new_hub n.threads n.workers) history x ∙ comes.after))
+    (record { stage = refl; standing = refl; threads = refl; workers = refl })
+
+-- a duty that begins stands
+pub begun-stands : (n : Numbers) (history : List Entry) (x : Entry) (left : Hub) (d : DueInfo) → ComesNext (led_by n history) x (record left { standing = Some d })
+    → (led_by n (history ++ one x)).standing ≡ Some d
+begun-stands n history x left d comes = ap (λ (g : Hub). g.standing) (along-more (new_hub n.threads n.workers) history x ∙ comes.after)

@@ -1,11 +1,11 @@
 pub mod ActorsLeft
+pub mod AnsweredFunctions
 pub mod EventSteps
-pub mod FunctionCalls
 pub mod FunctionsMove
+pub mod HandedCalls
 pub mod HandingOn
 pub mod HubHistories
 pub mod HubPlaces
 pub mod LoopReasons
 pub mod OpenedHubs
 pub mod RowsOfHistories
-pub mod SharedSteps

@@ -8,8 +8,8 @@ use Rattle.shared_hub.specs.declared.progress.HubStage.TheVariants as code
 use Rattle.shared_hub.specs.KeptHubs.{IsKeptHistory, AreFieldsOf}
 use Rattle.shared_hub.proofs.ActorsLeft.{all-are-left}
 
-opens-within : (t w a b bound : ℕ) → a ≡ t → b ≡ w → 4 + t + w ≤ bound → 0 + (4 + a + b + (4 * 0 + 3 * 0 + 2 * 0) + 0 + 0) ≤ bound
-opens-within t w a b bound all every fits = omega (arith, all, every, fits)
+opens-within : (a b bound : ℕ) → 4 + a + b ≤ bound → 0 + (4 + a + b + (4 * 0 + 3 * 0 + 2 * 0) + 0 + 0) ≤ bound
+opens-within a b bound fits = omega (arith, fits)
 
 pub opened-history : (n : Numbers) (limit capacity : ℕ) → limit ≡ n.limits.history → limit ≤ most_entries → 4 + n.threads + n.workers ≤ limit → 4 + n.threads + n.workers ≤ capacity
     → min first_places limit ≤ capacity → IsKeptHistory n [] limit capacity
@@ -17,8 +17,8 @@ opened-history n limit capacity is small fits memory first = record {
   limit_is = is;
   small = small;
   replays = tt;
-  within = opens-within n.threads n.workers (length (left_of n.threads [])) (length (left_of n.workers [])) limit (all-are-left n.threads) (all-are-left n.workers) fits;
-  memory = opens-within n.threads n.workers (length (left_of n.threads [])) (length (left_of n.workers [])) capacity (all-are-left n.threads) (all-are-left n.workers) memory;
+  within = opens-within (length (left_of n.threads [])) (length (left_of n.workers [])) limit (rw (all-are-left n.threads, all-are-left n.workers) fits);
+  memory = opens-within (length (left_of n.threads [])) (length (left_of n.workers [])) capacity (rw (all-are-left n.threads, all-are-left n.workers) memory);
   first = first;
 }
 

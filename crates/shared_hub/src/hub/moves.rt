@@ -26,6 +26,7 @@ impl<J: Job, N: Naming> HubState<J, N> {
         requires { IsTrue (may_move self.old.hub) }
         ensures taken { polled_move result ≡ hub_move self.old.hub }
         ensures event { AddsMove self.old result self.new }
+        ensures stands { IfBegun result (λ due job. self.new.hub.standing ≡ Some due) }
         ensures unspent { IfBegun result (λ due job. option_map J.spec job ≡ unspent_job self.old.hub.pool due) }
     {
         match self.parts.take_move() {

@@ -8,9 +8,9 @@ use Rattle.shared_hub.specs.HubParts.{hub_with}
 use Rattle.shared_hub.specs.HubStates.{led_by}
 use Rattle.shared_hub.specs.SharedTries.{given_by}
 use Rattle.shared_hub.proofs.EventSteps.{parts-changed}
-use Rattle.shared_hub.proofs.HubHistories.{ComesNext, call-kept, adds-next}
+use Rattle.shared_hub.proofs.HubHistories.{ComesNext, call-kept, call-keeps, adds-next}
 use Rattle.shared_hub.proofs.HubPlaces.{parts-fit}
-use Rattle.shared_hub.proofs.SharedSteps.{shared-comes, led-queues, finds-none}
+use Rattle.shared_hub.proofs.HandedCalls.{shared-comes, led-queues, finds-none}
 use Rattle.shared_hub.proofs.hub.HubState.env_shared.Goals as goal
 use Rattle.shared_hub.proofs.hub.HubState.env_shared.Goals.{After-push_reserved}
 
@@ -57,3 +57,8 @@ pub returns-clause-next : goal.returns-clause-next
 returns-clause-next g c =
     rw (c.push_reserved.ensures.items, c.make_room.ensures.items, c.handed_entry.ensures, ← c.self.view_is)
     (adds-next g.N.Naming.numbers c.self.inside.entries.items (handed_entry c.args.call.now c.in_ok-reply.reply) (comes g c).next)
+
+pub returns-clause-keeps : goal.returns-clause-keeps
+returns-clause-keeps g c =
+    rw (c.push_reserved.ensures.items, c.make_room.ensures.items, c.handed_entry.ensures, ← c.self.view_is)
+    (call-keeps g.N.Naming.numbers c.self.inside.entries.items (handed_entry c.args.call.now c.in_ok-reply.reply) c.reply_to.new.parts (comes g c))

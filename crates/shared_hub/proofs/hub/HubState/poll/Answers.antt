@@ -4,11 +4,11 @@ use Rattle.napi_types.specs.declared.entry.Out.TheVariants as out
 use Rattle.napi_types.specs.plain.Entries.{host_entry}
 use Rattle.napi_types.specs.hub.Hub.{Hub}
 use Rattle.napi_types.specs.hub.HubEvents.{may_move, delivery_entry}
-use Rattle.napi_types.specs.hub.HubMoves.{Delivers, Closes, Finishes, hub_move, with_delivered}
+use Rattle.napi_types.specs.hub.HubMoves.{Delivers, Closes, Finishes, hub_move, with_delivered, without_duty}
 use Rattle.shared_hub.specs.HubParts.{after_move}
 use Rattle.shared_hub.specs.HubStates.{led_by}
 use Rattle.shared_hub.proofs.EventSteps.{hub-of_fields, delivery-comes, close-comes, finish-comes, delivered-fields, moved-fields}
-use Rattle.shared_hub.proofs.HubHistories.{ComesNext, event-kept, adds-next}
+use Rattle.shared_hub.proofs.HubHistories.{ComesNext, event-kept, adds-next, begun-stands}
 use Rattle.shared_hub.proofs.hub.HubState.poll.Goals as goal
 
 pub invariant_of-self : goal.invariant_of-self
@@ -94,3 +94,11 @@ returns-in-Nothing-clause-taken g c =
     let s = c.self.inside in
     let h : Hub = led_by g.N.Naming.numbers s.entries.items in
     rw (← c.self.view_is) (c.in-Nothing.ensures.told h ∙ ap hub_move (hub-of_fields h s.parts s.progress c.self.invariant.1))
+
+pub returns-in-Begin-clause-stands : goal.returns-in-Begin-clause-stands
+returns-in-Begin-clause-stands g c =
+    let s = c.self.inside in
+    let h : Hub = led_by g.N.Naming.numbers s.entries.items in
+    let is : hub_move h ≡ Some (Delivers c.in-Begin.due) = sym (c.in-Begin.ensures.told h ∙ ap hub_move (hub-of_fields h s.parts s.progress c.self.invariant.1)) in
+    rw (c.push_reserved.ensures.items, c.delivery_entry.ensures, c.info.ensures)
+    (begun-stands g.N.Naming.numbers s.entries.items (delivery_entry c.in-Begin.due) (without_duty c.in-Begin.due.duty h) c.in-Begin.due (delivery-comes h c.in-Begin.due is (rw (← c.self.view_is) at c.requires)))

@@ -10,7 +10,7 @@ use Rattle.shared_hub.specs.SharedTries.{thread_entry}
 use Rattle.shared_hub.proofs.EventSteps.{parts-changed}
 use Rattle.shared_hub.proofs.HubHistories.{ComesNext, call-kept, adds-next}
 use Rattle.shared_hub.proofs.HubPlaces.{parts-fit}
-use Rattle.shared_hub.proofs.SharedSteps.{thread-comes, thread-waits, finds-none}
+use Rattle.shared_hub.proofs.HandedCalls.{thread-comes, thread-waits, finds-none}
 use Rattle.shared_hub.proofs.hub.HubState.thread_call.Goals as goal
 use Rattle.shared_hub.proofs.hub.HubState.thread_call.Goals.{After-push_reserved}
 

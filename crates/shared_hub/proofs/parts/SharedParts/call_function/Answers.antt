@@ -1,6 +1,6 @@
 use Rattle.std.proofs.Common.{Ok, ap}
 use Rattle.shared_hub.specs.HubParts.{HubParts}
-use Rattle.shared_hub.proofs.FunctionCalls.{call-answers, call-accepted, on-stop}
+use Rattle.shared_hub.proofs.AnsweredFunctions.{call-answers, call-accepted, on-stop}
 use Rattle.shared_hub.proofs.parts.SharedParts.call_function.Goals as goal
 
 pub returns-in_err-tried-clause-accepted : goal.returns-in_err-tried-clause-accepted

@@ -96,14 +96,7 @@ pub thread-waits : (h : Hub) (t : ℕ) (c : Call) (parts new : HubParts) (p : Hu
 thread-waits h t c parts new p f waits =
     subst (λ (g : Hub). hub_answer g (actor.Thread t) nothing_given c 0 ≡ None) (hub-of_fields h parts p f) (waits.none h)
 
--- the calls of threads are shared
-pub thread-shares : (c : Call) → is_thread_call c ≡ true → is_shared c ≡ true
-thread-shares (call.CallThreadsafeFunction f payload m) is = refl
-thread-shares (call.AcquireThreadsafeFunction f) is = refl
-thread-shares (call.ReleaseThreadsafeFunction f m) is = refl
-thread-shares _ is = cc
-
--- they queue no work and make no function
+-- the calls of threads queue no work and make no function
 pub thread-queues-none : (c : Call) (p : HubParts) → is_thread_call c ≡ true → MayQueue c p
 thread-queues-none (call.CallThreadsafeFunction f payload m) p is = tt
 thread-queues-none (call.AcquireThreadsafeFunction f) p is = tt
