@@ -21,7 +21,7 @@ use Rattle.napi_types.specs.hub.WorkerSteps.{is_worker_there, worker_step, start
 use Rattle.napi_types.proofs.plain.Conditions.{and-left, and-right}
 use Rattle.napi_types.proofs.plain.Found.{same-tells}
 use Rattle.napi_types.proofs.hub.HubCases.{HubCase, cancels_work, delivers, worker_ends, starts, finishes_work, hub-case}
-use Rattle.napi_types.proofs.hub.WorkerTurns.{is_event_of_others, started-executes, finished-executes, cancelled-executes, ended-without}
+use Rattle.napi_types.proofs.hub.WorkerTurns.{is_event_of_others, not-theirs, started-executes, finished-executes, cancelled-executes, ended-without}
 
 -- it has not ended where it executes a work
 abbrev pub IsServing : ℕ → Hub → Type 0
@@ -31,9 +31,6 @@ IsServing w h = is_some (executed_by h.pool w) ≡ true → is_worker_there h w 
 duty-serves : (w : ℕ) (d : Duty) (h : Hub) → IsServing w h → IsServing w (without_duty d h)
 duty-serves w (duty.Work n) h serves = serves
 duty-serves w _ h serves = serves
-
-not-theirs : (x : Entry) (it : What) → x.what ≡ it → is_event_of_others it ≡ true → is_event_of_others x.what ≡ false → ⊥
-not-theirs x it is theirs other = let no : true ≡ false = sym theirs ∙ sym (ap is_event_of_others is) ∙ other in cc
 
 case-serves : (w : ℕ) (h : Hub) (x : Entry) (told : Out) (n : Hub) → is_event_of_others x.what ≡ false → HubCase h x told n → IsServing w h → IsServing w n
 case-serves w h x told _ other (cancels_work v is none) serves = λ runs. serves (ap is_some (sym (cancelled-executes (number_of_work h.pool v.0) w h.pool)) ∙ runs)

@@ -96,17 +96,18 @@ duty-leaves : (w : ℕ) (d : Duty) (h : Hub) → LeavesWorker w h (without_duty 
 duty-leaves w (duty.Work n) h = record { executed = refl; gone = λ g. g }
 duty-leaves w _ h = record { executed = refl; gone = λ g. g }
 
-never : (x : Entry) (it : What) → x.what ≡ it → is_event_of_others it ≡ true → is_event_of_others x.what ≡ false → ⊥
-never x it is its other = let no : true ≡ false = sym its ∙ sym (ap is_event_of_others is) ∙ other in cc
+-- an entry that is none of these is not this one of these
+pub not-theirs : (x : Entry) (it : What) → x.what ≡ it → is_event_of_others it ≡ true → is_event_of_others x.what ≡ false → ⊥
+not-theirs x it is theirs other = let no : true ≡ false = sym theirs ∙ sym (ap is_event_of_others is) ∙ other in cc
 
 case-leaves : (w : ℕ) (h : Hub) (x : Entry) (told : Out) (n : Hub) → is_event_of_others x.what ≡ false → HubCase h x told n → LeavesWorker w h n
 case-leaves w h x told _ other (cancels_work v is none) = record { executed = cancelled-executes (number_of_work h.pool v.0) w h.pool; gone = λ g. g }
 case-leaves w h x told _ other (delivers d is next alone) =
     let k : LeavesWorker w h (without_duty d.duty h) = duty-leaves w d.duty h in
     record { executed = k.executed; gone = k.gone }
-case-leaves w h x told _ other (worker_ends v is there) = absurd (never x (what.Host host.ActorEnd) is refl other)
-case-leaves w h x told _ other (starts v n later is waits free) = absurd (never x (what.Host host.Start) is refl other)
-case-leaves w h x told _ other (finishes_work v n is runs) = absurd (never x (what.Host host.Finish) is refl other)
+case-leaves w h x told _ other (worker_ends v is there) = absurd (not-theirs x (what.Host host.ActorEnd) is refl other)
+case-leaves w h x told _ other (starts v n later is waits free) = absurd (not-theirs x (what.Host host.Start) is refl other)
+case-leaves w h x told _ other (finishes_work v n is runs) = absurd (not-theirs x (what.Host host.Finish) is refl other)
 case-leaves w h x told _ other _ = record { executed = refl; gone = λ g. g }
 
 -- the environment and threads
