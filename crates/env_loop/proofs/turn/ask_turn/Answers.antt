@@ -1,4 +1,4 @@
-use Rattle.std.proofs.Common.{arith, [], ◌∷◌, ◌∙◌, refl}
+use Rattle.std.proofs.Common.{arith, [], ◌∷◌, ◌∙◌}
 use Rattle.std.proofs.lemmas.List.{length-map}
 use Rattle.napi_types.proofs.plain.CallFacts.{built-local}
 use Rattle.env_core.specs.Standing.{machine_frame}
