@@ -1,10 +1,8 @@
 -- What is kept beside the functions, as one of them changes and as one is created.
-use Rattle.std.proofs.Common.{◌≡◌, ◌∙◌, ◌<◌, ◌≤◌, ℕ, ◌+◌, ◌^◌, ◌==◌, Bool, true, false, not, ◌&&◌, ◌||◌, cond, List, [], ◌∷◌, ◌++◌, length, set, sum_by, get_or, refl, ap, sym, arith}
-use Rattle.std.specs.List.{list_all}
-use Rattle.std.proofs.lemmas.List.{length-set, length-map, map-set, map_push, get_or-map}
-use Rattle.std.proofs.lemmas.List.Sums.{sum_by-set, sum_by-cons, sum_by_push, get_or-le-sum_by, count_by-le-length}
-use Rattle.std.proofs.lemmas.Bool.Decides.{nat_tests}
-use Rattle.napi_types.specs.parts.Functions.{FunctionState, is_done}
+use Rattle.std.proofs.Common.{◌≡◌, ◌∙◌, ◌<◌, ◌≤◌, ℕ, ◌+◌, ◌^◌, true, false, cond, List, [], ◌∷◌, ◌++◌, length, set, sum_by, get_or, ap, sym, arith}
+use Rattle.std.proofs.lemmas.List.{length-set, map-set, map_push, get_or-map}
+use Rattle.std.proofs.lemmas.List.Sums.{sum_by-set, sum_by_push, get_or-le-sum_by, count_by-le-length}
+use Rattle.napi_types.specs.parts.Functions.{FunctionState}
 use Rattle.napi_types.specs.hub.HistoryRoom.{function_places}
 use Rattle.tsfn.specs.BusyPlaces.{is_busy_at}
 use Rattle.tsfn.specs.FunctionMoves.{is_busy}
@@ -67,9 +65,6 @@ module _ {fs : List FunctionState} {o : Overview} {i : ℕ} {f : FunctionState} 
   pub stays-busy : (g : FunctionState) → (is_busy f ≡ true → is_busy g ≡ true) → is_busy_at o.busy i ≡ true → is_busy g ≡ true
   stays-busy g keeps is = keeps (sym busy-here ∙ is)
 
-  pub as-many : i < length o.busy
-  as-many = let long : length o.busy ≡ length fs = ap length stands.kept.busy_are ∙ length-map fs is_busy in omega (arith, long, stands.within)
-
   pub kept-changed : (g : FunctionState) (new : Overview) → g.id ≡ f.id → sum_by function_places (set fs i g) < 2 ^ 63 → IsRecounted o s g new → new.busy ≡ set o.busy i (is_busy g) → IsOverview (set fs i g) new
   kept-changed g new id few counted busy = record {
     few = few;
@@ -95,21 +90,3 @@ kept-created fs o new g kept id few places awaited busy = record {
   where
     all : new.awaited ≡ sum_by awaits (fs ++ g ∷ [])
     all = let was : o.awaited ≡ sum_by awaits fs = kept.awaited_are in omega (arith, awaited, was, sum_by_push awaits fs g)
-
--- THE LOOP WAITS FOR NONE
-pub none-awaited : (fs : List FunctionState) → (sum_by awaits fs == 0) ≡ list_all (λ (f : FunctionState). not f.referenced || is_done f.state) fs
-none-awaited [] = refl
-none-awaited (f ∷ fs) = ap (λ n. n == 0) (sum_by-cons awaits f fs) ∙ by f.referenced (is_done f.state) (none-awaited fs)
-  where
-    later : (n : ℕ) (b : Bool) → (n == 0) ≡ b → (0 + n == 0) ≡ b
-    later n b is = grind arith
-
-    never : (n : ℕ) → (1 + n == 0) ≡ false
-    never n = grind (arith, nat_tests)
-
-    by : (r d : Bool) → (sum_by awaits fs == 0) ≡ list_all (λ (g : FunctionState). not g.referenced || is_done g.state) fs
-        → (cond (r && not d) 1 0 + sum_by awaits fs == 0) ≡ ((not r || d) && list_all (λ (g : FunctionState). not g.referenced || is_done g.state) fs)
-    by true true rest = later (sum_by awaits fs) _ rest
-    by true false rest = never (sum_by awaits fs)
-    by false true rest = later (sum_by awaits fs) _ rest
-    by false false rest = later (sum_by awaits fs) _ rest
