@@ -6,6 +6,7 @@ use std::process::Abort;
 
 mod function_list;
 mod functions;
+mod hub;
 mod jobs;
 mod many;
 mod registered;
