@@ -1,41 +1,37 @@
 -- A recorded run goes on.
-use Rattle.std.proofs.Common.{◌≡◌, ℕ, ◌+◌, ◌<◌, Bool, true, false, IsTrue, cond, List, [], ◌∷◌, ◌++◌, length, refl, ap, subst, sym, ◌∙◌, arith, nat_lt, length-append, Option, Some, None, is_some, option_map}
+use Rattle.std.proofs.Common.{◌≡◌, ℕ, ◌+◌, ◌<◌, Bool, true, false, IsTrue, List, [], ◌∷◌, ◌++◌, length, refl, ap, subst, sym, ◌∙◌, arith, nat_lt, length-append, Some, None}
 use Rattle.std.proofs.lemmas.List.{length-map, get_or-map}
 use Rattle.napi_types.specs.declared.call.Ask.{Ask}
 use Rattle.napi_types.specs.declared.entry.Actor.TheVariants as actor
 use Rattle.napi_types.specs.declared.duties.DueInfo.{DueInfo}
 use Rattle.napi_types.specs.declared.entry.Entry.{Entry}
 use Rattle.napi_types.specs.declared.entry.HostStep.{HostStep}
-use Rattle.napi_types.specs.declared.entry.HostStep.TheVariants as host
 use Rattle.napi_types.specs.declared.entry.Out.{Out}
-use Rattle.napi_types.specs.declared.entry.Out.TheVariants as out
-use Rattle.napi_types.specs.declared.entry.LoopEnd.{LoopEnd}
-use Rattle.napi_types.specs.declared.entry.LoopEnd.TheVariants as loop_end
 use Rattle.napi_types.specs.declared.entry.Phase.{Phase}
 use Rattle.napi_types.specs.declared.entry.Phase.TheVariants as phase
 use Rattle.napi_types.specs.declared.call.Ask.TheVariants as ask
-use Rattle.std.specs.Option.{option_or, option_to_list}
+use Rattle.std.specs.Option.{option_to_list}
 use Rattle.napi_types.specs.declared.entry.Reply.{Reply}
 use Rattle.napi_types.specs.plain.Entries.{host_entry}
 use Rattle.napi_types.specs.plain.Weave.{Side, Journal, History, weave, sides, RisesBetween}
 use Rattle.napi_types.specs.parts.Book.{lowest_due}
-use Rattle.napi_types.specs.parts.Hooks.{last_hook}
 use Rattle.napi_types.specs.scripts.Plans.{Plan, plan_of, registers_of, Registers, loaded_registers}
 use Rattle.napi_types.specs.scripts.Registers.{blank_registers}
 use Rattle.napi_types.specs.environment.Changes.{Change, in_phase, gone_change, init_change}
-use Rattle.napi_types.specs.hub.Hub.{Hub, Before, Going, Looped, Drained, Final, new_hub, quiet_hub}
+use Rattle.napi_types.specs.hub.Hub.{Hub, Before, new_hub, quiet_hub}
+use Rattle.napi_types.specs.hub.HubSteps.{IsHubNext, hub_step}
 use Rattle.napi_types.specs.runs.Begins.{told_at, begun_info, begun_along}
-use Rattle.napi_types.specs.runs.Loop.{Tickets, EndsLoop}
+use Rattle.napi_types.specs.runs.Choice.{choice}
+use Rattle.napi_types.specs.runs.Loop.{Event}
 use Rattle.napi_types.specs.runs.Machine.{Machine}
 use Rattle.napi_types.specs.runs.Parting.{sides_along}
 use Rattle.napi_types.specs.runs.Plan.{after_host_event, after_event, after_entry, frames_ask, asked, registers_after}
 use Rattle.napi_types.specs.runs.Run.{after, IsNext}
 use Rattle.napi_types.specs.runs.Setting.{Setting, opening_of, RunsBy, final_of, final_registers, planned_asks}
-use Rattle.napi_types.specs.runs.Step.{Step, step, locally}
+use Rattle.napi_types.specs.runs.Step.{Step, step, locally, by_hub, event_step, chosen, env_step}
 use Rattle.napi_types.proofs.plain.Weaves.{weave-local, weave-shared, sides-local, sides-shared, rises-append, rises-more}
 use Rattle.napi_types.proofs.runs.Runs.{run-more, final-more, asked-more, registers-more, sides-more, begun-more}
 use Rattle.env_core.specs.Core.{Core, after_change, opened_core}
-use Rattle.env_teardown.specs.Hubs.{quiet_end}
 use Rattle.env_loop.specs.Recording.{AddonStates, machine_of, AgreesWhereTold, AgreesWith, HasSeen, IsRecorded, IsEnded}
 use Rattle.env_loop.proofs.SeenLists.{seen-same, seen-more}
 
@@ -124,28 +120,26 @@ local-grown s core hub history all firsts r a c own after_all next who here kept
           ∙ sym (ap (λ n. sides (core.journal ++ record { at = n; entry = c.entry } ∷ []) history) r.position ∙ sides-local core.journal history c.entry);
     }
 
--- what an event of the hub leaves, after which the hub is this one
-abbrev pub hub_left : Machine → Phase → Hub → Machine
-hub_left m p later = record m { env = in_phase p m.env; hub = later; history_length = m.history_length + 1 }
-
--- an event of the hub goes into the history, and its phase starts; it leaves the registers, and no duty begins
-pub shared-grown : (s : Setting) (core : Core) (hub later : Hub) (history : List Entry) (all : AddonStates) (firsts : List (List DueInfo)) (r : IsRecorded s core hub history all firsts)
-    (event : HostStep) (o : Out) (p : Phase)
-    → core.env.frames ≡ []
-    → step (machine_of s.limits core hub history) (ask.Leave None) (host_entry event o)
-    ≡ record { entry = host_entry event o; side = History; after = hub_left (machine_of s.limits core hub history) p later; may = true }
+-- a great event of the hub goes into the history, and its phase starts; it leaves the registers, and no duty begins
+pub shared-grown : (s : Setting) (core : Core) (hub : Hub) (history : List Entry) (all : AddonStates) (firsts : List (List DueInfo)) (r : IsRecorded s core hub history all firsts)
+    (event : HostStep) (o : Out) (p : Phase) (v : Event)
+    → core.env.frames ≡ [] → choice (machine_of s.limits core hub history) ≡ Some v
+    → event_step (machine_of s.limits core hub history) v ≡ by_hub (machine_of s.limits core hub history) event p o
+    → IsHubNext hub (host_entry event o)
     → ((rss : Registers) (m : Machine) (reply : Reply) → after_host_event s.plans rss m (ask.Leave None) reply event ≡ rss)
     → ((m : Machine) → told_at m o ≡ None)
-    → IsRecorded s (record core { env = in_phase p core.env; position = length history + 1 }) later (history ++ host_entry event o ∷ []) all firsts
-shared-grown s core hub later history all firsts r event o p alone next leaves none =
+    → IsRecorded s (record core { env = in_phase p core.env; position = length history + 1 }) (hub_step hub (host_entry event o)).after (history ++ host_entry event o ∷ []) all firsts
+shared-grown s core hub history all firsts r event o p v alone chosen_is made next leaves none =
     let m : Machine = machine_of s.limits core hub history in
     let xs : List Entry = weave core.journal history in
     let x : Entry = host_entry event o in
+    let later : Hub = (hub_step hub x).after in
     let nothing : ask.Leave None ≡ asked s.built s.plans r.own m (ask.Leave None) actor.Env = rw alone refl in
-    let st : Step = record { entry = x; side = History; after = hub_left m p later; may = true } in
-    let g : Grown s (r.asks ++ ask.Leave None ∷ []) (xs ++ x ∷ []) (hub_left m p later) (registers_after s.plans r.own m (ask.Leave None) x) (sides_along (opening_of s) r.asks xs ++ History ∷ [])
+    let st : Step = by_hub m event p o in
+    let steps : step m (ask.Leave None) x ≡ st = ap (env_step m (ask.Leave None) o) alone ∙ ap (chosen m) chosen_is ∙ made in
+    let g : Grown s (r.asks ++ ask.Leave None ∷ []) (xs ++ x ∷ []) st.after (registers_after s.plans r.own m (ask.Leave None) x) (sides_along (opening_of s) r.asks xs ++ History ∷ [])
     (begun_along (opening_of s) r.asks xs ++ option_to_list (begun_info m x)) =
-    grow s r.asks xs m r.own (ask.Leave None) x st r.run r.final r.registers next refl refl nothing in
+    grow s r.asks xs m r.own (ask.Leave None) x st r.run r.final r.registers steps next.entry next.may nothing in
     let woven : weave core.journal (history ++ x ∷ []) ≡ xs ++ x ∷ [] = weave-shared core.journal history x r.rises in
     let longer : length (history ++ x ∷ []) ≡ length history + 1 = length-append history (x ∷ []) in
     let R : List Entry → Type 0 = λ ys. RunsBy s (r.asks ++ ask.Leave None ∷ []) ys in
@@ -174,38 +168,7 @@ shared-grown s core hub later history all firsts r event o p alone next leaves n
           ∙ sym (sides-shared core.journal history x r.rises);
     }
 
--- THE EVENTS WITH NO FRAME, one after another
--- every init frame has begun, so the run goes live
-pub go-grown : (s : Setting) (core : Core) (history : List Entry) (all : AddonStates) (firsts : List (List DueInfo)) → IsRecorded s core (quiet_hub Before) history all firsts
-    → core.env.frames ≡ [] → core.env.phase ≡ phase.Init → core.env.opened ≡ true → nat_lt core.env.inits core.env.addons ≡ false
-    → IsRecorded s (record core { env = in_phase phase.Live core.env; position = length history + 1 }) (quiet_hub Going) (history ++ host_entry host.Go out.Nothing ∷ []) all firsts
-go-grown s core history all firsts r alone here opened every = shared-grown s core (quiet_hub Before) (quiet_hub Going) history all firsts r host.Go out.Nothing phase.Live alone (rw (alone, here, opened, every) refl) (λ rss m reply. refl) (λ m. refl)
-
--- the loop ends so where exit was asked, or where no ticket is due
-ends-chosen : (exit : Bool) (due : Option ℕ) (end : LoopEnd) → quiet_end exit (is_some due) ≡ Some end
-    → option_or (cond exit (Some (EndsLoop loop_end.Exit)) (option_map Tickets due)) (Some (EndsLoop loop_end.Idle)) ≡ Some (EndsLoop end)
-ends-chosen true due end how = cc
-ends-chosen false None end how = cc
-ends-chosen false (Some n) end how = cc
-
-pub loop_end-grown : (s : Setting) (core : Core) (history : List Entry) (all : AddonStates) (firsts : List (List DueInfo)) → IsRecorded s core (quiet_hub Going) history all firsts
-    → core.env.frames ≡ [] → core.env.phase ≡ phase.Live → (end : LoopEnd) → quiet_end core.env.exit_asked (is_some (lowest_due core.env.book)) ≡ Some end
-    → IsRecorded s (record core { env = in_phase phase.Hooks core.env; position = length history + 1 }) (quiet_hub Looped) (history ++ host_entry host.LoopEnd (out.Ended end) ∷ []) all firsts
-loop_end-grown s core history all firsts r alone here end how =
-    shared-grown s core (quiet_hub Going) (quiet_hub Looped) history all firsts r host.LoopEnd (out.Ended end) phase.Hooks alone
-    (rw (alone, here, ends-chosen core.env.exit_asked (lowest_due core.env.book) end how) refl) (λ rss m reply. refl) (λ m. refl)
-
-pub drain-grown : (s : Setting) (core : Core) (history : List Entry) (all : AddonStates) (firsts : List (List DueInfo)) → IsRecorded s core (quiet_hub Looped) history all firsts
-    → core.env.frames ≡ [] → core.env.phase ≡ phase.Hooks → option_map (λ h. h.ticket) (last_hook core.env.hooks) ≡ None
-    → IsRecorded s (record core { env = in_phase phase.Drain core.env; position = length history + 1 }) (quiet_hub Drained) (history ++ host_entry host.Drain (out.Unsigned 0) ∷ []) all firsts
-drain-grown s core history all firsts r alone here none =
-    shared-grown s core (quiet_hub Looped) (quiet_hub Drained) history all firsts r host.Drain (out.Unsigned 0) phase.Drain alone (rw (alone, here, none) refl) (λ rss m reply. refl) (λ m. refl)
-
-pub finals-grown : (s : Setting) (core : Core) (history : List Entry) (all : AddonStates) (firsts : List (List DueInfo)) → IsRecorded s core (quiet_hub Drained) history all firsts
-    → core.env.frames ≡ [] → core.env.phase ≡ phase.Drain
-    → IsRecorded s (record core { env = in_phase phase.Finals core.env; position = length history + 1 }) (quiet_hub Final) (history ++ host_entry host.Finals out.Nothing ∷ []) all firsts
-finals-grown s core history all firsts r alone here = shared-grown s core (quiet_hub Drained) (quiet_hub Final) history all firsts r host.Finals out.Nothing phase.Finals alone (rw (alone, here) refl) (λ rss m reply. refl) (λ m. refl)
-
+-- the environment is gone
 pub gone_change-grown : (s : Setting) (core : Core) (hub : Hub) (history : List Entry) (all : AddonStates) (firsts : List (List DueInfo)) → IsRecorded s core hub history all firsts
     → core.env.frames ≡ [] → core.env.phase ≡ phase.Finals → lowest_due core.env.book ≡ None
     → IsRecorded s (after_change (gone_change core.env) core) hub history all firsts

@@ -54,7 +54,7 @@ ticket-chosen : (m : Machine) (n : ℕ) → (m.env.phase ≡ phase.Live → m.en
 ticket-chosen m n unasked is = ap (λ o. option_or o (hub_choice m.hub)) (ticket-first m.env m.env.phase n unasked is)
 
 -- which stands in the journal
-ticket-side : (m : Machine) (n : ℕ) → (event_step m (Tickets n)).side ≡ Journal
+pub ticket-side : (m : Machine) (n : ℕ) → (event_step m (Tickets n)).side ≡ Journal
 ticket-side m n = by (registration_at m.env.book n)
   where
     by : (o : Option Registration) → (ticket_step m n o).side ≡ Journal

@@ -1,4 +1,4 @@
--- A running environment: its core, the hub's entries so far, and the duty whose frame stands.
+-- A running environment: its core and the duty whose frame stands, and the hub beside it.
 use Rattle.std.specs.Prelude.{◌≡◌, ◌≢◌, ◌+◌, true, false, List, [], ◌∷◌, ◌++◌, Option, None, option_map}
 use Rattle.std.specs.List.{All}
 use Rattle.std.specs.Option.{option_to_list}
@@ -15,23 +15,34 @@ use Rattle.napi_types.specs.environment.Asks.{AsksWithin}
 use Rattle.napi_types.specs.environment.Environment.{Environment}
 use Rattle.napi_types.specs.environment.Hooked.{IsHooked}
 use Rattle.napi_types.specs.environment.Owners.{IsOwned}
-use Rattle.napi_types.specs.hub.Hub.{stage_of, stage_places, Hub, Before, quiet_hub}
+use Rattle.napi_types.specs.hub.Hub.{stage_of, stage_places, Hub, quiet_hub}
 use Rattle.napi_types.specs.runs.Setting.{Setting}
 use Rattle.napi_types.specs.all_runs.Order.{HooksFall, FinalsRise}
 use Rattle.env_core.specs.Core.{Core, opened_core}
-use Rattle.env_teardown.specs.Hubs.{QuietHub}
+use Rattle.shared_hub.specs.HubStates.{HubSeen}
 use Rattle.env_loop.specs.Recording.{AddonStates, IsOf, IsRecorded}
 
--- the environment with its journal, the hub with its history, and what the duty told whose frame stands, where one does
+-- the environment with its journal, and what the duty told whose frame stands, where one does
 pub record Run : Type 0 where
   pub core : Core
-  pub hub : Hub
-  pub history : List Entry
   pub begun : Option DueInfo
 
 -- a run of which no turn was made: the environment has opened
 abbrev pub opened_run : Core → Run
-opened_run core = record { core = core; hub = quiet_hub Before; history = []; begun = None }
+opened_run core = record { core = core; begun = None }
+
+-- the environment of a run with its journal, and the hub beside it with its history
+pub record WholeRun : Type 0 where
+  pub core : Core
+  pub hub : Hub
+  pub history : List Entry
+
+abbrev pub whole_run : Run → HubSeen → WholeRun
+whole_run run seen = record { core = run.core; hub = seen.hub; history = seen.history }
+
+-- the hub of a run alone: nothing was asked of it, and it has come as far as the phase shows
+abbrev pub FitsAlone : Run → HubSeen → Type 0
+FitsAlone run seen = seen.hub ≡ quiet_hub (stage_of run.core.env.phase)
 
 -- a core as it opens
 abbrev pub IsOpened : Core → Type 0
@@ -59,12 +70,11 @@ pub record IsSoundEnvironment (e : Environment) : Type 0 where
 abbrev pub Holds : List Frame → Option DueInfo → Type 0
 Holds fs begun = duties_of fs ≡ option_to_list (option_map (λ d. d.duty) begun)
 
--- the same of a run, the hub owes its core no answer, the duty of its frames is the one that it holds, and its phase shows how far its hub is
-pub record IsRunning (core : Core) (hub : QuietHub) (begun : Option DueInfo) : Type 0 where
+-- the same of a run, the hub owes its core no answer, and the duty of its frames is the one that it holds
+pub record IsRunning (core : Core) (begun : Option DueInfo) : Type 0 where
   pub sound : IsSoundEnvironment core.env
   pub idle : core.awaited ≡ None
   pub held : Holds core.env.frames begun
-  pub shown : hub.stage ≡ stage_of core.env.phase
 
 -- the second list has one entry more at its end
 pub record OneMore (old new : List Local) : Type 0 where
@@ -72,30 +82,30 @@ pub record OneMore (old new : List Local) : Type 0 where
   pub last : new ≡ old ++ entry ∷ []
 
 -- what was recorded stays: each list is the one before with what came since
-pub record Extends (old new : Run) : Type 0 where
+pub record Extends (old new : WholeRun) : Type 0 where
   pub locals : List Local
   pub shareds : List Entry
   pub journal : new.core.journal ≡ old.core.journal ++ locals
   pub history : new.history ≡ old.history ++ shareds
 
 -- whatever script of these addons it is a run of, and whatever they saw first, the recorded run goes on from one run and these addons to another
-abbrev pub RunGoesOn : List Plan → Run → AddonStates → Run → AddonStates → Type 0
+abbrev pub RunGoesOn : List Plan → WholeRun → AddonStates → WholeRun → AddonStates → Type 0
 RunGoesOn plans old all new now =
     (s : Setting) (firsts : List (List DueInfo)) → IsOf s plans old.core → IsRecorded s old.core old.hub old.history all firsts
     → IsRecorded s new.core new.hub new.history now firsts
 
 -- in a run, hooks began in the reverse of the order in which they were added, and what began after `finals` in the order of registration
-abbrev pub BeganInOrder : Run → Type 0
+abbrev pub BeganInOrder : WholeRun → Type 0
 BeganInOrder run = HooksFall (weave run.core.journal run.history) × FinalsRise (weave run.core.journal run.history)
 
 -- where one run is recorded as a run of a script of these addons, tickets began in order in the other, to which it went on
-abbrev pub EndsInOrder : List Plan → Run → AddonStates → Run → Type 0
+abbrev pub EndsInOrder : List Plan → WholeRun → AddonStates → WholeRun → Type 0
 EndsInOrder plans old all new =
     (s : Setting) (firsts : List (List DueInfo)) → IsOf s plans old.core → IsRecorded s old.core old.hub old.history all firsts → BeganInOrder new
 
 -- the hub made its next event, which is one entry more in the history; the journal, the limit, what is awaited, the frames, the addons and what is seen of them
 -- are as before
-pub record MovesOn (old new : Run) : Type 0 where
+pub record MovesOn (old new : WholeRun) : Type 0 where
   pub left : stage_places (stage_of old.core.env.phase) ≡ stage_places (stage_of new.core.env.phase) + 1
   pub event : Entry
   pub last : new.history ≡ old.history ++ event ∷ []
@@ -104,6 +114,5 @@ pub record MovesOn (old new : Run) : Type 0 where
   pub journal : new.core.journal ≡ old.core.journal
   pub awaited : new.core.awaited ≡ old.core.awaited
   pub frames : new.core.env.frames ≡ old.core.env.frames
-  pub begun : new.begun ≡ old.begun
   pub sound : IsSoundEnvironment old.core.env → IsSoundEnvironment new.core.env
   pub recorded : (plans : List Plan) (all : AddonStates) → RunGoesOn plans old all new all

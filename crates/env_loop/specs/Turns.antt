@@ -22,7 +22,7 @@ use Rattle.env_core.specs.Core.{Core}
 use Rattle.env_loop.specs.declared.turn.LocalTurn.{LocalTurn}
 use Rattle.env_loop.specs.declared.turn.LocalTurn.TheVariants as turn
 use Rattle.env_loop.specs.Recording.{AddonStates, HasSeen, Continues}
-use Rattle.env_loop.specs.RecordedRuns.{Run, IsSoundEnvironment, OneMore}
+use Rattle.env_loop.specs.RecordedRuns.{IsSoundEnvironment, OneMore}
 
 -- a turn makes an entry where a frame stands, and else where the entry of the next event stands in the journal; where it stands in the history, the hub has to
 -- make its turn; where no event is next the environment is gone
@@ -58,8 +58,8 @@ abbrev pub begins_next : Environment → Option DueInfo
 begins_next e = begins_over e e.frames
 
 -- how many turns are left at most: one for each place that the journal has left, and one for each event of the hub to come
-abbrev pub turns_left : Run → ℕ
-turns_left run = (run.core.limit - length run.core.journal) + stage_places (stage_of run.core.env.phase)
+abbrev pub turns_left : Core → ℕ
+turns_left core = (core.limit - length core.journal) + stage_places (stage_of core.env.phase)
 
 -- TURNS OF A FRAME
 -- what a frame asks by the plans, where its addon tells one, from these registers

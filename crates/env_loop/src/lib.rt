@@ -1,6 +1,6 @@
 //! The environment's frames and its loop: one turn after another, each of which makes one entry.
-//! Contracts see an `EnvRun` as the environment's core beside the hub's entries (`specs/Runs.antt`), and say of each turn
-//! that a run that was recorded goes on (`specs/Recording.antt`). The crate that reads scripts and writes traces stands above.
+//! The hub stands beside the run. Contracts see an `EnvRun` as the environment's core and the duty whose frame stands (`specs/RecordedRuns.antt`),
+//! and say of each turn that a run that was recorded goes on (`specs/Recording.antt`). The crate that reads scripts and writes traces stands above.
 #![tactic(auto)]
 
 mod run;

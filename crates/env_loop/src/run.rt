@@ -1,59 +1,46 @@
 //! A running environment, and a run without other actors.
-ghost use Rattle.std.specs.Prelude.{◌≡◌, ◌≢◌, ℕ, ◌<◌, ◌≤◌, ◌↔◌, [], ◌++◌, length, map, drop, IfOk, None};
+ghost use Rattle.std.specs.Prelude.{◌≡◌, ◌≢◌, ℕ, ◌<◌, ◌≤◌, ◌↔◌, [], ◌++◌, length, map, drop, None};
 ghost use Rattle.std.specs.Option.{option_to_list};
-ghost use Rattle.napi_types.specs.plain.Room.{most_entries};
 ghost use Rattle.napi_types.specs.hub.Hub.{stage_of};
 ghost use Rattle.napi_types.specs.runs.Begins.{of_addon};
 ghost use Rattle.addon_trait.specs.Addons.{seen_of};
-ghost use Rattle.env_loop.specs.Recording.{AddonStates};
-ghost use Rattle.env_loop.specs.RecordedRuns.{IsOpened, opened_run, OneMore, Extends, RunGoesOn, EndsInOrder, MovesOn};
+ghost use Rattle.env_loop.specs.Recording.{AddonStates, Continues};
+ghost use Rattle.env_loop.specs.RecordedRuns.{IsOpened, opened_run, whole_run, FitsAlone, OneMore, Extends, RunGoesOn, EndsInOrder, MovesOn};
 ghost use Rattle.env_loop.specs.Turns.{turn_of, begins_next, OnlyInnermostChanges};
 
 use crate::turn::{LocalTurn, turn};
 use addon_trait::Addon;
+use async_work::Job;
 use env_core::EnvCore;
-use env_teardown::{Quiet, teardown_step};
-use napi_types::{Begun, Limits, NoMemory, Phase, Record};
-use std::alloc::Global;
+use env_teardown::{TearStep, teardown_step};
+use napi_types::{Begun, Phase, Record, SeenList};
+use shared_hub::{HubState, Naming};
 use std::marker::Model;
 
-/// An environment that runs, with its hub. It has to be spent, by `retire` or `into_record`.
-///
-/// No other actor is there, so the hub has its four events alone.
+/// An environment that runs. Its hub stands beside it. It has to be spent, by `retire` or `into_record`.
 pub struct EnvRun {
     core: EnvCore,
-    hub: Quiet,
     // The duty whose frame stands: it has begun, and ends with the frame.
     begun: Option<Begun>,
 }
 
 impl Model for EnvRun {
-    ghost use Rattle.napi_types.specs.hub.Hub.{quiet_hub};
     ghost use Rattle.env_loop.specs.RecordedRuns.{Run, IsRunning};
 
     ghost Value = { Run };
 
-    ghost view = { λ run. record { core = run.core; hub = quiet_hub run.hub.stage; history = run.hub.history; begun = run.begun } };
+    ghost view = { λ run. record { core = run.core; begun = run.begun } };
 
-    ghost invariant = { λ run. IsRunning run.core run.hub run.begun };
+    ghost invariant = { λ run. IsRunning run.core run.begun };
 }
 
 impl EnvRun {
-    /// Runs an environment of which no event was made but its opening. The memory for the hub's entries is taken here.
-    ///
-    /// `limits.history` is from 4, the places of the events that every run has, to 4,194,304; `limits.journal` is not read.
-    pub fn new(alloc: Global, core: EnvCore, limits: Limits) -> Result<EnvRun, NoMemory>
-        requires opened { IsOpened core }
-        requires room { 4 ≤ limits.history }
-        requires most { limits.history ≤ most_entries }
-        ensures { IfOk result (λ run. run ≡ opened_run core) }
+    /// Runs an environment of which no event was made but its opening. It takes no memory.
+    pub fn new(core: EnvCore) -> EnvRun
+        requires { IsOpened core }
+        ensures { result ≡ opened_run core }
     {
-        let hub = Quiet::new(alloc, limits)?;
-        Ok(EnvRun {
-            core,
-            hub,
-            begun: None,
-        })
+        EnvRun { core, begun: None }
     }
 
     /// Makes one turn: the next ask of the innermost frame, or the next event where no frame stands. `Made` is one entry
@@ -74,21 +61,19 @@ impl EnvRun {
         ensures turn { result ≡ turn_of self.old.core.env }
         ensures gone { (result ≡ LocalTurn.Gone) ↔ (self.old.core.env.phase ≡ Phase.Gone) }
 
-        // A turn that was made left exactly one entry in the journal, which had room for it, and none in the history. The hub stays.
+        // A turn that was made left exactly one entry in the journal, which had room for it.
         ensures made { result ≡ LocalTurn.Made → OneMore self.old.core.journal self.new.core.journal }
         ensures room { result ≡ LocalTurn.Made → length self.old.core.journal < self.old.core.limit }
-        ensures history { self.new.history ≡ self.old.history }
-        ensures hub { self.new.hub ≡ self.old.hub }
 
         // Another turn changed nothing.
         ensures stays { result ≢ LocalTurn.Made → self.new ≡ self.old }
         ensures same { result ≢ LocalTurn.Made → map (λ b. regs b) addons.new.items ≡ map (λ b. regs b) addons.old.items }
         ensures unseen { result ≢ LocalTurn.Made → map (λ b. seen b) addons.new.items ≡ map (λ b. seen b) addons.old.items }
 
-        // A run that was recorded goes on, and the addons that are no addons of the script keep their registers.
+        // A run that was recorded goes on, whatever its hub, and the addons that are no addons of the script keep their registers.
         ensures recorded { let before : AddonStates = record { registers = map (λ b. regs b) addons.old.items; seen = map (λ b. seen b) addons.old.items } in
             let after : AddonStates = record { registers = map (λ b. regs b) addons.new.items; seen = map (λ b. seen b) addons.new.items } in
-            RunGoesOn (map (λ b. plan b) addons.old.items) self.old before self.new after }
+            Continues (map (λ b. plan b) addons.old.items) self.old.core before self.new.core after }
         ensures others { let n = self.old.core.env.addons in
             drop n (map (λ b. regs b) addons.new.items) ≡ drop n (map (λ b. regs b) addons.old.items) }
         ensures addons { self.new.core.env.addons ≡ self.old.core.env.addons }
@@ -110,24 +95,31 @@ impl EnvRun {
 
     /// Makes the hub's next event, where one is next: `go`, then `loop_end`, because exit was asked or because nothing is left to do, and then
     /// the steps of the teardown.
-    fn hub_turn(&mut self)
-        requires { turn_of self.old.core.env ≡ LocalTurn.NeedsHub }
-        ensures { MovesOn self.old self.new }
+    fn hub_turn<J: Job, N: Naming>(&mut self, hub: &mut HubState<J, N>)
+        requires needs { turn_of self.old.core.env ≡ LocalTurn.NeedsHub }
+        requires fits { FitsAlone self.old hub.old }
+        ensures moved { MovesOn (whole_run self.old hub.old) (whole_run self.new hub.new) }
+        ensures fits { FitsAlone self.new hub.new }
     {
         match self.core.phase() {
             Phase::Init => {
-                self.hub.go();
-                self.core.advance(Phase::Live, position(&self.hub));
+                hub.go();
+                self.core.advance(Phase::Live, position(hub));
             }
             Phase::Live => {
                 let exit = self.core.exit_asked();
                 let due = self.core.has_local();
-                let _ = self.hub.loop_end(exit, due);
-                self.core.advance(Phase::Hooks, position(&self.hub));
+                let _why = hub.loop_end(exit, due);
+                self.core.advance(Phase::Hooks, position(hub));
             }
-            _ => {
-                let _ = teardown_step(&mut self.core, &mut self.hub);
-            }
+            _ => match teardown_step(&mut self.core, hub) {
+                // The hub has no duties.
+                TearStep::Begin(due, _) => {
+                    let _ = due.begin(&mut SeenList::new()).end();
+                    unreachable!();
+                }
+                TearStep::Moved | TearStep::Nothing | TearStep::LocalTurn => {}
+            },
         }
     }
 
@@ -135,21 +127,17 @@ impl EnvRun {
     pub fn retire(self)
         requires { self.core.env.frames ≡ [] }
     {
-        let EnvRun {
-            core: _,
-            hub: _,
-            begun,
-        } = self;
+        let EnvRun { core: _, begun } = self;
         none_stands(begun);
     }
 
-    /// Hands out the journal and the history of a run that came to its end. It takes no memory.
-    pub fn into_record(self) -> Record
+    /// Hands out the journal of a run that came to its end, and the history of its hub. It takes no memory.
+    pub fn into_record<J: Job, N: Naming>(self, hub: HubState<J, N>) -> Record
         requires { self.core.env.phase ≡ Phase.Gone }
         ensures journal { result.journal ≡ self.core.journal }
-        ensures history { result.history ≡ self.history }
+        ensures history { result.history ≡ hub.history }
     {
-        let EnvRun { core, hub, begun } = self;
+        let EnvRun { core, begun } = self;
         none_stands(begun);
         Record {
             journal: core.into_journal(),
@@ -159,7 +147,7 @@ impl EnvRun {
 }
 
 /// The position of what comes next: the length of the history.
-fn position(hub: &Quiet) -> u64
+fn position<J: Job, N: Naming>(hub: &HubState<J, N>) -> u64
     ensures { result ≡ length hub.now.history }
 {
     hub.history().len() as u64
@@ -177,30 +165,36 @@ fn none_stands(begun: Option<Begun>)
 
 /// Runs an environment to its end, `gone`, with no other actor: one turn after another, and the hub's events where they are next.
 ///
-/// The first addons are those of the script, at least as many as the environment has. It returns, since each turn fills a place of the
-/// journal or makes one of the hub's events.
-pub fn run_alone(env: &mut EnvRun, addons: &mut Vec<Box<dyn Addon>>)
-    requires { env.old.core.env.addons ≤ length addons.old.items }
+/// Nothing was asked of the hub, and it has come as far as the environment. The first addons are those of the script, at least as many as the environment has.
+/// It returns, since each turn fills a place of the journal or makes one of the hub's events.
+pub fn run_alone<J: Job, N: Naming>(
+    env: &mut EnvRun,
+    hub: &mut HubState<J, N>,
+    addons: &mut Vec<Box<dyn Addon>>,
+)
+    requires enough { env.old.core.env.addons ≤ length addons.old.items }
+    requires fits { FitsAlone env.old hub.old }
     ensures count { length addons.new.items ≡ length addons.old.items }
     ensures plans { map (λ b. plan b) addons.new.items ≡ map (λ b. plan b) addons.old.items }
     ensures gone { env.new.core.env.phase ≡ Phase.Gone }
     ensures addons { env.new.core.env.addons ≡ env.old.core.env.addons }
     ensures limit { env.new.core.limit ≡ env.old.core.limit }
-    ensures extends { Extends env.old env.new }
+    ensures fits { FitsAlone env.new hub.new }
+    ensures extends { Extends (whole_run env.old hub.old) (whole_run env.new hub.new) }
     ensures recorded { let before : AddonStates = record { registers = map (λ b. regs b) addons.old.items; seen = map (λ b. seen b) addons.old.items } in
         let after : AddonStates = record { registers = map (λ b. regs b) addons.new.items; seen = map (λ b. seen b) addons.new.items } in
-        RunGoesOn (map (λ b. plan b) addons.old.items) env.old before env.new after }
+        RunGoesOn (map (λ b. plan b) addons.old.items) (whole_run env.old hub.old) before (whole_run env.new hub.new) after }
 
     // Hooks began in the reverse of the order in which they were added, and what was left to the end in the order of registration.
     ensures order { let before : AddonStates = record { registers = map (λ b. regs b) addons.old.items; seen = map (λ b. seen b) addons.old.items } in
-        EndsInOrder (map (λ b. plan b) addons.old.items) env.old before env.new }
+        EndsInOrder (map (λ b. plan b) addons.old.items) (whole_run env.old hub.old) before (whole_run env.new hub.new) }
     ensures others { let n = env.old.core.env.addons in
         drop n (map (λ b. regs b) addons.new.items) ≡ drop n (map (λ b. regs b) addons.old.items) }
 {
     loop {
         match env.local_turn(addons) {
             LocalTurn::Made => {}
-            LocalTurn::NeedsHub => env.hub_turn(),
+            LocalTurn::NeedsHub => env.hub_turn(hub),
             LocalTurn::Gone => return,
         }
     }

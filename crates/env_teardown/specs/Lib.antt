@@ -1,3 +1,1 @@
-pub mod Hubs
-pub mod Stages
 pub mod TeardownSteps

@@ -1,12 +1,19 @@
 -- The steps of the teardown.
-use Rattle.std.specs.Prelude.{Bool, true, false, cond}
+use Rattle.std.specs.Prelude.{◌≡◌, Bool, true, false, cond, length, Option, Some, None}
+use Rattle.napi_types.specs.declared.duties.DueInfo.{DueInfo}
 use Rattle.napi_types.specs.declared.entry.HostStep.TheVariants as host
 use Rattle.napi_types.specs.declared.entry.Out.TheVariants as out
 use Rattle.napi_types.specs.declared.entry.Phase.{Phase}
 use Rattle.napi_types.specs.declared.entry.Phase.TheVariants as phase
+use Rattle.napi_types.specs.plain.Entries.{host_entry}
+use Rattle.napi_types.specs.hub.Hub.{Hub}
+use Rattle.napi_types.specs.hub.HubEvents.{delivery_entry}
+use Rattle.napi_types.specs.hub.HubMoves.{Delivers, Closes, Finishes}
+use Rattle.napi_types.specs.runs.Choice.{hub_choice}
+use Rattle.napi_types.specs.runs.Loop.{Event, Moves, Drains, FinalsCome}
+use Rattle.shared_hub.specs.HubStates.{HubSeen, AddsEntry}
 use Rattle.env_teardown.specs.declared.step.TearStep.{TearStep}
 use Rattle.env_teardown.specs.declared.step.TearStep.TheVariants as tear
-use Rattle.env_teardown.specs.Hubs.{QuietHub, happened}
 
 -- the phases from the end of the loop up to `gone`
 abbrev pub is_in_teardown : Phase → Bool
@@ -15,14 +22,39 @@ is_in_teardown phase.Drain = true
 is_in_teardown phase.Finals = true
 is_in_teardown _ = false
 
--- whose turn is next, by the phase and by whether a ticket is next: in Hooks the environment's while one is, and in Finals always; else the hub's
-abbrev pub tear_step : Phase → Bool → TearStep
-tear_step phase.Hooks local = cond local tear.LocalTurn tear.Moved
-tear_step phase.Drain local = tear.Moved
-tear_step _ local = tear.LocalTurn
+-- the environment's turn is next, by the phase and by whether a ticket is next: in Hooks while one is, in Drain never, and in Finals always
+abbrev pub is_local_turn : Phase → Bool → Bool
+is_local_turn phase.Hooks local = local
+is_local_turn phase.Drain local = false
+is_local_turn _ local = true
 
--- the hub after its next event in the phase: at the end of Hooks it drains, and finds no work to cancel; at the end of Drain `finals` comes
-abbrev pub after_step : Phase → QuietHub → QuietHub
-after_step phase.Hooks hub = happened host.Drain (out.Unsigned 0) hub
-after_step phase.Drain hub = happened host.Finals out.Nothing hub
-after_step _ hub = hub
+-- the event that a step makes of the hub: the one that it chooses, where the environment's turn is not next
+abbrev pub tear_event : Phase → Bool → Hub → Option Event
+tear_event p local h = cond (is_local_turn p local) None (hub_choice h)
+
+-- the phase after the event: `drain` and `finals` start the one that is called so
+abbrev pub phase_after : Option Event → Phase → Phase
+phase_after (Some Drains) p = phase.Drain
+phase_after (Some FinalsCome) p = phase.Finals
+phase_after _ p = p
+
+-- the event adds its entry to the history
+abbrev pub AddsEvent : HubSeen → Event → HubSeen → Type 0
+AddsEvent old (Moves (Delivers d)) new = AddsEntry old (delivery_entry d) new
+AddsEvent old (Moves (Closes n)) new = AddsEntry old (host_entry host.CloseTsfn (out.Function (record { 0 = n }))) new
+AddsEvent old (Moves (Finishes n)) new = AddsEntry old (host_entry host.FinishTsfn (out.Function (record { 0 = n }))) new
+AddsEvent old Drains new = AddsEntry old (host_entry host.Drain (out.Unsigned (length old.hub.pool.queued))) new
+AddsEvent old FinalsCome new = AddsEntry old (host_entry host.Finals out.Nothing) new
+AddsEvent old _ new = ⊥
+
+module _ {J : Type 0} where
+  -- what the step of an event comes to: the frame of a duty begins, or else it has moved
+  abbrev pub IsStepOf : Event → TearStep J → Type 0
+  IsStepOf (Moves (Delivers d)) (tear.Begin due job) = due ≡ d
+  IsStepOf (Moves (Delivers d)) _ = ⊥
+  IsStepOf _ t = t ≡ tear.Moved
+
+  -- a fact of what a duty tells and of the job that is handed out with it, where its frame begins
+  abbrev pub IfBegins : TearStep J → (DueInfo → Option J → Type 0) → Type 0
+  IfBegins (tear.Begin due job) P = P due job
+  IfBegins _ P = Unit {0}

@@ -1,74 +1,106 @@
 //! One step of the teardown.
-ghost use Rattle.std.specs.Prelude.{◌≡◌, length, true, false, Some};
-ghost use Rattle.napi_types.specs.declared.entry.Phase.{Phase};
-ghost use Rattle.napi_types.specs.plain.Phases.{next_phase};
+ghost use Rattle.std.specs.Prelude.{◌≡◌, ◌≢◌, ◌↔◌, ℕ, length, true, false, Some, None, IfSome, option_map};
 ghost use Rattle.napi_types.specs.hub.Hub.{stage_of};
-ghost use Rattle.env_teardown.specs.TeardownSteps.{is_in_teardown, tear_step, after_step};
+ghost use Rattle.napi_types.specs.hub.HubMoves.{Closes, Finishes};
+ghost use Rattle.napi_types.specs.runs.Choice.{hub_choice};
+ghost use Rattle.napi_types.specs.runs.Loop.{Moves, Drains, FinalsCome};
+ghost use Rattle.shared_hub.specs.HubTries.{unspent_job};
+ghost use Rattle.env_teardown.specs.TeardownSteps.{is_in_teardown, is_local_turn, tear_event, phase_after, AddsEvent, IsStepOf, IfBegins};
 
-use crate::quiet::Quiet;
 use addon_trait::Phased;
-use napi_types::Phase;
+use async_work::Job;
+use napi_types::{Due, Phase};
+use shared_hub::{HubState, Naming, Polled};
 
-/// What a step of the teardown comes to.
-#[derive(Clone, Copy, Debug, PartialEq, Eq)]
-pub enum TearStep {
-    /// The hub made its next event, and the environment is in its next phase.
+/// What a step of the teardown comes to. One that begins a frame has to be spent.
+pub enum TearStep<J: Job> {
+    /// The hub made its next event, and the core has taken it in.
     Moved,
+    /// The frame of a duty begins, which stands in the hub; the core is as before. The job is there where the duty is the completion
+    /// of a work that was cancelled before it started.
+    Begin(Due, Option<J>),
+    /// There is nothing to do until a thread or a worker has done something.
+    Nothing,
     /// The environment's turn is next: the frame of a ticket, or `gone`.
     LocalTurn,
 }
 
-/// Makes the hub's next event after the loop, where one is next: `drain` once no hook is left, then `finals`. The core comes to its
-/// next phase, at the position just after the entry. It takes no memory.
+/// Makes the hub's next event after the loop, where one is next: `drain` once no hook is left, then the moves that are left to the hub,
+/// and `finals` once there are none and every other actor has ended. The core takes it in, at the position just after its entry.
 ///
-/// The phase is Hooks, Drain or Finals and is the one that the hub has come to, and no frame stands.
-pub fn teardown_step<P: Phased>(core: &mut P, hub: &mut Quiet) -> TearStep
+/// The phase is Hooks, Drain or Finals and is the one that the hub has come to, and no frame stands. It takes no memory. `drain` takes time
+/// linear in the works that waited and in the functions, a move logarithmic time over all moves.
+pub fn teardown_step<P: Phased, J: Job, N: Naming>(
+    core: &mut P,
+    hub: &mut HubState<J, N>,
+) -> TearStep<J>
     requires teardown { is_in_teardown (P.phase core.old) ≡ true }
-    requires shown { hub.old.stage ≡ stage_of (P.phase core.old) }
+    requires shown { hub.old.hub.stage ≡ stage_of (P.phase core.old) }
     requires alone { P.stands core.old ≡ false }
+    requires ended { hub.old.hub.standing ≡ None }
 
-    // What the step comes to is told by the phase, and by whether a ticket is next.
-    ensures step { result ≡ tear_step (P.phase core.old) (P.has_local core.old) }
+    // The environment's turn is told by the phase, and by whether a ticket is next. Else the step is that of the event that the hub chooses,
+    // and where it chooses none there is nothing to do.
+    ensures local { (result ≡ TearStep.LocalTurn) ↔ (is_local_turn (P.phase core.old) (P.has_local core.old) ≡ true) }
+    ensures step { let next = tear_event (P.phase core.old) (P.has_local core.old) hub.old.hub in
+        IfSome next (λ event. IsStepOf event result) }
+    ensures nothing { let local = is_local_turn (P.phase core.old) (P.has_local core.old) in
+        (result ≡ TearStep.Nothing) ↔ ((local ≡ false) × (hub_choice hub.old.hub ≡ None)) }
+    ensures unspent { IfBegins result (λ due job. option_map J.spec job ≡ unspent_job hub.old.hub.pool due) }
 
-    // Where the hub made its event, the history has its entry, and the core made the one move to the next phase, at the history's length.
-    ensures event { result ≡ TearStep.Moved → hub.new ≡ after_step (P.phase core.old) hub.old }
-    ensures moved { result ≡ TearStep.Moved → (to : Phase) → next_phase (P.phase core.old) ≡ Some to → P.advances core.old to (length hub.new.history) core.new }
+    // The event adds its entry to the history; where there is none the hub is as before.
+    ensures event { let next = tear_event (P.phase core.old) (P.has_local core.old) hub.old.hub in
+        IfSome next (λ event. AddsEvent hub.old event hub.new) }
+    ensures hub { tear_event (P.phase core.old) (P.has_local core.old) hub.old.hub ≡ None → hub.new ≡ hub.old }
 
-    ensures phase { result ≡ TearStep.Moved → next_phase (P.phase core.old) ≡ Some (P.phase core.new) }
+    // The core takes it in, at the history's length. Where a frame begins, or there is no event, it is as before.
+    ensures drained { let next = tear_event (P.phase core.old) (P.has_local core.old) hub.old.hub in
+        next ≡ Some Drains → P.advances core.old Phase.Drain (length hub.new.history) core.new }
+    ensures finals { let next = tear_event (P.phase core.old) (P.has_local core.old) hub.old.hub in
+        next ≡ Some FinalsCome → P.advances core.old Phase.Finals (length hub.new.history) core.new }
+    ensures closed { let next = tear_event (P.phase core.old) (P.has_local core.old) hub.old.hub in
+        (n : ℕ) → next ≡ Some (Moves (Closes n)) → P.moves core.old (length hub.new.history) core.new }
+    ensures finished { let next = tear_event (P.phase core.old) (P.has_local core.old) hub.old.hub in
+        (n : ℕ) → next ≡ Some (Moves (Finishes n)) → P.finishes core.old (record { 0 = n }) (length hub.new.history) core.new }
+    ensures core { result ≢ TearStep.Moved → core.new ≡ core.old }
 
-    // Else both are as before.
-    ensures core { result ≡ TearStep.LocalTurn → core.new ≡ core.old }
-    ensures hub { result ≡ TearStep.LocalTurn → hub.new ≡ hub.old }
-
-    // The phase is still the one that the hub has come to.
-    ensures shown { hub.new.stage ≡ stage_of (P.phase core.new) }
+    // The phase is still the one that the hub has come to, and no frame of the environment's own stands.
+    ensures phase { let next = tear_event (P.phase core.old) (P.has_local core.old) hub.old.hub in
+        P.phase core.new ≡ phase_after next (P.phase core.old) }
+    ensures shown { hub.new.hub.stage ≡ stage_of (P.phase core.new) }
     ensures alone { P.stands core.new ≡ false }
 {
     match core.phase() {
-        Phase::Hooks => {
-            if core.has_local() {
-                return TearStep::LocalTurn;
+        Phase::Hooks if !core.has_local() => {
+            let _cancelled = hub.drain();
+            core.advance(Phase::Drain, position(hub));
+            TearStep::Moved
+        }
+        Phase::Drain => match hub.poll() {
+            Polled::Begin(due, job) => TearStep::Begin(due, job),
+            Polled::Closed(_) => {
+                core.moved(position(hub));
+                TearStep::Moved
             }
-            let _ = hub.drain();
-            move_to(core, hub, Phase::Drain)
-        }
-        Phase::Drain => {
-            let _ = hub.finals();
-            move_to(core, hub, Phase::Finals)
-        }
+            Polled::Finished(function) => {
+                core.function_finished(function, position(hub));
+                TearStep::Moved
+            }
+            Polled::Nothing => {
+                if !hub.finals() {
+                    return TearStep::Nothing;
+                }
+                core.advance(Phase::Finals, position(hub));
+                TearStep::Moved
+            }
+        },
         _ => TearStep::LocalTurn,
     }
 }
 
-/// Moves the core to its next phase, just after the hub's event.
-fn move_to<P: Phased>(core: &mut P, hub: &Quiet, phase: Phase) -> TearStep
-    requires alone { P.stands core.old ≡ false }
-    requires next { next_phase (P.phase core.old) ≡ Some phase }
-    ensures step { result ≡ TearStep.Moved }
-    ensures moved { P.advances core.old phase (length hub.now.history) core.new }
-    ensures phase { P.phase core.new ≡ phase }
-    ensures alone { P.stands core.new ≡ false }
+/// The position just after the entries that are there: how many they are.
+fn position<J: Job, N: Naming>(hub: &HubState<J, N>) -> u64
+    ensures { result ≡ length hub.now.history }
 {
-    core.advance(phase, hub.history().len() as u64);
-    TearStep::Moved
+    hub.history().len() as u64
 }

@@ -3,12 +3,14 @@ ghost use Rattle.std.specs.Prelude.{◌≡◌, ℕ, ◌<◌, ◌≤◌, ◌++◌
 ghost use Rattle.napi_types.specs.scripts.Plans.{registers_of};
 ghost use Rattle.napi_types.specs.scripts.Registers.{blank_registers};
 ghost use Rattle.env_loop.specs.Recording.{AddonStates, IsEnded};
-ghost use Rattle.script_host.specs.Loading.{told_plans, setting_with};
+ghost use Rattle.script_host.specs.Loading.{told_plans, setting_with, hub_numbers};
 
 use addon_trait::{Addon, load_at};
 use env_core::EnvCore;
 use env_loop::{EnvRun, run_alone};
 use napi_types::{Limits, NAPI_VERSION, NoMemory, Plans, Record};
+use script_addon::ScriptJob;
+use shared_hub::{HubState, Naming};
 use std::alloc::Global;
 
 /// How many entries a journal and a history may have.
@@ -36,14 +38,15 @@ fn load_all(addons: &mut Vec<Box<dyn Addon>>, given: Plans)
 
 /// Runs a script, whose addons are the first of those handed in: from the opening to `gone`.
 ///
-/// `given` are the plans of its addons, eight at most, and `texts` says how many texts it has. Want of memory comes before
-/// an addon is touched.
-pub(crate) fn run(
+/// `given` are the plans of its addons, eight at most, and `texts` says how many texts it has. Its hub has the numbers that the type
+/// names: no threads, no workers and these limits. Want of memory comes before an addon is touched.
+pub(crate) fn run<N: Naming>(
     alloc: Global,
     given: Plans,
     texts: u32,
     addons: &mut Vec<Box<dyn Addon>>,
 ) -> Result<Record, NoMemory>
+    requires named { N.numbers ≡ hub_numbers }
     requires few { length given ≤ 8 }
     requires enough { length given ≤ length addons.old.items }
     ensures ended { let told = told_plans given (map (λ b. plan b) addons.old.items) in
@@ -58,8 +61,9 @@ pub(crate) fn run(
 {
     let count = given.items().len() as u32;
     let core = EnvCore::new(alloc, NAPI_VERSION, count, texts, LIMITS)?;
-    let mut env = EnvRun::new(alloc, core, LIMITS)?;
+    let mut hub = HubState::<ScriptJob, N>::new(alloc, 0, 0, LIMITS)?;
+    let mut env = EnvRun::new(core);
     load_all(addons, given);
-    run_alone(&mut env, addons);
-    Ok(env.into_record())
+    run_alone(&mut env, &mut hub, addons);
+    Ok(env.into_record(hub))
 }

@@ -14,6 +14,7 @@ use addon_trait::Addon;
 use napi_types::{Failed, Gate, Record, Script, Sink, Source, Text};
 use script_read::{Refusal, read_script};
 use std::alloc::Global;
+use std::marker::Brand;
 use std::sync::Wait;
 use std::thread::Threads;
 use trace_text::write_trace;
@@ -118,7 +119,7 @@ fn perform<K: Sink>(
         schedule: _,
         texts,
     } = script;
-    let Ok(record) = run(alloc, plans, texts.items().len() as u32, addons) else {
+    let Ok(record) = run::<Brand>(alloc, plans, texts.items().len() as u32, addons) else {
         return Err(Line::NoMemory);
     };
     let written = write_trace(sink, &texts, record.journal.items(), record.history.items());

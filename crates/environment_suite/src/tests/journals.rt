@@ -2,12 +2,14 @@
 //! no place is not made, and its frame is cut. Places for the ends, for the frame of each ticket and for `gone` are kept.
 ghost use Rattle.std.specs.Prelude.{◌≡◌, length, None};
 
-use super::turns::{examples, list_of, opened};
+use super::turns::{examples, list_of, opened, opened_hub};
 use super::{DONE, Found, NONE, told};
 use addon_trait::Addon;
 use env_loop::run_alone;
 use napi_types::{AddonPlan, Ask, Begun, Call, Due, HandleId, Record, Reply, SeenList};
+use shared_hub::Naming;
 use std::alloc::Global;
+use std::marker::Brand;
 use std::process::Abort;
 
 /// An addon whose init frame makes these calls. Its entry 1, which they register, asks for undefined.
@@ -75,16 +77,19 @@ fn entries_of(rt: &impl Abort, alloc: Global, record: &Record) -> Vec<Found> {
 }
 
 /// The journal of the run of one addon, with so many places.
-fn journal_within(
-    rt: &impl Abort,
+fn journal_within<N: Naming, A: Abort>(
+    rt: &A,
     alloc: Global,
     calls: Option<[Call; 3]>,
     places: u32,
-) -> Vec<Found> {
+) -> Vec<Found>
+    requires { N.numbers ≡ record { threads = 0; workers = 0; limits = record { journal = 100; history = 100 } } }
+{
     let mut addons = addons_of(rt, alloc, calls);
+    let mut hub = opened_hub::<N>(rt, alloc);
     let mut env = opened(rt, alloc, places.clamp(4, 100));
-    run_alone(&mut env, &mut addons);
-    entries_of(rt, alloc, &env.into_record())
+    run_alone(&mut env, &mut hub, &mut addons);
+    entries_of(rt, alloc, &env.into_record(hub))
 }
 
 /// The version that the opening tells, and the begins of frames: of one that no ticket began, and of those of tickets.
@@ -254,7 +259,7 @@ static OF_DATA: [(u32, &[Found]); 5] = [
 /// Compares the journals of runs of one addon.
 fn compare(rt: &impl Abort, alloc: Global, calls: Option<[Call; 3]>, journals: &[(u32, &[Found])]) {
     for (places, expected) in journals {
-        let found = journal_within(rt, alloc, calls, *places);
+        let found = journal_within::<Brand, _>(rt, alloc, calls, *places);
         assert_eq!(rt; found.as_slice(), *expected, "with {places} places");
     }
 }

@@ -1,7 +1,9 @@
 //! A function is made and called, turn by turn.
-ghost use Rattle.std.specs.Prelude.{◌≡◌, ◌≤◌, length};
+ghost use Rattle.std.specs.Prelude.{◌≡◌, ◌≤◌, [], length};
 ghost use Rattle.napi_types.specs.plain.Room.{most_entries};
+ghost use Rattle.napi_types.specs.hub.Hub.{stage_of};
 ghost use Rattle.env_core.specs.Core.{opened_core};
+ghost use Rattle.shared_hub.specs.HubStates.{hub_seen};
 ghost use Rattle.env_loop.specs.RecordedRuns.{opened_run};
 
 use super::ample;
@@ -10,8 +12,17 @@ use env_core::EnvCore;
 use env_loop::{EnvRun, LocalTurn, run_alone};
 use example_addon::ExampleAddon;
 use napi_types::{Limits, Record};
+use script_addon::ScriptJob;
+use shared_hub::{HubState, Naming};
 use std::alloc::Global;
+use std::marker::Brand;
 use std::process::Abort;
+
+/// The limits of the hubs.
+const LIMITS: Limits = Limits {
+    journal: 100,
+    history: 100,
+};
 
 /// An environment of one addon that is to run, whose journal has so many places.
 pub fn opened(rt: &impl Abort, alloc: Global, journal: u32) -> EnvRun
@@ -19,12 +30,16 @@ pub fn opened(rt: &impl Abort, alloc: Global, journal: u32) -> EnvRun
     requires most { journal ≤ most_entries }
     ensures { result ≡ opened_run (opened_core 1 0 journal) }
 {
-    let limits = Limits {
-        journal,
-        history: 100,
-    };
-    let core = ample(rt, EnvCore::new(alloc, 9, 1, 0, limits));
-    ample(rt, EnvRun::new(alloc, core, limits))
+    let limits = Limits { journal, ..LIMITS };
+    EnvRun::new(ample(rt, EnvCore::new(alloc, 9, 1, 0, limits)))
+}
+
+/// A hub as it opens, without threads and workers.
+pub fn opened_hub<N: Naming>(rt: &impl Abort, alloc: Global) -> HubState<ScriptJob, N>
+    requires { N.numbers ≡ record { threads = 0; workers = 0; limits = record { journal = 100; history = 100 } } }
+    ensures { result ≡ hub_seen N.numbers [] }
+{
+    ample(rt, HubState::new(alloc, 0, 0, LIMITS))
 }
 
 /// A list of one addon.
@@ -51,7 +66,8 @@ pub fn examples(rt: &impl Abort, alloc: Global) -> Vec<Box<dyn Addon>>
 /// What a turn comes to.
 fn turn(env: &mut EnvRun, addons: &mut Vec<Box<dyn Addon>>) -> LocalTurn
     requires { env.old.core.env.addons ≤ length addons.old.items }
-    ensures { env.new.core.env.addons ≤ length addons.new.items }
+    ensures enough { env.new.core.env.addons ≤ length addons.new.items }
+    ensures stage { stage_of env.new.core.env.phase ≡ stage_of env.old.core.env.phase }
 {
     env.local_turn(addons)
 }
@@ -59,7 +75,8 @@ fn turn(env: &mut EnvRun, addons: &mut Vec<Box<dyn Addon>>) -> LocalTurn
 /// What thirteen turns come to.
 fn thirteen(env: &mut EnvRun, addons: &mut Vec<Box<dyn Addon>>) -> [LocalTurn; 13]
     requires { env.old.core.env.addons ≤ length addons.old.items }
-    ensures { env.new.core.env.addons ≤ length addons.new.items }
+    ensures enough { env.new.core.env.addons ≤ length addons.new.items }
+    ensures stage { stage_of env.new.core.env.phase ≡ stage_of env.old.core.env.phase }
 {
     [
         turn(env, addons),
@@ -88,20 +105,26 @@ fn depths_of(record: &Record) -> [u32; 14] {
 }
 
 /// What thirteen turns come to and one more at the end, and of what the run leaves the depths, and the lengths of both lists.
-fn turns(rt: &impl Abort, alloc: Global) -> ([LocalTurn; 13], LocalTurn, [u32; 14], [usize; 2]) {
+fn turns<N: Naming, A: Abort>(
+    rt: &A,
+    alloc: Global,
+) -> ([LocalTurn; 13], LocalTurn, [u32; 14], [usize; 2])
+    requires { N.numbers ≡ record { threads = 0; workers = 0; limits = record { journal = 100; history = 100 } } }
+{
     let mut addons = examples(rt, alloc);
+    let mut hub = opened_hub::<N>(rt, alloc);
     let mut env = opened(rt, alloc, 100);
     let first = thirteen(&mut env, &mut addons);
-    run_alone(&mut env, &mut addons);
+    run_alone(&mut env, &mut hub, &mut addons);
     let last = env.local_turn(&mut addons);
-    let record = env.into_record();
+    let record = env.into_record(hub);
     let lengths = [record.journal.items().len(), record.history.items().len()];
     (first, last, depths_of(&record), lengths)
 }
 
 #[test]
 fn a_function_runs_in_a_frame_inside_its_callers(rt: HostRuntime) {
-    let found = turns(&rt, rt.alloc());
+    let found = turns::<Brand, _>(&rt, rt.alloc());
     // The two begins, eight calls, and the two ends; then `go` is next.
     let mut first = [LocalTurn::Made; 13];
     first[12] = LocalTurn::NeedsHub;

@@ -1,7 +1,7 @@
 use Rattle.std.proofs.Common.{◌≡◌, ℕ, List, Option, length, map, drop}
 use Rattle.napi_types.specs.declared.duties.DueInfo.{DueInfo}
 use Rattle.napi_types.specs.declared.op.Op.{Op}
-use Rattle.env_loop.specs.RecordedRuns.{Extends, RunGoesOn}
+use Rattle.env_loop.specs.RecordedRuns.{whole_run, FitsAlone, Extends, RunGoesOn}
 use Rattle.env_loop.specs.Turns.{turns_left}
 use Rattle.env_loop.proofs.run.run_alone.Given as goal
 
@@ -20,10 +20,11 @@ invariant-loop-env g l =
       addons : l.env.core.env.addons ≡ l.fn.env.core.env.addons;
       others : drop l.fn.env.core.env.addons regs ≡ drop l.fn.env.core.env.addons first_regs;
       limit : l.env.core.limit ≡ l.fn.env.core.limit;
-      extends : Extends l.fn.env l.env;
-      goes : RunGoesOn first_plans l.fn.env (record { registers = first_regs; seen = first_seen }) l.env (record { registers = regs; seen = seen });
+      fits : FitsAlone l.env l.hub;
+      extends : Extends (whole_run l.fn.env l.fn.hub) (whole_run l.env l.hub);
+      goes : RunGoesOn first_plans (whole_run l.fn.env l.fn.hub) (record { registers = first_regs; seen = first_seen }) (whole_run l.env l.hub) (record { registers = regs; seen = seen });
     }
 
 -- each turn fills a place of the journal, and each event of the hub comes once
 abbrev pub decreases-loop-env : goal.decreases-loop-env
-decreases-loop-env g l = turns_left l.env
+decreases-loop-env g l = turns_left l.env.core
