@@ -8,6 +8,8 @@ pub mod RecordedRuns
 pub mod Recordings
 pub mod RegisterTurns
 pub mod SeenLists
+pub mod ThreadEntries
 pub mod TicketTurns
 pub mod TurnSteps
 pub mod Turns
+pub mod WorkerEntries

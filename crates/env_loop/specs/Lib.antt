@@ -1,3 +1,6 @@
+pub mod ActorRuns
+pub mod ActorTurns
+pub mod HeldWorks
 pub mod RecordedRuns
 pub mod Recording
 pub mod Turns

@@ -1,0 +1,52 @@
+-- The run of an actor beside the environment, a thread's or a worker's, and its turns.
+use Rattle.std.specs.Prelude.{◌≡◌, true, Bool}
+use Rattle.napi_types.specs.declared.entry.Actor.{Actor}
+use Rattle.napi_types.specs.declared.entry.Actor.TheVariants as actor
+use Rattle.napi_types.specs.hub.Hub.{Hub}
+use Rattle.napi_types.specs.hub.Waits.{worker_waits}
+use Rattle.shared_hub.specs.HubStates.{HubSeen}
+use Rattle.shared_hub.specs.declared.naming.Numbers.{Numbers}
+use Rattle.env_loop.specs.ActorRuns.{IsThreadOf, SameThread, ThreadBlocked, IsWorkerOf, IsHandsReady, IsHandsFree, held_executed}
+use Rattle.env_loop.specs.declared.actor.ActorRun.{ActorRun}
+use Rattle.env_loop.specs.declared.actor.ActorRun.TheVariants as run
+
+module _ {J : Type 0} where
+  -- who it is, and whether it has ended
+  abbrev pub actor_of : ActorRun J → Actor
+  actor_of (run.OfThread t) = actor.Thread t.number
+  actor_of (run.OfWorker w) = actor.Worker w.number
+
+  abbrev pub is_over : ActorRun J → Bool
+  is_over (run.OfThread t) = t.over
+  is_over (run.OfWorker w) = w.over
+
+  -- it is one of the hub's, whose history has exactly the entries that it made
+  abbrev pub IsActorOf : Numbers → HubSeen → ActorRun J → Type 0
+  IsActorOf n s (run.OfThread t) = IsThreadOf n s t
+  IsActorOf n s (run.OfWorker w) = IsWorkerOf n s w
+
+  -- no work that it started is still to be executed
+  abbrev pub IsReady : ActorRun J → Type 0
+  IsReady (run.OfThread t) = Unit {0}
+  IsReady (run.OfWorker w) = IsHandsReady w.held
+
+  -- it holds no work
+  abbrev pub HoldsNoWork : ActorRun J → Type 0
+  HoldsNoWork (run.OfThread t) = Unit {0}
+  HoldsNoWork (run.OfWorker w) = IsHandsFree w.held
+
+  -- with the work executed that it started, where it started one
+  abbrev pub with_work_executed : ActorRun J → ActorRun J
+  with_work_executed (run.OfThread t) = run.OfThread t
+  with_work_executed (run.OfWorker w) = run.OfWorker (record w { held = held_executed w.held })
+
+  -- it is the same thread with the same script, or the same worker
+  abbrev pub IsSameActor : ActorRun J → ActorRun J → Type 0
+  IsSameActor (run.OfThread old) (run.OfThread new) = SameThread old new
+  IsSameActor (run.OfWorker old) (run.OfWorker new) = new.number ≡ old.number
+  IsSameActor _ _ = ⊥
+
+  -- it waits: a thread for `go` or at its next call, and a worker for a work or for the drain
+  abbrev pub IsBlocked : Hub → ActorRun J → Type 0
+  IsBlocked h (run.OfThread t) = ThreadBlocked h t
+  IsBlocked h (run.OfWorker w) = worker_waits h w.number ≡ true
