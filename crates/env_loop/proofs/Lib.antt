@@ -1,3 +1,4 @@
+pub mod ActorsStand
 pub mod CallTurns
 pub mod CutTurns
 pub mod EndTurns

@@ -1,11 +1,10 @@
 -- What a thread does next, by its script and by the hub.
-use Rattle.std.proofs.Common.{◌≡◌, ◌∙◌, ◌⊎◌, inl, inr, ◌<◌, ◌≤◌, ℕ, zero, suc, ◌+◌, Bool, true, false, not, cond, ◌&&◌, ◌||◌, nat_lt, min, List, [], ◌∷◌, ◌++◌, length, drop, get_or, slice_get, IsTrue, refl, ap, sym, subst, arith, Option, Some, None, is_none}
+use Rattle.std.proofs.Common.{◌≡◌, ◌∙◌, ◌⊎◌, inl, inr, ◌<◌, ◌≤◌, ℕ, zero, suc, ◌+◌, true, false, not, cond, ◌&&◌, nat_lt, min, List, [], ◌∷◌, length, drop, get_or, slice_get, IsTrue, refl, ap, sym, subst, arith, Option, Some, None, is_none}
 use Rattle.std.specs.List.{All, cons_option}
 use Rattle.std.proofs.lemmas.Bool.Decides.{nat_tests}
 use Rattle.std.proofs.lemmas.Bool.{or_left, or_right}
 use Rattle.std.proofs.lemmas.List.Elements.{All-head, All-tail}
 use Rattle.std.proofs.lemmas.Option.{slice_get-get_or}
-use Rattle.napi_types.specs.declared.call.Ask.{Ask}
 use Rattle.napi_types.specs.declared.call.Ask.TheVariants as ask
 use Rattle.napi_types.specs.declared.call.Call.{Call}
 use Rattle.napi_types.specs.declared.call.Call.TheVariants as call
@@ -14,7 +13,6 @@ use Rattle.napi_types.specs.declared.entry.Actor.TheVariants as actor
 use Rattle.napi_types.specs.declared.entry.Entry.{Entry}
 use Rattle.napi_types.specs.declared.entry.Given.{Given}
 use Rattle.napi_types.specs.declared.entry.HostStep.TheVariants as host
-use Rattle.napi_types.specs.declared.entry.Out.{Out}
 use Rattle.napi_types.specs.declared.entry.Out.TheVariants as out
 use Rattle.napi_types.specs.declared.entry.Reply.{Reply}
 use Rattle.napi_types.specs.declared.entry.What.TheVariants as what
@@ -25,13 +23,13 @@ use Rattle.napi_types.specs.declared.op.Op.TheVariants as op
 use Rattle.napi_types.specs.declared.status.Status.{Status}
 use Rattle.napi_types.specs.declared.status.Status.TheVariants as status
 use Rattle.napi_types.specs.plain.Guards.{is_growing}
-use Rattle.napi_types.specs.plain.Lists.{has_number, one, tail}
+use Rattle.napi_types.specs.plain.Lists.{has_number, tail}
 use Rattle.napi_types.specs.plain.Room.{Room, need, first_places, is_full, may_want_memory}
 use Rattle.napi_types.specs.scripts.Registers.{operation_ask, blank_registers}
 use Rattle.napi_types.specs.hub.ActorLaws.{ThreadStands}
-use Rattle.napi_types.specs.hub.Actors.{is_thread, asked_call, thread_calls, EndsThread, IsNextOfThread, left_after, left_along}
+use Rattle.napi_types.specs.hub.Actors.{is_thread, asked_call, thread_calls, EndsThread, IsNextOfThread, left_after}
 use Rattle.napi_types.specs.hub.HistoryRoom.{history_room}
-use Rattle.napi_types.specs.hub.Hub.{Hub, new_hub, left_of, threads_left}
+use Rattle.napi_types.specs.hub.Hub.{Hub, new_hub, threads_left}
 use Rattle.napi_types.specs.hub.HubStep.{actor_told}
 use Rattle.napi_types.specs.hub.HubSteps.{hub_step, hub_along}
 use Rattle.napi_types.specs.hub.Replays.{HubReplays}

@@ -1,14 +1,14 @@
 -- What a worker does next, by what it holds and by the hub.
-use Rattle.std.proofs.Common.{◌≡◌, ◌∙◌, ℕ, ◌==◌, Bool, true, false, not, cond, ◌&&◌, List, [], ◌∷◌, ◌++◌, IsTrue, refl, ap, sym, subst, Option, Some, None, is_some, is_none, option_map}
+use Rattle.std.proofs.Common.{◌≡◌, ◌∙◌, ℕ, Bool, true, false, not, cond, ◌&&◌, List, [], ◌∷◌, IsTrue, refl, ap, sym, subst, Option, Some, None, is_some, is_none, option_map}
 use Rattle.std.specs.Option.{option_and_then, option_map_or}
 use Rattle.napi_types.specs.declared.entry.Actor.TheVariants as actor
 use Rattle.napi_types.specs.declared.entry.Duty.TheVariants as duty
 use Rattle.napi_types.specs.declared.entry.Entry.{Entry}
 use Rattle.napi_types.specs.declared.entry.HostStep.TheVariants as host
 use Rattle.napi_types.specs.declared.entry.Out.TheVariants as out
-use Rattle.napi_types.specs.plain.Lists.{head, is_empty, one}
+use Rattle.napi_types.specs.plain.Lists.{head, is_empty}
 use Rattle.napi_types.specs.parts.Jobs.{job_value}
-use Rattle.napi_types.specs.parts.Pool.{WorkPool, executed_by, value_of_work, work_numbered, started_from, with_started}
+use Rattle.napi_types.specs.parts.Pool.{WorkPool, executed_by, value_of_work, work_numbered, started_from}
 use Rattle.napi_types.specs.parts.Works.{Work}
 use Rattle.napi_types.specs.hub.ActorLaws.{worker_at}
 use Rattle.napi_types.specs.hub.Actors.{WorkerState, Free, Working, Over, is_worker, worker_after, worker_along}
@@ -26,7 +26,7 @@ use Rattle.async_work.specs.Picking.{work_to_start, first_to_start}
 use Rattle.shared_hub.specs.HubStates.{HubSeen, AddsEntry}
 use Rattle.shared_hub.specs.KeptHubs.{IsLedHub}
 use Rattle.shared_hub.specs.declared.naming.Numbers.{Numbers}
-use Rattle.env_loop.specs.ActorRuns.{HeldWork, NoWork, Started, Executed, WorkerSeen, held_state, worker_state, IsHeld, IsWorkerOf}
+use Rattle.env_loop.specs.ActorRuns.{HeldWork, NoWork, Started, Executed, WorkerSeen, held_state, IsHeld, IsWorkerOf}
 
 -- WHERE IT STANDS
 there-by : (b : Bool) (o : Option ℕ) (held : HeldWork) → cond b (cond (is_some o) Working Free) Over ≡ held_state held → b ≡ true

@@ -1,9 +1,8 @@
 -- The run of a thread and that of a worker: what they are, how they stand to the hub, and when they wait.
-use Rattle.std.specs.Prelude.{◌≡◌, ◌⊎◌, ℕ, ◌+◌, ◌<◌, ◌≤◌, Bool, true, false, cond, drop, List, [], ◌∷◌, length, Option, Some, None}
+use Rattle.std.specs.Prelude.{◌≡◌, ◌⊎◌, ℕ, ◌+◌, ◌<◌, ◌≤◌, Bool, true, false, cond, drop, List, ◌∷◌, length, Option, Some, None}
 use Rattle.std.specs.List.{All}
 use Rattle.napi_types.specs.declared.call.Call.{Call}
 use Rattle.napi_types.specs.declared.entry.Actor.{Actor}
-use Rattle.napi_types.specs.declared.entry.Actor.TheVariants as actor
 use Rattle.napi_types.specs.declared.entry.Entry.{Entry}
 use Rattle.napi_types.specs.declared.op.Op.{Op}
 use Rattle.napi_types.specs.declared.op.Op.TheVariants as op
@@ -11,12 +10,13 @@ use Rattle.napi_types.specs.plain.Room.{one_if}
 use Rattle.napi_types.specs.parts.Jobs.{job_value}
 use Rattle.napi_types.specs.parts.Pool.{WorkPool, executed_by, value_of_work}
 use Rattle.napi_types.specs.hub.ActorLaws.{ThreadStands}
-use Rattle.napi_types.specs.hub.Actors.{thread_calls, WorkerState, Free, Working, Over, worker_along}
+use Rattle.napi_types.specs.hub.Actors.{is_thread, thread_calls, is_worker, WorkerState, Free, Working, Over, worker_along}
 use Rattle.napi_types.specs.hub.Hub.{Hub}
 use Rattle.napi_types.specs.hub.ThreadSteps.{is_gone_on}
 use Rattle.napi_types.specs.hub.Waits.{waits_at}
 use Rattle.async_work.specs.Executing.{StartedWork, ExecutedWork}
 use Rattle.shared_hub.specs.HubStates.{HubSeen, AddsEntry}
+use Rattle.shared_hub.specs.KeptHubs.{IsLedHub}
 use Rattle.shared_hub.specs.declared.naming.Numbers.{Numbers}
 
 -- one entry more, which this actor made
@@ -126,3 +126,18 @@ IsHandsFree _ = ⊥
 abbrev pub held_executed : HeldWork → HeldWork
 held_executed (Started s) = Executed (record { number = s.number; value = job_value s.spec })
 held_executed held = held
+
+-- AS OTHERS GO ON
+-- an entry of another actor leaves a thread's run one of the hub's, ..
+abbrev pub ThreadRunsStand : Type 0
+ThreadRunsStand = (n : Numbers) (s new : HubSeen) (t : ThreadSeen) (x : Entry) → IsLedHub n s → IsThreadOf n s t → AddsEntry s x new → is_thread t.number x.actor ≡ false
+    → IsThreadOf n new t
+
+-- .. and a worker's
+abbrev pub WorkerRunsStand : Type 0
+WorkerRunsStand = (n : Numbers) (s new : HubSeen) (w : WorkerSeen) (x : Entry) → IsLedHub n s → IsWorkerOf n s w → AddsEntry s x new → is_worker w.number x.actor ≡ false
+    → IsWorkerOf n new w
+
+-- and so does the execution of the work that the worker started
+abbrev pub ExecutedWorksStand : Type 0
+ExecutedWorksStand = (n : Numbers) (s : HubSeen) (w : WorkerSeen) → IsWorkerOf n s w → IsWorkerOf n s (record w { held = held_executed w.held })

@@ -4,6 +4,7 @@ ghost use Rattle.std.specs.List.{All};
 ghost use Rattle.env_loop.specs.ActorRuns.{IsOperationOfThread, new_thread, new_worker, AddsEntryOf};
 ghost use Rattle.env_loop.specs.ActorTurns.{actor_of, is_over, IsActorOf, IsReady, HoldsNoWork, with_work_executed, IsSameActor, IsBlocked};
 
+pub mod standing;
 mod thread;
 mod worker;
 

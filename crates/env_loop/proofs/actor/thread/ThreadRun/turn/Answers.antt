@@ -1,10 +1,8 @@
-use Rattle.std.proofs.Common.{◌≡◌, ◌∙◌, ◌<◌, ◌≤◌, ◌+◌, ◌∷◌, [], List, ℕ, Bool, true, false, drop, length, ap, sym, subst, refl, rules}
+use Rattle.std.proofs.Common.{◌≡◌, ◌<◌, ◌≤◌, ◌+◌, ◌∷◌, List, Bool, true, drop, length, ap, sym, subst, refl, rules}
 use Rattle.std.proofs.lemmas.Bool.{ltb-true, ltb-false}
 use Rattle.napi_types.specs.declared.call.Call.{Call}
 use Rattle.napi_types.specs.declared.entry.Actor.TheVariants as actor
 use Rattle.napi_types.specs.declared.entry.Out.TheVariants as out
-use Rattle.napi_types.specs.declared.entry.Why.TheVariants as why
-use Rattle.napi_types.specs.declared.op.Op.{Op}
 use Rattle.napi_types.specs.hub.Actors.{thread_calls, EndsThread}
 use Rattle.napi_types.specs.hub.ThreadSteps.{is_gone_on, nothing_given}
 use Rattle.shared_hub.specs.HubStates.{HubSeen, hub_room}

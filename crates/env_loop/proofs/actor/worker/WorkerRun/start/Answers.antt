@@ -1,4 +1,4 @@
-use Rattle.std.proofs.Common.{◌≡◌, ◌∙◌, Bool, true, false, None, IsTrue, ap, sym, subst, refl}
+use Rattle.std.proofs.Common.{◌≡◌, ◌∙◌, Bool, true, false, IsTrue, ap, sym, subst, refl}
 use Rattle.napi_types.specs.parts.Pool.{executed_by}
 use Rattle.napi_types.specs.hub.Waits.{worker_waits}
 use Rattle.napi_types.specs.hub.WorkerSteps.{is_worker_there}

@@ -1,4 +1,4 @@
-use Rattle.std.proofs.Common.{◌≡◌, ◌∙◌, Bool, false, ap, sym, subst}
+use Rattle.std.proofs.Common.{◌≡◌, Bool, ap, sym, subst}
 use Rattle.env_loop.specs.ActorRuns.{HeldWork, NoWork, Executed, WorkerSeen, IsWorkerOf}
 use Rattle.env_loop.specs.HeldWorks.{held_in}
 use Rattle.env_loop.proofs.WorkerEntries.{makes-finish}

@@ -1,0 +1,13 @@
+//! What the runs of threads and workers keep while others go on, as laws: each function does nothing, and its contract states a law.
+ghost use Rattle.env_loop.specs.ActorRuns.{ThreadRunsStand, WorkerRunsStand, ExecutedWorksStand};
+
+/// The run of a thread, or of a worker, stays one of the hub's while another actor makes an entry.
+pub fn actor_runs_stand_as_others_go_on()
+    ensures threads { ThreadRunsStand }
+    ensures workers { WorkerRunsStand }
+{}
+
+/// So does a worker's as it executes the work that it started.
+pub fn worker_runs_stand_as_works_are_executed()
+    ensures { ExecutedWorksStand }
+{}
