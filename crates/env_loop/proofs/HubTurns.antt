@@ -46,6 +46,7 @@ use Rattle.env_loop.specs.Recording.{machine_of}
 use Rattle.env_loop.specs.RecordedRuns.{WholeRun, IsSoundEnvironment, IsRunning, MovesOn}
 use Rattle.env_loop.specs.Turns.{turn_at, side_of, uncounted, turn_of}
 use Rattle.env_loop.proofs.TicketTurns.{ticket-side}
+use Rattle.env_loop.proofs.TurnSteps.{TellsNoFrame}
 use Rattle.env_loop.proofs.Recordings.{shared-grown}
 
 -- WHERE THE HUB IS NEEDED
@@ -132,53 +133,53 @@ moved-sound e p next other s = record {
 }
 
 -- a core and the hub beside it
-abbrev pub whole : Core → HubSeen → WholeRun
-whole core seen = record { core = core; hub = seen.hub; history = seen.history }
+abbrev pub beside_hub : Core → HubSeen → WholeRun
+beside_hub core seen = record { core = core; hub = seen.hub; history = seen.history }
 
 -- an event of the hub moves a run on, and the hub is then as far as the phase shows
 pub record HubMoves (core : Core) (seen : HubSeen) (new : Core) (later : HubSeen) : Type 0 where
-  pub moves : MovesOn (whole core seen) (whole new later)
+  pub moves : MovesOn (beside_hub core seen) (beside_hub new later)
   pub fits : later.hub ≡ quiet_hub (stage_of new.env.phase)
 
 abbrev moved_core : Core → Phase → ℕ → Core
 moved_core core p position = record core { env = in_phase p core.env; position = position }
 
 -- a great event that comes next in this phase: it starts that phase, no duty begins at it, and the hub is then as far
-record Comes (core : Core) (seen : HubSeen) (q : Phase) (v : Event) (event : HostStep) (o : Out) (p : Phase) : Type 0 where
+record StartsPhase (core : Core) (seen : HubSeen) (q : Phase) (v : Event) (event : HostStep) (o : Out) (p : Phase) : Type 0 where
   next : choice (uncounted core.env) ≡ Some v
   made : (limits : Limits) → event_step (machine_of limits core seen.hub seen.history) v ≡ by_hub (machine_of limits core seen.hub seen.history) event p o
   leaves : (plans : List Plan) (rss : Registers) (m : Machine) (reply : Reply) → after_host_event plans rss m (ask.Leave None) reply event ≡ rss
-  untold : (m : Machine) → told_at m o ≡ None
+  tells : TellsNoFrame o
   reached : (hub_step (quiet_hub (stage_of q)) (host_entry event o)).after ≡ quiet_hub (stage_of p)
   follows : next_phase q ≡ Some p
   stays : p ≡ phase.Gone → ⊥
   places : stage_places (stage_of q) ≡ stage_places (stage_of p) + 1
 
-goes : (core : Core) (seen : HubSeen) → choice (uncounted core.env) ≡ Some Goes → Comes core seen phase.Init Goes host.Go out.Nothing phase.Live
+goes : (core : Core) (seen : HubSeen) → choice (uncounted core.env) ≡ Some Goes → StartsPhase core seen phase.Init Goes host.Go out.Nothing phase.Live
 goes core seen next =
-    record { next = next; made = λ l. refl; leaves = λ ps rss m r. refl; untold = λ m. refl; reached = refl; follows = refl; stays = λ g. cc; places = refl }
+    record { next = next; made = λ l. refl; leaves = λ ps rss m r. refl; tells = record { uncut = refl; untold = λ m. refl }; reached = refl; follows = refl; stays = λ g. cc; places = refl }
 
-ends : (core : Core) (seen : HubSeen) (w : LoopEnd) → choice (uncounted core.env) ≡ Some (EndsLoop w) → Comes core seen phase.Live (EndsLoop w) host.LoopEnd (out.Ended w) phase.Hooks
+ends : (core : Core) (seen : HubSeen) (w : LoopEnd) → choice (uncounted core.env) ≡ Some (EndsLoop w) → StartsPhase core seen phase.Live (EndsLoop w) host.LoopEnd (out.Ended w) phase.Hooks
 ends core seen w next =
-    record { next = next; made = λ l. refl; leaves = λ ps rss m r. refl; untold = λ m. refl; reached = refl; follows = refl; stays = λ g. cc; places = refl }
+    record { next = next; made = λ l. refl; leaves = λ ps rss m r. refl; tells = record { uncut = refl; untold = λ m. refl }; reached = refl; follows = refl; stays = λ g. cc; places = refl }
 
 drains : (core : Core) (seen : HubSeen) → choice (uncounted core.env) ≡ Some Drains
-    → Comes core seen phase.Hooks Drains host.Drain (out.Unsigned (length seen.hub.pool.queued)) phase.Drain
+    → StartsPhase core seen phase.Hooks Drains host.Drain (out.Unsigned (length seen.hub.pool.queued)) phase.Drain
 drains core seen next =
-    record { next = next; made = λ l. refl; leaves = λ ps rss m r. refl; untold = λ m. refl; reached = refl; follows = refl; stays = λ g. cc; places = refl }
+    record { next = next; made = λ l. refl; leaves = λ ps rss m r. refl; tells = record { uncut = refl; untold = λ m. refl }; reached = refl; follows = refl; stays = λ g. cc; places = refl }
 
-finals : (core : Core) (seen : HubSeen) → choice (uncounted core.env) ≡ Some FinalsCome → Comes core seen phase.Drain FinalsCome host.Finals out.Nothing phase.Finals
+finals : (core : Core) (seen : HubSeen) → choice (uncounted core.env) ≡ Some FinalsCome → StartsPhase core seen phase.Drain FinalsCome host.Finals out.Nothing phase.Finals
 finals core seen next =
-    record { next = next; made = λ l. refl; leaves = λ ps rss m r. refl; untold = λ m. refl; reached = refl; follows = refl; stays = λ g. cc; places = refl }
+    record { next = next; made = λ l. refl; leaves = λ ps rss m r. refl; tells = record { uncut = refl; untold = λ m. refl }; reached = refl; follows = refl; stays = λ g. cc; places = refl }
 
 -- it moves a run on, once it added its entry
 moved-on : (core : Core) (seen later : HubSeen) (q : Phase) (v : Event) (event : HostStep) (o : Out) (p : Phase) → core.env.phase ≡ q → core.env.frames ≡ []
-    → seen.hub ≡ quiet_hub (stage_of core.env.phase) → Comes core seen q v event o p → AddsEntry seen (host_entry event o) later
-    → MovesOn (whole core seen) (whole (moved_core core p (length seen.history + 1)) later)
+    → seen.hub ≡ quiet_hub (stage_of core.env.phase) → StartsPhase core seen q v event o p → AddsEntry seen (host_entry event o) later
+    → MovesOn (beside_hub core seen) (beside_hub (moved_core core p (length seen.history + 1)) later)
 moved-on core seen later q v event o p here alone fits c adds =
     let moved : Core = moved_core core p (length seen.history + 1) in
-    let H : List Entry → Type 0 = λ h. MovesOn (whole core seen) (record { core = moved; hub = later.hub; history = h }) in
-    let K : Hub → Type 0 = λ k. MovesOn (whole core seen) (record { core = moved; hub = k; history = seen.history ++ host_entry event o ∷ [] }) in
+    let H : List Entry → Type 0 = λ h. MovesOn (beside_hub core seen) (record { core = moved; hub = later.hub; history = h }) in
+    let K : Hub → Type 0 = λ k. MovesOn (beside_hub core seen) (record { core = moved; hub = k; history = seen.history ++ host_entry event o ∷ [] }) in
     subst H (sym adds.history) (subst K (sym adds.hub) (record {
       left = ap (λ x. stage_places (stage_of x)) here ∙ c.places;
       event = host_entry event o;
@@ -191,15 +192,15 @@ moved-on core seen later q v event o p here alone fits c adds =
       sound = moved-sound core.env p (ap next_phase here ∙ c.follows) c.stays;
       recorded = λ plans all s firsts of r.
           shared-grown s core seen.hub seen.history all firsts r event o p v alone (ap (λ h. option_or (local_choice core.env) (hub_choice h)) fits ∙ c.next)
-          (c.made s.limits) adds.next (c.leaves s.plans) c.untold;
+          (c.made s.limits) adds.next (c.leaves s.plans) c.tells.untold;
     }))
 
 moves : (core new : Core) (seen later : HubSeen) (q : Phase) (v : Event) (event : HostStep) (o : Out) (p : Phase) → core.env.phase ≡ q → turn_of core.env ≡ turn.NeedsHub
-    → seen.hub ≡ quiet_hub (stage_of core.env.phase) → Comes core seen q v event o p → AddsEntry seen (host_entry event o) later
+    → seen.hub ≡ quiet_hub (stage_of core.env.phase) → StartsPhase core seen q v event o p → AddsEntry seen (host_entry event o) later
     → new ≡ moved_core core p (length later.history) → HubMoves core seen new later
 moves core new seen later q v event o p here needs fits c adds made =
     let longer : length later.history ≡ length seen.history + 1 = ap length adds.history ∙ length-append seen.history (host_entry event o ∷ []) in
-    let P : Core → Type 0 = λ x. MovesOn (whole core seen) (whole x later) in
+    let P : Core → Type 0 = λ x. MovesOn (beside_hub core seen) (beside_hub x later) in
     record {
       moves = subst P (sym (made ∙ ap (moved_core core p) longer)) (moved-on core seen later q v event o p here (needs-alone core.env needs) fits c adds);
       fits =
