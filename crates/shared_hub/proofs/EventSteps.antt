@@ -4,6 +4,7 @@ use Rattle.std.specs.Option.{option_and_then, option_map_or, unwrap_or}
 use Rattle.napi_types.specs.declared.duties.DueInfo.{DueInfo}
 use Rattle.napi_types.specs.declared.entry.Actor.{Actor}
 use Rattle.napi_types.specs.declared.entry.Actor.TheVariants as actor
+use Rattle.napi_types.specs.declared.entry.Duty.{Duty}
 use Rattle.napi_types.specs.declared.entry.Duty.TheVariants as duty
 use Rattle.napi_types.specs.declared.entry.Entry.{Entry}
 use Rattle.napi_types.specs.declared.entry.HostStep.{HostStep}
@@ -19,6 +20,7 @@ use Rattle.napi_types.specs.plain.Lists.{is_empty, head, with_number}
 use Rattle.napi_types.specs.parts.Functions.{closed, finished}
 use Rattle.napi_types.specs.parts.Pool.{WorkPool, drained, work_numbered, executed_by, value_of_work, with_started, started_from, with_finished}
 use Rattle.napi_types.specs.parts.Works.{Work}
+use Rattle.napi_types.specs.hub.HistoryLaws.{KeepsStanding}
 use Rattle.napi_types.specs.hub.Hub.{Hub, Stage, Before, Going, Looped, Drained, Final, stage_after, threads_left, workers_left}
 use Rattle.napi_types.specs.hub.HubEvents.{staged, drained_hub, may_move, is_moving, delivery_entry, begin_step, close_step, finish_step, frame_end_step, is_frame_end}
 use Rattle.napi_types.specs.hub.HubMoves.{HubMove, Delivers, Closes, Finishes, hub_move, in_function, in_pool, with_delivered, without_duty}
@@ -34,6 +36,7 @@ use Rattle.shared_hub.specs.declared.progress.HubStage.{HubStage}
 use Rattle.shared_hub.specs.declared.progress.HubStage.TheVariants as code
 use Rattle.shared_hub.specs.HubParts.{HubParts, hub_with, after_move, drained_parts}
 use Rattle.shared_hub.specs.HubProgress.{hub_stage, is_left, without_actor}
+use Rattle.shared_hub.specs.HubStates.{KeepsStage}
 use Rattle.shared_hub.specs.KeptHubs.{AreFieldsOf}
 use Rattle.shared_hub.specs.SharedTries.{actor_end_told, MayEnd}
 use Rattle.shared_hub.proofs.ActorsLeft.{one-less-is-left}
@@ -140,6 +143,21 @@ pub moved-fields : (h : Hub) (parts new : HubParts) (p : HubProgress) (m : Optio
     → AreFieldsOf (after_move m h) new p
 moved-fields h parts new p m f left = subst (λ (g : Hub). AreFieldsOf g new p) (sym (moved-hub h parts new p m f left)) (parts-changed h parts new p f)
 
+-- a move keeps how far the hub is
+pub delivered-keeps : (h : Hub) (d : DueInfo) (t : Duty) → KeepsStage h (record (without_duty t h) { standing = Some d })
+delivered-keeps h d (duty.Work n) = record { stage = refl; threads = refl; workers = refl }
+delivered-keeps h d (duty.Item f n) = record { stage = refl; threads = refl; workers = refl }
+delivered-keeps h d (duty.Function f) = record { stage = refl; threads = refl; workers = refl }
+delivered-keeps h d (duty.Ticket t) = record { stage = refl; threads = refl; workers = refl }
+
+-- nothing stands where it may move
+pub mover-is-alone : (h : Hub) → IsTrue (may_move h) → h.standing ≡ None
+mover-is-alone h may = by h.standing (and-right (is_moving h.stage) _ may)
+  where
+    by : (o : Option DueInfo) → is_none o ≡ true → o ≡ None
+    by None is = refl
+    by (Some d) is = cc
+
 -- the end of a frame
 pub end-comes : (h : Hub) (d : DueInfo) (o : Out) → h.standing ≡ Some d → IsTrue (is_frame_end o) → ComesNext h (host_entry host.End o) (record h { standing = None })
 end-comes h d o stands ends =
@@ -245,6 +263,12 @@ some-left before after k less is = grind arith
 
 one-less : (before after k : ℕ) → after + 1 ≡ before → before ≡ k → after ≡ k - 1
 one-less before after k less is = omega (arith, less, is)
+
+-- the end of an actor keeps how far the hub is, and what stands
+pub actor-ended-keeps : (h : Hub) (a : Actor) → KeepsStanding h (actor_ended a h)
+actor-ended-keeps h actor.Env = record { stage = refl; standing = refl; threads = refl; workers = refl }
+actor-ended-keeps h (actor.Thread t) = record { stage = refl; standing = refl; threads = refl; workers = refl }
+actor-ended-keeps h (actor.Worker w) = record { stage = refl; standing = refl; threads = refl; workers = refl }
 
 pub actor-is-left : (h : Hub) (a : Actor) (cut : Option Why) (parts : HubParts) (p : HubProgress) → MayEnd h a cut → AreFieldsOf h parts p → is_left a p ≡ true
 actor-is-left h actor.Env cut parts p may f = absurd may

@@ -20,7 +20,7 @@ use Rattle.napi_types.proofs.hub.HubRooms.{places_beside, hub-room}
 use Rattle.shared_hub.specs.declared.naming.Numbers.{Numbers}
 use Rattle.shared_hub.specs.declared.progress.HubProgress.{HubProgress}
 use Rattle.shared_hub.specs.HubParts.{HubParts, hub_with}
-use Rattle.shared_hub.specs.HubStates.{HubSeen, led_by, hub_seen, AddsEntry}
+use Rattle.shared_hub.specs.HubStates.{HubSeen, led_by, hub_seen, AddsEntry, KeepsStage}
 use Rattle.shared_hub.specs.KeptHubs.{IsKeptHistory, AreFieldsOf}
 
 -- the entry comes next, and leaves this
@@ -135,14 +135,25 @@ call-kept n history limit capacity room x c left parts p k comes is fields fits 
     with_need : (bound : ℕ) → length history + reserved_history (led_by n history) + need c ≤ bound → length history + reserved_history (led_by n history) + places_beside x.what ≤ bound
     with_need bound le = subst (λ w. length history + reserved_history (led_by n history) + places_beside w ≤ bound) (sym is) le
 
+-- the hub after an entry that comes next
+pub led-on : (n : Numbers) (history : List Entry) (x : Entry) (left : Hub) → ComesNext (led_by n history) x left → led_by n (history ++ one x) ≡ left
+led-on n history x left comes = along-more (new_hub n.threads n.workers) history x ∙ comes.after
+
+-- what stays where the entry comes next, by what it leaves
+pub keeps-on : (n : Numbers) (history : List Entry) (x : Entry) (left : Hub) → ComesNext (led_by n history) x left → KeepsStanding (led_by n history) left
+    → KeepsStanding (led_by n history) (led_by n (history ++ one x))
+keeps-on n history x left comes kept = subst (λ (g : Hub). KeepsStanding (led_by n history) g) (sym (led-on n history x left comes)) kept
+
+pub keeps-stage-on : (n : Numbers) (history : List Entry) (x : Entry) (left : Hub) → ComesNext (led_by n history) x left → KeepsStage (led_by n history) left
+    → KeepsStage (led_by n history) (led_by n (history ++ one x))
+keeps-stage-on n history x left comes kept = subst (λ (g : Hub). KeepsStage (led_by n history) g) (sym (led-on n history x left comes)) kept
+
 -- a call keeps how far the hub is, and what stands
 pub call-keeps : (n : Numbers) (history : List Entry) (x : Entry) (new : HubParts) → ComesNext (led_by n history) x (hub_with new (led_by n history))
     → KeepsStanding (led_by n history) (led_by n (history ++ one x))
-call-keeps n history x new comes =
-    subst (λ (g : Hub). KeepsStanding (led_by n history) g) (sym (along-more (new_hub n.threads n.workers) history x ∙ comes.after))
-    (record { stage = refl; standing = refl; threads = refl; workers = refl })
+call-keeps n history x new comes = keeps-on n history x (hub_with new (led_by n history)) comes (record { stage = refl; standing = refl; threads = refl; workers = refl })
 
 -- a duty that begins stands
 pub begun-stands : (n : Numbers) (history : List Entry) (x : Entry) (left : Hub) (d : DueInfo) → ComesNext (led_by n history) x (record left { standing = Some d })
     → (led_by n (history ++ one x)).standing ≡ Some d
-begun-stands n history x left d comes = ap (λ (g : Hub). g.standing) (along-more (new_hub n.threads n.workers) history x ∙ comes.after)
+begun-stands n history x left d comes = ap (λ (g : Hub). g.standing) (led-on n history x (record left { standing = Some d }) comes)

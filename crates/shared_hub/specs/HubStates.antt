@@ -25,6 +25,12 @@ pub record AddsEntry (old : HubSeen) (x : Entry) (new : HubSeen) : Type 0 where
   pub hub : new.hub ≡ (hub_step old.hub x).after
   pub history : new.history ≡ old.history ++ one x
 
+-- how far the hub is, and how many threads and workers there are
+pub record KeepsStage (old new : Hub) : Type 0 where
+  pub stage : new.stage ≡ old.stage
+  pub threads : new.threads ≡ old.threads
+  pub workers : new.workers ≡ old.workers
+
 -- the room in its history
 abbrev pub hub_room : Numbers → HubSeen → Room
 hub_room n s = history_room s.hub (length s.history) n.limits.history

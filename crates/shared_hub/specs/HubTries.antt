@@ -65,6 +65,11 @@ module _ {J : Type 0} where
   IfBegun (polled.Begin due job) P = P due job
   IfBegun _ P = Unit {0}
 
+  -- a fact, where no duty begins
+  abbrev pub IfNoneBegun : Polled J → Type 0 → Type 0
+  IfNoneBegun (polled.Begin due job) P = Unit {0}
+  IfNoneBegun _ P = P
+
 -- what the job computes that did not run, of a work that was cancelled; none of another duty
 abbrev pub unspent_of_duty : WorkPool → DueInfo → Duty → Option JobSpec
 unspent_of_duty p d (duty.Work n) = unspent_spec p n d.status

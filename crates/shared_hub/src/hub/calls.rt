@@ -75,6 +75,7 @@ impl<J: Job, N: Naming> HubState<J, N> {
         requires threads { IsTrue (is_thread_call call.now) }
         requires there { IsTrue (is_thread_there self.old.hub thread) }
         ensures reply { IfAnswered result (λ reply. AddsEntry self.old (entry_of_thread thread step call.now reply) self.new) }
+        ensures keeps { KeepsStanding self.old.hub self.new.hub }
         ensures waits { IfWaiting result (hub_answer self.old.hub (actor.Thread thread) nothing_given call.now 0 ≡ None) }
         ensures waiting { IfWaiting result (self.new ≡ self.old) }
         ensures stop { IfStopped result (λ status. self.new ≡ self.old) }

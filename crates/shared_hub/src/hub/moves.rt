@@ -1,11 +1,11 @@
 //! The moves that the hub makes of its own, and the ends of its frames.
-ghost use Rattle.std.specs.Prelude.{◌≡◌, true, IsTrue, Some, option_map};
+ghost use Rattle.std.specs.Prelude.{◌≡◌, true, IsTrue, None, Some, option_map};
 ghost use Rattle.napi_types.specs.declared.entry.HostStep.TheVariants as host;
 ghost use Rattle.napi_types.specs.plain.Entries.{host_entry as entry_of};
 ghost use Rattle.napi_types.specs.hub.HubEvents.{may_move, is_frame_end, delivery_entry as entry_delivered};
 ghost use Rattle.napi_types.specs.hub.HubMoves.{hub_move};
-ghost use Rattle.shared_hub.specs.HubStates.{AddsEntry};
-ghost use Rattle.shared_hub.specs.HubTries.{polled_move, AddsMove, IfBegun, unspent_job};
+ghost use Rattle.shared_hub.specs.HubStates.{AddsEntry, KeepsStage};
+ghost use Rattle.shared_hub.specs.HubTries.{polled_move, AddsMove, IfBegun, IfNoneBegun, unspent_job};
 
 use super::HubState;
 use super::events::host_entry;
@@ -26,7 +26,9 @@ impl<J: Job, N: Naming> HubState<J, N> {
         requires { IsTrue (may_move self.old.hub) }
         ensures taken { polled_move result ≡ hub_move self.old.hub }
         ensures event { AddsMove self.old result self.new }
+        ensures keeps { KeepsStage self.old.hub self.new.hub }
         ensures stands { IfBegun result (λ due job. self.new.hub.standing ≡ Some due) }
+        ensures alone { IfNoneBegun result (self.new.hub.standing ≡ None) }
         ensures unspent { IfBegun result (λ due job. option_map J.spec job ≡ unspent_job self.old.hub.pool due) }
     {
         match self.parts.take_move() {
@@ -55,7 +57,9 @@ impl<J: Job, N: Naming> HubState<J, N> {
     pub fn end_frame(&mut self, begun: Begun, told: Out)
         requires stands { self.old.hub.standing ≡ Some begun }
         requires end { IsTrue (is_frame_end told) }
-        ensures { AddsEntry self.old (entry_of host.End told) self.new }
+        ensures next { AddsEntry self.old (entry_of host.End told) self.new }
+        ensures keeps { KeepsStage self.old.hub self.new.hub }
+        ensures alone { self.new.hub.standing ≡ None }
     {
         let _info = begun.end();
         self.progress.stands = false;

@@ -6,6 +6,7 @@ ghost use Rattle.napi_types.specs.declared.entry.HostStep.TheVariants as host;
 ghost use Rattle.napi_types.specs.declared.entry.Out.TheVariants as out;
 ghost use Rattle.napi_types.specs.plain.Lists.{is_empty};
 ghost use Rattle.napi_types.specs.parts.Pool.{executed_by, value_of_work};
+ghost use Rattle.napi_types.specs.hub.HistoryLaws.{KeepsStanding};
 ghost use Rattle.napi_types.specs.hub.HubStep.{actor_told as entry_told};
 ghost use Rattle.napi_types.specs.hub.WorkerSteps.{is_worker_there};
 ghost use Rattle.async_work.specs.Picking.{is_closing, is_nothing, picked_work, first_to_start};
@@ -30,6 +31,7 @@ impl<J: Job, N: Naming> HubState<J, N> {
         ensures nothing { is_nothing result ≡ (not self.old.hub.pool.closing && is_empty self.old.hub.pool.queued) }
         ensures job { picked_work result ≡ first_to_start self.old.hub.pool }
         ensures event { AddsStart worker self.old result self.new }
+        ensures keeps { KeepsStanding self.old.hub self.new.hub }
     {
         match self.parts.start(worker) {
             Picked::Job(running) => {
@@ -52,7 +54,8 @@ impl<J: Job, N: Naming> HubState<J, N> {
     pub fn finish(&mut self, worker: u32, ran: Ran)
         requires executed { executed_by self.old.hub.pool worker ≡ Some ran.number }
         requires value { ran.value ≡ value_of_work self.old.hub.pool ran.number }
-        ensures { AddsEntry self.old (entry_told (actor.Worker worker) host.Finish (out.Unsigned ran.value)) self.new }
+        ensures next { AddsEntry self.old (entry_told (actor.Worker worker) host.Finish (out.Unsigned ran.value)) self.new }
+        ensures keeps { KeepsStanding self.old.hub self.new.hub }
     {
         let value = ran.value();
         self.parts.finish(worker, ran);
@@ -68,7 +71,8 @@ impl<J: Job, N: Naming> HubState<J, N> {
     /// Constant time. It takes no memory.
     pub fn actor_end(&mut self, actor: Actor, cut: Option<Why>)
         requires { MayEnd self.old.hub actor cut }
-        ensures { AddsEntry self.old (entry_told actor host.ActorEnd (end_told_by cut)) self.new }
+        ensures next { AddsEntry self.old (entry_told actor host.ActorEnd (end_told_by cut)) self.new }
+        ensures keeps { KeepsStanding self.old.hub self.new.hub }
     {
         self.progress.end(actor);
         self.entries

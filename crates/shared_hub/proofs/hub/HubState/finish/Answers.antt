@@ -9,7 +9,7 @@ use Rattle.napi_types.specs.hub.HubStep.{actor_told}
 use Rattle.napi_types.proofs.hub.ServingWorkers.{executing-workers-are-there}
 use Rattle.shared_hub.specs.HubStates.{led_by}
 use Rattle.shared_hub.proofs.EventSteps.{finished-comes, pool-fields}
-use Rattle.shared_hub.proofs.HubHistories.{ComesNext, event-kept, adds-next, leads}
+use Rattle.shared_hub.proofs.HubHistories.{ComesNext, event-kept, adds-next, keeps-on, leads}
 use Rattle.shared_hub.proofs.hub.HubState.finish.Goals as goal
 use Rattle.shared_hub.proofs.hub.HubState.finish.Goals.{After-push_reserved}
 
@@ -31,7 +31,14 @@ invariant_of-self g c =
     (event-kept g.N.Naming.numbers s.entries.items s.limit _ (actor_told (actor.Worker c.args.worker) host.Finish (out.Unsigned c.args.ran.value)) (in_pool (with_finished c.args.worker) h) _ s.progress
     c.self.invariant.0 (comes g c) refl (pool-fields h s.parts s.progress (with_finished c.args.worker) c.self.invariant.1))
 
-pub returns : goal.returns
-returns g c =
+pub returns-clause-next : goal.returns-clause-next
+returns-clause-next g c =
     rw (c.push_reserved.ensures.items, c.actor_entry.ensures, c.value-value.ensures, ← c.self.view_is)
     (adds-next g.N.Naming.numbers c.self.inside.entries.items (actor_told (actor.Worker c.args.worker) host.Finish (out.Unsigned c.args.ran.value)) (comes g c).next)
+
+pub returns-clause-keeps : goal.returns-clause-keeps
+returns-clause-keeps g c =
+    let h : Hub = led_by g.N.Naming.numbers c.self.inside.entries.items in
+    rw (c.push_reserved.ensures.items, c.actor_entry.ensures, c.value-value.ensures, ← c.self.view_is)
+    (keeps-on g.N.Naming.numbers c.self.inside.entries.items (actor_told (actor.Worker c.args.worker) host.Finish (out.Unsigned c.args.ran.value)) (in_pool (with_finished c.args.worker) h)
+    (comes g c) (record { stage = refl; standing = refl; threads = refl; workers = refl }))

@@ -9,7 +9,7 @@ use Rattle.napi_types.specs.hub.HubMoves.{in_pool}
 use Rattle.napi_types.specs.hub.HubStep.{actor_told}
 use Rattle.shared_hub.specs.HubStates.{led_by}
 use Rattle.shared_hub.proofs.EventSteps.{picked-first, start-comes, pool-fields}
-use Rattle.shared_hub.proofs.HubHistories.{ComesNext, event-kept, adds-next}
+use Rattle.shared_hub.proofs.HubHistories.{ComesNext, event-kept, adds-next, keeps-on}
 use Rattle.shared_hub.proofs.hub.HubState.start.Goals as goal
 use Rattle.shared_hub.proofs.hub.HubState.start.Goals.{After-push_reserved}
 
@@ -35,3 +35,10 @@ pub returns-in-Job-clause-event : goal.returns-in-Job-clause-event
 returns-in-Job-clause-event g c =
     rw (c.push_reserved.ensures.items, c.actor_entry.ensures, c.number.ensures, ← c.self.view_is)
     (adds-next g.N.Naming.numbers c.self.inside.entries.items (actor_told (actor.Worker c.args.worker) host.Start (out.Duty (duty.Work c.in-Job.running.number))) (comes g c).next)
+
+pub returns-in-Job-clause-keeps : goal.returns-in-Job-clause-keeps
+returns-in-Job-clause-keeps g c =
+    let h : Hub = led_by g.N.Naming.numbers c.self.inside.entries.items in
+    rw (c.push_reserved.ensures.items, c.actor_entry.ensures, c.number.ensures, ← c.self.view_is)
+    (keeps-on g.N.Naming.numbers c.self.inside.entries.items (actor_told (actor.Worker c.args.worker) host.Start (out.Duty (duty.Work c.in-Job.running.number))) (in_pool (with_started c.args.worker) h)
+    (comes g c) (record { stage = refl; standing = refl; threads = refl; workers = refl }))

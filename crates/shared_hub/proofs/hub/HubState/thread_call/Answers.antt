@@ -8,7 +8,7 @@ use Rattle.shared_hub.specs.HubParts.{hub_with, AnswersWith}
 use Rattle.shared_hub.specs.HubStates.{led_by}
 use Rattle.shared_hub.specs.SharedTries.{thread_entry}
 use Rattle.shared_hub.proofs.EventSteps.{parts-changed}
-use Rattle.shared_hub.proofs.HubHistories.{ComesNext, call-kept, adds-next}
+use Rattle.shared_hub.proofs.HubHistories.{ComesNext, call-kept, call-keeps, adds-next}
 use Rattle.shared_hub.proofs.HubPlaces.{parts-fit}
 use Rattle.shared_hub.proofs.HandedCalls.{thread-comes, thread-waits, finds-none}
 use Rattle.shared_hub.proofs.hub.HubState.thread_call.Goals as goal
@@ -43,6 +43,11 @@ pub returns-in-Ok-Some-clause-reply : goal.returns-in-Ok-Some-clause-reply
 returns-in-Ok-Some-clause-reply g c =
     rw (c.push_reserved.ensures.items, c.make_room.ensures.items, c.thread_entry.ensures, ← c.self.view_is)
     (adds-next g.N.Naming.numbers c.self.inside.entries.items (thread_entry c.args.thread c.args.step c.args.call.now c.in-Ok-Some.reply) (comes g c).next)
+
+pub returns-in-Ok-Some-clause-keeps : goal.returns-in-Ok-Some-clause-keeps
+returns-in-Ok-Some-clause-keeps g c =
+    rw (c.push_reserved.ensures.items, c.make_room.ensures.items, c.thread_entry.ensures, ← c.self.view_is)
+    (call-keeps g.N.Naming.numbers c.self.inside.entries.items (thread_entry c.args.thread c.args.step c.args.call.now c.in-Ok-Some.reply) c.answer.new.self (comes g c))
 
 pub returns-in-Ok-None-clause-waits : goal.returns-in-Ok-None-clause-waits
 returns-in-Ok-None-clause-waits g c =

@@ -22,4 +22,4 @@ returns-clause-stands g c =
     (subst (λ (b : Bool). IsThreadOf g.N.Naming.numbers c.args.hub.now (record t { over = b })) here of) c.args.cut
     (subst (λ (u : ThreadSeen). EndsThread (hub_room g.N.Naming.numbers c.args.hub.now) (drop u.made (thread_calls u.operations)) (actor_end_told c.args.cut)) (sym c.self.view_is)
     c.requires.exact)
-    c.actor_end.ensures
+    c.actor_end.ensures.next

@@ -69,4 +69,4 @@ returns-in-Closing-clause-stands g c =
     (subst (λ (h : HeldWork). IsWorkerOf g.N.Naming.numbers c.args.hub.now (record w { held = h })) none of) in
     subst (λ (h : HeldWork). IsWorkerOf g.N.Naming.numbers c.actor_end.new.self (record w { held = h; over = true })) (sym none)
     (makes-end g.N.Naming.numbers c.start.new.self c.actor_end.new.self c.self.inside.number
-    (subst (λ (s : HubSeen). IsWorkerOf g.N.Naming.numbers s (record w { held = NoWork; over = false })) (sym c.in-Closing.ensures.event) idle) c.actor_end.ensures)
+    (subst (λ (s : HubSeen). IsWorkerOf g.N.Naming.numbers s (record w { held = NoWork; over = false })) (sym c.in-Closing.ensures.event) idle) c.actor_end.ensures.next)

@@ -13,4 +13,4 @@ returns-in-Executed-clause-stands g c =
     (subst (λ (b : Bool). IsWorkerOf g.N.Naming.numbers c.finish.new.self (record w { held = NoWork; over = b })) (sym c.if-self.false)
     (makes-finish g.N.Naming.numbers c.args.hub.now c.finish.new.self c.self.inside.number c.in-Executed.ran _
     (subst (λ (b : Bool). IsWorkerOf g.N.Naming.numbers c.args.hub.now (record w { held = Executed c.in-Executed.ran; over = b })) c.if-self.false
-    (subst (λ (h : HeldWork). IsWorkerOf g.N.Naming.numbers c.args.hub.now (record w { held = h })) held of)) c.finish.ensures))
+    (subst (λ (h : HeldWork). IsWorkerOf g.N.Naming.numbers c.args.hub.now (record w { held = h })) held of)) c.finish.ensures.next))
