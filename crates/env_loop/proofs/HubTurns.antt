@@ -27,7 +27,6 @@ use Rattle.napi_types.specs.environment.Tickets.{ticket_in, next_ticket}
 use Rattle.napi_types.specs.hub.Hub.{Hub, stage_of, stage_places, quiet_hub}
 use Rattle.napi_types.specs.hub.HubMoves.{loop_end_of}
 use Rattle.napi_types.specs.hub.HubSteps.{hub_step}
-use Rattle.napi_types.specs.runs.Begins.{told_at}
 use Rattle.napi_types.specs.runs.Choice.{local_choice, local_choice_in, hub_choice, choice}
 use Rattle.napi_types.specs.runs.Loop.{Event, Opens, Inits, Tickets, Goes, EndsLoop, Drains, FinalsCome, IsGone}
 use Rattle.napi_types.specs.runs.LoopEnds.{loop_end_told}

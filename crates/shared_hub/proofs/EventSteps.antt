@@ -1,5 +1,5 @@
 -- What each event of the hub leaves of the fields.
-use Rattle.std.proofs.Common.{◌≡◌, ◌≢◌, ◌∙◌, ◌<◌, ◌≤◌, ℕ, ◌+◌, ◌-◌, ◌&&◌, Bool, true, false, not, IsTrue, nat_lt, List, [], ◌∷◌, length, map, refl, ap, sym, subst, arith, Option, Some, None, is_some, is_none, option_map}
+use Rattle.std.proofs.Common.{◌≡◌, ◌≢◌, ◌∙◌, ℕ, ◌+◌, ◌-◌, ◌&&◌, true, false, not, IsTrue, nat_lt, List, [], ◌∷◌, length, map, refl, ap, sym, subst, arith, Option, Some, None, is_some, is_none, option_map}
 use Rattle.std.specs.Option.{option_and_then, option_map_or, unwrap_or}
 use Rattle.napi_types.specs.declared.duties.DueInfo.{DueInfo}
 use Rattle.napi_types.specs.declared.entry.Actor.{Actor}
@@ -21,19 +21,17 @@ use Rattle.napi_types.specs.parts.Functions.{closed, finished}
 use Rattle.napi_types.specs.parts.Pool.{WorkPool, drained, work_numbered, executed_by, value_of_work, with_started, started_from, with_finished}
 use Rattle.napi_types.specs.parts.Works.{Work}
 use Rattle.napi_types.specs.hub.HistoryLaws.{KeepsStanding}
-use Rattle.napi_types.specs.hub.Hub.{Hub, Stage, Before, Going, Looped, Drained, Final, stage_after, threads_left, workers_left}
+use Rattle.napi_types.specs.hub.Hub.{Hub, Before, Going, Looped, Drained, stage_after}
 use Rattle.napi_types.specs.hub.HubEvents.{staged, drained_hub, may_move, is_moving, delivery_entry, begin_step, close_step, finish_step, frame_end_step, is_frame_end}
 use Rattle.napi_types.specs.hub.HubMoves.{HubMove, Delivers, Closes, Finishes, hub_move, in_function, in_pool, with_delivered, without_duty}
-use Rattle.napi_types.specs.hub.HubStep.{HubStep, actor_told}
-use Rattle.napi_types.specs.hub.HubSteps.{IsHubNext, hub_step}
-use Rattle.napi_types.specs.hub.ThreadSteps.{is_thread_there, is_thread_end, is_gone_on}
+use Rattle.napi_types.specs.hub.HubStep.{actor_told}
+use Rattle.napi_types.specs.hub.ThreadSteps.{is_thread_end, is_gone_on}
 use Rattle.napi_types.specs.hub.WorkerSteps.{is_worker_there, start_step, work_end_step}
 use Rattle.napi_types.proofs.plain.Conditions.{and-right, and-both}
 use Rattle.async_work.specs.Executing.{StartedWork}
 use Rattle.async_work.specs.Picking.{work_to_start, first_to_start}
 use Rattle.shared_hub.specs.declared.progress.HubProgress.{HubProgress}
 use Rattle.shared_hub.specs.declared.progress.HubStage.{HubStage}
-use Rattle.shared_hub.specs.declared.progress.HubStage.TheVariants as code
 use Rattle.shared_hub.specs.HubParts.{HubParts, hub_with, after_move, drained_parts}
 use Rattle.shared_hub.specs.HubProgress.{hub_stage, is_left, without_actor}
 use Rattle.shared_hub.specs.HubStates.{KeepsStage}

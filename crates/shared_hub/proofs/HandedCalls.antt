@@ -1,5 +1,5 @@
 -- What a shared call of the environment and a call of a thread leave of the fields.
-use Rattle.std.proofs.Common.{◌≡◌, ◌∙◌, ◌<◌, ◌≤◌, ◌⊎◌, inl, inr, ℕ, ◌+◌, ◌==◌, ◌&&◌, ◌||◌, Bool, true, false, not, cond, IsTrue, nat_lt, List, length, refl, ap, sym, subst, arith, Option, Some, None, is_some, is_none, option_map, Result, Ok, Err, IfOk}
+use Rattle.std.proofs.Common.{◌≡◌, ◌∙◌, ◌≤◌, inl, ℕ, ◌+◌, ◌==◌, ◌&&◌, ◌||◌, Bool, true, false, not, IsTrue, nat_lt, List, length, refl, ap, sym, subst, arith, Option, Some, None, is_some, is_none, option_map}
 use Rattle.napi_types.specs.declared.call.Call.{Call}
 use Rattle.napi_types.specs.declared.call.Call.TheVariants as call
 use Rattle.napi_types.specs.declared.call.Mode.{Mode}
@@ -13,22 +13,22 @@ use Rattle.napi_types.specs.declared.entry.Reply.{Reply}
 use Rattle.napi_types.specs.declared.entry.SharedCall.{SharedCall}
 use Rattle.napi_types.specs.declared.status.Status.{Status}
 use Rattle.napi_types.specs.environment.SharedCalls.{handed_entry}
-use Rattle.napi_types.specs.plain.Guards.{is_shared, is_registering, is_growing}
-use Rattle.napi_types.specs.plain.Replies.{Answer, plain}
+use Rattle.napi_types.specs.plain.Guards.{is_shared, is_growing}
+use Rattle.napi_types.specs.plain.Replies.{plain}
 use Rattle.napi_types.specs.plain.Room.{need}
 use Rattle.napi_types.specs.parts.Functions.{FunctionState, is_open, is_full_queue, call_status}
 use Rattle.napi_types.specs.parts.Pool.{WorkPool}
-use Rattle.napi_types.specs.hub.GivenSteps.{is_looped, is_failure, is_timely, is_fresh_work, work_number, answer_unless_given}
+use Rattle.napi_types.specs.hub.GivenSteps.{is_looped, is_timely, is_fresh_work, work_number, answer_unless_given}
 use Rattle.napi_types.specs.hub.HistoryRoom.{reserved_history}
 use Rattle.napi_types.specs.hub.Hub.{Hub, Stage, Before, Going, Looped, Drained, Final, new_hub, is_past_drain}
 use Rattle.napi_types.specs.hub.HubCalls.{hub_answer, function_at, call_answer, called_answer, is_thread_call}
-use Rattle.napi_types.specs.hub.HubStep.{HubStep, answered_step}
+use Rattle.napi_types.specs.hub.HubStep.{answered_step}
 use Rattle.napi_types.specs.hub.ThreadSteps.{is_thread_there, nothing_given}
 use Rattle.napi_types.proofs.plain.Conditions.{and-both}
 use Rattle.napi_types.proofs.hub.ClosingPools.{pools-close-at-the-drain}
 use Rattle.shared_hub.specs.declared.naming.Numbers.{Numbers}
 use Rattle.shared_hub.specs.declared.progress.HubProgress.{HubProgress}
-use Rattle.shared_hub.specs.HubParts.{HubParts, hub_with, AnswersWith, MustWait, AnswersOrWaits, MayQueue, IsMakeable, WouldAccept}
+use Rattle.shared_hub.specs.HubParts.{HubParts, hub_with, AnswersWith, MustWait, MayQueue, IsMakeable, WouldAccept}
 use Rattle.shared_hub.specs.HubStates.{led_by, hub_seen, hub_room}
 use Rattle.shared_hub.specs.KeptHubs.{IsKeptHistory, AreFieldsOf}
 use Rattle.shared_hub.specs.SharedTries.{given_by, is_making_function, NamesTarget, IsHeldAtFirst, RepliesBy, RepliesTo, thread_entry, MayFindNoMemory}

@@ -1,18 +1,17 @@
 -- The history of a hub, with its next entry.
-use Rattle.std.proofs.Common.{◌≡◌, ◌∙◌, ◌<◌, ◌≤◌, ℕ, ◌+◌, Bool, true, not, IsTrue, nat_lt, Some, List, [], ◌∷◌, ◌++◌, length, length-append, min, refl, ap, sym, subst, arith}
+use Rattle.std.proofs.Common.{◌≡◌, ◌∙◌, ◌<◌, ◌≤◌, ℕ, ◌+◌, true, not, IsTrue, nat_lt, Some, List, ◌++◌, length, length-append, min, refl, ap, sym, subst, arith}
 use Rattle.napi_types.specs.declared.call.Call.{Call}
 use Rattle.napi_types.specs.declared.entry.Entry.{Entry}
-use Rattle.napi_types.specs.declared.entry.HostStep.{HostStep}
 use Rattle.napi_types.specs.declared.entry.What.{What}
 use Rattle.napi_types.specs.declared.entry.What.TheVariants as what
 use Rattle.napi_types.specs.plain.Lists.{one}
-use Rattle.napi_types.specs.plain.Room.{fits_in, need, first_places, most_entries}
+use Rattle.napi_types.specs.plain.Room.{fits_in, need, first_places}
 use Rattle.napi_types.specs.declared.duties.DueInfo.{DueInfo}
 use Rattle.napi_types.specs.hub.HistoryLaws.{LeadsTo, KeepsStanding}
-use Rattle.napi_types.specs.hub.HistoryRoom.{history_room, reserved_history}
+use Rattle.napi_types.specs.hub.HistoryRoom.{reserved_history}
 use Rattle.napi_types.specs.hub.Hub.{Hub, new_hub, is_past_drain}
 use Rattle.napi_types.specs.hub.HubStep.{HubStep}
-use Rattle.napi_types.specs.hub.HubSteps.{IsHubNext, hub_step, hub_along}
+use Rattle.napi_types.specs.hub.HubSteps.{IsHubNext, hub_step}
 use Rattle.napi_types.proofs.hub.GrowingHistories.{along-more, replays-more}
 use Rattle.napi_types.proofs.hub.HubCases.{hub-case}
 use Rattle.napi_types.proofs.hub.HubHolds.{led-sound}
@@ -20,7 +19,7 @@ use Rattle.napi_types.proofs.hub.HubRooms.{places_beside, hub-room}
 use Rattle.shared_hub.specs.declared.naming.Numbers.{Numbers}
 use Rattle.shared_hub.specs.declared.progress.HubProgress.{HubProgress}
 use Rattle.shared_hub.specs.HubParts.{HubParts, hub_with}
-use Rattle.shared_hub.specs.HubStates.{HubSeen, led_by, hub_seen, AddsEntry, KeepsStage}
+use Rattle.shared_hub.specs.HubStates.{led_by, hub_seen, AddsEntry, KeepsStage}
 use Rattle.shared_hub.specs.KeptHubs.{IsKeptHistory, AreFieldsOf}
 
 -- the entry comes next, and leaves this

@@ -1,9 +1,9 @@
 -- Why the loop ends, and when `finals` comes.
-use Rattle.std.proofs.Common.{◌≡◌, ◌∙◌, Bool, true, false, cond, not, ◌&&◌, refl, ap, sym, Option, Some, None, is_some, is_none}
+use Rattle.std.proofs.Common.{◌≡◌, ◌∙◌, Bool, true, false, cond, ◌&&◌, refl, ap, sym, Option, Some, None, is_some, is_none}
 use Rattle.std.specs.Bool.{then_some}
 use Rattle.napi_types.specs.declared.entry.LoopEnd.TheVariants as loop_end
 use Rattle.napi_types.specs.hub.Hub.{Hub}
-use Rattle.napi_types.specs.hub.HubMoves.{hub_move, is_idle, is_quiet, idle_reason, is_spent, loop_end_of}
+use Rattle.napi_types.specs.hub.HubMoves.{hub_move, is_idle, is_quiet, idle_reason, loop_end_of}
 
 -- THE LOOP, WHERE EXIT WAS NOT ASKED
 pub due-goes-on : (h : Hub) (due : Bool) → due ≡ true → None ≡ loop_end_of false due h

@@ -1,7 +1,7 @@
 use Rattle.std.proofs.Common.{refl}
 use Rattle.napi_types.specs.hub.Hub.{Hub}
 use Rattle.shared_hub.specs.HubStates.{led_by}
-use Rattle.shared_hub.proofs.HubHistories.{ComesNext, event-kept, adds-next, keeps-on, event-has-place}
+use Rattle.shared_hub.proofs.HubHistories.{event-kept, adds-next, keeps-on}
 use Rattle.napi_types.specs.declared.entry.HostStep.TheVariants as host
 use Rattle.napi_types.specs.hub.HubStep.{actor_told}
 use Rattle.shared_hub.specs.SharedTries.{MayEnd, actor_end_told}

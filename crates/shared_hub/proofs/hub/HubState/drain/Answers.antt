@@ -1,7 +1,7 @@
 use Rattle.std.proofs.Common.{refl}
 use Rattle.napi_types.specs.hub.Hub.{Hub}
 use Rattle.shared_hub.specs.HubStates.{led_by}
-use Rattle.shared_hub.proofs.HubHistories.{ComesNext, event-kept, adds-next, event-has-place}
+use Rattle.shared_hub.proofs.HubHistories.{event-kept, adds-next}
 use Rattle.std.proofs.Common.{◌≡◌, ◌∙◌, ap, length, sym}
 use Rattle.napi_types.specs.declared.entry.HostStep.TheVariants as host
 use Rattle.napi_types.specs.declared.entry.Out.TheVariants as out

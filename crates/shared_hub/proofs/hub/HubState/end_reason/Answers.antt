@@ -1,6 +1,6 @@
-use Rattle.std.proofs.Common.{◌≡◌, ◌∙◌, ap, sym, true, false, Some, None, is_some}
+use Rattle.std.proofs.Common.{◌∙◌, ap, sym, is_some}
 use Rattle.napi_types.specs.hub.Hub.{Hub}
-use Rattle.napi_types.specs.hub.HubMoves.{hub_move, is_idle, is_quiet}
+use Rattle.napi_types.specs.hub.HubMoves.{hub_move, is_idle}
 use Rattle.shared_hub.specs.HubStates.{led_by}
 use Rattle.shared_hub.proofs.EventSteps.{hub-of_fields}
 use Rattle.shared_hub.proofs.LoopReasons.{due-goes-on, move-goes-on, idle-ends, quiet-ends}

@@ -1,7 +1,6 @@
-use Rattle.std.proofs.Common.{◌≡◌, ◌∙◌, ◌≤◌, ◌+◌, ℕ, arith, sym, ap, refl, length, None, inl}
+use Rattle.std.proofs.Common.{◌≡◌, ◌≤◌, ℕ, arith, refl}
 use Rattle.napi_types.specs.declared.entry.Actor.TheVariants as actor
 use Rattle.napi_types.specs.environment.SharedCalls.{handed_entry}
-use Rattle.napi_types.specs.plain.Room.{need}
 use Rattle.napi_types.specs.hub.Hub.{Hub}
 use Rattle.napi_types.specs.hub.HistoryRoom.{reserved_history}
 use Rattle.shared_hub.specs.HubParts.{hub_with}

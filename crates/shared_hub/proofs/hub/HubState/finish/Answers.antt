@@ -1,8 +1,8 @@
-use Rattle.std.proofs.Common.{◌≡◌, ◌∙◌, ap, sym, refl, Some, is_some}
+use Rattle.std.proofs.Common.{◌≡◌, ap, refl, Some, is_some}
 use Rattle.napi_types.specs.declared.entry.Actor.TheVariants as actor
 use Rattle.napi_types.specs.declared.entry.HostStep.TheVariants as host
 use Rattle.napi_types.specs.declared.entry.Out.TheVariants as out
-use Rattle.napi_types.specs.parts.Pool.{executed_by, value_of_work, with_finished}
+use Rattle.napi_types.specs.parts.Pool.{executed_by, with_finished}
 use Rattle.napi_types.specs.hub.Hub.{Hub}
 use Rattle.napi_types.specs.hub.HubMoves.{in_pool}
 use Rattle.napi_types.specs.hub.HubStep.{actor_told}

@@ -1,4 +1,4 @@
-use Rattle.std.proofs.Common.{◌≡◌, ◌∙◌, ap, sym, subst, refl, IsTrue, Some, None}
+use Rattle.std.proofs.Common.{◌≡◌, ◌∙◌, ap, sym, refl, IsTrue, Some, None}
 use Rattle.napi_types.specs.declared.entry.HostStep.TheVariants as host
 use Rattle.napi_types.specs.declared.entry.Out.TheVariants as out
 use Rattle.napi_types.specs.plain.Entries.{host_entry}
@@ -8,7 +8,7 @@ use Rattle.napi_types.specs.hub.HubMoves.{Delivers, Closes, Finishes, hub_move, 
 use Rattle.shared_hub.specs.HubParts.{after_move}
 use Rattle.shared_hub.specs.HubStates.{led_by}
 use Rattle.shared_hub.proofs.EventSteps.{hub-of_fields, delivery-comes, close-comes, finish-comes, delivered-fields, delivered-keeps, moved-fields, mover-is-alone}
-use Rattle.shared_hub.proofs.HubHistories.{ComesNext, event-kept, adds-next, begun-stands, led-on, keeps-stage-on}
+use Rattle.shared_hub.proofs.HubHistories.{event-kept, adds-next, begun-stands, led-on, keeps-stage-on}
 use Rattle.shared_hub.proofs.hub.HubState.poll.Goals as goal
 
 pub invariant_of-self : goal.invariant_of-self

@@ -1,4 +1,4 @@
-use Rattle.std.proofs.Common.{◌≡◌, ◌∙◌, ap, sym, refl, false, Some, None, List, ◌∷◌, ℕ}
+use Rattle.std.proofs.Common.{◌∙◌, ap, sym, refl}
 use Rattle.napi_types.specs.declared.entry.Actor.TheVariants as actor
 use Rattle.napi_types.specs.declared.entry.Duty.TheVariants as duty
 use Rattle.napi_types.specs.declared.entry.HostStep.TheVariants as host

@@ -1,10 +1,9 @@
-use Rattle.std.proofs.Common.{◌≡◌, ◌∙◌, ◌≤◌, ◌+◌, ℕ, arith, sym, ap, refl, length, None, inl}
+use Rattle.std.proofs.Common.{◌≡◌, ◌≤◌, ℕ, arith, refl}
 use Rattle.napi_types.specs.declared.entry.Actor.TheVariants as actor
-use Rattle.napi_types.specs.plain.Room.{need}
 use Rattle.napi_types.specs.hub.Hub.{Hub}
 use Rattle.napi_types.specs.hub.HistoryRoom.{reserved_history}
 use Rattle.napi_types.specs.hub.ThreadSteps.{nothing_given}
-use Rattle.shared_hub.specs.HubParts.{hub_with, AnswersWith}
+use Rattle.shared_hub.specs.HubParts.{hub_with}
 use Rattle.shared_hub.specs.HubStates.{led_by}
 use Rattle.shared_hub.specs.SharedTries.{thread_entry}
 use Rattle.shared_hub.proofs.EventSteps.{parts-changed}

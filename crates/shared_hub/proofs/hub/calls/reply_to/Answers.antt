@@ -1,4 +1,3 @@
-use Rattle.std.proofs.Common.{None}
 use Rattle.shared_hub.specs.SharedTries.{given_by}
 use Rattle.shared_hub.proofs.HandedCalls.{env-never-waits}
 use Rattle.shared_hub.proofs.hub.calls.reply_to.Goals as goal
