@@ -1,1 +1,2 @@
-pub mod FittingHubs
+mod FittingHubs
+mod ThreadTests

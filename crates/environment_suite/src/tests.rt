@@ -4,6 +4,7 @@ ghost use Rattle.std.specs.Prelude.{◌≡◌, Ok};
 use napi_types::{Duty, NoMemory, Out, Reply, Why};
 use std::process::Abort;
 
+mod actors;
 mod calls;
 mod journals;
 mod shared;
