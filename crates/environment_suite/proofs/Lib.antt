@@ -1,2 +1,2 @@
-mod FittingHubs
-mod ThreadTests
+pub mod FittingHubs
+pub mod ThreadTests
