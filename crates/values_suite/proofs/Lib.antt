@@ -1,1 +1,2 @@
 pub mod FewItems
+pub mod HubsGoOn
