@@ -2,6 +2,7 @@ pub mod ActorsStand
 pub mod CallTurns
 pub mod CutTurns
 pub mod EndTurns
+pub mod FollowedRuns
 pub mod FrameTurns
 pub mod HubTurns
 pub mod LocalFrames

@@ -5,6 +5,7 @@
 #![tactic(auto)]
 
 mod actor;
+pub mod recorded_laws;
 mod run;
 mod turn;
 
