@@ -29,7 +29,7 @@ histories-go-on threads (x ∷ before) (y ∷ after) rows is =
     let first : y ≡ x = ap (λ rs. option_map_or (λ (r : Row). r.entry) (head rs) y) is in
     (later.0, ap (λ z. z ∷ after) first ∙ ap (λ zs. x ∷ zs) later.1, later.2)
 
-other-actor : (threads : ℕ) (a : Actor) → pass_of threads a ≢ 0 → is_environment a ≡ false
+pub other-actor : (threads : ℕ) (a : Actor) → pass_of threads a ≢ 0 → is_environment a ≡ false
 other-actor threads actor.Env other = absurd (other refl)
 other-actor threads (actor.Thread t) other = refl
 other-actor threads (actor.Worker w) other = refl

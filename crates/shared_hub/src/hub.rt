@@ -15,11 +15,12 @@ use crate::naming::Naming;
 use crate::parts::SharedParts;
 use crate::progress::HubProgress;
 use crate::room::FIRST_PLACES;
-use crate::sleepers::Sleepers;
+use crate::sleepers::{Sleepers, WaitsFor};
 use async_work::Job;
 use napi_types::{Entry, EntryList, Limits, Listed, NoMemory};
 use std::alloc::Global;
 use std::marker::{Model, PhantomData};
+use turn_lock::Told;
 
 /// The state of a hub: its works, its thread-safe functions, how far it has come, and its history.
 ///
@@ -46,6 +47,16 @@ impl<J: Job, N: Naming> Model for HubState<J, N> {
 
     ghost invariant = { λ s. IsKeptHistory N.numbers s.entries.items s.limit (vec_capacity s.entries)
         × AreFieldsOf (led_by N.numbers s.entries.items) s.parts s.progress };
+}
+
+impl<J: Job, N: Naming> Told for HubState<J, N> {
+    ghost use Rattle.shared_hub.specs.HubRows.{rows_of};
+
+    ghost told = { λ s. rows_of N.numbers.threads s.history };
+
+    fn told_len(&self) -> u64 {
+        self.entries.len() as u64
+    }
 }
 
 impl<J: Job, N: Naming> HubState<J, N> {
@@ -110,6 +121,27 @@ impl<J: Job, N: Naming> HubState<J, N> {
         ensures { IsLedHub N.numbers self.now }
     {
         let _limit = self.limit;
+    }
+
+    /// Notes that the pass of this number will sleep, until it is rung. It has no meaning, and takes no memory.
+    pub fn note_sleep(&mut self, number: u32, why: WaitsFor)
+        ensures { self.new ≡ self.old }
+    {
+        self.sleepers.fall_asleep(number, why);
+    }
+
+    /// The passes that are to be rung, a bit for each remainder of their numbers by 64. None is to be rung after that. It has no meaning.
+    pub fn take_rings(&mut self) -> u64
+        ensures { self.new ≡ self.old }
+    {
+        self.sleepers.take_rings()
+    }
+
+    /// How many workers there are. Constant time.
+    pub fn workers(&self) -> u32
+        ensures { result ≡ self.now.hub.workers }
+    {
+        self.progress.workers
     }
 
     /// How many places the history owes. Constant time.

@@ -16,4 +16,5 @@ mod tries;
 
 pub use hub::HubState;
 pub use naming::{Naming, Numbers};
+pub use sleepers::WaitsFor;
 pub use tries::{Polled, ThreadTried};

@@ -1,10 +1,10 @@
 //! The works and the thread-safe functions of a hub: what they answer to each shared call, and what they do of their own.
 ghost use Rattle.std.specs.Prelude.{◌≡◌, ◌+◌, ◌≤◌, ◌<◌, ◌&&◌, [], true, false, not, length, sum_by, is_some, option_map, Some, None, IfOk, IfSome, OnErr, IsTrue};
-ghost use Rattle.napi_types.specs.parts.Pool.{new_pool, executed_by, value_of_work, with_started, with_finished};
+ghost use Rattle.napi_types.specs.parts.Pool.{new_pool, first_completion, executed_by, value_of_work, with_started, with_finished};
 ghost use Rattle.napi_types.specs.plain.Guards.{is_shared, is_growing};
 ghost use Rattle.napi_types.specs.plain.Lists.{is_empty};
 ghost use Rattle.napi_types.specs.hub.Hub.{Hub};
-ghost use Rattle.napi_types.specs.hub.HubMoves.{hub_move, is_idle};
+ghost use Rattle.napi_types.specs.hub.HubMoves.{Delivers, first_move, hub_move, is_idle};
 ghost use Rattle.napi_types.specs.plain.Room.{most_entries};
 ghost use Rattle.async_work.specs.Picking.{is_closing, is_nothing, picked_work, first_to_start};
 ghost use Rattle.shared_hub.specs.HubParts.{hub_with, parts_places, ArePartsWithin, MayQueue, IsMakeable, AnswersOrWaits, WouldAccept, after_move, drained_parts};
@@ -13,9 +13,10 @@ ghost use Rattle.shared_hub.specs.HubTries.{polled_move, IfBegun, unspent_job};
 mod functions;
 mod works;
 
+use crate::sleepers::is_mark;
 use crate::tries::Polled;
 use async_work::{Job, Picked, Pool, Ran};
-use napi_types::{Actor, Call, Given, NoMemory, Reply};
+use napi_types::{Actor, Call, Given, NoMemory, Reply, TsfnId};
 use std::alloc::Global;
 use std::marker::Model;
 use tsfn::{Functions, Moved};
@@ -103,10 +104,32 @@ impl<J: Job> SharedParts<J> {
         ensures left { (h : Hub) → hub_with self.new h ≡ after_move (polled_move result) (hub_with self.old h) }
         ensures unspent { IfBegun result (λ due job. option_map J.spec job ≡ unspent_job self.old.pool due) }
     {
-        if let Some(finished) = self.pool.take_finished() {
-            let (due, job) = finished.into_due();
-            return Polled::Begin(due, job);
+        if self.pool.has_finished() {
+            self.take_completion()
+        } else {
+            self.take_function_move()
         }
+    }
+
+    /// The completion of the work that came out first begins. `Nothing` exactly where none did, and nothing changes.
+    fn take_completion(&mut self) -> Polled<J>
+        ensures told { polled_move result ≡ option_map Delivers (first_completion self.old.pool) }
+        ensures left { (h : Hub) → hub_with self.new h ≡ after_move (polled_move result) (hub_with self.old h) }
+        ensures unspent { IfBegun result (λ due job. option_map J.spec job ≡ unspent_job self.old.pool due) }
+    {
+        let Some(finished) = self.pool.take_finished() else {
+            return Polled::Nothing;
+        };
+        let (due, job) = finished.into_due();
+        Polled::Begin(due, job)
+    }
+
+    /// The function with the lowest number that has something to do does it. `Nothing` exactly where none has, and nothing changes.
+    fn take_function_move(&mut self) -> Polled<J>
+        ensures told { polled_move result ≡ first_move self.old.functions }
+        ensures left { (h : Hub) → hub_with self.new h ≡ after_move (polled_move result) (hub_with self.old h) }
+        ensures unspent { IfBegun result (λ due job. option_map J.spec job ≡ unspent_job self.old.pool due) }
+    {
         match self.functions.take_move() {
             Some(Moved::Delivers(due)) => Polled::Begin(due, None),
             Some(Moved::Closes(id)) => Polled::Closed(id),
@@ -141,6 +164,14 @@ impl<J: Job> SharedParts<J> {
             && self.pool.running() == 0
             && self.pool.finished() == 0
             && self.functions.are_done()
+    }
+
+    /// Whether one that waits for room in the queue of a function is to be rung. Constant time.
+    pub(crate) fn is_at_mark(&self, id: TsfnId) -> bool {
+        match self.functions.queue(id) {
+            Some((left, most)) => is_mark(left, most as usize),
+            None => false,
+        }
     }
 
     /// How many works wait for a worker. Constant time.

@@ -1,19 +1,211 @@
-//! Who sleeps, and who is to be rung.
+//! Who sleeps, for what, and who is to be rung.
+//!
+//! Who will sleep notes it under its turn. Who gives a reason to wake up notes under its own turn whom to ring. No contract sees the notes.
+use napi_types::{Call, Release, Status, TsfnId};
 
-/// A note of which passes sleep and of which are to be rung once the turn is given back, a bit for each pass number. It has no meaning:
-/// contracts do not see it, and no answer of the hub depends on it.
+/// For what a thread, a worker or the environment sleeps.
+#[derive(Clone, Copy, Debug, PartialEq, Eq)]
+pub enum WaitsFor {
+    /// A thread, for `go`.
+    Go,
+    /// A thread, for room in the queue of this function, or for its closing.
+    Room(TsfnId),
+    /// A worker, for a work or for the drain.
+    Work,
+    /// The environment, for any entry of a thread or a worker.
+    Entry,
+}
+
+/// What is noted of the passes whose numbers have one remainder by 64. They are rung together.
+#[derive(Clone, Copy)]
+enum SleepingPlace {
+    Awake,
+    /// When it fell asleep, counted in sleeps, and for what it sleeps.
+    Sleeps(u64, WaitsFor),
+    /// Several sleep, for this and that.
+    Several,
+}
+
+impl SleepingPlace {
+    /// One more falls asleep there.
+    fn with(self, why: WaitsFor, now: u64) -> SleepingPlace {
+        match self {
+            SleepingPlace::Awake => SleepingPlace::Sleeps(now, why),
+            SleepingPlace::Sleeps(since, before) => {
+                if before == why {
+                    SleepingPlace::Sleeps(since, why)
+                } else {
+                    SleepingPlace::Several
+                }
+            }
+            SleepingPlace::Several => SleepingPlace::Several,
+        }
+    }
+
+    /// For what one sleeps there, where it is known.
+    fn sleeps_for(self) -> Option<WaitsFor> {
+        match self {
+            SleepingPlace::Sleeps(_, why) => Some(why),
+            _ => None,
+        }
+    }
+
+    /// Since when one sleeps there for this, where one does. Where several sleep, one may.
+    fn since(self, why: WaitsFor) -> Option<u64> {
+        match self {
+            SleepingPlace::Awake => None,
+            SleepingPlace::Sleeps(since, before) => {
+                if before == why { Some(since) } else { None }
+            }
+            SleepingPlace::Several => Some(0),
+        }
+    }
+}
+
+/// A note of which passes sleep, and of which are to be rung once the turn is given back. It has no meaning: contracts do not see it, and
+/// no answer of the hub depends on it.
 #[derive(Clone, Copy)]
 pub(crate) struct Sleepers {
-    pub(crate) asleep: u64,
-    pub(crate) to_ring: u64,
+    places: [SleepingPlace; 64],
+    // A bit for each place in which one sleeps.
+    asleep: u64,
+    // A bit for each place that is to be rung.
+    to_ring: u64,
+    // How often one fell asleep.
+    sleeps: u64,
 }
 
 impl Sleepers {
     /// Nobody sleeps.
     pub(crate) fn new() -> Sleepers {
         Sleepers {
+            places: [SleepingPlace::Awake; 64],
             asleep: 0,
             to_ring: 0,
+            sleeps: 0,
         }
     }
+
+    /// The pass of this number will sleep.
+    pub(crate) fn fall_asleep(&mut self, number: u32, why: WaitsFor) {
+        let number = number as usize % 64;
+        let before = self.places[number];
+        self.places[number] = before.with(why, self.sleeps);
+        self.asleep |= bit(number);
+        self.sleeps = self.sleeps.wrapping_add(1);
+    }
+
+    /// Which places are to be rung, a bit for each. None is after that.
+    pub(crate) fn take_rings(&mut self) -> u64 {
+        let rings = self.to_ring;
+        self.to_ring = 0;
+        rings
+    }
+
+    /// All that sleep for this are to be rung.
+    pub(crate) fn ring_all(&mut self, why: WaitsFor) {
+        if self.asleep == 0 {
+            return;
+        }
+        for number in 0..64 {
+            if self.since(number, why).is_some() {
+                self.ring(number);
+            }
+        }
+    }
+
+    /// The first that fell asleep of those that sleep for this is to be rung.
+    pub(crate) fn ring_first(&mut self, why: WaitsFor) {
+        if let Some(number) = self.first(why) {
+            self.ring(number);
+        }
+    }
+
+    /// One is to be rung for each function for whose room one sleeps.
+    pub(crate) fn ring_first_of_each(&mut self) {
+        if self.asleep == 0 {
+            return;
+        }
+        let before = *self;
+        for number in 0..64 {
+            if before.is_first_for_room(number) {
+                self.ring(number);
+            }
+        }
+    }
+
+    /// All that sleep are to be rung.
+    pub(crate) fn ring_everyone(&mut self) {
+        for number in 0..64 {
+            if self.asleep & bit(number) > 0 {
+                self.ring(number);
+            }
+        }
+    }
+
+    /// After a shared call, whoever made it: a work that was queued rings a worker, and an abort all that wait for the function.
+    pub(crate) fn after_call(&mut self, call: &Call, status: Status) {
+        if status != Status::Ok {
+            return;
+        }
+        match call {
+            Call::QueueAsyncWork(_) => self.ring_first(WaitsFor::Work),
+            Call::ReleaseThreadsafeFunction(id, Release::Abort) => {
+                self.ring_all(WaitsFor::Room(*id))
+            }
+            _ => {}
+        }
+    }
+
+    /// Whether the place is the first that sleeps for room, of those that sleep for that function's. Where several sleep, one may be.
+    fn is_first_for_room(&self, number: usize) -> bool {
+        let place = self.places[number % 64];
+        match place.sleeps_for() {
+            Some(WaitsFor::Room(id)) => self.first(WaitsFor::Room(id)) == Some(number),
+            Some(_) => false,
+            None => self.asleep & bit(number) > 0,
+        }
+    }
+
+    /// The place in which one fell asleep first, of those that sleep for this.
+    fn first(&self, why: WaitsFor) -> Option<usize> {
+        if self.asleep == 0 {
+            return None;
+        }
+        let mut first = None;
+        let mut earliest = u64::MAX;
+        for number in 0..64 {
+            if let Some(since) = self.since(number, why) {
+                if first.is_none() || since < earliest {
+                    first = Some(number);
+                    earliest = since;
+                }
+            }
+        }
+        first
+    }
+
+    /// Since when one sleeps for this in a place, where one does. Where several sleep, one may.
+    fn since(&self, number: usize, why: WaitsFor) -> Option<u64> {
+        let place = self.places[number % 64];
+        place.since(why)
+    }
+
+    /// A place is to be rung. Who sleeps there sleeps no more.
+    fn ring(&mut self, number: usize) {
+        self.places[number % 64] = SleepingPlace::Awake;
+        self.asleep &= !bit(number);
+        self.to_ring |= bit(number);
+    }
+}
+
+/// Whether one that waits for room is to be rung once so many items are left of so many that may wait: where none is left, and at a half, a
+/// quarter and an eighth of eight or more.
+pub(crate) fn is_mark(left: usize, most: usize) -> bool {
+    left == 0 || most >= 8 && (left == most / 2 || left == most / 4 || left == most / 8)
+}
+
+/// The bit of a place.
+fn bit(number: usize) -> u64 {
+    1 << (number % 64)
 }

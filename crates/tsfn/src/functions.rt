@@ -6,7 +6,7 @@ ghost use Rattle.std.specs.Option.{option_and_then, is_some};
 ghost use Rattle.napi_types.specs.hub.HistoryRoom.{function_places};
 ghost use Rattle.napi_types.specs.hub.HubMoves.{first_move};
 ghost use Rattle.napi_types.specs.parts.Functions.{FunctionState, new_function, accepted_items, call_status, called, acquire_status, acquired, release_status, released, closed, with_referenced, is_done};
-ghost use Rattle.tsfn.specs.BusyPlaces.{is_busy_at, IsLowestBusy};
+ghost use Rattle.tsfn.specs.BusyPlaces.{is_busy_at, IsLowestBusy, NoneIsBusy};
 ghost use Rattle.tsfn.specs.FunctionList.{function_numbered, status_there, changed_there, tried_there, context_there, functions_after_move};
 ghost use Rattle.tsfn.specs.FunctionMoves.{is_busy, move_of};
 ghost use Rattle.tsfn.specs.KeptFunctions.{holds_loop, MayRecount, IsRecounted};
@@ -214,6 +214,14 @@ impl Functions {
         }
     }
 
+    /// How many items of a function wait, and how many may, 0 for any number. Constant time.
+    pub fn queue(&self, id: TsfnId) -> Option<(usize, u32)> {
+        match self.place_of(id) {
+            Some(place) => Some(self.list[place].queue()),
+            None => None,
+        }
+    }
+
     /// The function with the lowest number that has something to do does it, as [`Tsfn::take_move`]. `None` exactly where none has anything to
     /// do, and then nothing changes.
     ///
@@ -222,7 +230,7 @@ impl Functions {
         ensures told { option_map move_of result ≡ first_move self.old }
         ensures left { self.new ≡ functions_after_move (first_move self.old) self.old }
     {
-        let place = self.overview.busy.lowest()?;
+        let place = self.first_busy()?;
         let function = &mut self.list[place];
         let before = Share::of(function);
         let moved = function.take_move();
@@ -234,7 +242,7 @@ impl Functions {
     pub fn has_move(&self) -> bool
         ensures { result ≡ is_some (first_move self.now) }
     {
-        self.overview.busy.lowest().is_some()
+        self.first_busy().is_some()
     }
 
     /// Every open function begins to close, as at the drain.
@@ -260,6 +268,14 @@ impl Functions {
         ensures { result ≡ sum_by function_places self.now }
     {
         self.overview.places
+    }
+
+    /// Where the function with the lowest number that has something to do stands. `None` exactly where none has anything to do.
+    fn first_busy(&self) -> Option<usize>
+        ensures lowest { IfSome result (λ place. IsLowestBusy (map is_busy self.now) place) }
+        ensures none { IfNone result (NoneIsBusy (map is_busy self.now)) }
+    {
+        self.overview.busy.lowest()
     }
 
     /// Where the function of a number stands.

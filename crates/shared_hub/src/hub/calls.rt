@@ -18,6 +18,7 @@ use super::HubState;
 use crate::naming::Naming;
 use crate::parts::SharedParts;
 use crate::room::{make_room, places_needed};
+use crate::sleepers::WaitsFor;
 use crate::tries::ThreadTried;
 use async_work::Job;
 use napi_types::{Actor, Call, Entry, Given, NoMemory, Out, Reply, SharedCall, Status, What};
@@ -61,6 +62,7 @@ impl<J: Job, N: Naming> HubState<J, N> {
             places_needed(&call.call),
         )?;
         let reply = reply_to(&mut self.parts, call)?;
+        self.sleepers.after_call(&call.call, reply.status);
         self.entries.push_reserved(handed_entry(call, reply));
         Ok(reply)
     }
@@ -98,6 +100,8 @@ impl<J: Job, N: Naming> HubState<J, N> {
             .answer(Actor::Thread(thread), &NOTHING_GIVEN, call)
         {
             Ok(Some(reply)) => {
+                self.sleepers.ring_first(WaitsFor::Entry);
+                self.sleepers.after_call(call, reply.status);
                 self.entries
                     .push_reserved(thread_entry(thread, step, call, reply));
                 ThreadTried::Reply(reply)

@@ -11,6 +11,7 @@ ghost use Rattle.shared_hub.specs.HubStates.{AddsEntry};
 use super::HubState;
 use crate::naming::Naming;
 use crate::progress::HubStage;
+use crate::sleepers::WaitsFor;
 use async_work::Job;
 use napi_types::{Actor, Entry, HostStep, LoopEnd, Out, Reply, Status, What};
 
@@ -21,6 +22,7 @@ impl<J: Job, N: Naming> HubState<J, N> {
         requires alone { self.old.hub.standing ≡ None }
         ensures { AddsEntry self.old (entry_of host.Go out.Nothing) self.new }
     {
+        self.sleepers.ring_all(WaitsFor::Go);
         self.progress.stage = HubStage::Going;
         self.entries
             .push_reserved(host_entry(HostStep::Go, Out::Nothing));
@@ -54,6 +56,7 @@ impl<J: Job, N: Naming> HubState<J, N> {
         ensures count { result ≡ length self.old.hub.pool.queued }
         ensures drained { AddsEntry self.old (entry_of host.Drain (out.Unsigned (length self.old.hub.pool.queued))) self.new }
     {
+        self.sleepers.ring_everyone();
         let count = self.parts.drain();
         self.progress.stage = HubStage::Drained;
         self.entries

@@ -10,9 +10,11 @@ ghost use Rattle.shared_hub.specs.HubTries.{polled_move, AddsMove, IfBegun, IfNo
 use super::HubState;
 use super::events::host_entry;
 use crate::naming::Naming;
+use crate::parts::SharedParts;
+use crate::sleepers::{Sleepers, WaitsFor};
 use crate::tries::Polled;
 use async_work::Job;
-use napi_types::{Actor, Begun, DueInfo, Entry, HostStep, Out, Reply, What};
+use napi_types::{Actor, Begun, Due, DueInfo, Duty, Entry, HostStep, Out, Reply, What};
 
 impl<J: Job, N: Naming> HubState<J, N> {
     /// Makes the hub's next move: the completion of the work that came out first, or else that of the function with the lowest number that
@@ -33,11 +35,13 @@ impl<J: Job, N: Naming> HubState<J, N> {
     {
         match self.parts.take_move() {
             Polled::Begin(due, job) => {
+                note_begin(&mut self.sleepers, &self.parts, &due);
                 self.progress.stands = true;
                 self.entries.push_reserved(delivery_entry(due.info()));
                 Polled::Begin(due, job)
             }
             Polled::Closed(id) => {
+                self.sleepers.ring_all(WaitsFor::Room(id));
                 self.entries
                     .push_reserved(host_entry(HostStep::CloseTsfn, Out::Function(id)));
                 Polled::Closed(id)
@@ -47,7 +51,10 @@ impl<J: Job, N: Naming> HubState<J, N> {
                     .push_reserved(host_entry(HostStep::FinishTsfn, Out::Function(id)));
                 Polled::Finished(id)
             }
-            Polled::Nothing => Polled::Nothing,
+            Polled::Nothing => {
+                self.sleepers.ring_first_of_each();
+                Polled::Nothing
+            }
         }
     }
 
@@ -64,6 +71,15 @@ impl<J: Job, N: Naming> HubState<J, N> {
         let _info = begun.end();
         self.progress.stands = false;
         self.entries.push_reserved(host_entry(HostStep::End, told));
+    }
+}
+
+/// An item that was taken out leaves room, for which one may be rung.
+fn note_begin<J: Job>(sleepers: &mut Sleepers, parts: &SharedParts<J>, due: &Due) {
+    if let Duty::Item(id, _) = due.info().duty {
+        if parts.is_at_mark(id) {
+            sleepers.ring_first(WaitsFor::Room(id));
+        }
     }
 }
 

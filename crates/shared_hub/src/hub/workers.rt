@@ -16,6 +16,7 @@ ghost use Rattle.shared_hub.specs.SharedTries.{MayEnd, actor_end_told as end_tol
 
 use super::HubState;
 use crate::naming::Naming;
+use crate::sleepers::WaitsFor;
 use async_work::{Job, Picked, Ran};
 use napi_types::{Actor, Duty, Entry, HostStep, Out, Reply, Status, What, Why};
 
@@ -35,6 +36,7 @@ impl<J: Job, N: Naming> HubState<J, N> {
     {
         match self.parts.start(worker) {
             Picked::Job(running) => {
+                self.sleepers.ring_first(WaitsFor::Entry);
                 let started = Duty::Work(running.number());
                 self.entries.push_reserved(actor_entry(
                     Actor::Worker(worker),
@@ -57,6 +59,7 @@ impl<J: Job, N: Naming> HubState<J, N> {
         ensures next { AddsEntry self.old (entry_told (actor.Worker worker) host.Finish (out.Unsigned ran.value)) self.new }
         ensures keeps { KeepsStanding self.old.hub self.new.hub }
     {
+        self.sleepers.ring_first(WaitsFor::Entry);
         let value = ran.value();
         self.parts.finish(worker, ran);
         self.entries.push_reserved(actor_entry(
@@ -74,6 +77,7 @@ impl<J: Job, N: Naming> HubState<J, N> {
         ensures next { AddsEntry self.old (entry_told actor host.ActorEnd (end_told_by cut)) self.new }
         ensures keeps { KeepsStanding self.old.hub self.new.hub }
     {
+        self.sleepers.ring_first(WaitsFor::Entry);
         self.progress.end(actor);
         self.entries
             .push_reserved(actor_entry(actor, HostStep::ActorEnd, end_told(cut)));

@@ -1,6 +1,6 @@
 //! What shows of a hub's state: what is answered where there is nothing, what the environment's own refusal comes to, when the history has
-//! no room, what each call comes to at each stage, and which move comes first. The answers were worked out by hand.
-ghost use Rattle.std.specs.Prelude.{◌≡◌, ◌+◌, ◌≤◌, [], true, false, None};
+//! no room, what each call comes to at each stage, which move comes first, and what a worker does to its end. The answers were worked out by hand.
+ghost use Rattle.std.specs.Prelude.{◌≡◌, ◌+◌, ◌<◌, ◌≤◌, [], true, false, None};
 ghost use Rattle.napi_types.specs.declared.call.Call.TheVariants.{CallThreadsafeFunction};
 ghost use Rattle.napi_types.specs.declared.call.Mode.TheVariants.{Nonblocking};
 ghost use Rattle.napi_types.specs.plain.Guards.{is_shared, is_registering};
@@ -13,12 +13,13 @@ ghost use Rattle.napi_types.specs.hub.HubEvents.{may_move};
 ghost use Rattle.napi_types.specs.hub.ThreadSteps.{is_thread_there};
 ghost use Rattle.shared_hub.specs.HubStates.{hub_seen};
 ghost use Rattle.shared_hub.specs.SharedTries.{is_making_function, IsHeldAtFirst, IsOwnRefusal};
+ghost use Rattle.values_suite.specs.KeptActors.{KeepsActors, IsWorkerFree};
 
 use super::ample;
-use async_work::Job;
+use async_work::{Job, Picked};
 use napi_types::{
-    Call, Cause, Duty, JobSpec, Limits, Mode, Out, Release, Reply, SeenList, SharedCall, Status,
-    Target, TsfnId, WorkId,
+    Actor, Call, Cause, Duty, JobSpec, Limits, Mode, Out, Release, Reply, SeenList, SharedCall,
+    Status, Target, TsfnId, WorkId,
 };
 use script_addon::ScriptJob;
 use shared_hub::{HubState, Naming, Polled, ThreadTried};
@@ -56,7 +57,8 @@ fn asked<J: Job, N: Naming>(
     requires initial { IsHeldAtFirst call }
     requires refused { IsOwnRefusal refused }
     requires timely { is_looped state.old.hub.stage ≡ true → is_registering call ≡ true → is_failure refused ≡ true }
-    ensures { KeepsStanding state.old.hub state.new.hub }
+    ensures keeps { KeepsStanding state.old.hub state.new.hub }
+    ensures actors { KeepsActors state.old.hub state.new.hub }
 {
     state.env_shared(&SharedCall {
         call,
@@ -79,7 +81,8 @@ fn status_of(outcome: Result<Reply, Status>) -> Status {
 /// The number of a new work, 0 where none was made.
 fn new_work<J: Job, N: Naming>(state: &mut HubState<J, N>) -> WorkId
     requires { is_looped state.old.hub.stage ≡ false }
-    ensures { KeepsStanding state.old.hub state.new.hub }
+    ensures keeps { KeepsStanding state.old.hub state.new.hub }
+    ensures actors { KeepsActors state.old.hub state.new.hub }
 {
     match asked(state, Call::CreateAsyncWork(JobSpec::Sum(4), 0, 0), None) {
         Ok(
@@ -223,17 +226,19 @@ fn number_of(outcome: Result<Reply, Status>) -> u16 {
     status_of(outcome).number()
 }
 
-/// Makes a function of context 80, which a thread holds and whose queue has room for so many items, 0 for any number.
-fn made<J: Job, N: Naming>(
+/// Makes a function of context 80, which so many threads hold and whose queue has room for so many items, 0 for any number.
+fn made_held<J: Job, N: Naming>(
     state: &mut HubState<J, N>,
+    count: u32,
     maximum: u32,
     finalizer: Option<u32>,
     refused: Option<Status>,
 ) -> u16
+    requires held { 0 < count }
     requires refused { IsOwnRefusal refused }
     requires timely { is_looped state.old.hub.stage ≡ true → is_failure refused ≡ true }
     ensures keeps { KeepsStanding state.old.hub state.new.hub }
-    ensures ended { state.new.hub.ended_threads ≡ state.old.hub.ended_threads }
+    ensures actors { KeepsActors state.old.hub state.new.hub }
 {
     const TARGET: Target = Target {
         addon: 0,
@@ -241,7 +246,7 @@ fn made<J: Job, N: Naming>(
         torn_runs: false,
     };
     let outcome = state.env_shared(&SharedCall {
-        call: Call::CreateThreadsafeFunction(None, None, maximum, 1, finalizer, 80),
+        call: Call::CreateThreadsafeFunction(None, None, maximum, count, finalizer, 80),
         depth: 1,
         step: 0,
         addon: 0,
@@ -253,6 +258,21 @@ fn made<J: Job, N: Naming>(
         refused,
     });
     number_of(outcome)
+}
+
+/// Makes one which one thread holds.
+fn made<J: Job, N: Naming>(
+    state: &mut HubState<J, N>,
+    maximum: u32,
+    finalizer: Option<u32>,
+    refused: Option<Status>,
+) -> u16
+    requires refused { IsOwnRefusal refused }
+    requires timely { is_looped state.old.hub.stage ≡ true → is_failure refused ≡ true }
+    ensures keeps { KeepsStanding state.old.hub state.new.hub }
+    ensures actors { KeepsActors state.old.hub state.new.hub }
+{
+    made_held(state, 1, maximum, finalizer, refused)
 }
 
 /// What each call comes to, on a work and on the first function. The environment refuses those that register so, or does not refuse them.
@@ -296,6 +316,7 @@ fn moved<N: Naming>(state: &mut HubState<ScriptJob, N>) -> Moves
     requires { may_move state.old.hub ≡ true }
     ensures keeps { KeepsStanding state.old.hub state.new.hub }
     ensures may { may_move state.new.hub ≡ true }
+    ensures actors { KeepsActors state.old.hub state.new.hub }
 {
     match state.poll() {
         Polled::Begin(due, _job) => {
@@ -315,6 +336,7 @@ fn five_moves<N: Naming>(state: &mut HubState<ScriptJob, N>) -> [Moves; 5]
     requires { may_move state.old.hub ≡ true }
     ensures keeps { KeepsStanding state.old.hub state.new.hub }
     ensures may { may_move state.new.hub ≡ true }
+    ensures actors { KeepsActors state.old.hub state.new.hub }
 {
     [
         moved(state),
@@ -331,8 +353,7 @@ fn gone<J: Job, N: Naming>(state: &mut HubState<J, N>)
     requires alone { state.old.hub.standing ≡ None }
     ensures stage { state.new.hub.stage ≡ Going }
     ensures alone { state.new.hub.standing ≡ None }
-    ensures threads { state.new.hub.threads ≡ state.old.hub.threads }
-    ensures ended { state.new.hub.ended_threads ≡ state.old.hub.ended_threads }
+    ensures actors { KeepsActors state.old.hub state.new.hub }
 {
     state.go();
 }
@@ -343,6 +364,7 @@ fn left<J: Job, N: Naming>(state: &mut HubState<J, N>)
     requires alone { state.old.hub.standing ≡ None }
     ensures stage { state.new.hub.stage ≡ Looped }
     ensures alone { state.new.hub.standing ≡ None }
+    ensures actors { KeepsActors state.old.hub state.new.hub }
 {
     state.loop_end(true, false);
 }
@@ -353,6 +375,7 @@ fn drained<J: Job, N: Naming>(state: &mut HubState<J, N>) -> u64
     requires alone { state.old.hub.standing ≡ None }
     ensures stage { state.new.hub.stage ≡ Drained }
     ensures alone { state.new.hub.standing ≡ None }
+    ensures actors { KeepsActors state.old.hub state.new.hub }
 {
     state.drain()
 }
@@ -430,6 +453,7 @@ fn threaded<J: Job, N: Naming>(state: &mut HubState<J, N>, call: Call) -> Option
     requires there { is_thread_there state.old.hub 0 ≡ true }
     ensures keeps { KeepsStanding state.old.hub state.new.hub }
     ensures there { is_thread_there state.new.hub 0 ≡ true }
+    ensures actors { KeepsActors state.old.hub state.new.hub }
 {
     match state.thread_call(0, 0, &call) {
         ThreadTried::Reply(reply) => Some(reply.status.number()),
@@ -518,4 +542,148 @@ fn functions_move_by_number_and_an_abort_tears(rt: HostRuntime) {
     ];
     let found = go_on_by_number_of(&rt, rt.alloc());
     assert_eq!(rt; found, (threads, [0, 15, 21, 0], by_number, torn));
+}
+
+/// What the worker picks: the number of a work, which it executes and finishes, 0 where none waits. `None` where no work starts any more.
+fn served<N: Naming>(state: &mut HubState<ScriptJob, N>) -> Option<u64>
+    requires { IsWorkerFree state.old.hub }
+    ensures keeps { KeepsStanding state.old.hub state.new.hub }
+    ensures actors { KeepsActors state.old.hub state.new.hub }
+{
+    match state.start(0) {
+        Picked::Job(running) => {
+            let number = running.number();
+            state.finish(0, running.execute());
+            Some(number)
+        }
+        Picked::Nothing => Some(0),
+        Picked::Closing => None,
+    }
+}
+
+/// What a thread's calls of the first function come to: one that queues an item, one that acquires it, and one that releases it.
+fn three_calls<J: Job, N: Naming>(state: &mut HubState<J, N>) -> [Option<u16>; 3]
+    requires { is_thread_there state.old.hub 0 ≡ true }
+    ensures keeps { KeepsStanding state.old.hub state.new.hub }
+    ensures there { is_thread_there state.new.hub 0 ≡ true }
+    ensures actors { KeepsActors state.old.hub state.new.hub }
+{
+    const RELEASE: Call = Call::ReleaseThreadsafeFunction(FIRST, Release::Release);
+    [
+        threaded(state, item(FIRST, 70)),
+        threaded(state, Call::AcquireThreadsafeFunction(FIRST)),
+        threaded(state, RELEASE),
+    ]
+}
+
+/// Whether `finals` comes before the worker has ended.
+fn comes_early<J: Job, N: Naming>(state: &mut HubState<J, N>) -> bool
+    requires drained { state.old.hub.stage ≡ Drained }
+    requires alone { state.old.hub.standing ≡ None }
+    requires free { IsWorkerFree state.old.hub }
+    ensures { state.new ≡ state.old }
+{
+    state.finals()
+}
+
+/// The thread ends.
+fn thread_ended<J: Job, N: Naming>(state: &mut HubState<J, N>)
+    requires there { is_thread_there state.old.hub 0 ≡ true }
+    requires free { IsWorkerFree state.old.hub }
+    ensures keeps { KeepsStanding state.old.hub state.new.hub }
+    ensures free { IsWorkerFree state.new.hub }
+{
+    state.actor_end(Actor::Thread(0), None);
+}
+
+/// The worker ends.
+fn worker_ended<J: Job, N: Naming>(state: &mut HubState<J, N>)
+    requires drained { state.old.hub.stage ≡ Drained }
+    requires free { IsWorkerFree state.old.hub }
+    ensures { KeepsStanding state.old.hub state.new.hub }
+{
+    state.knows();
+    state.actor_end(Actor::Worker(0), None);
+}
+
+/// What the worker picks before a work is queued, before `go` and from the drain on; what calls on the queued work and on the function come to;
+/// a thread's calls after `go`, after `loop_end` and after the drain; the moves; whether `finals` comes with thread and worker, with the worker
+/// alone, and after both; and how many entries the history has at the end.
+type Served = (
+    [Option<u64>; 3],
+    [u16; 4],
+    [[Option<u16>; 3]; 3],
+    [Moves; 5],
+    ([bool; 3], usize),
+);
+
+/// A hub with a thread and a worker goes through its stages, with a work and a function that the most threads hold.
+fn serve<N: Naming>(rt: &impl Abort, alloc: Global) -> Served
+    requires { N.numbers ≡ record { threads = 1; workers = 1; limits = record { journal = 0; history = 999 } } }
+{
+    let mut state = opened::<N>(rt, alloc, 1, 999);
+    let idle = served(&mut state);
+    let work = new_work(&mut state);
+    made_held(&mut state, u32::MAX, 0, None, None);
+    let calls = [
+        number_of(asked(&mut state, Call::QueueAsyncWork(work), None)),
+        number_of(asked(&mut state, Call::QueueAsyncWork(work), None)),
+        number_of(asked(&mut state, Call::DeleteAsyncWork(work), None)),
+        number_of(asked(&mut state, Call::AcquireThreadsafeFunction(FIRST), None)),
+    ];
+    let busy = served(&mut state);
+    gone(&mut state);
+    let going = three_calls(&mut state);
+    left(&mut state);
+    let looped = three_calls(&mut state);
+    drained(&mut state);
+    let late = served(&mut state);
+    let closing = three_calls(&mut state);
+    let moves = five_moves(&mut state);
+    let with_both = comes_early(&mut state);
+    thread_ended(&mut state);
+    let with_worker = comes_early(&mut state);
+    worker_ended(&mut state);
+    let came = state.finals();
+    (
+        [idle, busy, late],
+        calls,
+        [going, looped, closing],
+        moves,
+        ([with_both, with_worker, came], state.history().len()),
+    )
+}
+
+/// The numbers are named here.
+fn serve_of(rt: &impl Abort, alloc: Global) -> Served {
+    serve::<Brand>(rt, alloc)
+}
+
+#[test]
+fn a_worker_serves_and_a_thread_calls_to_the_end(rt: HostRuntime) {
+    const DONE: Option<u16> = Some(0);
+    const CLOSES: Option<u16> = Some(16);
+    let threads = [
+        [DONE, Some(9), DONE],
+        [DONE, DONE, DONE],
+        [CLOSES, CLOSES, DONE],
+    ];
+    let moves = [
+        Moves::Begins(Duty::Work(1), Cause::Complete, 0, 10),
+        Moves::Begins(Duty::Item(FIRST, 1), Cause::Torn, 70, 0),
+        Moves::Begins(Duty::Item(FIRST, 2), Cause::Torn, 70, 0),
+        Moves::Finishes(FIRST),
+        Moves::Nothing,
+    ];
+    let found = serve_of(&rt, rt.alloc());
+    assert_eq!(rt;
+        found,
+        (
+            [Some(0), Some(1), None],
+            [0, 9, 9, 9],
+            threads,
+            moves,
+            ([false, false, true], 30)
+        )
+    );
 }

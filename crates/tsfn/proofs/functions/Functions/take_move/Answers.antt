@@ -1,8 +1,9 @@
-use Rattle.std.proofs.Common.{◌∙◌, ◌<◌, ◌≤◌, ◌+◌, ◌^◌, set, sum_by, ap, sym, arith, subst, List, Bool}
-use Rattle.napi_types.specs.hub.HubMoves.{first_move}
+use Rattle.std.proofs.Common.{◌∙◌, ◌<◌, ◌≤◌, ◌+◌, ◌^◌, set, sum_by, map, ap, sym, arith, subst, List}
+use Rattle.napi_types.specs.parts.Functions.{FunctionState}
 use Rattle.napi_types.specs.hub.HistoryRoom.{function_places}
-use Rattle.tsfn.specs.BusyPlaces.{IsLowestBusy, NoneIsBusy}
+use Rattle.tsfn.specs.BusyPlaces.{IsLowestBusy}
 use Rattle.tsfn.specs.FunctionList.{functions_after_move}
+use Rattle.tsfn.specs.FunctionMoves.{is_busy}
 use Rattle.tsfn.proofs.FirstMoves.{MovesFirst, moves-first, first-none, moved-at}
 use Rattle.tsfn.proofs.FunctionChanges.{IsMoved, moved-keeps}
 use Rattle.tsfn.proofs.Overviews.{Stands, may-recount, kept-changed, still-few}
@@ -12,7 +13,7 @@ use Rattle.tsfn.proofs.functions.Functions.take_move.Goals.{After-take_move-move
 first : (c : After-take_move-moved) → MovesFirst c.self.inside.list.items c.in_ok-place.place c.index_mut-function.result.now
 first c =
     moves-first c.self.inside.list.items c.in_ok-place.place c.index_mut-function.result.now c.index_mut-function.ensures.value
-    (subst (λ (b : List Bool). IsLowestBusy b c.in_ok-place.place) c.self.invariant.busy_are c.in_ok-place.ensures.lowest)
+    (subst (λ (fs : List FunctionState). IsLowestBusy (map is_busy fs) c.in_ok-place.place) (sym c.self.view_is) c.in_ok-place.ensures.lowest)
 
 stands : (c : After-take_move-moved) → Stands c.self.inside.list.items c.self.inside.overview c.in_ok-place.place c.index_mut-function.result.now c.of-before.result
 stands c = record {
@@ -57,9 +58,9 @@ returns-clause-left c =
 pub returns-in_err-place-clause-told : goal.returns-in_err-place-clause-told
 returns-in_err-place-clause-told c =
     rw (c.from_residual.ensures, ← c.self.view_is)
-    (sym (first-none c.self.inside.list.items (subst NoneIsBusy c.self.invariant.busy_are c.in_err-place.ensures.none)))
+    (sym (first-none c.self.inside.list.items (rw c.self.view_is c.in_err-place.ensures.none)))
 
 pub returns-in_err-place-clause-left : goal.returns-in_err-place-clause-left
 returns-in_err-place-clause-left c =
     ap (λ m. functions_after_move m c.args.self.now)
-    (sym (first-none c.self.inside.list.items (subst NoneIsBusy c.self.invariant.busy_are c.in_err-place.ensures.none)) ∙ ap first_move c.self.view_is)
+    (sym (first-none c.args.self.now c.in_err-place.ensures.none))
