@@ -89,11 +89,11 @@ def most_of(what):
 
 
 @functools.cache
-def call_facts():
-    """Returns, of each call by its name, whether it is built and whether it is guarded, as the definitions say it."""
+def guarded_calls():
+    """Returns, of each call by its name, whether it is guarded, as the definitions say it."""
     names = dict(re.findall(r'^call_name \(?call\.(\w+).*= codes "(\w+)"$', text_of(f"{SPECS}/scripts/Names.antt"), re.M))
     calls = FACTS.findall(text_of(f"{SPECS}/plain/CallFacts.antt"))
-    return {names[variant]: ("shared" not in it, "guarded = true" in it) for variant, it in calls}
+    return {names[variant]: "guarded = true" in it for variant, it in calls}
 
 
 def status_names():

@@ -10,7 +10,7 @@ use Rattle.napi_types.specs.declared.ids.TextNo.{TextNo}
 use Rattle.napi_types.specs.declared.ids.ValueId.{ValueId}
 use Rattle.napi_types.specs.declared.status.Status.{Status}
 use Rattle.napi_types.specs.declared.status.Status.TheVariants as status
-use Rattle.napi_types.specs.plain.Built.{is_calling}
+use Rattle.napi_types.specs.plain.CallKinds.{is_calling}
 use Rattle.napi_types.specs.plain.Lists.{unless}
 use Rattle.napi_types.specs.plain.Replies.{Answer, accepts, plain}
 use Rattle.napi_types.specs.parts.Frames.{Frame}

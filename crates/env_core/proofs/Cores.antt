@@ -16,7 +16,7 @@ use Rattle.napi_types.specs.declared.entry.SharedCall.{SharedCall}
 use Rattle.napi_types.specs.declared.entry.Why.{Why}
 use Rattle.napi_types.specs.declared.ids.HandleId.{HandleId}
 use Rattle.napi_types.specs.declared.status.Status.{Status}
-use Rattle.napi_types.specs.plain.Built.{is_calling}
+use Rattle.napi_types.specs.plain.CallKinds.{is_calling}
 use Rattle.napi_types.specs.plain.Lists.{tail}
 use Rattle.napi_types.specs.plain.Phases.{next_phase}
 use Rattle.napi_types.specs.plain.Room.{one_if, need, is_full}

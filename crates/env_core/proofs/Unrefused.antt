@@ -7,7 +7,7 @@ use Rattle.napi_types.specs.declared.ids.ScopeKind.{ScopeKind}
 use Rattle.napi_types.specs.declared.ids.ScopeKind.TheVariants as scope_kind
 use Rattle.napi_types.specs.declared.ids.TextNo.{TextNo}
 use Rattle.napi_types.specs.declared.status.Status.{Status}
-use Rattle.napi_types.specs.plain.Built.{is_value_call}
+use Rattle.napi_types.specs.plain.CallKinds.{is_value_call}
 use Rattle.napi_types.specs.plain.Guards.{is_growing}
 use Rattle.napi_types.specs.parts.Graph.{StoreState}
 use Rattle.napi_types.specs.parts.HeapRefusals.{refusal_in}

@@ -2,7 +2,7 @@
 ghost use Rattle.std.specs.Prelude.{◌≡◌, ◌≢◌, ℕ, ◌+◌, ◌-◌, ◌*◌, ◌<◌, ◌≤◌, [], length, option_map, Some, None, is_some, true, false, IfOk, IfSome, IsTrue, ◌↔◌};
 ghost use Rattle.napi_types.specs.declared.call.Call.TheVariants as call_of;
 ghost use Rattle.napi_types.specs.declared.entry.Cause.TheVariants as cause;
-ghost use Rattle.napi_types.specs.plain.Built.{is_built, is_calling};
+ghost use Rattle.napi_types.specs.plain.CallKinds.{is_calling};
 ghost use Rattle.napi_types.specs.plain.Guards.{is_shared as is_shared_call};
 ghost use Rattle.napi_types.specs.plain.Lists.{head, tail};
 ghost use Rattle.napi_types.specs.plain.Numbers.{napi_version};
@@ -152,7 +152,7 @@ impl EnvCore {
     fn answer(&mut self, step: u32, call: &Call) -> Stepped
         requires standing { self.old.env.frames ≢ [] }
         requires idle { self.old.awaited ≡ None }
-        requires built { is_built call.now ≡ true }
+        requires local { is_shared_call call.now ≡ false }
         requires at_once { is_calling call.now ≡ false }
         requires ask { step ≡ asks_made self.old.env.frames }
         requires within { step < most_asks }
@@ -411,7 +411,7 @@ impl Phased for EnvCore {
 
 /// How many places a call needs that is no call of a function: one for its entry, and two for the frame of the duty that it makes.
 fn places_of(call: &Call) -> u32
-    requires built { is_built call.now ≡ true }
+    requires local { is_shared_call call.now ≡ false }
     requires at_once { is_calling call.now ≡ false }
     ensures { result ≡ need call.now }
 {

@@ -1,8 +1,9 @@
 //! The environment's state without its journal: values, scopes, the frames that stand, and how far the run has come.
 ghost use Rattle.std.specs.Prelude.{◌≡◌, ◌≢◌, ◌+◌, ◌<◌, ◌^◌, [], length, true, false, option_map, Some, None, IfOk, OnErr, IsTrue};
 ghost use Rattle.napi_types.specs.declared.call.Call.TheVariants as call_of;
-ghost use Rattle.napi_types.specs.plain.Built.{is_built, is_calling, is_value_call};
+ghost use Rattle.napi_types.specs.plain.CallKinds.{is_calling, is_value_call};
 ghost use Rattle.napi_types.specs.plain.Entries.{host_entry as entry_of, host_told as told_of};
+ghost use Rattle.napi_types.specs.plain.Guards.{is_shared as is_shared_call};
 ghost use Rattle.napi_types.specs.plain.Lists.{head};
 ghost use Rattle.napi_types.specs.plain.Numbers.{napi_version};
 ghost use Rattle.napi_types.specs.parts.Frames.{caller_of, asks_made, most_asks};
@@ -180,7 +181,7 @@ impl State {
     /// A call of the innermost frame, which is no call of a function.
     pub fn call(&mut self, step: u32, call: &Call) -> Result<Entry, NoMemory>
         requires standing { self.old.frames ≢ [] }
-        requires built { is_built call.now ≡ true }
+        requires local { is_shared_call call.now ≡ false }
         requires at_once { is_calling call.now ≡ false }
         requires ask { step ≡ asks_made self.old.frames }
         requires within { step < most_asks }
@@ -240,7 +241,7 @@ impl State {
     /// What the call answers, refused or accepted.
     fn answer(&mut self, call: &Call) -> Result<Reply, NoMemory>
         requires standing { self.old.frames ≢ [] }
-        requires built { is_built call.now ≡ true }
+        requires local { is_shared_call call.now ≡ false }
         requires at_once { is_calling call.now ≡ false }
         requires numbers { HasNumbersFor self.old }
         requires hooked { IsHooked self.old }
@@ -279,7 +280,7 @@ impl State {
     #[tactic(auto, using(crate::proofs::Unrefused::stopped))]
     fn answer_in_time(&mut self, call: &Call) -> Result<Reply, NoMemory>
         requires standing { self.old.frames ≢ [] }
-        requires built { is_built call.now ≡ true }
+        requires local { is_shared_call call.now ≡ false }
         requires at_once { is_calling call.now ≡ false }
         requires numbers { HasNumbersFor self.old }
         requires hooked { IsHooked self.old }

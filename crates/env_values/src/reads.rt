@@ -1,6 +1,6 @@
 //! The calls that tell what a value is.
 ghost use Rattle.std.specs.Prelude.{◌≡◌, ℕ, true};
-ghost use Rattle.napi_types.specs.plain.Built.{is_telling};
+ghost use Rattle.napi_types.specs.plain.CallKinds.{is_telling};
 ghost use Rattle.env_values.specs.SeenValues.{heap_of, HoldsLive};
 ghost use Rattle.env_values.specs.ValueSteps.{Comes, ComesOf};
 

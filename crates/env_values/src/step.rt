@@ -1,6 +1,6 @@
 //! One call on values, properties or elements.
 ghost use Rattle.std.specs.Prelude.{◌≡◌, ◌≢◌, ◌+◌, ◌<◌, ◌^◌, true, cond, [], None, IsTrue, IfOk, OnOk, OnErr};
-ghost use Rattle.napi_types.specs.plain.Built.{is_creating, is_value_call};
+ghost use Rattle.napi_types.specs.plain.CallKinds.{is_creating, is_value_call};
 ghost use Rattle.napi_types.specs.plain.Guards.{is_growing};
 ghost use Rattle.napi_types.specs.parts.HeapCalls.{heap_answer};
 ghost use Rattle.napi_types.specs.parts.HeapRefusals.{refusal_in};

@@ -121,7 +121,7 @@ pub record Happens (m : Machine) (x : Entry) : Type 0 where
   pub entry : x ≡ (event_step m event).entry
   pub may : IsTrue (event_step m event).may
 
-pub happens-alone : (m : Machine) (a : Ask) (x : Entry) → m.env.frames ≡ [] → x.actor ≡ actor.Env → IsNext m a x → Happens m x
+happens-alone : (m : Machine) (a : Ask) (x : Entry) → m.env.frames ≡ [] → x.actor ≡ actor.Env → IsNext m a x → Happens m x
 happens-alone m a x alone who next = by (choice m) refl (next.0 ∙ ap (λ (t : Step). t.entry) same) (subst (λ (t : Step). IsTrue t.may) same next.1)
   where
     same : step m a x ≡ chosen m (choice m)

@@ -1,5 +1,4 @@
 mod AskLists
-mod Asking
 mod Bare
 mod BeginningFrames
 mod Causes

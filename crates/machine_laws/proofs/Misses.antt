@@ -134,7 +134,7 @@ given_refused None = None
 -- a run of a script whose plans are all told is one at its told asks
 pub told-steps : (s : Setting) (xs : List Entry) → IsTrue (all_told s) → IsRun s xs → IsRunBy (opening_of s) (told_asks s xs) xs
 told-steps s xs h r =
-    let same : r.0 ≡ told_asks s xs = asks-unique s.built s.plans (loaded_registers s.plans) (opening_of s) r.0 xs h r.1.steps r.1.asked in
+    let same : r.0 ≡ told_asks s xs = asks-unique s.plans (loaded_registers s.plans) (opening_of s) r.0 xs h r.1.steps r.1.asked in
     let P : List Ask → Type 0 = λ bs. IsRunBy (opening_of s) bs xs in
     subst P same r.1.steps
 

@@ -1,5 +1,5 @@
 -- What holds of finalizers at every moment of a run.
-use Rattle.std.proofs.Common.{◌≡◌, ◌∙◌, ℕ, false, List, [], ◌∷◌, refl, ap, sym, Option, Some, None, option_map}
+use Rattle.std.proofs.Common.{◌≡◌, ◌∙◌, ℕ, false, List, [], refl, ap, sym, Option, Some, None, option_map}
 use Rattle.std.specs.Option.{unwrap_or}
 use Rattle.napi_types.specs.declared.call.Ask.{Ask}
 use Rattle.napi_types.specs.declared.entry.Entry.{Entry}
@@ -10,7 +10,7 @@ use Rattle.napi_types.specs.parts.Book.{Book, Registration, is_registered, is_at
 use Rattle.napi_types.specs.environment.Hooked.{is_late}
 use Rattle.napi_types.specs.hub.Hub.{stage_of}
 use Rattle.napi_types.specs.runs.Machine.{Machine}
-use Rattle.napi_types.specs.runs.Run.{IsNext, IsRunBy, after, final}
+use Rattle.napi_types.specs.runs.Run.{IsNext, IsRunBy, final}
 use Rattle.napi_types.specs.runs.Setting.{opening_of, final_of}
 use Rattle.napi_types.specs.runs.Step.{step}
 use Rattle.napi_types.proofs.parts.Books.{NoneRegistered, none-owed_tickets}

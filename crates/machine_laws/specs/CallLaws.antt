@@ -13,7 +13,7 @@ use Rattle.napi_types.specs.declared.ids.TsfnId.{TsfnId}
 use Rattle.napi_types.specs.declared.ids.WorkId.{WorkId}
 use Rattle.napi_types.specs.declared.status.Status.{Status}
 use Rattle.napi_types.specs.declared.status.Status.TheVariants as status
-use Rattle.napi_types.specs.plain.Built.{is_built, is_calling}
+use Rattle.napi_types.specs.plain.CallKinds.{is_calling}
 use Rattle.napi_types.specs.plain.CallFacts.{CallGroup, OnValues, OnProperties, OnFunctions, OnScopes, OnReferences, OnWraps, OnExternals, OnEntering, OnExceptions, OnInstances, OnHooks, OnWorks, OnThreads, OnVersion, OnCollection, OnExit}
 use Rattle.napi_types.specs.plain.Guards.{is_registering, is_shared, is_growing}
 use Rattle.napi_types.specs.plain.Lists.{has_number}
@@ -45,8 +45,8 @@ pub record RefusesArgument (e : Environment) (c : Call) : Type 0 where
 abbrev pub RefusesUnknownHandles : Type 0
 RefusesUnknownHandles = (e : Environment) (c : Call) (h : ℕ) → has_number h (handles_of c) ≡ true → gives e.heap.scopes h ≡ None → RefusesArgument e c
 
--- the same of each of these calls by itself, whatever the table says of the handles that calls name: of `typeof`, of those on externals, wraps and type tags, and of those
--- that are not built
+-- the same of each of these calls by itself, whatever the table says of the handles that calls name: of `typeof`, of those on externals, wraps and type tags, and of the
+-- one that makes a thread-safe function
 pub record RefusesUnknownByRow (e : Environment) (h : HandleId) : Type 0 where
   pub typeof : RefusesArgument e (call.Typeof h)
   pub external : RefusesArgument e (call.GetValueExternal h)
@@ -144,9 +144,9 @@ every_group =
 abbrev pub groups : Environment → Call → ℕ → List (Option (Answer Environment))
 groups e c n = map (λ g. (call_group g).answers e c n) every_group
 
--- each call that is built, but the call of a function, which enters a frame, has a row: exactly one group of calls answers it, and none answers another call
+-- each call that is not shared, but the call of a function, which enters a frame, has a row: exactly one group of calls answers it, and none answers another call
 abbrev pub EveryCallHasARow : Type 0
-EveryCallHasARow = (e : Environment) (c : Call) (n : ℕ) → length (filter is_some (groups e c n)) ≡ one_if (is_built c && not (is_calling c))
+EveryCallHasARow = (e : Environment) (c : Call) (n : ℕ) → length (filter is_some (groups e c n)) ≡ one_if (not (is_shared c) && not (is_calling c))
 
 -- a refused call answers the first refusal that applies and tells nothing; it leaves the environment as it was, but that the depth limit leaves its error
 -- pending

@@ -12,12 +12,10 @@ use Rattle.napi_types.specs.declared.entry.Cause.TheVariants as cause
 use Rattle.napi_types.specs.declared.entry.Entry.{Entry}
 use Rattle.napi_types.specs.declared.entry.HostStep.TheVariants as host
 use Rattle.napi_types.specs.declared.entry.Out.TheVariants as out
-use Rattle.napi_types.specs.declared.entry.What.TheVariants as what
 use Rattle.napi_types.specs.declared.entry.Why.{Why}
 use Rattle.napi_types.specs.declared.entry.Why.TheVariants as why
 use Rattle.napi_types.specs.declared.ids.HandleId.{HandleId}
 use Rattle.napi_types.specs.declared.status.Status.TheVariants as status
-use Rattle.napi_types.specs.plain.Built.{built_ask}
 use Rattle.napi_types.specs.plain.Entries.{host_told, host_entry}
 use Rattle.napi_types.specs.plain.Guards.{is_registering, is_shared}
 use Rattle.napi_types.specs.plain.Room.{need}
@@ -63,7 +61,7 @@ HubDutiesStandInTheHub = (s : Setting) (bs : List Ask) (xs : List Entry) → IsR
 -- A TIGHT JOURNAL
 -- a script of one addon that tells no plan, with room for so many entries in the journal: four are needed without any call, and so many has the history
 abbrev pub script_within : ℕ → Setting
-script_within room = record { plans = None ∷ []; texts = 3; threads = 0; workers = 0; limits = record { journal = room; history = 4 }; built = λ c. true }
+script_within room = record { plans = None ∷ []; texts = 3; threads = 0; workers = 0; limits = record { journal = room; history = 4 } }
 
 -- one place is left for calls
 abbrev pub tight : Setting
@@ -116,22 +114,9 @@ pub record CutsAtFirstCall : Type 0 where
 abbrev pub FullAtSecondCall : Type 0
 FullAtSecondCall = (c : Call) → IsCutFull first_called c
 
--- CALLS THAT ARE NOT BUILT
-pub record LeavesAtUnbuiltCall : Type 0 where
-  -- an addon that asks a call which is not built is taken to leave, and what else it asks is taken as it is
-  pub unbuilt : (built : Call → Bool) (c : Call) → built c ≡ false → built_ask built (ask.Do c) ≡ ask.Leave None
-  pub built : (built : Call → Bool) (c : Call) → built c ≡ true → built_ask built (ask.Do c) ≡ ask.Do c
-  pub left : (built : Call → Bool) (v : Option HandleId) → built_ask built (ask.Leave v) ≡ ask.Leave v
-  -- so its frame ends, also where it would be full at every call, and nothing else may come
-  pub ends : IsOnlyNext first_called (ask.Leave None) (host_entry host.End out.Nothing)
-
--- a call of the environment is built
-abbrev pub CallsBuilt : (Call → Bool) → Entry → Type 0
-CallsBuilt built x = (c : Call) → x.actor ≡ actor.Env → x.what ≡ what.Call c → built c ≡ true
-
--- in a run of a script no other is made
-abbrev pub UnbuiltCallsAreNeverMade : Type 0
-UnbuiltCallsAreNeverMade = (s : Setting) (bs : List Ask) (xs : List Entry) → RunsBy s bs xs → All (CallsBuilt s.built) xs
+-- where it leaves in place of that call, its frame ends without a cut, and nothing else may come
+abbrev pub LeavesWhereFull : Type 0
+LeavesWhereFull = IsOnlyNext first_called (ask.Leave None) (host_entry host.End out.Nothing)
 
 -- A CALL THAT REGISTERS
 -- the machine as the frame has begun, where two places are left for calls
@@ -165,7 +150,7 @@ NotBeforeLastAsk = (m : Machine) (f : Frame) (fs : List Frame) (a : Ask) → m.e
 -- it may only leave
 pub record OnlyLeaves (m : Machine) : Type 0 where
   -- its plan, whichever it is, asks nothing but that
-  pub asked : (built : Call → Bool) (ps : List Plan) (rss : Registers) (a : Ask) → asked built ps rss m a actor.Env ≡ ask.Leave None
+  pub asked : (ps : List Plan) (rss : Registers) (a : Ask) → asked ps rss m a actor.Env ≡ ask.Leave None
   -- then its end comes, without a cut, and nothing else may come of the environment
   pub leaves : (v : Option HandleId) → IsOnlyOfEnvironment m (ask.Leave v) (end_change v None m.env).entry
   -- at a call nothing may come of it: not its entry, not the begin of a frame, and no cut

@@ -3,7 +3,6 @@ use Rattle.std.specs.Prelude.{Bool, List, [], ◌∷◌, None, is_some}
 use Rattle.std.specs.List.{list_all}
 use Rattle.napi_types.specs.declared.call.Ask.{Ask}
 use Rattle.napi_types.specs.declared.call.Ask.TheVariants as ask
-use Rattle.napi_types.specs.declared.call.Call.{Call}
 use Rattle.napi_types.specs.declared.entry.Entry.{Entry}
 use Rattle.napi_types.specs.declared.entry.Local.{Local}
 use Rattle.napi_types.specs.plain.Weave.{weave}
@@ -23,14 +22,14 @@ abbrev pub all_told : Setting → Bool
 all_told s = list_all is_some s.plans
 
 -- the asks of a run, where every plan is told
-abbrev pub told_asks_along : (Call → Bool) → List Plan → Registers → Machine → List Entry → List Ask
-told_asks_along built ps rss m [] = []
-told_asks_along built ps rss m (x ∷ xs) =
-    let a : Ask = asked built ps rss m (ask.Leave None) x.actor in a ∷ told_asks_along built ps (registers_after ps rss m a x) (after m a x) xs
+abbrev pub told_asks_along : List Plan → Registers → Machine → List Entry → List Ask
+told_asks_along ps rss m [] = []
+told_asks_along ps rss m (x ∷ xs) =
+    let a : Ask = asked ps rss m (ask.Leave None) x.actor in a ∷ told_asks_along ps (registers_after ps rss m a x) (after m a x) xs
 
 -- those of a run of the script
 abbrev pub told_asks : Setting → List Entry → List Ask
-told_asks s xs = told_asks_along s.built s.plans (loaded_registers s.plans) (opening_of s) xs
+told_asks s xs = told_asks_along s.plans (loaded_registers s.plans) (opening_of s) xs
 
 -- the entries are a run of the script that comes to its end
 abbrev pub EndsAsTold : Setting → List Entry → Type 0

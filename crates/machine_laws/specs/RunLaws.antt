@@ -2,7 +2,6 @@
 use Rattle.std.specs.Prelude.{◌≡◌, ℕ, ◌+◌, Bool, true, List, None, take, ◌↔◌}
 use Rattle.napi_types.specs.declared.call.Ask.{Ask}
 use Rattle.napi_types.specs.declared.call.Ask.TheVariants as ask
-use Rattle.napi_types.specs.declared.call.Call.{Call}
 use Rattle.napi_types.specs.declared.entry.Actor.{Actor}
 use Rattle.napi_types.specs.declared.entry.Actor.TheVariants as actor
 use Rattle.napi_types.specs.declared.entry.Entry.{Entry}
@@ -37,7 +36,7 @@ EntriesCountOnTheirList = (m : Machine) (a : Ask) (x : Entry) → IsNext m a x �
 
 -- an entry of this actor asks nothing of an addon and changes no register, whatever it tells
 pub record LeavesRegisters (who : Actor) : Type 0 where
-  pub asked : (built : Call → Bool) (ps : List Plan) (rss : Registers) (m : Machine) (a : Ask) → asked built ps rss m a who ≡ ask.Leave None
+  pub asked : (ps : List Plan) (rss : Registers) (m : Machine) (a : Ask) → asked ps rss m a who ≡ ask.Leave None
   pub registers : (ps : List Plan) (rss : Registers) (m : Machine) (a : Ask) (x : Entry) → x.actor ≡ who → registers_after ps rss m a x ≡ rss
 
 -- the registers are those of the environment's addons: no thread and no worker changes one

@@ -1,5 +1,5 @@
 -- Words that small runs are written by.
-use Rattle.std.specs.Prelude.{ℕ, ◌+◌, true, List, [], ◌∷◌, ◌++◌, take, drop, Option, Some, None, codes}
+use Rattle.std.specs.Prelude.{ℕ, ◌+◌, List, [], ◌∷◌, ◌++◌, take, drop, Option, Some, None, codes}
 use Rattle.napi_types.specs.declared.call.Call.{Call}
 use Rattle.napi_types.specs.declared.op.Op.{Op}
 use Rattle.napi_types.specs.declared.status.Status.{Status}
@@ -23,8 +23,7 @@ use Rattle.napi_types.specs.parts.Book.{ticket_duty}
 use Rattle.napi_types.specs.scripts.Plans.{Plan}
 use Rattle.napi_types.specs.runs.Setting.{Setting}
 
--- a script of addons with these plans, without threads and workers, with the three texts that every script has, room for the most entries in each list, and all
--- calls built
+-- a script of addons with these plans, without threads and workers, with the three texts that every script has and room for the most entries in each list
 abbrev pub script_of_plans : List Plan → Setting
 script_of_plans plans = record {
   plans = plans;
@@ -32,7 +31,6 @@ script_of_plans plans = record {
   threads = 0;
   workers = 0;
   limits = record { journal = most_entries; history = most_entries };
-  built = λ c. true;
 }
 
 -- one of one addon with these entries

@@ -1,5 +1,5 @@
 //! Laws of where a frame is cut.
-ghost use Rattle.machine_laws.specs.Cuts.{CutsAtFirstCall, FullAtSecondCall, LeavesAtUnbuiltCall, UnbuiltCallsAreNeverMade, RegistersWithThreePlaces};
+ghost use Rattle.machine_laws.specs.Cuts.{CutsAtFirstCall, FullAtSecondCall, LeavesWhereFull, RegistersWithThreePlaces};
 ghost use Rattle.machine_laws.specs.Cuts.{FramesStandInTheHub, HubDutiesStandInTheHub, CutAtLastAsk, NotBeforeLastAsk, OnlyLeavesWithoutAsks};
 
 /// Where the journal has little room a frame is cut.
@@ -11,14 +11,11 @@ pub fn little_room_cuts()
     // At the second call, whichever it is, the frame is cut as full.
     ensures second { FullAtSecondCall }
 
+    // Where it leaves there, its frame ends without a cut: an end needs no place but its own.
+    ensures leaves { LeavesWhereFull }
+
     // A call that registers needs three places: with two left its frame is cut as full, also where the call would be refused.
     ensures registers { RegistersWithThreePlaces }
-{}
-
-/// A call that is not built is never made: an addon that asks it is taken to leave its frame.
-pub fn leaves_at_unbuilt_call()
-    ensures taken { LeavesAtUnbuiltCall }
-    ensures runs { UnbuiltCallsAreNeverMade }
 {}
 
 /// At every moment of a run the duty of the hub that began a frame is the one that stands in the hub, and no call began that frame. So every frame of a

@@ -19,7 +19,6 @@ pub mod OncePlaces
 pub mod Onces
 pub mod Orderly
 pub mod Orders
-pub mod QuietRuns
 pub mod Rooms
 pub mod Scripts
 pub mod SingleWorks

@@ -1,6 +1,5 @@
 -- What holds of all runs.
 pub mod AcceptedCalls
-pub mod Alone
 pub mod CollectionLaw
 pub mod Counts
 pub mod DutyPlaces

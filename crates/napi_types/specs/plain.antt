@@ -1,7 +1,7 @@
 -- Plain data: lists and numbers, entries and replies, what is known of a call by itself, the ends of the outside.
 pub mod Arguments
-pub mod Built
 pub mod CallFacts
+pub mod CallKinds
 pub mod Counted
 pub mod DutyCalls
 pub mod Edge

@@ -1,6 +1,6 @@
 //! Calls of the environment, by their names in the Node-API manual, and what an addon asks.
 ghost use Rattle.std.specs.Prelude.{◌≡◌};
-ghost use Rattle.napi_types.specs.plain.Built.{is_built, is_value_call};
+ghost use Rattle.napi_types.specs.plain.CallKinds.{is_value_call};
 ghost use Rattle.napi_types.specs.plain.Guards.{is_guarded, is_registering};
 
 use crate::{HandleId, RefId, ScopeId, TextNo, TsfnId, WorkId};
@@ -37,8 +37,7 @@ pub struct Args {
 
 /// A call of an addon, with its arguments in the order of the table of calls, without the register that keeps the result.
 ///
-/// `wrap` and `add_finalizer` tell in its place whether a reference is asked for. Which calls are built so far says
-/// `is_built`.
+/// `wrap` and `add_finalizer` tell in its place whether a reference is asked for.
 #[derive(Clone, Copy)]
 pub enum Call {
     // Values.
@@ -153,20 +152,11 @@ pub enum Call {
 #[derive(Clone, Copy)]
 struct Facts {
     value: bool,
-    built: bool,
     guarded: bool,
     registering: bool,
 }
 
 impl Call {
-    /// Whether the call is built so far. A call that is not built is never made: an addon that asks it is taken to leave its
-    /// frame.
-    pub fn is_built(&self) -> bool
-        ensures { result ≡ is_built self.now }
-    {
-        self.facts().built
-    }
-
     /// Whether the call is guarded: refused while an exception is pending, and in the teardown.
     pub fn is_guarded(&self) -> bool
         ensures { result ≡ is_guarded self.now }
@@ -181,21 +171,20 @@ impl Call {
         self.facts().registering
     }
 
-    /// Whether the call is one on values, properties and elements that is built.
+    /// Whether the call is one on values, properties and elements.
     pub fn is_value_call(&self) -> bool
         ensures { result ≡ is_value_call self.now }
     {
         self.facts().value
     }
 
-    /// The table of calls: whether each is one on values, is built, is guarded, and registers.
+    /// The table of calls: whether each is one on values, is guarded, and registers.
     fn facts(&self) -> Facts
         ensures value { result.value ≡ is_value_call self.now }
-        ensures built { result.built ≡ is_built self.now }
         ensures guarded { result.guarded ≡ is_guarded self.now }
         ensures registering { result.registering ≡ is_registering self.now }
     {
-        let (value, built, guarded, registering) = match self {
+        let (value, guarded, registering) = match self {
             Call::GetUndefined
             | Call::GetNull
             | Call::GetGlobal
@@ -215,7 +204,7 @@ impl Call {
             | Call::GetValueBool(_)
             | Call::GetValueStringUtf8(_)
             | Call::GetValueExternal(_)
-            | Call::GetArrayLength(_) => (true, true, false, false),
+            | Call::GetArrayLength(_) => (true, false, false),
             Call::CreateFunction(..)
             | Call::StrictEquals(..)
             | Call::SetNamedProperty(..)
@@ -225,22 +214,26 @@ impl Call {
             | Call::GetPropertyNames(_)
             | Call::SetElement(..)
             | Call::GetElement(..)
-            | Call::HasElement(..) => (true, true, true, false),
+            | Call::HasElement(..) => (true, true, false),
             Call::Unwrap(_)
             | Call::RemoveWrap(_)
             | Call::TypeTagObject(..)
             | Call::CheckObjectTypeTag(..)
             | Call::CallFunction(..)
             | Call::Throw(_)
-            | Call::ThrowError(..) => (false, true, true, false),
-            Call::Wrap(_, _, finalizer, _, _) => (false, true, true, finalizer.is_some()),
+            | Call::ThrowError(..) => (false, true, false),
+            Call::Wrap(_, _, finalizer, _, _) => (false, true, finalizer.is_some()),
             Call::CreateExternal(_, finalizer, _) | Call::SetInstanceData(_, finalizer, _) => (
                 false,
-                true,
                 false,
                 finalizer.is_some(),
             ),
-            Call::AddFinalizer(..) | Call::AddEnvCleanupHook(..) => (false, true, false, true),
+            Call::AddFinalizer(..)
+            | Call::AddEnvCleanupHook(..)
+            | Call::CreateAsyncWork(..)
+            | Call::QueueAsyncWork(_)
+            | Call::CreateThreadsafeFunction(..)
+            | Call::CallThreadsafeFunction(..) => (false, false, true),
             Call::OpenHandleScope
             | Call::OpenEscapableHandleScope
             | Call::CloseHandleScope(_)
@@ -256,18 +249,19 @@ impl Call {
             | Call::GetLastErrorInfo
             | Call::GetInstanceData
             | Call::RemoveEnvCleanupHook(..)
+            | Call::DeleteAsyncWork(_)
+            | Call::CancelAsyncWork(_)
+            | Call::AcquireThreadsafeFunction(_)
+            | Call::ReleaseThreadsafeFunction(..)
+            | Call::RefThreadsafeFunction(_)
+            | Call::UnrefThreadsafeFunction(_)
+            | Call::GetThreadsafeFunctionContext(_)
             | Call::Collect
             | Call::Exit
-            | Call::GetVersion => (false, true, false, false),
-            Call::CreateAsyncWork(..)
-            | Call::QueueAsyncWork(_)
-            | Call::CreateThreadsafeFunction(..)
-            | Call::CallThreadsafeFunction(..) => (false, false, false, true),
-            _ => (false, false, false, false),
+            | Call::GetVersion => (false, false, false),
         };
         Facts {
             value,
-            built,
             guarded,
             registering,
         }

@@ -1,5 +1,5 @@
 //! What the machine's definitions come to over all runs, as laws: each function does nothing, and its contract states a law.
-ghost use Rattle.napi_types.specs.all_runs.Laws.{RoomSuffices, CollectionsKeepWhatIsReached, TicketsAreOnce, WithdrawnByTheirCalls, RunsAloneAreQuiet, OnlyTicketsAreMade, EveryDutyIsOnce, TicketsBeginInOrder, TicketsAreCounted};
+ghost use Rattle.napi_types.specs.all_runs.Laws.{RoomSuffices, CollectionsKeepWhatIsReached, TicketsAreOnce, WithdrawnByTheirCalls, EveryDutyIsOnce, TicketsBeginInOrder, TicketsAreCounted};
 
 /// Where the limits have room for the events that every run has, entries and reserved places stay within them at the end
 /// of every run, and so at every moment; once the environment is gone no place is left reserved in either list. Among those
@@ -23,17 +23,6 @@ pub fn tickets_are_once()
 /// Only an accepted `remove_wrap`, `set_instance_data` or `remove_env_cleanup_hook` withdraws a duty.
 pub fn duties_are_withdrawn_by_their_calls()
     ensures { WithdrawnByTheirCalls }
-{}
-
-/// Where there are no threads and no workers, and no call that is built is shared, nothing is asked of the hub: the environment makes every entry, the
-/// loop ends by exit or idle, and the drain cancels no work.
-pub fn a_run_alone_is_quiet()
-    ensures { RunsAloneAreQuiet }
-{}
-
-/// In such a run no duty but those of finalizers and hooks is made, withdrawn or begun.
-pub fn only_tickets_are_made()
-    ensures { OnlyTicketsAreMade }
 {}
 
 /// In every run to its end, whatever threads and workers do, each duty that is made and not withdrawn begins exactly once, and one that is withdrawn

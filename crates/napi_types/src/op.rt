@@ -1,6 +1,6 @@
 //! Operations of a script: calls whose arguments stand in registers.
 ghost use Rattle.std.specs.Prelude.{◌≡◌};
-ghost use Rattle.napi_types.specs.scripts.ScriptOperations.{operation_name, is_built_operation};
+ghost use Rattle.napi_types.specs.scripts.ScriptOperations.{operation_name};
 
 use crate::{Ask, JobSpec, Mode, Release, TextNo};
 
@@ -102,16 +102,6 @@ impl Op {
         match self.fill(&[0; 32]) {
             Ask::Do(call) => call.name(),
             Ask::Leave(_) => "return",
-        }
-    }
-
-    /// Whether the operation's call is built so far; leaving a frame is.
-    pub fn is_built(&self) -> bool
-        ensures { result ≡ is_built_operation self.now }
-    {
-        match self.fill(&[0; 32]) {
-            Ask::Do(call) => call.is_built(),
-            Ask::Leave(_) => true,
         }
     }
 }

@@ -63,15 +63,13 @@ pub enum LimitName {
     Schedule,
 }
 
-/// What is wrong with a JSON value that is no script that can run.
+/// What is wrong with a JSON value that is no script.
 #[derive(Clone, Copy, Debug, PartialEq, Eq)]
 pub enum Wrong {
     /// A part has the wrong form, or is missing.
     Shape(Place),
     /// There are more than there may be.
     Limit(LimitName),
-    /// It is a script, and something in it is not built.
-    Stage,
 }
 
 impl Place {

@@ -27,7 +27,7 @@ use napi_types::{NoMemory, Place, Text, Wrong};
 use root::script;
 use std::alloc::Global;
 
-/// Why bytes are no script that can run.
+/// Why bytes are no script.
 #[derive(Drop)]
 pub enum Refusal {
     /// The bytes are no JSON text.
@@ -36,8 +36,6 @@ pub enum Refusal {
     Shape { path: Text },
     /// There are more of something than there may be, before anything else is wrong.
     Limit { which: LimitName },
-    /// They are a script, and something in it is not built: a call, workers, threads or a schedule.
-    Stage,
     /// There was no memory to read them.
     NoMemory,
 }
@@ -57,12 +55,10 @@ fn told(alloc: Global, stop: ReadingStop) -> Refusal
     ensures json { result ≡ Refusal.NotJson → stop ≡ ReadingStop.NotJson }
     ensures shape { (text : List ℕ) → result ≡ Refusal.Shape text → (p : Place) × (text ≡ path_of p) × (stop ≡ ReadingStop.Wrong (wrong.Shape p)) }
     ensures limit { (which : LimitName) → result ≡ Refusal.Limit which → stop ≡ ReadingStop.Wrong (wrong.Limit which) }
-    ensures stage { result ≡ Refusal.Stage → stop ≡ ReadingStop.Wrong wrong.Stage }
 {
     match stop {
         ReadingStop::NotJson => Refusal::NotJson,
         ReadingStop::NoMemory => Refusal::NoMemory,
-        ReadingStop::Wrong(Wrong::Stage) => Refusal::Stage,
         ReadingStop::Wrong(Wrong::Limit(which)) => Refusal::Limit { which },
         ReadingStop::Wrong(Wrong::Shape(place)) => match place.path(alloc) {
             Ok(path) => Refusal::Shape { path },
@@ -73,16 +69,15 @@ fn told(alloc: Global, stop: ReadingStop) -> Refusal
 
 /// Reads the script that a JSON text is.
 ///
-/// It answers `Ok` exactly where the bytes are a script all of which is built. Else it answers the first reason why they
-/// are none: `NotJson` where they are no JSON text; then `Shape` or `Limit` for the first part that is wrong, in the order
-/// of the root, the version, the workers, the addons, the threads and the schedule, each before what follows it, and a
-/// list's limit before its members; and `Stage` last. Want of memory may come in place of any answer.
+/// It answers `Ok` exactly where the bytes are a script. Else it answers the first reason why they are none: `NotJson`
+/// where they are no JSON text; then `Shape` or `Limit` for the first part that is wrong, in the order of the root, the
+/// version, the workers, the addons, the threads and the schedule, each before what follows it, and a list's limit before
+/// its members. Want of memory may come in place of any answer.
 pub fn read_script(alloc: Global, bytes: &[u8]) -> Result<Script, Refusal>
     ensures ok { IfOk result (λ found. IsScript bytes.now found) }
     ensures not_json { result ≡ Err Refusal.NotJson → IsNoJson bytes.now }
     ensures shape { (text : List ℕ) → result ≡ Err (Refusal.Shape text) → HasWrongShape bytes.now text }
     ensures limit { (which : LimitName) → result ≡ Err (Refusal.Limit which) → IsWrong bytes.now (wrong.Limit which) }
-    ensures stage { result ≡ Err Refusal.Stage → IsWrong bytes.now wrong.Stage }
 {
     match read(alloc, bytes) {
         Ok(script) => Ok(script),

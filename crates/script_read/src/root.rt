@@ -2,10 +2,8 @@
 ghost use Rattle.std.specs.Prelude.{◌≡◌, IfOk, option_map};
 ghost use Rattle.serde_json.specs.View.{view};
 ghost use Rattle.napi_types.specs.plain.Texts.{fixed_texts};
-ghost use Rattle.napi_types.specs.scripts.Script.{is_root, version_in, workers_in, addons_in, threads_in, script_in, is_built_plan, is_built_script, script, members_named};
-ghost use Rattle.napi_types.specs.scripts.ScriptOperations.{is_built_operation};
+ghost use Rattle.napi_types.specs.scripts.Script.{is_root, version_in, workers_in, addons_in, threads_in, script, members_named};
 ghost use Rattle.napi_types.specs.scripts.ScriptReading.{read_with};
-ghost use Rattle.std.specs.List.{list_all};
 ghost use Rattle.script_read.specs.Reads.{Reads, ReadsAs};
 
 use crate::addon::each_addon;
@@ -14,9 +12,7 @@ use crate::json::{ReadingStop, has_members, list_at};
 use crate::schedule::schedule_in;
 use crate::texts::TextTable;
 use crate::threads::each_thread;
-use napi_types::{
-    AddonPlan, LimitName, NAPI_VERSION, NoMemory, OpList, OpLists, Place, Plans, Script, Wrong,
-};
+use napi_types::{LimitName, NAPI_VERSION, NoMemory, OpLists, Place, Plans, Script, Wrong};
 use serde_json::Value;
 use std::alloc::Global;
 
@@ -105,10 +101,10 @@ fn threads_in(alloc: Global, found: Option<&Value>) -> Result<OpLists, ReadingSt
     each_thread(alloc, items)
 }
 
-/// The script that a value is, whether or not all of it is built.
-#[tactic(auto, unfolding(napi_types::specs::scripts::Script::script_in))]
-fn script_in(alloc: Global, value: &Value) -> Result<Script, ReadingStop>
-    ensures { Reads result (script_in (view value.now)) }
+/// The script that a value is.
+#[tactic(auto, unfolding(napi_types::specs::scripts::Script::script))]
+pub(crate) fn script(alloc: Global, value: &Value) -> Result<Script, ReadingStop>
+    ensures { Reads result (script (view value.now)) }
 {
     if !is_root(value) {
         return Err(ReadingStop::Wrong(Wrong::Shape(Place::Root)));
@@ -127,58 +123,4 @@ fn script_in(alloc: Global, value: &Value) -> Result<Script, ReadingStop>
         schedule,
         texts: table.into_texts(),
     })
-}
-
-/// Whether each operation of an entry is built.
-fn is_built_entry(operations: &OpList) -> bool
-    ensures { result ≡ list_all is_built_operation operations.now }
-{
-    operations
-        .items()
-        .iter()
-        .all(|operation| operation.is_built())
-}
-
-/// Whether each operation of an addon is built.
-fn is_built_plan(plan: &AddonPlan) -> bool
-    ensures { result ≡ is_built_plan plan.now }
-{
-    plan.entries.items().iter().all(is_built_entry)
-}
-
-/// Whether each operation of each addon is built.
-fn are_built_plans(plans: &Plans) -> bool
-    ensures { result ≡ list_all is_built_plan plans.now }
-{
-    plans.items().iter().all(is_built_plan)
-}
-
-/// Whether all of a script is built.
-#[tactic(auto, unfolding(napi_types::specs::scripts::Script::is_built_script))]
-fn is_built_script(script: &Script) -> bool
-    ensures { result ≡ is_built_script script.now }
-{
-    if script.workers != 0 {
-        return false;
-    }
-    if !script.threads.items().is_empty() {
-        return false;
-    }
-    if script.schedule.is_some() {
-        return false;
-    }
-    are_built_plans(&script.addons)
-}
-
-/// The script that a value is, where all of it is built.
-#[tactic(auto, unfolding(napi_types::specs::scripts::Script::script))]
-pub(crate) fn script(alloc: Global, value: &Value) -> Result<Script, ReadingStop>
-    ensures { Reads result (script (view value.now)) }
-{
-    let read = script_in(alloc, value)?;
-    if is_built_script(&read) {
-        Ok(read)
-    } else {
-        Err(ReadingStop::Wrong(Wrong::Stage))
-    }
 }

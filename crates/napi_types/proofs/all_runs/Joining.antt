@@ -1,11 +1,10 @@
 -- Where a journal and a front of the history are a run, and others went on from there, the journal and the whole history are a run.
-use Rattle.std.proofs.Common.{◌≡◌, ◌∙◌, ℕ, ◌+◌, suc, Bool, false, List, [], ◌∷◌, ◌++◌, length, length-append, IsTrue, refl, ap, sym, subst, None, arith, append_assoc}
+use Rattle.std.proofs.Common.{◌≡◌, ◌∙◌, ℕ, ◌+◌, suc, false, List, [], ◌∷◌, ◌++◌, length, length-append, IsTrue, refl, ap, sym, subst, None, arith, append_assoc}
 use Rattle.std.proofs.lemmas.List.{append-nil}
 use Rattle.std.proofs.lemmas.List.Elements.{All-head, All-tail}
 use Rattle.std.specs.Option.{option_to_list}
 use Rattle.napi_types.specs.declared.call.Ask.{Ask}
 use Rattle.napi_types.specs.declared.call.Ask.TheVariants as ask
-use Rattle.napi_types.specs.declared.call.Call.{Call}
 use Rattle.napi_types.specs.declared.entry.Actor.{Actor}
 use Rattle.napi_types.specs.declared.entry.Actor.TheVariants as actor
 use Rattle.napi_types.specs.declared.entry.Entry.{Entry}
@@ -39,9 +38,9 @@ others-step m a x actor.Env other = cc
 others-step m a x _ other = refl
 
 -- it asks nothing of an addon, and keeps no register
-others-ask : (built : Call → Bool) (ps : List Plan) (rss : Registers) (m : Machine) (a : Ask) (who : Actor) → is_environment who ≡ false → asked built ps rss m a who ≡ ask.Leave None
-others-ask built ps rss m a actor.Env other = cc
-others-ask built ps rss m a _ other = refl
+others-ask : (ps : List Plan) (rss : Registers) (m : Machine) (a : Ask) (who : Actor) → is_environment who ≡ false → asked ps rss m a who ≡ ask.Leave None
+others-ask ps rss m a actor.Env other = cc
+others-ask ps rss m a _ other = refl
 
 others-keep : (ps : List Plan) (rss : Registers) (m : Machine) (a : Ask) (x : Entry) → is_environment x.actor ≡ false → registers_after ps rss m a x ≡ rss
 others-keep ps rss m a x other = by x.actor other
@@ -86,8 +85,8 @@ module _ (s : Setting) (asks : List Ask) (journal : List Local) (front : List En
       final-more (opening_of s) asks (weave journal front) (ask.Leave None) x j.run.steps in
       let moved : after m (ask.Leave None) x ≡ (other_step m x).after = ap (λ (t : Step). t.after) (others-step m (ask.Leave None) x x.actor other) in
       let planned : asks ++ ask.Leave None ∷ [] ≡ planned_asks s (asks ++ ask.Leave None ∷ []) (weave journal front ++ x ∷ []) =
-      sym (asked-more s.built s.plans (loaded_registers s.plans) (opening_of s) asks (weave journal front) (ask.Leave None) x j.run.steps
-      ∙ ap (λ l. planned_asks s asks (weave journal front) ++ l ∷ []) (others-ask s.built s.plans (final_registers s asks (weave journal front)) m (ask.Leave None) x.actor other)
+      sym (asked-more s.plans (loaded_registers s.plans) (opening_of s) asks (weave journal front) (ask.Leave None) x j.run.steps
+      ∙ ap (λ l. planned_asks s asks (weave journal front) ++ l ∷ []) (others-ask s.plans (final_registers s asks (weave journal front)) m (ask.Leave None) x.actor other)
       ∙ ap (λ l. l ++ ask.Leave None ∷ []) (sym j.run.asked)) in
       let sided : sides_along (opening_of s) (asks ++ ask.Leave None ∷ []) (weave journal front ++ x ∷ []) ≡ sides journal (front ++ x ∷ []) =
       sides-more (opening_of s) asks (weave journal front) (ask.Leave None) x j.run.steps

@@ -79,7 +79,7 @@ pub nothing : (b c : Book) → c ≡ b → TicketStep b None None None c
 nothing b c same = called 0 None None c (stays c same)
 
 -- a phase starts
-pub phase-is : (p : Phase) (b : Book) → TicketStep b None None None (book_in p b)
+phase-is : (p : Phase) (b : Book) → TicketStep b None None None (book_in p b)
 phase-is phase.Finals b = called 0 None None _ (collects (λ n. true) _ refl)
 phase-is _ b = nothing b b refl
 
@@ -334,13 +334,13 @@ pub record RunAccount (t : ℕ) (b : Book) (xs : List Entry) (c : Book) : Type 0
   pub given : given_at t c ≡ given_at t b + made (ticket_duty t) xs
   pub owed : owed_at t c + begun (ticket_duty t) xs + dropped (ticket_duty t) xs ≡ owed_at t b + made (ticket_duty t) xs
 
-pub made-cons : (d : Duty) (x : Entry) (xs : List Entry) → made d (x ∷ xs) ≡ as_one (is_duty d x.reply.made) + made d xs
+made-cons : (d : Duty) (x : Entry) (xs : List Entry) → made d (x ∷ xs) ≡ as_one (is_duty d x.reply.made) + made d xs
 made-cons d x xs = sum_by-cons (λ (y : Entry). as_one (is_duty d y.reply.made)) x xs
 
-pub dropped-cons : (d : Duty) (x : Entry) (xs : List Entry) → dropped d (x ∷ xs) ≡ as_one (is_duty d x.reply.dropped) + dropped d xs
+dropped-cons : (d : Duty) (x : Entry) (xs : List Entry) → dropped d (x ∷ xs) ≡ as_one (is_duty d x.reply.dropped) + dropped d xs
 dropped-cons d x xs = sum_by-cons (λ (y : Entry). as_one (is_duty d y.reply.dropped)) x xs
 
-pub begun-cons : (d : Duty) (x : Entry) (xs : List Entry) → begun d (x ∷ xs) ≡ as_one (is_duty d (begun_duty x.what x.reply.out)) + begun d xs
+begun-cons : (d : Duty) (x : Entry) (xs : List Entry) → begun d (x ∷ xs) ≡ as_one (is_duty d (begun_duty x.what x.reply.out)) + begun d xs
 begun-cons d x xs = sum_by-cons (λ (y : Entry). as_one (is_duty d (begun_duty y.what y.reply.out))) x xs
 
 pub run-account : (t : ℕ) (m : Machine) (bs : List Ask) (xs : List Entry) → Orderly m → IsRunBy m bs xs → RunAccount t m.env.book xs (final m bs xs).env.book

@@ -11,7 +11,7 @@ use Rattle.napi_types.specs.runs.Setting.{Setting, final_of, opening_of}
 use Rattle.napi_types.specs.all_runs.Laws.{RoomSuffices}
 use Rattle.napi_types.proofs.all_runs.HistoryRooms.{HubRoomy, HistorySuffices, opening-hub, hub-run}
 use Rattle.napi_types.proofs.all_runs.JournalRooms.{Roomy, entries, Suffices, opening-room, run-roomy, run-counted, none-reserved}
-pub use Rattle.napi_types.proofs.runs.CallRooms.{built-room}
+pub use Rattle.napi_types.proofs.runs.CallRooms.{local-room}
 
 from-none : (n k : ℕ) → n ≡ 0 + k → n ≡ k
 from-none n k h = omega (arith, h)

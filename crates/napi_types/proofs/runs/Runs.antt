@@ -1,12 +1,11 @@
 -- Laws of runs: they grow at their end.
-use Rattle.std.proofs.Common.{◌≡◌, ◌∙◌, ◌==◌, ℕ, Bool, List, [], ◌∷◌, ◌++◌, refl, sym, ap, append_assoc}
+use Rattle.std.proofs.Common.{◌≡◌, ◌∙◌, ◌==◌, ℕ, List, [], ◌∷◌, ◌++◌, refl, sym, ap, append_assoc}
 use Rattle.std.proofs.lemmas.List.{append-nil}
 use Rattle.std.proofs.lemmas.List.Elements.{filter-append}
 use Rattle.std.specs.Option.{option_to_list}
 use Rattle.napi_types.specs.declared.duties.DueInfo.{DueInfo}
 use Rattle.napi_types.specs.declared.entry.Entry.{Entry}
 use Rattle.napi_types.specs.declared.call.Ask.{Ask}
-use Rattle.napi_types.specs.declared.call.Call.{Call}
 use Rattle.napi_types.specs.scripts.Plans.{Plan, Registers}
 use Rattle.napi_types.specs.runs.Begins.{begun_info, begun_along, of_addon}
 use Rattle.napi_types.specs.runs.Machine.{Machine}
@@ -44,13 +43,13 @@ final-more m bs xs a x r =
     along-entries (λ m bs xs. final m (bs ++ a ∷ []) (xs ++ x ∷ []) ≡ after (final m bs xs) a x) (λ m. refl) (λ m b bs y ys here rest. rest) m bs xs r
 
 -- and so have its asks and its registers
-pub asked-more : (built : Call → Bool) (ps : List Plan) (rss : Registers) (m : Machine) (bs : List Ask) (xs : List Entry) (a : Ask) (x : Entry)
+pub asked-more : (ps : List Plan) (rss : Registers) (m : Machine) (bs : List Ask) (xs : List Entry) (a : Ask) (x : Entry)
     → IsRunBy m bs xs
-    → asked_along built ps rss m (bs ++ a ∷ []) (xs ++ x ∷ []) ≡ asked_along built ps rss m bs xs ++ asked built ps (registers_along ps rss m bs xs) (final m bs xs) a x.actor ∷ []
-asked-more built ps rss m bs xs a x r =
-    along-entries (λ m bs xs. (rss : Registers) → asked_along built ps rss m (bs ++ a ∷ []) (xs ++ x ∷ [])
-    ≡ asked_along built ps rss m bs xs ++ asked built ps (registers_along ps rss m bs xs) (final m bs xs) a x.actor ∷ [])
-    (λ m rss. refl) (λ m b bs y ys here rest rss. ap (λ l. asked built ps rss m b y.actor ∷ l) (rest (registers_after ps rss m b y))) m bs xs r rss
+    → asked_along ps rss m (bs ++ a ∷ []) (xs ++ x ∷ []) ≡ asked_along ps rss m bs xs ++ asked ps (registers_along ps rss m bs xs) (final m bs xs) a x.actor ∷ []
+asked-more ps rss m bs xs a x r =
+    along-entries (λ m bs xs. (rss : Registers) → asked_along ps rss m (bs ++ a ∷ []) (xs ++ x ∷ [])
+    ≡ asked_along ps rss m bs xs ++ asked ps (registers_along ps rss m bs xs) (final m bs xs) a x.actor ∷ [])
+    (λ m rss. refl) (λ m b bs y ys here rest rss. ap (λ l. asked ps rss m b y.actor ∷ l) (rest (registers_after ps rss m b y))) m bs xs r rss
 
 pub registers-more : (ps : List Plan) (rss : Registers) (m : Machine) (bs : List Ask) (xs : List Entry) (a : Ask) (x : Entry)
     → IsRunBy m bs xs

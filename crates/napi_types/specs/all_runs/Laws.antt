@@ -12,9 +12,8 @@ use Rattle.napi_types.specs.hub.HistoryRoom.{reserved_history}
 use Rattle.napi_types.specs.runs.Machine.{Machine}
 use Rattle.napi_types.specs.runs.Run.{IsRunBy}
 use Rattle.napi_types.specs.runs.Setting.{Setting, RunsBy, EndsBy, final_of}
-use Rattle.napi_types.specs.all_runs.Alone.{IsAlone, IsQuietRun}
 use Rattle.napi_types.specs.all_runs.CollectionLaw.{KeepsReached}
-use Rattle.napi_types.specs.all_runs.Counts.{IsOnce, WithdrawsRightly, Once, made, dropped, begun}
+use Rattle.napi_types.specs.all_runs.Counts.{IsOnce, WithdrawsRightly, Once}
 use Rattle.napi_types.specs.all_runs.Order.{TicketsCount, HooksFall, FinalsRise}
 
 -- the machine counts the entries of the run; entries and reserved places of each list are within its limit, and at the end of the run no place is left reserved
@@ -54,15 +53,6 @@ TicketsAreOnce = (s : Setting) (bs : List Ask) (xs : List Entry) → EndsBy s bs
 -- in every run only an accepted `remove_wrap`, `set_instance_data` or `remove_env_cleanup_hook` withdraws a duty
 abbrev pub WithdrawnByTheirCalls : Type 0
 WithdrawnByTheirCalls = (s : Setting) (bs : List Ask) (xs : List Entry) → RunsBy s bs xs → All WithdrawsRightly xs
-
--- in every run of a setting without threads, without workers and without shared calls nothing is asked of the hub
-abbrev pub RunsAloneAreQuiet : Type 0
-RunsAloneAreQuiet = (s : Setting) (bs : List Ask) (xs : List Entry) → IsAlone s → RunsBy s bs xs → IsQuietRun s bs xs
-
--- no duty but a ticket is made, withdrawn or begun in it
-abbrev pub OnlyTicketsAreMade : Type 0
-OnlyTicketsAreMade = (s : Setting) (bs : List Ask) (xs : List Entry) → IsAlone s → RunsBy s bs xs
-    → (d : Duty) → is_ticket d ≡ false → (made d xs ≡ 0) × (dropped d xs ≡ 0) × (begun d xs ≡ 0)
 
 -- in every run to its end, whatever threads and workers do, each duty that is made and not withdrawn begins exactly once, and one that is withdrawn never; those
 -- calls alone withdraw

@@ -51,10 +51,6 @@ is_past_drain Drained = true
 is_past_drain Final = true
 is_past_drain _ = false
 
--- a hub without other actors, of which no call was asked, is its stage alone; from the drain on its pool is closing
-abbrev pub quiet_hub : Stage → Hub
-quiet_hub s = record (new_hub 0 0) { stage = s; pool = record new_pool { closing = is_past_drain s } }
-
 -- `go`, `loop_end`, `drain` and `finals` happen once each and in this order
 abbrev pub stage_after : Stage → HostStep → Option Stage
 stage_after Before host.Go = Some Going

@@ -26,11 +26,10 @@ pub data CallGroup : Type 0 where
   OnCollection : CallGroup
   OnExit : CallGroup
 
--- the call's group; whether it is built so far, whether it is guarded, whether it registers something, whether its entry stands in the history, and
+-- the call's group; whether it is guarded, whether it registers something, whether its entry stands in the history, and
 -- whether it takes memory beside that of its places; how many places it needs; and the handles, the texts and the references that it names
 pub record CallFacts : Type 0 where
   pub group : CallGroup
-  pub built : Bool
   pub guarded : Bool
   pub registers : Bool
   pub shared : Bool
@@ -40,10 +39,10 @@ pub record CallFacts : Type 0 where
   pub texts : List ℕ
   pub references : List ℕ
 
--- a call of this group that is built, and of which no more of this holds: it needs the place of its entry alone
+-- a call of this group, of which no more of this holds: it needs the place of its entry alone
 abbrev pub in_group : CallGroup → CallFacts
 in_group g =
-    record { group = g; built = true; guarded = false; registers = false; shared = false; grows = false; need = 1; handles = []; texts = []; references = [] }
+    record { group = g; guarded = false; registers = false; shared = false; grows = false; need = 1; handles = []; texts = []; references = [] }
 
 -- the handle of an argument that may be left out
 abbrev pub handle_if : Option HandleId → List ℕ
@@ -64,9 +63,9 @@ abbrev pub finalizer_places : Option ℕ → ℕ
 finalizer_places None = 0
 finalizer_places (Some entry) = duty_places
 
--- a shared call of this group: none is built so far
+-- a shared call of this group
 abbrev pub shared_in : CallGroup → CallFacts
-shared_in g = record (in_group g) { built = false; shared = true }
+shared_in g = record (in_group g) { shared = true }
 
 -- the table
 abbrev pub facts_of : Call → CallFacts

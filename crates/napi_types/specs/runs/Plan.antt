@@ -1,8 +1,7 @@
 -- What the plans of addons ask along a run, and the registers that they leave.
-use Rattle.std.specs.Prelude.{ℕ, Bool, cond, List, [], ◌∷◌, set, Option, Some, None}
+use Rattle.std.specs.Prelude.{ℕ, cond, List, [], ◌∷◌, set, Option, Some, None}
 use Rattle.napi_types.specs.declared.call.Ask.{Ask}
 use Rattle.napi_types.specs.declared.call.Ask.TheVariants as ask
-use Rattle.napi_types.specs.declared.call.Call.{Call}
 use Rattle.napi_types.specs.declared.call.Call.TheVariants as call
 use Rattle.napi_types.specs.declared.duties.DueInfo.{DueInfo}
 use Rattle.napi_types.specs.declared.entry.Actor.{Actor}
@@ -13,7 +12,6 @@ use Rattle.napi_types.specs.declared.entry.HostStep.TheVariants as host
 use Rattle.napi_types.specs.declared.entry.Reply.{Reply}
 use Rattle.napi_types.specs.declared.entry.What.{What}
 use Rattle.napi_types.specs.declared.entry.What.TheVariants as what
-use Rattle.napi_types.specs.plain.Built.{built_ask}
 use Rattle.napi_types.specs.plain.Lists.{tail}
 use Rattle.napi_types.specs.parts.Frames.{Frame, at_last_ask}
 use Rattle.napi_types.specs.parts.FunctionCalls.{callee_of, call_gifts}
@@ -30,19 +28,19 @@ abbrev pub frame_ask : Plan → List ℕ → Frame → Ask → Ask
 frame_ask None rs f a = a
 frame_ask (Some p) rs f a = plan_ask p rs f.entry f.asks
 
--- what it is taken to ask where these calls are built; a frame that makes no asks leaves at once
-abbrev pub taken_ask : (Call → Bool) → Plan → List ℕ → Frame → Ask → Ask
-taken_ask built p rs f a = cond f.makes_asks (built_ask built (frame_ask p rs f a)) (ask.Leave None)
+-- what it is taken to ask: a frame that makes no asks leaves at once
+abbrev pub taken_ask : Plan → List ℕ → Frame → Ask → Ask
+taken_ask p rs f a = cond f.makes_asks (frame_ask p rs f a) (ask.Leave None)
 
 -- the ask of the innermost frame; an event with no frame has `Leave None` in the place of its ask
-abbrev pub frames_ask : (Call → Bool) → List Plan → Registers → List Frame → Ask → Ask
-frames_ask built ps rss [] a = ask.Leave None
-frames_ask built ps rss (f ∷ fs) a = taken_ask built (plan_of ps f.addon) (registers_of rss f.addon) f a
+abbrev pub frames_ask : List Plan → Registers → List Frame → Ask → Ask
+frames_ask ps rss [] a = ask.Leave None
+frames_ask ps rss (f ∷ fs) a = taken_ask (plan_of ps f.addon) (registers_of rss f.addon) f a
 
 -- what is asked at an entry of this actor: by the environment what its innermost frame asks; threads and workers ask nothing of an addon
-abbrev pub asked : (Call → Bool) → List Plan → Registers → Machine → Ask → Actor → Ask
-asked built ps rss m a actor.Env = frames_ask built ps rss m.env.frames a
-asked built ps rss m a _ = ask.Leave None
+abbrev pub asked : List Plan → Registers → Machine → Ask → Actor → Ask
+asked ps rss m a actor.Env = frames_ask ps rss m.env.frames a
+asked ps rss m a _ = ask.Leave None
 
 -- WHAT THE REGISTERS KEEP
 -- the registers of a frame's addon after a reply; where no plan is told they stay as they are, and nothing is said of them
@@ -95,6 +93,6 @@ registers_along ps rss m (a ∷ bs) (x ∷ xs) = registers_along ps (registers_a
 registers_along ps rss m _ _ = rss
 
 -- the asks that the plans give along entries
-abbrev pub asked_along : (Call → Bool) → List Plan → Registers → Machine → List Ask → List Entry → List Ask
-asked_along built ps rss m (a ∷ bs) (x ∷ xs) = asked built ps rss m a x.actor ∷ asked_along built ps (registers_after ps rss m a x) (after m a x) bs xs
-asked_along built ps rss m _ _ = []
+abbrev pub asked_along : List Plan → Registers → Machine → List Ask → List Entry → List Ask
+asked_along ps rss m (a ∷ bs) (x ∷ xs) = asked ps rss m a x.actor ∷ asked_along ps (registers_after ps rss m a x) (after m a x) bs xs
+asked_along ps rss m _ _ = []

@@ -1,23 +1,21 @@
 -- Runs of a script.
-use Rattle.std.specs.Prelude.{◌≡◌, ℕ, Bool, List, length}
+use Rattle.std.specs.Prelude.{◌≡◌, ℕ, List, length}
 use Rattle.napi_types.specs.declared.entry.Entry.{Entry}
 use Rattle.napi_types.specs.declared.entry.Limits.{Limits}
 use Rattle.napi_types.specs.declared.entry.Phase.TheVariants as phase
 use Rattle.napi_types.specs.declared.call.Ask.{Ask}
-use Rattle.napi_types.specs.declared.call.Call.{Call}
 use Rattle.napi_types.specs.scripts.Plans.{Plan, Registers, loaded_registers}
 use Rattle.napi_types.specs.runs.Machine.{Machine, opening}
 use Rattle.napi_types.specs.runs.Plan.{asked_along, registers_along}
 use Rattle.napi_types.specs.runs.Run.{IsRunBy, final}
 
--- what a run is a run of: what each addon of the script tells of its plan, how many texts, threads and workers there are, the limits, and which calls are built
+-- what a run is a run of: what each addon of the script tells of its plan, how many texts, threads and workers there are, and the limits
 pub record Setting : Type 0 where
   pub plans : List Plan
   pub texts : ℕ
   pub threads : ℕ
   pub workers : ℕ
   pub limits : Limits
-  pub built : Call → Bool
 
 -- the machine at the start of a run
 abbrev pub opening_of : Setting → Machine
@@ -33,7 +31,7 @@ final_registers s bs xs = registers_along s.plans (loaded_registers s.plans) (op
 
 -- the asks that the plans give along it
 abbrev pub planned_asks : Setting → List Ask → List Entry → List Ask
-planned_asks s bs xs = asked_along s.built s.plans (loaded_registers s.plans) (opening_of s) bs xs
+planned_asks s bs xs = asked_along s.plans (loaded_registers s.plans) (opening_of s) bs xs
 
 -- the entries are a run at these asks, and the asks are those of the plans
 pub record RunsBy (s : Setting) (bs : List Ask) (xs : List Entry) : Type 0 where

@@ -1,7 +1,6 @@
 -- The script that a JSON value is, or the first thing that is wrong with it: the parts are read in the order root, version, workers, addons,
 -- threads, schedule, each before what stands in the next, and a list's limit is tried before its members.
-use Rattle.std.specs.Prelude.{◌≡◌, ℕ, ◌+◌, ◌==◌, ◌&&◌, if◌then◌else◌, Bool, false, List, Option, option_map, option_and_then, unwrap_or, is_some, codes, is_none, length}
-use Rattle.std.specs.List.{list_all}
+use Rattle.std.specs.Prelude.{◌≡◌, ℕ, ◌+◌, ◌==◌, if◌then◌else◌, Bool, false, List, Option, option_map, option_and_then, unwrap_or, is_some, codes, length}
 use Rattle.std.specs.declared.result.Result.TheVariants.{Ok, Err}
 use Rattle.serde_json.specs.Data.{Data}
 use Rattle.serde_json.specs.Find.{get}
@@ -17,7 +16,6 @@ use Rattle.napi_types.specs.plain.Numbers.{napi_version}
 use Rattle.napi_types.specs.plain.Texts.{fixed_texts}
 use Rattle.napi_types.specs.scripts.ScriptAddons.{has_members, addon_at}
 use Rattle.napi_types.specs.scripts.ScriptArguments.{whole}
-use Rattle.napi_types.specs.scripts.ScriptOperations.{is_built_operation}
 use Rattle.napi_types.specs.scripts.ScriptPaths.{path}
 use Rattle.napi_types.specs.scripts.ScriptReading.{IsJson, Reading, ◌>>=◌, formed, when_formed, within_limit, list_at, every, Read, each}
 use Rattle.napi_types.specs.scripts.ScriptThreads.{thread_at, schedule_in}
@@ -55,9 +53,9 @@ threads_in found = do
   ds ← list_at place.Threads limit.Threads 16 found
   every thread_at 0 ds
 
--- the script that a value is, whether or not all of it is built
-unfoldable pub script_in : Data → Reading Script
-script_in d = do
+-- the script that a value is
+unfoldable pub script : Data → Reading Script
+script d = do
   _ ← when_formed place.Root (is_root d)
   _ ← version_in (get (codes "version") d)
   workers ← workers_in (get (codes "workers") d)
@@ -65,20 +63,6 @@ script_in d = do
   threads ← threads_in (get (codes "threads") d)
   schedule ← schedule_in (length threads) workers (get (codes "schedule") d)
   Ok (record { version = napi_version; workers = workers; addons = addons.found; threads = threads; schedule = schedule; texts = addons.texts })
-
--- whether each operation of an addon is built
-abbrev pub is_built_plan : AddonPlan → Bool
-is_built_plan plan = list_all (λ operations. list_all is_built_operation operations) plan.entries
-
--- whether all of a script is built: its operations, and no workers, threads or schedule
-unfoldable pub is_built_script : Script → Bool
-is_built_script s = (s.workers == 0) && (length s.threads == 0) && is_none s.schedule && list_all is_built_plan s.addons
-
--- the script that a value is, where all of it is built
-unfoldable pub script : Data → Reading Script
-script d = do
-  s ← script_in d
-  if is_built_script s then Ok s else Err wrong.Stage
 
 -- the bytes are a JSON text of a value that is this script
 abbrev pub IsScript : List ℕ → Script → Type 0

@@ -1,6 +1,6 @@
 -- The operations of a script. The name of one says what kind of operation it is, and the table says, a line an operation, what its arguments are read as.
 -- Where two numbers have the same form, as the register of an argument and the register that keeps the result, they stand in the order of the operation's own.
-use Rattle.std.specs.Prelude.{ℕ, pos, Bool, true, false, List, [], ◌∷◌, Option, Some, None, option_map, codes, bytes_eq, find}
+use Rattle.std.specs.Prelude.{ℕ, pos, false, List, [], ◌∷◌, Option, Some, None, option_map, codes, bytes_eq, find}
 use Rattle.std.specs.Option.{option_or}
 use Rattle.serde_json.specs.Data.{Data, string, array, Items, no_items, item}
 use Rattle.napi_types.specs.declared.call.Ask.{Ask}
@@ -11,7 +11,6 @@ use Rattle.napi_types.specs.declared.call.Mode.TheVariants as mode
 use Rattle.napi_types.specs.declared.call.Release.TheVariants as release
 use Rattle.napi_types.specs.declared.op.Op.{Op}
 use Rattle.napi_types.specs.declared.op.Op.TheVariants as op
-use Rattle.napi_types.specs.plain.Built.{is_built}
 use Rattle.napi_types.specs.plain.Texts.{text_number, with_text}
 use Rattle.napi_types.specs.scripts.Names.{call_name}
 use Rattle.napi_types.specs.scripts.Registers.{operation_ask, blank_registers}
@@ -25,15 +24,6 @@ ask_name (ask.Leave v) = codes "return"
 -- the name of an operation: that of its call, and `return`
 abbrev pub operation_name : Op → List ℕ
 operation_name o = ask_name (operation_ask o blank_registers)
-
--- whether what is asked is built so far; leaving a frame is
-abbrev pub is_built_ask : Ask → Bool
-is_built_ask (ask.Do c) = is_built c
-is_built_ask (ask.Leave v) = true
-
--- whether an operation's call is built so far
-abbrev pub is_built_operation : Op → Bool
-is_built_operation o = is_built_ask (operation_ask o blank_registers)
 
 -- the operation of a name among some
 unfoldable pub named : List ℕ → List Op → Option Op

@@ -8,7 +8,6 @@ use std::process::Abort;
 #[derive(Clone, Copy)]
 enum Answer {
     Ok,
-    Stage,
     /// The part of this path has the wrong form.
     Shape(&'static str),
     Limit(LimitName),
@@ -102,7 +101,7 @@ static ROWS: [(Answer, &[Piece]); 29] = [
         &[THREAD, (16_383, ACQUIRE), (1, ",0"), THREAD_END],
     ),
     (
-        Answer::Stage,
+        Answer::Ok,
         &[THREAD, (16_384, ACQUIRE), (1, "]"), SCHEDULE, LIST_END],
     ),
     (
@@ -129,7 +128,7 @@ static ROWS: [(Answer, &[Piece]); 29] = [
         &[THREAD, (16_385, ACQUIRE), (1, "],"), (16, "[]"), LIST_END],
     ),
     // Schedules.
-    (Answer::Stage, &[WORDS, (65_536, ENV), LIST_END]),
+    (Answer::Ok, &[WORDS, (65_536, ENV), LIST_END]),
     (WORD_COUNT, &[WORDS, (65_537, ENV), LIST_END]),
     (WORD_COUNT, &[WORDS, (65_537, "0"), LIST_END]),
     (WORD_COUNT, &[WORDS, (1, "1,"), (65_536, ENV), LIST_END]),
@@ -172,7 +171,6 @@ fn is_shape(want: Answer, path: &[u8]) -> bool {
 fn is_answered(alloc: Global, bytes: &[u8], want: Answer) -> bool {
     match read_script(alloc, bytes) {
         Ok(_) => matches!(want, Answer::Ok),
-        Err(Refusal::Stage) => matches!(want, Answer::Stage),
         Err(Refusal::Shape { path }) => is_shape(want, path.bytes()),
         Err(Refusal::Limit { which }) => matches!(want, Answer::Limit(told) if told == which),
         Err(Refusal::NotJson | Refusal::NoMemory) => false,

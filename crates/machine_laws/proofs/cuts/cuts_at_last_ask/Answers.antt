@@ -9,7 +9,6 @@ use Rattle.napi_types.specs.declared.entry.Out.{Out}
 use Rattle.napi_types.specs.declared.entry.Why.{Why}
 use Rattle.napi_types.specs.declared.entry.Why.TheVariants as why
 use Rattle.napi_types.specs.declared.ids.HandleId.{HandleId}
-use Rattle.napi_types.specs.plain.Built.{built_ask}
 use Rattle.napi_types.specs.plain.Entries.{cut_of}
 use Rattle.napi_types.specs.plain.Guards.{is_shared}
 use Rattle.napi_types.specs.parts.Frames.{asks_made, Frame, is_asking, duty_of, is_hub_duty}
@@ -41,11 +40,11 @@ returns-clause-last c = last
 pub returns-clause-early : goal.returns-clause-early
 returns-clause-early c = early
 
-asked-none : (m : Machine) (f : Frame) (fs : List Frame) → m.env.frames ≡ f ∷ fs → f.makes_asks ≡ false → (built : Call → Bool) (ps : List Plan) (rss : Registers) (a : Ask)
-    → asked built ps rss m a actor.Env ≡ ask.Leave None
-asked-none m f fs stands silent built ps rss a =
-    ap (λ l. frames_ask built ps rss l a) stands
-    ∙ ap (λ b. cond b (built_ask built (frame_ask (plan_of ps f.addon) (registers_of rss f.addon) f a)) (ask.Leave None)) silent
+asked-none : (m : Machine) (f : Frame) (fs : List Frame) → m.env.frames ≡ f ∷ fs → f.makes_asks ≡ false → (ps : List Plan) (rss : Registers) (a : Ask)
+    → asked ps rss m a actor.Env ≡ ask.Leave None
+asked-none m f fs stands silent ps rss a =
+    ap (λ l. frames_ask ps rss l a) stands
+    ∙ ap (λ b. cond b (frame_ask (plan_of ps f.addon) (registers_of rss f.addon) f a) (ask.Leave None)) silent
 
 -- it makes no call
 no-call : (e : Environment) (f : Frame) (fs : List Frame) → e.frames ≡ f ∷ fs → f.makes_asks ≡ false → IsTrue (may_call e) → ⊥

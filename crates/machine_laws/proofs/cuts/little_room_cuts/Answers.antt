@@ -1,11 +1,16 @@
-use Rattle.std.proofs.Common.{◌≡◌, ◌+◌, true, false, cond, nat_lt, IsTrue, refl, ap, [], ◌∷◌, ◌++◌, ◌∙◌, sym, Option, ℕ, Some}
+use Rattle.std.proofs.Common.{◌≡◌, ◌+◌, true, false, cond, nat_lt, IsTrue, refl, ap, [], ◌∷◌, ◌++◌, ◌∙◌, sym, Option, ℕ, Some, None}
 use Rattle.napi_types.specs.declared.call.Args.{Args}
 use Rattle.napi_types.specs.declared.call.Ask.TheVariants as ask
 use Rattle.napi_types.specs.declared.call.Call.{Call}
 use Rattle.napi_types.specs.declared.call.Call.TheVariants as call
 use Rattle.napi_types.specs.declared.entry.Cause.TheVariants as cause
+use Rattle.napi_types.specs.declared.entry.HostStep.TheVariants as host
+use Rattle.napi_types.specs.declared.entry.Out.{Out}
+use Rattle.napi_types.specs.declared.entry.Out.TheVariants as out
+use Rattle.napi_types.specs.declared.entry.Why.{Why}
 use Rattle.napi_types.specs.declared.entry.Why.TheVariants as why
 use Rattle.napi_types.specs.declared.ids.HandleId.{HandleId}
+use Rattle.napi_types.specs.plain.Entries.{host_entry}
 use Rattle.napi_types.specs.plain.Guards.{is_shared, is_registering}
 use Rattle.napi_types.specs.plain.Room.{need, is_full, may_want_memory}
 use Rattle.napi_types.specs.environment.Changes.{may_call}
@@ -14,11 +19,13 @@ use Rattle.napi_types.specs.hub.HistoryRoom.{history_room}
 use Rattle.napi_types.specs.runs.CallRoom.{room_of}
 use Rattle.napi_types.specs.runs.Run.{IsNext}
 use Rattle.napi_types.specs.runs.Setting.{opening_of, RunsBy}
+use Rattle.napi_types.specs.runs.Step.{frame_step}
 use Rattle.napi_types.proofs.plain.Conditions.{and-right}
-use Rattle.machine_laws.specs.Cuts.{tight, machine_begun, opening_asks, create, object_made, cut_by, IsOnlyNext, IsCutFull, first_called, FullAtSecondCall, script_within, two_left, external_made}
+use Rattle.machine_laws.specs.Cuts.{tight, machine_begun, opening_asks, create, object_made, cut_by, IsOnlyNext, IsCutFull, first_called, FullAtSecondCall, LeavesWhereFull, script_within, two_left, external_made}
 use Rattle.machine_laws.specs.RunWords.{opening_entries}
 use Rattle.machine_laws.proofs.Computing.{run-of}
-use Rattle.machine_laws.proofs.Cutting.{cut-full, taken-full, taken-wants, full-there, two-full}
+use Rattle.machine_laws.proofs.Cutting.{cut-full, taken-full, taken-wants, full-there, two-full, only-in-frame}
+use Rattle.machine_laws.proofs.Others.{only-alone}
 use Rattle.machine_laws.proofs.cuts.little_room_cuts.Goals as goal
 
 -- a local call that needs one place is not full at the first ask
@@ -80,3 +87,16 @@ registers-room payload entry hint = record {
 
 pub returns-clause-registers : goal.returns-clause-registers
 returns-clause-registers c = record { full = registers-full; refused = λ h payload entry hint wanted. refl; room = registers-room }
+
+leaves-only : (o : Out) (w : Option Why) → IsTrue (frame_step first_called (ask.Leave None) o w).may → (frame_step first_called (ask.Leave None) o w).entry ≡ host_entry host.End out.Nothing
+leaves-only o None h = refl
+leaves-only o (Some why.Asks) h = cc
+leaves-only o (Some why.Full) h = cc
+leaves-only o (Some why.Memory) h = cc
+
+leaves : LeavesWhereFull
+leaves = only-alone first_called (ask.Leave None) (host_entry host.End out.Nothing) refl refl
+    ((refl, refl), only-in-frame first_called (ask.Leave None) _ _ (host_entry host.End out.Nothing) refl leaves-only)
+
+pub returns-clause-leaves : goal.returns-clause-leaves
+returns-clause-leaves c = leaves

@@ -52,8 +52,8 @@ returns-clause-lists c = lists-law
 
 registers-law : OthersLeaveRegisters
 registers-law n = (
-  record { asked = λ built ps rss m a. refl; registers = λ ps rss m a x who. ap (after_entry ps rss m a x) who },
-  record { asked = λ built ps rss m a. refl; registers = λ ps rss m a x who. ap (after_entry ps rss m a x) who },
+  record { asked = λ ps rss m a. refl; registers = λ ps rss m a x who. ap (after_entry ps rss m a x) who },
+  record { asked = λ ps rss m a. refl; registers = λ ps rss m a x who. ap (after_entry ps rss m a x) who },
 )
 
 pub returns-clause-registers : goal.returns-clause-registers

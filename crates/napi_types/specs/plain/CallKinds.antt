@@ -1,10 +1,8 @@
--- Which calls are built so far, and what an addon is taken to ask that asks another.
-use Rattle.std.specs.Prelude.{Bool, true, false, cond, None}
-use Rattle.napi_types.specs.declared.call.Ask.{Ask}
-use Rattle.napi_types.specs.declared.call.Ask.TheVariants as ask
+-- Calls of one kind: those that give or create a value, those that tell what one is, those on values, `exit`, and the call of a function.
+use Rattle.std.specs.Prelude.{Bool, true, false}
 use Rattle.napi_types.specs.declared.call.Call.{Call}
 use Rattle.napi_types.specs.declared.call.Call.TheVariants as call
-use Rattle.napi_types.specs.plain.CallFacts.{CallGroup, OnValues, OnProperties, OnFunctions, facts_of, group_of}
+use Rattle.napi_types.specs.plain.CallFacts.{CallGroup, OnValues, OnProperties, OnFunctions, group_of}
 
 -- the calls on values that give a handle of a starting value, or create a value
 abbrev pub is_creating : Call → Bool
@@ -54,12 +52,3 @@ is_exiting _ = false
 abbrev pub is_calling : Call → Bool
 is_calling (call.CallFunction _ _ _) = true
 is_calling _ = false
-
--- the calls that are built
-abbrev pub is_built : Call → Bool
-is_built c = (facts_of c).built
-
--- what an addon is taken to ask where these calls are built: another call is never made, and the addon that asks it is taken to leave
-abbrev pub built_ask : (Call → Bool) → Ask → Ask
-built_ask built (ask.Do c) = cond (built c) (ask.Do c) (ask.Leave None)
-built_ask built (ask.Leave v) = ask.Leave v
