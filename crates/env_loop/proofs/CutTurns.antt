@@ -1,51 +1,44 @@
--- A turn in which the innermost frame is cut.
-use Rattle.std.proofs.Common.{◌≡◌, ℕ, ◌+◌, ◌<◌, ◌==◌, ◌&&◌, ◌||◌, not, ◌⊎◌, inl, inr, nat_lt, min, Bool, true, false, List, refl, ap, subst, sym, ◌∙◌, Some, None, IfSome, arith}
+-- A frame that may be cut: its call stopped, it has made all its asks, or its cut is owed.
+use Rattle.std.proofs.Common.{◌≡◌, ℕ, ◌+◌, ◌<◌, ◌==◌, ◌&&◌, ◌||◌, not, ◌⊎◌, inl, inr, nat_lt, min, Bool, true, false, List, refl, ap, subst, sym, ◌∙◌, Option, Some, None, IfSome, is_some, arith}
 use Rattle.napi_types.specs.declared.call.Ask.{Ask}
 use Rattle.napi_types.specs.declared.call.Ask.TheVariants as ask
 use Rattle.napi_types.specs.declared.call.Call.{Call}
+use Rattle.napi_types.specs.declared.call.Call.TheVariants as call
 use Rattle.napi_types.specs.declared.entry.Entry.{Entry}
 use Rattle.napi_types.specs.declared.entry.Why.{Why}
 use Rattle.napi_types.specs.declared.entry.Why.TheVariants as why
 use Rattle.napi_types.specs.declared.status.Status.{Status}
 use Rattle.napi_types.specs.declared.status.Status.TheVariants as status
-use Rattle.napi_types.specs.plain.Built.{is_built, built_ask}
-use Rattle.napi_types.specs.plain.Guards.{is_growing}
-use Rattle.napi_types.specs.plain.Lists.{head, tail}
+use Rattle.napi_types.specs.plain.Guards.{is_growing, is_shared}
+use Rattle.napi_types.specs.plain.Lists.{head}
 use Rattle.napi_types.specs.plain.Room.{Room, is_full, need, first_places, may_want_memory}
-use Rattle.napi_types.specs.parts.Frames.{Frame, asks_made, most_asks}
+use Rattle.napi_types.specs.parts.Frames.{Frame, asks_made, duty_of, is_hub_duty, most_asks}
 use Rattle.napi_types.specs.scripts.Plans.{Plan, plan_of, Registers, registers_of}
 use Rattle.napi_types.specs.scripts.Registers.{plan_ask}
 use Rattle.napi_types.specs.environment.Changes.{may_call}
-use Rattle.napi_types.specs.environment.Ends.{end_change}
 use Rattle.napi_types.specs.environment.Environment.{Environment}
+use Rattle.napi_types.specs.environment.SharedCalls.{shared_call_of}
 use Rattle.napi_types.specs.hub.Hub.{Hub}
+use Rattle.napi_types.specs.hub.HubSteps.{hub_along}
 use Rattle.napi_types.specs.runs.CallRoom.{room_of}
-use Rattle.napi_types.specs.runs.Setting.{Setting}
+use Rattle.napi_types.specs.runs.Machine.{Machine}
+use Rattle.napi_types.specs.runs.Setting.{Setting, opening_of}
 use Rattle.napi_types.specs.runs.Step.{may_cut}
-use Rattle.napi_types.proofs.plain.CallFacts.{built-local}
-use Rattle.napi_types.proofs.environment.FrameEnds.{ended-ends}
-use Rattle.env_core.specs.Core.{Core, after_change, room_in}
-use Rattle.env_core.specs.CoreSteps.{GrowsUnrefused, PassesFirstPlaces, StopsBy}
+use Rattle.env_core.specs.declared.env.Stepped.TheVariants as stepped
+use Rattle.env_core.specs.Core.{Core, room_in}
+use Rattle.env_core.specs.CoreSteps.{IsHandedOver, GrowsUnrefused, PassesFirstPlaces, StopsBy}
+use Rattle.env_core.specs.Sharing.{names_function, wants_root}
+use Rattle.env_loop.specs.declared.run.FrameEnd.{FrameEnd}
+use Rattle.env_loop.specs.declared.run.FrameEnd.TheVariants as end
+use Rattle.env_loop.specs.FollowedRuns.{MayEndSo}
 use Rattle.env_loop.specs.Recording.{AddonStates, machine_of, why_stopped}
-use Rattle.env_loop.specs.RecordedRuns.{IsSoundEnvironment}
-use Rattle.env_loop.specs.Turns.{IsAsked, IsTurn}
-use Rattle.env_loop.proofs.TurnSteps.{two_may, both_may, taken-built, cut-next, same-room}
-use Rattle.env_loop.proofs.FrameTurns.{InFrame, in-stands, in-calls}
-use Rattle.env_loop.proofs.LocalFrames.{innermost-local}
-use Rattle.env_loop.proofs.RegisterTurns.{told-from}
-use Rattle.env_loop.proofs.EndTurns.{callers_of, IsToldEnd, ended-turn}
-
--- the frame may be cut so where this is asked, in every script of these addons
-abbrev MayCut : Core → Ask → Why → Type 0
-MayCut core a w = (s : Setting) (hub : Hub) (history : List Entry) → core.limit ≡ s.limits.journal → may_cut (machine_of s.limits core hub history) a w ≡ true
-
-cut-turn : {ps : List Plan} {core : Core} {all : AddonStates} {f : Frame} {a : Ask} → InFrame ps core.env all.registers f a → (w : Why) (new : Core) (now : AddonStates)
-    → MayCut core (built_ask is_built a) w → new ≡ after_change (end_change None (Some w) core.env) core → IsToldEnd ps all.registers core.env None (Some w) now.registers → now.seen ≡ all.seen → IsTurn ps core all new now
-cut-turn {ps} {core} {all} {f} {a} i w new now may made told same =
-    ended-turn i None (Some w) new now
-    (λ s hub history limit. cut-next (machine_of s.limits core hub history) (built_ask is_built a) w (end_change None (Some w) core.env).entry.reply.out f (tail core.env.frames) (in-stands i)
-    (innermost-local core.env.frames i.sound.local)
-    (ended-ends None (Some w) core.env).told (may s hub history limit)) made told same
+use Rattle.env_loop.specs.RecordedRuns.{Run, IsSoundEnvironment, IsOwedEnd, IsRunning, owes_hub}
+use Rattle.env_loop.specs.Turns.{IsAskIn, IsAskOf}
+use Rattle.env_loop.proofs.MadeTurns.{unowed-idle}
+use Rattle.env_loop.proofs.TurnSteps.{two_may, both_may, same-room}
+use Rattle.env_loop.proofs.FrameTurns.{InFrame, in-stands, in-some, in-calls}
+use Rattle.env_loop.proofs.RegisterTurns.{asks-in}
+use Rattle.env_loop.proofs.EndTurns.{MayEndAs, MayEndInScripts}
 
 -- ITS CALL STOPPED
 -- a call that grows, or passes the first places, may want memory
@@ -57,57 +50,126 @@ wants_memory e r c (inr passes) = by (min first_places r.limit) (r.occupied + ne
     by a b h true = refl
     by a b h false = grind arith
 
--- a frame may be cut where its call stopped, for the reason that the status gives
-stopped-may : (s : Setting) (core : Core) (hub : Hub) (history : List Entry) (a : Ask) (c : Call) (t : Status) → core.limit ≡ s.limits.journal → may_call core.env ≡ true
-    → ask.Do c ≡ built_ask is_built a
-    → StopsBy core.env (room_in core) c t → may_cut (machine_of s.limits core hub history) (built_ask is_built a) (why_stopped t) ≡ true
-stopped-may s core hub history a c t limit may made stops =
-    ap (λ b. may_cut (machine_of s.limits core hub history) b (why_stopped t)) (sym made)
-    ∙ by t (subst (λ (x : Room). StopsBy core.env x c t) (same-room s core hub history c (taken-built a c made) limit) stops)
+-- a local call stopped, for the reason that the status gives, ..
+stopped-local : (m : Machine) (c : Call) (t : Status) → is_shared c ≡ false → may_call m.env ≡ true → StopsBy m.env (room_of m c) c t
+    → may_cut m (ask.Do c) (why_stopped t) ≡ true
+stopped-local m c status.TraceFull local may stops = two_may (may_call m.env) (is_full (room_of m c) c) may stops
+stopped-local m c status.NoMemory local may stops =
+    ap (λ shared. may_call m.env && may_want_memory (room_of m c) c && (shared || not (is_full (room_of m c) c))) local
+    ∙ both_may (may_call m.env) (may_want_memory (room_of m c) c) (is_full (room_of m c) c) may (wants_memory m.env (room_of m c) c stops.0) stops.1
+stopped-local m c _ local may stops = absurd stops
+
+-- .. and a shared one, which found no memory for the root that it wants
+rooting-grows : (c : Call) → names_function c ≡ true → is_growing c ≡ true
+rooting-grows (call.CreateThreadsafeFunction (Some f) b d x y z) names = refl
+rooting-grows _ names = cc
+
+first-of : (a b : Bool) → (a && b) ≡ true → a ≡ true
+first-of true b both = refl
+first-of false b both = cc
+
+three-may : (a b c d e : Bool) → a ≡ true → b ≡ true → d ≡ true → (a && (b || c) && (d || e)) ≡ true
+three-may a b c d e p q r = rw (p, q, r) refl
+
+stopped-shared : (m : Machine) (c : Call) (t : Status) → is_shared c ≡ true → may_call m.env ≡ true
+    → (t ≡ status.NoMemory) × (wants_root (shared_call_of m.env c) ≡ true)
+    → may_cut m (ask.Do c) (why_stopped t) ≡ true
+stopped-shared m c t shared may stops =
+    let r : Room = room_of m c in
+    ap (λ x. may_cut m (ask.Do c) (why_stopped x)) stops.0
+    ∙ three-may (may_call m.env) (is_growing c) (nat_lt (min first_places r.limit) (r.occupied + need c)) (is_shared c) (not (is_full r c)) may
+    (rooting-grows c (first-of (names_function c) _ stops.1)) shared
+
+-- a call that stopped, as the step of the core tells it
+pub record HasStopped (core : Core) (c : Call) (t : Status) (new : Core) : Type 0 where
+  pub local : is_shared c ≡ false → StopsBy core.env (room_in core) c t
+  pub shared : is_shared c ≡ true → IsHandedOver core c (stepped.Stop t) new
+
+stopped-may : (s : Setting) (core new : Core) (hub : Hub) (history : List Entry) (c : Call) (t : Status) → core.limit ≡ s.limits.journal
+    → may_call core.env ≡ true
+    → HasStopped core c t new → may_cut (machine_of s.limits core hub history) (ask.Do c) (why_stopped t) ≡ true
+stopped-may s core new hub history c t limit may stops = by (is_shared c) refl
   where
-    room : Room
-    room = room_of (machine_of s.limits core hub history) c
+    m : Machine
+    m = machine_of s.limits core hub history
 
-    by : (t : Status) → StopsBy core.env (room_of (machine_of s.limits core hub history) c) c t → may_cut (machine_of s.limits core hub history) (ask.Do c) (why_stopped t) ≡ true
-    by status.TraceFull stops = two_may (may_call core.env) (is_full (room_of (machine_of s.limits core hub history) c) c) may stops
-    by status.NoMemory stops =
-        ap (λ shared. may_call core.env && may_want_memory room c && (shared || not (is_full room c))) (built-local c (taken-built a c made))
-        ∙ both_may (may_call core.env) (may_want_memory (room_of (machine_of s.limits core hub history) c) c) (is_full (room_of (machine_of s.limits core hub history) c) c) may
-        (wants_memory core.env (room_of (machine_of s.limits core hub history) c) c stops.0) stops.1
-    by _ stops = absurd stops
+    by : (b : Bool) → is_shared c ≡ b → may_cut (machine_of s.limits core hub history) (ask.Do c) (why_stopped t) ≡ true
+    by true shared = stopped-shared (machine_of s.limits core hub history) c t shared may (stops.shared shared)
+    by false local =
+        let P : Room → Type 0 = λ r. StopsBy core.env r c t in
+        stopped-local (machine_of s.limits core hub history) c t local may (subst P (same-room s core hub history c local limit) (stops.local local))
 
-stopped-turn : (ps : List Plan) (core new : Core) (all now : AddonStates) (f : Frame) (a : Ask) (c : Call) (t : Status) (w : Why) → InFrame ps core.env all.registers f a
-    → f.asks < most_asks → ask.Do c ≡ built_ask is_built a
-    → StopsBy core.env (room_in core) c t → w ≡ why_stopped t → new ≡ after_change (end_change None (Some w) core.env) core → IsToldEnd ps all.registers core.env None (Some w) now.registers → now.seen ≡ all.seen
-    → IsTurn ps core all new now
-stopped-turn ps core new all now f a c t w i below made stops reason ended told same =
-    cut-turn i w new now
-    (λ s hub history limit. ap (λ x. may_cut (machine_of s.limits core hub history) (built_ask is_built a) x) reason ∙ stopped-may s core hub history a c t limit (in-calls i below) made stops) ended told same
-
--- a call that stopped changed nothing, so its frame ends where it stood
-pub stopped-turn-at : (ps qs : List Plan) (core stopped new : Core) (all : AddonStates) (mid : Registers) (now : AddonStates) (f : Frame) (a : Ask) (c : Call) (t : Status) (w : Why)
-    → InFrame ps core.env all.registers f a → f.asks < most_asks → ask.Do c ≡ built_ask is_built a → StopsBy core.env (room_in core) c t → w ≡ why_stopped t
-    → stopped ≡ core → new ≡ after_change (end_change None (Some w) stopped.env) stopped → qs ≡ ps → mid ≡ all.registers → IsToldEnd qs mid stopped.env None (Some w) now.registers → now.seen ≡ all.seen
-    → IsTurn ps core all new now
-stopped-turn-at ps qs core stopped new all mid now f a c t w i below made stops reason same ended plans registers told unseen =
-    let P : Core → Type 0 = λ x. new ≡ after_change (end_change None (Some w) x.env) x in
-    let Q : Core → Type 0 = λ x. IsToldEnd ps all.registers x.env None (Some w) now.registers in
-    stopped-turn ps core new all now f a c t w i below made stops reason (subst P same ended)
-    (subst Q same (told-from ps qs all.registers mid now.registers (callers_of stopped.env) (end_change None (Some w) stopped.env).entry.reply plans registers told)) unseen
+pub stopped-ends : {ps : List Plan} {old : Run} {all : AddonStates} {f : Frame} {a : Ask} → InFrame ps old.core.env all.registers f a → old.core.awaited ≡ None
+    → old.ending ≡ None → f.asks < most_asks
+    → (c : Call) (t : Status) (w : Why) (new : Core) → ask.Do c ≡ a → w ≡ why_stopped t → HasStopped old.core c t new → MayEndInScripts ps old all None (end.Cut w)
+stopped-ends {ps} {old} {all} {f} {a} i idle unended below c t w new is reason stops = record {
+  sound = i.sound;
+  some = in-some i;
+  idle = idle;
+  free = λ hub. unended;
+  may = λ s front firsts of rec.
+      let m : Machine = machine_of s.limits old.core (hub_along (opening_of s).hub front) front in (
+        refl,
+        a,
+        asks-in i s of,
+        ap (λ x. may_cut m a x) reason ∙ ap (λ b. may_cut m b (why_stopped t)) (sym is)
+            ∙ stopped-may s old.core new (hub_along (opening_of s).hub front) front c t rec.recorded.limit (in-calls i c is below) stops,
+      );
+}
 
 -- IT HAS MADE ALL ITS ASKS
--- an ask that the plan gives, where one is told
-some-ask : (ps : List Plan) (all : Registers) (f : Frame) → (a : Ask) × IsAsked ps all f a
-some-ask ps all f = by (plan_of ps f.addon)
+-- an ask that the plan gives, where one is told and where it makes asks
+some-ask : (ps : List Plan) (all : Registers) (f : Frame) → (a : Ask) × IsAskOf ps all f a
+some-ask ps all f = by f.makes_asks (plan_of ps f.addon) refl
   where
-    by : (p : Plan) → (a : Ask) × IfSome p (λ q. a ≡ plan_ask q (registers_of all f.addon) f.entry f.asks)
-    by None = (ask.Leave None, tt)
-    by (Some p) = (plan_ask p (registers_of all f.addon) f.entry f.asks, refl)
+    planned : (p q : Plan) → p ≡ q → (a : Ask) × IfSome p (λ t. a ≡ plan_ask t (registers_of all f.addon) f.entry f.asks)
+    planned None q is = (ask.Leave None, tt)
+    planned (Some p) q is = (plan_ask p (registers_of all f.addon) f.entry f.asks, refl)
 
-pub spent-turn : (ps : List Plan) (core new : Core) (all now : AddonStates) (f : Frame) → IsSoundEnvironment core.env → head core.env.frames ≡ Some f
-    → f.asks ≡ most_asks → new ≡ after_change (end_change None (Some why.Asks) core.env) core → IsToldEnd ps all.registers core.env None (Some why.Asks) now.registers → now.seen ≡ all.seen → IsTurn ps core all new now
-spent-turn ps core new all now f sound top spent made told same =
+    by : (makes : Bool) (p : Plan) → plan_of ps f.addon ≡ p → (a : Ask) × IsAskIn makes ps all f a
+    by true p is = planned (plan_of ps f.addon) p is
+    by false p is = (ask.Leave None, refl)
+
+pub spent-ends : (ps : List Plan) (old : Run) (all : AddonStates) (f : Frame) → IsSoundEnvironment old.core.env → old.core.awaited ≡ None → old.ending ≡ None
+    → head old.core.env.frames ≡ Some f
+    → f.asks ≡ most_asks → MayEndInScripts ps old all None (end.Cut why.Asks)
+spent-ends ps old all f sound idle unended top spent =
     let would = some-ask ps all.registers f in
-    let i : InFrame ps core.env all.registers f would.0 = record { sound = sound; top = top; asked = would.1 } in
-    let all_made : (asks_made core.env.frames == most_asks) ≡ true = ap (λ gs. asks_made gs == most_asks) (in-stands i) ∙ ap (λ k. k == most_asks) spent in
-    cut-turn i why.Asks new now (λ s hub history limit. all_made) made told same
+    let i : InFrame ps old.core.env all.registers f would.0 = record { sound = sound; top = top; asked = would.1 } in
+    let all_made : (asks_made old.core.env.frames == most_asks) ≡ true = ap (λ gs. asks_made gs == most_asks) (in-stands i) ∙ ap (λ k. k == most_asks) spent in
+    record { sound = sound; some = in-some i; idle = idle; free = λ hub. unended; may = λ s front firsts of rec. (refl, would.0, asks-in i s of, all_made) }
+
+-- ITS CUT IS OWED
+-- a run that owes nothing to the hub owes the end of no frame of a duty of the hub
+second-none : (a b : Bool) → (a || b) ≡ false → b ≡ false
+second-none true b none = cc
+second-none false b none = none
+
+pub unowed-local : (run : Run) (how : FrameEnd) → owes_hub run ≡ false → run.ending ≡ Some how → is_hub_duty (duty_of run.core.env.frames) ≡ false
+unowed-local run how unowed owed =
+    let hub : Bool = is_hub_duty (duty_of run.core.env.frames) in
+    ap (λ (o : Option FrameEnd). is_some o && hub) (sym owed) ∙ second-none (is_some run.core.awaited) _ unowed
+
+pub owed-ends : (ps : List Plan) (old : Run) (all : AddonStates) (how : FrameEnd) → IsRunning old.core old.begun old.ending → owes_hub old ≡ false
+    → old.ending ≡ Some how
+    → MayEndInScripts ps old all None how
+owed-ends ps old all how runs unowed owed =
+    let E : Option FrameEnd → Type 0 = λ o. IfSome o (IsOwedEnd old.core.env) in
+    let ends : IsOwedEnd old.core.env how = subst E owed runs.ends in
+    record {
+      sound = runs.sound;
+      some = ends.stands;
+      idle = unowed-idle old unowed;
+      free = λ hub. let no : true ≡ false = sym hub ∙ unowed-local old how unowed owed in cc;
+      may = λ s front firsts of rec.
+          let m : Machine = machine_of s.limits old.core (hub_along (opening_of s).hub front) front in
+          let O : Option FrameEnd → Type 0 = λ o. IfSome o (MayEndSo s all.registers m) in
+          by s all.registers m how ends.leaves (subst O owed rec.owed.end);
+    }
+  where
+    by : (s : Setting) (rss : Registers) (m : Machine) (h : FrameEnd) → (h ≡ end.Leaves → is_hub_duty (duty_of old.core.env.frames) ≡ true) → MayEndSo s rss m h
+        → MayEndAs s rss m None h
+    by s rss m end.Leaves leaves may =
+        let no : true ≡ false = sym (leaves refl) ∙ unowed-local old how unowed owed in
+        cc
+    by s rss m (end.Cut w) leaves may = (refl, may.0, may.1, may.2)

@@ -5,31 +5,23 @@ use Rattle.napi_types.specs.declared.call.Ask.{Ask}
 use Rattle.napi_types.specs.declared.entry.Actor.TheVariants as actor
 use Rattle.napi_types.specs.declared.duties.DueInfo.{DueInfo}
 use Rattle.napi_types.specs.declared.entry.Entry.{Entry}
-use Rattle.napi_types.specs.declared.entry.HostStep.{HostStep}
-use Rattle.napi_types.specs.declared.entry.Out.{Out}
-use Rattle.napi_types.specs.declared.entry.Phase.{Phase}
 use Rattle.napi_types.specs.declared.entry.Phase.TheVariants as phase
 use Rattle.napi_types.specs.declared.call.Ask.TheVariants as ask
 use Rattle.std.specs.Option.{option_to_list}
-use Rattle.napi_types.specs.declared.entry.Reply.{Reply}
-use Rattle.napi_types.specs.plain.Entries.{host_entry}
-use Rattle.napi_types.specs.plain.Weave.{Side, Journal, History, weave, sides, RisesBetween}
+use Rattle.napi_types.specs.plain.Weave.{Side, Journal, weave, sides}
 use Rattle.napi_types.specs.parts.Book.{lowest_due}
 use Rattle.napi_types.specs.scripts.Plans.{Plan, plan_of, registers_of, Registers, loaded_registers}
 use Rattle.napi_types.specs.scripts.Registers.{blank_registers}
-use Rattle.napi_types.specs.environment.Changes.{Change, in_phase, gone_change, init_change}
-use Rattle.napi_types.specs.hub.Hub.{Hub, Before, new_hub, quiet_hub}
-use Rattle.napi_types.specs.hub.HubSteps.{IsHubNext, hub_step}
-use Rattle.napi_types.specs.runs.Begins.{told_at, begun_info, begun_along}
-use Rattle.napi_types.specs.runs.Choice.{choice}
-use Rattle.napi_types.specs.runs.Loop.{Event}
+use Rattle.napi_types.specs.environment.Changes.{Change, gone_change, init_change}
+use Rattle.napi_types.specs.hub.Hub.{Hub}
+use Rattle.napi_types.specs.runs.Begins.{begun_info, begun_along}
 use Rattle.napi_types.specs.runs.Machine.{Machine}
 use Rattle.napi_types.specs.runs.Parting.{sides_along}
-use Rattle.napi_types.specs.runs.Plan.{after_host_event, after_event, after_entry, frames_ask, asked, registers_after}
+use Rattle.napi_types.specs.runs.Plan.{after_event, after_entry, frames_ask, asked, registers_after}
 use Rattle.napi_types.specs.runs.Run.{after, IsNext}
 use Rattle.napi_types.specs.runs.Setting.{Setting, opening_of, RunsBy, final_of, final_registers, planned_asks}
-use Rattle.napi_types.specs.runs.Step.{Step, step, locally, by_hub, event_step, chosen, env_step}
-use Rattle.napi_types.proofs.plain.Weaves.{weave-local, weave-shared, sides-local, sides-shared, rises-append, rises-more}
+use Rattle.napi_types.specs.runs.Step.{Step, step, locally}
+use Rattle.napi_types.proofs.plain.Weaves.{weave-local, sides-local, rises-append}
 use Rattle.napi_types.proofs.runs.Runs.{run-more, final-more, asked-more, registers-more, sides-more, begun-more}
 use Rattle.env_core.specs.Core.{Core, after_change, opened_core}
 use Rattle.env_loop.specs.Recording.{AddonStates, machine_of, AgreesWhereTold, AgreesWith, HasSeen, IsRecorded, IsEnded}
@@ -45,7 +37,7 @@ pub record Grown (s : Setting) (asks : List Ask) (xs : List Entry) (after : Mach
 
 pub grow : (s : Setting) (bs : List Ask) (xs : List Entry) (m : Machine) (rss : Registers) (a : Ask) (x : Entry) (st : Step)
     → RunsBy s bs xs → final_of s bs xs ≡ m → final_registers s bs xs ≡ rss
-    → step m a x ≡ st → x ≡ st.entry → IsTrue st.may → a ≡ asked s.built s.plans rss m a x.actor
+    → step m a x ≡ st → x ≡ st.entry → IsTrue st.may → a ≡ asked s.plans rss m a x.actor
     → Grown s (bs ++ a ∷ []) (xs ++ x ∷ []) st.after (registers_after s.plans rss m a x) (sides_along (opening_of s) bs xs ++ st.side ∷ [])
     (begun_along (opening_of s) bs xs ++ option_to_list (begun_info m x))
 grow s bs xs m rss a x st r f g next entry may here =
@@ -58,9 +50,9 @@ grow s bs xs m rss a x st r f g next entry may here =
         asked =
             ap (λ l. l ++ a ∷ []) r.asked
             ∙ ap (λ b. planned_asks s bs xs ++ b ∷ []) here
-            ∙ ap (λ qs. planned_asks s bs xs ++ asked s.built s.plans qs m a x.actor ∷ []) (sym g)
-            ∙ ap (λ n. planned_asks s bs xs ++ asked s.built s.plans (final_registers s bs xs) n a x.actor ∷ []) (sym f)
-            ∙ sym (asked-more s.built s.plans _ (opening_of s) bs xs a x r.steps);
+            ∙ ap (λ qs. planned_asks s bs xs ++ asked s.plans qs m a x.actor ∷ []) (sym g)
+            ∙ ap (λ n. planned_asks s bs xs ++ asked s.plans (final_registers s bs xs) n a x.actor ∷ []) (sym f)
+            ∙ sym (asked-more s.plans _ (opening_of s) bs xs a x r.steps);
       };
       final = final-more (opening_of s) bs xs a x r.steps ∙ ap (λ n. after n a x) f ∙ ap (λ t. t.after) next;
       registers_are =
@@ -81,7 +73,7 @@ pub local-grown : (s : Setting) (core : Core) (hub : Hub) (history : List Entry)
     (a : Ask) (c : Change) (own : Registers) (after_all : AddonStates)
     → step (machine_of s.limits core hub history) a c.entry ≡ locally (machine_of s.limits core hub history) c true
     → c.entry.actor ≡ actor.Env
-    → a ≡ frames_ask s.built s.plans r.own core.env.frames a
+    → a ≡ frames_ask s.plans r.own core.env.frames a
     → after_event s.plans r.own (machine_of s.limits core hub history) a c.entry.reply c.entry.what ≡ own
     → length own ≡ length s.plans
     → AgreesWith s.plans after_all.registers own
@@ -92,7 +84,7 @@ local-grown s core hub history all firsts r a c own after_all next who here kept
     let xs : List Entry = weave core.journal history in
     let g : Grown s (r.asks ++ a ∷ []) (xs ++ c.entry ∷ []) (locally m c true).after (registers_after s.plans r.own m a c.entry) (sides_along (opening_of s) r.asks xs ++ Journal ∷ [])
     (begun_along (opening_of s) r.asks xs ++ option_to_list (begun_info m c.entry)) =
-    grow s r.asks xs m r.own a c.entry (locally m c true) r.run r.final r.registers next refl refl (here ∙ ap (asked s.built s.plans r.own m a) (sym who)) in
+    grow s r.asks xs m r.own a c.entry (locally m c true) r.run r.final r.registers next refl refl (here ∙ ap (asked s.plans r.own m a) (sym who)) in
     let woven : weave (core.journal ++ record { at = core.position; entry = c.entry } ∷ []) history ≡ xs ++ c.entry ∷ [] =
     ap (λ n. weave (core.journal ++ record { at = n; entry = c.entry } ∷ []) history) r.position ∙ weave-local core.journal history c.entry in
     let longer : length core.journal + 1 ≡ length (core.journal ++ record { at = core.position; entry = c.entry } ∷ []) =
@@ -120,54 +112,6 @@ local-grown s core hub history all firsts r a c own after_all next who here kept
           ∙ sym (ap (λ n. sides (core.journal ++ record { at = n; entry = c.entry } ∷ []) history) r.position ∙ sides-local core.journal history c.entry);
     }
 
--- a great event of the hub goes into the history, and its phase starts; it leaves the registers, and no duty begins
-pub shared-grown : (s : Setting) (core : Core) (hub : Hub) (history : List Entry) (all : AddonStates) (firsts : List (List DueInfo)) (r : IsRecorded s core hub history all firsts)
-    (event : HostStep) (o : Out) (p : Phase) (v : Event)
-    → core.env.frames ≡ [] → choice (machine_of s.limits core hub history) ≡ Some v
-    → event_step (machine_of s.limits core hub history) v ≡ by_hub (machine_of s.limits core hub history) event p o
-    → IsHubNext hub (host_entry event o)
-    → ((rss : Registers) (m : Machine) (reply : Reply) → after_host_event s.plans rss m (ask.Leave None) reply event ≡ rss)
-    → ((m : Machine) → told_at m o ≡ None)
-    → IsRecorded s (record core { env = in_phase p core.env; position = length history + 1 }) (hub_step hub (host_entry event o)).after (history ++ host_entry event o ∷ []) all firsts
-shared-grown s core hub history all firsts r event o p v alone chosen_is made next leaves none =
-    let m : Machine = machine_of s.limits core hub history in
-    let xs : List Entry = weave core.journal history in
-    let x : Entry = host_entry event o in
-    let later : Hub = (hub_step hub x).after in
-    let nothing : ask.Leave None ≡ asked s.built s.plans r.own m (ask.Leave None) actor.Env = rw alone refl in
-    let st : Step = by_hub m event p o in
-    let steps : step m (ask.Leave None) x ≡ st = ap (env_step m (ask.Leave None) o) alone ∙ ap (chosen m) chosen_is ∙ made in
-    let g : Grown s (r.asks ++ ask.Leave None ∷ []) (xs ++ x ∷ []) st.after (registers_after s.plans r.own m (ask.Leave None) x) (sides_along (opening_of s) r.asks xs ++ History ∷ [])
-    (begun_along (opening_of s) r.asks xs ++ option_to_list (begun_info m x)) =
-    grow s r.asks xs m r.own (ask.Leave None) x st r.run r.final r.registers steps next.entry next.may nothing in
-    let woven : weave core.journal (history ++ x ∷ []) ≡ xs ++ x ∷ [] = weave-shared core.journal history x r.rises in
-    let longer : length (history ++ x ∷ []) ≡ length history + 1 = length-append history (x ∷ []) in
-    let R : List Entry → Type 0 = λ ys. RunsBy s (r.asks ++ ask.Leave None ∷ []) ys in
-    let U : ℕ → Type 0 = λ n. RisesBetween 0 n core.journal in
-    let B : List DueInfo → Type 0 = λ l. HasSeen firsts l all.seen in
-    record {
-      asks = r.asks ++ ask.Leave None ∷ [];
-      own = r.own;
-      run = subst R (sym woven) g.run;
-      final =
-          ap (λ ys. final_of s (r.asks ++ ask.Leave None ∷ []) ys) woven ∙ g.final
-          ∙ ap (λ n. record m { env = in_phase p core.env; hub = later; history_length = n }) (sym longer);
-      registers = ap (λ ys. final_registers s (r.asks ++ ask.Leave None ∷ []) ys) woven ∙ g.registers_are ∙ leaves r.own m x.reply;
-      count = r.count;
-      agrees = r.agrees;
-      seen =
-          subst B
-          (sym (ap (λ ys. begun_along (opening_of s) (r.asks ++ ask.Leave None ∷ []) ys) woven ∙ g.begun_are
-          ∙ ap (λ d. begun_along (opening_of s) r.asks xs ++ option_to_list d) (none m)))
-          (seen-more firsts all.seen all.seen (begun_along (opening_of s) r.asks xs) [] r.seen (seen-same all.seen all.seen refl));
-      limit = r.limit;
-      position = sym longer;
-      rises = subst U (sym longer) (rises-more 0 (length history) (length history + 1) core.journal (omega arith) r.rises);
-      parted =
-          ap (λ ys. sides_along (opening_of s) (r.asks ++ ask.Leave None ∷ []) ys) woven ∙ g.sides_are ∙ ap (λ l. l ++ History ∷ []) r.parted
-          ∙ sym (sides-shared core.journal history x r.rises);
-    }
-
 -- the environment is gone
 pub gone_change-grown : (s : Setting) (core : Core) (hub : Hub) (history : List Entry) (all : AddonStates) (firsts : List (List DueInfo)) → IsRecorded s core hub history all firsts
     → core.env.frames ≡ [] → core.env.phase ≡ phase.Finals → lowest_due core.env.book ≡ None
@@ -178,22 +122,18 @@ gone_change-grown s core hub history all firsts r alone here none =
 
 -- THE INIT FRAMES
 -- blank registers are those that the run starts from
-agrees-blank : (p : Plan) (mine own : List ℕ) → mine ≡ blank_registers → own ≡ blank_registers → AgreesWhereTold p mine own
+pub agrees-blank : (p : Plan) (mine own : List ℕ) → mine ≡ blank_registers → own ≡ blank_registers → AgreesWhereTold p mine own
 agrees-blank None mine own e f = tt
 agrees-blank (Some p) mine own e f = e ∙ sym f
 
--- the machine that has opened, with so many threads and workers
-abbrev opened_with : Setting → ℕ → ℕ → Machine
-opened_with s threads workers = machine_of s.limits (opened_core (length s.plans) s.texts s.limits.journal) (new_hub threads workers) []
-
--- a core that opened is a recorded run, where there are no threads and no workers and the addons' registers are cleared
-pub opened-recorded : (s : Setting) (all : AddonStates) → s.threads ≡ 0 → s.workers ≡ 0 → ((addon : ℕ) → addon < length s.plans → registers_of all.registers addon ≡ blank_registers)
-    → IsRecorded s (opened_core (length s.plans) s.texts s.limits.journal) (quiet_hub Before) [] all all.seen
-opened-recorded s all threads workers blank = record {
+-- a core that opened is a recorded run, where the addons' registers are cleared
+pub opened-recorded : (s : Setting) (all : AddonStates) → ((addon : ℕ) → addon < length s.plans → registers_of all.registers addon ≡ blank_registers)
+    → IsRecorded s (opened_core (length s.plans) s.texts s.limits.journal) (opening_of s).hub [] all all.seen
+opened-recorded s all blank = record {
   asks = ask.Leave None ∷ [];
   own = loaded_registers s.plans;
   run = record { steps = ((refl, refl), tt); asked = refl };
-  final = ap (λ n. opened_with s n s.workers) threads ∙ ap (λ n. opened_with s 0 n) workers;
+  final = refl;
   registers = refl;
   count = length-map s.plans (λ (p : Plan). blank_registers);
   agrees = λ addon below. agrees-blank (plan_of s.plans addon) (registers_of all.registers addon) (registers_of (loaded_registers s.plans) addon) (blank addon below)

@@ -1,5 +1,5 @@
 -- What is asked by the plans, and what the registers keep.
-use Rattle.std.proofs.Common.{◌≡◌, ◌≢◌, ◌<◌, ℕ, cond, List, [], ◌∷◌, length, set, drop, refl, ap, subst, sym, ◌∙◌, arith, Option, Some, None, IfSome, inl, inr}
+use Rattle.std.proofs.Common.{◌≡◌, ◌≢◌, ◌<◌, ℕ, Bool, true, false, cond, List, [], ◌∷◌, length, set, drop, refl, ap, subst, sym, ◌∙◌, arith, Option, Some, None, IfSome, inl, inr}
 use Rattle.std.specs.List.{All}
 use Rattle.std.proofs.lemmas.List.{get_or-set_same, get_or-set_other, length-set, drop-set-lt}
 use Rattle.std.proofs.lemmas.List.Elements.{All-head}
@@ -10,27 +10,44 @@ use Rattle.napi_types.specs.declared.duties.DueInfo.{DueInfo}
 use Rattle.napi_types.specs.declared.entry.Duty.{Duty}
 use Rattle.napi_types.specs.declared.entry.Entry.{Entry}
 use Rattle.napi_types.specs.declared.entry.Reply.{Reply}
-use Rattle.napi_types.specs.plain.Built.{is_built, built_ask}
 use Rattle.napi_types.specs.parts.Frames.{Frame, duty_of, ask_counted, at_last_ask}
 use Rattle.napi_types.specs.scripts.Plans.{Plan, plan_of, Registers, registers_of}
 use Rattle.napi_types.specs.scripts.Registers.{plan_ask, registers_after_reply, with_gifts}
 use Rattle.napi_types.specs.hub.Hub.{Hub}
-use Rattle.napi_types.specs.runs.Plan.{frame_ask, taken_ask, frames_ask, addon_after_reply, caller_after_reply, with_addon_gifts}
+use Rattle.napi_types.specs.runs.Plan.{frame_ask, frames_ask, addon_after_reply, caller_after_reply, with_addon_gifts}
 use Rattle.napi_types.specs.runs.Setting.{Setting}
 use Rattle.addon_trait.specs.Addons.{OthersStay}
 use Rattle.env_core.specs.Core.{Core}
 use Rattle.env_loop.specs.Recording.{AddonStates, IsOf, AgreesWhereTold, AgreesWith, IsRecorded}
-use Rattle.env_loop.specs.Turns.{IsTold, OnlyGiven, OnlyInnermostChanges}
-use Rattle.env_loop.proofs.FrameTurns.{InFrame, in-stands, in-there, in-makes}
-use Rattle.env_loop.proofs.TurnSteps.{taken-twice}
+use Rattle.env_loop.specs.FollowedRuns.{Asks}
+use Rattle.env_loop.specs.RecordedRuns.{IsSoundEnvironment}
+use Rattle.env_loop.specs.Turns.{IsAskIn, IsTold, OnlyGiven, OnlyInnermostChanges}
+use Rattle.env_loop.proofs.FrameTurns.{InFrame, in-stands, in-there}
 
 -- WHAT IS ASKED, AND WHAT IS KEPT
--- a frame is taken to ask what its plan gives from the run's registers, where its addon answered so from its own
-frame-asked : (p q : Plan) (f : Frame) (mine own : List ℕ) (a : Ask) → q ≡ p → AgreesWhereTold q mine own
-    → IfSome p (λ t. a ≡ plan_ask t mine f.entry f.asks) → built_ask is_built a ≡ built_ask is_built (frame_ask q own f (built_ask is_built a))
-frame-asked None q f mine own a e agrees told = rw e (sym (taken-twice is_built a))
-frame-asked (Some p) None f mine own a e agrees told = cc
-frame-asked (Some p) (Some q) f mine own a e agrees told = ap (built_ask is_built) (told ∙ cc)
+-- a frame is taken to ask what its plan gives, where it makes asks and one is told
+planned-ask : (p q : Plan) (f : Frame) (mine : List ℕ) (a : Ask) → q ≡ p → IfSome p (λ t. a ≡ plan_ask t mine f.entry f.asks) → a ≡ frame_ask q mine f a
+planned-ask p None f mine a e told = refl
+planned-ask None (Some q) f mine a e told = cc
+planned-ask (Some p) (Some q) f mine a e told = told ∙ cc
+
+ask-taken : (makes : Bool) (ps : List Plan) (q : Plan) (all : Registers) (f : Frame) (a : Ask) → q ≡ plan_of ps f.addon → IsAskIn makes ps all f a
+    → a ≡ cond makes (frame_ask q (registers_of all f.addon) f a) (ask.Leave None)
+ask-taken true ps q all f a same told = planned-ask (plan_of ps f.addon) q f (registers_of all f.addon) a same told
+ask-taken false ps q all f a same told = told
+
+-- the same from the run's registers
+own-ask : (p : Plan) (f : Frame) (mine own : List ℕ) (a : Ask) → AgreesWhereTold p mine own → frame_ask p mine f a ≡ frame_ask p own f a
+own-ask None f mine own a agrees = refl
+own-ask (Some p) f mine own a agrees = ap (λ rs. plan_ask p rs f.entry f.asks) agrees
+
+own-asks : (s : Setting) (all own : Registers) (fs : List Frame) (a : Ask) → All (λ f. f.addon < length s.plans) fs → AgreesWith s.plans all own
+    → Asks s all fs a → Asks s own fs a
+own-asks s all own [] a there agrees asked = asked
+own-asks s all own (f ∷ fs) a there agrees asked =
+    let below : f.addon < length s.plans = All-head (λ (x : Frame). x.addon < length s.plans) f fs there in
+    asked ∙ ap (λ b. cond f.makes_asks b (ask.Leave None))
+    (own-ask (plan_of s.plans f.addon) f (registers_of all f.addon) (registers_of own f.addon) a (agrees f.addon below))
 
 agrees-registers_after_reply : (p q : Plan) (f : Frame) (mine own now : List ℕ) (r : Reply) → q ≡ p → AgreesWhereTold q mine own
     → IfSome p (λ t. now ≡ registers_after_reply t mine f.entry f.asks r) → AgreesWhereTold q now (addon_after_reply q own f r)
@@ -38,7 +55,8 @@ agrees-registers_after_reply p None f mine own now r e agrees told = tt
 agrees-registers_after_reply None (Some q) f mine own now r e agrees told = cc
 agrees-registers_after_reply (Some p) (Some q) f mine own now r e agrees told = told ∙ cc
 
-pub agrees-with_gifts : (q : Plan) (gifts mine own now : List ℕ) → AgreesWhereTold q mine own → now ≡ with_gifts gifts mine → AgreesWhereTold q now (with_gifts gifts own)
+pub agrees-with_gifts : (q : Plan) (gifts mine own now : List ℕ) → AgreesWhereTold q mine own → now ≡ with_gifts gifts mine
+    → AgreesWhereTold q now (with_gifts gifts own)
 agrees-with_gifts None gifts mine own now agrees e = tt
 agrees-with_gifts (Some q) gifts mine own now agrees e = e ∙ ap (with_gifts gifts) agrees
 
@@ -76,7 +94,8 @@ told-registers_after_reply ps plans all own now (f ∷ fs) r there first count a
     record {
       count = length-set own i v ∙ count;
       agrees = agrees-set ps all now own i v count agrees told.0
-          (agrees-registers_after_reply (plan_of plans i) (plan_of ps i) f (registers_of all i) (registers_of own i) (registers_of now i) r (first i below) (agrees i below) told.1);
+          (agrees-registers_after_reply (plan_of plans i) (plan_of ps i) f (registers_of all i) (registers_of own i) (registers_of now i) r (first i below)
+          (agrees i below) told.1);
     }
 
 -- the addons that are no addons of the script keep their registers
@@ -149,7 +168,8 @@ pub given-from : (all mid now : Registers) (i : ℕ) (gifts : List ℕ) → mid 
 given-from all mid now i gifts registers given = given ∙ ap (λ x. with_addon_gifts x i gifts) registers
 
 -- they are the run's, where the run was given them too
-pub given-kept : (ps : List Plan) (all own now : Registers) (i : ℕ) (gifts : List ℕ) → length own ≡ length ps → AgreesWith ps all own → i < length ps → i < length all
+pub given-kept : (ps : List Plan) (all own now : Registers) (i : ℕ) (gifts : List ℕ) → length own ≡ length ps → AgreesWith ps all own → i < length ps
+    → i < length all
     → now ≡ with_addon_gifts all i gifts → Kept ps now (with_addon_gifts own i gifts)
 given-kept ps all own now i gifts count agrees inside there given =
     let v : List ℕ = with_gifts gifts (registers_of own i) in
@@ -157,27 +177,37 @@ given-kept ps all own now i gifts count agrees inside there given =
       count = length-set own i v ∙ count;
       agrees =
           agrees-set ps all now own i v count agrees (others-given all now i gifts there given)
-          (agrees-with_gifts (plan_of ps i) gifts (registers_of all i) (registers_of own i) (registers_of now i) (agrees i inside) (given-there all now i gifts there given));
+          (agrees-with_gifts (plan_of ps i) gifts (registers_of all i) (registers_of own i) (registers_of now i) (agrees i inside)
+          (given-there all now i gifts there given));
     }
 
 -- IN A RECORDED RUN
--- what the innermost frame is taken to ask is what the run's plans and registers give
+-- what the innermost frame asks is what the script's plans give, ..
+pub asks-in : {ps : List Plan} {core : Core} {all : Registers} {f : Frame} {a : Ask} → InFrame ps core.env all f a → (s : Setting) → IsOf s ps core
+    → Asks s all core.env.frames a
+asks-in {ps} {core} {all} {f} {a} i s of =
+    let there : f.addon < core.env.addons = in-there i in
+    ask-taken f.makes_asks ps (plan_of s.plans f.addon) all f a (of.first f.addon (omega (arith, of.count, there))) i.asked
+    ∙ ap (λ gs. frames_ask s.plans all gs a) (sym (in-stands i))
+
+-- .. and what they give from the run's registers
+pub asks-of-run : {ps : List Plan} {core : Core} {hub : Hub} {history : List Entry} {all : AddonStates} {firsts : List (List DueInfo)} (s : Setting)
+    → IsOf s ps core
+    → IsSoundEnvironment core.env → (r : IsRecorded s core hub history all firsts) → (a : Ask) → Asks s all.registers core.env.frames a
+    → a ≡ frames_ask s.plans r.own core.env.frames a
+asks-of-run {ps} {core} {hub} {history} {all} {firsts} s of sound r a asked =
+    let below : All (λ f. f.addon < length s.plans) core.env.frames =
+    subst (λ (n : ℕ). All (λ f. f.addon < n) core.env.frames) (sym of.count) sound.owned.frames in
+    own-asks s all.registers r.own core.env.frames a below r.agrees asked
+
 pub asked-in : {ps : List Plan} {core : Core} {all : AddonStates} {f : Frame} {a : Ask} → InFrame ps core.env all.registers f a → (s : Setting) (hub : Hub)
     (history : List Entry) (firsts : List (List DueInfo)) → IsOf s ps core
-    → (r : IsRecorded s core hub history all firsts) → built_ask is_built a ≡ frames_ask s.built s.plans r.own core.env.frames (built_ask is_built a)
-asked-in {ps} {core} {all} {f} {a} i s hub history firsts of r =
-    let there : f.addon < core.env.addons = in-there i in
-    let below : f.addon < length s.plans = omega (arith, of.count, there) in
-    let p : Plan = plan_of s.plans f.addon in
-    let own : List ℕ = registers_of r.own f.addon in
-    let b : Ask = built_ask is_built a in
-    frame-asked (plan_of ps f.addon) p f (registers_of all.registers f.addon) own a (of.first f.addon below) (r.agrees f.addon below) i.asked
-    ∙ ap (λ t. cond t (built_ask is_built (frame_ask p own f b)) (ask.Leave None)) (sym (in-makes i))
-    ∙ ap (λ built. taken_ask built p own f b) (sym of.built)
-    ∙ ap (λ gs. frames_ask s.built s.plans r.own gs b) (sym (in-stands i))
+    → (r : IsRecorded s core hub history all firsts) → a ≡ frames_ask s.plans r.own core.env.frames a
+asked-in {ps} {core} {all} {f} {a} i s hub history firsts of r = asks-of-run s of i.sound r a (asks-in i s of)
 
 -- what is told to the innermost of these frames is what the run's registers keep
-pub registers_after_reply-in : (s : Setting) (ps : List Plan) (core : Core) (hub : Hub) (history : List Entry) (all : AddonStates) (firsts : List (List DueInfo)) (now : Registers)
+pub registers_after_reply-in : (s : Setting) (ps : List Plan) (core : Core) (hub : Hub) (history : List Entry) (all : AddonStates)
+    (firsts : List (List DueInfo)) (now : Registers)
     (fs : List Frame) (r : Reply) → IsOf s ps core → (rec : IsRecorded s core hub history all firsts)
     → All (λ f. f.addon < core.env.addons) fs → IsTold ps all.registers fs r now → Kept s.plans now (caller_after_reply s.plans rec.own fs r)
 registers_after_reply-in s ps core hub history all firsts now fs r of rec there told =

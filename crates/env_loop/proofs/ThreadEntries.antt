@@ -44,7 +44,7 @@ use Rattle.shared_hub.specs.HubStates.{HubSeen, AddsEntry, hub_room}
 use Rattle.shared_hub.specs.KeptHubs.{IsLedHub}
 use Rattle.shared_hub.specs.SharedTries.{thread_entry, actor_end_told, MayFindNoMemory, GrowsAccepted}
 use Rattle.shared_hub.specs.declared.naming.Numbers.{Numbers}
-use Rattle.env_loop.specs.ActorRuns.{IsOperationOfThread, ThreadSeen, calls_left, IsThreadOf, NextWaits, ThreadBlocked}
+use Rattle.env_loop.specs.ActorRuns.{IsOperationOfThread, ThreadSeen, calls_left, IsThreadOf, NextWaits, ThreadBlocked, StoppedAt}
 
 -- THE SCRIPT
 -- an operation of a thread asks for its call
@@ -88,7 +88,7 @@ no-call (p ∷ ops) (suc k) all past =
     ap (drop (suc k)) (calls-cons p ops t.0 t.1) ∙ no-call ops k (All-tail IsOperationOfThread p ops all) (omega (arith, past))
 
 -- THE HUB
-along-threads : (limit n : ℕ) (h : Hub) (xs : List Entry) → HubReplays limit h n xs → (hub_along h xs).threads ≡ h.threads
+pub along-threads : (limit n : ℕ) (h : Hub) (xs : List Entry) → HubReplays limit h n xs → (hub_along h xs).threads ≡ h.threads
 along-threads limit n h [] replays = refl
 along-threads limit n h (x ∷ xs) replays = along-threads limit (n + 1) (hub_step h x).after xs replays.2 ∙ step-threads h x replays.0.may
 
@@ -188,3 +188,22 @@ waits-here h t c later here next kind none =
     inr (subst (λ b. NextWaits h t.number (cond b None (Some (drop t.made (thread_calls t.operations))))) (sym here)
     (subst (λ cs. NextWaits h t.number (Some cs)) (sym next)
     (ap (λ b. b && is_none (hub_answer h (actor.Thread t.number) nothing_given c 0)) kind ∙ ap is_none none)))
+
+-- WHY IT WAS STOPPED
+-- where no call was left it was stopped at none, ..
+pub none-stopped : (r : Room) (h : Hub) (t : ThreadSeen) → t.over ≡ false → drop t.made (thread_calls t.operations) ≡ [] → StoppedAt r h t.number (calls_left t)
+none-stopped r h t here none =
+    subst (λ b. StoppedAt r h t.number (cond b None (Some (drop t.made (thread_calls t.operations))))) (sym here)
+    (subst (λ cs. StoppedAt r h t.number (Some cs)) (sym none) tt)
+
+-- .. and else at the next one, as the hub says
+pub stopped-at : (r : Room) (h : Hub) (t : ThreadSeen) (c : Call) (later : List Call) (s : Status) → t.over ≡ false → drop t.made (thread_calls t.operations) ≡ c ∷ later
+    → (s ≡ status.TraceFull) ⊎ (s ≡ status.NoMemory) → (s ≡ status.TraceFull → IsTrue (is_full r c))
+    → (s ≡ status.NoMemory → MayFindNoMemory r h (actor.Thread t.number) nothing_given c) → StoppedAt r h t.number (calls_left t)
+stopped-at r h t c later s here next cause full memory =
+    subst (λ b. StoppedAt r h t.number (cond b None (Some (drop t.made (thread_calls t.operations))))) (sym here)
+    (subst (λ cs. StoppedAt r h t.number (Some cs)) (sym next) (by cause))
+  where
+    by : (s ≡ status.TraceFull) ⊎ (s ≡ status.NoMemory) → IsTrue (is_full r c) ⊎ MayFindNoMemory r h (actor.Thread t.number) nothing_given c
+    by (inl is) = inl (full is)
+    by (inr is) = inr (memory is)

@@ -1,5 +1,5 @@
 -- The step of what a frame asks: its call, its end, or a cut.
-use Rattle.std.proofs.Common.{◌≡◌, ℕ, ◌&&◌, not, Bool, true, false, cond, List, ◌∷◌, length, refl, ap, sym, ◌∙◌, Option, Some, None}
+use Rattle.std.proofs.Common.{◌≡◌, ℕ, ◌&&◌, not, Bool, true, false, List, ◌∷◌, length, refl, ap, sym, ◌∙◌, Option, Some, None}
 use Rattle.napi_types.specs.declared.call.Ask.{Ask}
 use Rattle.napi_types.specs.declared.call.Ask.TheVariants as ask
 use Rattle.napi_types.specs.declared.call.Call.{Call}
@@ -9,7 +9,6 @@ use Rattle.napi_types.specs.declared.entry.Out.{Out}
 use Rattle.napi_types.specs.declared.entry.Out.TheVariants as out
 use Rattle.napi_types.specs.declared.entry.Why.{Why}
 use Rattle.napi_types.specs.declared.ids.HandleId.{HandleId}
-use Rattle.napi_types.specs.plain.Built.{is_built, built_ask}
 use Rattle.napi_types.specs.plain.Entries.{cut_of}
 use Rattle.napi_types.specs.plain.Guards.{is_shared}
 use Rattle.napi_types.specs.plain.Room.{is_full}
@@ -28,7 +27,7 @@ use Rattle.napi_types.specs.runs.Setting.{Setting}
 use Rattle.napi_types.specs.runs.Step.{Step, step, step_of, locally, env_step, frame_step, call_step_on, end_step_on, may_cut}
 use Rattle.napi_types.proofs.environment.Cases.{ended-by}
 use Rattle.napi_types.proofs.environment.Told.{tells_frame, told-unframed, answer-told}
-use Rattle.napi_types.proofs.all_runs.Rooms.{built-room}
+use Rattle.napi_types.proofs.all_runs.Rooms.{local-room}
 use Rattle.env_core.specs.Core.{Core, room_in}
 use Rattle.env_loop.specs.Recording.{machine_of}
 
@@ -39,7 +38,7 @@ pub record TellsNoFrame (o : Out) : Type 0 where
   pub untold : (m : Machine) → told_at m o ≡ None
 
 -- what tells of no frame is so, and what a call answers
-no-frame : (o : Out) → tells_frame o ≡ false → TellsNoFrame o
+pub no-frame : (o : Out) → tells_frame o ≡ false → TellsNoFrame o
 no-frame (out.Begin why addon entry duty) unframed = cc
 no-frame (out.Cut why) unframed = cc
 no-frame o unframed = record { uncut = refl; untold = λ m. refl }
@@ -63,24 +62,6 @@ two_may a b p q = rw (p, q) refl
 pub both_may : (a b c : Bool) → a ≡ true → b ≡ true → c ≡ false → (a && b && not c) ≡ true
 both_may a b c p q r = rw (p, q, r) refl
 
--- a call that an addon is taken to ask is built
-pub taken-built : (a : Ask) (c : Call) → ask.Do c ≡ built_ask is_built a → is_built c ≡ true
-taken-built (ask.Leave v) c h = cc
-taken-built (ask.Do d) c h = by (is_built d) refl h
-  where
-    by : (b : Bool) → is_built d ≡ b → ask.Do c ≡ cond b (ask.Do d) (ask.Leave None) → is_built c ≡ true
-    by true built same = let e : c ≡ d = cc in ap is_built e ∙ built
-    by false built same = cc
-
--- what is taken so is taken as it is
-pub taken-twice : (built : Call → Bool) (a : Ask) → built_ask built (built_ask built a) ≡ built_ask built a
-taken-twice built (ask.Leave v) = refl
-taken-twice built (ask.Do c) = by (built c) refl
-  where
-    by : (b : Bool) → built c ≡ b → built_ask built (cond b (ask.Do c) (ask.Leave None)) ≡ cond b (ask.Do c) (ask.Leave None)
-    by true is = ap (λ b. cond b (ask.Do c) (ask.Leave None)) is
-    by false is = refl
-
 pub call-next : (m : Machine) (a : Ask) (c : Call) (o : Out) (n : ℕ) (f : Frame) (fs : List Frame) → m.env.frames ≡ f ∷ fs → ask.Do c ≡ a → is_shared c ≡ false
     → cut_of o ≡ None → number_of o ≡ n
     → may_call m.env ≡ true → is_fresh_result m.env o ≡ true → is_full (room_of m c) c ≡ false
@@ -93,7 +74,8 @@ call-next m a c o n f fs stands made local uncut number may fresh fits =
     ∙ ap (λ k. locally m (asked_change m.env c k) (may_call m.env && is_fresh_result m.env o && not (is_full (room_of m c) c))) number
     ∙ ap (locally m (asked_change m.env c n)) (both_may (may_call m.env) (is_fresh_result m.env o) (is_full (room_of m c) c) may fresh fits)
 
-pub leave-next : (m : Machine) (a : Ask) (v : Option HandleId) (o : Out) (f : Frame) (fs : List Frame) → m.env.frames ≡ f ∷ fs → is_hub_duty (duty_of m.env.frames) ≡ false
+pub leave-next : (m : Machine) (a : Ask) (v : Option HandleId) (o : Out) (f : Frame) (fs : List Frame) → m.env.frames ≡ f ∷ fs
+    → is_hub_duty (duty_of m.env.frames) ≡ false
     → ask.Leave v ≡ a → cut_of o ≡ None → may_ask m.env ≡ true
     → env_step m a o m.env.frames ≡ locally m (end_change v None m.env) true
 leave-next m a v o f fs stands local left uncut may =
@@ -116,7 +98,8 @@ cut-next m a w o f fs stands local told may =
 pub by-env : (m : Machine) (a : Ask) (x : Entry) (st : Step) → x.actor ≡ actor.Env → env_step m a x.reply.out m.env.frames ≡ st → step m a x ≡ st
 by-env m a x st who next = ap (step_of m a x) who ∙ next
 
--- the room that a core has is the machine's, for a call that is built
-pub same-room : (s : Setting) (core : Core) (hub : Hub) (history : List Entry) (c : Call) → is_built c ≡ true → core.limit ≡ s.limits.journal
+-- the room that a core has is the machine's, for a local call
+pub same-room : (s : Setting) (core : Core) (hub : Hub) (history : List Entry) (c : Call) → is_shared c ≡ false → core.limit ≡ s.limits.journal
     → room_in core ≡ room_of (machine_of s.limits core hub history) c
-same-room s core hub history c built e = ap (λ n. journal_room core.env (length core.journal) n) e ∙ sym (built-room (machine_of s.limits core hub history) c built)
+same-room s core hub history c local e =
+    ap (λ n. journal_room core.env (length core.journal) n) e ∙ sym (local-room (machine_of s.limits core hub history) c local)

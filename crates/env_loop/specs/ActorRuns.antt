@@ -1,21 +1,23 @@
 -- The run of a thread and that of a worker: what they are, how they stand to the hub, and when they wait.
-use Rattle.std.specs.Prelude.{◌≡◌, ◌⊎◌, ℕ, ◌+◌, ◌<◌, ◌≤◌, Bool, true, false, cond, drop, List, ◌∷◌, length, Option, Some, None}
+use Rattle.std.specs.Prelude.{◌≡◌, ◌⊎◌, ℕ, ◌+◌, ◌<◌, ◌≤◌, Bool, true, false, cond, drop, List, ◌∷◌, length, Option, Some, None, IsTrue}
 use Rattle.std.specs.List.{All}
 use Rattle.napi_types.specs.declared.call.Call.{Call}
 use Rattle.napi_types.specs.declared.entry.Actor.{Actor}
+use Rattle.napi_types.specs.declared.entry.Actor.TheVariants as actor
 use Rattle.napi_types.specs.declared.entry.Entry.{Entry}
 use Rattle.napi_types.specs.declared.op.Op.{Op}
 use Rattle.napi_types.specs.declared.op.Op.TheVariants as op
-use Rattle.napi_types.specs.plain.Room.{one_if}
+use Rattle.napi_types.specs.plain.Room.{Room, one_if, is_full}
 use Rattle.napi_types.specs.parts.Jobs.{job_value}
 use Rattle.napi_types.specs.parts.Pool.{WorkPool, executed_by, value_of_work}
 use Rattle.napi_types.specs.hub.ActorLaws.{ThreadStands}
 use Rattle.napi_types.specs.hub.Actors.{is_thread, thread_calls, is_worker, WorkerState, Free, Working, Over, worker_along}
 use Rattle.napi_types.specs.hub.Hub.{Hub}
-use Rattle.napi_types.specs.hub.ThreadSteps.{is_gone_on}
+use Rattle.napi_types.specs.hub.ThreadSteps.{is_gone_on, nothing_given}
 use Rattle.napi_types.specs.hub.Waits.{waits_at}
 use Rattle.async_work.specs.Executing.{StartedWork, ExecutedWork}
 use Rattle.shared_hub.specs.HubStates.{HubSeen, AddsEntry}
+use Rattle.shared_hub.specs.SharedTries.{MayFindNoMemory}
 use Rattle.shared_hub.specs.KeptHubs.{IsLedHub}
 use Rattle.shared_hub.specs.declared.naming.Numbers.{Numbers}
 
@@ -75,6 +77,11 @@ NextWaits h t _ = ⊥
 -- it waits: for `go`, or at its next call
 abbrev pub ThreadBlocked : Hub → ThreadSeen → Type 0
 ThreadBlocked h t = (is_gone_on h.stage ≡ false) ⊎ NextWaits h t.number (calls_left t)
+
+-- a thread that ends with calls left was stopped at the next one: the history has no room for it, or the hub, which would accept it, may find no memory for it
+abbrev pub StoppedAt : Room → Hub → ℕ → Option (List Call) → Type 0
+StoppedAt r h t (Some (c ∷ later)) = IsTrue (is_full r c) ⊎ MayFindNoMemory r h (actor.Thread t) nothing_given c
+StoppedAt r h t _ = Unit {0}
 
 -- WORKERS
 -- what a worker holds: nothing, a work that it started, or one that it executed

@@ -4,9 +4,9 @@ use Rattle.napi_types.specs.declared.entry.Actor.{Actor}
 use Rattle.napi_types.specs.declared.entry.Actor.TheVariants as actor
 use Rattle.napi_types.specs.hub.Hub.{Hub}
 use Rattle.napi_types.specs.hub.Waits.{worker_waits}
-use Rattle.shared_hub.specs.HubStates.{HubSeen}
+use Rattle.shared_hub.specs.HubStates.{HubSeen, hub_room}
 use Rattle.shared_hub.specs.declared.naming.Numbers.{Numbers}
-use Rattle.env_loop.specs.ActorRuns.{IsThreadOf, SameThread, ThreadBlocked, IsWorkerOf, IsHandsReady, IsHandsFree, held_executed}
+use Rattle.env_loop.specs.ActorRuns.{calls_left, IsThreadOf, SameThread, ThreadBlocked, StoppedAt, IsWorkerOf, IsHandsReady, IsHandsFree, held_executed}
 use Rattle.env_loop.specs.declared.actor.ActorRun.{ActorRun}
 use Rattle.env_loop.specs.declared.actor.ActorRun.TheVariants as run
 
@@ -50,3 +50,8 @@ module _ {J : Type 0} where
   abbrev pub IsBlocked : Hub → ActorRun J → Type 0
   IsBlocked h (run.OfThread t) = ThreadBlocked h t
   IsBlocked h (run.OfWorker w) = worker_waits h w.number ≡ true
+
+  -- a thread that has ended was stopped at the call that was left before, if one was; a worker makes no calls
+  abbrev pub StoppedSo : Numbers → HubSeen → ActorRun J → Type 0
+  StoppedSo n s (run.OfThread t) = StoppedAt (hub_room n s) s.hub t.number (calls_left t)
+  StoppedSo n s (run.OfWorker w) = Unit {0}

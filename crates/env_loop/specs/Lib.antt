@@ -2,6 +2,10 @@ pub mod ActorRuns
 pub mod ActorTurns
 pub mod FollowedRuns
 pub mod HeldWorks
+pub mod HubTurns
+pub mod OpenedAndGone
 pub mod RecordedRuns
 pub mod Recording
+pub mod RunsOverRows
+pub mod SharedEntries
 pub mod Turns

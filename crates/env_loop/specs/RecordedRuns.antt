@@ -1,66 +1,62 @@
--- A running environment: its core and the duty whose frame stands, and the hub beside it.
-use Rattle.std.specs.Prelude.{◌≡◌, ◌≢◌, ◌+◌, true, false, List, [], ◌∷◌, ◌++◌, Option, None, option_map}
+-- A running environment: its core, the duty whose frame stands, and the end of a frame that it owes; and how it fits with the hub beside it.
+use Rattle.std.specs.Prelude.{◌≡◌, ◌≢◌, ◌<◌, ◌≤◌, Bool, true, cond, ◌&&◌, ◌||◌, List, [], ◌∷◌, ◌++◌, length, Option, Some, None, is_some, option_map, IfSome}
 use Rattle.std.specs.List.{All}
 use Rattle.std.specs.Option.{option_to_list}
 use Rattle.napi_types.specs.declared.duties.DueInfo.{DueInfo}
 use Rattle.napi_types.specs.declared.entry.Cause.TheVariants as cause
-use Rattle.napi_types.specs.declared.entry.Entry.{Entry}
 use Rattle.napi_types.specs.declared.entry.Local.{Local}
+use Rattle.napi_types.specs.declared.entry.Phase.{Phase}
 use Rattle.napi_types.specs.declared.entry.Phase.TheVariants as phase
-use Rattle.napi_types.specs.plain.Weave.{weave}
+use Rattle.napi_types.specs.declared.entry.SharedCall.{SharedCall}
+use Rattle.napi_types.specs.declared.entry.Why.{Why}
+use Rattle.napi_types.specs.declared.entry.Why.TheVariants as why
+use Rattle.napi_types.specs.plain.Guards.{is_shared}
 use Rattle.napi_types.specs.parts.Duties.{duties_of, AreNested}
-use Rattle.napi_types.specs.parts.Frames.{Frame, is_hub_duty}
-use Rattle.napi_types.specs.scripts.Plans.{Plan}
+use Rattle.napi_types.specs.parts.Frames.{Frame, asks_made, duty_of, is_hub_duty, most_asks}
 use Rattle.napi_types.specs.environment.Asks.{AsksWithin}
 use Rattle.napi_types.specs.environment.Environment.{Environment}
 use Rattle.napi_types.specs.environment.Hooked.{IsHooked}
 use Rattle.napi_types.specs.environment.Owners.{IsOwned}
-use Rattle.napi_types.specs.hub.Hub.{stage_of, stage_places, Hub, quiet_hub}
-use Rattle.napi_types.specs.runs.Setting.{Setting}
-use Rattle.napi_types.specs.all_runs.Order.{HooksFall, FinalsRise}
+use Rattle.napi_types.specs.environment.SharedCalls.{shared_call_of}
+use Rattle.napi_types.specs.hub.HubOwners.{IsOwnedHub}
 use Rattle.env_core.specs.Core.{Core, opened_core}
 use Rattle.shared_hub.specs.HubStates.{HubSeen}
-use Rattle.env_loop.specs.Recording.{AddonStates, IsOf, IsRecorded}
+pub use Rattle.env_teardown.specs.TeardownSteps.{Shows}
+use Rattle.env_loop.specs.declared.run.FrameEnd.{FrameEnd}
+use Rattle.env_loop.specs.declared.run.FrameEnd.TheVariants as end
 
--- the environment with its journal, and what the duty told whose frame stands, where one does
+-- THE RUN
+-- the environment with its journal; what the duty told whose frame stands, where one does; and how the innermost frame is to end, where that is owed
 pub record Run : Type 0 where
   pub core : Core
   pub begun : Option DueInfo
+  pub ending : Option FrameEnd
 
 -- a run of which no turn was made: the environment has opened
 abbrev pub opened_run : Core → Run
-opened_run core = record { core = core; begun = None }
-
--- the environment of a run with its journal, and the hub beside it with its history
-pub record WholeRun : Type 0 where
-  pub core : Core
-  pub hub : Hub
-  pub history : List Entry
-
-abbrev pub whole_run : Run → HubSeen → WholeRun
-whole_run run seen = record { core = run.core; hub = seen.hub; history = seen.history }
-
--- the hub of a run alone: nothing was asked of it, and it has come as far as the phase shows
-abbrev pub FitsAlone : Run → HubSeen → Type 0
-FitsAlone run seen = seen.hub ≡ quiet_hub (stage_of run.core.env.phase)
+opened_run core = record { core = core; begun = None; ending = None }
 
 -- a core as it opens
 abbrev pub IsOpened : Core → Type 0
 IsOpened core = core ≡ opened_core core.env.addons core.env.texts core.limit
 
--- a frame makes asks, and no duty of the hub began it
-pub record AsksLocally (f : Frame) : Type 0 where
-  pub asks : f.makes_asks ≡ true
-  pub local : is_hub_duty f.duty ≡ false
+-- why a frame is cut that ends so, where it is
+abbrev pub cut_at : FrameEnd → Option Why
+cut_at end.Leaves = None
+cut_at (end.Cut w) = Some w
 
+-- the hub is to answer a call, or to make the end of the frame of one of its duties
+abbrev pub owes_hub : Run → Bool
+owes_hub run = is_some run.core.awaited || (is_some run.ending && is_hub_duty (duty_of run.core.env.frames))
+
+-- WHAT A RUN KEEPS
 -- what the frames of a run keep: each runs an addon of the script and makes no more asks than it may, a frame that a duty began is the outermost one, and no
--- call begins the frame of a ticket; so far the hub has no duties, and every frame makes asks; each function and each ticket belongs to an addon of the script, each hook is registered up to `finals`, and no frame stands
+-- call begins the frame of a ticket; each function and each ticket belongs to an addon of the script, each hook is registered up to `finals`, and no frame stands
 -- once the environment is gone
 pub record IsSoundEnvironment (e : Environment) : Type 0 where
   pub opened : e.opened ≡ true
   pub owned : IsOwned e.addons e
   pub asks : AsksWithin e
-  pub local : All AsksLocally e.frames
   pub nested : AreNested e.frames
   pub uncalled : All (λ r. r.cause ≢ cause.Call) e.book
   pub hooked : IsHooked e
@@ -70,49 +66,42 @@ pub record IsSoundEnvironment (e : Environment) : Type 0 where
 abbrev pub Holds : List Frame → Option DueInfo → Type 0
 Holds fs begun = duties_of fs ≡ option_to_list (option_map (λ d. d.duty) begun)
 
--- the same of a run, the hub owes its core no answer, and the duty of its frames is the one that it holds
-pub record IsRunning (core : Core) (begun : Option DueInfo) : Type 0 where
+-- a call that is awaited is a shared one of the innermost frame, handed over as it stands there
+pub record IsAwaited (e : Environment) (c : SharedCall) : Type 0 where
+  pub stands : e.frames ≢ []
+  pub within : asks_made e.frames < most_asks
+  pub shared : is_shared c.call ≡ true
+  pub handed : c ≡ shared_call_of e c.call
+
+-- an end is owed of a frame that stands. One that leaves is the frame of a duty of the hub, and one is cut for its asks after the last of them
+pub record IsOwedEnd (e : Environment) (how : FrameEnd) : Type 0 where
+  pub stands : e.frames ≢ []
+  pub leaves : how ≡ end.Leaves → is_hub_duty (duty_of e.frames) ≡ true
+  pub asks : how ≡ end.Cut why.Asks → asks_made e.frames ≡ most_asks
+
+-- what a run keeps: besides, the duty of its frames is the one that it holds, and it owes a call or an end, or neither
+pub record IsRunning (core : Core) (begun : Option DueInfo) (ending : Option FrameEnd) : Type 0 where
   pub sound : IsSoundEnvironment core.env
-  pub idle : core.awaited ≡ None
   pub held : Holds core.env.frames begun
+  pub awaited : IfSome core.awaited (IsAwaited core.env)
+  pub ends : IfSome ending (IsOwedEnd core.env)
+  pub one : core.awaited ≢ None → ending ≡ None
+
+-- THE HUB BESIDE IT
+-- the duty that has begun, where it is one of the hub
+abbrev pub hub_begun : Option DueInfo → Option DueInfo
+hub_begun None = None
+hub_begun (Some d) = cond (is_hub_duty (Some d.duty)) (Some d) None
+
+-- a run and a hub that fit together: how far they are, the duty whose frame stands, that works and functions are of the script's addons, and that the run has seen
+-- no more than there is
+pub record FitsHub (run : Run) (seen : HubSeen) : Type 0 where
+  pub stage : Shows run.core.env.phase seen.hub.stage
+  pub standing : seen.hub.standing ≡ hub_begun run.begun
+  pub owned : IsOwnedHub run.core.env.addons seen.hub
+  pub noted : run.core.position ≤ length seen.history
 
 -- the second list has one entry more at its end
 pub record OneMore (old new : List Local) : Type 0 where
   pub entry : Local
   pub last : new ≡ old ++ entry ∷ []
-
--- what was recorded stays: each list is the one before with what came since
-pub record Extends (old new : WholeRun) : Type 0 where
-  pub locals : List Local
-  pub shareds : List Entry
-  pub journal : new.core.journal ≡ old.core.journal ++ locals
-  pub history : new.history ≡ old.history ++ shareds
-
--- whatever script of these addons it is a run of, and whatever they saw first, the recorded run goes on from one run and these addons to another
-abbrev pub RunGoesOn : List Plan → WholeRun → AddonStates → WholeRun → AddonStates → Type 0
-RunGoesOn plans old all new now =
-    (s : Setting) (firsts : List (List DueInfo)) → IsOf s plans old.core → IsRecorded s old.core old.hub old.history all firsts
-    → IsRecorded s new.core new.hub new.history now firsts
-
--- in a run, hooks began in the reverse of the order in which they were added, and what began after `finals` in the order of registration
-abbrev pub BeganInOrder : WholeRun → Type 0
-BeganInOrder run = HooksFall (weave run.core.journal run.history) × FinalsRise (weave run.core.journal run.history)
-
--- where one run is recorded as a run of a script of these addons, tickets began in order in the other, to which it went on
-abbrev pub EndsInOrder : List Plan → WholeRun → AddonStates → WholeRun → Type 0
-EndsInOrder plans old all new =
-    (s : Setting) (firsts : List (List DueInfo)) → IsOf s plans old.core → IsRecorded s old.core old.hub old.history all firsts → BeganInOrder new
-
--- the hub made its next event, which is one entry more in the history; the journal, the limit, what is awaited, the frames, the addons and what is seen of them
--- are as before
-pub record MovesOn (old new : WholeRun) : Type 0 where
-  pub left : stage_places (stage_of old.core.env.phase) ≡ stage_places (stage_of new.core.env.phase) + 1
-  pub event : Entry
-  pub last : new.history ≡ old.history ++ event ∷ []
-  pub addons : new.core.env.addons ≡ old.core.env.addons
-  pub limit : new.core.limit ≡ old.core.limit
-  pub journal : new.core.journal ≡ old.core.journal
-  pub awaited : new.core.awaited ≡ old.core.awaited
-  pub frames : new.core.env.frames ≡ old.core.env.frames
-  pub sound : IsSoundEnvironment old.core.env → IsSoundEnvironment new.core.env
-  pub recorded : (plans : List Plan) (all : AddonStates) → RunGoesOn plans old all new all

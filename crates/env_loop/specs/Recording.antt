@@ -9,7 +9,6 @@ use Rattle.napi_types.specs.declared.entry.Why.{Why}
 use Rattle.napi_types.specs.declared.entry.Why.TheVariants as why
 use Rattle.napi_types.specs.declared.status.Status.{Status}
 use Rattle.napi_types.specs.declared.status.Status.TheVariants as status
-use Rattle.napi_types.specs.plain.Built.{is_built}
 use Rattle.napi_types.specs.plain.Weave.{weave, RisesBetween}
 use Rattle.napi_types.specs.scripts.Plans.{Plan, plan_of, Registers, registers_of}
 use Rattle.napi_types.specs.hub.Hub.{Hub}
@@ -81,14 +80,10 @@ abbrev pub why_stopped : Status → Why
 why_stopped status.TraceFull = why.Full
 why_stopped _ = why.Memory
 
--- the script's addons are the first of those that tell these plans, as many as the core has; it has no threads and no workers, and its calls are those that are
--- built
+-- the script's addons are the first of those that tell these plans, as many as the core has
 pub record IsOf (s : Setting) (plans : List Plan) (core : Core) : Type 0 where
   pub count : length s.plans ≡ core.env.addons
   pub first : (addon : ℕ) → addon < length s.plans → plan_of s.plans addon ≡ plan_of plans addon
-  pub threads : s.threads ≡ 0
-  pub workers : s.workers ≡ 0
-  pub built : s.built ≡ is_built
 
 -- whatever script of these addons it is a run of, however far its hub is, and whatever they saw first, the recorded run goes on from one core and these addons to
 -- another

@@ -1,70 +1,125 @@
 -- What a turn of the environment comes to.
-use Rattle.std.specs.Prelude.{◌≡◌, ℕ, ◌+◌, ◌-◌, List, [], ◌∷◌, length, drop, Option, Some, None, IfSome, option_map}
-use Rattle.std.specs.Option.{option_to_list}
+use Rattle.std.specs.Prelude.{◌≡◌, ◌⊎◌, ℕ, Bool, true, false, cond, List, [], ◌∷◌, drop, Option, Some, None, IfSome, option_map}
+use Rattle.std.specs.Option.{option_or, option_to_list}
 use Rattle.napi_types.specs.declared.call.Ask.{Ask}
+use Rattle.napi_types.specs.declared.call.Ask.TheVariants as ask
 use Rattle.napi_types.specs.declared.duties.DueInfo.{DueInfo}
 use Rattle.napi_types.specs.declared.entry.Duty.{Duty}
+use Rattle.napi_types.specs.declared.entry.Entry.{Entry}
+use Rattle.napi_types.specs.declared.entry.LoopEnd.TheVariants as loop_end
+use Rattle.napi_types.specs.declared.entry.Phase.{Phase}
+use Rattle.napi_types.specs.declared.entry.Phase.TheVariants as phase
 use Rattle.napi_types.specs.declared.entry.Reply.{Reply}
-use Rattle.napi_types.specs.plain.Weave.{Side, Journal, History}
-use Rattle.napi_types.specs.parts.Book.{ticket_duty}
-use Rattle.napi_types.specs.parts.Frames.{Frame}
+use Rattle.napi_types.specs.declared.entry.SharedCall.{SharedCall}
+use Rattle.napi_types.specs.declared.entry.Why.{Why}
+use Rattle.napi_types.specs.declared.ids.HandleId.{HandleId}
+use Rattle.napi_types.specs.plain.Lists.{tail}
+use Rattle.napi_types.specs.parts.Book.{due_info, registration_at}
+use Rattle.napi_types.specs.parts.Frames.{Frame, at_last_ask}
 use Rattle.napi_types.specs.scripts.Plans.{Plan, plan_of, Registers, registers_of}
 use Rattle.napi_types.specs.scripts.Registers.{plan_ask, registers_after_reply}
+use Rattle.napi_types.specs.environment.Ends.{end_change}
 use Rattle.napi_types.specs.environment.Environment.{Environment}
-use Rattle.napi_types.specs.hub.Hub.{stage_of, stage_places, quiet_hub}
-use Rattle.napi_types.specs.runs.Begins.{duty_info}
-use Rattle.napi_types.specs.runs.Choice.{local_choice, choice}
-use Rattle.napi_types.specs.runs.Loop.{Event, Tickets}
-use Rattle.napi_types.specs.runs.Machine.{Machine}
-use Rattle.napi_types.specs.runs.Step.{event_step}
+use Rattle.napi_types.specs.hub.Hub.{Hub}
+use Rattle.napi_types.specs.hub.HubMoves.{Delivers}
+use Rattle.napi_types.specs.runs.Choice.{local_choice, hub_choice}
+use Rattle.napi_types.specs.runs.Loop.{Event, Inits, Tickets, Moves, EndsLoop, IsGone}
 use Rattle.addon_trait.specs.Addons.{OthersStay}
-use Rattle.env_core.specs.Core.{Core}
+use Rattle.env_core.specs.Core.{Core, after_change}
+use Rattle.shared_hub.specs.HubStates.{HubSeen}
+use Rattle.env_loop.specs.declared.run.FrameEnd.{FrameEnd}
+use Rattle.env_loop.specs.declared.run.HubTurn.{HubTurn}
+use Rattle.env_loop.specs.declared.run.HubTurn.TheVariants as hub_turn
 use Rattle.env_loop.specs.declared.turn.LocalTurn.{LocalTurn}
 use Rattle.env_loop.specs.declared.turn.LocalTurn.TheVariants as turn
-use Rattle.env_loop.specs.Recording.{AddonStates, HasSeen, Continues}
-use Rattle.env_loop.specs.RecordedRuns.{IsSoundEnvironment, OneMore}
+use Rattle.env_loop.specs.declared.turn.NextEvent.{NextEvent}
+use Rattle.env_loop.specs.declared.turn.NextEvent.TheVariants as next
+use Rattle.env_loop.specs.Recording.{AddonStates, HasSeen}
+use Rattle.env_loop.specs.RecordedRuns.{Run, OneMore, cut_at, owes_hub, hub_begun, FitsHub}
+use Rattle.env_loop.specs.FollowedRuns.{RunGoesOn}
 
--- a turn makes an entry where a frame stands, and else where the entry of the next event stands in the journal; where it stands in the history, the hub has to
--- make its turn; where no event is next the environment is gone
-abbrev pub turn_at : List Frame → Option Side → LocalTurn
-turn_at (f ∷ fs) next = turn.Made
-turn_at [] (Some Journal) = turn.Made
-turn_at [] (Some History) = turn.NeedsHub
-turn_at [] None = turn.Gone
+-- THE NEXT EVENT
+-- the event that the environment decides alone, where it does; else the next event is the hub's, if there is one
+abbrev pub IsNextEvent : NextEvent → Option Event → Type 0
+IsNextEvent (next.Init addon) o = o ≡ Some (Inits addon)
+IsNextEvent next.Ticket o = (n : ℕ) × (o ≡ Some (Tickets n))
+IsNextEvent next.Exit o = o ≡ Some (EndsLoop loop_end.Exit)
+IsNextEvent next.Gone o = o ≡ Some IsGone
+IsNextEvent next.OfHub o = o ≡ None
 
--- the list on which the entry of an event stands, where one was chosen
-abbrev pub side_of : Machine → Option Event → Option Side
-side_of m event = option_map (λ v. (event_step m v).side) event
+-- A LOCAL TURN
+-- a turn makes an entry where a frame stands. Else the environment makes the event that it decides alone, but for the end of the loop, which stands in the history;
+-- every other event is the hub's, until the environment is gone
+abbrev pub event_turn : Option Event → Phase → LocalTurn
+event_turn (Some (EndsLoop why)) p = turn.NeedsHub
+event_turn (Some event) p = turn.Made
+event_turn None phase.Gone = turn.Gone
+event_turn None p = turn.NeedsHub
 
--- the machine of an environment and of a hub of which nothing was asked, at the stage that the phase shows; what it counts decides no event
-abbrev pub uncounted : Environment → Machine
-uncounted e = record { env = e; hub = quiet_hub (stage_of e.phase); journal_length = 0; history_length = 0; limits = record { journal = 0; history = 0 } }
+abbrev pub turn_at : List Frame → Environment → LocalTurn
+turn_at (f ∷ fs) e = turn.Made
+turn_at [] e = event_turn (local_choice e) e.phase
 
--- the turn of an environment
 abbrev pub turn_of : Environment → LocalTurn
-turn_of e = turn_at e.frames (side_of (uncounted e) (choice (uncounted e)))
+turn_of e = turn_at e.frames e
 
--- the ticket whose frame an event begins, where it begins one
-abbrev pub ticket_of : Option Event → Option ℕ
-ticket_of (Some (Tickets n)) = Some n
-ticket_of _ = None
+-- a turn after which this run owes something to the hub made no entry: the hub has to make its turn
+abbrev pub turn_after : Run → Environment → LocalTurn
+turn_after run e = cond (owes_hub run) turn.NeedsHub (turn_of e)
+
+-- the hub has to make its turn: something is owed to it, or the next event is its own
+abbrev pub needs_hub : Run → Type 0
+needs_hub run = turn_after run run.core.env ≡ turn.NeedsHub
+
+-- what the ticket tells whose frame an event begins, where it begins one
+abbrev pub due_told : Environment → Option Event → Option DueInfo
+due_told e (Some (Tickets n)) = option_map (due_info n) (registration_at e.book n)
+due_told e _ = None
 
 -- what the ticket tells that begins in the next turn, where one does: none begins while a frame stands
 abbrev pub begins_over : Environment → List Frame → Option DueInfo
-begins_over e [] = duty_info (uncounted e) (option_map ticket_duty (ticket_of (local_choice e)))
+begins_over e [] = due_told e (local_choice e)
 begins_over e (f ∷ fs) = None
 
 abbrev pub begins_next : Environment → Option DueInfo
 begins_next e = begins_over e e.frames
 
--- how many turns are left at most: one for each place that the journal has left, and one for each event of the hub to come
-abbrev pub turns_left : Core → ℕ
-turns_left core = (core.limit - length core.journal) + stage_places (stage_of core.env.phase)
+-- A TURN AT THE HUB
+-- the event that is next at the hub, where nothing is owed: the end of the loop, once exit was asked, or else the one that the hub chooses
+abbrev pub hub_event : Environment → Hub → Option Event
+hub_event e h = option_or (local_choice e) (hub_choice h)
+
+-- what the duty tells whose frame an event of the hub begins, where it begins one
+abbrev pub delivery_told : Option Event → Option DueInfo
+delivery_told (Some (Moves (Delivers d))) = Some d
+delivery_told _ = None
+
+-- what the duty tells whose frame begins in the hub's turn
+abbrev pub begins_at_hub : Run → Hub → Option DueInfo
+begins_at_hub run h = cond (owes_hub run) None (delivery_told (hub_event run.core.env h))
+
+-- a fact of why a call was cut, where the turn is one that cut it
+abbrev pub IfCut : HubTurn → (Why → Type 0) → Type 0
+IfCut (hub_turn.Cut w) P = P w
+IfCut _ P = Unit {0}
+
+-- a fact of the call that is awaited; there has to be one
+abbrev pub Awaits : Option SharedCall → (SharedCall → Type 0) → Type 0
+Awaits (Some c) P = P c
+Awaits None P = ⊥
 
 -- TURNS OF A FRAME
 -- what a frame asks by the plans, where its addon tells one, from these registers
 abbrev pub IsAsked : List Plan → Registers → Frame → Ask → Type 0
 IsAsked plans all f a = IfSome (plan_of plans f.addon) (λ p. a ≡ plan_ask p (registers_of all f.addon) f.entry f.asks)
+
+-- what a frame asks that may make no asks: it leaves then
+abbrev pub IsAskIn : Bool → List Plan → Registers → Frame → Ask → Type 0
+IsAskIn true plans all f a = IsAsked plans all f a
+IsAskIn false plans all f a = a ≡ ask.Leave None
+
+abbrev pub IsAskOf : List Plan → Registers → Frame → Ask → Type 0
+IsAskOf plans all f a = IsAskIn f.makes_asks plans all f a
 
 -- the registers once the addon of the innermost of these frames was told the reply to the ask that the frame made last
 abbrev pub IsTold : List Plan → Registers → List Frame → Reply → Registers → Type 0
@@ -84,20 +139,62 @@ OnlyInnermostChanges before [] all now = now ≡ all
 OnlyInnermostChanges [] (g ∷ gs) all now = OnlyGiven g.duty g.addon all now
 OnlyInnermostChanges (f ∷ fs) (g ∷ gs) all now = OthersStay all now g.addon
 
--- a turn keeps the addons and the journal's limit and makes no event of the hub, to which it hands no call; it leaves one entry
-pub record KeepsRun (old new : Core) : Type 0 where
-  pub addons : new.env.addons ≡ old.env.addons
-  pub stage : stage_of new.env.phase ≡ stage_of old.env.phase
-  pub limit : new.limit ≡ old.limit
-  pub awaited : new.awaited ≡ old.awaited
-  pub one : OneMore old.journal new.journal
+-- WHAT A TURN KEEPS
+-- a turn that leaves one entry in the journal keeps the addons and the journal's limit, makes no event of the hub, and owes nothing afterwards
+pub record MakesEntry (old new : Run) : Type 0 where
+  pub addons : new.core.env.addons ≡ old.core.env.addons
+  pub fits : (h : HubSeen) → FitsHub old h → FitsHub new h
+  pub limit : new.core.limit ≡ old.core.limit
+  pub position : new.core.position ≡ old.core.position
+  pub awaited : new.core.awaited ≡ None
+  pub ending : new.ending ≡ None
+  pub one : OneMore old.core.journal new.core.journal
 
 -- a turn: the addons that are no addons of the script keep their registers, only the innermost frame's addon may have other ones, an addon has seen a duty
--- more where its frame begins, and a run that was recorded goes on
-pub record IsTurn (plans : List Plan) (old : Core) (all : AddonStates) (new : Core) (now : AddonStates) : Type 0 where
-  pub others : drop old.env.addons now.registers ≡ drop old.env.addons all.registers
-  pub untouched : OnlyInnermostChanges old.env.frames new.env.frames all.registers now.registers
-  pub seen : HasSeen all.seen (option_to_list (begins_next old.env)) now.seen
-  pub sound : IsSoundEnvironment new.env
-  pub kept : KeepsRun old new
-  pub recorded : Continues plans old all new now
+-- more where its frame begins, and a run that was followed goes on over the same history
+pub record IsTurn (plans : List Plan) (old : Run) (all : AddonStates) (new : Run) (now : AddonStates) : Type 0 where
+  pub others : drop old.core.env.addons now.registers ≡ drop old.core.env.addons all.registers
+  pub untouched : OnlyInnermostChanges old.core.env.frames new.core.env.frames all.registers now.registers
+  pub seen : HasSeen all.seen (option_to_list (begins_next old.core.env)) now.seen
+  pub kept : MakesEntry old new
+  pub goes : (history : List Entry) → RunGoesOn plans old history all new history now
+
+-- all is as it was but for what is owed
+abbrev pub OwesAlone : Run → Run → Type 0
+OwesAlone old new = new ≡ record old { core = record old.core { awaited = new.core.awaited }; ending = new.ending }
+
+-- a turn after which something is owed to the hub, where no end was owed before: all but that is as before, and a run that was followed goes on over the same history
+pub record OwesMore (plans : List Plan) (old : Run) (all : AddonStates) (new : Run) (now : AddonStates) : Type 0 where
+  pub core : new.core ≡ record old.core { awaited = new.core.awaited }
+  pub begun : new.begun ≡ old.begun
+  pub free : old.ending ≡ None
+  pub owes : owes_hub new ≡ true
+  pub same : now ≡ all
+  pub goes : (history : List Entry) → RunGoesOn plans old history all new history now
+
+-- nothing changed
+pub record IsSame (old : Run) (all : AddonStates) (new : Run) (now : AddonStates) : Type 0 where
+  pub run : new ≡ old
+  pub addons : now ≡ all
+
+-- a turn by what it comes to: it made its entry, it owes more than before, or it changed nothing
+abbrev pub MatchTurn : LocalTurn → List Plan → Run → AddonStates → Run → AddonStates → Type 0
+MatchTurn turn.Made plans old all new now = IsTurn plans old all new now
+MatchTurn turn.NeedsHub plans old all new now = OwesMore plans old all new now ⊎ IsSame old all new now
+MatchTurn turn.Gone plans old all new now = IsSame old all new now
+
+-- the innermost frame ended so here, no duty of the hub with it, and the addon of its caller was told
+pub record EndsHere (plans : List Plan) (all : Registers) (old : Run) (value : Option HandleId) (how : FrameEnd) (new : Run) (now : Registers) : Type 0 where
+  pub ended : new.core ≡ after_change (end_change value (cut_at how) old.core.env) old.core
+  pub ending : new.ending ≡ None
+  pub begun : hub_begun new.begun ≡ hub_begun old.begun
+  pub told : IsTold plans all (at_last_ask (tail old.core.env.frames)) (end_change value (cut_at how) old.core.env).entry.reply now
+
+-- the innermost frame of an environment ended so, without a value
+abbrev pub EndsSo : FrameEnd → Core → Core → Type 0
+EndsSo how old new = new ≡ after_change (end_change None (cut_at how) old.env) old
+
+-- it ends here, or where a duty of the hub began it, its end is owed
+abbrev pub EndsOrOwes : Bool → List Plan → Registers → Run → Option HandleId → FrameEnd → Run → Registers → Type 0
+EndsOrOwes false plans all old value how new now = EndsHere plans all old value how new now
+EndsOrOwes true plans all old value how new now = (new ≡ record old { ending = Some how }) × (now ≡ all)

@@ -1,8 +1,8 @@
 //! Turns of the threads of a script and of workers.
-ghost use Rattle.std.specs.Prelude.{◌≡◌, ◌≢◌, ◌↔◌, ◌≤◌, length, IsTrue};
+ghost use Rattle.std.specs.Prelude.{◌≡◌, ◌≢◌, ◌↔◌, ◌≤◌, length, true, IsTrue};
 ghost use Rattle.std.specs.List.{All};
 ghost use Rattle.env_loop.specs.ActorRuns.{IsOperationOfThread, new_thread, new_worker, AddsEntryOf};
-ghost use Rattle.env_loop.specs.ActorTurns.{actor_of, is_over, IsActorOf, IsReady, HoldsNoWork, with_work_executed, IsSameActor, IsBlocked};
+ghost use Rattle.env_loop.specs.ActorTurns.{actor_of, is_over, IsActorOf, IsReady, HoldsNoWork, with_work_executed, IsSameActor, IsBlocked, StoppedSo};
 
 pub mod standing;
 mod thread;
@@ -71,6 +71,7 @@ impl<J: Job> ActorRun<J> {
         ensures blocked { result ≡ ActorTurn.Blocked → IsBlocked hub.old.hub self.old }
         ensures same { result ≢ ActorTurn.Made → (hub.new ≡ hub.old) × (self.new ≡ self.old) }
         ensures ended { (result ≡ ActorTurn.Ended) ↔ IsTrue (is_over self.old) }
+        ensures cut { is_over self.new ≡ true → StoppedSo N.numbers hub.old self.old }
     {
         match self {
             ActorRun::OfThread(thread) => thread.turn(hub),

@@ -1,5 +1,8 @@
-//! What a recorded run comes to as others go on behind what the environment has seen, as laws: each function does nothing, and its contract states a law.
-ghost use Rattle.env_loop.specs.FollowedRuns.{OthersAreTakenIn, OthersMayAdd};
+//! What a recorded run comes to as the environment and others go on at the hub, as laws: each function does nothing, and its contract states a law.
+ghost use Rattle.env_loop.specs.FollowedRuns.{FittingRunsStand, OthersAreTakenIn, OthersMayAdd};
+ghost use Rattle.env_loop.specs.OpenedAndGone.{GoneRunsHaveEnded, OpenedRunsAreFollowed};
+ghost use Rattle.env_loop.specs.RunsOverRows.{RunsAreFollowedOverRows};
+ghost use Rattle.env_loop.specs.SharedEntries.{SharedEntriesAreRecorded};
 
 /// A run that is recorded over a front of the history, with entries of other actors alone behind it, is recorded over the whole history. Only the position
 /// moves, to its length.
@@ -10,4 +13,29 @@ pub fn others_are_taken_in()
 /// It stays so as others add entries.
 pub fn others_may_add()
     ensures { OthersMayAdd }
+{}
+
+/// So it stays, by the rows that the turn lock counts, as rows of other passes than the environment's come.
+pub fn runs_are_followed_over_rows()
+    ensures { RunsAreFollowedOverRows }
+{}
+
+/// A run fits with its hub still once another actor has added an entry.
+pub fn fitting_runs_stand()
+    ensures { FittingRunsStand }
+{}
+
+/// An entry of the environment that may come next goes into the history of a recorded run.
+pub fn shared_entries_are_recorded()
+    ensures { SharedEntriesAreRecorded }
+{}
+
+/// A run that opened is followed over the empty history.
+pub fn opened_runs_are_followed()
+    ensures { OpenedRunsAreFollowed }
+{}
+
+/// A run that is followed and whose environment is gone came to its end.
+pub fn gone_runs_have_ended()
+    ensures { GoneRunsHaveEnded }
 {}

@@ -1,27 +1,54 @@
-//! A running environment, and a run without other actors.
-ghost use Rattle.std.specs.Prelude.{◌≡◌, ◌≢◌, ℕ, ◌<◌, ◌≤◌, ◌↔◌, [], ◌++◌, length, map, drop, None};
+//! A running environment.
+ghost use Rattle.std.specs.Prelude.{◌≡◌, ◌≢◌, ℕ, ◌<◌, ◌≤◌, ◌↔◌, List, [], length, map, drop, true, false, None, Some, IsTrue, IfSome};
 ghost use Rattle.std.specs.Option.{option_to_list};
-ghost use Rattle.napi_types.specs.hub.Hub.{stage_of};
-ghost use Rattle.napi_types.specs.runs.Begins.{of_addon};
-ghost use Rattle.addon_trait.specs.Addons.{seen_of};
-ghost use Rattle.env_loop.specs.Recording.{AddonStates, Continues};
-ghost use Rattle.env_loop.specs.RecordedRuns.{IsOpened, opened_run, whole_run, FitsAlone, OneMore, Extends, RunGoesOn, EndsInOrder, MovesOn};
-ghost use Rattle.env_loop.specs.Turns.{turn_of, begins_next, OnlyInnermostChanges};
+ghost use Rattle.napi_types.specs.declared.entry.Actor.TheVariants as actor;
+ghost use Rattle.napi_types.specs.declared.entry.Entry.{Entry};
+ghost use Rattle.napi_types.specs.plain.Room.{is_full};
+ghost use Rattle.env_core.specs.Sharing.{after_no_answer};
+ghost use Rattle.shared_hub.specs.HubStates.{HubSeen, hub_room};
+ghost use Rattle.shared_hub.specs.SharedTries.{given_by, MayFindNoMemory};
+ghost use Rattle.env_loop.specs.ActorRuns.{AddsEntryOf};
+ghost use Rattle.env_loop.specs.Recording.{AddonStates, HasSeen};
+ghost use Rattle.env_loop.specs.RecordedRuns.{IsOpened, opened_run, owes_hub, FitsHub, OneMore};
+ghost use Rattle.env_loop.specs.FollowedRuns.{RunGoesOn, GoesOnAt};
+ghost use Rattle.env_loop.specs.HubTurns.{SpentAtFinals};
+ghost use Rattle.env_loop.specs.Turns.{turn_after, needs_hub, begins_next, begins_at_hub, hub_event, IfCut, Awaits, OnlyInnermostChanges, OwesAlone, EndsSo};
 
-use crate::turn::{LocalTurn, turn};
+use crate::turn::LocalTurn;
 use addon_trait::Addon;
 use async_work::Job;
 use env_core::EnvCore;
-use env_teardown::{TearStep, teardown_step};
-use napi_types::{Begun, Phase, Record, SeenList};
+use napi_types::{Begun, Phase, Record, Why};
 use shared_hub::{HubState, Naming};
 use std::marker::Model;
 
+/// How a frame is to end, where the hub has to make its end, or has stopped its call.
+#[derive(Clone, Copy, Debug, PartialEq, Eq)]
+pub enum FrameEnd {
+    /// It leaves.
+    Leaves,
+    /// It is cut, for this reason.
+    Cut(Why),
+}
+
+/// What a turn of the environment at the hub comes out as.
+#[derive(Clone, Copy, Debug, PartialEq, Eq)]
+pub enum HubTurn {
+    /// It made one entry of the history.
+    Made,
+    /// The hub stopped the call that it was to answer. No entry was made, and the frame ends so in its next turn.
+    Cut(Why),
+    /// There is nothing to do until a thread or a worker has done something. Nothing changed.
+    Nothing,
+}
+
 /// An environment that runs. Its hub stands beside it. It has to be spent, by `retire` or `into_record`.
 pub struct EnvRun {
-    core: EnvCore,
+    pub(crate) core: EnvCore,
     // The duty whose frame stands: it has begun, and ends with the frame.
-    begun: Option<Begun>,
+    pub(crate) begun: Option<Begun>,
+    // How the innermost frame is to end: at the hub, or, where the hub stopped its call, in the next turn.
+    pub(crate) ending: Option<FrameEnd>,
 }
 
 impl Model for EnvRun {
@@ -29,9 +56,9 @@ impl Model for EnvRun {
 
     ghost Value = { Run };
 
-    ghost view = { λ run. record { core = run.core; begun = run.begun } };
+    ghost view = { λ run. record { core = run.core; begun = run.begun; ending = run.ending } };
 
-    ghost invariant = { λ run. IsRunning run.core run.begun };
+    ghost invariant = { λ run. IsRunning run.core run.begun run.ending };
 }
 
 impl EnvRun {
@@ -40,15 +67,22 @@ impl EnvRun {
         requires { IsOpened core }
         ensures { result ≡ opened_run core }
     {
-        EnvRun { core, begun: None }
+        EnvRun {
+            core,
+            begun: None,
+            ending: None,
+        }
     }
 
     /// Makes one turn: the next ask of the innermost frame, or the next event where no frame stands. `Made` is one entry
-    /// more in the journal. `NeedsHub` is answered where the next event is one of the hub, and again until the hub has made it;
-    /// `Gone` once the environment is gone. After those two all is as it was.
+    /// more in the journal. `NeedsHub` is answered where the hub has to answer a call, to make the end of the frame of one of its duties or to make
+    /// the next event, and again until it has made its turn. `Gone` is answered once the environment is gone.
     ///
-    /// In the loop, until exit is asked, and after `finals` the lowest ticket that is due begins its frame, where no frame stands; its
-    /// addon has then seen what it tells. The ticket ends with its frame.
+    /// An addon is asked once. While something is owed to the hub, nothing is asked and nothing changes. No turn reads what others have done
+    /// since the environment's last turn at the hub.
+    ///
+    /// In the loop, until exit is asked, and after `finals` the lowest ticket that is due begins its frame, where no frame stands; between the end
+    /// of the loop and the drain it is that of the hook that was added last. Its addon has then seen what it tells. The ticket ends with its frame.
     ///
     /// The first addons are those of the script, at least as many as the environment has. The time is that of the call, or of
     /// closing the scopes of the frame that ends.
@@ -57,77 +91,121 @@ impl EnvRun {
         ensures count { length addons.new.items ≡ length addons.old.items }
         ensures plans { map (λ b. plan b) addons.new.items ≡ map (λ b. plan b) addons.old.items }
 
-        // What the turn comes to is told by the frames and the next event.
-        ensures turn { result ≡ turn_of self.old.core.env }
-        ensures gone { (result ≡ LocalTurn.Gone) ↔ (self.old.core.env.phase ≡ Phase.Gone) }
+        // What the turn comes to is told by the frames and the next event, and by what is owed after it.
+        ensures turn { result ≡ turn_after self.new self.old.core.env }
 
         // A turn that was made left exactly one entry in the journal, which had room for it.
         ensures made { result ≡ LocalTurn.Made → OneMore self.old.core.journal self.new.core.journal }
         ensures room { result ≡ LocalTurn.Made → length self.old.core.journal < self.old.core.limit }
 
-        // Another turn changed nothing.
-        ensures stays { result ≢ LocalTurn.Made → self.new ≡ self.old }
+        // Another turn changed nothing, but that something may be owed that was not. Where something was owed it changed nothing at all, and nothing
+        // comes to be owed where the end of a frame was.
+        ensures stays { result ≢ LocalTurn.Made → owes_hub self.new ≡ false → self.new ≡ self.old }
+        ensures owes { result ≢ LocalTurn.Made → OwesAlone self.old self.new }
+        ensures once { IsTrue (owes_hub self.old) → self.new ≡ self.old }
+        ensures free { owes_hub self.old ≡ false → owes_hub self.new ≡ true → self.old.ending ≡ None }
         ensures same { result ≢ LocalTurn.Made → map (λ b. regs b) addons.new.items ≡ map (λ b. regs b) addons.old.items }
         ensures unseen { result ≢ LocalTurn.Made → map (λ b. seen b) addons.new.items ≡ map (λ b. seen b) addons.old.items }
 
-        // A run that was recorded goes on, whatever its hub, and the addons that are no addons of the script keep their registers.
-        ensures recorded { let before : AddonStates = record { registers = map (λ b. regs b) addons.old.items; seen = map (λ b. seen b) addons.old.items } in
+        // Where the end of a frame was owed and the hub is not to make it, the frame ended so, and no addon was asked.
+        ensures ends { IfSome self.old.ending (λ how. owes_hub self.old ≡ false → EndsSo how self.old.core self.new.core) }
+
+        // A run that was followed goes on over the same history. It fits with each hub with which it fitted, and the addons that are no addons
+        // of the script keep their registers.
+        ensures goes { let before : AddonStates = record { registers = map (λ b. regs b) addons.old.items; seen = map (λ b. seen b) addons.old.items } in
             let after : AddonStates = record { registers = map (λ b. regs b) addons.new.items; seen = map (λ b. seen b) addons.new.items } in
-            Continues (map (λ b. plan b) addons.old.items) self.old.core before self.new.core after }
+            (history : List Entry) → RunGoesOn (map (λ b. plan b) addons.old.items) self.old history before self.new history after }
+        ensures fits { (hub : HubSeen) → FitsHub self.old hub → FitsHub self.new hub }
         ensures others { let n = self.old.core.env.addons in
             drop n (map (λ b. regs b) addons.new.items) ≡ drop n (map (λ b. regs b) addons.old.items) }
         ensures addons { self.new.core.env.addons ≡ self.old.core.env.addons }
         ensures limit { self.new.core.limit ≡ self.old.core.limit }
-        ensures stage { stage_of self.new.core.env.phase ≡ stage_of self.old.core.env.phase }
 
         // The addon of a ticket that begins has seen what it tells, after what it saw before. No other addon has seen anything more.
         ensures seen { let before = map (λ b. seen b) addons.old.items in
             let after = map (λ b. seen b) addons.new.items in
-            (addon : ℕ) → seen_of after addon ≡ seen_of before addon ++ of_addon addon (option_to_list (begins_next self.old.core.env)) }
+            HasSeen before (option_to_list (begins_next self.old.core.env)) after }
 
         // Only the addon of the innermost frame after the turn may have other registers than before.
         ensures untouched { let before = map (λ b. regs b) addons.old.items in
             let after = map (λ b. regs b) addons.new.items in
             result ≡ LocalTurn.Made → OnlyInnermostChanges self.old.core.env.frames self.new.core.env.frames before after }
     {
-        turn(&mut self.core, &mut self.begun, addons)
+        self.turn(addons)
     }
 
-    /// Makes the hub's next event, where one is next: `go`, then `loop_end`, because exit was asked or because nothing is left to do, and then
-    /// the steps of the teardown.
-    fn hub_turn<J: Job, N: Naming>(&mut self, hub: &mut HubState<J, N>)
-        requires needs { turn_of self.old.core.env ≡ LocalTurn.NeedsHub }
-        requires fits { FitsAlone self.old hub.old }
-        ensures moved { MovesOn (whole_run self.old hub.old) (whole_run self.new hub.new) }
-        ensures fits { FitsAlone self.new hub.new }
+    /// Makes the environment's turn at the hub, where `local_turn` answers `NeedsHub`: the answer to the call that is awaited; the end of the frame
+    /// of one of the hub's duties; or the hub's next event. That is `go`, the begin of a duty's frame or another move, the end of the loop,
+    /// because exit was asked or because nothing is left to do, or a step of the teardown.
+    ///
+    /// `Made` is one entry more in the history. `Cut` and `Nothing` make none. At `Made` and at `Cut` what others have done is taken in; at `Nothing`
+    /// nothing changes.
+    ///
+    /// The hub is the one beside which the run has stood from its opening. The time is that of the hub's call.
+    pub fn hub_turn<J: Job, N: Naming>(
+        &mut self,
+        hub: &mut HubState<J, N>,
+        addons: &mut Vec<Box<dyn Addon>>,
+    ) -> HubTurn
+        requires needs { needs_hub self.old }
+        requires fits { FitsHub self.old hub.old }
+        requires enough { self.old.core.env.addons ≤ length addons.old.items }
+        ensures count { length addons.new.items ≡ length addons.old.items }
+        ensures plans { map (λ b. plan b) addons.new.items ≡ map (λ b. plan b) addons.old.items }
+
+        // A turn that was made left exactly one entry of the environment's in the history.
+        ensures made { result ≡ HubTurn.Made → AddsEntryOf actor.Env hub.old hub.new }
+        ensures paid { result ≡ HubTurn.Made → (self.new.core.awaited ≡ None) × (self.new.ending ≡ None) }
+
+        // Each other turn left the hub as it was. A call is cut as full exactly where the history has no room for it, and for want of memory only
+        // where it has and where the call may want some; its frame is then to end so. Nothing is done exactly where nothing is owed and
+        // no event is next, and then nothing changes.
+        ensures hub { result ≢ HubTurn.Made → hub.new ≡ hub.old }
+        ensures full { (result ≡ HubTurn.Cut Why.Full) ↔ Awaits self.old.core.awaited (λ c. IsTrue (is_full (hub_room N.numbers hub.old) c.call)) }
+        ensures memory { result ≡ HubTurn.Cut Why.Memory
+            → Awaits self.old.core.awaited (λ c. MayFindNoMemory (hub_room N.numbers hub.old) hub.old.hub actor.Env (given_by c) c.call) }
+        ensures cut { IfCut result (λ why. (why ≢ Why.Asks)
+            × (self.new ≡ record self.old { core = after_no_answer (length hub.old.history) self.old.core; ending = Some (FrameEnd.Cut why) })) }
+        ensures nothing { (result ≡ HubTurn.Nothing) ↔ ((owes_hub self.old ≡ false) × (hub_event self.old.core.env hub.old.hub ≡ None)) }
+        ensures stays { result ≡ HubTurn.Nothing → self.new ≡ self.old }
+        ensures same { result ≢ HubTurn.Made → map (λ b. regs b) addons.new.items ≡ map (λ b. regs b) addons.old.items }
+
+        // `finals` comes only where every thread and every worker has ended, and no work runs.
+        ensures spent { SpentAtFinals hub.old.hub hub.new.hub }
+
+        // A run that was followed goes on, over the history as it is then. It fits with the hub, and the journal, the addons and the limit stay.
+        ensures goes { let before : AddonStates = record { registers = map (λ b. regs b) addons.old.items; seen = map (λ b. seen b) addons.old.items } in
+            let after : AddonStates = record { registers = map (λ b. regs b) addons.new.items; seen = map (λ b. seen b) addons.new.items } in
+            GoesOnAt N.numbers (map (λ b. plan b) addons.old.items) self.old hub.old.history before self.new hub.new.history after }
+        ensures fits { FitsHub self.new hub.new }
+        ensures journal { self.new.core.journal ≡ self.old.core.journal }
+        ensures addons { self.new.core.env.addons ≡ self.old.core.env.addons }
+        ensures limit { self.new.core.limit ≡ self.old.core.limit }
+        ensures others { let n = self.old.core.env.addons in
+            drop n (map (λ b. regs b) addons.new.items) ≡ drop n (map (λ b. regs b) addons.old.items) }
+
+        // The addon of a duty that begins has seen what it tells, after what it saw before. No other addon has seen anything more.
+        ensures seen { let before = map (λ b. seen b) addons.old.items in
+            let after = map (λ b. seen b) addons.new.items in
+            HasSeen before (option_to_list (begins_at_hub self.old hub.old.hub)) after }
+
+        // Only the addon of the innermost frame after the turn may have other registers than before.
+        ensures untouched { let before = map (λ b. regs b) addons.old.items in
+            let after = map (λ b. regs b) addons.new.items in
+            result ≡ HubTurn.Made → OnlyInnermostChanges self.old.core.env.frames self.new.core.env.frames before after }
     {
-        match self.core.phase() {
-            Phase::Init => {
-                hub.go();
-                self.core.advance(Phase::Live, position(hub));
-            }
-            Phase::Live => {
-                let exit = self.core.exit_asked();
-                let due = self.core.has_local();
-                let _why = hub.loop_end(exit, due);
-                self.core.advance(Phase::Hooks, position(hub));
-            }
-            _ => match teardown_step(&mut self.core, hub) {
-                // The hub has no duties.
-                TearStep::Begin(due, _) => {
-                    let _ = due.begin(&mut SeenList::new()).end();
-                    unreachable!();
-                }
-                TearStep::Moved | TearStep::Nothing | TearStep::LocalTurn => {}
-            },
-        }
+        self.turn_at_hub(hub, addons)
     }
 
     /// Ends the run without an event, where no frame stands. It takes no memory.
     pub fn retire(self)
         requires { self.core.env.frames ≡ [] }
     {
-        let EnvRun { core: _, begun } = self;
+        let EnvRun {
+            core: _,
+            begun,
+            ending: _,
+        } = self;
         none_stands(begun);
     }
 
@@ -137,20 +215,17 @@ impl EnvRun {
         ensures journal { result.journal ≡ self.core.journal }
         ensures history { result.history ≡ hub.history }
     {
-        let EnvRun { core, begun } = self;
+        let EnvRun {
+            core,
+            begun,
+            ending: _,
+        } = self;
         none_stands(begun);
         Record {
             journal: core.into_journal(),
             history: hub.into_history(),
         }
     }
-}
-
-/// The position of what comes next: the length of the history.
-fn position<J: Job, N: Naming>(hub: &HubState<J, N>) -> u64
-    ensures { result ≡ length hub.now.history }
-{
-    hub.history().len() as u64
 }
 
 /// Spends what a run holds of a duty whose frame stands, where none stands.
@@ -160,42 +235,5 @@ fn none_stands(begun: Option<Begun>)
     if let Some(begun) = begun {
         let _ = begun.end();
         unreachable!();
-    }
-}
-
-/// Runs an environment to its end, `gone`, with no other actor: one turn after another, and the hub's events where they are next.
-///
-/// Nothing was asked of the hub, and it has come as far as the environment. The first addons are those of the script, at least as many as the environment has.
-/// It returns, since each turn fills a place of the journal or makes one of the hub's events.
-pub fn run_alone<J: Job, N: Naming>(
-    env: &mut EnvRun,
-    hub: &mut HubState<J, N>,
-    addons: &mut Vec<Box<dyn Addon>>,
-)
-    requires enough { env.old.core.env.addons ≤ length addons.old.items }
-    requires fits { FitsAlone env.old hub.old }
-    ensures count { length addons.new.items ≡ length addons.old.items }
-    ensures plans { map (λ b. plan b) addons.new.items ≡ map (λ b. plan b) addons.old.items }
-    ensures gone { env.new.core.env.phase ≡ Phase.Gone }
-    ensures addons { env.new.core.env.addons ≡ env.old.core.env.addons }
-    ensures limit { env.new.core.limit ≡ env.old.core.limit }
-    ensures fits { FitsAlone env.new hub.new }
-    ensures extends { Extends (whole_run env.old hub.old) (whole_run env.new hub.new) }
-    ensures recorded { let before : AddonStates = record { registers = map (λ b. regs b) addons.old.items; seen = map (λ b. seen b) addons.old.items } in
-        let after : AddonStates = record { registers = map (λ b. regs b) addons.new.items; seen = map (λ b. seen b) addons.new.items } in
-        RunGoesOn (map (λ b. plan b) addons.old.items) (whole_run env.old hub.old) before (whole_run env.new hub.new) after }
-
-    // Hooks began in the reverse of the order in which they were added, and what was left to the end in the order of registration.
-    ensures order { let before : AddonStates = record { registers = map (λ b. regs b) addons.old.items; seen = map (λ b. seen b) addons.old.items } in
-        EndsInOrder (map (λ b. plan b) addons.old.items) (whole_run env.old hub.old) before (whole_run env.new hub.new) }
-    ensures others { let n = env.old.core.env.addons in
-        drop n (map (λ b. regs b) addons.new.items) ≡ drop n (map (λ b. regs b) addons.old.items) }
-{
-    loop {
-        match env.local_turn(addons) {
-            LocalTurn::Made => {}
-            LocalTurn::NeedsHub => env.hub_turn(hub),
-            LocalTurn::Gone => return,
-        }
     }
 }

@@ -1,19 +1,19 @@
 //! One turn of the environment: an ask of the innermost frame, or the next event where no frame stands.
-ghost use Rattle.std.specs.Prelude.{◌≡◌, ◌≢◌, ◌<◌, ◌≤◌, [], length, map, Some, None, true, false, is_some};
-ghost use Rattle.napi_types.specs.plain.Built.{is_built, built_ask};
+ghost use Rattle.std.specs.Prelude.{◌≡◌, ◌≢◌, ◌<◌, ◌≤◌, ℕ, [], length, map, Some, None, true, false, IfSome};
 ghost use Rattle.napi_types.specs.plain.Lists.{head, tail};
-ghost use Rattle.napi_types.specs.parts.Frames.{at_last_ask, asks_made, duty_of, most_asks};
+ghost use Rattle.napi_types.specs.parts.Frames.{asks_made, duty_of, is_hub_duty, most_asks, at_last_ask};
 ghost use Rattle.napi_types.specs.environment.Ends.{end_change};
-ghost use Rattle.napi_types.specs.environment.Tickets.{next_ticket};
+ghost use Rattle.napi_types.specs.runs.Choice.{local_choice};
+ghost use Rattle.env_core.specs.Core.{after_change};
 ghost use Rattle.env_core.specs.Standing.{machine_frame};
 ghost use Rattle.env_loop.specs.Recording.{AddonStates, why_stopped};
-ghost use Rattle.env_loop.specs.RecordedRuns.{IsSoundEnvironment, Holds};
-ghost use Rattle.env_core.specs.Core.{after_change};
-ghost use Rattle.env_loop.specs.Turns.{turn_of, IsTold, IsTurn};
+ghost use Rattle.env_loop.specs.RecordedRuns.{IsSoundEnvironment, cut_at, hub_begun, owes_hub, OneMore, FitsHub};
+ghost use Rattle.env_loop.specs.Turns.{event_turn as turn_at_event, turn_after, begins_next, IsNextEvent, IsAskOf, IsTold, IsTurn, MatchTurn, EndsOrOwes, EndsSo};
 
+use crate::run::{EnvRun, FrameEnd};
 use addon_trait::{Addon, ask_at, begin_at, enter_at, note_at};
 use env_core::{EnvCore, StandingFrame, Stepped};
-use napi_types::{Ask, Begun, Call, Duty, HandleId, MOST_ASKS, Phase, Status, Why};
+use napi_types::{Ask, Begun, Duty, HandleId, MOST_ASKS, Phase, Status, Why};
 use std::mem;
 
 /// What a turn of the environment comes to.
@@ -21,14 +21,49 @@ use std::mem;
 pub enum LocalTurn {
     /// It made one entry of the journal.
     Made,
-    /// The next event is one of the hub.
+    /// The hub has to make its turn.
     NeedsHub,
     /// The environment is gone.
     Gone,
 }
 
+/// The next event where no frame stands, as the environment decides it alone.
+#[derive(Clone, Copy, Debug, PartialEq, Eq)]
+pub(crate) enum NextEvent {
+    /// The init frame of this addon begins.
+    Init(u32),
+    /// The frame of a ticket begins.
+    Ticket,
+    /// The loop ends, because exit was asked.
+    Exit,
+    /// The environment is gone.
+    Gone,
+    /// The environment decides none: the event is the hub's, if there is one.
+    OfHub,
+}
+
+/// Which event is next, where no frame stands and the environment decides it alone.
+pub(crate) fn next_event(core: &EnvCore) -> NextEvent
+    requires { core.now.env.opened ≡ true }
+    ensures { IsNextEvent result (local_choice core.now.env) }
+{
+    match core.phase() {
+        Phase::Init => match core.next_init() {
+            Some(addon) => NextEvent::Init(addon),
+            None => NextEvent::OfHub,
+        },
+        // Once exit was asked the loop ends, whatever is due.
+        Phase::Live if core.exit_asked() => NextEvent::Exit,
+        Phase::Live if core.has_local() => NextEvent::Ticket,
+        Phase::Hooks if core.has_local() => NextEvent::Ticket,
+        Phase::Finals if core.has_local() => NextEvent::Ticket,
+        Phase::Finals => NextEvent::Gone,
+        _ => NextEvent::OfHub,
+    }
+}
+
 /// Why a frame is cut whose call stopped with this status.
-fn why(status: Status) -> Why
+pub(crate) fn why(status: Status) -> Why
     ensures { result ≡ why_stopped status }
 {
     match status {
@@ -37,261 +72,278 @@ fn why(status: Status) -> Why
     }
 }
 
-/// What a frame is taken to ask: a call that is not built is never made, and the addon that asks it is taken to leave.
-fn taken(ask: Ask) -> Ask
-    ensures { result ≡ built_ask is_built ask }
-{
-    match ask {
-        Ask::Do(call) if !call.is_built() => Ask::Leave(None),
-        _ => ask,
-    }
-}
-
-/// Ends the frame of a duty, which stands alone, and the duty with it.
-fn end_duty(core: &mut EnvCore, begun: &mut Option<Begun>, cut: Option<Why>)
-    requires sound { IsSoundEnvironment core.old.env }
-    requires idle { core.old.awaited ≡ None }
-    requires held { Holds core.old.env.frames begun.old }
-    requires duty { duty_of core.old.env.frames ≢ None }
-    requires asks { cut ≡ Some Why.Asks → asks_made core.old.env.frames ≡ most_asks }
-    ensures ended { core.new ≡ after_change (end_change None cut core.old.env) core.old }
-    ensures spent { begun.new ≡ None }
-{
-    let Some(standing) = begun.take() else {
-        unreachable!();
-    };
-    core.end_duty(standing, cut);
-}
-
-/// Ends the innermost frame, which this duty began, if one did; the duty ends with it, and nobody is told a reply. Where a call began the
-/// frame, the addon of its caller is told the reply. No addon has seen anything more.
-fn end_frame(
-    core: &mut EnvCore,
-    begun: &mut Option<Begun>,
-    addons: &mut Vec<Box<dyn Addon>>,
-    duty: Option<Duty>,
-    value: Option<HandleId>,
-    cut: Option<Why>,
-)
-    requires sound { IsSoundEnvironment core.old.env }
-    requires idle { core.old.awaited ≡ None }
-    requires held { Holds core.old.env.frames begun.old }
-    requires duty { duty ≡ duty_of core.old.env.frames }
-    requires enough { core.old.env.addons ≤ length addons.old.items }
-    requires standing { core.old.env.frames ≢ [] }
-    requires asks { cut ≡ Some Why.Asks → asks_made core.old.env.frames ≡ most_asks }
+/// What a frame asks at its next step: what its addon says, or to leave where it makes no asks. No addon has another register, or has seen
+/// anything more.
+fn ask_of(addons: &mut Vec<Box<dyn Addon>>, frame: &StandingFrame) -> Ask
+    requires { frame.now.addon < length addons.old.items }
     ensures count { length addons.new.items ≡ length addons.old.items }
     ensures plans { map (λ b. plan b) addons.new.items ≡ map (λ b. plan b) addons.old.items }
+    ensures regs { map (λ b. regs b) addons.new.items ≡ map (λ b. regs b) addons.old.items }
     ensures seen { map (λ b. seen b) addons.new.items ≡ map (λ b. seen b) addons.old.items }
-    ensures ended { core.new ≡ after_change (end_change value cut core.old.env) core.old }
-    ensures held { Holds core.new.env.frames begun.new }
-    ensures told { let before = map (λ b. regs b) addons.old.items in
-        let after = map (λ b. regs b) addons.new.items in
-        let caller = at_last_ask (tail core.old.env.frames) in
-        IsTold (map (λ b. plan b) addons.old.items) before caller (end_change value cut core.old.env).entry.reply after }
+    ensures asked { IsAskOf (map (λ b. plan b) addons.old.items) (map (λ b. regs b) addons.old.items) (machine_frame frame.now) result }
 {
-    if duty.is_some() {
-        end_duty(core, begun, cut);
-        return;
+    if !frame.makes_asks {
+        return Ask::Leave(None);
     }
-    let reply = core.leave(value, cut);
-    let Some(caller) = core.frame() else {
-        return;
-    };
-    // The call is the last ask that the caller made.
-    let step = caller.asks.saturating_sub(1);
-    note_at(addons, caller.addon as usize, caller.entry, step, &reply);
+    ask_at(addons, frame.addon as usize, frame.entry, frame.asks)
 }
 
-/// What the innermost frame asks: its call, or its end. A call that stops cuts the frame.
-fn ask_turn(
-    core: &mut EnvCore,
-    begun: &mut Option<Begun>,
-    addons: &mut Vec<Box<dyn Addon>>,
-    frame: StandingFrame,
-)
-    requires sound { IsSoundEnvironment core.old.env }
-    requires idle { core.old.awaited ≡ None }
-    requires held { Holds core.old.env.frames begun.old }
-    requires enough { core.old.env.addons ≤ length addons.old.items }
-    requires stands { head core.old.env.frames ≡ Some (machine_frame frame) }
-    requires within { frame.asks < most_asks }
-    ensures count { length addons.new.items ≡ length addons.old.items }
-    ensures plans { map (λ b. plan b) addons.new.items ≡ map (λ b. plan b) addons.old.items }
-    ensures seen { map (λ b. seen b) addons.new.items ≡ map (λ b. seen b) addons.old.items }
-    ensures held { Holds core.new.env.frames begun.new }
-    ensures turn { let before : AddonStates = record { registers = map (λ b. regs b) addons.old.items; seen = map (λ b. seen b) addons.old.items } in
-        let after : AddonStates = record { registers = map (λ b. regs b) addons.new.items; seen = map (λ b. seen b) addons.new.items } in
-        IsTurn (map (λ b. plan b) addons.old.items) core.old before core.new after }
-{
-    let addon = frame.addon as usize;
-    let ask = ask_at(addons, addon, frame.entry, frame.asks);
-    match taken(ask) {
-        Ask::Leave(value) => end_frame(core, begun, addons, frame.duty, value, None),
-        Ask::Do(call) => match core.step(frame.asks, &call) {
-            Stepped::Reply(reply) => note_at(addons, addon, frame.entry, frame.asks, &reply),
-            Stepped::Enter(target, gifts) => {
-                enter_at(addons, target.addon as usize, target.entry, &gifts);
+impl EnvRun {
+    /// One turn. See [`EnvRun::local_turn`].
+    pub(crate) fn turn(&mut self, addons: &mut Vec<Box<dyn Addon>>) -> LocalTurn
+        requires { self.old.core.env.addons ≤ length addons.old.items }
+        ensures count { length addons.new.items ≡ length addons.old.items }
+        ensures plans { map (λ b. plan b) addons.new.items ≡ map (λ b. plan b) addons.old.items }
+        ensures turn { result ≡ turn_after self.new self.old.core.env }
+        ensures room { result ≡ LocalTurn.Made → length self.old.core.journal < self.old.core.limit }
+        ensures goes { let before : AddonStates = record { registers = map (λ b. regs b) addons.old.items; seen = map (λ b. seen b) addons.old.items } in
+            let after : AddonStates = record { registers = map (λ b. regs b) addons.new.items; seen = map (λ b. seen b) addons.new.items } in
+            MatchTurn result (map (λ b. plan b) addons.old.items) self.old before self.new after }
+        ensures unbegun { result ≢ LocalTurn.Made → begins_next self.old.core.env ≡ None }
+        ensures ends { IfSome self.old.ending (λ how. owes_hub self.old ≡ false → EndsSo how self.old.core self.new.core) }
+        ensures once { owes_hub self.old ≡ true → (self.new ≡ self.old) × (map (λ b. regs b) addons.new.items ≡ map (λ b. regs b) addons.old.items) }
+    {
+        if self.owes_hub() {
+            return LocalTurn::NeedsHub;
+        }
+        match self.core.frame() {
+            Some(frame) => self.frame_turn(addons, &frame),
+            None => self.event_turn(addons),
+        }
+    }
+
+    /// Whether the hub is to answer a call, or to make the end of the frame of one of its duties.
+    pub(crate) fn owes_hub(&self) -> bool
+        ensures { result ≡ owes_hub self.now }
+    {
+        self.core.awaited().is_some() || (self.ending.is_some() && self.is_in_hub_frame())
+    }
+
+    /// Whether the innermost frame is that of a duty of the hub.
+    fn is_in_hub_frame(&self) -> bool
+        ensures { result ≡ is_hub_duty (duty_of self.now.core.env.frames) }
+    {
+        match self.core.frame() {
+            Some(frame) => is_of_hub(frame.duty),
+            None => false,
+        }
+    }
+
+    /// A turn of the innermost frame: its end, where it is owed or all asks are made, or what it asks.
+    fn frame_turn(&mut self, addons: &mut Vec<Box<dyn Addon>>, frame: &StandingFrame) -> LocalTurn
+        requires unowed { owes_hub self.old ≡ false }
+        requires enough { self.old.core.env.addons ≤ length addons.old.items }
+        requires stands { head self.old.core.env.frames ≡ Some (machine_frame frame.now) }
+        ensures count { length addons.new.items ≡ length addons.old.items }
+        ensures plans { map (λ b. plan b) addons.new.items ≡ map (λ b. plan b) addons.old.items }
+        ensures ends { IfSome self.old.ending (λ how. EndsSo how self.old.core self.new.core) }
+        ensures turn { result ≡ turn_after self.new self.old.core.env }
+        ensures goes { let before : AddonStates = record { registers = map (λ b. regs b) addons.old.items; seen = map (λ b. seen b) addons.old.items } in
+            let after : AddonStates = record { registers = map (λ b. regs b) addons.new.items; seen = map (λ b. seen b) addons.new.items } in
+            MatchTurn result (map (λ b. plan b) addons.old.items) self.old before self.new after }
+    {
+        if let Some(end) = self.ending {
+            return self.end_turn(addons, frame.duty, None, end);
+        }
+        if frame.asks >= MOST_ASKS {
+            return self.end_turn(addons, frame.duty, None, FrameEnd::Cut(Why::Asks));
+        }
+        self.ask_turn(addons, frame)
+    }
+
+    /// What the innermost frame asks: its call, or its end. A call that stops cuts the frame.
+    fn ask_turn(&mut self, addons: &mut Vec<Box<dyn Addon>>, frame: &StandingFrame) -> LocalTurn
+        requires sound { IsSoundEnvironment self.old.core.env }
+        requires idle { self.old.core.awaited ≡ None }
+        requires unended { self.old.ending ≡ None }
+        requires enough { self.old.core.env.addons ≤ length addons.old.items }
+        requires stands { head self.old.core.env.frames ≡ Some (machine_frame frame.now) }
+        requires within { frame.now.asks < most_asks }
+        ensures count { length addons.new.items ≡ length addons.old.items }
+        ensures plans { map (λ b. plan b) addons.new.items ≡ map (λ b. plan b) addons.old.items }
+        ensures turn { result ≡ turn_after self.new self.old.core.env }
+        ensures goes { let before : AddonStates = record { registers = map (λ b. regs b) addons.old.items; seen = map (λ b. seen b) addons.old.items } in
+            let after : AddonStates = record { registers = map (λ b. regs b) addons.new.items; seen = map (λ b. seen b) addons.new.items } in
+            MatchTurn result (map (λ b. plan b) addons.old.items) self.old before self.new after }
+    {
+        match ask_of(addons, frame) {
+            Ask::Leave(value) => self.end_turn(addons, frame.duty, value, FrameEnd::Leaves),
+            Ask::Do(call) => match self.core.step(frame.asks, &call) {
+                Stepped::Reply(reply) => {
+                    note_at(
+                        addons,
+                        frame.addon as usize,
+                        frame.entry,
+                        frame.asks,
+                        &reply,
+                    );
+                    LocalTurn::Made
+                }
+                Stepped::Enter(target, gifts) => {
+                    enter_at(addons, target.addon as usize, target.entry, &gifts);
+                    LocalTurn::Made
+                }
+                Stepped::Shared(_) => LocalTurn::NeedsHub,
+                Stepped::Stop(status) => {
+                    self.end_turn(addons, frame.duty, None, FrameEnd::Cut(why(status)))
+                }
+            },
+        }
+    }
+
+    /// Ends the innermost frame so: that of a duty of the hub is left to the hub, and every other ends at once.
+    fn end_turn(
+        &mut self,
+        addons: &mut Vec<Box<dyn Addon>>,
+        duty: Option<Duty>,
+        value: Option<HandleId>,
+        end: FrameEnd,
+    ) -> LocalTurn
+        requires idle { self.old.core.awaited ≡ None }
+        requires stands { self.old.core.env.frames ≢ [] }
+        requires duty { duty ≡ duty_of self.old.core.env.frames }
+        requires enough { self.old.core.env.addons ≤ length addons.old.items }
+        requires asks { end ≡ FrameEnd.Cut Why.Asks → asks_made self.old.core.env.frames ≡ most_asks }
+        ensures count { length addons.new.items ≡ length addons.old.items }
+        ensures plans { map (λ b. plan b) addons.new.items ≡ map (λ b. plan b) addons.old.items }
+        ensures seen { map (λ b. seen b) addons.new.items ≡ map (λ b. seen b) addons.old.items }
+        ensures turn { result ≡ turn_after self.new self.old.core.env }
+        ensures ends { let before = map (λ b. regs b) addons.old.items in
+            let after = map (λ b. regs b) addons.new.items in
+            EndsOrOwes (is_hub_duty duty) (map (λ b. plan b) addons.old.items) before self.old value end self.new after }
+    {
+        if is_of_hub(duty) {
+            self.ending = Some(end);
+            return LocalTurn::NeedsHub;
+        }
+        self.ending = None;
+        self.end_frame(addons, duty, value, cut_of(end));
+        LocalTurn::Made
+    }
+
+    /// Ends the innermost frame, which this duty began, if one did; the duty ends with it, and nobody is told a reply. Where a call began the
+    /// frame, the addon of its caller is told the reply. No addon has seen anything more.
+    fn end_frame(
+        &mut self,
+        addons: &mut Vec<Box<dyn Addon>>,
+        duty: Option<Duty>,
+        value: Option<HandleId>,
+        cut: Option<Why>,
+    )
+        requires idle { self.old.core.awaited ≡ None }
+        requires unended { self.old.ending ≡ None }
+        requires stands { self.old.core.env.frames ≢ [] }
+        requires duty { duty ≡ duty_of self.old.core.env.frames }
+        requires local { is_hub_duty duty ≡ false }
+        requires enough { self.old.core.env.addons ≤ length addons.old.items }
+        requires asks { cut ≡ Some Why.Asks → asks_made self.old.core.env.frames ≡ most_asks }
+        ensures count { length addons.new.items ≡ length addons.old.items }
+        ensures plans { map (λ b. plan b) addons.new.items ≡ map (λ b. plan b) addons.old.items }
+        ensures seen { map (λ b. seen b) addons.new.items ≡ map (λ b. seen b) addons.old.items }
+        ensures ended { self.new.core ≡ after_change (end_change value cut self.old.core.env) self.old.core }
+        ensures unended { self.new.ending ≡ None }
+        ensures begun { hub_begun self.new.begun ≡ hub_begun self.old.begun }
+        ensures told { let before = map (λ b. regs b) addons.old.items in
+            let after = map (λ b. regs b) addons.new.items in
+            let caller = at_last_ask (tail self.old.core.env.frames) in
+            IsTold (map (λ b. plan b) addons.old.items) before caller (end_change value cut self.old.core.env).entry.reply after }
+    {
+        if duty.is_some() {
+            let Some(standing) = self.begun.take() else {
+                unreachable!();
+            };
+            self.core.end_duty(standing, cut);
+            return;
+        }
+        let reply = self.core.leave(value, cut);
+        let Some(caller) = self.core.frame() else {
+            return;
+        };
+        // The call is the last ask that the caller made.
+        let step = caller.asks.saturating_sub(1);
+        note_at(addons, caller.addon as usize, caller.entry, step, &reply);
+    }
+
+    /// A turn where no frame stands: the next event, if it is one of the environment alone.
+    fn event_turn(&mut self, addons: &mut Vec<Box<dyn Addon>>) -> LocalTurn
+        requires unowed { owes_hub self.old ≡ false }
+        requires alone { self.old.core.env.frames ≡ [] }
+        requires enough { self.old.core.env.addons ≤ length addons.old.items }
+        ensures count { length addons.new.items ≡ length addons.old.items }
+        ensures plans { map (λ b. plan b) addons.new.items ≡ map (λ b. plan b) addons.old.items }
+        ensures turn { result ≡ turn_after self.new self.old.core.env }
+        ensures goes { let before : AddonStates = record { registers = map (λ b. regs b) addons.old.items; seen = map (λ b. seen b) addons.old.items } in
+            let after : AddonStates = record { registers = map (λ b. regs b) addons.new.items; seen = map (λ b. seen b) addons.new.items } in
+            MatchTurn result (map (λ b. plan b) addons.old.items) self.old before self.new after }
+        ensures unbegun { result ≢ LocalTurn.Made → begins_next self.old.core.env ≡ None }
+    {
+        match next_event(&self.core) {
+            NextEvent::Init(addon) => {
+                self.core.begin_init(addon);
+                LocalTurn::Made
             }
-            Stepped::Stop(status) => {
-                end_frame(core, begun, addons, frame.duty, None, Some(why(status)));
+            NextEvent::Ticket => {
+                self.begin_ticket(addons);
+                LocalTurn::Made
             }
-            Stepped::Shared(_) => unreachable!(),
-        },
+            NextEvent::Gone => {
+                // `Gone` is no event of the hub, so no position is noted.
+                self.core.advance(Phase::Gone, 0);
+                LocalTurn::Made
+            }
+            NextEvent::OfHub if self.core.phase() == Phase::Gone => LocalTurn::Gone,
+            NextEvent::OfHub | NextEvent::Exit => LocalTurn::NeedsHub,
+        }
+    }
+
+    /// The next ticket begins its frame: its addon is given what it tells.
+    fn begin_ticket(&mut self, addons: &mut Vec<Box<dyn Addon>>)
+        requires unowed { owes_hub self.old ≡ false }
+        requires alone { self.old.core.env.frames ≡ [] }
+        requires next { IsNextEvent NextEvent.Ticket (local_choice self.old.core.env) }
+        requires enough { self.old.core.env.addons ≤ length addons.old.items }
+        ensures count { length addons.new.items ≡ length addons.old.items }
+        ensures plans { map (λ b. plan b) addons.new.items ≡ map (λ b. plan b) addons.old.items }
+        ensures made { let before : AddonStates = record { registers = map (λ b. regs b) addons.old.items; seen = map (λ b. seen b) addons.old.items } in
+            let after : AddonStates = record { registers = map (λ b. regs b) addons.new.items; seen = map (λ b. seen b) addons.new.items } in
+            IsTurn (map (λ b. plan b) addons.old.items) self.old before self.new after }
+    {
+        let Some(due) = self.core.next_local() else {
+            unreachable!();
+        };
+        let addon = due.info().addon as usize;
+        let started = begin_at(addons, addon, due);
+        keep(&mut self.begun, started);
     }
 }
 
-/// A turn of the innermost frame: what it asks, or its end where it has made all its asks.
-fn frame_turn(
-    core: &mut EnvCore,
-    begun: &mut Option<Begun>,
-    addons: &mut Vec<Box<dyn Addon>>,
-    frame: StandingFrame,
-)
-    requires sound { IsSoundEnvironment core.old.env }
-    requires idle { core.old.awaited ≡ None }
-    requires held { Holds core.old.env.frames begun.old }
-    requires enough { core.old.env.addons ≤ length addons.old.items }
-    requires stands { head core.old.env.frames ≡ Some (machine_frame frame) }
-    ensures count { length addons.new.items ≡ length addons.old.items }
-    ensures plans { map (λ b. plan b) addons.new.items ≡ map (λ b. plan b) addons.old.items }
-    ensures seen { map (λ b. seen b) addons.new.items ≡ map (λ b. seen b) addons.old.items }
-    ensures held { Holds core.new.env.frames begun.new }
-    ensures turn { let before : AddonStates = record { registers = map (λ b. regs b) addons.old.items; seen = map (λ b. seen b) addons.old.items } in
-        let after : AddonStates = record { registers = map (λ b. regs b) addons.new.items; seen = map (λ b. seen b) addons.new.items } in
-        IsTurn (map (λ b. plan b) addons.old.items) core.old before core.new after }
+/// Whether it is a duty of the hub.
+fn is_of_hub(duty: Option<Duty>) -> bool
+    ensures { result ≡ is_hub_duty duty }
 {
-    if frame.asks >= MOST_ASKS {
-        end_frame(core, begun, addons, frame.duty, None, Some(Why::Asks));
-        return;
+    match duty {
+        None | Some(Duty::Ticket(_)) => false,
+        Some(_) => true,
     }
-    ask_turn(core, begun, addons, frame);
 }
 
-/// The next ticket begins its frame, where one is next: its addon is given what it tells. Answers whether one began.
-fn ticket_turn(
-    core: &mut EnvCore,
-    begun: &mut Option<Begun>,
-    addons: &mut Vec<Box<dyn Addon>>,
-) -> bool
-    requires sound { IsSoundEnvironment core.old.env }
-    requires held { Holds core.old.env.frames begun.old }
-    requires alone { core.old.env.frames ≡ [] }
-    requires unasked { core.old.env.phase ≡ Phase.Live → core.old.env.exit_asked ≡ false }
-    requires enough { core.old.env.addons ≤ length addons.old.items }
-    ensures count { length addons.new.items ≡ length addons.old.items }
-    ensures plans { map (λ b. plan b) addons.new.items ≡ map (λ b. plan b) addons.old.items }
-    ensures held { Holds core.new.env.frames begun.new }
-    ensures began { result ≡ is_some (next_ticket core.old.env) }
-    ensures made { let before : AddonStates = record { registers = map (λ b. regs b) addons.old.items; seen = map (λ b. seen b) addons.old.items } in
-        let after : AddonStates = record { registers = map (λ b. regs b) addons.new.items; seen = map (λ b. seen b) addons.new.items } in
-        result ≡ true → IsTurn (map (λ b. plan b) addons.old.items) core.old before core.new after }
-    ensures stays { result ≡ false → core.new ≡ core.old }
-    ensures same { result ≡ false → map (λ b. regs b) addons.new.items ≡ map (λ b. regs b) addons.old.items }
-    ensures unseen { result ≡ false → map (λ b. seen b) addons.new.items ≡ map (λ b. seen b) addons.old.items }
-    ensures spent { result ≡ false → begun.new ≡ begun.old }
+/// Why a frame is cut that ends so, where it is.
+pub(crate) fn cut_of(end: FrameEnd) -> Option<Why>
+    ensures { result ≡ cut_at end }
 {
-    let Some(due) = core.next_local() else {
-        return false;
-    };
-    let addon = due.info().addon as usize;
-    let started = begin_at(addons, addon, due);
-    keep(begun, started);
-    true
+    match end {
+        FrameEnd::Leaves => None,
+        FrameEnd::Cut(why) => Some(why),
+    }
 }
 
 /// Keeps the duty whose frame stands, where none stood.
-fn keep(begun: &mut Option<Begun>, started: Begun)
+pub(crate) fn keep(begun: &mut Option<Begun>, started: Begun)
     requires { begun.old ≡ None }
     ensures { begun.new ≡ Some started }
 {
     if let Some(earlier) = mem::replace(begun, Some(started)) {
         let _ = earlier.end();
         unreachable!();
-    }
-}
-
-/// A turn where no frame stands: the next event, if it is one of the environment alone.
-fn event_turn(
-    core: &mut EnvCore,
-    begun: &mut Option<Begun>,
-    addons: &mut Vec<Box<dyn Addon>>,
-) -> LocalTurn
-    requires sound { IsSoundEnvironment core.old.env }
-    requires held { Holds core.old.env.frames begun.old }
-    requires alone { core.old.env.frames ≡ [] }
-    requires enough { core.old.env.addons ≤ length addons.old.items }
-    ensures count { length addons.new.items ≡ length addons.old.items }
-    ensures plans { map (λ b. plan b) addons.new.items ≡ map (λ b. plan b) addons.old.items }
-    ensures held { Holds core.new.env.frames begun.new }
-    ensures awaited { core.new.awaited ≡ core.old.awaited }
-    ensures turn { result ≡ turn_of core.old.env }
-    ensures made { let before : AddonStates = record { registers = map (λ b. regs b) addons.old.items; seen = map (λ b. seen b) addons.old.items } in
-        let after : AddonStates = record { registers = map (λ b. regs b) addons.new.items; seen = map (λ b. seen b) addons.new.items } in
-        result ≡ LocalTurn.Made → IsTurn (map (λ b. plan b) addons.old.items) core.old before core.new after }
-    ensures stays { result ≢ LocalTurn.Made → core.new ≡ core.old }
-    ensures same { result ≢ LocalTurn.Made → map (λ b. regs b) addons.new.items ≡ map (λ b. regs b) addons.old.items }
-    ensures unseen { result ≢ LocalTurn.Made → map (λ b. seen b) addons.new.items ≡ map (λ b. seen b) addons.old.items }
-    ensures spent { result ≢ LocalTurn.Made → begun.new ≡ begun.old }
-{
-    match core.phase() {
-        Phase::Init => match core.next_init() {
-            Some(addon) => {
-                core.begin_init(addon);
-                LocalTurn::Made
-            }
-            None => LocalTurn::NeedsHub,
-        },
-        // Once exit was asked the loop ends, whatever is due.
-        Phase::Live if core.exit_asked() => LocalTurn::NeedsHub,
-        Phase::Live | Phase::Hooks => {
-            if ticket_turn(core, begun, addons) {
-                LocalTurn::Made
-            } else {
-                LocalTurn::NeedsHub
-            }
-        }
-        Phase::Drain => LocalTurn::NeedsHub,
-        Phase::Finals => {
-            if !ticket_turn(core, begun, addons) {
-                // `Gone` is no event of the hub, so no position is noted.
-                core.advance(Phase::Gone, 0);
-            }
-            LocalTurn::Made
-        }
-        Phase::Gone => LocalTurn::Gone,
-    }
-}
-
-/// One turn, over the core of a run and the duty whose frame stands. See `EnvRun::local_turn`.
-pub(crate) fn turn(
-    core: &mut EnvCore,
-    begun: &mut Option<Begun>,
-    addons: &mut Vec<Box<dyn Addon>>,
-) -> LocalTurn
-    requires sound { IsSoundEnvironment core.old.env }
-    requires idle { core.old.awaited ≡ None }
-    requires held { Holds core.old.env.frames begun.old }
-    requires enough { core.old.env.addons ≤ length addons.old.items }
-    ensures count { length addons.new.items ≡ length addons.old.items }
-    ensures plans { map (λ b. plan b) addons.new.items ≡ map (λ b. plan b) addons.old.items }
-    ensures held { Holds core.new.env.frames begun.new }
-    ensures awaited { core.new.awaited ≡ core.old.awaited }
-    ensures turn { result ≡ turn_of core.old.env }
-    ensures made { let before : AddonStates = record { registers = map (λ b. regs b) addons.old.items; seen = map (λ b. seen b) addons.old.items } in
-        let after : AddonStates = record { registers = map (λ b. regs b) addons.new.items; seen = map (λ b. seen b) addons.new.items } in
-        result ≡ LocalTurn.Made → IsTurn (map (λ b. plan b) addons.old.items) core.old before core.new after }
-    ensures room { result ≡ LocalTurn.Made → length core.old.journal < core.old.limit }
-    ensures stays { result ≢ LocalTurn.Made → core.new ≡ core.old }
-    ensures same { result ≢ LocalTurn.Made → map (λ b. regs b) addons.new.items ≡ map (λ b. regs b) addons.old.items }
-    ensures unseen { result ≢ LocalTurn.Made → map (λ b. seen b) addons.new.items ≡ map (λ b. seen b) addons.old.items }
-    ensures spent { result ≢ LocalTurn.Made → begun.new ≡ begun.old }
-{
-    match core.frame() {
-        Some(frame) => {
-            frame_turn(core, begun, addons, frame);
-            LocalTurn::Made
-        }
-        None => event_turn(core, begun, addons),
     }
 }

@@ -1,10 +1,18 @@
 //! What the runs of threads and workers keep while others go on, as laws: each function does nothing, and its contract states a law.
 ghost use Rattle.env_loop.specs.ActorRuns.{ThreadRunsStand, WorkerRunsStand, ExecutedWorksStand};
+ghost use Rattle.env_loop.specs.RunsOverRows.{ActorRunsStandOverRows};
+
+use async_work::Job;
 
 /// The run of a thread, or of a worker, stays one of the hub's while another actor makes an entry.
 pub fn actor_runs_stand_as_others_go_on()
     ensures threads { ThreadRunsStand }
     ensures workers { WorkerRunsStand }
+{}
+
+/// So it does, by the rows that the turn lock counts, as rows of other passes than its own come.
+pub fn actor_runs_stand_over_rows<J: Job>()
+    ensures { ActorRunsStandOverRows J }
 {}
 
 /// So does a worker's as it executes the work that it started.

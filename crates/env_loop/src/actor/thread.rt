@@ -9,7 +9,7 @@ ghost use Rattle.napi_types.specs.hub.HubCalls.{is_thread_call};
 ghost use Rattle.napi_types.specs.hub.ThreadSteps.{is_gone_on};
 ghost use Rattle.shared_hub.specs.HubStates.{hub_room};
 ghost use Rattle.shared_hub.specs.SharedTries.{actor_end_told as end_told_by};
-ghost use Rattle.env_loop.specs.ActorRuns.{IsOperationOfThread, new_thread, IsThreadOf, SameThread, ThreadBlocked, AddsEntryOf};
+ghost use Rattle.env_loop.specs.ActorRuns.{IsOperationOfThread, new_thread, IsThreadOf, SameThread, ThreadBlocked, AddsEntryOf, StoppedAt, calls_left};
 
 use super::ActorTurn;
 use async_work::Job;
@@ -52,7 +52,7 @@ impl ThreadRun {
     }
 
     /// Makes its next entry: the next call of its script, or its end after the last one. A call that stops ends it in the same turn, cut.
-    pub fn turn<J: Job, N: Naming>(&mut self, hub: &mut HubState<J, N>) -> ActorTurn
+    pub(crate) fn turn<J: Job, N: Naming>(&mut self, hub: &mut HubState<J, N>) -> ActorTurn
         requires { IsThreadOf N.numbers hub.old self.old }
         ensures stands { IsThreadOf N.numbers hub.new self.new }
         ensures script { SameThread self.old self.new }
@@ -60,6 +60,7 @@ impl ThreadRun {
         ensures blocked { result ≡ ActorTurn.Blocked → ThreadBlocked hub.old.hub self.old }
         ensures same { result ≢ ActorTurn.Made → (hub.new ≡ hub.old) × (self.new ≡ self.old) }
         ensures ended { (result ≡ ActorTurn.Ended) ↔ IsTrue self.old.over }
+        ensures cut { self.new.over ≡ true → StoppedAt (hub_room N.numbers hub.old) hub.old.hub self.old.number (calls_left self.old) }
     {
         if self.over {
             return ActorTurn::Ended;

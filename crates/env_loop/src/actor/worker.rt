@@ -52,7 +52,7 @@ impl<J: Job> WorkerRun<J> {
     }
 
     /// Executes the work that it started, where it holds one. It takes as long as the job does.
-    pub fn between(&mut self)
+    pub(crate) fn between(&mut self)
         ensures { self.new ≡ record self.old { held = held_executed self.old.held } }
     {
         let hands = match mem::replace(&mut self.hands, Hands::Empty) {
@@ -63,7 +63,7 @@ impl<J: Job> WorkerRun<J> {
     }
 
     /// Makes its next entry: the finish of the work that it executed, the start of the work that was queued first, or its end from the drain on.
-    pub fn turn<N: Naming>(&mut self, hub: &mut HubState<J, N>) -> ActorTurn
+    pub(crate) fn turn<N: Naming>(&mut self, hub: &mut HubState<J, N>) -> ActorTurn
         requires stands { IsWorkerOf N.numbers hub.old self.old }
         requires ready { IsHandsReady self.old.held }
         ensures stands { IsWorkerOf N.numbers hub.new self.new }

@@ -1,6 +1,6 @@
 use Rattle.std.proofs.Common.{ap, ◌∙◌}
 use Rattle.env_loop.specs.RecordedRuns.{Run}
-use Rattle.env_loop.proofs.RecordedRuns.{none-held}
+use Rattle.env_loop.proofs.Turns.{none-held}
 use Rattle.env_loop.proofs.run.EnvRun.into_record.Goals as goal
 
 pub none_stands-requires : goal.none_stands-requires

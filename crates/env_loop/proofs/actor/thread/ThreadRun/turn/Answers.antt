@@ -7,8 +7,8 @@ use Rattle.napi_types.specs.hub.Actors.{thread_calls, EndsThread}
 use Rattle.napi_types.specs.hub.ThreadSteps.{is_gone_on, nothing_given}
 use Rattle.shared_hub.specs.HubStates.{HubSeen, hub_room}
 use Rattle.shared_hub.specs.declared.tries.ThreadTried.TheVariants as tried
-use Rattle.env_loop.specs.ActorRuns.{ThreadSeen, IsThreadOf, ThreadBlocked}
-use Rattle.env_loop.proofs.ThreadEntries.{next-call, no-call, thread-there, makes-call, stops-so, waits-here}
+use Rattle.env_loop.specs.ActorRuns.{ThreadSeen, IsThreadOf, ThreadBlocked, StoppedAt, calls_left}
+use Rattle.env_loop.proofs.ThreadEntries.{next-call, no-call, thread-there, makes-call, stops-so, waits-here, none-stopped, stopped-at}
 use Rattle.env_loop.proofs.actor.thread.ThreadRun.turn.Goals as goal
 use Rattle.env_loop.proofs.actor.thread.ThreadRun.turn.Goals.{After-call_of}
 
@@ -63,3 +63,21 @@ returns-in-Wait-clause-blocked g c = λ _.
     (waits-here c.args.hub.now.hub
     (record { number = c.self.inside.number; operations = c.self.inside.operations; made = c.self.inside.made; over = c.self.inside.over }) c.call_of.result
     (drop (c.self.inside.made + 1) (thread_calls c.self.inside.operations)) c.if-self.false (next g at) c.call_of.ensures.kind c.in-Wait.ensures.waits)
+
+pub returns-in_default-clause-cut : goal.returns-in_default-clause-cut
+returns-in_default-clause-cut g c = λ _.
+    let past : length c.self.inside.operations ≤ c.self.inside.made =
+    ltb-false c.self.inside.made (length c.self.inside.operations) (sym (rw c.items.ensures at c.in_default.ensures.lookup.0)) in
+    subst (λ (u : ThreadSeen). StoppedAt (hub_room g.N.Naming.numbers c.args.hub.now) c.args.hub.now.hub u.number (calls_left u)) c.self.view_is
+    (none-stopped (hub_room g.N.Naming.numbers c.args.hub.now) c.args.hub.now.hub
+    (record { number = c.self.inside.number; operations = c.self.inside.operations; made = c.self.inside.made; over = c.self.inside.over }) c.if-self.false
+    (no-call c.self.inside.operations c.self.inside.made c.self.invariant.kinds past))
+
+pub returns-in-Stop-clause-cut : goal.returns-in-Stop-clause-cut
+returns-in-Stop-clause-cut g c = λ _.
+    let at = (goal.at.returns-in-Stop-clause-cut g c).After-call_of in
+    subst (λ (u : ThreadSeen). StoppedAt (hub_room g.N.Naming.numbers c.args.hub.now) c.args.hub.now.hub u.number (calls_left u)) c.self.view_is
+    (stopped-at (hub_room g.N.Naming.numbers c.args.hub.now) c.args.hub.now.hub
+    (record { number = c.self.inside.number; operations = c.self.inside.operations; made = c.self.inside.made; over = c.self.inside.over }) c.call_of.result
+    (drop (c.self.inside.made + 1) (thread_calls c.self.inside.operations)) c.in-Stop.status c.if-self.false (next g at) c.in-Stop.ensures.cause
+    (λ is. c.in-Stop.ensures.full.0 (ap (λ s. tried.Stop s) is)) (λ is. c.in-Stop.ensures.memory (ap (λ s. tried.Stop s) is)))
