@@ -1,2 +1,2 @@
-pub mod FittingHubs
+pub mod DrivenRuns
 pub mod ThreadTests

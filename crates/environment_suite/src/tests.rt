@@ -6,6 +6,8 @@ use std::process::Abort;
 
 mod actors;
 mod calls;
+mod driving;
+mod hub_turns;
 mod journals;
 mod shared;
 mod steps;

@@ -2,69 +2,24 @@
 //! no place is not made, and its frame is cut. Places for the ends, for the frame of each ticket and for `gone` are kept.
 ghost use Rattle.std.specs.Prelude.{◌≡◌, length, None};
 
-use super::turns::{examples, list_of, opened, opened_hub};
+use super::driving::{Entries, LEAVE, callers, opened, opened_hub, to_end};
+use super::turns::examples;
 use super::{DONE, Found, NONE, told};
 use addon_trait::Addon;
-use env_loop::run_alone;
-use napi_types::{AddonPlan, Ask, Begun, Call, Due, HandleId, Record, Reply, SeenList};
+use napi_types::{Ask, Call, HandleId, Record};
 use shared_hub::Naming;
 use std::alloc::Global;
 use std::marker::Brand;
 use std::process::Abort;
 
-/// An addon whose init frame makes these calls. Its entry 1, which they register, asks for undefined.
-#[derive(Drop)]
-struct Registers {
-    calls: [Call; 3],
-    registers: [u64; 32],
-    seen: SeenList,
-}
-
-impl Addon for Registers {
-    ghost plan = { λ _. None };
-
-    ghost regs = { λ addon. addon.registers };
-
-    ghost seen = { λ addon. addon.seen };
-
-    fn load(&mut self, _given: AddonPlan) {
-        self.registers = [0; 32];
-    }
-
-    fn enter(&mut self, _entry: u32, gifts: &[u64; 8]) {
-        self.registers[24..].copy_from_slice(gifts);
-    }
-
-    fn begin(&mut self, due: Due) -> Begun {
-        let info = *due.info();
-        self.enter(info.entry, &info.gifts);
-        due.begin(&mut self.seen)
-    }
-
-    fn ask(&mut self, entry: u32, step: u32) -> Ask {
-        match (entry, step) {
-            (0, 0..=2) => Ask::Do(self.calls[step as usize]),
-            (1, 0) => Ask::Do(Call::GetUndefined),
-            _ => Ask::Leave(None),
-        }
-    }
-
-    fn note(&mut self, _entry: u32, _step: u32, _reply: &Reply) {}
-}
-
 /// A list of one addon: the example, or one that makes these calls.
-fn addons_of(rt: &impl Abort, alloc: Global, calls: Option<[Call; 3]>) -> Vec<Box<dyn Addon>>
+fn addons_of(rt: &impl Abort, alloc: Global, entries: Option<Entries>) -> Vec<Box<dyn Addon>>
     ensures { length result.items ≡ 1 }
 {
-    let Some(calls) = calls else {
-        return examples(rt, alloc);
-    };
-    let addon = Registers {
-        calls,
-        registers: [0; 32],
-        seen: SeenList::new(),
-    };
-    list_of(rt, alloc, Box::new(alloc, addon).expect(rt, "an addon"))
+    match entries {
+        Some(entries) => callers(rt, alloc, entries),
+        None => examples(rt, alloc),
+    }
 }
 
 /// What the entries of a journal tell.
@@ -80,15 +35,15 @@ fn entries_of(rt: &impl Abort, alloc: Global, record: &Record) -> Vec<Found> {
 fn journal_within<N: Naming, A: Abort>(
     rt: &A,
     alloc: Global,
-    calls: Option<[Call; 3]>,
+    entries: Option<Entries>,
     places: u32,
 ) -> Vec<Found>
-    requires { N.numbers ≡ record { threads = 0; workers = 0; limits = record { journal = 100; history = 100 } } }
+    requires named { N.numbers ≡ record { threads = 0; workers = 0; limits = record { journal = 0; history = 100 } } }
 {
-    let mut addons = addons_of(rt, alloc, calls);
-    let mut hub = opened_hub::<N>(rt, alloc);
+    let mut addons = addons_of(rt, alloc, entries);
+    let mut hub = opened_hub::<N>(rt, alloc, 0, 0, 100);
     let mut env = opened(rt, alloc, places.clamp(4, 100));
-    run_alone(&mut env, &mut hub, &mut addons);
+    to_end(rt, &mut env, &mut hub, &mut addons);
     entries_of(rt, alloc, &env.into_record(hub))
 }
 
@@ -137,19 +92,32 @@ const TICKET_3: Found = ("status", 0, [3, 0, 0, 0, 0, 0, 0, 0]);
 
 const OTHER_2: Found = ("status", 0, [2, 1, 0, 0, 0, 0, 0, 0]);
 
+/// What the frames of the tickets ask.
+const UNDEFINED: Ask = Ask::Do(Call::GetUndefined);
+
 /// An object with two finalizers.
-const FINALIZERS: Option<[Call; 3]> = Some([
-    Call::CreateObject,
-    Call::AddFinalizer(HandleId(1), 7, 1, 8, false),
-    Call::AddFinalizer(HandleId(1), 9, 1, 10, false),
-]);
+const FINALIZERS: Entries = [
+    [
+        Ask::Do(Call::CreateObject),
+        Ask::Do(Call::AddFinalizer(HandleId(1), 7, 1, 8, false)),
+        Ask::Do(Call::AddFinalizer(HandleId(1), 9, 1, 10, false)),
+        LEAVE,
+        LEAVE,
+    ],
+    [UNDEFINED, LEAVE, LEAVE, LEAVE, LEAVE],
+];
 
 /// Instance data with a finalizer, other data with another in its place, and a hook.
-const DATA: Option<[Call; 3]> = Some([
-    Call::SetInstanceData(7, Some(1), 8),
-    Call::SetInstanceData(9, Some(1), 10),
-    Call::AddEnvCleanupHook(1, 5),
-]);
+const DATA: Entries = [
+    [
+        Ask::Do(Call::SetInstanceData(7, Some(1), 8)),
+        Ask::Do(Call::SetInstanceData(9, Some(1), 10)),
+        Ask::Do(Call::AddEnvCleanupHook(1, 5)),
+        LEAVE,
+        LEAVE,
+    ],
+    [UNDEFINED, LEAVE, LEAVE, LEAVE, LEAVE],
+];
 
 /// How many places a journal has, and what its entries tell: of the example. A call of a function wants two places.
 static OF_EXAMPLE: [(u32, &[Found]); 8] = [
@@ -257,9 +225,9 @@ static OF_DATA: [(u32, &[Found]); 5] = [
 ];
 
 /// Compares the journals of runs of one addon.
-fn compare(rt: &impl Abort, alloc: Global, calls: Option<[Call; 3]>, journals: &[(u32, &[Found])]) {
+fn compare(rt: &impl Abort, alloc: Global, entries: Option<Entries>, journals: &[(u32, &[Found])]) {
     for (places, expected) in journals {
-        let found = journal_within::<Brand, _>(rt, alloc, calls, *places);
+        let found = journal_within::<Brand, _>(rt, alloc, entries, *places);
         assert_eq!(rt; found.as_slice(), *expected, "with {places} places");
     }
 }
@@ -267,6 +235,6 @@ fn compare(rt: &impl Abort, alloc: Global, calls: Option<[Call; 3]>, journals: &
 #[test]
 fn the_first_call_without_a_place_cuts_its_frame(rt: HostRuntime) {
     compare(&rt, rt.alloc(), None, &OF_EXAMPLE);
-    compare(&rt, rt.alloc(), FINALIZERS, &OF_FINALIZERS);
-    compare(&rt, rt.alloc(), DATA, &OF_DATA);
+    compare(&rt, rt.alloc(), Some(FINALIZERS), &OF_FINALIZERS);
+    compare(&rt, rt.alloc(), Some(DATA), &OF_DATA);
 }

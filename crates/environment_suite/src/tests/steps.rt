@@ -210,7 +210,7 @@ pub fn advance(rt: &impl Abort, core: &mut EnvCore, position: u64) {
     core.advance(phase, position);
 }
 
-/// A thread-safe function finishes and one is closed, at these positions, as the teardown would tell a core. No crate makes these calls yet.
+/// A thread-safe function finishes and one is closed, at these positions, as the teardown tells a core.
 pub fn finish_and_close<P: Phased>(core: &mut P, finished: u64, closed: u64) {
     core.function_finished(TsfnId(1), finished);
     core.moved(closed);

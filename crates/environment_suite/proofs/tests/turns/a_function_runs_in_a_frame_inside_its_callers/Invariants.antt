@@ -2,4 +2,4 @@ use Rattle.environment_suite.proofs.tests.turns.a_function_runs_in_a_frame_insid
 
 -- the numbers of the hub
 abbrev pub ghosts-turns : goal.ghosts-turns
-ghosts-turns g a = record { numbers = record { threads = 0; workers = 0; limits = record { journal = 100; history = 100 } } }
+ghosts-turns g a = record { numbers = record { threads = 0; workers = 0; limits = record { journal = 0; history = 100 } } }

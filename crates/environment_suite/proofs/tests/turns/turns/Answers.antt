@@ -1,5 +1,7 @@
-use Rattle.environment_suite.proofs.FittingHubs.{opened-fits}
+use Rattle.environment_suite.proofs.DrivenRuns.{opened-fits}
 use Rattle.environment_suite.proofs.tests.turns.turns.Goals as goal
 
-pub run_alone-requires-clause-fits : goal.run_alone-requires-clause-fits
-run_alone-requires-clause-fits g c = λ κs inside. opened-fits _ _ c.opened-env.result c.thirteen-first.new.env c.opened_hub-hub.result c.requires c.opened-env.ensures c.thirteen-first.ensures.stage c.opened_hub-hub.ensures
+pub to_end-later-requires-clause-fits : goal.to_end-later-requires-clause-fits
+to_end-later-requires-clause-fits g c =
+    c.thirteen-first.ensures.fits c.opened_hub-hub.result
+    (opened-fits g.N.Naming.numbers 100 c.opened-env.result c.opened_hub-hub.result c.opened-env.ensures c.opened_hub-hub.ensures)

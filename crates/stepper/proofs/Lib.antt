@@ -1,0 +1,6 @@
+mod ActorPlaces
+mod Endings
+mod EnvironmentTurns
+mod Openings
+mod OrderedTurns
+mod RoundSteps

@@ -1,0 +1,34 @@
+use Rattle.std.proofs.Common.{◌∙◌, subst, suc}
+use Rattle.std.specs.List.{All}
+use Rattle.stepper.specs.TakingPart.{IsActorAt}
+use Rattle.stepper.proofs.Openings.{start-stands}
+use Rattle.stepper.proofs.RoundSteps.{all-turns, all-front, all-back, schedule-steps, rounds-steps}
+use Rattle.stepper.proofs.stepping.step_all.Goals as goal
+
+pub give_turns-requires-clause-stands : goal.give_turns-requires-clause-stands
+give_turns-requires-clause-stands g c κs within = start-stands _ _ _ c.requires.opened c.requires.empty c.requires.order c.requires.fresh
+
+pub give_turns-requires-clause-scheduled : goal.give_turns-requires-clause-scheduled
+give_turns-requires-clause-scheduled g c κs within =
+    all-front (IsActorAt g.N.Naming.numbers) _ _ (subst (All (IsActorAt g.N.Naming.numbers)) c.around_opening.ensures (all-turns (IsActorAt g.N.Naming.numbers) _ c.requires.scheduled))
+
+pub give_turns-requires-2-clause-scheduled : goal.give_turns-requires-2-clause-scheduled
+give_turns-requires-2-clause-scheduled g c κs within =
+    all-back (IsActorAt g.N.Naming.numbers) _ _ (subst (All (IsActorAt g.N.Naming.numbers)) c.around_opening.ensures (all-turns (IsActorAt g.N.Naming.numbers) _ c.requires.scheduled))
+
+pub rounds-init : goal.rounds-init
+rounds-init g c = record {
+  count = c.give_turns-2.ensures.count ∙ c.give_turns.ensures.count;
+  plans = c.give_turns-2.ensures.plans ∙ c.give_turns.ensures.plans;
+  went = (0, schedule-steps _ _ _ _ _ _ _ _ _ c.around_opening.ensures c.give_turns.ensures.went c.give_turns.ensures.plans c.give_turns-2.ensures.went);
+}
+
+pub rounds-preserved : goal.rounds-preserved
+rounds-preserved g c =
+    let i = c.rounds.invariant in
+    let k = c.round.ensures in
+    record {
+      count = k.count ∙ i.count;
+      plans = k.plans ∙ i.plans;
+      went = (suc i.went.0, rounds-steps _ _ _ _ _ _ _ _ i.went.1 i.plans (k.went.steps c.if-round.false));
+    }

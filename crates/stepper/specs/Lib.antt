@@ -1,0 +1,3 @@
+pub mod TakingPart
+pub mod GivenTurns
+pub mod Stepping
