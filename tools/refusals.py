@@ -210,26 +210,6 @@ def of_limit(script, name):
     yield f"  the script has {plural(script.many([name]), 'addon')}, and fewer were handed in"
 
 
-def of_stage(script):
-    """Yields what is said of the first part that is not built yet."""
-    if script.at(["workers"]):
-        yield script.shown(["workers"])
-        yield "  no worker is built yet: write 0"
-        return
-    built = {name for name, (is_built, _) in pages.call_facts().items() if is_built} | {"return"}
-    for path in entry_paths(script):
-        for number, operation in enumerate(script.at(path)):
-            if operation[0] not in built:
-                yield script.shown([*path, str(number)])
-                yield f"  {operation[0]} is not built yet: docs/FORMATS.md, \"The calls\", has those that are"
-                return
-    for name, path, change in (("thread", ["threads", "0"], "write []"), ("schedule", ["schedule"], "leave the member out")):
-        if places.find(script.text, path):
-            yield script.shown(path)
-            yield f"  no {name} is built yet, {'an empty one neither' if name == 'schedule' else 'one without operations neither'}: {change}"
-            return
-
-
 def said(given, line):
     """Yields what is said of a script, the bytes that were given, which the program refuses by this line."""
     text = given.decode("utf-8", errors="surrogateescape")
@@ -246,5 +226,3 @@ def said(given, line):
         yield from of_shape(Script(text), [] if words[2] == "-" else words[2].split("/"))
     elif words[1] == "limit":
         yield from of_limit(Script(text), words[2])
-    elif words[1] == "stage":
-        yield from of_stage(Script(text))

@@ -1,4 +1,4 @@
-//! Rows: what `host` writes of scripts. Standard input has a row a line: a name, a space and a script. A line that begins with `@`
+//! Rows: what `host` and `host_scheduled` write of scripts. Standard input has a row a line: a name, a space and a script. A line that begins with `@`
 //! gives options of the next row. Empty lines and lines that begin with `#` are no rows. Without options a script is run with the word
 //! `run` and eight addons that follow it. Standard output has for each row a line of its name and the status, where there are options
 //! also how many reads were made, and then what was written. The gate compares it with `stdout`.
@@ -13,7 +13,7 @@ use counting::Counting;
 use napi_types::{MemSink, MemSource, NoMemory, OpenGate, Record, Text};
 use options::Options;
 use script_addon::ScriptAddon;
-use script_host::host;
+use script_host::{host, host_scheduled};
 use std::alloc::{AllocError, AllocFailed, Global};
 use std::io;
 use std::io::{Read, Write};
@@ -144,16 +144,20 @@ fn ended<R: Threads + Wait + Sync>(
         addons.push(Box::new(alloc, ScriptAddon::blank(alloc))?)?;
     }
     let mut left = Record::blank(alloc);
-    let status = host(
-        rt,
-        alloc,
-        words,
-        &mut source,
-        sink,
-        &OpenGate,
-        &mut addons,
-        &mut left,
-    );
+    let status = if options.scheduled {
+        host_scheduled(alloc, words, &mut source, sink, &mut addons, &mut left)
+    } else {
+        host(
+            rt,
+            alloc,
+            words,
+            &mut source,
+            sink,
+            &OpenGate,
+            &mut addons,
+            &mut left,
+        )
+    };
     Ok(Outcome {
         status,
         reads: source.calls(),

@@ -25,6 +25,8 @@ pub(crate) struct Options {
     pub(crate) write_faults: Vec<u64>,
     /// How many addons are handed in. Each of them follows its script.
     pub(crate) addons: usize,
+    /// Whether a schedule is demanded: `host_scheduled` is called in place of `host`.
+    pub(crate) scheduled: bool,
 }
 
 impl Options {
@@ -39,6 +41,7 @@ impl Options {
             greatest: NonZeroUsize::MAX,
             write_faults: Vec::new(alloc),
             addons: ADDONS,
+            scheduled: false,
         }
     }
 
@@ -56,6 +59,7 @@ impl Options {
             Some(("word", word)) => self.words.push(Text::of(alloc, word)?)?,
             Some((name, number)) => self.set_number(name, number.parse()?)?,
             None if option == "no_words" => self.no_words = true,
+            None if option == "scheduled" => self.scheduled = true,
             None => return Err(Unable::WrongOption),
         }
         Ok(())

@@ -9,9 +9,10 @@ use Rattle.napi_types.specs.declared.script.Wrong.TheVariants as wrong
 use Rattle.napi_types.specs.scripts.Script.{IsScript, IsWrong, script}
 use Rattle.napi_types.specs.scripts.ScriptReading.{IsJson, IsNoJson}
 use Rattle.script_host.specs.Reading.{longest_source}
-use Rattle.script_host.specs.Host.{Gave, GaveScript, GaveTooMuch, IsRead, IsTooLong, IsRefused, HasTooManyAddons, IsRunnable, Causes}
+use Rattle.script_host.specs.Host.{Gave, GaveScript, GaveTooMuch, IsRead, IsTooLong, IsRefused, HasTooManyAddons, LacksSchedule, IsRunnable, is_met, Causes}
 use Rattle.script_host.specs.Outside.{Input}
 use Rattle.script_host.specs.Words.{line_status}
+use Rattle.script_host.specs.declared.top_call.Demand.{Demand}
 use Rattle.script_host.specs.declared.words.Line.{Line}
 use Rattle.script_host.specs.declared.words.Line.TheVariants as line
 
@@ -39,19 +40,24 @@ one-script bytes s t a b =
     cc
 
 -- bytes that are refused are no script that can run
-pub no-refused : (bytes : List ℕ) (handed : ℕ) → IsRefused bytes handed → (s : Script) → IsScript bytes s → length s.addons ≤ handed → ⊥
-no-refused bytes handed bad s is enough = by bad.why
+pub no-refused : (d : Demand) (bytes : List ℕ) (handed : ℕ) → IsRefused d bytes handed → (s : Script) → IsScript bytes s → length s.addons ≤ handed
+    → is_met d s ≡ true → ⊥
+no-refused d bytes handed bad s is enough met = by bad.why
   where
-    by : IsNoJson bytes ⊎ (((w : Wrong) × IsWrong bytes w) ⊎ HasTooManyAddons bytes handed) → ⊥
+    by : IsNoJson bytes ⊎ (((w : Wrong) × IsWrong bytes w) ⊎ (HasTooManyAddons bytes handed ⊎ LacksSchedule d bytes handed)) → ⊥
     by (inl none) = no-json bytes s is none
     by (inr (inl wrong_there)) = no-wrong bytes s wrong_there.0 is wrong_there.1
-    by (inr (inr many)) =
+    by (inr (inr (inl many))) =
         let same : many.script ≡ s = one-script bytes many.script s many.is_script is in
         let more : handed < length s.addons = subst (λ (x : Script). handed < length x.addons) same many.more in
         omega (arith, more, enough)
+    by (inr (inr (inr lacks))) =
+        let same : lacks.script ≡ s = one-script bytes lacks.script s lacks.is_script is in
+        let no : true ≡ false = sym met ∙ sym (ap (is_met d) same) ∙ lacks.unmet in
+        cc
 
 -- where the bytes of the source are told and no read failed
-module _ (words : List (List ℕ)) (input : Input) (handed : ℕ) (bytes : List ℕ) (r : IsRead words input bytes) where
+module _ (d : Demand) (words : List (List ℕ)) (input : Input) (handed : ℕ) (bytes : List ℕ) (r : IsRead words input bytes) where
   -- what it gave up to its end are these bytes
   all-told : (given : List ℕ) → Gave input given → given ≡ bytes
   all-told given gave = all-given input bytes given gave r.told
@@ -73,13 +79,13 @@ module _ (words : List (List ℕ)) (input : Input) (handed : ℕ) (bytes : List 
   not-long given long gave = let short : length bytes ≤ longest_source = told-short given gave in omega (arith, short, long)
 
   -- of bytes that are too long no line tells but that they are, or that there was no memory
-  pub too-long-line : IsTooLong bytes → (l : Line) → Causes l words input handed → (line_status l ≡ 7) ⊎ (line_status l ≡ 6)
+  pub too-long-line : IsTooLong bytes → (l : Line) → Causes d l words input handed → (line_status l ≡ 7) ⊎ (line_status l ≡ 6)
   too-long-line long line.Usage cause = let no : true ≡ false = sym r.command ∙ cause in cc
   too-long-line long line.NotJson cause = absurd (not-long cause.1.bytes long cause.1.gave)
   too-long-line long (line.Shape path) cause = absurd (not-long cause.1.bytes long cause.1.gave)
   too-long-line long (line.Limit which) cause = absurd (not-long cause.1.bytes long cause.1.gave)
-  too-long-line long line.Stage cause = absurd (not-long cause.1.bytes long cause.1.gave)
   too-long-line long line.TooManyAddons cause = absurd (not-long cause.1.gave.bytes long cause.1.gave.gave)
+  too-long-line long line.Schedule cause = absurd (not-long cause.1.gave.bytes long cause.1.gave.gave)
   too-long-line long line.NoMemory cause = inr refl
   too-long-line long line.ReadFault cause = absurd (r.readable cause.1)
   too-long-line long line.TooLong cause = inl refl
@@ -94,22 +100,22 @@ module _ (words : List (List ℕ)) (input : Input) (handed : ℕ) (bytes : List 
       omega (arith, long, short)
 
   -- of bytes that are refused no line tells but that they are, or that there was no memory
-  pub refused-line : IsRefused bytes handed → (l : Line) → Causes l words input handed → (line_status l ≡ 3) ⊎ (line_status l ≡ 6)
+  pub refused-line : IsRefused d bytes handed → (l : Line) → Causes d l words input handed → (line_status l ≡ 3) ⊎ (line_status l ≡ 6)
   refused-line bad line.Usage cause = let no : true ≡ false = sym r.command ∙ cause in cc
   refused-line bad line.NotJson cause = inl refl
   refused-line bad (line.Shape path) cause = inl refl
   refused-line bad (line.Limit which) cause = inl refl
-  refused-line bad line.Stage cause = inl refl
   refused-line bad line.TooManyAddons cause = inl refl
+  refused-line bad line.Schedule cause = inl refl
   refused-line bad line.NoMemory cause = inr refl
   refused-line bad line.ReadFault cause = absurd (r.readable cause.1)
   refused-line bad line.TooLong cause = absurd (long-told cause.1 bad.short)
 
-  pub refused-run : IsRefused bytes handed → (s : Script) → GaveScript input s → length s.addons ≤ handed → ⊥
-  refused-run bad s gave enough = no-refused bytes handed bad s (told-script s gave) enough
+  pub refused-run : IsRefused d bytes handed → (s : Script) → GaveScript input s → length s.addons ≤ handed → is_met d s ≡ true → ⊥
+  refused-run bad s gave enough met = no-refused d bytes handed bad s (told-script s gave) enough met
 
   -- of a script that can be run no line tells but that there was no memory
-  pub only-memory : IsRunnable bytes handed → (l : Line) → Causes l words input handed → line_status l ≡ 6
+  pub only-memory : IsRunnable d bytes handed → (l : Line) → Causes d l words input handed → line_status l ≡ 6
   only-memory fit line.Usage cause = let no : true ≡ false = sym r.command ∙ cause in cc
   only-memory fit line.NotJson cause = absurd (no-json bytes fit.script fit.is_script (told-json cause.1.bytes cause.1.gave cause.1.is_no_json))
   only-memory fit (line.Shape path) cause =
@@ -118,13 +124,14 @@ module _ (words : List (List ℕ)) (input : Input) (handed : ℕ) (bytes : List 
   only-memory fit (line.Limit which) cause =
       let w : Wrong = wrong.Limit which in
       absurd (no-wrong bytes fit.script w fit.is_script (told-wrong cause.1.bytes w cause.1.gave cause.1.is_wrong))
-  only-memory fit line.Stage cause =
-      let w : Wrong = wrong.Stage in
-      absurd (no-wrong bytes fit.script w fit.is_script (told-wrong cause.1.bytes w cause.1.gave cause.1.is_wrong))
   only-memory fit line.TooManyAddons cause =
       let same : cause.1.script ≡ fit.script = one-script bytes cause.1.script fit.script (told-script cause.1.script cause.1.gave) fit.is_script in
       let more : handed < length fit.script.addons = subst (λ (s : Script). handed < length s.addons) same cause.1.more in
       absurd (omega (arith, more, fit.enough))
+  only-memory fit line.Schedule cause =
+      let same : cause.1.script ≡ fit.script = one-script bytes cause.1.script fit.script (told-script cause.1.script cause.1.gave) fit.is_script in
+      let no : true ≡ false = sym fit.met ∙ sym (ap (is_met d) same) ∙ cause.1.unmet in
+      cc
   only-memory fit line.NoMemory cause = refl
   only-memory fit line.ReadFault cause = absurd (r.readable cause.1)
   only-memory fit line.TooLong cause = absurd (long-told cause.1 fit.short)

@@ -9,15 +9,17 @@ use Rattle.napi_types.specs.declared.entry.Phase.TheVariants as phase
 use Rattle.napi_types.specs.plain.Room.{most_entries}
 use Rattle.napi_types.specs.scripts.Plans.{Plan, plan_of, Registers, registers_of}
 use Rattle.napi_types.specs.scripts.Registers.{blank_registers}
-use Rattle.napi_types.specs.hub.Hub.{Before, stage_of, quiet_hub}
 use Rattle.napi_types.specs.runs.Setting.{Setting}
 use Rattle.env_core.specs.Core.{Core, opened_core}
 use Rattle.shared_hub.specs.declared.naming.Numbers.{Numbers}
-use Rattle.shared_hub.specs.HubStates.{HubSeen, hub_seen}
+use Rattle.shared_hub.specs.HubStates.{HubSeen}
+use Rattle.shared_hub.specs.KeptHubs.{IsLedHub}
 use Rattle.addon_trait.specs.Addons.{loaded_at}
-use Rattle.env_loop.specs.Recording.{AddonStates, IsRecorded, IsEnded, IsOf}
-use Rattle.env_loop.specs.RecordedRuns.{Run, opened_run, whole_run, FitsAlone, RunGoesOn}
-use Rattle.env_loop.proofs.Recordings.{opened-recorded, gone_change-ended}
+use Rattle.env_loop.specs.Recording.{AddonStates, IsEnded, IsOf}
+use Rattle.env_loop.specs.RecordedRuns.{Run, opened_run}
+use Rattle.env_loop.specs.FollowedRuns.{IsFollowed, GoesOnAt, HasNumbers}
+use Rattle.env_loop.proofs.HubGoing.{opened-followed, gone-ended}
+use Rattle.stepper.specs.TakingPart.{IsOpenedRun}
 use Rattle.script_host.specs.Loading.{told_plans, hub_numbers, setting_with}
 
 -- LOADING
@@ -108,41 +110,40 @@ loaded-end given done rest first plans before registers l none =
     subst P all (subst Q empty l)
 
 -- THE WHOLE RUN
--- the hub that opened is as far as the environment that opened
-pub opened-fits : (texts count : ℕ) (n : Numbers) (core : Core) (start : Run) (seen : HubSeen) → core ≡ opened_core count texts most_entries → start ≡ opened_run core → n ≡ hub_numbers → seen ≡ hub_seen n []
-    → FitsAlone start seen
-opened-fits texts count n core start seen opens starts named is =
-    let there : seen ≡ hub_seen hub_numbers [] = is ∙ ap (λ x. hub_seen x []) named in
-    let first : start.core ≡ opened_core count texts most_entries = ap (λ (r : Run). r.core) starts ∙ opens in
-    ap (λ (h : HubSeen). h.hub) there ∙ sym (ap (λ (c : Core). quiet_hub (stage_of c.env.phase)) first)
+-- the environment has opened, and no turn of it was made
+pub opened-starts : (count texts limit : ℕ) (core : Core) (start : Run) → core ≡ opened_core count texts limit → start ≡ opened_run core → IsOpenedRun start
+opened-starts count texts limit core start opens starts =
+    let C : Core → Type 0 = λ c. IsOpenedRun (opened_run c) in
+    subst IsOpenedRun (sym starts) (subst C (sym opens) (record { opened = refl; core = refl }))
 
 -- the opening, and all that came after it
-pub whole-ended : (given : List AddonPlan) (handed loaded : List Plan) (texts count : ℕ) (n : Numbers) (core : Core) (start ran : Run) (seen later : HubSeen) (journal : List Local) (left : List Entry) (all now : AddonStates) (firsts : List (List DueInfo))
+pub whole-ended : (given : List AddonPlan) (handed loaded : List Plan) (texts count threads workers : ℕ) (n : Numbers) (core : Core) (start ran : Run) (later : HubSeen)
+    (journal : List Local) (left : List Entry) (all now : AddonStates) (firsts : List (List DueInfo))
     → length given ≤ length handed → count ≡ length given
-    → core ≡ opened_core count texts most_entries → start ≡ opened_run core → n ≡ hub_numbers → seen ≡ hub_seen n []
+    → core ≡ opened_core count texts most_entries → start ≡ opened_run core → n ≡ hub_numbers threads workers → IsLedHub n later
     → loaded ≡ told_plans given handed ++ drop (length given) handed
     → ((addon : ℕ) → addon < length given → registers_of all.registers addon ≡ blank_registers) → all.seen ≡ firsts
-    → RunGoesOn loaded (whole_run start seen) all (whole_run ran later) now → ran.core.env.phase ≡ phase.Gone → journal ≡ ran.core.journal → left ≡ later.history
-    → IsEnded (setting_with (told_plans given handed) texts) journal left now firsts
-whole-ended given handed loaded texts count n core start ran seen later journal left all now firsts enough counted opens starts named hub_opens plans blank same_seen goes gone_there lists history =
+    → GoesOnAt n loaded start [] all ran later.history now → ran.core.env.phase ≡ phase.Gone → journal ≡ ran.core.journal → left ≡ later.history
+    → IsEnded (setting_with (told_plans given handed) texts threads workers) journal left now firsts
+whole-ended given handed loaded texts count threads workers n core start ran later journal left all now firsts enough counted opens starts named led plans blank same_seen goes gone_there lists history =
     let told : List Plan = told_plans given handed in
-    let s : Setting = setting_with told texts in
+    let s : Setting = setting_with told texts threads workers in
     let as_many : length told ≡ length given = length-told given handed enough in
-    let same : count ≡ length told = counted ∙ sym as_many in
-    let opened : core ≡ opened_core (length told) texts most_entries = opens ∙ ap (λ k. opened_core k texts most_entries) same in
-    let R : Run → Type 0 = λ r. RunGoesOn loaded (whole_run r seen) all (whole_run ran later) now in
-    let H : HubSeen → Type 0 = λ h. RunGoesOn loaded (whole_run (opened_run core) h) all (whole_run ran later) now in
-    let from_core : RunGoesOn loaded (whole_run (opened_run core) (hub_seen hub_numbers [])) all (whole_run ran later) now = subst H (hub_opens ∙ ap (λ x. hub_seen x []) named) (subst R starts goes) in
-    let C : Core → Type 0 = λ c. IsRecorded s c (quiet_hub Before) [] all all.seen in
-    let recorded : IsRecorded s core (quiet_hub Before) [] all all.seen = subst C (sym opened) (opened-recorded s all refl refl (λ addon below. blank addon (omega (arith, as_many, below)))) in
-    let of : IsOf s loaded core = record {
-      count = sym (ap (λ (c : Core). c.env.addons) opened);
+    let opened : core ≡ opened_core (length told) texts most_entries = opens ∙ ap (λ k. opened_core k texts most_entries) (counted ∙ sym as_many) in
+    let followed : IsFollowed s (opened_run core) [] all all.seen = opened-followed s core all opened (λ addon below. blank addon (omega (arith, as_many, below))) in
+    let S : Run → Type 0 = λ r. IsFollowed s r [] all all.seen in
+    let of : IsOf s loaded start.core = record {
+      count = sym (ap (λ (c : Core). c.env.addons) (ap (λ (r : Run). r.core) starts ∙ opened));
       first = λ addon below. sym (ap (λ l. plan_of l addon) plans ∙ get_or_append_left told (drop (length given) handed) _ addon below);
-      threads = refl;
-      workers = refl;
-      built = refl;
     } in
+    let has : HasNumbers s n = record {
+      threads = ap (λ (m : Numbers). m.threads) (sym named);
+      workers = ap (λ (m : Numbers). m.workers) (sym named);
+      limit = ap (λ (m : Numbers). m.limits.history) (sym named);
+    } in
+    let ended_there : IsFollowed s ran later.history now all.seen = goes s all.seen has of (subst S (sym starts) followed) in
+    let led_there : IsLedHub (hub_numbers threads workers) later = subst (λ m. IsLedHub m later) named led in
     let F : List (List DueInfo) → Type 0 = λ x. IsEnded s ran.core.journal later.history now x in
     let J : List Local → Type 0 = λ x. IsEnded s x left now firsts in
     let L : List Entry → Type 0 = λ x. IsEnded s ran.core.journal x now firsts in
-    subst J (sym lists) (subst L (sym history) (subst F same_seen (gone_change-ended s ran.core later.hub later.history now all.seen (from_core s all.seen of recorded) gone_there)))
+    subst J (sym lists) (subst L (sym history) (subst F same_seen (gone-ended s ran later.history now all.seen led_there.led.replays ended_there gone_there)))

@@ -7,40 +7,44 @@ use Rattle.std.specs.Str.{IsUtf8, is_utf8}
 use Rattle.serde_json.specs.Data.{Data}
 use Rattle.serde_json.specs.Read.{read}
 use Rattle.napi_types.specs.declared.script.Script.{Script}
-use Rattle.napi_types.specs.scripts.Script.{script}
+use Rattle.napi_types.specs.scripts.Script.{IsScript, script}
 use Rattle.napi_types.specs.scripts.ScriptReading.{IsJson, Reading}
 use Rattle.script_host.specs.Reading.{longest_source}
-use Rattle.script_host.specs.Host.{IsTooLong, IsRefused, IsRunnable}
+use Rattle.script_host.specs.Host.{IsTooLong, IsRefused, IsRunnable, is_met}
+use Rattle.script_host.specs.declared.top_call.Demand.{Demand}
 use Rattle.script_host.proofs.Complete.{no-refused}
 
-module _ (bytes : List ℕ) (handed : ℕ) (short : length bytes ≤ longest_source) where
-  by-count : (s : Script) (d : Data) → IsJson bytes d → script d ≡ Ok s → (b : Bool) → nat_le (length s.addons) handed ≡ b
-      → IsRefused bytes handed ⊎ IsRunnable bytes handed
-  by-count s d json e true few = inr (record { short = short; script = s; is_script = (d, json, e); enough = grind arith })
-  by-count s d json e false many =
+module _ (d : Demand) (bytes : List ℕ) (handed : ℕ) (short : length bytes ≤ longest_source) where
+  by-demand : (s : Script) → IsScript bytes s → length s.addons ≤ handed → (b : Bool) → is_met d s ≡ b → IsRefused d bytes handed ⊎ IsRunnable d bytes handed
+  by-demand s is enough true met = inr (record { short = short; script = s; is_script = is; enough = enough; met = met })
+  by-demand s is enough false unmet = inl (record { short = short; why = inr (inr (inr (record { script = s; is_script = is; enough = enough; unmet = unmet }))) })
+
+  by-count : (s : Script) → IsScript bytes s → (b : Bool) → nat_le (length s.addons) handed ≡ b → IsRefused d bytes handed ⊎ IsRunnable d bytes handed
+  by-count s is true few = let enough : length s.addons ≤ handed = grind arith in by-demand s is enough (is_met d s) refl
+  by-count s is false many =
       let more : handed < length s.addons = grind arith in
-      inl (record { short = short; why = inr (inr (record { script = s; is_script = (d, json, e); more = more })) })
+      inl (record { short = short; why = inr (inr (inl (record { script = s; is_script = is; more = more }))) })
 
-  by-script : (d : Data) → IsJson bytes d → (r : Reading Script) → script d ≡ r → IsRefused bytes handed ⊎ IsRunnable bytes handed
-  by-script d json (Ok s) e = by-count s d json e (nat_le (length s.addons) handed) refl
-  by-script d json (Err w) e = inl (record { short = short; why = inr (inl (w, (d, json, e))) })
+  by-script : (v : Data) → IsJson bytes v → (r : Reading Script) → script v ≡ r → IsRefused d bytes handed ⊎ IsRunnable d bytes handed
+  by-script v json (Ok s) e = by-count s (v, json, e) (nat_le (length s.addons) handed) refl
+  by-script v json (Err w) e = inl (record { short = short; why = inr (inl (w, (v, json, e))) })
 
-  by-value : IsUtf8 bytes → (value : Option Data) → read bytes ≡ value → IsRefused bytes handed ⊎ IsRunnable bytes handed
+  by-value : IsUtf8 bytes → (value : Option Data) → read bytes ≡ value → IsRefused d bytes handed ⊎ IsRunnable d bytes handed
   by-value text None e = inl (record { short = short; why = inl (λ _. e) })
-  by-value text (Some d) e = by-script d (text, e) (script d) refl
+  by-value text (Some v) e = by-script v (text, e) (script v) refl
 
-  by-text : (b : Bool) → is_utf8 bytes ≡ b → IsRefused bytes handed ⊎ IsRunnable bytes handed
+  by-text : (b : Bool) → is_utf8 bytes ≡ b → IsRefused d bytes handed ⊎ IsRunnable d bytes handed
   by-text true e = by-value (IsUtf8-from_is_utf8 bytes e) (read bytes) refl
   by-text false e = inl (record { short = short; why = inl (λ text. absurd (false≢true (sym e ∙ is_utf8-from_IsUtf8 bytes text))) })
 
 -- bytes are of one of three kinds
-pub some-kind : (bytes : List ℕ) (handed : ℕ) → IsTooLong bytes ⊎ (IsRefused bytes handed ⊎ IsRunnable bytes handed)
-some-kind bytes handed = by (nat_le (length bytes) longest_source) refl
+pub some-kind : (d : Demand) (bytes : List ℕ) (handed : ℕ) → IsTooLong bytes ⊎ (IsRefused d bytes handed ⊎ IsRunnable d bytes handed)
+some-kind d bytes handed = by (nat_le (length bytes) longest_source) refl
   where
-    by : (b : Bool) → nat_le (length bytes) longest_source ≡ b → IsTooLong bytes ⊎ (IsRefused bytes handed ⊎ IsRunnable bytes handed)
-    by true e = let short : length bytes ≤ longest_source = grind arith in inr (by-text bytes handed short (is_utf8 bytes) refl)
+    by : (b : Bool) → nat_le (length bytes) longest_source ≡ b → IsTooLong bytes ⊎ (IsRefused d bytes handed ⊎ IsRunnable d bytes handed)
+    by true e = let short : length bytes ≤ longest_source = grind arith in inr (by-text d bytes handed short (is_utf8 bytes) refl)
     by false e = let long : longest_source < length bytes = grind arith in inl long
 
 -- and of one alone
-pub one-kind : (bytes : List ℕ) (handed : ℕ) → IsRefused bytes handed → IsRunnable bytes handed → ⊥
-one-kind bytes handed bad fit = no-refused bytes handed bad fit.script fit.is_script fit.enough
+pub one-kind : (d : Demand) (bytes : List ℕ) (handed : ℕ) → IsRefused d bytes handed → IsRunnable d bytes handed → ⊥
+one-kind d bytes handed bad fit = no-refused d bytes handed bad fit.script fit.is_script fit.enough fit.met

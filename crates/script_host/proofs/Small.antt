@@ -1,10 +1,9 @@
 -- A script has eight addons at most.
-use Rattle.std.proofs.Common.{◌≡◌, ◌≤◌, ◌<◌, ◌^◌, ◌+◌, ℕ, suc, Bool, true, false, nat_le, cond, List, [], ◌∷◌, length, Option, Ok, Err, refl, ap, sym, subst, ◌∙◌, arith}
-use Rattle.std.specs.declared.result.Result.{Result}
+use Rattle.std.proofs.Common.{◌≡◌, ◌≤◌, ◌+◌, ℕ, suc, Bool, true, false, nat_le, cond, List, [], ◌∷◌, length, Option, Ok, Err, refl, ap, sym, subst, ◌∙◌, arith}
 use Rattle.serde_json.specs.Data.{Data, Items, item, no_items}
 use Rattle.serde_json.specs.Events.{items_len}
 use Rattle.serde_json.specs.Find.{get, as_array}
-use Rattle.std.specs.Prelude.{codes, option_and_then, IfOk}
+use Rattle.std.specs.Prelude.{codes, option_and_then}
 use Rattle.napi_types.specs.declared.script.LimitName.{LimitName}
 use Rattle.napi_types.specs.declared.script.LimitName.TheVariants as limit
 use Rattle.napi_types.specs.declared.script.Place.{Place}
@@ -12,20 +11,18 @@ use Rattle.napi_types.specs.declared.script.Place.TheVariants as place
 use Rattle.napi_types.specs.declared.script.Script.{Script}
 use Rattle.napi_types.specs.declared.script.Wrong.TheVariants as wrong
 use Rattle.napi_types.specs.declared.lists.AddonPlan.{AddonPlan}
-use Rattle.napi_types.specs.scripts.Script.{addons_in, is_root, version_in, workers_in, threads_in, script_in, script, is_built_script, IsScript}
+use Rattle.napi_types.specs.scripts.Script.{addons_in, is_root, version_in, workers_in, threads_in, script}
 use Rattle.napi_types.specs.scripts.ScriptAddons.{addon_at}
 use Rattle.napi_types.specs.scripts.ScriptReading.{Reading, ◌>>=◌, formed, list_at, within_limit, each, Read, Table, read_with, when_formed}
 use Rattle.napi_types.specs.scripts.ScriptThreads.{schedule_in}
-use Rattle.script_host.specs.Host.{IsSmall}
-use Rattle.script_host.specs.declared.words.Line.{Line}
 
 -- what follows a part that was read was read too
-record Both {A B : Type 0} (r : Reading A) (f : A → Reading B) (b : B) : Type 0 where
+pub record Both {A B : Type 0} (r : Reading A) (f : A → Reading B) (b : B) : Type 0 where
   pub first : A
   pub was : r ≡ Ok first
   pub then : f first ≡ Ok b
 
-both : {A B : Type 0} (r : Reading A) (f : A → Reading B) (b : B) → (r >>= f) ≡ Ok b → Both r f b
+pub both : {A B : Type 0} (r : Reading A) (f : A → Reading B) (b : B) → (r >>= f) ≡ Ok b → Both r f b
 both (Ok a) f b e = record { first = a; was = refl; then = e }
 both (Err w) f b e = cc
 
@@ -38,14 +35,14 @@ each-length {A} f n table (item d ds) r e =
     let same : read_with rest.first.texts (one.first.found ∷ rest.first.found) ≡ r = cc in
     ap (λ (x : Read (List A)). length x.found) (sym same) ∙ ap suc (each-length f (n + 1) one.first.texts ds rest.first rest.was)
 
-within_limit-limit : (which : LimitName) (most n : ℕ) (u : Unit {0}) → within_limit which most n ≡ Ok u → n ≤ most
+pub within_limit-limit : (which : LimitName) (most n : ℕ) (u : Unit {0}) → within_limit which most n ≡ Ok u → n ≤ most
 within_limit-limit which most n u e = by (nat_le n most) refl e
   where
     by : (b : Bool) → nat_le n most ≡ b → cond b (Ok tt) (Err (wrong.Limit which)) ≡ Ok u → n ≤ most
     by true h k = grind arith
     by false h k = cc
 
-list-short : (p : Place) (which : LimitName) (most : ℕ) (found : Option Data) (ds : Items) → list_at p which most found ≡ Ok ds → items_len ds ≤ most
+pub list-short : (p : Place) (which : LimitName) (most : ℕ) (found : Option Data) (ds : Items) → list_at p which most found ≡ Ok ds → items_len ds ≤ most
 unfolding list_at
 list-short p which most found ds e =
     let items : Both (formed p (option_and_then as_array found)) _ ds = both (formed p (option_and_then as_array found)) _ ds e in
@@ -60,9 +57,16 @@ addons-few found r e =
     let few : items_len items.first ≤ 8 = list-short place.Addons limit.Addons 8 found items.first items.was in
     omega (arith, few, each-length addon_at 0 _ items.first r items.then)
 
-script_in-few : (d : Data) (s : Script) → script_in d ≡ Ok s → length s.addons ≤ 8
-unfolding script_in
-script_in-few d s e =
+-- the parts of a script, as they were read
+pub record ScriptParts (d : Data) (s : Script) : Type 0 where
+  pub workers : workers_in (get (codes "workers") d) ≡ Ok s.workers
+  pub few : length s.addons ≤ 8
+  pub threads : threads_in (get (codes "threads") d) ≡ Ok s.threads
+  pub schedule : schedule_in (length s.threads) s.workers (get (codes "schedule") d) ≡ Ok s.schedule
+
+pub parts-of : (d : Data) (s : Script) → script d ≡ Ok s → ScriptParts d s
+unfolding script
+parts-of d s e =
     let root : Both (when_formed place.Root (is_root d)) _ s = both (when_formed place.Root (is_root d)) _ s e in
     let version : Both (version_in (get (codes "version") d)) _ s = both (version_in (get (codes "version") d)) _ s root.then in
     let workers : Both (workers_in (get (codes "workers") d)) _ s = both (workers_in (get (codes "workers") d)) _ s version.then in
@@ -71,21 +75,9 @@ script_in-few d s e =
     let schedule : Both (schedule_in (length threads.first) workers.first (get (codes "schedule") d)) _ s =
     both (schedule_in (length threads.first) workers.first (get (codes "schedule") d)) _ s threads.then in
     let same : record { version = 9; workers = workers.first; addons = addons.first.found; threads = threads.first; schedule = schedule.first; texts = addons.first.texts } ≡ s = cc in
-    subst (λ (x : Script). length x.addons ≤ 8) same (addons-few (get (codes "addons") d) addons.first addons.was)
-
--- of a script that is built
-pub few-addons : (d : Data) (s : Script) → script d ≡ Ok s → length s.addons ≤ 8
-unfolding script
-few-addons d s e =
-    let whole : Both (script_in d) _ s = both (script_in d) _ s e in
-    let same : whole.first ≡ s = built (is_built_script whole.first) whole.first whole.then in
-    script_in-few d s (whole.was ∙ ap Ok same)
-  where
-    built : (b : Bool) (t : Script) → cond b (Ok t) (Err wrong.Stage) ≡ Ok s → t ≡ s
-    built true t h = cc
-    built false t h = cc
-
--- so a script that was read is one that the host can run, where its texts can be counted
-pub small-of : (bytes : List ℕ) (s : Script) (r : Result Script Line) → IsScript bytes s → IfOk r (λ t. t ≡ s) → IfOk r (λ t. length t.texts < 2 ^ 32) → IfOk r IsSmall
-small-of bytes s (Ok t) is same texts = record { few = subst (λ (x : Script). length x.addons ≤ 8) (sym same) (few-addons is.0 s is.2); texts = texts }
-small-of bytes s (Err line) is same texts = tt
+    subst (ScriptParts d) same (record {
+      workers = workers.was;
+      few = addons-few (get (codes "addons") d) addons.first addons.was;
+      threads = threads.was;
+      schedule = schedule.was;
+    })

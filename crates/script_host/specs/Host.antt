@@ -1,11 +1,12 @@
 -- What the top call does: the run that it leaves, the text that it writes, and the refusals that stand in place of a trace.
-use Rattle.std.specs.Prelude.{◌≡◌, ◌≤◌, ◌<◌, ◌^◌, ℕ, Bool, true, false, List, [], ◌∷◌, ◌++◌, length, map, drop, Some, IfSome, IsTrue, ◌==◌, ◌⊎◌}
+use Rattle.std.specs.Prelude.{◌≡◌, ◌≤◌, ◌<◌, ◌^◌, ℕ, Bool, true, false, List, [], ◌∷◌, ◌++◌, length, map, drop, slice_get, Some, is_some, IfSome, IsTrue, ◌==◌, ◌⊎◌}
 use Rattle.std.specs.List.{list_any}
 use Rattle.std.specs.Io.KnownBytes.{prepend_known, append_known, IsAtEnd}
 use Rattle.napi_types.specs.declared.call.Ask.{Ask}
 use Rattle.napi_types.specs.declared.duties.DueInfo.{DueInfo}
 use Rattle.napi_types.specs.declared.entry.Duty.TheVariants as duty
 use Rattle.napi_types.specs.declared.lists.Record.{Record}
+use Rattle.napi_types.specs.declared.op.Op.{Op}
 use Rattle.napi_types.specs.declared.script.Script.{Script}
 use Rattle.napi_types.specs.declared.script.Wrong.{Wrong}
 use Rattle.napi_types.specs.declared.script.Wrong.TheVariants as wrong
@@ -15,6 +16,7 @@ use Rattle.napi_types.specs.scripts.Plans.{Plan, plan_of, registers_of}
 use Rattle.napi_types.specs.scripts.Script.{IsScript, IsWrong, HasWrongShape}
 use Rattle.napi_types.specs.scripts.ScriptReading.{IsNoJson}
 use Rattle.napi_types.specs.scripts.Text.{text}
+use Rattle.napi_types.specs.hub.Actors.{Free, Over, worker_along}
 use Rattle.napi_types.specs.runs.Begins.{begun_along, of_addon}
 use Rattle.napi_types.specs.runs.Parting.{IsParted}
 use Rattle.napi_types.specs.runs.Setting.{Setting, EndsBy, opening_of, final_registers}
@@ -27,9 +29,12 @@ use Rattle.script_host.specs.Reading.{longest_source, GaveTooMany}
 use Rattle.env_loop.specs.Recording.{AgreesWhereTold}
 use Rattle.script_host.specs.Loading.{told_plans, setting_with}
 use Rattle.script_host.specs.Outside.{Input, Output}
+use Rattle.script_host.specs.ScriptActors.{AreActors, MadeItsScript}
 use Rattle.script_host.specs.Words.{is_run_words}
 use Rattle.std.specs.declared.result.Result.{Result}
 use Rattle.std.specs.declared.result.Result.TheVariants.{Ok}
+use Rattle.script_host.specs.declared.top_call.Demand.{Demand}
+use Rattle.script_host.specs.declared.top_call.Demand.TheVariants as demand
 use Rattle.script_host.specs.declared.top_call.Written.{Written}
 use Rattle.script_host.specs.declared.top_call.Written.TheVariants as written
 use Rattle.script_host.specs.declared.words.Line.{Line}
@@ -38,7 +43,7 @@ use Rattle.script_host.specs.declared.words.Line.TheVariants as line
 -- THE RUN
 -- a run of the script, with these addons handed in
 abbrev pub setting_of : Script → List Plan → Setting
-setting_of script handed = setting_with (told_plans script.addons handed) (length script.texts)
+setting_of script handed = setting_with (told_plans script.addons handed) (length script.texts) (length script.threads) script.workers
 
 -- the two lists are the journal and the history of a run of the script that ends in `gone`, the journal in the order of its places; each collection of the
 -- run keeps exactly what its roots reach; and the registers of each addon that tells its plan are the run's
@@ -66,6 +71,11 @@ pub record IsRunOf (script : Script) (handed : List Plan) (left : Record) (regis
   pub items : (f : ℕ) → CountItems f (weave left.journal left.history)
   -- the completion of each work began as cancelled exactly where the work never started
   pub completed : (n : ℕ) → TellsStarts (duty.Work n) (weave left.journal left.history)
+  -- the entries of each thread are the calls of its script, in their order, each once, and then its end. It ended cut only where the next call had no room, and
+  -- as full exactly there, or might want memory
+  pub threads : (t : ℕ) (operations : List Op) → slice_get script.threads t ≡ Some operations → MadeItsScript (setting_of script handed) t operations left.history
+  -- each worker started and finished works by turns, and then ended
+  pub workers : (w : ℕ) → w < script.workers → worker_along w (Some Free) left.history ≡ Some Over
 
 -- what contracts see of the addons that were handed in: their plans, their registers, and what each has seen
 pub record Handed : Type 0 where
@@ -84,14 +94,22 @@ pub record HasRun (script : Script) (handed : Handed) (left : Record) (after : H
   pub loaded : after.plans ≡ told_plans script.addons handed.plans ++ drop (length script.addons) handed.plans
   pub others : drop (length script.addons) after.registers ≡ drop (length script.addons) handed.registers
 
--- a script that the host can run: it has eight addons at most, and its texts can be counted in 32 bits
+-- a script that the host can run: it has eight addons at most, its texts can be counted in 32 bits, and it has threads, workers and words of a schedule as a
+-- script may
 pub record IsSmall (script : Script) : Type 0 where
   pub few : length script.addons ≤ 8
   pub texts : length script.texts < 2 ^ 32
+  pub actors : AreActors script.threads script.workers script.schedule
 
 -- the text of the run
 abbrev pub trace_of : Script → Record → List ℕ
 trace_of script left = text script.texts (weave left.journal left.history)
+
+-- THE DEMAND
+-- whether a script is what a top call demands: one that demands a schedule runs no script without one
+abbrev pub is_met : Demand → Script → Bool
+is_met demand.Nothing script = true
+is_met demand.Schedule script = is_some script.schedule
 
 -- THE BYTES
 -- the bytes are more than a source may give
@@ -104,17 +122,33 @@ pub record HasTooManyAddons (bytes : List ℕ) (handed : ℕ) : Type 0 where
   pub is_script : IsScript bytes script
   pub more : handed < length script.addons
 
--- the bytes are not too long, and they are no JSON text, or one in which something is wrong or not built, or a script with too many addons
-pub record IsRefused (bytes : List ℕ) (handed : ℕ) : Type 0 where
-  pub short : length bytes ≤ longest_source
-  pub why : IsNoJson bytes ⊎ (((w : Wrong) × IsWrong bytes w) ⊎ HasTooManyAddons bytes handed)
+-- the bytes are a script with no more addons than were handed in, which has not the schedule that is demanded
+pub record LacksSchedule (d : Demand) (bytes : List ℕ) (handed : ℕ) : Type 0 where
+  pub script : Script
+  pub is_script : IsScript bytes script
+  pub enough : length script.addons ≤ handed
+  pub unmet : is_met d script ≡ false
 
--- the bytes are not too long, and they are a script that is built, with no more addons than were handed in
-pub record IsRunnable (bytes : List ℕ) (handed : ℕ) : Type 0 where
+-- the bytes are not too long, and they are no JSON text, or one in which something is wrong, or a script with too many addons, or one without the schedule that is
+-- demanded
+pub record IsRefused (d : Demand) (bytes : List ℕ) (handed : ℕ) : Type 0 where
+  pub short : length bytes ≤ longest_source
+  pub why : IsNoJson bytes ⊎ (((w : Wrong) × IsWrong bytes w) ⊎ (HasTooManyAddons bytes handed ⊎ LacksSchedule d bytes handed))
+
+-- the bytes are not too long, and they are a script with no more addons than were handed in, and with the schedule, where one is demanded
+pub record IsRunnable (d : Demand) (bytes : List ℕ) (handed : ℕ) : Type 0 where
   pub short : length bytes ≤ longest_source
   pub script : Script
   pub is_script : IsScript bytes script
   pub enough : length script.addons ≤ handed
+  pub met : is_met d script ≡ true
+
+-- why a script of the right form does not run: more addons than were handed in, or else no schedule that is demanded; or there was no memory
+abbrev pub Misses : Demand → Script → ℕ → Line → Type 0
+Misses d script handed line.TooManyAddons = handed < length script.addons
+Misses d script handed line.Schedule = (length script.addons ≤ handed) × (is_met d script ≡ false)
+Misses d script handed line.NoMemory = Unit {0}
+Misses d script handed _ = ⊥
 
 -- THE INPUT
 -- the source gave these bytes and no more, up to its end
@@ -136,7 +170,7 @@ pub record GaveNoJson (input : Input) : Type 0 where
   pub gave : Gave input bytes
   pub is_no_json : IsNoJson bytes
 
--- the source gave a JSON text that is no script that can run, and this is the first thing that is wrong
+-- the source gave a JSON text that is no script, and this is the first thing that is wrong
 pub record GaveWrong (input : Input) (w : Wrong) : Type 0 where
   pub bytes : List ℕ
   pub gave : Gave input bytes
@@ -154,11 +188,18 @@ pub record GaveTooManyAddons (input : Input) (handed : ℕ) : Type 0 where
   pub gave : GaveScript input script
   pub more : handed < length script.addons
 
+-- the source gave a script with no more addons than were handed in, which has not the schedule that is demanded
+pub record GaveNoSchedule (d : Demand) (input : Input) (handed : ℕ) : Type 0 where
+  pub script : Script
+  pub gave : GaveScript input script
+  pub enough : length script.addons ≤ handed
+  pub unmet : is_met d script ≡ false
+
 -- the source gave bytes that are refused
-pub record GaveRefused (input : Input) (handed : ℕ) : Type 0 where
+pub record GaveRefused (d : Demand) (input : Input) (handed : ℕ) : Type 0 where
   pub bytes : List ℕ
   pub gave : Gave input bytes
-  pub is_refused : IsRefused bytes handed
+  pub is_refused : IsRefused d bytes handed
 
 -- the source gave more bytes than a source may
 pub record GaveTooMuch (input : Input) : Type 0 where
@@ -166,17 +207,17 @@ pub record GaveTooMuch (input : Input) : Type 0 where
   pub told : IfSome input.before (λ given. longest_source < length given)
 
 -- THE REFUSALS
--- why a line stands in place of a trace
-abbrev pub Causes : Line → List (List ℕ) → Input → ℕ → Type 0
-Causes line.Usage words input handed = is_run_words words ≡ false
-Causes line.NotJson words input handed = (is_run_words words ≡ true) × GaveNoJson input
-Causes (line.Shape path) words input handed = (is_run_words words ≡ true) × GaveWrongShape input path
-Causes (line.Limit which) words input handed = (is_run_words words ≡ true) × GaveWrong input (wrong.Limit which)
-Causes line.Stage words input handed = (is_run_words words ≡ true) × GaveWrong input wrong.Stage
-Causes line.TooManyAddons words input handed = (is_run_words words ≡ true) × GaveTooManyAddons input handed
-Causes line.NoMemory words input handed = is_run_words words ≡ true
-Causes line.ReadFault words input handed = (is_run_words words ≡ true) × HasRisen input.faults input.faults_after
-Causes line.TooLong words input handed = (is_run_words words ≡ true) × GaveTooMuch input
+-- why a line stands in place of a trace. The schedule comes last: it is missed only where all else is right
+abbrev pub Causes : Demand → Line → List (List ℕ) → Input → ℕ → Type 0
+Causes d line.Usage words input handed = is_run_words words ≡ false
+Causes d line.NotJson words input handed = (is_run_words words ≡ true) × GaveNoJson input
+Causes d (line.Shape path) words input handed = (is_run_words words ≡ true) × GaveWrongShape input path
+Causes d (line.Limit which) words input handed = (is_run_words words ≡ true) × GaveWrong input (wrong.Limit which)
+Causes d line.TooManyAddons words input handed = (is_run_words words ≡ true) × GaveTooManyAddons input handed
+Causes d line.Schedule words input handed = (is_run_words words ≡ true) × GaveNoSchedule d input handed
+Causes d line.NoMemory words input handed = is_run_words words ≡ true
+Causes d line.ReadFault words input handed = (is_run_words words ≡ true) × HasRisen input.faults input.faults_after
+Causes d line.TooLong words input handed = (is_run_words words ≡ true) × GaveTooMuch input
 
 -- the sink took the whole line, or its faults rose and it took a front of it
 abbrev pub WroteLine : Output → List ℕ → Type 0

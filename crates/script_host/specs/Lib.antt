@@ -3,5 +3,6 @@ pub mod HostLaws
 pub mod Loading
 pub mod Outside
 pub mod Reading
+pub mod ScriptActors
 pub mod Standard
 pub mod Words

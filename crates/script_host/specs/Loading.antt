@@ -1,7 +1,7 @@
--- The plans that the addons of a script are given.
+-- The plans that the addons of a script are given, and the numbers of its run.
 use Rattle.std.specs.Prelude.{ℕ, List, [], ◌∷◌, option_map}
+use Rattle.napi_types.specs.declared.entry.Limits.{Limits}
 use Rattle.napi_types.specs.declared.lists.AddonPlan.{AddonPlan}
-use Rattle.napi_types.specs.plain.Built.{is_built}
 use Rattle.napi_types.specs.plain.Room.{most_entries}
 use Rattle.napi_types.specs.scripts.Plans.{Plan}
 use Rattle.napi_types.specs.runs.Setting.{Setting}
@@ -12,17 +12,20 @@ abbrev pub told_plans : List AddonPlan → List Plan → List Plan
 told_plans (given ∷ rest) (told ∷ others) = option_map (λ _. given.entries) told ∷ told_plans rest others
 told_plans _ _ = []
 
--- the numbers of the hub of such a run: no threads and no workers, under the limits of every run
-abbrev pub hub_numbers : Numbers
-hub_numbers = record { threads = 0; workers = 0; limits = record { journal = most_entries; history = most_entries } }
+-- the limits of every run
+abbrev pub run_limits : Limits
+run_limits = record { journal = most_entries; history = most_entries }
 
--- a run of a script whose addons tell these plans, without threads and workers, under the limits of every run and with the calls that are built
-abbrev pub setting_with : List Plan → ℕ → Setting
-setting_with plans texts = record {
+-- the numbers of the hub of a run with so many threads and workers
+abbrev pub hub_numbers : ℕ → ℕ → Numbers
+hub_numbers threads workers = record { threads = threads; workers = workers; limits = run_limits }
+
+-- a run of a script whose addons tell these plans, with so many texts, threads and workers, under the limits of every run
+abbrev pub setting_with : List Plan → ℕ → ℕ → ℕ → Setting
+setting_with plans texts threads workers = record {
   plans = plans;
   texts = texts;
-  threads = 0;
-  workers = 0;
-  limits = record { journal = most_entries; history = most_entries };
-  built = is_built;
+  threads = threads;
+  workers = workers;
+  limits = run_limits;
 }

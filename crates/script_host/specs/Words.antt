@@ -30,9 +30,9 @@ limit_line limit.Operations = codes "refused limit operations\n"
 limit_line limit.Threads = codes "refused limit threads\n"
 limit_line limit.Schedule = codes "refused limit schedule\n"
 
--- the bytes are a script, and something in it is not built
-abbrev pub stage_line : List ℕ
-stage_line = codes "refused stage\n"
+-- the bytes are a script without the schedule that is demanded
+abbrev pub schedule_line : List ℕ
+schedule_line = codes "refused schedule\n"
 
 -- want of memory before the trace began
 abbrev pub no_memory_line : List ℕ
@@ -52,8 +52,8 @@ line_text line.Usage = usage_line
 line_text line.NotJson = not_json_line
 line_text (line.Shape path) = shape_line path
 line_text (line.Limit which) = limit_line which
-line_text line.Stage = stage_line
 line_text line.TooManyAddons = limit_line limit.Addons
+line_text line.Schedule = schedule_line
 line_text line.NoMemory = no_memory_line
 line_text line.ReadFault = read_fault_line
 line_text line.TooLong = too_long_line
@@ -64,8 +64,8 @@ line_status line.Usage = 2
 line_status line.NotJson = 3
 line_status (line.Shape _) = 3
 line_status (line.Limit _) = 3
-line_status line.Stage = 3
 line_status line.TooManyAddons = 3
+line_status line.Schedule = 3
 line_status line.ReadFault = 4
 line_status line.NoMemory = 6
 line_status line.TooLong = 7

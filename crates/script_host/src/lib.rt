@@ -1,8 +1,9 @@
 //! The top calls: what the program does with its words, its input and its addons.
-//! `host` reads a script, runs it with the addons that it is handed, and writes the trace. Contracts see bytes, the
-//! machine's runs and the two lists that a run leaves. The program stands above it.
+//! `host` reads a script, runs it with the addons that it is handed, and writes the trace; `host_scheduled` does so where the script has a schedule.
+//! Contracts see bytes, the machine's runs and the two lists that a run leaves. The program stands above it.
 #![tactic(auto)]
 
+mod actors;
 mod laws;
 mod reading;
 mod running;
@@ -12,4 +13,4 @@ mod words;
 
 pub use laws::bytes_are_of_one_kind;
 pub use standard::{StdSink, StdSource};
-pub use top_call::host;
+pub use top_call::{host, host_scheduled};

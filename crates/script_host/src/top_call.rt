@@ -1,7 +1,7 @@
-//! The top call.
+//! The top calls.
 ghost use Rattle.std.specs.Prelude.{◌≡◌, ◌≢◌, ◌≤◌, ◌<◌, ◌^◌, ℕ, ◌↔◌, ◌==◌, List, length, true, false, IfOk, OnOk, OnErr, IfErr, ◌⊎◌};
 ghost use Rattle.napi_types.specs.plain.Edge.{HasRisen};
-ghost use Rattle.script_host.specs.Host.{handed_in, HasRun, IsSmall, trace_of, WroteTrace, is_whole, IsStatus, IsRunStatus};
+ghost use Rattle.script_host.specs.Host.{handed_in, HasRun, IsSmall, trace_of, WroteTrace, is_whole, is_met, IsStatus, IsRunStatus, Misses};
 ghost use Rattle.script_host.specs.Host.{GaveScript, GaveRefused, GaveTooMuch, Causes, WroteLine, IsRead, IsTooLong, IsRefused, IsRunnable};
 ghost use Rattle.script_host.specs.Outside.{input_of, output_of};
 ghost use Rattle.script_host.specs.Reading.{GaveFront};
@@ -21,6 +21,27 @@ use trace_text::write_trace;
 
 /// How many texts can be counted in 32 bits.
 const MOST_TEXTS: usize = 4_294_967_295;
+
+/// What a top call demands of a script, beside its form.
+#[derive(Clone, Copy)]
+pub(crate) enum Demand {
+    /// Nothing.
+    Nothing,
+    /// That it has a schedule.
+    Schedule,
+}
+
+impl Demand {
+    /// Whether a script is what is demanded.
+    fn is_met(self, script: &Script) -> bool
+        ensures { result ≡ is_met self script.now }
+    {
+        match self {
+            Demand::Nothing => true,
+            Demand::Schedule => script.schedule.is_some(),
+        }
+    }
+}
 
 /// How much of a trace was written.
 enum Written {
@@ -61,7 +82,7 @@ fn script_of<S: Source>(alloc: Global, words: &[Text], source: &mut S) -> Result
         IfOk result (λ script. GaveScript input script) }
     ensures small { IfOk result IsSmall }
     ensures err { let input = input_of S.left S.faults source.old source.new in
-        IfErr result (λ line. (handed : ℕ) → Causes line words.now input handed) }
+        IfErr result (λ line. (demand : Demand) (handed : ℕ) → Causes demand line words.now input handed) }
     ensures unread { is_run_words words.now ≡ false → S.left source.new ≡ S.left source.old }
     ensures uncounted { is_run_words words.now ≡ false → S.faults source.new ≡ S.faults source.old }
     ensures counted { result ≢ Err Line.ReadFault → S.faults source.new ≡ S.faults source.old }
@@ -82,27 +103,29 @@ fn script_of<S: Source>(alloc: Global, words: &[Text], source: &mut S) -> Result
         Err(Refusal::NotJson) => Err(Line::NotJson),
         Err(Refusal::Shape { path }) => Err(Line::Shape(path)),
         Err(Refusal::Limit { which }) => Err(Line::Limit(which)),
-        Err(Refusal::Stage) => Err(Line::Stage),
         Err(Refusal::NoMemory) => Err(Line::NoMemory),
     }
 }
 
-/// Runs a script with the addons that are handed in, writes its trace and leaves its two lists.
+/// Runs a script with the addons that are handed in, writes its trace and leaves its two lists. One with more addons is refused, and then one that is not what
+/// is demanded.
 fn perform<K: Sink>(
     alloc: Global,
+    demand: Demand,
     script: Script,
     sink: &mut K,
     addons: &mut Vec<Box<dyn Addon>>,
     left: &mut Record,
 ) -> Result<Written, Line>
-    requires { IsSmall script }
+    requires small { IsSmall script }
     ensures ran { let before = handed_in (λ b. plan b) (λ b. regs b) (λ b. seen b) addons.old.items in
         let after = handed_in (λ b. plan b) (λ b. regs b) (λ b. seen b) addons.new.items in
         OnOk result (HasRun script before left.new after) }
+    ensures met { OnOk result (is_met demand script ≡ true) }
     ensures wrote { let output = output_of K.taken K.faults sink.old sink.new in
         OnOk result (WroteTrace (is_whole result) output (trace_of script left.new)) }
     ensures counted { result ≡ Ok Written.Whole → K.faults sink.new ≡ K.faults sink.old }
-    ensures err { IfErr result (λ line. (line ≡ Line.NoMemory) ⊎ ((line ≡ Line.TooManyAddons) × (length addons.old.items < length script.addons))) }
+    ensures err { IfErr result (λ line. Misses demand script (length addons.old.items) line) }
     ensures sink { OnErr result (K.taken sink.new ≡ K.taken sink.old) }
     ensures left { OnErr result (left.new ≡ left.old) }
     ensures addons { OnErr result (addons.new.items ≡ addons.old.items) }
@@ -111,15 +134,19 @@ fn perform<K: Sink>(
     if addons.len() < script.addons.items().len() {
         return Err(Line::TooManyAddons);
     }
+    if !demand.is_met(&script) {
+        return Err(Line::Schedule);
+    }
     let Script {
         version: _,
-        workers: _,
+        workers,
         addons: plans,
-        threads: _,
-        schedule: _,
+        threads,
+        schedule,
         texts,
     } = script;
-    let Ok(record) = run::<Brand>(alloc, plans, texts.items().len() as u32, addons) else {
+    let count = texts.items().len() as u32;
+    let Ok(record) = run::<Brand>(alloc, plans, threads, workers, schedule, count, addons) else {
         return Err(Line::NoMemory);
     };
     let written = write_trace(sink, &texts, record.journal.items(), record.history.items());
@@ -133,6 +160,7 @@ fn perform<K: Sink>(
 /// Reads, runs and writes; or answers the line that stands in place of a trace.
 fn attempt<S: Source, K: Sink>(
     alloc: Global,
+    demand: Demand,
     words: &[Text],
     source: &mut S,
     sink: &mut K,
@@ -144,10 +172,10 @@ fn attempt<S: Source, K: Sink>(
         let output = output_of K.taken K.faults sink.old sink.new in
         let before = handed_in (λ b. plan b) (λ b. regs b) (λ b. seen b) addons.old.items in
         let after = handed_in (λ b. plan b) (λ b. regs b) (λ b. seen b) addons.new.items in
-        OnOk result ((script : Script) × GaveScript input script
+        OnOk result ((script : Script) × GaveScript input script × (is_met demand script ≡ true)
         × HasRun script before left.new after × WroteTrace (is_whole result) output (trace_of script left.new)) }
     ensures err { let input = input_of S.left S.faults source.old source.new in
-        IfErr result (λ line. Causes line words.now input (length addons.old.items)) }
+        IfErr result (λ line. Causes demand line words.now input (length addons.old.items)) }
     ensures sink { OnErr result (K.taken sink.new ≡ K.taken sink.old) }
     ensures left { OnErr result (left.new ≡ left.old) }
     ensures addons { OnErr result (addons.new.items ≡ addons.old.items) }
@@ -160,7 +188,58 @@ fn attempt<S: Source, K: Sink>(
     ensures writing { K.faults sink.old ≤ K.faults sink.new }
 {
     let script = script_of(alloc, words, source)?;
-    perform(alloc, script, sink, addons, left)
+    perform(alloc, demand, script, sink, addons, left)
+}
+
+/// Reads, runs and writes, where the script is what is demanded; or writes the line that stands in place of a trace. It answers the exit status.
+fn answer<S: Source, K: Sink>(
+    alloc: Global,
+    demand: Demand,
+    words: &[Text],
+    source: &mut S,
+    sink: &mut K,
+    addons: &mut Vec<Box<dyn Addon>>,
+    left: &mut Record,
+) -> u8
+    ensures known { IsStatus result }
+    ensures ran { let input = input_of S.left S.faults source.old source.new in
+        let output = output_of K.taken K.faults sink.old sink.new in
+        let before = handed_in (λ b. plan b) (λ b. regs b) (λ b. seen b) addons.old.items in
+        let after = handed_in (λ b. plan b) (λ b. regs b) (λ b. seen b) addons.new.items in
+        IsRunStatus result → (script : Script) × GaveScript input script × (is_met demand script ≡ true)
+        × HasRun script before left.new after × WroteTrace (result == 0) output (trace_of script left.new) }
+    ensures refused { let input = input_of S.left S.faults source.old source.new in
+        let output = output_of K.taken K.faults sink.old sink.new in
+        ¬ IsRunStatus result → (line : Line) × (result ≡ line_status line)
+        × Causes demand line words.now input (length addons.old.items) × WroteLine output (line_text line) }
+    ensures left { ¬ IsRunStatus result → left.new ≡ left.old }
+    ensures addons { ¬ IsRunStatus result → addons.new.items ≡ addons.old.items }
+    ensures usage { (result ≡ 2) ↔ (is_run_words words.now ≡ false) }
+    ensures no_script { let input = input_of S.left S.faults source.old source.new in
+        result ≡ 3 → GaveRefused demand input (length addons.old.items) }
+    ensures read_fault { result ≡ 4 → HasRisen (S.faults source.old) (S.faults source.new) }
+    ensures write_fault { result ≡ 5 → HasRisen (K.faults sink.old) (K.faults sink.new) }
+    ensures too_long { let input = input_of S.left S.faults source.old source.new in
+        result ≡ 7 → GaveTooMuch input }
+    ensures read_fault_told { S.faults source.new ≢ S.faults source.old → result ≡ 4 }
+    ensures write_fault_told { IsRunStatus result → K.faults sink.new ≢ K.faults sink.old → result ≡ 5 }
+    ensures too_long_told { let input = input_of S.left S.faults source.old source.new in
+        (bytes : List ℕ) → IsRead words.now input bytes → IsTooLong bytes → (result ≡ 7) ⊎ (result ≡ 6) }
+    ensures refused_told { let input = input_of S.left S.faults source.old source.new in
+        (bytes : List ℕ) → IsRead words.now input bytes → IsRefused demand bytes (length addons.old.items) → (result ≡ 3) ⊎ (result ≡ 6) }
+    ensures complete { let input = input_of S.left S.faults source.old source.new in
+        (bytes : List ℕ) → IsRead words.now input bytes → IsRunnable demand bytes (length addons.old.items) → IsRunStatus result ⊎ (result ≡ 6) }
+    ensures unread { is_run_words words.now ≡ false → S.left source.new ≡ S.left source.old }
+    ensures uncounted { is_run_words words.now ≡ false → S.faults source.new ≡ S.faults source.old }
+    ensures front { GaveFront (S.left source.old) (S.left source.new) }
+    ensures reading { S.faults source.old ≤ S.faults source.new }
+    ensures writing { K.faults sink.old ≤ K.faults sink.new }
+{
+    match attempt(alloc, demand, words, source, sink, addons, left) {
+        Ok(Written::Whole) => 0,
+        Ok(Written::Cut) => 5,
+        Err(line) => refuse(sink, line),
+    }
 }
 
 /// Does all that the program does: reads a script from the source, runs it with the addons that it is handed, and
@@ -169,9 +248,11 @@ fn attempt<S: Source, K: Sink>(
 /// The one command line is the word `run`. At status 0 the whole trace was written, at 5 the sink failed within it; then
 /// `left` holds the journal and the history of the run, and each addon of the script was loaded with its plan. At every
 /// other status a line stands in place of the trace and `left` is as it was: 2 where the words are no command line, 3
-/// where the bytes are no JSON text, no script, a script of which something is not built, or one with more addons than
-/// were handed in, 4 where the source failed, 7 where it gave more than 4,194,304 bytes, and 6 for want of memory, which may
-/// come in place of 0, 3, 5 and 7. `gate` and `rt` serve threads, which no script that is built has.
+/// where the bytes are no JSON text, no script, or one with more addons than were handed in, 4 where the source failed, 7 where
+/// it gave more than 4,194,304 bytes, and 6 for want of memory, which may come in place of 0, 3, 5 and 7.
+///
+/// Every script that has the right form runs. Its threads and its workers take their turns on this thread: first those of the schedule, where it has one, and
+/// then rounds. `gate` and `rt` serve threads of the machine, on which no script runs so far.
 pub fn host<R: Threads + Wait + Sync, S: Source, K: Sink, G: Gate>(
     rt: &R,
     alloc: Global,
@@ -187,8 +268,8 @@ pub fn host<R: Threads + Wait + Sync, S: Source, K: Sink, G: Gate>(
 
     // At 0 and 5 the source gave a script, and the two lists of `left` are a run of it to its end. Each collection kept exactly what its roots
     // reached. Each finalizer and hook that no call of its own withdrew began exactly once, hooks in the reverse of the order of adding, and
-    // what was left to the end in the order of registration. Each addon has seen, after what it had seen before, what began of its. The sink
-    // took the run's text.
+    // what was left to the end in the order of registration. Each addon has seen, after what it had seen before, what began of its. Each thread
+    // made the calls of its script, and each worker's works came by turns. The sink took the run's text.
     ensures ran { let input = input_of S.left S.faults source.old source.new in
         let output = output_of K.taken K.faults sink.old sink.new in
         let before = handed_in (λ b. plan b) (λ b. regs b) (λ b. seen b) addons.old.items in
@@ -200,14 +281,14 @@ pub fn host<R: Threads + Wait + Sync, S: Source, K: Sink, G: Gate>(
     ensures refused { let input = input_of S.left S.faults source.old source.new in
         let output = output_of K.taken K.faults sink.old sink.new in
         ¬ IsRunStatus result → (line : Line) × (result ≡ line_status line)
-        × Causes line words.now input (length addons.old.items) × WroteLine output (line_text line) }
+        × Causes Demand.Nothing line words.now input (length addons.old.items) × WroteLine output (line_text line) }
     ensures left { ¬ IsRunStatus result → left.new ≡ left.old }
     ensures addons { ¬ IsRunStatus result → addons.new.items ≡ addons.old.items }
 
     // The same, status by status.
     ensures usage { (result ≡ 2) ↔ (is_run_words words.now ≡ false) }
     ensures no_script { let input = input_of S.left S.faults source.old source.new in
-        result ≡ 3 → GaveRefused input (length addons.old.items) }
+        result ≡ 3 → GaveRefused Demand.Nothing input (length addons.old.items) }
     ensures read_fault { result ≡ 4 → HasRisen (S.faults source.old) (S.faults source.new) }
     ensures write_fault { result ≡ 5 → HasRisen (K.faults sink.old) (K.faults sink.new) }
     ensures too_long { let input = input_of S.left S.faults source.old source.new in
@@ -221,9 +302,9 @@ pub fn host<R: Threads + Wait + Sync, S: Source, K: Sink, G: Gate>(
     ensures too_long_told { let input = input_of S.left S.faults source.old source.new in
         (bytes : List ℕ) → IsRead words.now input bytes → IsTooLong bytes → (result ≡ 7) ⊎ (result ≡ 6) }
     ensures refused_told { let input = input_of S.left S.faults source.old source.new in
-        (bytes : List ℕ) → IsRead words.now input bytes → IsRefused bytes (length addons.old.items) → (result ≡ 3) ⊎ (result ≡ 6) }
+        (bytes : List ℕ) → IsRead words.now input bytes → IsRefused Demand.Nothing bytes (length addons.old.items) → (result ≡ 3) ⊎ (result ≡ 6) }
     ensures complete { let input = input_of S.left S.faults source.old source.new in
-        (bytes : List ℕ) → IsRead words.now input bytes → IsRunnable bytes (length addons.old.items) → IsRunStatus result ⊎ (result ≡ 6) }
+        (bytes : List ℕ) → IsRead words.now input bytes → IsRunnable Demand.Nothing bytes (length addons.old.items) → IsRunStatus result ⊎ (result ≡ 6) }
 
     // Nothing is read where the words are no command line, and else no more than a front of what the source has left.
     ensures unread { is_run_words words.now ≡ false → S.left source.new ≡ S.left source.old }
@@ -232,9 +313,60 @@ pub fn host<R: Threads + Wait + Sync, S: Source, K: Sink, G: Gate>(
     ensures reading { S.faults source.old ≤ S.faults source.new }
     ensures writing { K.faults sink.old ≤ K.faults sink.new }
 {
-    match attempt(alloc, words, source, sink, addons, left) {
-        Ok(Written::Whole) => 0,
-        Ok(Written::Cut) => 5,
-        Err(line) => refuse(sink, line),
-    }
+    answer(alloc, Demand::Nothing, words, source, sink, addons, left)
+}
+
+/// Does the same, but that it runs a script with a schedule alone. It does not wait, and always returns.
+///
+/// Where all else is right and the script has no schedule, the status is 3 and the line `refused schedule` stands in place of the trace.
+pub fn host_scheduled<S: Source, K: Sink>(
+    alloc: Global,
+    words: &[Text],
+    source: &mut S,
+    sink: &mut K,
+    addons: &mut Vec<Box<dyn Addon>>,
+    left: &mut Record,
+) -> u8
+    // The clauses are those of `host`, where a schedule is demanded.
+    ensures known { IsStatus result }
+
+    ensures ran { let input = input_of S.left S.faults source.old source.new in
+        let output = output_of K.taken K.faults sink.old sink.new in
+        let before = handed_in (λ b. plan b) (λ b. regs b) (λ b. seen b) addons.old.items in
+        let after = handed_in (λ b. plan b) (λ b. regs b) (λ b. seen b) addons.new.items in
+        IsRunStatus result → (script : Script) × GaveScript input script × (is_met Demand.Schedule script ≡ true)
+        × HasRun script before left.new after × WroteTrace (result == 0) output (trace_of script left.new) }
+
+    ensures refused { let input = input_of S.left S.faults source.old source.new in
+        let output = output_of K.taken K.faults sink.old sink.new in
+        ¬ IsRunStatus result → (line : Line) × (result ≡ line_status line)
+        × Causes Demand.Schedule line words.now input (length addons.old.items) × WroteLine output (line_text line) }
+    ensures left { ¬ IsRunStatus result → left.new ≡ left.old }
+    ensures addons { ¬ IsRunStatus result → addons.new.items ≡ addons.old.items }
+
+    ensures usage { (result ≡ 2) ↔ (is_run_words words.now ≡ false) }
+    ensures no_script { let input = input_of S.left S.faults source.old source.new in
+        result ≡ 3 → GaveRefused Demand.Schedule input (length addons.old.items) }
+    ensures read_fault { result ≡ 4 → HasRisen (S.faults source.old) (S.faults source.new) }
+    ensures write_fault { result ≡ 5 → HasRisen (K.faults sink.old) (K.faults sink.new) }
+    ensures too_long { let input = input_of S.left S.faults source.old source.new in
+        result ≡ 7 → GaveTooMuch input }
+
+    ensures read_fault_told { S.faults source.new ≢ S.faults source.old → result ≡ 4 }
+    ensures write_fault_told { IsRunStatus result → K.faults sink.new ≢ K.faults sink.old → result ≡ 5 }
+
+    ensures too_long_told { let input = input_of S.left S.faults source.old source.new in
+        (bytes : List ℕ) → IsRead words.now input bytes → IsTooLong bytes → (result ≡ 7) ⊎ (result ≡ 6) }
+    ensures refused_told { let input = input_of S.left S.faults source.old source.new in
+        (bytes : List ℕ) → IsRead words.now input bytes → IsRefused Demand.Schedule bytes (length addons.old.items) → (result ≡ 3) ⊎ (result ≡ 6) }
+    ensures complete { let input = input_of S.left S.faults source.old source.new in
+        (bytes : List ℕ) → IsRead words.now input bytes → IsRunnable Demand.Schedule bytes (length addons.old.items) → IsRunStatus result ⊎ (result ≡ 6) }
+
+    ensures unread { is_run_words words.now ≡ false → S.left source.new ≡ S.left source.old }
+    ensures uncounted { is_run_words words.now ≡ false → S.faults source.new ≡ S.faults source.old }
+    ensures front { GaveFront (S.left source.old) (S.left source.new) }
+    ensures reading { S.faults source.old ≤ S.faults source.new }
+    ensures writing { K.faults sink.old ≤ K.faults sink.new }
+{
+    answer(alloc, Demand::Schedule, words, source, sink, addons, left)
 }

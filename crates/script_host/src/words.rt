@@ -25,10 +25,10 @@ pub(crate) enum Line {
     Shape(Text),
     /// They are a JSON text with more of something than a script may have.
     Limit(LimitName),
-    /// They are a script, and something in it is not built.
-    Stage,
     /// The script names more addons than were handed in.
     TooManyAddons,
+    /// It has no schedule, and one is demanded.
+    Schedule,
     /// There was no memory before the trace began.
     NoMemory,
     /// The source failed.
@@ -64,8 +64,8 @@ impl Line {
             Line::Limit(which) => put_text(sink, limit_line(*which)),
             Line::Usage => put_text(sink, "usage: napi_host run\n"),
             Line::NotJson => put_text(sink, "refused json\n"),
-            Line::Stage => put_text(sink, "refused stage\n"),
             Line::TooManyAddons => put_text(sink, limit_line(LimitName::Addons)),
+            Line::Schedule => put_text(sink, "refused schedule\n"),
             Line::NoMemory => put_text(sink, "out of memory\n"),
             Line::ReadFault => put_text(sink, "read fault\n"),
             Line::TooLong => put_text(sink, "refused length\n"),
@@ -78,8 +78,11 @@ impl Line {
     {
         match self {
             Line::Usage => 2,
-            Line::NotJson | Line::Shape(_) | Line::Limit(_) | Line::Stage | Line::TooManyAddons =>
-                3,
+            Line::NotJson
+            | Line::Shape(_)
+            | Line::Limit(_)
+            | Line::TooManyAddons
+            | Line::Schedule => 3,
             Line::ReadFault => 4,
             Line::NoMemory => 6,
             Line::TooLong => 7,

@@ -1,4 +1,4 @@
-use Rattle.script_host.proofs.Small.{small-of}
+use Rattle.script_host.proofs.SmallActors.{small-of}
 use Rattle.script_host.proofs.top_call.script_of.Goals as goal
 
 pub returns-in-Ok-read_script-clause-small : goal.returns-in-Ok-read_script-clause-small
