@@ -1,0 +1,119 @@
+//! What lies under the lock: the hub's state, in a box.
+ghost use Rattle.std.specs.Prelude.{◌≡◌, ◌-◌, ◌<◌, true, None, IsTrue};
+ghost use Rattle.napi_types.specs.hub.Hub.{threads_left};
+ghost use Rattle.napi_types.specs.hub.HubCalls.{is_thread_call};
+ghost use Rattle.napi_types.specs.plain.Lists.{has_number};
+ghost use Rattle.shared_hub.specs.KeptHubs.{IsLedHub};
+ghost use Rattle.napi_types.specs.parts.Pool.{executed_by};
+ghost use Rattle.napi_types.specs.hub.ThreadSteps.{is_gone_on};
+ghost use Rattle.napi_types.specs.hub.WorkerSteps.{is_worker_there};
+ghost use Rattle.shared_hub.specs.HubStates.{AddsEntry};
+ghost use Rattle.shared_hub.specs.SharedTries.{MayEnd};
+ghost use Rattle.hub_lock.specs.LockedTurns.{AfterCall};
+ghost use Rattle.hub_lock.specs.Working.{Executes, finish_entry, AfterStart};
+ghost use Rattle.hub_lock.specs.LockedEnds.{AfterEnd};
+
+use async_work::{Job, Picked, Ran};
+use napi_types::{Actor, Call, Why};
+use shared_hub::{HubState, Naming, ThreadTried, WaitsFor};
+use turn_lock::Told;
+
+/// The state, as it lies under the lock, which moves its box alone.
+#[derive(Drop)]
+pub struct Locked<S: Told> {
+    pub state: Box<S>,
+}
+
+impl<S: Told> Told for Locked<S> {
+    ghost told = { λ l. S.told l.state.value };
+
+    fn told_len(&self) -> u64 {
+        self.state.told_len()
+    }
+}
+
+impl<J: Job, N: Naming> Locked<HubState<J, N>> {
+    /// Does nothing. Its contract tells what the state's type keeps: see [`HubState::knows`].
+    pub fn knows(&self)
+        ensures { IsLedHub N.numbers self.now.state.value }
+    {
+        self.state.knows();
+    }
+
+    /// A call of the thread that has the pass of this number. Where it waits, for `go` or for room, the thread will sleep.
+    pub(crate) fn call(&mut self, number: u32, step: u32, call: &Call) -> ThreadTried
+        requires thread { 0 < number }
+        requires left { has_number (number - 1) (threads_left self.old.state.value.hub) ≡ true }
+        requires kind { is_thread_call call.now ≡ true }
+        ensures after { AfterCall N.numbers (number - 1) step call.now self.old.state.value result self.new.state.value }
+        ensures known { IsLedHub N.numbers self.new.state.value }
+    {
+        if !self.state.is_live() {
+            self.state.note_sleep(number, WaitsFor::Go);
+            self.state.knows();
+            return ThreadTried::Wait;
+        }
+        let tried = self.state.thread_call(number - 1, step, call);
+        self.note_wait(number, call, &tried);
+        self.state.knows();
+        tried
+    }
+
+    /// The thread will sleep, where its call waits.
+    fn note_wait(&mut self, number: u32, call: &Call, tried: &ThreadTried)
+        ensures { self.new.state.value ≡ self.old.state.value }
+    {
+        if let (ThreadTried::Wait, Call::CallThreadsafeFunction(id, _, _)) = (tried, call) {
+            self.state.note_sleep(number, WaitsFor::Room(*id));
+        }
+    }
+
+    /// A start of the worker that has the pass of this number. Where there is nothing to start it will sleep.
+    #[tactic(auto, using(crate::proofs::LockedWorkers::start_after))]
+    pub(crate) fn start(&mut self, number: u32, worker: u32) -> Picked<J>
+        requires there { IsTrue (is_worker_there self.old.state.value.hub worker) }
+        requires free { executed_by self.old.state.value.hub.pool worker ≡ None }
+        ensures after { AfterStart worker self.old.state.value result self.new.state.value }
+        ensures known { IsLedHub N.numbers self.new.state.value }
+    {
+        let picked = self.state.start(worker);
+        self.note_idle(number, &picked);
+        self.state.knows();
+        picked
+    }
+
+    /// The worker will sleep, where there was nothing to start.
+    fn note_idle(&mut self, number: u32, picked: &Picked<J>)
+        ensures { self.new.state.value ≡ self.old.state.value }
+    {
+        if let Picked::Nothing = picked {
+            self.state.note_sleep(number, WaitsFor::Work);
+        }
+    }
+
+    /// The finish of a work that a worker executed.
+    pub(crate) fn finish(&mut self, worker: u32, ran: Ran)
+        requires { Executes worker ran.number ran.value self.old.state.value.hub }
+        ensures after { AddsEntry self.old.state.value (finish_entry worker ran.value) self.new.state.value }
+        ensures known { IsLedHub N.numbers self.new.state.value }
+    {
+        self.state.finish(worker, ran);
+        self.state.knows();
+    }
+
+    /// The end of the actor that has the pass of this number, where it may come. A thread before `go` will sleep.
+    pub(crate) fn end(&mut self, number: u32, actor: Actor, cut: Option<Why>) -> bool
+        requires { is_gone_on self.old.state.value.hub.stage ≡ true → MayEnd self.old.state.value.hub actor cut }
+        ensures after { AfterEnd actor cut self.old.state.value result self.new.state.value }
+        ensures known { IsLedHub N.numbers self.new.state.value }
+    {
+        if !self.state.is_live() {
+            self.state.note_sleep(number, WaitsFor::Go);
+            self.state.knows();
+            return false;
+        }
+        self.state.actor_end(actor, cut);
+        self.state.knows();
+        true
+    }
+}
