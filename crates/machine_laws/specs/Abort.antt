@@ -15,6 +15,7 @@ use Rattle.napi_types.specs.declared.status.Status.{Status}
 use Rattle.napi_types.specs.declared.status.Status.TheVariants as status
 use Rattle.napi_types.specs.plain.Texts.{fixed_texts}
 use Rattle.napi_types.specs.plain.Weave.{weave}
+use Rattle.napi_types.specs.scripts.Summary.{summary}
 use Rattle.napi_types.specs.scripts.Text.{text}
 use Rattle.napi_types.specs.runs.Setting.{Setting}
 use Rattle.machine_laws.specs.HubWords.{shared_journal, script_for, next_after, item, finalizer, function, shared_at, shared_making, target_at, function_created, calls_function, releases, begins, item_begins, runs_empty, function_closes, function_finishes}
@@ -107,6 +108,11 @@ Prints = text fixed_texts trace ≡
     ++ codes "25 env drain 0 0\n"
     ++ codes "26 env finals 0 -\n"
     ++ codes "27 env gone 0 -\n"
+
+-- its summary counts the torn items too
+abbrev pub SumsUp : Type 0
+SumsUp = summary trace ≡ codes "entries 27\ncalls 10\naccepted 3\nitems 3\nworks 0\nstarted 0\n"
+    ++ codes "completions 0\nfinalizers 1\nhooks 0\nwithdrawn 0\nrefused 5\npayload 6\n"
 
 -- NEAR MISSES
 pub record IsStrict : Type 0 where

@@ -8,6 +8,7 @@ use Rattle.napi_types.specs.declared.entry.Out.TheVariants as out
 use Rattle.napi_types.specs.declared.status.Status.{Status}
 use Rattle.napi_types.specs.declared.status.Status.TheVariants as status
 use Rattle.napi_types.specs.plain.Texts.{fixed_texts}
+use Rattle.napi_types.specs.scripts.Summary.{summary}
 use Rattle.napi_types.specs.scripts.Text.{text}
 use Rattle.napi_types.specs.runs.Setting.{Setting}
 use Rattle.machine_laws.specs.RunWords.{script_of_entries, call_at, call_begins, call_ends, frame_ends, opening_entries, great_events, gone_entry, opening_lines, handle}
@@ -77,6 +78,11 @@ Prints = text texts trace ≡
     ++ codes "13 env drain 0 0\n"
     ++ codes "14 env finals 0 -\n"
     ++ codes "15 env gone 0 -\n"
+
+-- its summary counts five calls: the call of a function that was accepted is none
+abbrev pub SumsUp : Type 0
+SumsUp = summary trace ≡ codes "entries 15\ncalls 5\naccepted 0\nitems 0\nworks 0\nstarted 0\n"
+    ++ codes "completions 0\nfinalizers 0\nhooks 0\nwithdrawn 0\nrefused 0\npayload 0\n"
 
 -- near misses are no runs
 pub record IsStrict : Type 0 where

@@ -12,6 +12,7 @@ use Rattle.napi_types.specs.declared.status.Status.TheVariants as status
 use Rattle.napi_types.specs.plain.Texts.{fixed_texts}
 use Rattle.napi_types.specs.plain.Weave.{weave}
 use Rattle.napi_types.specs.scripts.Plans.{registers_of}
+use Rattle.napi_types.specs.scripts.Summary.{summary}
 use Rattle.napi_types.specs.scripts.Text.{text}
 use Rattle.napi_types.specs.runs.Setting.{Setting, final_registers}
 use Rattle.machine_laws.specs.HubWords.{work_lines, shared_journal, script_for, next_after, work_duty, work, shared_at, shared_making, work_created, completion_begins, drains, finals, worker_starts, worker_ends}
@@ -78,6 +79,11 @@ Prints = text fixed_texts trace ≡
     ++ codes "15 w0 actor_end 0 -\n"
     ++ codes "16 env finals 0 -\n"
     ++ codes "17 env gone 0 -\n"
+
+-- its summary counts the work and its completion, and no start
+abbrev pub SumsUp : Type 0
+SumsUp = summary trace ≡ codes "entries 17\ncalls 6\naccepted 0\nitems 0\nworks 1\nstarted 0\n"
+    ++ codes "completions 1\nfinalizers 0\nhooks 0\nwithdrawn 0\nrefused 2\npayload 0\n"
 
 -- the addon keeps the work's number, and the gifts of the completion: 11, the value 0, and the payload
 abbrev pub Keeps : Type 0

@@ -10,6 +10,7 @@ use Rattle.napi_types.specs.declared.entry.Out.TheVariants as out
 use Rattle.napi_types.specs.declared.status.Status.{Status}
 use Rattle.napi_types.specs.declared.status.Status.TheVariants as status
 use Rattle.napi_types.specs.plain.Texts.{fixed_texts}
+use Rattle.napi_types.specs.scripts.Summary.{summary}
 use Rattle.napi_types.specs.scripts.Text.{text}
 use Rattle.napi_types.specs.runs.Setting.{Setting}
 use Rattle.machine_laws.specs.RunWords.{script_of_entries, call_at, call_making, call_dropping, ticket, loop_ended, drain_entry, hook_begins, hook_runs, run_of_hooks, opening_lines, handle}
@@ -90,6 +91,11 @@ Prints = text fixed_texts trace ≡
     ++ codes "16 env drain 0 0\n"
     ++ codes "17 env finals 0 -\n"
     ++ codes "18 env gone 0 -\n"
+
+-- its summary counts the hook that ran, and the one that was withdrawn
+abbrev pub SumsUp : Type 0
+SumsUp = summary trace ≡ codes "entries 18\ncalls 8\naccepted 0\nitems 0\nworks 0\nstarted 0\n"
+    ++ codes "completions 0\nfinalizers 0\nhooks 1\nwithdrawn 1\nrefused 4\npayload 0\n"
 
 -- near misses are no runs
 pub record IsStrict : Type 0 where

@@ -16,6 +16,7 @@ use Rattle.napi_types.specs.declared.status.Status.{Status}
 use Rattle.napi_types.specs.declared.status.Status.TheVariants as status
 use Rattle.napi_types.specs.plain.Texts.{fixed_texts}
 use Rattle.napi_types.specs.plain.Weave.{weave}
+use Rattle.napi_types.specs.scripts.Summary.{summary}
 use Rattle.napi_types.specs.scripts.Text.{text}
 use Rattle.napi_types.specs.hub.Waits.{waits_at}
 use Rattle.napi_types.specs.runs.Setting.{Setting}
@@ -106,6 +107,11 @@ Prints = text fixed_texts trace ≡
     ++ codes "19 env drain 0 0\n"
     ++ codes "20 env finals 0 -\n"
     ++ codes "21 env gone 0 -\n"
+
+-- its summary sums up the payloads of the two items alone: the two refused calls make none
+abbrev pub SumsUp : Type 0
+SumsUp = summary trace ≡ codes "entries 21\ncalls 6\naccepted 2\nitems 2\nworks 0\nstarted 0\n"
+    ++ codes "completions 0\nfinalizers 0\nhooks 0\nwithdrawn 0\nrefused 2\npayload 17\n"
 
 -- NEAR MISSES
 pub record IsStrict : Type 0 where

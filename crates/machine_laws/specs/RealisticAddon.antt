@@ -18,6 +18,7 @@ use Rattle.napi_types.specs.declared.status.Status.TheVariants as status
 use Rattle.napi_types.specs.plain.Texts.{fixed_texts}
 use Rattle.napi_types.specs.plain.Weave.{weave}
 use Rattle.napi_types.specs.scripts.Plans.{registers_of}
+use Rattle.napi_types.specs.scripts.Summary.{summary}
 use Rattle.napi_types.specs.scripts.Text.{text}
 use Rattle.napi_types.specs.hub.Actors.{Free, Over, worker_along}
 use Rattle.napi_types.specs.runs.Setting.{Setting, final_registers}
@@ -163,6 +164,11 @@ Prints = text texts trace ≡
     ++ codes "38 env begin 0 finalize:0.3:#1\n"
     ++ codes "39 env end 0 -\n"
     ++ codes "40 env gone 0 -\n"
+
+-- its summary counts the items and sums up their payloads
+abbrev pub SumsUp : Type 0
+SumsUp = summary trace ≡ codes "entries 40\ncalls 17\naccepted 2\nitems 2\nworks 1\nstarted 1\n"
+    ++ codes "completions 1\nfinalizers 1\nhooks 0\nwithdrawn 0\nrefused 0\npayload 3\n"
 
 -- the addon keeps the numbers of its function, its object's handle, its reference, its work and the last item's handles, and the finalizer's gift, the payload
 abbrev pub Keeps : Type 0

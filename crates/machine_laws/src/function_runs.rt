@@ -20,6 +20,7 @@ pub fn pending_exception_runs()
 pub fn call_and_error_runs()
     ensures ends { EndsAsTold call_and_error.setting call_and_error.trace }
     ensures prints { call_and_error.Prints }
+    ensures sums { call_and_error.SumsUp }
 
     // The call's frame is of no other entry, its end has no other status and handle, the value is what was returned, and the error is not caught.
     ensures strict { call_and_error.IsStrict }

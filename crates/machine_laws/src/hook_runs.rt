@@ -7,6 +7,7 @@ ghost use Rattle.machine_laws.specs.InstanceDataRun as instance_data;
 pub fn doubled_hooks_run()
     ensures ends { EndsAsTold doubled_hooks.setting doubled_hooks.trace }
     ensures prints { doubled_hooks.Prints }
+    ensures sums { doubled_hooks.SumsUp }
 
     // The hook that stays begins alone, once, after the loop and before `drain`. What is doubled is refused, and in the hook no other one is added.
     ensures strict { doubled_hooks.IsStrict }

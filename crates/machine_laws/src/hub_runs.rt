@@ -22,6 +22,7 @@ pub fn realistic_addon_runs()
     ensures ends { EndsOnItsLists realistic_addon.setting realistic_addon.journal realistic_addon.history }
     ensures actors { realistic_addon.ActInOrder }
     ensures prints { realistic_addon.Prints }
+    ensures sums { realistic_addon.SumsUp }
     ensures registers { realistic_addon.Keeps }
     ensures strict { realistic_addon.IsStrict }
 {}
@@ -30,6 +31,7 @@ pub fn realistic_addon_runs()
 pub fn cancel_before_start_runs()
     ensures ends { EndsOnItsLists cancel_before_start.setting cancel_before_start.journal cancel_before_start.history }
     ensures prints { cancel_before_start.Prints }
+    ensures sums { cancel_before_start.SumsUp }
     ensures registers { cancel_before_start.Keeps }
     ensures strict { cancel_before_start.IsStrict }
 {}
@@ -73,6 +75,7 @@ pub fn full_queue_runs()
     ensures ends { EndsOnItsLists full_queue.setting full_queue.journal full_queue.history }
     ensures threads { ThreadsKeep full_queue.setting full_queue.scripts full_queue.history }
     ensures prints { full_queue.Prints }
+    ensures sums { full_queue.SumsUp }
     ensures strict { full_queue.IsStrict }
 {}
 
@@ -80,6 +83,7 @@ pub fn full_queue_runs()
 pub fn abort_runs()
     ensures ends { EndsOnItsLists abort.setting abort.journal abort.history }
     ensures prints { abort.Prints }
+    ensures sums { abort.SumsUp }
     ensures strict { abort.IsStrict }
 {}
 

@@ -1,4 +1,4 @@
--- Scripts and texts: which bytes are a script, how an operation is filled from registers, the text of a trace.
+-- Scripts and texts: which bytes are a script, how an operation is filled from registers, the text and the summary of a trace.
 pub mod Names
 pub mod Plans
 pub mod Registers
@@ -10,4 +10,5 @@ pub mod ScriptPaths
 pub mod ScriptReading
 pub mod ScriptSchedule
 pub mod ScriptThreads
+pub mod Summary
 pub mod Text

@@ -1,3 +1,4 @@
 pub mod Adding
+pub mod SummaryCounts
 pub mod Merging
 pub mod Weaving

@@ -1,3 +1,5 @@
+pub mod SummaryCounts
 pub mod Examples
 pub mod Merging
+pub mod SummaryLaws
 pub mod Writing

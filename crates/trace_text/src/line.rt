@@ -11,7 +11,8 @@ use crate::pending::{Pending, add};
 use itoa::{Buffer, Integer};
 use napi_types::{Actor, Cause, Duty, Entry, Out, Sink, Status, TextNo, Texts};
 
-fn add_number<K: Sink, I: Integer>(sink: &mut K, pending: &mut Pending, n: I)
+/// Adds a number in decimal.
+pub fn add_number<K: Sink, I: Integer>(sink: &mut K, pending: &mut Pending, n: I)
     ensures { Adds (stand (K.taken sink.old) (K.faults sink.old) pending.old) (I.text n)
         (stand (K.taken sink.new) (K.faults sink.new) pending.new) }
 {

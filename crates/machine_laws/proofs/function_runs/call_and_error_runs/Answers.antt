@@ -19,6 +19,10 @@ pub returns-clause-prints : goal.returns-clause-prints
 unfolding digits
 returns-clause-prints c = refl
 
+pub returns-clause-sums : goal.returns-clause-sums
+unfolding digits
+returns-clause-sums c = refl
+
 -- the entry that a begin tells, the number of a handle, and a number that is not negative
 abbrev told_entry : Out → ℕ
 told_entry (out.Begin c addon entry d) = entry

@@ -22,6 +22,10 @@ pub returns-clause-prints : goal.returns-clause-prints
 unfolding digits
 returns-clause-prints c = refl
 
+pub returns-clause-sums : goal.returns-clause-sums
+unfolding digits
+returns-clause-sums c = refl
+
 no-second : (s : Status) (d : Option Duty) → IsRun setting (set trace 3 (added_again s d)) → (s ≡ status.InvalidArg) × (d ≡ None)
 no-second s d r =
     let same : set trace 3 (added_again s d) ≡ _ = told-run setting (set trace 3 (added_again s d)) refl r in (

@@ -23,6 +23,10 @@ pub returns-clause-prints : goal.returns-clause-prints
 unfolding digits
 returns-clause-prints c = refl
 
+pub returns-clause-sums : goal.returns-clause-sums
+unfolding digits
+returns-clause-sums c = refl
+
 is-closing : (s : Status) (d : Option Duty) → IsRun setting (next_after 7 trace (late_call 5 s d)) → (s ≡ status.Closing) × (d ≡ None)
 is-closing s d r = let same : late_call 5 s d ≡ _ = told-entry setting _ 7 refl r in (ap (λ x. x.reply.status) same, ap (λ x. x.reply.made) same)
 

@@ -17,6 +17,10 @@ pub returns-clause-prints : goal.returns-clause-prints
 unfolding digits
 returns-clause-prints c = refl
 
+pub returns-clause-sums : goal.returns-clause-sums
+unfolding digits
+returns-clause-sums c = refl
+
 not-again : (s : Status) (d : Option Duty) → IsRun setting (next_after 5 trace (queued_again s d)) → (s ≡ status.GenericFailure) × (d ≡ None)
 not-again s d r = let same : queued_again s d ≡ _ = told-entry setting _ 5 refl r in (ap (λ x. x.reply.status) same, ap (λ x. x.reply.made) same)
 

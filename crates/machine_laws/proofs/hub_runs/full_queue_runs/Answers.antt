@@ -27,6 +27,10 @@ pub returns-clause-prints : goal.returns-clause-prints
 unfolding digits
 returns-clause-prints c = refl
 
+pub returns-clause-sums : goal.returns-clause-sums
+unfolding digits
+returns-clause-sums c = refl
+
 is-full : (s : Status) (d : Option Duty) → IsRun setting (next_after 4 trace (second_call s d)) → (s ≡ status.QueueFull) × (d ≡ None)
 is-full s d r = let same : second_call s d ≡ _ = told-entry setting _ 4 refl r in (ap (λ x. x.reply.status) same, ap (λ x. x.reply.made) same)
 

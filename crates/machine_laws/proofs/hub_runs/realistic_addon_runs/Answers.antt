@@ -22,6 +22,10 @@ pub returns-clause-prints : goal.returns-clause-prints
 unfolding digits
 returns-clause-prints c = refl
 
+pub returns-clause-sums : goal.returns-clause-sums
+unfolding digits
+returns-clause-sums c = refl
+
 no-other-value : (n : ℕ) → IsRun setting (next_after 10 trace (worker_finishes 0 n)) → n ≡ 55
 no-other-value n r = ap (λ x. told_number n x.reply.out) (told-entry setting _ 10 refl r)
 
