@@ -1,9 +1,9 @@
 -- How far the hub has come, as the code has it.
-use Rattle.std.specs.Prelude.{ℕ, ◌+◌, ◌-◌, Bool, true, nat_lt}
+use Rattle.std.specs.Prelude.{◌≡◌, ℕ, ◌+◌, ◌-◌, Bool, true, nat_lt, None}
 use Rattle.napi_types.specs.declared.entry.Actor.{Actor}
 use Rattle.napi_types.specs.declared.entry.Actor.TheVariants as actor
 use Rattle.napi_types.specs.plain.Room.{one_if}
-use Rattle.napi_types.specs.hub.Hub.{Stage, Before, Going, Looped, Drained, Final, stage_places}
+use Rattle.napi_types.specs.hub.Hub.{Hub, Stage, Before, Going, Looped, Drained, Final, stage_places}
 use Rattle.shared_hub.specs.declared.progress.HubProgress.{HubProgress}
 use Rattle.shared_hub.specs.declared.progress.HubStage.{HubStage}
 use Rattle.shared_hub.specs.declared.progress.HubStage.TheVariants as code
@@ -15,6 +15,10 @@ hub_stage code.Going = Going
 hub_stage code.Looped = Looped
 hub_stage code.Drained = Drained
 hub_stage code.Final = Final
+
+-- the hub is at this stage, and no frame of its own stands
+abbrev pub IsAtStage : Stage → Hub → Type 0
+IsAtStage s h = (h.stage ≡ s) × (h.standing ≡ None)
 
 -- the places of the history that the hub owes beside those of works and functions
 abbrev pub progress_places : HubProgress → ℕ

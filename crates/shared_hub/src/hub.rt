@@ -1,8 +1,10 @@
 //! The state of the hub, with its history.
-ghost use Rattle.std.specs.Prelude.{◌≡◌, ◌+◌, ◌≤◌, ◌&&◌, [], true, IfOk};
+ghost use Rattle.std.specs.Prelude.{◌≡◌, ◌+◌, ◌≤◌, ◌↔◌, ◌&&◌, [], true, IfOk};
 ghost use Rattle.napi_types.specs.plain.Room.{most_entries};
 ghost use Rattle.napi_types.specs.hub.HistoryRoom.{reserved_history};
+ghost use Rattle.napi_types.specs.hub.HubEvents.{may_move};
 ghost use Rattle.napi_types.specs.hub.ThreadSteps.{is_gone_on};
+ghost use Rattle.shared_hub.specs.HubProgress.{hub_stage, IsAtStage};
 ghost use Rattle.shared_hub.specs.HubStates.{hub_seen};
 ghost use Rattle.shared_hub.specs.KeptHubs.{IsLedHub};
 
@@ -13,7 +15,7 @@ mod workers;
 
 use crate::naming::Naming;
 use crate::parts::SharedParts;
-use crate::progress::HubProgress;
+use crate::progress::{HubProgress, HubStage};
 use crate::room::FIRST_PLACES;
 use crate::sleepers::{Sleepers, WaitsFor};
 use async_work::Job;
@@ -115,6 +117,21 @@ impl<J: Job, N: Naming> HubState<J, N> {
         self.progress.is_live()
     }
 
+    /// Whether the hub is at this stage, and no frame of its own stands: where `go`, `loop_end`, `drain` and `finals` ask for that stage
+    /// they may be called. Constant time.
+    pub fn is_at(&self, stage: HubStage) -> bool
+        ensures { (result ≡ true) ↔ IsAtStage (hub_stage stage) self.now.hub }
+    {
+        self.progress.stage == stage && !self.progress.stands
+    }
+
+    /// Whether the hub may be asked for its next move: see [`HubState::poll`]. Constant time.
+    pub fn may_poll(&self) -> bool
+        ensures { result ≡ may_move self.now.hub }
+    {
+        self.progress.is_moving() && !self.progress.stands
+    }
+
     /// Does nothing. Its contract tells what the type keeps: the history replays and has led to the hub, at the numbers that the type
     /// names, and its entries and the places that it owes are within the limit.
     pub fn knows(&self)
@@ -135,6 +152,11 @@ impl<J: Job, N: Naming> HubState<J, N> {
         ensures { self.new ≡ self.old }
     {
         self.sleepers.take_rings()
+    }
+
+    /// How often it was noted that a pass will sleep. It has no meaning: see [`HubState::note_sleep`].
+    pub fn sleeps(&self) -> u64 {
+        self.sleepers.sleeps()
     }
 
     /// How many workers there are. Constant time.

@@ -16,5 +16,6 @@ mod tries;
 
 pub use hub::HubState;
 pub use naming::{Naming, Numbers};
+pub use progress::HubStage;
 pub use sleepers::WaitsFor;
 pub use tries::{Polled, ThreadTried};

@@ -1,5 +1,6 @@
 //! How far the hub has come, and which of its actors are left.
 ghost use Rattle.std.specs.Prelude.{◌≡◌, ◌+◌, ◌-◌, ◌<◌, ◌==◌, ◌&&◌, true, false};
+ghost use Rattle.napi_types.specs.hub.HubEvents.{is_moving};
 ghost use Rattle.napi_types.specs.hub.ThreadSteps.{is_gone_on};
 ghost use Rattle.shared_hub.specs.HubProgress.{hub_stage, progress_places, is_left, without_actor};
 
@@ -7,7 +8,7 @@ use napi_types::Actor;
 
 /// Which of the hub's four great events was the last.
 #[derive(Clone, Copy, Debug, PartialEq, Eq)]
-pub(crate) enum HubStage {
+pub enum HubStage {
     /// None.
     Before,
     /// `go`.
@@ -73,6 +74,16 @@ impl HubProgress {
             Actor::Env => {}
             Actor::Thread(_) => self.threads_left -= 1,
             Actor::Worker(_) => self.workers_left -= 1,
+        }
+    }
+
+    /// Whether the hub makes moves at this stage, where no frame of its own stands. Constant time.
+    pub(crate) fn is_moving(&self) -> bool
+        ensures { result ≡ is_moving (hub_stage self.now.stage) }
+    {
+        match self.stage {
+            HubStage::Before | HubStage::Final => false,
+            HubStage::Going | HubStage::Looped | HubStage::Drained => true,
         }
     }
 

@@ -95,6 +95,11 @@ impl Sleepers {
         self.sleeps = self.sleeps.wrapping_add(1);
     }
 
+    /// How often one fell asleep.
+    pub(crate) fn sleeps(&self) -> u64 {
+        self.sleeps
+    }
+
     /// Which places are to be rung, a bit for each. None is after that.
     pub(crate) fn take_rings(&mut self) -> u64 {
         let rings = self.to_ring;
