@@ -5,3 +5,4 @@ pub mod LockedCallTurns
 pub mod LockedWorkers
 pub mod WorkTurns
 pub mod OpenedLocks
+pub mod SharedHubs

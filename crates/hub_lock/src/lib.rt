@@ -6,6 +6,7 @@
 mod bells;
 mod hub;
 mod locked;
+pub mod sending;
 
 pub use hub::Hub;
 pub use locked::Locked;

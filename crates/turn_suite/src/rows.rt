@@ -53,7 +53,7 @@ impl Rows {
 }
 
 /// A row of a pass.
-fn row_of(pass: u32) -> Row
+pub(crate) fn row_of(pass: u32) -> Row
     ensures { result.pass ≡ pass }
 {
     let entry = Entry {

@@ -8,8 +8,10 @@ use std::sync::Wait;
 use turn_lock::{Pass, Turn};
 
 mod counting;
+mod hub;
 mod many;
 mod waiting;
+mod waking;
 
 /// What was made where there was memory.
 fn ample<T>(rt: &impl Abort, outcome: Result<T, NoMemory>) -> T

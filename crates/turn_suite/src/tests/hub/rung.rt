@@ -1,0 +1,386 @@
+//! Who sleeps at the hub is rung by what gives a reason to.
+ghost use Rattle.std.specs.Prelude.{◌≡◌, ◌+◌, map};
+ghost use Rattle.std.specs.List.{range_with_len};
+ghost use Rattle.turn_lock.specs.Passes.{new_pass};
+ghost use Rattle.turn_suite.specs.EnvironmentTurns.{IsFirstPass, MayEnter};
+
+use super::actors::{Acts, act};
+use super::environment::{Does, Seen, turn};
+use super::{FUNCTION, LONG, OTHER, WHILE};
+use crate::tests::ample;
+use hub_lock::Hub;
+use napi_types::Limits;
+use script_addon::ScriptJob;
+use shared_hub::{HubState, Naming};
+use std::alloc::Global;
+use std::marker::Brand;
+use std::process::Abort;
+use std::sync::Wait;
+use std::sync::atomic::{AtomicU64, Ordering};
+use std::test::*;
+use std::thread::{Threads, join, sleep};
+use std::time::{Clock, Duration};
+use turn_lock::Pass;
+
+/// After how many doings of the environment each of two actors made its first entry, and the status of that.
+type Comes = [(u32, u16); 2];
+
+/// What the environment does first, what two actors do, the second of which begins once the first sleeps, what the environment does once
+/// both sleep, and what is expected. A thread comes before a worker.
+type Scene = (&'static [Does], [Acts; 2], &'static [Does], Comes);
+
+/// How often anybody fell asleep, and what came.
+type Found = (u64, Comes);
+
+/// A scene, how many of the two are threads, and the gate, which is open for the passes up to this number.
+#[derive(Drop)]
+struct Plan {
+    scene: Scene,
+    threads: u32,
+    gate: AtomicU64,
+}
+
+/// What opens the gate for both actors, but after a while.
+const LATE: u64 = 3;
+
+/// The queue is full.
+const FULL: &[Does] = &[Does::Makes(1, 1), Does::Goes];
+
+const GO: &[Does] = &[Does::Goes];
+
+const DRAIN: &[Does] = &[Does::EndsLoop, Does::Drains];
+
+/// Two passes are noted asleep, for room in the queue of the function.
+const ONE: Does = Does::Notes(1, FUNCTION);
+
+const TWO: Does = Does::Notes(2, FUNCTION);
+
+const CALLS: [Acts; 2] = [Acts::Calls, Acts::Calls];
+
+const LEAVES: [Acts; 2] = [Acts::Leaves, Acts::Leaves];
+
+const MOVE: &[Does] = &[Does::Moves];
+
+const MOVES: &[Does] = &[Does::Moves; 2];
+
+#[test]
+fn who_sleeps_is_rung(rt: HostRuntime) {
+    const BEGINS: [Acts; 2] = [Acts::Calls, Acts::Ends];
+    const WORKS: [Acts; 2] = [Acts::Works, Acts::Works];
+    const MIXED: [Acts; 2] = [Acts::Calls, Acts::Works];
+    const OPEN: &[Does] = &[Does::Makes(0, 0)];
+    const EIGHT: &[Does] = &[Does::Makes(8, 8), Does::Goes];
+    const NOTED: &[Does] = &[Does::Makes(8, 8), Does::Goes, ONE, TWO];
+    const LOW: &[Does] = &[Does::Makes(8, 2), Does::Goes, ONE, TWO];
+    const RELEASES: &[Does] = &[
+        Does::Releases,
+        Does::Releases,
+        Does::Releases,
+        Does::Moves,
+        Does::Moves,
+    ];
+    let scenes: &[Scene] = &[
+        (OPEN, BEGINS, GO, [(1, 0), (1, 0)]),
+        (FULL, CALLS, MOVES, [(1, 0), (2, 0)]),
+        (EIGHT, CALLS, &[Does::Moves; 5], [(4, 0), (5, 0)]),
+        (NOTED, LEAVES, &[Does::Moves; 6], [(4, 0), (6, 0)]),
+        (LOW, LEAVES, MOVES, [(1, 0), (2, 0)]),
+        (FULL, CALLS, RELEASES, [(4, 1), (5, 1)]),
+        (FULL, CALLS, &[Does::Aborts], [(1, 16), (1, 16)]),
+        (GO, WORKS, &[Does::Works; 2], [(1, 0), (2, 0)]),
+        (FULL, MIXED, DRAIN, [(2, 16), (2, 0)]),
+    ];
+    for scene in scenes {
+        assert_eq!(&rt; play(&rt, rt.alloc(), *scene), (2, scene.3));
+    }
+}
+
+/// One more is rung for each function, whenever the environment finds nothing to do.
+#[test]
+fn who_ends_once_rung_leaves_nobody_asleep(rt: HostRuntime) {
+    const NOTED: &[Does] = &[Does::Makes(1, 1), Does::Goes, ONE];
+    const LEFT: [Acts; 2] = [Acts::Leaves, Acts::Calls];
+    const BOTH: &[Does] = &[Does::Goes, ONE, TWO];
+    const EACH: &[Does] = &[Does::Goes, ONE, Does::Notes(2, OTHER)];
+    let scenes: &[Scene] = &[
+        (NOTED, LEFT, MOVES, [(1, 0), (2, 0)]),
+        (BOTH, LEAVES, MOVES, [(1, 0), (2, 0)]),
+        (EACH, LEAVES, MOVE, [(1, 0), (1, 0)]),
+    ];
+    for scene in scenes {
+        assert_eq!(&rt; play(&rt, rt.alloc(), *scene), (2, scene.3));
+    }
+}
+
+/// Any entry of a thread or a worker rings the environment.
+#[test]
+fn the_environment_is_rung(rt: HostRuntime) {
+    const CALL: [Acts; 2] = [Acts::Calls, Acts::Rests];
+    const END: [Acts; 2] = [Acts::Ends, Acts::Rests];
+    const WORK: [Acts; 2] = [Acts::Rests, Acts::Works];
+    const OPEN: &[Does] = &[Does::Makes(0, 0), Does::Goes];
+    const QUEUED: &[Does] = &[Does::Goes, Does::Works];
+    let scenes: &[(u64, Scene)] = &[
+        (1, (OPEN, CALL, &[Does::Sleeps(0)], [(1, 0), (0, 0)])),
+        (1, (GO, END, &[Does::Sleeps(0)], [(1, 0), (0, 0)])),
+        (2, (QUEUED, WORK, &[Does::Sleeps(1)], [(0, 0), (1, 0)])),
+    ];
+    for (sleeps, scene) in scenes {
+        assert_eq!(&rt; play(&rt, rt.alloc(), *scene), (*sleeps, scene.3));
+    }
+}
+
+/// A scene at a hub of its own.
+fn play<R: Threads + Wait + Clock + Abort + Sync>(rt: &R, alloc: Global, scene: Scene) -> Found {
+    let [first, second] = scene.1;
+    let workers = u32::from(first == Acts::Works) + u32::from(second == Acts::Works);
+    play_with::<Brand, _>(rt, alloc, scene, 2 - workers, workers)
+}
+
+fn play_with<N: Naming + Send, R: Threads + Wait + Clock + Abort + Sync>(
+    rt: &R,
+    alloc: Global,
+    scene: Scene,
+    threads: u32,
+    workers: u32,
+) -> Found
+    requires named { N.numbers ≡ record { threads = threads; workers = workers; limits = record { journal = 0; history = 999 } } }
+    requires two { threads + workers ≡ 2 }
+{
+    let limits = Limits {
+        journal: 0,
+        history: 999,
+    };
+    let state = ample(
+        rt,
+        HubState::<ScriptJob, N>::new(alloc, threads, workers, limits),
+    );
+    let (hub, passes) = ample(rt, Hub::new(alloc, state, 3));
+    let plan = Plan {
+        scene,
+        threads,
+        gate: AtomicU64::new(0),
+    };
+    meet(rt, &hub, passes, &plan)
+}
+
+/// Where the environment and others meet. What starts threads knows no more of it.
+trait Meeting {
+    ghost use Rattle.std.specs.Prelude.{ℕ};
+    ghost use Rattle.turn_lock.specs.Passes.{PassState};
+
+    /// The pass is the environment's.
+    ghost leads: { Self → PassState → Type 0 };
+
+    /// The pass is another's, where there are so many threads.
+    ghost enters: { Self → ℕ → PassState → Type 0 };
+
+    fn lead<R: Wait + Clock>(&self, rt: &R, pass: Pass, plan: &Plan) -> Found
+        requires { leads self.now pass };
+
+    fn enter<R: Wait + Clock>(&self, rt: &R, pass: Pass, plan: &Plan)
+        requires { enters self.now plan.now.threads pass };
+}
+
+impl<N: Naming> Meeting for Hub<ScriptJob, N> {
+    ghost leads = { λ hub p. IsFirstPass hub p };
+
+    ghost enters = { λ hub threads p. MayEnter N.numbers threads hub p };
+
+    fn lead<R: Wait + Clock>(&self, rt: &R, pass: Pass, plan: &Plan) -> Found {
+        lead(rt, self, pass, plan)
+    }
+
+    fn enter<R: Wait + Clock>(&self, rt: &R, pass: Pass, plan: &Plan) {
+        enter(rt, self, pass, plan)
+    }
+}
+
+/// The environment and both actors.
+fn meet<N: Naming + Send, R: Threads + Wait + Clock + Sync>(
+    rt: &R,
+    hub: &Hub<ScriptJob, N>,
+    mut passes: Vec<Pass>,
+    plan: &Plan,
+) -> Found
+    requires new { passes.items ≡ map (new_pass hub.now.lock) (range_with_len 0 3) }
+    requires threads { plan.now.threads ≡ N.numbers.threads }
+    requires two { plan.now.threads + N.numbers.workers ≡ 2 }
+{
+    let second = passes.remove(2);
+    let first = passes.remove(1);
+    let pass = passes.remove(0);
+    meet_at(rt, hub, pass, first, second, plan)
+}
+
+/// Each in a thread of its own.
+fn meet_at<H: Meeting + Sync, R: Threads + Wait + Clock + Sync>(
+    rt: &R,
+    hub: &H,
+    pass: Pass,
+    first: Pass,
+    second: Pass,
+    plan: &Plan,
+) -> Found
+    requires pass { H.leads hub.now pass }
+    requires first { H.enters hub.now plan.now.threads first }
+    requires second { H.enters hub.now plan.now.threads second }
+{
+    let (found, _) = join(
+        rt,
+        || -> Found
+            requires { H.leads hub.now pass }
+        { hub.lead(rt, pass, plan) },
+        || -> ()
+            requires { H.enters hub.now plan.now.threads first × H.enters hub.now plan.now.threads second }
+        { enter_both(rt, hub, first, second, plan) },
+    );
+    found
+}
+
+/// Both actors, each in a thread of its own.
+fn enter_both<H: Meeting + Sync, R: Threads + Wait + Clock + Sync>(
+    rt: &R,
+    hub: &H,
+    first: Pass,
+    second: Pass,
+    plan: &Plan,
+)
+    requires first { H.enters hub.now plan.now.threads first }
+    requires second { H.enters hub.now plan.now.threads second }
+{
+    join(
+        rt,
+        || -> ()
+            requires { H.enters hub.now plan.now.threads first }
+        { hub.enter(rt, first, plan) },
+        || -> ()
+            requires { H.enters hub.now plan.now.threads second }
+        { hub.enter(rt, second, plan) },
+    );
+}
+
+/// An actor acts once the gate is open for it.
+fn enter<N: Naming, R: Wait + Clock>(rt: &R, hub: &Hub<ScriptJob, N>, pass: Pass, plan: &Plan)
+    requires { MayEnter N.numbers plan.now.threads hub.now pass }
+{
+    let number = u64::from(pass.number());
+    for _ in rt.forever() {
+        if plan.gate.load(Ordering::SeqCst) >= number {
+            break;
+        }
+        sleep(rt, Duration::from_millis(1));
+    }
+    if plan.gate.load(Ordering::SeqCst) == LATE {
+        sleep(rt, Duration::from_millis(LONG));
+    }
+    let [first, second] = plan.scene.1;
+    act(
+        rt,
+        hub,
+        pass,
+        plan.threads,
+        if number == 1 { first } else { second },
+    );
+}
+
+/// What the environment does. At the end all that sleep are rung.
+fn lead<N: Naming, R: Wait + Clock>(
+    rt: &R,
+    hub: &Hub<ScriptJob, N>,
+    mut pass: Pass,
+    plan: &Plan,
+) -> Found
+    requires { IsFirstPass hub.now pass }
+{
+    for does in plan.scene.0 {
+        turn(rt, hub, &mut pass, plan.threads, *does);
+    }
+    if let Some(Does::Sleeps(_)) = plan.scene.2.first() {
+        plan.gate.store(LATE, Ordering::SeqCst);
+    } else {
+        plan.gate.store(1, Ordering::SeqCst);
+        await_that(rt, hub, &mut pass, plan, 1, 0);
+        plan.gate.store(2, Ordering::SeqCst);
+        await_that(rt, hub, &mut pass, plan, 2, 0);
+    }
+    let mut found = (0, [(0, 0), (0, 0)]);
+    let mut at: u32 = 0;
+    for does in plan.scene.2 {
+        at = at.saturating_add(1);
+        act_or_sleep(rt, hub, &mut pass, plan, *does);
+        let seen = await_that(rt, hub, &mut pass, plan, 0, at);
+        let [first, second] = found.1;
+        found = (
+            seen.sleeps,
+            [
+                note(first, at, seen.first[0]),
+                note(second, at, seen.first[1]),
+            ],
+        );
+    }
+    for does in [Does::Goes, Does::EndsLoop, Does::Drains] {
+        turn(rt, hub, &mut pass, plan.threads, does);
+    }
+    found
+}
+
+/// The environment takes its turn. Where it is to sleep it does until others have made more entries.
+fn act_or_sleep<N: Naming, R: Wait>(
+    rt: &R,
+    hub: &Hub<ScriptJob, N>,
+    pass: &mut Pass,
+    plan: &Plan,
+    does: Does,
+)
+    requires ready { IsFirstPass hub.now pass.old }
+    ensures ready { IsFirstPass hub.now pass.new }
+{
+    for _ in rt.forever() {
+        let seen = turn(rt, hub, pass, plan.threads, does);
+        match does {
+            Does::Sleeps(known) if seen.others <= known => hub.sleep(rt, 0),
+            _ => return,
+        }
+    }
+    unreachable!()
+}
+
+/// Looks until so many fell asleep and all that is expected after so many doings came, but no longer than some seconds. And once more
+/// after a while.
+fn await_that<N: Naming, R: Wait + Clock>(
+    rt: &R,
+    hub: &Hub<ScriptJob, N>,
+    pass: &mut Pass,
+    plan: &Plan,
+    sleeps: u64,
+    at: u32,
+) -> Seen
+    requires ready { IsFirstPass hub.now pass.old }
+    ensures ready { IsFirstPass hub.now pass.new }
+{
+    let [first, second] = plan.scene.3;
+    for _ in 0..1000 {
+        let seen = turn(rt, hub, pass, plan.threads, Does::Looks);
+        let come = has_come(first.0, at, seen.first[0]) && has_come(second.0, at, seen.first[1]);
+        if come && seen.sleeps >= sleeps {
+            break;
+        }
+        sleep(rt, Duration::from_millis(5));
+    }
+    sleep(rt, Duration::from_millis(WHILE));
+    turn(rt, hub, pass, plan.threads, Does::Looks)
+}
+
+/// Whether an actor has come, where it is expected by now.
+fn has_come(expected: u32, at: u32, first: Option<u16>) -> bool {
+    expected == 0 || expected > at || first.is_some()
+}
+
+/// The first entry of an actor, if it was not found before.
+fn note(before: (u32, u16), at: u32, first: Option<u16>) -> (u32, u16) {
+    match (before.0, first) {
+        (0, Some(status)) => (at, status),
+        _ => before,
+    }
+}
