@@ -19,12 +19,13 @@ use Rattle.napi_types.specs.runs.Machine.{Machine}
 use Rattle.napi_types.specs.runs.Parting.{sides_along}
 use Rattle.napi_types.specs.runs.Plan.{after_event, after_entry, frames_ask, asked, registers_after}
 use Rattle.napi_types.specs.runs.Run.{after, IsNext}
-use Rattle.napi_types.specs.runs.Setting.{Setting, opening_of, RunsBy, final_of, final_registers, planned_asks}
+use Rattle.napi_types.specs.runs.Setting.{Setting, EndsBy, opening_of, RunsBy, final_of, final_registers, planned_asks}
 use Rattle.napi_types.specs.runs.Step.{Step, step, locally}
 use Rattle.napi_types.proofs.plain.Weaves.{weave-local, sides-local, rises-append}
 use Rattle.napi_types.proofs.runs.Runs.{run-more, final-more, asked-more, registers-more, sides-more, begun-more}
 use Rattle.env_core.specs.Core.{Core, after_change, opened_core}
 use Rattle.env_loop.specs.Recording.{AddonStates, machine_of, AgreesWhereTold, AgreesWith, HasSeen, IsRecorded, IsEnded}
+use Rattle.env_loop.proofs.KeptPromises.{keeps-promises}
 use Rattle.env_loop.proofs.SeenLists.{seen-same, seen-more}
 
 -- what one more entry makes of a run by its asks
@@ -159,7 +160,8 @@ pub gone_change-ended : (s : Setting) (core : Core) (hub : Hub) (history : List 
     → core.env.phase ≡ phase.Gone → IsEnded s core.journal history all firsts
 gone_change-ended s core hub history all firsts r here = record {
   asks = r.asks;
-  ended = record { run = r.run; gone = ap (λ (m : Machine). m.env.phase) r.final ∙ here };
+  ended = ended;
+  promises = keeps-promises s r.asks (weave core.journal history) ended;
   journal_length = ap (λ (m : Machine). m.journal_length) r.final;
   history_length = ap (λ (m : Machine). m.history_length) r.final;
   rises = r.rises;
@@ -167,3 +169,6 @@ gone_change-ended s core hub history all firsts r here = record {
   agrees = subst (λ (own : Registers). AgreesWith s.plans all.registers own) (sym r.registers) r.agrees;
   seen = r.seen;
 }
+  where
+    ended : EndsBy s r.asks (weave core.journal history)
+    ended = record { run = r.run; gone = ap (λ (m : Machine). m.env.phase) r.final ∙ here }

@@ -1,7 +1,8 @@
 -- What the runs of actors and of the environment keep as rows come that others made.
-use Rattle.std.proofs.Common.{◌≡◌, ◌≢◌, ◌∙◌, ℕ, ◌+◌, Bool, true, false, List, [], ◌∷◌, ◌++◌, length, Some, refl, ap, sym, subst, arith, length-append}
+use Rattle.std.proofs.Common.{◌≡◌, ◌≢◌, ◌∙◌, ℕ, ◌+◌, Bool, true, false, List, [], ◌∷◌, ◌++◌, length, Some, refl, ap, sym, subst, arith, length-append, append_assoc}
 use Rattle.std.specs.List.{All}
 use Rattle.std.proofs.lemmas.Bool.Decides.{nat_tests}
+use Rattle.std.proofs.lemmas.List.{append-nil}
 use Rattle.std.proofs.lemmas.List.Elements.{All-nil, All-cons, All-head, All-tail, All-weaker}
 use Rattle.napi_types.specs.declared.entry.Actor.{Actor}
 use Rattle.napi_types.specs.declared.entry.Actor.TheVariants as actor
@@ -20,15 +21,16 @@ use Rattle.napi_types.proofs.hub.GrowingHistories.{fronts-replay, leads-more}
 use Rattle.napi_types.proofs.hub.RunningWorks.{running-stays-running}
 use Rattle.shared_hub.proofs.RowsOfHistories.{other-actor}
 use Rattle.shared_hub.specs.HubRows.{pass_of, row_of, rows_of}
-use Rattle.shared_hub.specs.KeptHubs.{IsLedHub}
+use Rattle.shared_hub.specs.HubStates.{HubSeen}
 use Rattle.shared_hub.specs.declared.naming.Numbers.{Numbers}
 use Rattle.env_loop.specs.ActorRuns.{entries_made, calls_left, HeldWork, NoWork, Started, Executed, IsHeld}
 use Rattle.env_loop.specs.ActorTurns.{actor_of}
 use Rattle.env_loop.specs.FollowedRuns.{IsFollowed}
-use Rattle.env_loop.specs.RunsOverRows.{OthersCame, ThreadRunsStandOverRows, WorkerRunsStandOverRows, ActorRunsStandOverRows, RunsAreFollowedOverRows}
+use Rattle.env_loop.specs.RecordedRuns.{Run, FitsHub}
+use Rattle.env_loop.specs.RunsOverRows.{OthersCame, ThreadRunsStandOverRows, WorkerRunsStandOverRows, ActorRunsStandOverRows, RunsAreFollowedOverRows, FittingRunsStandOverRows}
 use Rattle.env_loop.specs.declared.actor.ActorRun.{ActorRun}
 use Rattle.env_loop.specs.declared.actor.ActorRun.TheVariants as run
-use Rattle.env_loop.proofs.FollowedRuns.{others-may-add}
+use Rattle.env_loop.proofs.FollowedRuns.{others-may-add, fitting-runs-stand}
 
 -- ENTRIES OF OTHERS BY THEIR ROWS
 thread-apart : (threads t : ℕ) (who : Actor) → pass_of threads who ≢ pass_of threads (actor.Thread t) → is_thread t who ≡ false
@@ -120,16 +122,16 @@ worker-runs-stand-over n s new w led after of o = record {
 
     behind : GoesOnBehind n.limits.history n.threads n.workers s.history c.rest new.hub
     behind = fronts-replay n.limits.history n.threads n.workers s.history c.rest new.hub
-        (subst (λ xs. LeadsTo n.limits.history n.threads n.workers xs new.hub) c.goes_on after.led)
+        (subst (λ xs. LeadsTo n.limits.history n.threads n.workers xs new.hub) c.goes_on after)
 
     replays : HubReplays n.limits.history s.hub (length s.history) c.rest
-    replays = subst (λ h. HubReplays n.limits.history h (length s.history) c.rest) led.led.hub behind.replays
+    replays = subst (λ h. HubReplays n.limits.history h (length s.history) c.rest) led.hub behind.replays
 
     last : hub_along s.hub c.rest ≡ new.hub
-    last = ap (λ h. hub_along h c.rest) (sym led.led.hub) ∙ behind.hub
+    last = ap (λ h. hub_along h c.rest) (sym led.hub) ∙ behind.hub
 
     runs : (k : ℕ) → executed_by s.hub.pool w.number ≡ Some k → StillRuns w.number k s.hub (hub_along s.hub c.rest)
-    runs k is = still-runs n.limits.history n.threads n.workers w.number k s.history c.rest s.hub led.led replays others is
+    runs k is = still-runs n.limits.history n.threads n.workers w.number k s.history c.rest s.hub led replays others is
 
     by : (held : HeldWork) → IsHeld s.hub.pool w.number held → IsHeld (hub_along s.hub c.rest).pool w.number held
     by NoWork is = tt
@@ -145,3 +147,28 @@ runs-followed-over s r threads before after all firsts followed o =
     let c : Came threads 0 before after = came threads 0 before after o in
     subst (λ xs. IsFollowed s r xs all firsts) (sym c.goes_on)
     (others-may-add s r before c.rest all firsts followed (all-apart threads 0 is_environment (other-actor threads) c.rest c.others))
+
+-- the run fits on along the entries of others
+fits-along : (run : Run) (limit : ℕ) (front rest : List Entry) (h : Hub) → HubReplays limit h (length front) rest
+    → All (λ (x : Entry). is_environment x.actor ≡ false) rest → FitsHub run (record { hub = h; history = front })
+    → FitsHub run (record { hub = hub_along h rest; history = front ++ rest })
+fits-along run limit front [] h replays others fits = subst (λ xs. FitsHub run (record { hub = h; history = xs })) (sym (append-nil front)) fits
+fits-along run limit front (x ∷ rest) h replays others fits =
+    subst (λ xs. FitsHub run (record { hub = hub_along (hub_step h x).after rest; history = xs })) (append_assoc front (one x) rest)
+    (fits-along run limit (front ++ one x) rest (hub_step h x).after
+    (subst (λ m. HubReplays limit (hub_step h x).after m rest) (sym (length-append front (one x))) replays.2)
+    (All-tail (λ (y : Entry). is_environment y.actor ≡ false) x rest others)
+    (fitting-runs-stand run (record { hub = h; history = front }) (record { hub = (hub_step h x).after; history = front ++ one x }) x fits
+    (All-head (λ (y : Entry). is_environment y.actor ≡ false) x rest others) (record { next = replays.0; hub = refl; history = refl })))
+
+pub fitting-runs-stand-over : FittingRunsStandOverRows
+fitting-runs-stand-over n r s new led after fits o =
+    let c : Came n.threads 0 s.history new.history = came n.threads 0 s.history new.history o in
+    let behind : GoesOnBehind n.limits.history n.threads n.workers s.history c.rest new.hub =
+    fronts-replay n.limits.history n.threads n.workers s.history c.rest new.hub (subst (λ xs. LeadsTo n.limits.history n.threads n.workers xs new.hub) c.goes_on after) in
+    let replays : HubReplays n.limits.history s.hub (length s.history) c.rest = subst (λ h. HubReplays n.limits.history h (length s.history) c.rest) led.hub behind.replays in
+    let last : hub_along s.hub c.rest ≡ new.hub = ap (λ h. hub_along h c.rest) (sym led.hub) ∙ behind.hub in
+    let there : FitsHub r (record { hub = hub_along s.hub c.rest; history = s.history ++ c.rest }) =
+    fits-along r n.limits.history s.history c.rest s.hub replays (all-apart n.threads 0 is_environment (other-actor n.threads) c.rest c.others) fits in
+    subst (λ (h : Hub). FitsHub r (record { hub = h; history = new.history })) last
+    (subst (λ xs. FitsHub r (record { hub = hub_along s.hub c.rest; history = xs })) (sym c.goes_on) there)

@@ -95,6 +95,10 @@ pub ticket-is-next : (e : Environment) → (e.phase ≡ phase.Live → e.exit_as
     → IsNextEvent next.Ticket (local_choice e)
 ticket-is-next e unasked some = let k = some-there (next_ticket e) some in (k.0, ticket-decided e e.phase k.0 unasked k.1)
 
+-- in the loop, where exit was not asked
+pub loop_ticket : (e : Environment) → e.phase ≡ phase.Live → e.exit_asked ≡ false → is_some (next_ticket e) ≡ true → IsNextEvent next.Ticket (local_choice e)
+loop_ticket e live unasked some = ticket-is-next e (λ _. unasked) some
+
 -- one that begins is the one that is next
 pub same-ticket : (e : Environment) (n k : ℕ) → local_choice e ≡ Some (Tickets n) → next_ticket e ≡ Some k → local_choice e ≡ Some (Tickets k)
 same-ticket e n k is next = is ∙ ap (option_map Tickets) (sym (next-ticket-is e n is).next ∙ next)

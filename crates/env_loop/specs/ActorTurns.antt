@@ -1,14 +1,27 @@
 -- The run of an actor beside the environment, a thread's or a worker's, and its turns.
-use Rattle.std.specs.Prelude.{◌≡◌, true, Bool}
+use Rattle.std.specs.Prelude.{◌≡◌, ◌<◌, true, Bool, List, ◌++◌, map}
+use Rattle.std.specs.List.{range_with_len}
 use Rattle.napi_types.specs.declared.entry.Actor.{Actor}
 use Rattle.napi_types.specs.declared.entry.Actor.TheVariants as actor
 use Rattle.napi_types.specs.hub.Hub.{Hub}
 use Rattle.napi_types.specs.hub.Waits.{worker_waits}
 use Rattle.shared_hub.specs.HubStates.{HubSeen, hub_room}
 use Rattle.shared_hub.specs.declared.naming.Numbers.{Numbers}
-use Rattle.env_loop.specs.ActorRuns.{calls_left, IsThreadOf, SameThread, ThreadBlocked, StoppedAt, IsWorkerOf, IsHandsReady, IsHandsFree, held_executed}
+use Rattle.env_loop.specs.ActorRuns.{new_thread, new_worker, calls_left, IsThreadOf, SameThread, ThreadBlocked, StoppedAt, IsWorkerOf, IsHandsReady, IsHandsFree, held_executed}
 use Rattle.env_loop.specs.declared.actor.ActorRun.{ActorRun}
 use Rattle.env_loop.specs.declared.actor.ActorRun.TheVariants as run
+use Rattle.env_loop.specs.declared.actor.fresh.FreshActor.{FreshActor}
+use Rattle.env_loop.specs.declared.actor.fresh.FreshActor.TheVariants as idle
+
+-- the environment, or one of the threads or of the workers
+abbrev pub IsActorAt : Numbers → Actor → Type 0
+IsActorAt n actor.Env = Unit {0}
+IsActorAt n (actor.Thread t) = t < n.threads
+IsActorAt n (actor.Worker w) = w < n.workers
+
+-- the threads rising, and then the workers rising
+abbrev pub actors_of : Numbers → List Actor
+actors_of n = map (λ t. actor.Thread t) (range_with_len 0 n.threads) ++ map (λ w. actor.Worker w) (range_with_len 0 n.workers)
 
 module _ {J : Type 0} where
   -- who it is, and whether it has ended
@@ -55,3 +68,13 @@ module _ {J : Type 0} where
   abbrev pub StoppedSo : Numbers → HubSeen → ActorRun J → Type 0
   StoppedSo n s (run.OfThread t) = StoppedAt (hub_room n s) s.hub t.number (calls_left t)
   StoppedSo n s (run.OfWorker w) = Unit {0}
+
+  -- no turn of it was made
+  abbrev pub IsFreshActor : ActorRun J → Type 0
+  IsFreshActor (run.OfThread t) = t ≡ new_thread t.number t.operations
+  IsFreshActor (run.OfWorker w) = w ≡ new_worker w.number
+
+  -- the run of an actor, before its first turn
+  abbrev pub fresh_run : FreshActor → ActorRun J
+  fresh_run (idle.Thread t) = run.OfThread t
+  fresh_run (idle.Worker w) = run.OfWorker (new_worker w)

@@ -1,6 +1,7 @@
 pub mod ActorRuns
 pub mod ActorTurns
 pub mod FollowedRuns
+pub mod FreshAndEnded
 pub mod HeldWorks
 pub mod HubTurns
 pub mod OpenedAndGone

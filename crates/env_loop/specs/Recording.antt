@@ -2,6 +2,7 @@
 use Rattle.std.specs.Prelude.{◌≡◌, ℕ, ◌<◌, List, ◌++◌, length, Some, None}
 use Rattle.napi_types.specs.declared.call.Ask.{Ask}
 use Rattle.napi_types.specs.declared.duties.DueInfo.{DueInfo}
+use Rattle.napi_types.specs.declared.entry.Duty.TheVariants as duty
 use Rattle.napi_types.specs.declared.entry.Entry.{Entry}
 use Rattle.napi_types.specs.declared.entry.Local.{Local}
 use Rattle.napi_types.specs.declared.entry.Limits.{Limits}
@@ -16,6 +17,10 @@ use Rattle.napi_types.specs.runs.Begins.{begun_along, of_addon}
 use Rattle.napi_types.specs.runs.Machine.{Machine}
 use Rattle.napi_types.specs.runs.Parting.{IsParted}
 use Rattle.napi_types.specs.runs.Setting.{Setting, RunsBy, EndsBy, opening_of, final_of, final_registers}
+use Rattle.napi_types.specs.all_runs.CollectionLaw.{KeepsReached}
+use Rattle.napi_types.specs.all_runs.Counts.{Once, TellsStarts}
+use Rattle.napi_types.specs.all_runs.ItemOrder.{CountItems}
+use Rattle.napi_types.specs.all_runs.Order.{TicketsCount, HooksFall, FinalsRise}
 use Rattle.addon_trait.specs.Addons.{seen_of}
 use Rattle.env_core.specs.Core.{Core}
 
@@ -63,11 +68,29 @@ pub record IsRecorded (s : Setting) (core : Core) (hub : Hub) (history : List En
   pub rises : RisesBetween 0 (length history) core.journal
   pub parted : IsParted (opening_of s) asks core.journal history
 
--- a run that came to its end, as it is left: the weave of the two lists is a run of the script to `gone`, the journal stands in the order of
--- its places, each list has its own entries, the registers of the script's addons are the run's, and each addon has seen what began in the run
+-- what a run that came to its end has done with what its addons and threads made
+pub record KeepsPromises (s : Setting) (asks : List Ask) (trace : List Entry) : Type 0 where
+  -- each collection kept exactly what its roots reached
+  pub collected : KeepsReached (opening_of s) asks trace
+  -- tickets count from 1 in the order of registration; hooks began in the reverse of the order in which they were added, and what began after `finals` in the order
+  -- of registration
+  pub counted : TicketsCount trace
+  pub hooks : HooksFall trace
+  pub finals : FinalsRise trace
+  -- each completion, item, function's finalizer, finalizer and hook that was made and not withdrawn began exactly once, one that was withdrawn never, and no other
+  -- duty began
+  pub once : Once trace
+  -- the items of each thread-safe function count from 1 as they were accepted, and began in that order
+  pub items : (f : ℕ) → CountItems f trace
+  -- the completion of each work began as cancelled exactly where the work never started
+  pub completed : (n : ℕ) → TellsStarts (duty.Work n) trace
+
+-- a run that came to its end, as it is left: the weave of the two lists is a run of the script to `gone`, which keeps what it promises. The journal stands in
+-- the order of its places, each list has its own entries, the registers of the script's addons are the run's, and each addon has seen what began in the run
 pub record IsEnded (s : Setting) (journal : List Local) (history : List Entry) (all : AddonStates) (firsts : List (List DueInfo)) : Type 0 where
   pub asks : List Ask
   pub ended : EndsBy s asks (weave journal history)
+  pub promises : KeepsPromises s asks (weave journal history)
   pub journal_length : (final_of s asks (weave journal history)).journal_length ≡ length journal
   pub history_length : (final_of s asks (weave journal history)).history_length ≡ length history
   pub rises : RisesBetween 0 (length history) journal

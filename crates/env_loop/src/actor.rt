@@ -2,14 +2,16 @@
 ghost use Rattle.std.specs.Prelude.{◌≡◌, ◌≢◌, ◌↔◌, ◌≤◌, length, true, IsTrue};
 ghost use Rattle.std.specs.List.{All};
 ghost use Rattle.env_loop.specs.ActorRuns.{IsOperationOfThread, new_thread, new_worker, AddsEntryOf};
-ghost use Rattle.env_loop.specs.ActorTurns.{actor_of, is_over, IsActorOf, IsReady, HoldsNoWork, with_work_executed, IsSameActor, IsBlocked, StoppedSo};
+ghost use Rattle.env_loop.specs.ActorTurns.{actor_of, is_over, IsActorOf, IsReady, HoldsNoWork, with_work_executed, IsSameActor, IsFreshActor, fresh_run, IsBlocked, StoppedSo};
 
+mod fresh;
 pub mod standing;
 mod thread;
 mod worker;
 
 use async_work::Job;
-use napi_types::OpList;
+pub use fresh::{FreshActor, FreshThread};
+use napi_types::{OpList, TsfnId};
 use shared_hub::{HubState, Naming};
 pub use thread::ThreadRun;
 pub use worker::WorkerRun;
@@ -23,6 +25,21 @@ pub enum ActorTurn {
     Blocked,
     /// It has ended. Nothing changed.
     Ended,
+}
+
+/// What an actor does next, as far as its script and its hands say.
+#[derive(Clone, Copy, Debug, PartialEq, Eq)]
+pub enum NextStep {
+    /// A thread calls this function, and may wait for room in its queue.
+    Calls(TsfnId),
+    /// A thread makes another operation.
+    Operation,
+    /// A thread ends, or has ended.
+    Ends,
+    /// A worker executes the work that it started.
+    Executes,
+    /// A worker finishes, starts or ends at the hub, or has ended.
+    Serves,
 }
 
 /// The run of a thread of a script, or of a worker. It has to be spent, by [`ActorRun::retire`].
@@ -46,6 +63,16 @@ impl<J: Job> ActorRun<J> {
         ensures { result ≡ ActorRun.OfWorker (new_worker number) }
     {
         ActorRun::OfWorker(WorkerRun::new(number))
+    }
+
+    /// What it does next. A contract tells of it alone whether a work is to be executed before the next turn. Constant time.
+    pub fn next_step(&self) -> NextStep
+        ensures { result ≢ NextStep.Executes → IsReady self.now }
+    {
+        match self {
+            ActorRun::OfThread(thread) => thread.next_step(),
+            ActorRun::OfWorker(worker) => worker.next_step(),
+        }
     }
 
     /// Executes the work that it started, where it is a worker that holds one. It takes as long as the job does.
@@ -79,6 +106,17 @@ impl<J: Job> ActorRun<J> {
         }
     }
 
+    /// What it is made of, where no turn of it was made.
+    pub fn into_fresh(self) -> FreshActor
+        requires { IsFreshActor self }
+        ensures { fresh_run result ≡ self }
+    {
+        match self {
+            ActorRun::OfThread(thread) => FreshActor::Thread(thread.into_fresh()),
+            ActorRun::OfWorker(worker) => FreshActor::Worker(worker.into_number()),
+        }
+    }
+
     /// Ends the value, without an event. Nothing that it started is lost: it holds no work.
     pub fn retire(self)
         requires { HoldsNoWork self }
@@ -86,6 +124,21 @@ impl<J: Job> ActorRun<J> {
         match self {
             ActorRun::OfThread(thread) => thread.retire(),
             ActorRun::OfWorker(worker) => worker.retire(),
+        }
+    }
+}
+
+impl FreshActor {
+    /// Its run, before its first turn.
+    pub fn into_run<J: Job>(self) -> ActorRun<J>
+        ensures { result ≡ fresh_run self }
+    {
+        match self {
+            FreshActor::Thread(thread) => {
+                let (number, operations) = thread.into_parts();
+                ActorRun::thread(number, operations)
+            }
+            FreshActor::Worker(number) => ActorRun::worker(number),
         }
     }
 }

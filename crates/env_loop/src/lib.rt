@@ -10,6 +10,6 @@ pub mod recorded_laws;
 mod run;
 mod turn;
 
-pub use actor::{ActorRun, ActorTurn, ThreadRun, WorkerRun};
+pub use actor::{ActorRun, ActorTurn, FreshActor, FreshThread, NextStep, ThreadRun, WorkerRun};
 pub use run::{EnvRun, FrameEnd, HubTurn};
 pub use turn::LocalTurn;

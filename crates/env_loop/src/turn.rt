@@ -52,14 +52,27 @@ pub(crate) fn next_event(core: &EnvCore) -> NextEvent
             Some(addon) => NextEvent::Init(addon),
             None => NextEvent::OfHub,
         },
-        // Once exit was asked the loop ends, whatever is due.
-        Phase::Live if core.exit_asked() => NextEvent::Exit,
-        Phase::Live if core.has_local() => NextEvent::Ticket,
+        Phase::Live => loop_event(core),
         Phase::Hooks if core.has_local() => NextEvent::Ticket,
         Phase::Finals if core.has_local() => NextEvent::Ticket,
         Phase::Finals => NextEvent::Gone,
         _ => NextEvent::OfHub,
     }
+}
+
+/// Which event is next in the loop: once exit was asked its end, whatever is due, and until then a ticket, where one is due.
+#[tactic(auto, using(crate::proofs::TicketTurns::loop_ticket))]
+fn loop_event(core: &EnvCore) -> NextEvent
+    requires { core.now.env.phase ≡ Phase.Live }
+    ensures { IsNextEvent result (local_choice core.now.env) }
+{
+    if core.exit_asked() {
+        return NextEvent::Exit;
+    }
+    if !core.has_local() {
+        return NextEvent::OfHub;
+    }
+    NextEvent::Ticket
 }
 
 /// Why a frame is cut whose call stopped with this status.

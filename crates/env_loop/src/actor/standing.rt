@@ -1,6 +1,7 @@
 //! What the runs of threads and workers keep while others go on, as laws: each function does nothing, and its contract states a law.
 ghost use Rattle.env_loop.specs.ActorRuns.{ThreadRunsStand, WorkerRunsStand, ExecutedWorksStand};
 ghost use Rattle.env_loop.specs.RunsOverRows.{ActorRunsStandOverRows};
+ghost use Rattle.env_loop.specs.FreshAndEnded.{FreshActorsStand, EndedActorsHoldNoWork};
 
 use async_work::Job;
 
@@ -18,4 +19,14 @@ pub fn actor_runs_stand_over_rows<J: Job>()
 /// So does a worker's as it executes the work that it started.
 pub fn worker_runs_stand_as_works_are_executed()
     ensures { ExecutedWorksStand }
+{}
+
+/// An actor of which no turn was made is one of a hub's that opens.
+pub fn fresh_actors_stand<J: Job>()
+    ensures { FreshActorsStand J }
+{}
+
+/// One that has ended holds no work.
+pub fn ended_actors_hold_no_work<J: Job>()
+    ensures { EndedActorsHoldNoWork J }
 {}

@@ -11,7 +11,8 @@ ghost use Rattle.shared_hub.specs.HubStates.{hub_room};
 ghost use Rattle.shared_hub.specs.SharedTries.{actor_end_told as end_told_by};
 ghost use Rattle.env_loop.specs.ActorRuns.{IsOperationOfThread, new_thread, IsThreadOf, SameThread, ThreadBlocked, AddsEntryOf, StoppedAt, calls_left};
 
-use super::ActorTurn;
+use super::fresh::FreshThread;
+use super::{ActorTurn, NextStep};
 use async_work::Job;
 use napi_types::{Actor, Call, Op, OpList, Status, TsfnId, Why};
 use shared_hub::{HubState, Naming, ThreadTried};
@@ -48,6 +49,18 @@ impl ThreadRun {
             operations,
             made: 0,
             over: false,
+        }
+    }
+
+    /// What it does next.
+    pub(crate) fn next_step(&self) -> NextStep {
+        if self.over {
+            return NextStep::Ends;
+        }
+        match self.operations.items().get(self.made as usize) {
+            None => NextStep::Ends,
+            Some(Op::ThreadCall(id, _, _)) => NextStep::Calls(TsfnId(*id)),
+            Some(_) => NextStep::Operation,
         }
     }
 
@@ -100,6 +113,19 @@ impl ThreadRun {
         hub.knows();
         hub.actor_end(Actor::Thread(self.number), cut);
         self.over = true;
+    }
+
+    /// What it is made of, where no turn of it was made.
+    pub(crate) fn into_fresh(self) -> FreshThread
+        ensures { result ≡ new_thread self.number self.operations }
+    {
+        let ThreadRun {
+            number,
+            operations,
+            made: _,
+            over: _,
+        } = self;
+        FreshThread::new(number, operations)
     }
 
     /// Ends the value, without an event.

@@ -5,7 +5,7 @@ ghost use Rattle.napi_types.specs.hub.Waits.{worker_waits};
 ghost use Rattle.env_loop.specs.ActorRuns.{WorkerSeen, NoWork, Executed, new_worker, IsWorkerOf, IsHandsReady, IsHandsFree, held_executed, AddsEntryOf};
 ghost use Rattle.env_loop.specs.HeldWorks.{held_in};
 
-use super::ActorTurn;
+use super::{ActorTurn, NextStep};
 use async_work::{Job, Picked, Ran, Running};
 use napi_types::Actor;
 use shared_hub::{HubState, Naming};
@@ -48,6 +48,16 @@ impl<J: Job> WorkerRun<J> {
             number,
             hands: Hands::Empty,
             over: false,
+        }
+    }
+
+    /// What it does next.
+    pub(crate) fn next_step(&self) -> NextStep
+        ensures { result ≢ NextStep.Executes → IsHandsReady self.now.held }
+    {
+        match self.hands {
+            Hands::Started(_) => NextStep::Executes,
+            Hands::Empty | Hands::Executed(_) => NextStep::Serves,
         }
     }
 
@@ -112,6 +122,16 @@ impl<J: Job> WorkerRun<J> {
                 ActorTurn::Made
             }
         }
+    }
+
+    /// Its number. The value ends, without an event.
+    pub(crate) fn into_number(self) -> u32
+        requires { IsHandsFree self.held }
+        ensures { result ≡ self.number }
+    {
+        let number = self.number;
+        self.retire();
+        number
     }
 
     /// Ends the value, without an event.

@@ -3,11 +3,8 @@ use Rattle.napi_types.specs.declared.entry.Phase.TheVariants as phase
 use Rattle.env_loop.proofs.TicketTurns.{ticket-is-next}
 use Rattle.env_loop.proofs.turn.next_event.Goals as goal
 
-pub returns-in-Live-2 : goal.returns-in-Live-2
-returns-in-Live-2 c = ticket-is-next c.args.core.now.env (λ live. sym c.if-exit_asked.ensures) (sym c.if-has_local.ensures)
-
 pub returns-in-Hooks : goal.returns-in-Hooks
-returns-in-Hooks c = ticket-is-next c.args.core.now.env (λ live. let no : phase.Hooks ≡ phase.Live = c.in-Hooks.ensures ∙ live in cc) (sym c.if-has_local-2.ensures)
+returns-in-Hooks c = ticket-is-next c.args.core.now.env (λ live. let no : phase.Hooks ≡ phase.Live = c.in-Hooks.ensures ∙ live in cc) (sym c.if-has_local.ensures)
 
 pub returns-in-Finals : goal.returns-in-Finals
-returns-in-Finals c = ticket-is-next c.args.core.now.env (λ live. let no : phase.Finals ≡ phase.Live = c.in-Finals.ensures ∙ live in cc) (sym c.if-has_local-3.ensures)
+returns-in-Finals c = ticket-is-next c.args.core.now.env (λ live. let no : phase.Finals ≡ phase.Live = c.in-Finals.ensures ∙ live in cc) (sym c.if-has_local-2.ensures)

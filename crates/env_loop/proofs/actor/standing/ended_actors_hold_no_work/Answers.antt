@@ -1,0 +1,5 @@
+use Rattle.env_loop.proofs.FreshAndEnded.{ended-actors-hold-none}
+use Rattle.env_loop.proofs.actor.standing.ended_actors_hold_no_work.Goals as goal
+
+pub returns : goal.returns
+returns g c = ended-actors-hold-none g.row.J.Denot
