@@ -7,9 +7,9 @@ use Rattle.std.proofs.lemmas.List.FromFn.{length-map-range_with_len, get_or-map-
 use Rattle.napi_types.specs.declared.entry.Actor.{Actor}
 use Rattle.napi_types.specs.declared.entry.Actor.TheVariants as actor
 use Rattle.shared_hub.specs.declared.naming.Numbers.{Numbers}
-use Rattle.env_loop.specs.ActorTurns.{actor_of}
+use Rattle.env_loop.specs.ActorTurns.{actor_of, IsActorAt}
 use Rattle.env_loop.specs.declared.actor.ActorRun.{ActorRun}
-use Rattle.stepper.specs.TakingPart.{actors_of, actor_place, IsActorAt}
+use Rattle.stepper.specs.TakingPart.{actors_of, actor_place}
 
 -- it is a thread or a worker
 abbrev pub IsOther : Actor → Type 0

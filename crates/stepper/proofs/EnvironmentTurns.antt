@@ -192,10 +192,6 @@ module _ (n : Numbers) (plans : List Plan) (old owing new : Run) (before after :
   comes (turn.Cut why.Asks) t = absurd (t.cut.0 refl)
 
 -- THE WHOLE TURN
--- the turn that the run before needs is needed by the one that owes
-pub needs-then : (old owing : Run) → OwesAlone old owing → local.NeedsHub ≡ turn_after owing old.core.env → needs_hub owing
-needs-then old owing owes is = (λ i. turn_after owing (owes i).core.env) ∙ sym is
-
 -- the addons of the hub's turn are those before it, by what they have and saw
 turned-from : (n : Numbers) (r : HubTurn) (owing new : Run) (before after : HubSeen) (all mid now : AddonStates) → mid.registers ≡ all.registers → mid.seen ≡ all.seen
     → HubTurned n r owing before mid new after now → HubTurned n r owing before all new after now

@@ -1,5 +1,5 @@
 -- How all begins, and how it ends.
-use Rattle.std.proofs.Common.{◌≡◌, ◌∙◌, true, List, [], ◌∷◌, map, length, get_or, None, refl, ap, sym, subst, arith}
+use Rattle.std.proofs.Common.{◌≡◌, ◌∙◌, true, List, [], ◌∷◌, map, length, get_or, ap, sym, subst, arith}
 use Rattle.std.specs.List.{All}
 use Rattle.std.proofs.lemmas.List.{get_or-map, length-map}
 use Rattle.std.proofs.lemmas.List.Elements.{All-nil, All-get_or, All-from_get_or}
@@ -8,38 +8,28 @@ use Rattle.napi_types.specs.declared.entry.Actor.TheVariants as actor
 use Rattle.napi_types.specs.declared.entry.Phase.{Phase}
 use Rattle.napi_types.specs.declared.entry.Phase.TheVariants as phase
 use Rattle.napi_types.specs.hub.Hub.{Stage, Final, Before}
+use Rattle.napi_types.specs.scripts.Plans.{Plan}
 use Rattle.shared_hub.specs.HubStates.{HubSeen, hub_seen}
+use Rattle.shared_hub.specs.KeptHubs.{IsLedHub}
 use Rattle.shared_hub.specs.declared.naming.Numbers.{Numbers}
 use Rattle.env_loop.specs.declared.actor.ActorRun.{ActorRun}
-use Rattle.env_loop.specs.declared.actor.ActorRun.TheVariants as run
-use Rattle.env_loop.specs.ActorRuns.{IsThreadOf, IsWorkerOf}
-use Rattle.env_loop.specs.ActorTurns.{actor_of, is_over, IsActorOf}
-use Rattle.env_loop.specs.RecordedRuns.{FitsHub, Shows, hub_begun}
-use Rattle.stepper.specs.TakingPart.{actors_of, IsActorAt, IsFreshActor, IsOpenedRun}
+use Rattle.env_loop.specs.ActorTurns.{actor_of, is_over, IsActorAt, IsActorOf, IsFreshActor}
+use Rattle.env_loop.specs.FollowedRuns.{GoesOnAt}
+use Rattle.env_loop.specs.RecordedRuns.{FitsHub, Shows}
+use Rattle.env_loop.proofs.HubGoing.{replays-in, gone-ended}
+use Rattle.env_loop.specs.OpenedAndGone.{IsOpenedRun, EndsWhole}
+use Rattle.env_loop.proofs.FreshAndEnded.{opened-runs-fit, fresh-actors-stand}
+use Rattle.stepper.specs.TakingPart.{actors_of}
 use Rattle.stepper.specs.GivenTurns.{RunAtHub, Moment, moment_of}
-use Rattle.stepper.specs.Stepping.{RunStands, Stands}
+use Rattle.stepper.specs.Stepping.{RunStands, RunKeeps, Stands}
 use Rattle.stepper.proofs.ActorPlaces.{stands-there}
 
 -- THE ENVIRONMENT
 opened-stands : (n : Numbers) (m : RunAtHub) → IsOpenedRun m.run → m.hub ≡ hub_seen n [] → RunStands m
-opened-stands n m opened empty = record { fits = subst (FitsHub m.run) (sym empty) fits; answered = λ i. (opened.core i).awaited }
-  where
-    begun : m.run.begun ≡ None
-    begun = λ i. (opened.opened i).begun
-
-    first : m.run.core.env.phase ≡ phase.Init
-    first = λ i. (opened.core i).env.phase
-
-    start : m.run.core.position ≡ 0
-    start = λ i. (opened.core i).position
-
-    fits : FitsHub m.run (hub_seen n [])
-    fits = record {
-      stage = subst (λ p. Shows p Before) (sym first) refl;
-      standing = ap hub_begun (sym begun);
-      owned = record { works = All-nil _; functions = All-nil _ };
-      noted = omega (arith, start);
-    }
+opened-stands n m opened empty = record {
+  fits = subst (FitsHub m.run) (sym empty) (opened-runs-fit n m.run opened);
+  answered = λ i. (opened.core i).awaited;
+}
 
 -- THE END
 gone-stage : (p : Phase) (s : Stage) → Shows p s → p ≡ phase.Gone → s ≡ Final
@@ -52,19 +42,13 @@ gone-stage phase.Finals s shows gone = shows
 
 module _ {J : Type 0} where
   -- THE ACTORS
-  fresh-stands : (n : Numbers) (a : ActorRun J) → IsActorAt n (actor_of a) → IsFreshActor a → IsActorOf n (hub_seen n []) a
-  fresh-stands n (run.OfThread t) at fresh =
-      subst (IsThreadOf n (hub_seen n [])) (sym fresh) (record { there = at; stands = record { keeps = tt; made_is = refl; left_is = refl } })
-  fresh-stands n (run.OfWorker w) at fresh =
-      subst (IsWorkerOf n (hub_seen n [])) (sym fresh) (record { there = at; stands = refl; held = tt })
-
   all-fresh-stand : (n : Numbers) (xs : List (ActorRun J)) → map actor_of xs ≡ actors_of n → All IsFreshActor xs → All (IsActorOf n (hub_seen n [])) xs
   all-fresh-stand n [] order fresh = All-nil (IsActorOf n (hub_seen n []))
   all-fresh-stand n (x ∷ xs) order fresh =
       All-from_get_or (IsActorOf n (hub_seen n [])) (x ∷ xs) x (λ i inside.
       let name : get_or (actors_of n) i actor.Env ≡ actor_of (get_or (x ∷ xs) i x) =
       ap (λ (ws : List Actor). get_or ws i actor.Env) (sym order) ∙ get_or-map actor_of (x ∷ xs) i x actor.Env inside in
-      fresh-stands n (get_or (x ∷ xs) i x)
+      fresh-actors-stand J n (get_or (x ∷ xs) i x)
       (subst (IsActorAt n) name (stands-there n i (omega (arith, inside, ap length order, length-map (x ∷ xs) actor_of))).at)
       (All-get_or IsFreshActor (x ∷ xs) i x inside fresh))
 
@@ -84,3 +68,15 @@ module _ {J : Type 0} where
 
   pub gone-over : (n : Numbers) (m : Moment J) → Stands n m → m.env.run.core.env.phase ≡ phase.Gone → All (λ a. is_over a ≡ true) m.actors
   gone-over n m stands gone = stands.actors.ended (gone-stage m.env.run.core.env.phase m.env.hub.hub.stage stands.env.fits.stage gone)
+
+-- the run that went on from its opening has come to its end in the two lists
+pub ended-at-last : {J : Type 0} (n : Numbers) (plans : List Plan) (start : RunAtHub) (last m : Moment J) → start.hub ≡ hub_seen n [] → RunKeeps n plans start last.env → m ≡ last
+    → last.env.run.core.env.phase ≡ phase.Gone → IsLedHub n m.env.hub
+    → EndsWhole n plans start.run start.addons (record { journal = m.env.run.core.journal; history = m.env.hub.history }) m.env.addons
+ended-at-last {J = J} n plans start last m empty kept same gone led =
+    let goes : GoesOnAt n plans start.run [] start.addons last.env.run last.env.hub.history last.env.addons =
+    subst (λ xs. GoesOnAt n plans start.run xs start.addons last.env.run last.env.hub.history last.env.addons) (ap (λ (s : HubSeen). s.history) empty) kept.goes in
+    let there : IsLedHub n last.env.hub = subst (λ (k : Moment J). IsLedHub n k.env.hub) same led in
+    let P : Moment J → Type 0 = λ k. EndsWhole n plans start.run start.addons (record { journal = k.env.run.core.journal; history = k.env.hub.history }) k.env.addons in
+    subst P (sym same) (λ s firsts numbers of followed.
+    gone-ended s last.env.run last.env.hub.history last.env.addons firsts (replays-in n s last.env.hub there numbers) (goes s firsts numbers of followed) gone)

@@ -27,6 +27,7 @@ use Rattle.env_loop.specs.declared.actor.ActorRun.{ActorRun}
 use Rattle.env_loop.specs.declared.actor.ActorRun.TheVariants as run
 use Rattle.env_loop.proofs.ActorsStand.{thread-runs-stand, worker-runs-stand}
 use Rattle.env_loop.proofs.FollowedRuns.{fitting-runs-stand, others-may-add}
+use Rattle.env_loop.proofs.SameActors.{same-actor-none, same-actor-then}
 use Rattle.stepper.specs.TakingPart.{actors_of, actor_place}
 use Rattle.stepper.specs.GivenTurns.{RunAtHub, Moment, moment_of, TurnOf, TurnOfActor, TurnsThrough, EnvironmentTurns, ActorTurns}
 use Rattle.stepper.specs.Stepping.{measure, RunKeeps, EnvironmentSteps, ActorSteps, Stands, Steps}
@@ -64,21 +65,9 @@ unlike a b false is apart = is
 
 module _ {J : Type 0} where
   -- THE SAME ACTORS
-  same-self : (a : ActorRun J) → IsSameActor a a
-  same-self (run.OfThread t) = record { number = refl; operations = refl }
-  same-self (run.OfWorker w) = refl
-
-  same-then : (a b c : ActorRun J) → IsSameActor a b → IsSameActor b c → IsSameActor a c
-  same-then (run.OfThread t) (run.OfThread u) (run.OfThread v) p q = record { number = q.number ∙ p.number; operations = q.operations ∙ p.operations }
-  same-then (run.OfWorker t) (run.OfWorker u) (run.OfWorker v) p q = q ∙ p
-  same-then (run.OfThread t) (run.OfThread u) (run.OfWorker v) p q = absurd q
-  same-then (run.OfThread t) (run.OfWorker u) c p q = absurd p
-  same-then (run.OfWorker t) (run.OfWorker u) (run.OfThread v) p q = absurd q
-  same-then (run.OfWorker t) (run.OfThread u) c p q = absurd p
-
   all-same : (xs : List (ActorRun J)) → AllZip IsSameActor xs xs
   all-same [] = tt
-  all-same (x ∷ xs) = (same-self x, all-same xs)
+  all-same (x ∷ xs) = (same-actor-none x, all-same xs)
 
   all-then : (xs ys zs : List (ActorRun J)) → AllZip IsSameActor xs ys → AllZip IsSameActor ys zs → AllZip IsSameActor xs zs
   all-then [] [] [] p q = tt
@@ -86,12 +75,12 @@ module _ {J : Type 0} where
   all-then [] (y ∷ ys) zs p q = absurd p
   all-then (x ∷ xs) [] zs p q = absurd p
   all-then (x ∷ xs) (y ∷ ys) [] p q = absurd q
-  all-then (x ∷ xs) (y ∷ ys) (z ∷ zs) p q = (same-then x y z p.0 q.0, all-then xs ys zs p.1 q.1)
+  all-then (x ∷ xs) (y ∷ ys) (z ∷ zs) p q = (same-actor-then x y z p.0 q.0, all-then xs ys zs p.1 q.1)
 
   all-set : (xs : List (ActorRun J)) (i : ℕ) (a : ActorRun J) → IsSameActor (get_or xs i a) a → AllZip IsSameActor xs (set xs i a)
   all-set [] i a same = tt
   all-set (x ∷ xs) zero a same = (same, all-same xs)
-  all-set (x ∷ xs) (suc i) a same = (same-self x, all-set xs i a same)
+  all-set (x ∷ xs) (suc i) a same = (same-actor-none x, all-set xs i a same)
 
   -- so it is the same one by name
   pub same-name : (a b : ActorRun J) → IsSameActor a b → actor_of a ≡ actor_of b

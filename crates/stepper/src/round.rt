@@ -2,7 +2,7 @@
 ghost use Rattle.std.specs.Prelude.{◌≡◌, ◌≤◌, length, map};
 ghost use Rattle.std.specs.List.{All};
 ghost use Rattle.napi_types.specs.plain.Lists.{one};
-ghost use Rattle.stepper.specs.TakingPart.{IsActorAt};
+ghost use Rattle.env_loop.specs.ActorTurns.{IsActorAt};
 ghost use Rattle.stepper.specs.GivenTurns.{run_at, moment_of};
 ghost use Rattle.stepper.specs.Stepping.{Stands, Steps, RoundSteps};
 

@@ -1,11 +1,13 @@
 //! Turns until the environment is gone.
 ghost use Rattle.std.specs.Prelude.{◌≡◌, ◌≤◌, ℕ, [], ◌++◌, length, map, drop, true, List};
 ghost use Rattle.std.specs.List.{All, AllZip};
+ghost use Rattle.napi_types.specs.declared.lists.Record.{Record};
 ghost use Rattle.shared_hub.specs.HubStates.{hub_seen};
-ghost use Rattle.env_loop.specs.ActorTurns.{actor_of, is_over, IsActorOf, IsSameActor};
+ghost use Rattle.env_loop.specs.ActorTurns.{actor_of, is_over, IsActorAt, IsActorOf, IsFreshActor, IsSameActor};
+ghost use Rattle.env_loop.specs.OpenedAndGone.{IsOpenedRun, EndsWhole};
 ghost use Rattle.env_loop.specs.FollowedRuns.{GoesOnAt};
 ghost use Rattle.env_loop.specs.Recording.{AddonStates};
-ghost use Rattle.stepper.specs.TakingPart.{actors_of, turns_of, rounds_of, IsActorAt, IsFreshActor, IsOpenedRun};
+ghost use Rattle.stepper.specs.TakingPart.{actors_of, turns_of, rounds_of};
 ghost use Rattle.stepper.specs.GivenTurns.{run_at, moment_of, TurnsThrough};
 
 use crate::order::{around_opening, threads_among};
@@ -45,16 +47,20 @@ pub fn step_all<J: Job, N: Naming>(
         (moment_of (run_at env.old hub.old (map (λ b. regs b) addons.old.items) (map (λ b. seen b) addons.old.items)) actors.old.items)
         (moment_of (run_at env.new hub.new (map (λ b. regs b) addons.new.items) (map (λ b. seen b) addons.new.items)) actors.new.items) }
 
-    // A run that was followed from its opening came to its end. The addons that are no addons of the script keep their registers.
+    // A run that was followed from its opening goes on, and came to its end in these two lists, in which nobody is lost. The addons that are no addons of the script keep their registers.
     ensures goes { let before : AddonStates = record { registers = map (λ b. regs b) addons.old.items; seen = map (λ b. seen b) addons.old.items } in
         let after : AddonStates = record { registers = map (λ b. regs b) addons.new.items; seen = map (λ b. seen b) addons.new.items } in
         GoesOnAt N.numbers (map (λ b. plan b) addons.old.items) env.old [] before env.new hub.new.history after }
+    ensures ended { let before : AddonStates = record { registers = map (λ b. regs b) addons.old.items; seen = map (λ b. seen b) addons.old.items } in
+        let after : AddonStates = record { registers = map (λ b. regs b) addons.new.items; seen = map (λ b. seen b) addons.new.items } in
+        let left : Record = record { journal = env.new.core.journal; history = hub.new.history } in
+        EndsWhole N.numbers (map (λ b. plan b) addons.old.items) env.old before left after }
     ensures others { let n = env.old.core.env.addons in
         drop n (map (λ b. regs b) addons.new.items) ≡ drop n (map (λ b. regs b) addons.old.items) }
     ensures addons { env.new.core.env.addons ≡ env.old.core.env.addons }
     ensures limit { env.new.core.limit ≡ env.old.core.limit }
 
-    // Each thread made its script's calls and its end, each worker's entries came by turns, and all have ended.
+    // Each thread made its script's calls, or a front of them where one stopped, and its end. Each worker's entries came by turns. All have ended.
     ensures stands { All (IsActorOf N.numbers hub.new) actors.new.items }
     ensures same { AllZip IsSameActor actors.old.items actors.new.items }
     ensures over { All (λ a. is_over a ≡ true) actors.new.items }
@@ -65,6 +71,7 @@ pub fn step_all<J: Job, N: Naming>(
     give_turns(env, hub, actors, after, addons, threads);
     'rounds: loop {
         if round(env, hub, actors, addons) {
+            hub.knows();
             return;
         }
     }

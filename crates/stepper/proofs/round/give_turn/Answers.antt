@@ -1,5 +1,5 @@
 use Rattle.std.proofs.Common.{◌∙◌, ◌<◌, ◌+◌, length, sym, subst, arith}
-use Rattle.stepper.specs.TakingPart.{IsActorAt}
+use Rattle.env_loop.specs.ActorTurns.{IsActorAt}
 use Rattle.stepper.proofs.ActorPlaces.{actors-count, at-thread, at-worker}
 use Rattle.stepper.proofs.OrderedTurns.{environment-step, named-step}
 use Rattle.stepper.proofs.round.give_turn.Goals as goal

@@ -1,7 +1,8 @@
-use Rattle.std.proofs.Common.{◌∙◌, subst, suc}
+use Rattle.std.proofs.Common.{◌≡◌, ◌∙◌, true, sym, subst, suc}
 use Rattle.std.specs.List.{All}
-use Rattle.stepper.specs.TakingPart.{IsActorAt}
-use Rattle.stepper.proofs.Openings.{start-stands}
+use Rattle.env_loop.specs.ActorTurns.{is_over, IsActorAt}
+use Rattle.stepper.specs.GivenTurns.{Moment}
+use Rattle.stepper.proofs.Openings.{start-stands, gone-over, ended-at-last}
 use Rattle.stepper.proofs.RoundSteps.{all-turns, all-front, all-back, schedule-steps, rounds-steps}
 use Rattle.stepper.proofs.stepping.step_all.Goals as goal
 
@@ -32,3 +33,13 @@ rounds-preserved g c =
       plans = k.plans ∙ i.plans;
       went = (suc i.went.0, rounds-steps _ _ _ _ _ _ _ _ i.went.1 i.plans (k.went.steps c.if-round.false));
     }
+
+pub returns-then-round-clause-over : goal.returns-then-round-clause-over
+returns-then-round-clause-over g c =
+    let was = c.round.ensures.went.was c.if-round.true in
+    subst (λ (m : Moment g.row.J.Denot). All (λ a. is_over a ≡ true) m.actors) (sym was.1) (gone-over g.N.Naming.numbers _ c.rounds.invariant.went.1.stands was.0)
+
+pub returns-then-round-clause-ended : goal.returns-then-round-clause-ended
+returns-then-round-clause-ended g c =
+    let was = c.round.ensures.went.was c.if-round.true in
+    ended-at-last g.N.Naming.numbers _ _ _ _ c.requires.empty c.rounds.invariant.went.1.kept was.1 was.0 c.knows.ensures

@@ -1,5 +1,6 @@
 use Rattle.std.proofs.Common.{refl, sym}
-use Rattle.stepper.proofs.EnvironmentTurns.{needs-then, goes-same, went-at-hub, went-alone}
+use Rattle.env_loop.proofs.NeededTurns.{needs-then}
+use Rattle.stepper.proofs.EnvironmentTurns.{goes-same, went-at-hub, went-alone}
 use Rattle.stepper.proofs.turn.environment_turn.Goals as goal
 
 pub returns-in-Made-clause-went : goal.returns-in-Made-clause-went
