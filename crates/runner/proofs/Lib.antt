@@ -1,0 +1,10 @@
+pub mod ActorsAtTurns
+pub mod AllBack
+pub mod ClosedRuns
+pub mod EnvironmentAtTheLock
+pub mod FilledPlaces
+pub mod JoinedActors
+pub mod MadeCrews
+pub mod SameStrays
+pub mod StraysInOrder
+pub mod TakenTurns

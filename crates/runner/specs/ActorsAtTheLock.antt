@@ -1,0 +1,48 @@
+-- What one turn of an actor comes to under the lock.
+use Rattle.std.specs.Prelude.{◌≡◌, ◌⊎◌, true, false}
+use Rattle.napi_types.specs.declared.entry.Actor.{Actor}
+use Rattle.shared_hub.specs.declared.naming.Numbers.{Numbers}
+use Rattle.shared_hub.specs.HubStates.{HubSeen}
+use Rattle.env_loop.specs.ActorRuns.{AddsEntryOf}
+use Rattle.env_loop.specs.ActorTurns.{actor_of, is_over, IsSameActor, IsBlocked}
+use Rattle.env_loop.specs.declared.actor.ActorRun.{ActorRun}
+use Rattle.env_loop.specs.declared.actor.ActorTurn.{ActorTurn}
+use Rattle.env_loop.specs.declared.actor.ActorTurn.TheVariants as turn
+use Rattle.runner.specs.declared.strays.Stray.{Stray}
+use Rattle.runner.specs.AtPasses.{IsAtPass, IsFreshAtPass}
+use Rattle.turn_lock.specs.Passes.{TurnState}
+use Rattle.hub_lock.specs.SeenTurns.{SamePass}
+
+-- one entry came, which this actor made, or nothing changed
+abbrev pub GrewBy : Actor → HubSeen → HubSeen → Type 0
+GrewBy who old new = AddsEntryOf who old new ⊎ (new ≡ old)
+
+module _ {J : Type 0} where
+  -- it added one entry, or nothing changed; where it says that the actor waits it does, and where it says that the actor has ended it had
+  abbrev pub AfterTurn : ActorRun J → HubSeen → ActorTurn → ActorRun J → HubSeen → Type 0
+  AfterTurn old before turn.Made new after = AddsEntryOf (actor_of old) before after
+  AfterTurn old before turn.Blocked new after = (after ≡ before) × (new ≡ old) × IsBlocked before.hub old
+  AfterTurn old before turn.Ended new after = (after ≡ before) × (new ≡ old) × (is_over old ≡ true)
+
+  -- an actor that has no thread of its own, beside its pass of this lock
+  pub record IsStray (n : Numbers) (h : TurnState) (s : Stray J) : Type 0 where
+    pub lock : s.pass.lock ≡ h.lock
+    pub free : s.pass.holds ≡ false
+    pub at : IsAtPass n s.pass s.actor
+
+  -- before its first turn
+  pub record IsFreshStray (n : Numbers) (h : TurnState) (s : Stray J) : Type 0 where
+    pub lock : s.pass.lock ≡ h.lock
+    pub free : s.pass.holds ≡ false
+    pub at : IsFreshAtPass n s.pass s.actor
+
+  -- it is the same actor beside the same pass
+  pub record IsSameStray (old new : Stray J) : Type 0 where
+    pub actor : IsSameActor old.actor new.actor
+    pub pass : SamePass old.pass new.pass
+
+  -- it has ended
+  pub record HasEndedStray (n : Numbers) (old new : Stray J) : Type 0 where
+    pub same : IsSameStray old new
+    pub over : is_over new.actor ≡ true
+    pub at : IsAtPass n new.pass new.actor

@@ -1,0 +1,6 @@
+pub mod AtPasses
+pub mod ActorsAtTheLock
+pub mod Environments
+pub mod Backs
+pub mod Places
+pub mod Crews

@@ -1,0 +1,130 @@
+//! A thread of a script, or a worker, on the lock.
+ghost use Rattle.std.specs.Prelude.{◌≡◌, false, true};
+ghost use Rattle.shared_hub.specs.KeptHubs.{IsLedHub};
+ghost use Rattle.hub_lock.specs.SeenTurns.{SamePass};
+ghost use Rattle.env_loop.specs.ActorTurns.{is_over, IsActorOf, IsReady, HoldsNoWork, IsSameActor, with_work_executed};
+ghost use Rattle.runner.specs.AtPasses.{IsAtPass, IsFreshAtPass, HasEndedAt};
+ghost use Rattle.runner.specs.ActorsAtTheLock.{AfterTurn};
+
+use async_work::Job;
+use env_loop::{ActorRun, ActorTurn, NextStep};
+use hub_lock::{Hub, Locked};
+use napi_types::Gate;
+use shared_hub::{HubState, Naming, WaitsFor};
+use std::sync::Wait;
+use turn_lock::Pass;
+
+/// The point of a gate between a worker's start of a job and its execution.
+const BEFORE_A_JOB: u32 = 1;
+
+/// The point of a gate before each operation of a thread.
+const BEFORE_AN_OPERATION: u32 = 2;
+
+/// Runs a thread of a script, or a worker, to its end. It sleeps where it waits, and executes its jobs while it does not hold the turn.
+///
+/// It comes to the gate once before each operation of a thread, and between a worker's start of a job and its execution.
+pub fn run_actor<J: Job, N: Naming, R: Wait, G: Gate>(
+    rt: &R,
+    hub: &Hub<J, N>,
+    pass: &mut Pass,
+    actor: ActorRun<J>,
+    gate: &G,
+)
+    requires lock { pass.old.lock ≡ hub.now.lock }
+    requires free { pass.old.holds ≡ false }
+    requires fresh { IsFreshAtPass N.numbers pass.old actor }
+    ensures same { SamePass pass.old pass.new }
+    ensures ended { HasEndedAt N.numbers pass.new actor }
+{
+    let mut actor = actor;
+    let number = pass.number();
+    let mut waited = false;
+    for _ in rt.forever() {
+        if !waited {
+            come_to_the_gate(rt, &actor, number, gate);
+        }
+        actor.between();
+        match turn_at_the_lock(rt, hub, pass, &mut actor, Some(number)) {
+            ActorTurn::Made => waited = false,
+            ActorTurn::Blocked => {
+                hub.sleep(rt, number);
+                waited = true;
+            }
+            ActorTurn::Ended => break,
+        }
+    }
+    actor.retire();
+}
+
+/// Comes to the gate, where the actor is at one of its points.
+fn come_to_the_gate<J: Job, R: Wait, G: Gate>(rt: &R, actor: &ActorRun<J>, number: u32, gate: &G) {
+    match actor.next_step() {
+        NextStep::Executes => gate.at(rt, number, BEFORE_A_JOB),
+        NextStep::Calls(_) | NextStep::Operation => gate.at(rt, number, BEFORE_AN_OPERATION),
+        NextStep::Ends | NextStep::Serves => {}
+    }
+}
+
+/// One turn of the lock. A sleeper notes, where it waits, that it will sleep.
+pub(crate) fn turn_at_the_lock<J: Job, N: Naming, R: Wait>(
+    rt: &R,
+    hub: &Hub<J, N>,
+    pass: &mut Pass,
+    actor: &mut ActorRun<J>,
+    sleeper: Option<u32>,
+) -> ActorTurn
+    requires lock { pass.old.lock ≡ hub.now.lock }
+    requires free { pass.old.holds ≡ false }
+    requires at { IsAtPass N.numbers pass.old actor.old }
+    requires ready { IsReady actor.old }
+    ensures pass { SamePass pass.old pass.new }
+    ensures actor { IsSameActor actor.old actor.new }
+    ensures at { IsAtPass N.numbers pass.new actor.new }
+    ensures ended { result ≡ ActorTurn.Ended → is_over actor.new ≡ true }
+    ensures idle { result ≡ ActorTurn.Ended → HoldsNoWork actor.new }
+{
+    let mut held = hub.take(rt, pass);
+    held.value.knows();
+    let turn = turn_under_the_lock(&mut held.value, actor, sleeper);
+    hub.give(pass, held);
+    turn
+}
+
+/// What it does while it holds the turn.
+fn turn_under_the_lock<J: Job, N: Naming>(
+    locked: &mut Locked<HubState<J, N>>,
+    actor: &mut ActorRun<J>,
+    sleeper: Option<u32>,
+) -> ActorTurn
+    requires stands { IsActorOf N.numbers locked.old.state.value actor.old }
+    requires ready { IsReady actor.old }
+    ensures turn { AfterTurn actor.old locked.old.state.value result actor.new locked.new.state.value }
+    ensures stands { IsActorOf N.numbers locked.new.state.value actor.new }
+    ensures actor { IsSameActor actor.old actor.new }
+    ensures known { IsLedHub N.numbers locked.new.state.value }
+{
+    let step = actor.next_step();
+    let turn = actor.turn(&mut locked.state);
+    note_wait(locked, turn, step, sleeper);
+    locked.knows();
+    turn
+}
+
+/// A sleeper that waits will sleep: before `go`, for room in the queue of the function that it calls, or for a work.
+fn note_wait<J: Job, N: Naming>(
+    locked: &mut Locked<HubState<J, N>>,
+    turn: ActorTurn,
+    step: NextStep,
+    sleeper: Option<u32>,
+)
+    ensures { locked.new.state.value ≡ locked.old.state.value }
+{
+    if let (ActorTurn::Blocked, Some(number)) = (turn, sleeper) {
+        let why = match step {
+            NextStep::Calls(id) if locked.state.is_live() => WaitsFor::Room(id),
+            NextStep::Calls(_) | NextStep::Operation | NextStep::Ends => WaitsFor::Go,
+            NextStep::Executes | NextStep::Serves => WaitsFor::Work,
+        };
+        locked.state.note_sleep(number, why);
+    }
+}
