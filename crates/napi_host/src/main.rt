@@ -1,5 +1,6 @@
 //! The program: reads a script from standard input, runs it with addons that follow it, and writes the trace to
-//! standard output. It stands on `script_host`, and nothing stands on it.
+//! standard output. A script without a schedule runs on threads of the machine, and its gate holds none of them. It stands on `script_host`, and nothing
+//! stands on it.
 #![tactic(auto)]
 
 ghost use Rattle.std.specs.Prelude.{◌≡◌, ◌≢◌, IfOk, map, drop, string_bytes};

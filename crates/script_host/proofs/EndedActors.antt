@@ -1,5 +1,5 @@
 -- The threads and the workers of a run: how they begin, and what they have done once they have ended.
-use Rattle.std.proofs.Common.{◌≡◌, ◌<◌, ◌∙◌, ℕ, zero, suc, ◌+◌, true, List, [], ◌∷◌, ◌++◌, length, map, slice_get, append_assoc, Some, None, is_some, refl, ap, sym, subst, arith}
+use Rattle.std.proofs.Common.{◌≡◌, ◌<◌, ◌∙◌, ℕ, zero, suc, ◌+◌, true, List, [], ◌∷◌, ◌++◌, length, map, slice_get, append_assoc, Some, None, refl, ap, sym, subst, arith}
 use Rattle.std.specs.List.{All, AllZip, range_with_len}
 use Rattle.std.proofs.lemmas.List.{map-append}
 use Rattle.std.proofs.lemmas.List.FromFn.{map-range_with_len_more}
@@ -7,21 +7,17 @@ use Rattle.std.proofs.lemmas.List.Elements.{All-append, All-nil, All-cons, All-h
 use Rattle.napi_types.specs.declared.entry.Actor.TheVariants as actor
 use Rattle.napi_types.specs.declared.entry.Entry.{Entry}
 use Rattle.napi_types.specs.declared.op.Op.{Op}
-use Rattle.napi_types.specs.parts.Pool.{executed_by}
 use Rattle.napi_types.specs.scripts.Plans.{Plan}
-use Rattle.napi_types.specs.hub.ActorLaws.{worker_at}
-use Rattle.napi_types.specs.hub.Actors.{Free, Working, Over, worker_along}
-use Rattle.napi_types.specs.hub.WorkerSteps.{is_worker_there}
-use Rattle.napi_types.proofs.hub.ServingWorkers.{executing-workers-are-there}
-use Rattle.napi_types.proofs.all_runs.WorkersStand.{workers-stand-as-the-hub-says}
+use Rattle.napi_types.specs.hub.Actors.{Free, Over, worker_along}
 use Rattle.shared_hub.specs.HubStates.{HubSeen}
 use Rattle.shared_hub.specs.KeptHubs.{IsLedHub}
 use Rattle.shared_hub.specs.declared.naming.Numbers.{Numbers}
-use Rattle.env_loop.specs.ActorRuns.{ThreadSeen, new_thread, calls_left, WorkerSeen, new_worker, IsWorkerOf, HeldWork, NoWork, Started, Executed, IsHeld, IsHandsFree, worker_state}
-use Rattle.env_loop.specs.ActorTurns.{actor_of, is_over, IsActorOf, HoldsNoWork, IsSameActor}
+use Rattle.env_loop.specs.ActorRuns.{ThreadSeen, new_thread, calls_left, WorkerSeen, new_worker, worker_state}
+use Rattle.env_loop.specs.ActorTurns.{actor_of, is_over, IsActorOf, IsFreshActor, HoldsNoWork, IsSameActor}
+use Rattle.env_loop.proofs.FreshAndEnded.{ended-actors-hold-none}
 use Rattle.env_loop.specs.declared.actor.ActorRun.{ActorRun}
 use Rattle.env_loop.specs.declared.actor.ActorRun.TheVariants as run
-use Rattle.stepper.specs.TakingPart.{actors_of, IsFreshActor}
+use Rattle.stepper.specs.TakingPart.{actors_of}
 use Rattle.script_host.specs.Loading.{hub_numbers, setting_with}
 use Rattle.script_host.specs.ScriptActors.{thread_runs, worker_runs, MadeItsScript}
 
@@ -92,26 +88,6 @@ module _ (J : Type 0) where
       ∙ ap (λ l. first ++ l) (sym (map-range_with_len_more fresh_worker 0 number number e))
 
 -- AT THE END
--- a worker that has ended holds no work: one that executes a work has not ended
-hands-free : (threads workers : ℕ) (hub : HubSeen) (v : WorkerSeen) → IsLedHub (hub_numbers threads workers) hub → IsWorkerOf (hub_numbers threads workers) hub v → v.over ≡ true → IsHandsFree v.held
-hands-free threads workers hub v led stands over = by v.held refl
-  where
-    L : ℕ
-    L = (hub_numbers threads workers).limits.history
-
-    there : is_some (executed_by hub.hub.pool v.number) ≡ true → ⊥
-    there runs =
-        let is : is_worker_there hub.hub v.number ≡ true = executing-workers-are-there L threads workers v.number hub.history hub.hub led.led runs in
-        let at : Some (worker_state v) ≡ Some (worker_at hub.hub v.number) =
-        sym stands.stands ∙ workers-stand-as-the-hub-says L threads workers v.number hub.history hub.hub led.led stands.there in
-        let no : Some Over ≡ Some Working = cc in
-        cc
-
-    by : (held : HeldWork) → v.held ≡ held → IsHandsFree held
-    by NoWork e = tt
-    by (Started s) e = absurd (there (ap is_some (subst (IsHeld hub.hub.pool v.number) e stands.held).0))
-    by (Executed r) e = absurd (there (ap is_some (subst (IsHeld hub.hub.pool v.number) e stands.held).0))
-
 module _ {J : Type 0} (plans : List Plan) (texts threads workers : ℕ) (hub : HubSeen) where
   abbrev Stands : ActorRun J → Type 0
   Stands a = IsActorOf (hub_numbers threads workers) hub a
@@ -183,12 +159,8 @@ module _ {J : Type 0} (plans : List Plan) (texts threads workers : ℕ) (hub : H
   pub hold-none : (new : List (ActorRun J)) → IsLedHub (hub_numbers threads workers) hub → All Stands new → All IsOver new → All HoldsNoWork new
   hold-none [] led stands over = All-nil HoldsNoWork
   hold-none (x ∷ new) led stands over =
-      All-cons HoldsNoWork x new (by x (All-head Stands x new stands) (All-head IsOver x new over))
+      All-cons HoldsNoWork x new (ended-actors-hold-none J (hub_numbers threads workers) hub x led.led (All-head Stands x new stands) (All-head IsOver x new over))
       (hold-none new led (All-tail Stands x new stands) (All-tail IsOver x new over))
-    where
-      by : (a : ActorRun J) → Stands a → IsOver a → HoldsNoWork a
-      by (run.OfThread u) here ended = tt
-      by (run.OfWorker v) here ended = hands-free threads workers hub v led here ended
 
 -- what all of them did, by the contract of the turns
 module _ {J : Type 0} (plans : List Plan) (texts : ℕ) (scripts : List (List Op)) (workers : ℕ) (n : Numbers) (named : n ≡ hub_numbers (length scripts) workers)

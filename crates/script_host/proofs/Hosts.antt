@@ -16,14 +16,8 @@ use Rattle.napi_types.specs.scripts.Plans.{Plan}
 use Rattle.napi_types.specs.scripts.Script.{IsWrong}
 use Rattle.napi_types.specs.scripts.ScriptReading.{IsNoJson}
 use Rattle.napi_types.specs.hub.Actors.{Free, Over, worker_along}
-use Rattle.napi_types.specs.runs.Setting.{opening_of, final_of}
+use Rattle.napi_types.specs.runs.Setting.{Setting, final_of}
 use Rattle.napi_types.specs.all_runs.Laws.{HasRoom}
-use Rattle.napi_types.specs.all_runs.Order.{HooksFall, FinalsRise}
-use Rattle.napi_types.proofs.all_runs.ItemOrders.{items-in-order}
-use Rattle.napi_types.proofs.all_runs.Keeping.{kept-run}
-use Rattle.napi_types.proofs.all_runs.OncePlaces.{each-once, starts-told}
-use Rattle.napi_types.proofs.all_runs.Onces.{tickets-counted}
-use Rattle.napi_types.proofs.all_runs.Orders.{order-holds}
 use Rattle.napi_types.proofs.all_runs.Rooms.{room-suffices}
 use Rattle.env_loop.specs.Recording.{AddonStates, IsEnded}
 use Rattle.script_host.specs.Loading.{told_plans, setting_with}
@@ -36,28 +30,20 @@ use Rattle.script_host.specs.Words.{line_status}
 use Rattle.script_host.specs.Host.{IsStatus, Handed, HasRun, setting_of, Causes, Gave, HasTooManyAddons, LacksSchedule, GaveRefused}
 use Rattle.script_host.proofs.Loading.{length-told, length-told-le}
 
--- the lists of a run with few addons are within their limits
-lists-within : (plans : List Plan) (texts threads workers : ℕ) (journal : List Local) (history : List Entry) (all : AddonStates) (firsts : List (List DueInfo)) → length plans ≤ 8 → threads ≤ 16 → workers ≤ 8
-    → (e : IsEnded (setting_with plans texts threads workers) journal history all firsts)
-    → HasRoom (setting_with plans texts threads workers) (weave journal history) (final_of (setting_with plans texts threads workers) e.asks (weave journal history))
-lists-within plans texts threads workers journal history all firsts few some none e =
+-- the lists of a run with few addons, threads and workers are within their limits
+pub lists-within : (given : List AddonPlan) (handed : List Plan) (texts threads workers : ℕ) (journal : List Local) (history : List Entry) (all : AddonStates)
+    (firsts : List (List DueInfo)) → length given ≤ 8 → threads ≤ 16 → workers ≤ 8
+    → IsEnded (setting_with (told_plans given handed) texts threads workers) journal history all firsts
+    → (length journal ≤ most_entries) × (length history ≤ most_entries)
+lists-within given handed texts threads workers journal history all firsts few some none e =
+    let plans : List Plan = told_plans given handed in
+    let s : Setting = setting_with plans texts threads workers in
+    let fewer : length plans ≤ 8 = omega (arith, length-told-le given handed) in
     let opens : 2 + 2 * length plans ≤ most_entries = omega arith in
     let owes : 4 + threads + workers ≤ most_entries = omega (arith, some, none) in
-    room-suffices (setting_with plans texts threads workers) e.asks (weave journal history) opens owes e.ended.run
-
-pub journal-within : (given : List AddonPlan) (handed : List Plan) (texts threads workers : ℕ) (journal : List Local) (history : List Entry) (all : AddonStates) (firsts : List (List DueInfo)) → length given ≤ 8 → threads ≤ 16 → workers ≤ 8
-    → IsEnded (setting_with (told_plans given handed) texts threads workers) journal history all firsts → length journal ≤ most_entries
-journal-within given handed texts threads workers journal history all firsts few some none e =
-    let fewer : length (told_plans given handed) ≤ 8 = omega (arith, length-told-le given handed) in
-    let room = lists-within (told_plans given handed) texts threads workers journal history all firsts fewer some none e in
-    omega (arith, room.journal, e.journal_length)
-
-pub history-within : (given : List AddonPlan) (handed : List Plan) (texts threads workers : ℕ) (journal : List Local) (history : List Entry) (all : AddonStates) (firsts : List (List DueInfo)) → length given ≤ 8 → threads ≤ 16 → workers ≤ 8
-    → IsEnded (setting_with (told_plans given handed) texts threads workers) journal history all firsts → length history ≤ most_entries
-history-within given handed texts threads workers journal history all firsts few some none e =
-    let fewer : length (told_plans given handed) ≤ 8 = omega (arith, length-told-le given handed) in
-    let room = lists-within (told_plans given handed) texts threads workers journal history all firsts fewer some none e in
-    omega (arith, room.history, e.history_length)
+    let room : HasRoom s (weave journal history) (final_of s e.asks (weave journal history)) =
+    room-suffices s e.asks (weave journal history) opens owes e.ended.run in
+    (omega (arith, room.journal, e.journal_length), omega (arith, room.history, e.history_length))
 
 -- a run of the script's addons, as the top call tells it
 pub ran-of : (script : Script) (texts : ℕ) (handed after : Handed) (left : Record)
@@ -73,28 +59,26 @@ ran-of script texts handed after left counted enough ended loaded others threads
     let states : AddonStates = record { registers = after.registers; seen = after.seen } in
     let E : ℕ → Type 0 = λ n. IsEnded (setting_with (told_plans script.addons handed.plans) n (length script.threads) script.workers) left.journal left.history states handed.seen in
     let e : IsEnded (setting_of script handed.plans) left.journal left.history states handed.seen = subst E counted ended in
-    let order : HooksFall (weave left.journal left.history) × FinalsRise (weave left.journal left.history) =
-    order-holds (setting_of script handed.plans) e.asks (weave left.journal left.history) e.ended.run.steps in
     record {
       enough = enough;
       run = record {
         asks = e.asks;
         ended = e.ended;
-        collected = kept-run (opening_of (setting_of script handed.plans)) e.asks (weave left.journal left.history) e.ended.run.steps;
+        collected = e.promises.collected;
         rises = e.rises;
         parted = e.parted;
         agrees = λ addon below. e.agrees addon (omega (arith, length-told script.addons handed.plans enough));
         seen = e.seen;
-        counted = tickets-counted (setting_of script handed.plans) e.asks (weave left.journal left.history) e.ended.run;
-        hooks = order.0;
-        finals = order.1;
-        once = each-once (setting_of script handed.plans) e.asks (weave left.journal left.history) e.ended;
-        items = λ f. items-in-order (setting_of script handed.plans) e.asks (weave left.journal left.history) f e.ended.run;
+        counted = e.promises.counted;
+        hooks = e.promises.hooks;
+        finals = e.promises.finals;
+        once = e.promises.once;
+        items = e.promises.items;
         threads = λ t operations at.
             subst (λ n. MadeItsScript (setting_with (told_plans script.addons handed.plans) n (length script.threads) script.workers) t operations left.history)
             counted (threads t operations at);
         workers = workers;
-        completed = λ n. starts-told (setting_of script handed.plans) e.asks (weave left.journal left.history) n e.ended;
+        completed = e.promises.completed;
       };
       loaded = loaded;
       others = others;
@@ -116,6 +100,11 @@ line-known line.TooLong = refl
 refused : (d : Demand) (input : Input) (bytes : List ℕ) (handed : ℕ) → Gave input bytes
     → IsNoJson bytes ⊎ (((w : Wrong) × IsWrong bytes w) ⊎ (HasTooManyAddons bytes handed ⊎ LacksSchedule d bytes handed)) → GaveRefused d input handed
 refused d input bytes handed gave why = record { bytes = bytes; gave = gave; is_refused = record { short = gave.within; why = why } }
+
+-- the cause of a line, by how many addons were handed in
+pub cause-at : (d : Demand) (l : Line) (words : List (List ℕ)) (input : Input) (counted handed : ℕ) → counted ≡ handed
+    → Causes d l words input counted → Causes d l words input handed
+cause-at d l words input counted handed same cause = let P : ℕ → Type 0 = λ n. Causes d l words input n in subst P same cause
 
 -- a line with the status of a refusal has a refusal as its cause
 pub refused-of : (d : Demand) (l : Line) (words : List (List ℕ)) (input : Input) (handed : ℕ)

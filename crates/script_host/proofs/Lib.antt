@@ -1,8 +1,10 @@
 pub mod Complete
 pub mod EndedActors
 pub mod Hosts
+pub mod LoadLists
 pub mod Loading
 pub mod OneKind
 pub mod Pieces
 pub mod Small
 pub mod SmallActors
+pub mod SmallLoad

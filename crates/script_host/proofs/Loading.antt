@@ -5,21 +5,19 @@ use Rattle.napi_types.specs.declared.duties.DueInfo.{DueInfo}
 use Rattle.napi_types.specs.declared.entry.Entry.{Entry}
 use Rattle.napi_types.specs.declared.entry.Local.{Local}
 use Rattle.napi_types.specs.declared.lists.AddonPlan.{AddonPlan}
-use Rattle.napi_types.specs.declared.entry.Phase.TheVariants as phase
+use Rattle.napi_types.specs.declared.lists.Record.{Record}
 use Rattle.napi_types.specs.plain.Room.{most_entries}
 use Rattle.napi_types.specs.scripts.Plans.{Plan, plan_of, Registers, registers_of}
 use Rattle.napi_types.specs.scripts.Registers.{blank_registers}
 use Rattle.napi_types.specs.runs.Setting.{Setting}
 use Rattle.env_core.specs.Core.{Core, opened_core}
 use Rattle.shared_hub.specs.declared.naming.Numbers.{Numbers}
-use Rattle.shared_hub.specs.HubStates.{HubSeen}
-use Rattle.shared_hub.specs.KeptHubs.{IsLedHub}
 use Rattle.addon_trait.specs.Addons.{loaded_at}
 use Rattle.env_loop.specs.Recording.{AddonStates, IsEnded, IsOf}
 use Rattle.env_loop.specs.RecordedRuns.{Run, opened_run}
-use Rattle.env_loop.specs.FollowedRuns.{IsFollowed, GoesOnAt, HasNumbers}
-use Rattle.env_loop.proofs.HubGoing.{opened-followed, gone-ended}
-use Rattle.stepper.specs.TakingPart.{IsOpenedRun}
+use Rattle.env_loop.specs.FollowedRuns.{IsFollowed, HasNumbers}
+use Rattle.env_loop.proofs.HubGoing.{opened-followed}
+use Rattle.env_loop.specs.OpenedAndGone.{EndsWhole}
 use Rattle.script_host.specs.Loading.{told_plans, hub_numbers, setting_with}
 
 -- LOADING
@@ -110,27 +108,31 @@ loaded-end given done rest first plans before registers l none =
     subst P all (subst Q empty l)
 
 -- THE WHOLE RUN
--- the environment has opened, and no turn of it was made
-pub opened-starts : (count texts limit : ℕ) (core : Core) (start : Run) → core ≡ opened_core count texts limit → start ≡ opened_run core → IsOpenedRun start
-opened-starts count texts limit core start opens starts =
-    let C : Core → Type 0 = λ c. IsOpenedRun (opened_run c) in
-    subst IsOpenedRun (sym starts) (subst C (sym opens) (record { opened = refl; core = refl }))
+-- the registers of the other addons stay as they are
+pub others-stay : (count texts limit all : ℕ) (core : Core) (start : Run) (first loaded now : Registers) → core ≡ opened_core count texts limit
+    → start ≡ opened_run core → count ≡ all → drop start.core.env.addons now ≡ drop start.core.env.addons loaded → drop all loaded ≡ drop all first
+    → drop all now ≡ drop all first
+others-stay count texts limit all core start first loaded now opens starts counted later earlier =
+    let same : start.core.env.addons ≡ all = ap (λ (r : Run). r.core.env.addons) starts ∙ ap (λ (x : Core). x.env.addons) opens ∙ counted in
+    let P : ℕ → Type 0 = λ k. drop k now ≡ drop k loaded in
+    subst P same later ∙ earlier
 
--- the opening, and all that came after it
-pub whole-ended : (given : List AddonPlan) (handed loaded : List Plan) (texts count threads workers : ℕ) (n : Numbers) (core : Core) (start ran : Run) (later : HubSeen)
-    (journal : List Local) (left : List Entry) (all now : AddonStates) (firsts : List (List DueInfo))
-    → length given ≤ length handed → count ≡ length given
-    → core ≡ opened_core count texts most_entries → start ≡ opened_run core → n ≡ hub_numbers threads workers → IsLedHub n later
-    → loaded ≡ told_plans given handed ++ drop (length given) handed
+-- a script's run came to its end, which began with the opening, with its addons loaded
+pub whole-ended : (given : List AddonPlan) (handed loaded : List Plan) (texts count threads workers : ℕ) (n : Numbers) (core : Core) (start : Run)
+    (left : Record) (journal : List Local) (history : List Entry) (all now : AddonStates) (firsts : List (List DueInfo))
+    → length given ≤ length handed → count ≡ length given → core ≡ opened_core count texts most_entries → start ≡ opened_run core
+    → n ≡ hub_numbers threads workers → loaded ≡ told_plans given handed ++ drop (length given) handed
     → ((addon : ℕ) → addon < length given → registers_of all.registers addon ≡ blank_registers) → all.seen ≡ firsts
-    → GoesOnAt n loaded start [] all ran later.history now → ran.core.env.phase ≡ phase.Gone → journal ≡ ran.core.journal → left ≡ later.history
-    → IsEnded (setting_with (told_plans given handed) texts threads workers) journal left now firsts
-whole-ended given handed loaded texts count threads workers n core start ran later journal left all now firsts enough counted opens starts named led plans blank same_seen goes gone_there lists history =
+    → EndsWhole n loaded start all left now → journal ≡ left.journal → history ≡ left.history
+    → IsEnded (setting_with (told_plans given handed) texts threads workers) journal history now firsts
+whole-ended given handed loaded texts count threads workers n core start left journal history all now firsts enough counted opens starts named plans blank
+    same_seen ends same_journal same_history =
     let told : List Plan = told_plans given handed in
     let s : Setting = setting_with told texts threads workers in
     let as_many : length told ≡ length given = length-told given handed enough in
     let opened : core ≡ opened_core (length told) texts most_entries = opens ∙ ap (λ k. opened_core k texts most_entries) (counted ∙ sym as_many) in
-    let followed : IsFollowed s (opened_run core) [] all all.seen = opened-followed s core all opened (λ addon below. blank addon (omega (arith, as_many, below))) in
+    let cleared : (addon : ℕ) → addon < length told → registers_of all.registers addon ≡ blank_registers = λ addon below. blank addon (omega (arith, as_many, below)) in
+    let followed : IsFollowed s (opened_run core) [] all all.seen = opened-followed s core all opened cleared in
     let S : Run → Type 0 = λ r. IsFollowed s r [] all all.seen in
     let of : IsOf s loaded start.core = record {
       count = sym (ap (λ (c : Core). c.env.addons) (ap (λ (r : Run). r.core) starts ∙ opened));
@@ -141,9 +143,7 @@ whole-ended given handed loaded texts count threads workers n core start ran lat
       workers = ap (λ (m : Numbers). m.workers) (sym named);
       limit = ap (λ (m : Numbers). m.limits.history) (sym named);
     } in
-    let ended_there : IsFollowed s ran later.history now all.seen = goes s all.seen has of (subst S (sym starts) followed) in
-    let led_there : IsLedHub (hub_numbers threads workers) later = subst (λ m. IsLedHub m later) named led in
-    let F : List (List DueInfo) → Type 0 = λ x. IsEnded s ran.core.journal later.history now x in
-    let J : List Local → Type 0 = λ x. IsEnded s x left now firsts in
-    let L : List Entry → Type 0 = λ x. IsEnded s ran.core.journal x now firsts in
-    subst J (sym lists) (subst L (sym history) (subst F same_seen (gone-ended s ran later.history now all.seen led_there.led.replays ended_there gone_there)))
+    let F : List (List DueInfo) → Type 0 = λ x. IsEnded s left.journal left.history now x in
+    let J : List Local → Type 0 = λ x. IsEnded s x history now firsts in
+    let L : List Entry → Type 0 = λ x. IsEnded s left.journal x now firsts in
+    subst J (sym same_journal) (subst L (sym same_history) (subst F same_seen (ends s all.seen has of (subst S (sym starts) followed))))

@@ -22,7 +22,7 @@ use Rattle.napi_types.specs.scripts.ScriptReading.{Reading, formed, list_at, eve
 use Rattle.napi_types.specs.scripts.ScriptSchedule.{small_number, number_below, lettered, actor_named, actor_in}
 use Rattle.napi_types.specs.scripts.ScriptThreads.{thread_operation_at, thread_at, word_at, schedule_in}
 use Rattle.env_loop.specs.ActorRuns.{IsOperationOfThread}
-use Rattle.stepper.specs.TakingPart.{IsActorAt}
+use Rattle.env_loop.specs.ActorTurns.{IsActorAt}
 use Rattle.script_host.specs.Host.{IsSmall}
 use Rattle.script_host.specs.Loading.{hub_numbers}
 use Rattle.script_host.specs.ScriptActors.{IsThreadScript}
@@ -222,6 +222,10 @@ small-script d s parts texts =
       };
     }
 
-pub small-of : (bytes : List ℕ) (s : Script) (r : Result Script Line) → IsScript bytes s → IfOk r (λ t. t ≡ s) → IfOk r (λ t. length t.texts < 2 ^ 32) → IfOk r IsSmall
-small-of bytes s (Ok t) is same texts = small-script is.0 t (subst (ScriptParts is.0) (sym same) (parts-of is.0 s is.2)) texts
-small-of bytes s (Err line) is same texts = tt
+pub small-of : (bytes : List ℕ) (s counted : Script) (r : Result Script Line) → IsScript bytes s → counted ≡ s → IfOk r (λ t. t ≡ counted)
+    → length counted.texts < 2 ^ 32 → IfOk r IsSmall
+small-of bytes s counted (Ok t) is same again texts =
+    let P : Script → Type 0 = λ x. ScriptParts is.0 x in
+    let T : Script → Type 0 = λ x. length x.texts < 2 ^ 32 in
+    small-script is.0 t (subst P (sym (again ∙ same)) (parts-of is.0 s is.2)) (subst T (sym again) texts)
+small-of bytes s counted (Err line) is same again texts = tt

@@ -31,12 +31,8 @@ use Rattle.script_host.specs.Loading.{told_plans, setting_with}
 use Rattle.script_host.specs.Outside.{Input, Output}
 use Rattle.script_host.specs.ScriptActors.{AreActors, MadeItsScript}
 use Rattle.script_host.specs.Words.{is_run_words}
-use Rattle.std.specs.declared.result.Result.{Result}
-use Rattle.std.specs.declared.result.Result.TheVariants.{Ok}
 use Rattle.script_host.specs.declared.top_call.Demand.{Demand}
 use Rattle.script_host.specs.declared.top_call.Demand.TheVariants as demand
-use Rattle.script_host.specs.declared.top_call.Written.{Written}
-use Rattle.script_host.specs.declared.top_call.Written.TheVariants as written
 use Rattle.script_host.specs.declared.words.Line.{Line}
 use Rattle.script_host.specs.declared.words.Line.TheVariants as line
 
@@ -143,11 +139,10 @@ pub record IsRunnable (d : Demand) (bytes : List ℕ) (handed : ℕ) : Type 0 wh
   pub enough : length script.addons ≤ handed
   pub met : is_met d script ≡ true
 
--- why a script of the right form does not run: more addons than were handed in, or else no schedule that is demanded; or there was no memory
+-- why a script of the right form does not run: more addons than were handed in, or else no schedule that is demanded
 abbrev pub Misses : Demand → Script → ℕ → Line → Type 0
 Misses d script handed line.TooManyAddons = handed < length script.addons
 Misses d script handed line.Schedule = (length script.addons ≤ handed) × (is_met d script ≡ false)
-Misses d script handed line.NoMemory = Unit {0}
 Misses d script handed _ = ⊥
 
 -- THE INPUT
@@ -227,11 +222,6 @@ WroteLine output line = (output.after ≡ append_known output.before line) ⊎ (
 abbrev pub WroteTrace : Bool → Output → List ℕ → Type 0
 WroteTrace true output trace = output.after ≡ append_known output.before trace
 WroteTrace false output trace = HasRisen output.faults output.faults_after × TookFront output.before trace output.after
-
--- whether a trace was written whole
-abbrev pub is_whole : {E : Type 0} → Result Written E → Bool
-is_whole (Ok written.Whole) = true
-is_whole _ = false
 
 -- THE STATUSES
 -- the statuses with which the top call ends

@@ -1,5 +1,6 @@
 pub mod Host
 pub mod HostLaws
+pub mod Load
 pub mod Loading
 pub mod Outside
 pub mod Reading

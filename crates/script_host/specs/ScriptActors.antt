@@ -10,7 +10,7 @@ use Rattle.napi_types.specs.all_runs.HubLaws.{KeepsScript}
 use Rattle.env_loop.specs.ActorRuns.{IsOperationOfThread, new_thread, new_worker}
 use Rattle.env_loop.specs.declared.actor.ActorRun.{ActorRun}
 use Rattle.env_loop.specs.declared.actor.ActorRun.TheVariants as run
-use Rattle.stepper.specs.TakingPart.{IsActorAt}
+use Rattle.env_loop.specs.ActorTurns.{IsActorAt}
 use Rattle.script_host.specs.Loading.{hub_numbers}
 
 -- the operations of a thread, at most 16,384, are of the three kinds that threads make

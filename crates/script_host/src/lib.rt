@@ -5,6 +5,7 @@
 
 mod actors;
 mod laws;
+mod load;
 mod reading;
 mod running;
 mod standard;
@@ -12,5 +13,6 @@ mod top_call;
 mod words;
 
 pub use laws::bytes_are_of_one_kind;
+pub use load::load_script;
 pub use standard::{StdSink, StdSource};
 pub use top_call::{host, host_scheduled};

@@ -1,21 +1,24 @@
 //! A run of a script: its addons are given their plans, and the environment, the threads and the workers run to their end.
-ghost use Rattle.std.specs.Prelude.{◌≡◌, ℕ, ◌<◌, ◌≤◌, ◌++◌, length, map, drop, slice_get, Some, List, [], IfOk, OnOk, OnErr, unwrap_or};
-ghost use Rattle.napi_types.specs.declared.op.Op.{Op};
-ghost use Rattle.napi_types.specs.hub.Actors.{Free, Over, worker_along};
+ghost use Rattle.std.specs.Prelude.{◌≡◌, ℕ, ◌<◌, ◌≤◌, ◌++◌, length, map, drop, [], IfOk, OnOk, OnErr, unwrap_or};
+ghost use Rattle.napi_types.specs.plain.Room.{most_entries};
 ghost use Rattle.napi_types.specs.scripts.Plans.{registers_of};
 ghost use Rattle.napi_types.specs.scripts.Registers.{blank_registers};
-ghost use Rattle.env_loop.specs.Recording.{AddonStates, IsEnded};
-ghost use Rattle.script_host.specs.Loading.{told_plans, setting_with, hub_numbers};
-ghost use Rattle.script_host.specs.ScriptActors.{AreActors, MadeItsScript};
+ghost use Rattle.script_host.specs.Host.{handed_in, HasRun, IsSmall};
+ghost use Rattle.script_host.specs.Loading.{told_plans, hub_numbers};
 
 use crate::actors::{actor_runs, retire_all};
 use addon_trait::{Addon, load_at};
 use env_core::EnvCore;
 use env_loop::EnvRun;
-use napi_types::{Actor, Actors, Limits, NAPI_VERSION, NoMemory, OpLists, Plans, Record};
+use napi_types::{
+    Actor, Actors, Gate, Limits, NAPI_VERSION, NoMemory, Plans, Record, Script, Texts,
+};
+use runner::Crew;
 use script_addon::ScriptJob;
 use shared_hub::{HubState, Naming};
 use std::alloc::Global;
+use std::sync::Wait;
+use std::thread::Threads;
 use stepper::step_all;
 
 /// How many entries a journal and a history may have.
@@ -51,41 +54,39 @@ fn words_of(schedule: &Option<Actors>) -> &[Actor]
     }
 }
 
-/// Runs a script, whose addons are the first of those handed in: from the opening to `gone`.
+/// Runs a script on this thread, with the first of the addons that are handed in, from the opening to `gone`: first the turns of its schedule, where it has
+/// one, and then rounds. It leaves the two lists, and hands out the texts of the script.
 ///
-/// `plans` are the plans of its addons, eight at most, and `texts` says how many texts it has. All take their turns on one thread: first those
-/// of the schedule, and then rounds. The hub has the numbers that the type names: those of the script, under the limits of every run. Want of
-/// memory comes before an addon is touched.
-pub(crate) fn run<N: Naming>(
+/// The hub has the numbers that the type names: those of the script, under the limits of every run. Want of memory comes before an addon is touched.
+pub(crate) fn in_turns<N: Naming>(
     alloc: Global,
-    plans: Plans,
-    threads: OpLists,
-    workers: u32,
-    schedule: Option<Actors>,
-    texts: u32,
+    script: Script,
     addons: &mut Vec<Box<dyn Addon>>,
-) -> Result<Record, NoMemory>
-    requires named { N.numbers ≡ hub_numbers (length threads) workers }
-    requires few { length plans ≤ 8 }
-    requires enough { length plans ≤ length addons.old.items }
-    requires actors { AreActors threads workers schedule }
-    ensures ended { let told = told_plans plans (map (λ b. plan b) addons.old.items) in
-        let after : AddonStates = record { registers = map (λ b. regs b) addons.new.items; seen = map (λ b. seen b) addons.new.items } in
-        let firsts = map (λ b. seen b) addons.old.items in
-        IfOk result (λ left. IsEnded (setting_with told texts (length threads) workers) left.journal left.history after firsts) }
-    ensures threads { let told = told_plans plans (map (λ b. plan b) addons.old.items) in
-        IfOk result (λ left. (t : ℕ) (operations : List Op) → slice_get threads t ≡ Some operations
-        → MadeItsScript (setting_with told texts (length threads) workers) t operations left.history) }
-    ensures workers { IfOk result (λ left. (w : ℕ) → w < workers → worker_along w (Some Free) left.history ≡ Some Over) }
-    ensures plans { let before = map (λ b. plan b) addons.old.items in
-        OnOk result (map (λ b. plan b) addons.new.items ≡ told_plans plans before ++ drop (length plans) before) }
-    ensures others { let before = map (λ b. regs b) addons.old.items in
-        OnOk result (drop (length plans) (map (λ b. regs b) addons.new.items) ≡ drop (length plans) before) }
-    ensures err { OnErr result (addons.new.items ≡ addons.old.items) }
+    left: &mut Record,
+) -> Result<Texts, NoMemory>
+    requires named { N.numbers ≡ hub_numbers (length script.threads) script.workers }
+    requires small { IsSmall script }
+    requires enough { length script.addons ≤ length addons.old.items }
+    ensures ran { let before = handed_in (λ b. plan b) (λ b. regs b) (λ b. seen b) addons.old.items in
+        let after = handed_in (λ b. plan b) (λ b. regs b) (λ b. seen b) addons.new.items in
+        OnOk result (HasRun script before left.new after) }
+    ensures within { OnOk result ((length left.new.journal ≤ most_entries) × (length left.new.history ≤ most_entries)) }
+    ensures texts { IfOk result (λ texts. texts ≡ script.texts) }
+    ensures left { OnErr result (left.new ≡ left.old) }
+    ensures addons { OnErr result (addons.new.items ≡ addons.old.items) }
 {
-    let count = plans.items().len() as u32;
-    let core = EnvCore::new(alloc, NAPI_VERSION, count, texts, LIMITS)?;
+    let Script {
+        version: _,
+        workers,
+        addons: plans,
+        threads,
+        schedule,
+        texts,
+    } = script;
+    let plans_len = plans.items().len() as u32;
+    let texts_len = texts.items().len() as u32;
     let threads_len = threads.items().len() as u32;
+    let core = EnvCore::new(alloc, NAPI_VERSION, plans_len, texts_len, LIMITS)?;
     let mut hub = HubState::<ScriptJob, N>::new(alloc, threads_len, workers, LIMITS)?;
     let mut actors = actor_runs(alloc, threads, workers)?;
     let mut env = EnvRun::new(core);
@@ -93,5 +94,51 @@ pub(crate) fn run<N: Naming>(
     step_all(&mut env, &mut hub, &mut actors, words_of(&schedule), addons);
     hub.knows();
     retire_all(actors);
-    Ok(env.into_record(hub))
+    *left = env.into_record(hub);
+    Ok(texts)
+}
+
+/// Does the same, but that a script without a schedule runs on threads of the machine: each thread of the script and each worker on one of its own, and the
+/// environment on this one. All memory is taken before the first is started.
+pub(crate) fn on_threads<N: Naming + Send + Sync, R: Threads + Wait + Sync, G: Gate>(
+    rt: &R,
+    gate: &G,
+    alloc: Global,
+    script: Script,
+    addons: &mut Vec<Box<dyn Addon>>,
+    left: &mut Record,
+) -> Result<Texts, NoMemory>
+    requires named { N.numbers ≡ hub_numbers (length script.threads) script.workers }
+    requires small { IsSmall script }
+    requires enough { length script.addons ≤ length addons.old.items }
+    ensures ran { let before = handed_in (λ b. plan b) (λ b. regs b) (λ b. seen b) addons.old.items in
+        let after = handed_in (λ b. plan b) (λ b. regs b) (λ b. seen b) addons.new.items in
+        OnOk result (HasRun script before left.new after) }
+    ensures within { OnOk result ((length left.new.journal ≤ most_entries) × (length left.new.history ≤ most_entries)) }
+    ensures texts { IfOk result (λ texts. texts ≡ script.texts) }
+    ensures left { OnErr result (left.new ≡ left.old) }
+    ensures addons { OnErr result (addons.new.items ≡ addons.old.items) }
+{
+    if script.schedule.is_some() {
+        return in_turns::<N>(alloc, script, addons, left);
+    }
+    let Script {
+        version: _,
+        workers,
+        addons: plans,
+        threads,
+        schedule: _,
+        texts,
+    } = script;
+    let plans_len = plans.items().len() as u32;
+    let texts_len = texts.items().len() as u32;
+    let threads_len = threads.items().len() as u32;
+    let core = EnvCore::new(alloc, NAPI_VERSION, plans_len, texts_len, LIMITS)?;
+    let hub = HubState::<ScriptJob, N>::new(alloc, threads_len, workers, LIMITS)?;
+    let actors = actor_runs(alloc, threads, workers)?;
+    let crew = Crew::new(alloc, hub, actors)?;
+    let env = EnvRun::new(core);
+    load_all(addons, plans);
+    *left = crew.run(rt, env, addons, gate);
+    Ok(texts)
 }

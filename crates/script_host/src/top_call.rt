@@ -1,17 +1,20 @@
 //! The top calls.
-ghost use Rattle.std.specs.Prelude.{◌≡◌, ◌≢◌, ◌≤◌, ◌<◌, ◌^◌, ℕ, ◌↔◌, ◌==◌, List, length, true, false, IfOk, OnOk, OnErr, IfErr, ◌⊎◌};
+ghost use Rattle.std.specs.Prelude.{◌≡◌, ◌≢◌, ◌≤◌, ◌<◌, ◌^◌, ℕ, ◌↔◌, ◌==◌, List, length, true, false, IfOk, OnOk, IfErr, ◌⊎◌};
 ghost use Rattle.napi_types.specs.plain.Edge.{HasRisen};
-ghost use Rattle.script_host.specs.Host.{handed_in, HasRun, IsSmall, trace_of, WroteTrace, is_whole, is_met, IsStatus, IsRunStatus, Misses};
+ghost use Rattle.napi_types.specs.plain.Room.{most_entries};
+ghost use Rattle.napi_types.specs.plain.Weave.{weave};
+ghost use Rattle.napi_types.specs.scripts.Text.{text};
+ghost use Rattle.script_host.specs.Host.{handed_in, HasRun, IsSmall, trace_of, WroteTrace, is_met, IsStatus, IsRunStatus, Misses};
 ghost use Rattle.script_host.specs.Host.{GaveScript, GaveRefused, GaveTooMuch, Causes, WroteLine, IsRead, IsTooLong, IsRefused, IsRunnable};
 ghost use Rattle.script_host.specs.Outside.{input_of, output_of};
 ghost use Rattle.script_host.specs.Reading.{GaveFront};
 ghost use Rattle.script_host.specs.Words.{is_run_words, line_text, line_status};
 
 use crate::reading::{ReadError, read_all};
-use crate::running::run;
+use crate::running::{in_turns, on_threads};
 use crate::words::{Line, is_run};
 use addon_trait::Addon;
-use napi_types::{Failed, Gate, Record, Script, Sink, Source, Text};
+use napi_types::{Failed, Gate, Record, Script, Sink, Source, Text, Texts};
 use script_read::{Refusal, read_script};
 use std::alloc::Global;
 use std::marker::Brand;
@@ -43,14 +46,6 @@ impl Demand {
     }
 }
 
-/// How much of a trace was written.
-enum Written {
-    /// All of it.
-    Whole,
-    /// A front of it: the sink failed.
-    Cut,
-}
-
 /// Writes a line in place of a trace, and answers its status.
 fn refuse<K: Sink>(sink: &mut K, line: Line) -> u8
     ensures status { result ≡ line_status line }
@@ -60,6 +55,39 @@ fn refuse<K: Sink>(sink: &mut K, line: Line) -> u8
 {
     let _ = line.write(sink);
     line.status()
+}
+
+/// Writes the trace of a run, and answers its status.
+fn tell<K: Sink>(sink: &mut K, texts: &Texts, left: &Record) -> u8
+    requires journal { length left.now.journal ≤ most_entries }
+    requires history { length left.now.history ≤ most_entries }
+    ensures run { IsRunStatus result }
+    ensures wrote { let output = output_of K.taken K.faults sink.old sink.new in
+        WroteTrace (result == 0) output (text texts.now (weave left.now.journal left.now.history)) }
+    ensures fault { result ≡ 5 → HasRisen (K.faults sink.old) (K.faults sink.new) }
+    ensures told { K.faults sink.new ≢ K.faults sink.old → result ≡ 5 }
+    ensures faults { K.faults sink.old ≤ K.faults sink.new }
+{
+    match write_trace(sink, texts, left.journal.items(), left.history.items()) {
+        Ok(()) => 0,
+        Err(Failed) => 5,
+    }
+}
+
+/// The script, where there are enough addons for it, and it is what is demanded.
+fn admitted(demand: Demand, script: Script, handed: usize) -> Result<Script, Line>
+    ensures same { IfOk result (λ same. same ≡ script) }
+    ensures enough { OnOk result (length script.addons ≤ handed) }
+    ensures met { OnOk result (is_met demand script ≡ true) }
+    ensures err { IfErr result (λ line. Misses demand script handed line) }
+{
+    if handed < script.addons.items().len() {
+        return Err(Line::TooManyAddons);
+    }
+    if !demand.is_met(&script) {
+        return Err(Line::Schedule);
+    }
+    Ok(script)
 }
 
 /// The script, where its texts can be counted in 32 bits. No source is long enough for more; a table of so many is taken for want
@@ -75,14 +103,22 @@ fn counted(script: Script) -> Result<Script, Line>
     Ok(script)
 }
 
-/// The script that the source gives, where the words are the command line.
-fn script_of<S: Source>(alloc: Global, words: &[Text], source: &mut S) -> Result<Script, Line>
+/// The script that the source gives, where the words are the command line, there are enough addons for it, and it is what is demanded.
+fn script_of<S: Source>(
+    alloc: Global,
+    demand: Demand,
+    words: &[Text],
+    source: &mut S,
+    handed: usize,
+) -> Result<Script, Line>
     ensures words { OnOk result (is_run_words words.now ≡ true) }
     ensures ok { let input = input_of S.left S.faults source.old source.new in
         IfOk result (λ script. GaveScript input script) }
     ensures small { IfOk result IsSmall }
+    ensures enough { IfOk result (λ script. length script.addons ≤ handed) }
+    ensures met { IfOk result (λ script. is_met demand script ≡ true) }
     ensures err { let input = input_of S.left S.faults source.old source.new in
-        IfErr result (λ line. (demand : Demand) (handed : ℕ) → Causes demand line words.now input handed) }
+        IfErr result (λ line. Causes demand line words.now input handed) }
     ensures unread { is_run_words words.now ≡ false → S.left source.new ≡ S.left source.old }
     ensures uncounted { is_run_words words.now ≡ false → S.faults source.new ≡ S.faults source.old }
     ensures counted { result ≢ Err Line.ReadFault → S.faults source.new ≡ S.faults source.old }
@@ -99,146 +135,11 @@ fn script_of<S: Source>(alloc: Global, words: &[Text], source: &mut S) -> Result
         Err(ReadError::Long) => return Err(Line::TooLong),
     };
     match read_script(alloc, &bytes) {
-        Ok(script) => counted(script),
+        Ok(script) => admitted(demand, counted(script)?, handed),
         Err(Refusal::NotJson) => Err(Line::NotJson),
         Err(Refusal::Shape { path }) => Err(Line::Shape(path)),
         Err(Refusal::Limit { which }) => Err(Line::Limit(which)),
         Err(Refusal::NoMemory) => Err(Line::NoMemory),
-    }
-}
-
-/// Runs a script with the addons that are handed in, writes its trace and leaves its two lists. One with more addons is refused, and then one that is not what
-/// is demanded.
-fn perform<K: Sink>(
-    alloc: Global,
-    demand: Demand,
-    script: Script,
-    sink: &mut K,
-    addons: &mut Vec<Box<dyn Addon>>,
-    left: &mut Record,
-) -> Result<Written, Line>
-    requires small { IsSmall script }
-    ensures ran { let before = handed_in (λ b. plan b) (λ b. regs b) (λ b. seen b) addons.old.items in
-        let after = handed_in (λ b. plan b) (λ b. regs b) (λ b. seen b) addons.new.items in
-        OnOk result (HasRun script before left.new after) }
-    ensures met { OnOk result (is_met demand script ≡ true) }
-    ensures wrote { let output = output_of K.taken K.faults sink.old sink.new in
-        OnOk result (WroteTrace (is_whole result) output (trace_of script left.new)) }
-    ensures counted { result ≡ Ok Written.Whole → K.faults sink.new ≡ K.faults sink.old }
-    ensures err { IfErr result (λ line. Misses demand script (length addons.old.items) line) }
-    ensures sink { OnErr result (K.taken sink.new ≡ K.taken sink.old) }
-    ensures left { OnErr result (left.new ≡ left.old) }
-    ensures addons { OnErr result (addons.new.items ≡ addons.old.items) }
-    ensures faults { K.faults sink.old ≤ K.faults sink.new }
-{
-    if addons.len() < script.addons.items().len() {
-        return Err(Line::TooManyAddons);
-    }
-    if !demand.is_met(&script) {
-        return Err(Line::Schedule);
-    }
-    let Script {
-        version: _,
-        workers,
-        addons: plans,
-        threads,
-        schedule,
-        texts,
-    } = script;
-    let count = texts.items().len() as u32;
-    let Ok(record) = run::<Brand>(alloc, plans, threads, workers, schedule, count, addons) else {
-        return Err(Line::NoMemory);
-    };
-    let written = write_trace(sink, &texts, record.journal.items(), record.history.items());
-    *left = record;
-    match written {
-        Ok(()) => Ok(Written::Whole),
-        Err(Failed) => Ok(Written::Cut),
-    }
-}
-
-/// Reads, runs and writes; or answers the line that stands in place of a trace.
-fn attempt<S: Source, K: Sink>(
-    alloc: Global,
-    demand: Demand,
-    words: &[Text],
-    source: &mut S,
-    sink: &mut K,
-    addons: &mut Vec<Box<dyn Addon>>,
-    left: &mut Record,
-) -> Result<Written, Line>
-    ensures words { OnOk result (is_run_words words.now ≡ true) }
-    ensures ran { let input = input_of S.left S.faults source.old source.new in
-        let output = output_of K.taken K.faults sink.old sink.new in
-        let before = handed_in (λ b. plan b) (λ b. regs b) (λ b. seen b) addons.old.items in
-        let after = handed_in (λ b. plan b) (λ b. regs b) (λ b. seen b) addons.new.items in
-        OnOk result ((script : Script) × GaveScript input script × (is_met demand script ≡ true)
-        × HasRun script before left.new after × WroteTrace (is_whole result) output (trace_of script left.new)) }
-    ensures err { let input = input_of S.left S.faults source.old source.new in
-        IfErr result (λ line. Causes demand line words.now input (length addons.old.items)) }
-    ensures sink { OnErr result (K.taken sink.new ≡ K.taken sink.old) }
-    ensures left { OnErr result (left.new ≡ left.old) }
-    ensures addons { OnErr result (addons.new.items ≡ addons.old.items) }
-    ensures unread { is_run_words words.now ≡ false → S.left source.new ≡ S.left source.old }
-    ensures uncounted { is_run_words words.now ≡ false → S.faults source.new ≡ S.faults source.old }
-    ensures counted_reads { result ≢ Err Line.ReadFault → S.faults source.new ≡ S.faults source.old }
-    ensures counted_writes { result ≡ Ok Written.Whole → K.faults sink.new ≡ K.faults sink.old }
-    ensures front { GaveFront (S.left source.old) (S.left source.new) }
-    ensures reading { S.faults source.old ≤ S.faults source.new }
-    ensures writing { K.faults sink.old ≤ K.faults sink.new }
-{
-    let script = script_of(alloc, words, source)?;
-    perform(alloc, demand, script, sink, addons, left)
-}
-
-/// Reads, runs and writes, where the script is what is demanded; or writes the line that stands in place of a trace. It answers the exit status.
-fn answer<S: Source, K: Sink>(
-    alloc: Global,
-    demand: Demand,
-    words: &[Text],
-    source: &mut S,
-    sink: &mut K,
-    addons: &mut Vec<Box<dyn Addon>>,
-    left: &mut Record,
-) -> u8
-    ensures known { IsStatus result }
-    ensures ran { let input = input_of S.left S.faults source.old source.new in
-        let output = output_of K.taken K.faults sink.old sink.new in
-        let before = handed_in (λ b. plan b) (λ b. regs b) (λ b. seen b) addons.old.items in
-        let after = handed_in (λ b. plan b) (λ b. regs b) (λ b. seen b) addons.new.items in
-        IsRunStatus result → (script : Script) × GaveScript input script × (is_met demand script ≡ true)
-        × HasRun script before left.new after × WroteTrace (result == 0) output (trace_of script left.new) }
-    ensures refused { let input = input_of S.left S.faults source.old source.new in
-        let output = output_of K.taken K.faults sink.old sink.new in
-        ¬ IsRunStatus result → (line : Line) × (result ≡ line_status line)
-        × Causes demand line words.now input (length addons.old.items) × WroteLine output (line_text line) }
-    ensures left { ¬ IsRunStatus result → left.new ≡ left.old }
-    ensures addons { ¬ IsRunStatus result → addons.new.items ≡ addons.old.items }
-    ensures usage { (result ≡ 2) ↔ (is_run_words words.now ≡ false) }
-    ensures no_script { let input = input_of S.left S.faults source.old source.new in
-        result ≡ 3 → GaveRefused demand input (length addons.old.items) }
-    ensures read_fault { result ≡ 4 → HasRisen (S.faults source.old) (S.faults source.new) }
-    ensures write_fault { result ≡ 5 → HasRisen (K.faults sink.old) (K.faults sink.new) }
-    ensures too_long { let input = input_of S.left S.faults source.old source.new in
-        result ≡ 7 → GaveTooMuch input }
-    ensures read_fault_told { S.faults source.new ≢ S.faults source.old → result ≡ 4 }
-    ensures write_fault_told { IsRunStatus result → K.faults sink.new ≢ K.faults sink.old → result ≡ 5 }
-    ensures too_long_told { let input = input_of S.left S.faults source.old source.new in
-        (bytes : List ℕ) → IsRead words.now input bytes → IsTooLong bytes → (result ≡ 7) ⊎ (result ≡ 6) }
-    ensures refused_told { let input = input_of S.left S.faults source.old source.new in
-        (bytes : List ℕ) → IsRead words.now input bytes → IsRefused demand bytes (length addons.old.items) → (result ≡ 3) ⊎ (result ≡ 6) }
-    ensures complete { let input = input_of S.left S.faults source.old source.new in
-        (bytes : List ℕ) → IsRead words.now input bytes → IsRunnable demand bytes (length addons.old.items) → IsRunStatus result ⊎ (result ≡ 6) }
-    ensures unread { is_run_words words.now ≡ false → S.left source.new ≡ S.left source.old }
-    ensures uncounted { is_run_words words.now ≡ false → S.faults source.new ≡ S.faults source.old }
-    ensures front { GaveFront (S.left source.old) (S.left source.new) }
-    ensures reading { S.faults source.old ≤ S.faults source.new }
-    ensures writing { K.faults sink.old ≤ K.faults sink.new }
-{
-    match attempt(alloc, demand, words, source, sink, addons, left) {
-        Ok(Written::Whole) => 0,
-        Ok(Written::Cut) => 5,
-        Err(line) => refuse(sink, line),
     }
 }
 
@@ -251,8 +152,12 @@ fn answer<S: Source, K: Sink>(
 /// where the bytes are no JSON text, no script, or one with more addons than were handed in, 4 where the source failed, 7 where
 /// it gave more than 4,194,304 bytes, and 6 for want of memory, which may come in place of 0, 3, 5 and 7.
 ///
-/// Every script that has the right form runs. Its threads and its workers take their turns on this thread: first those of the schedule, where it has one, and
-/// then rounds. `gate` and `rt` serve threads of the machine, on which no script runs so far.
+/// Every script that has the right form runs. One with a schedule takes its turns on this thread: first those of the schedule, and then rounds. One without
+/// runs on threads of the machine: each thread of the script and each worker on one of its own, and the environment on this one. An actor for which none can
+/// be started takes its turns on this one too.
+///
+/// Status 6 comes before an addon is loaded and a thread is started. `rt` starts the threads, and they call `gate` at its places. What is not promised is
+/// that a call on threads returns, that two actors run at once, and whose entry comes first.
 pub fn host<R: Threads + Wait + Sync, S: Source, K: Sink, G: Gate>(
     rt: &R,
     alloc: Global,
@@ -313,7 +218,14 @@ pub fn host<R: Threads + Wait + Sync, S: Source, K: Sink, G: Gate>(
     ensures reading { S.faults source.old ≤ S.faults source.new }
     ensures writing { K.faults sink.old ≤ K.faults sink.new }
 {
-    answer(alloc, Demand::Nothing, words, source, sink, addons, left)
+    let script = match script_of(alloc, Demand::Nothing, words, source, addons.len()) {
+        Ok(script) => script,
+        Err(line) => return refuse(sink, line),
+    };
+    let Ok(texts) = on_threads::<Brand, R, G>(rt, gate, alloc, script, addons, left) else {
+        return refuse(sink, Line::NoMemory);
+    };
+    tell(sink, &texts, left)
 }
 
 /// Does the same, but that it runs a script with a schedule alone. It does not wait, and always returns.
@@ -368,5 +280,12 @@ pub fn host_scheduled<S: Source, K: Sink>(
     ensures reading { S.faults source.old ≤ S.faults source.new }
     ensures writing { K.faults sink.old ≤ K.faults sink.new }
 {
-    answer(alloc, Demand::Schedule, words, source, sink, addons, left)
+    let script = match script_of(alloc, Demand::Schedule, words, source, addons.len()) {
+        Ok(script) => script,
+        Err(line) => return refuse(sink, line),
+    };
+    let Ok(texts) = in_turns::<Brand>(alloc, script, addons, left) else {
+        return refuse(sink, Line::NoMemory);
+    };
+    tell(sink, &texts, left)
 }
