@@ -1,2 +1,3 @@
 pub mod DrivenRuns
+pub mod EndedStrays
 pub mod ThreadTests

@@ -11,6 +11,7 @@ mod hub_turns;
 mod journals;
 mod shared;
 mod steps;
+mod strays;
 mod turns;
 
 /// What something comes to: the word and the number of a result, and eight numbers more. A reply that tells nothing, or a cut, has the number of its status.

@@ -1,6 +1,6 @@
 //! What the tests share: what a step gives that does not fail, and a run of a script with addons of theirs.
 use addon_trait::Addon;
-use napi_types::{MemSink, OpenGate, Record, SafeSource, Text};
+use napi_types::{Gate, MemSink, OpenGate, Record, SafeSource, Text};
 use script_addon::ScriptAddon;
 use script_host::host;
 use std::alloc::Global;
@@ -12,6 +12,7 @@ mod example;
 mod seen;
 mod standard;
 mod told;
+mod two_jobs;
 mod unplanned;
 
 /// The most bytes that a sink takes in one call.
@@ -32,6 +33,17 @@ fn run_of<R: Abort + Threads + Wait + Sync>(
     script: &[u8],
     addons: &mut Vec<Box<dyn Addon>>,
 ) -> (u8, String) {
+    run_at(rt, alloc, &OpenGate, script, addons)
+}
+
+/// The same with this gate.
+fn run_at<R: Abort + Threads + Wait + Sync, G: Gate>(
+    rt: &R,
+    alloc: Global,
+    gate: &G,
+    script: &[u8],
+    addons: &mut Vec<Box<dyn Addon>>,
+) -> (u8, String) {
     let words = [given(rt, Text::of(alloc, "run"))];
     let mut source = SafeSource::of(given(rt, Vec::from_slice(alloc, script)));
     let mut sink = MemSink::new(alloc, GREATEST, Vec::new(alloc));
@@ -42,7 +54,7 @@ fn run_of<R: Abort + Threads + Wait + Sync>(
         &words,
         &mut source,
         &mut sink,
-        &OpenGate,
+        gate,
         addons,
         &mut left,
     );
