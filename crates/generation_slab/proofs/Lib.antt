@@ -1,0 +1,5 @@
+pub mod Changing
+pub mod Issuing
+pub mod Numbering
+pub mod Reading
+pub mod Standing

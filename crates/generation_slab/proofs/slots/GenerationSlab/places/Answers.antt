@@ -1,0 +1,16 @@
+use Rattle.std.proofs.Common.{◌≡◌, ◌∙◌, sym, subst, arith, nat_eq, map, length, rules}
+use Rattle.std.specs.List.{IsDistinct}
+use Rattle.generation_slab.specs.HeldPlaces.{standing}
+use Rattle.generation_slab.proofs.Reading.{long}
+use Rattle.generation_slab.proofs.Standing.{numbers-once}
+use Rattle.generation_slab.proofs.slots.GenerationSlab.places.Goals as goal
+
+pub returns-clause-places : goal.returns-clause-places
+returns-clause-places g c =
+    let many : c.len.result ≡ length c.self.inside.generations.items = search rules in
+    many ∙ sym (long c.self.inside.slots c.self.inside.generations.items c.self.inside.last c.self.invariant c.args.self.now c.self.view_is)
+
+pub returns-clause-once : goal.returns-clause-once
+returns-clause-once g c =
+    subst (λ t. IsDistinct nat_eq (map (λ h. h.number) (standing t.places))) c.self.view_is
+    (numbers-once c.self.inside.slots 0 c.self.inside.generations.items (omega (arith, c.self.invariant.few)))

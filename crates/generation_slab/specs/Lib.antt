@@ -1,0 +1,2 @@
+pub mod HeldPlaces
+pub mod SlotNumbers
