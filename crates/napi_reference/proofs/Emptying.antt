@@ -1,15 +1,17 @@
 -- The rows lose the values that are freed.
 use Rattle.std.proofs.Common.{◌≡◌, ◌∙◌, ℕ, zero, suc, ◌+◌, ◌<◌, ◌==◌, ◌∷◌, ◌++◌, Bool, true, false, cond, List, [], length, map, get_or, set, take, drop, Option, Some, None, IfSome, option_map, refl, ap, sym, subst, arith, add-one}
 use Rattle.std.specs.List.{All, filter_map, cons_option}
-use Rattle.std.proofs.lemmas.List.{length-map}
 use Rattle.std.proofs.lemmas.List.Elements.{All-head, All-tail}
+use Rattle.generation_slab.specs.HeldPlaces.{Held, HeldPlaces, held}
+use Rattle.generation_slab.specs.HeldPlaces as slab
 use Rattle.napi_types.specs.declared.ids.ValueId.{ValueId}
-use Rattle.napi_types.specs.plain.Lists.{up_to}
+use Rattle.napi_types.specs.plain.Lists.{as_map, with_record}
 use Rattle.napi_types.specs.parts.References.{Reference, strong_value, strong_values, value_left, emptied}
+use Rattle.napi_types.proofs.plain.Maps.{map-with_record}
 use Rattle.napi_reference.specs.declared.rows.ReferenceRow.{ReferenceRow}
 use Rattle.napi_reference.specs.ReferencePlaces.{ReferencePlaces, map_of}
-use Rattle.napi_reference.specs.ReferenceRows.{reference_of, places_of, id_left, weak_emptied}
-use Rattle.napi_reference.proofs.ReferenceNumbers.{listed_from, rows-listed}
+use Rattle.napi_reference.specs.ReferenceRows.{reference_of, reference_held, references_in, id_left, weak_emptied, held_emptied, rows_emptied}
+use Rattle.napi_reference.proofs.ReferenceNumbers.{rows-held}
 use Rattle.napi_reference.proofs.ReferenceChanges.{same-map}
 
 -- one element more of a list is changed in its place
@@ -52,25 +54,41 @@ row-emptied : (collected : ℕ → Bool) (n : ℕ) (row : ReferenceRow) (weak : 
 row-emptied collected n row true kept = ap (λ v. record { number = n; value = v; count = row.count }) (value_left-id collected row.value)
 row-emptied collected n row false kept = ap (λ v. record { number = n; value = v; count = row.count }) (value_left-kept collected (option_map (λ v. v.0) row.value) kept)
 
-listed-emptied : (collected : ℕ → Bool) (k : ℕ) (rows : List (Option ReferenceRow)) → All (λ v. collected v ≡ false) (filter_map strong_value (listed_from k rows))
-    → map (λ (r : Reference). record r { value = value_left collected r.value }) (listed_from k rows) ≡ listed_from k (map (option_map (weak_emptied collected)) rows)
-listed-emptied collected k [] kept = refl
-listed-emptied collected k (None ∷ rows) kept = listed-emptied collected (suc k) rows kept
-listed-emptied collected k (Some row ∷ rows) kept =
-    let first : IfSome (strong_value (reference_of k row)) (λ v. collected v ≡ false) = first_given (λ v. collected v ≡ false) (strong_value (reference_of k row)) (filter_map strong_value (listed_from (suc k) rows)) kept in
-    let others : All (λ v. collected v ≡ false) (filter_map strong_value (listed_from (suc k) rows)) = others_given (λ v. collected v ≡ false) (strong_value (reference_of k row)) (filter_map strong_value (listed_from (suc k) rows)) kept in
-    ap (λ r. r ∷ map (λ (q : Reference). record q { value = value_left collected q.value }) (listed_from (suc k) rows)) (row-emptied collected k row (row.count == 0) first)
-    ∙ ap (λ rs. reference_of k (weak_emptied collected row) ∷ rs) (listed-emptied collected (suc k) rows others)
+held-emptied : (collected : ℕ → Bool) (hs : List (Held ReferenceRow)) → All (λ v. collected v ≡ false) (filter_map strong_value (map reference_held hs))
+    → map (λ (r : Reference). record r { value = value_left collected r.value }) (map reference_held hs) ≡ map reference_held (map (held_emptied collected) hs)
+held-emptied collected [] kept = refl
+held-emptied collected (h ∷ hs) kept =
+    let first : IfSome (strong_value (reference_held h)) (λ v. collected v ≡ false) = first_given (λ v. collected v ≡ false) (strong_value (reference_held h)) (filter_map strong_value (map reference_held hs)) kept in
+    let others : All (λ v. collected v ≡ false) (filter_map strong_value (map reference_held hs)) = others_given (λ v. collected v ≡ false) (strong_value (reference_held h)) (filter_map strong_value (map reference_held hs)) kept in
+    ap (λ r. r ∷ map (λ (q : Reference). record q { value = value_left collected q.value }) (map reference_held hs)) (row-emptied collected h.number h.value (h.value.count == 0) first)
+    ∙ ap (λ rs. reference_of h.number (weak_emptied collected h.value) ∷ rs) (held-emptied collected hs others)
 
-pub rows-emptied : (collected : ℕ → Bool) (rows : List (Option ReferenceRow)) (p : ReferencePlaces) → places_of rows ≡ p → All (λ v. collected v ≡ false) (strong_values (map_of p))
-    → map_of (places_of (map (option_map (weak_emptied collected)) rows)) ≡ emptied collected (map_of p)
-rows-emptied collected rows p view kept =
-    let here : All (λ v. collected v ≡ false) (strong_values (map_of (places_of rows))) =
+standing-emptied : (collected : ℕ → Bool) (ps : List (Option (Held ReferenceRow))) → slab.standing (map (option_map (held_emptied collected)) ps) ≡ map (held_emptied collected) (slab.standing ps)
+standing-emptied collected [] = refl
+standing-emptied collected (None ∷ ps) = standing-emptied collected ps
+standing-emptied collected (Some h ∷ ps) = ap (λ hs. held_emptied collected h ∷ hs) (standing-emptied collected ps)
+
+mapped-emptied : (collected : ℕ → Bool) (hs : List (Held ReferenceRow)) → as_map (λ h. h.number) (map (held_emptied collected) hs) ≡ map (held_emptied collected) (as_map (λ h. h.number) hs)
+mapped-emptied collected [] = refl
+mapped-emptied collected (h ∷ hs) =
+    ap (with_record (λ (g : Held ReferenceRow). g.number) (held_emptied collected h)) (mapped-emptied collected hs)
+    ∙ sym (map-with_record (λ (g : Held ReferenceRow). g.number) (held_emptied collected) (λ g. refl) h (as_map (λ g. g.number) hs))
+
+pub rows-emptied : (collected : ℕ → Bool) (s : HeldPlaces ReferenceRow) (p : ReferencePlaces) → references_in s ≡ p → All (λ v. collected v ≡ false) (strong_values (map_of p))
+    → map_of (references_in (rows_emptied collected s)) ≡ emptied collected (map_of p)
+rows-emptied collected s p view kept =
+    let here : All (λ v. collected v ≡ false) (strong_values (map_of (references_in s))) =
     subst (λ (q : ReferencePlaces). All (λ v. collected v ≡ false) (strong_values (map_of q))) (sym view) kept in
-    let listed : All (λ v. collected v ≡ false) (filter_map strong_value (listed_from 1 rows)) =
-    subst (λ (rs : List Reference). All (λ v. collected v ≡ false) (filter_map strong_value rs)) (rows-listed rows) here in
-    let after : List (Option ReferenceRow) = map (option_map (weak_emptied collected)) rows in
+    let those : All (λ v. collected v ≡ false) (filter_map strong_value (map reference_held (held s))) =
+    subst (λ (rs : List Reference). All (λ v. collected v ≡ false) (filter_map strong_value rs)) (rows-held s) here in
     rw (← view)
     (same-map _ _ _ _
-    (rows-listed after ∙ sym (listed-emptied collected 1 rows listed) ∙ ap (map (λ (r : Reference). record r { value = value_left collected r.value })) (sym (rows-listed rows)))
-    (ap up_to (length-map rows (option_map (weak_emptied collected)))))
+    (rows-held (rows_emptied collected s)
+    ∙ ap (map reference_held) (ap (as_map (λ h. h.number)) (standing-emptied collected s.places) ∙ mapped-emptied collected (slab.standing s.places))
+    ∙ sym (held-emptied collected (held s) those) ∙ ap (map (λ (r : Reference). record r { value = value_left collected r.value })) (sym (rows-held s)))
+    refl)
+
+-- a place whose row was emptied, or was none
+pub place-next : (collected : ℕ → Bool) (xs ys zs : List (Option (Held ReferenceRow))) (i : ℕ) → i < length xs → ys ≡ map (option_map (held_emptied collected)) (take i xs) ++ drop i xs
+    → zs ≡ set ys i (option_map (held_emptied collected) (get_or ys i None)) → zs ≡ map (option_map (held_emptied collected)) (take (i + 1) xs) ++ drop (i + 1) xs
+place-next collected xs ys zs i less so_far is = is ∙ changed-next (option_map (held_emptied collected)) xs ys i None less so_far

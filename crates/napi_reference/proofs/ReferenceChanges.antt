@@ -1,63 +1,118 @@
--- What a write at a place changes of the map.
-use Rattle.std.proofs.Common.{◌≡◌, ◌∙◌, ℕ, ◌+◌, ◌-◌, ◌==◌, ◌∷◌, ◌++◌, not, false, cond, List, [], length, map, set, Option, Some, None, refl, ap, sym, arith}
-use Rattle.std.specs.List.{filter}
-use Rattle.std.proofs.lemmas.List.{length-set, length-append}
+-- What the map comes to, once a row is held, freed or replaced.
+use Rattle.std.proofs.Common.{◌≡◌, ◌∙◌, ℕ, ◌<◌, ◌==◌, ◌∷◌, Bool, true, false, not, cond, List, [], map, filter, Option, Some, None, option_map, refl, ap, sym, subst}
+use Rattle.std.proofs.lemmas.List.Elements.{All-map}
+use Rattle.generation_slab.specs.HeldPlaces.{Held, HeldPlaces, value_of, held, standing, with_held, without_held, with_value, with_held_value}
 use Rattle.napi_types.specs.declared.ids.ValueId.{ValueId}
-use Rattle.napi_types.specs.plain.Lists.{has_number, with_record, as_map, with_number, up_to}
+use Rattle.napi_types.specs.plain.Lists.{found, has_number, with_number}
 use Rattle.napi_types.specs.parts.References.{Reference, ReferenceMap, with_reference, without_reference, with_count}
-use Rattle.napi_types.proofs.plain.Issued.{above-up_to, up_to-more}
-use Rattle.napi_types.proofs.plain.Counted.{listed-more, listed-without, listed-changed}
-use Rattle.napi_types.proofs.plain.Found.{apart-below}
+use Rattle.napi_types.proofs.plain.Found.{IsRising, found-same, found-changed, found-number, rising-as_map, rising-changed, same-tells}
+use Rattle.napi_types.proofs.plain.Maps.{map-filter}
 use Rattle.napi_reference.specs.declared.rows.ReferenceRow.{ReferenceRow}
-use Rattle.napi_reference.specs.ReferencePlaces.{ReferencePlaces, map_of, standing}
-use Rattle.napi_reference.specs.ReferenceRows.{reference_of, references_from, places_of, reference_row}
-use Rattle.napi_reference.proofs.ReferenceNumbers.{referred, keeps-number, rows-listed, row-element}
+use Rattle.napi_reference.specs.ReferencePlaces.{ReferencePlaces, map_of}
+use Rattle.napi_reference.specs.ReferencePlaces as places
+use Rattle.napi_reference.specs.ReferenceRows.{reference_of, reference_held, references_in}
+use Rattle.napi_reference.proofs.ReferenceNumbers.{rows-held, references-more, found-references}
 
 pub same-map : (rs qs : List Reference) (is js : List ℕ) → rs ≡ qs → is ≡ js → let m : ReferenceMap = record { rows = rs; issued = is } in m ≡ record { rows = qs; issued = js }
 same-map rs qs is js e f = cc
 
+-- A REFERENCE IS MADE
+pub made : (old new : HeldPlaces ReferenceRow) (p : ReferencePlaces) → references_in old ≡ p → (n : ℕ) (value : ValueId) (count : ℕ)
+    → held new ≡ with_held n (record { value = Some value; count = count }) (held old) → new.issued ≡ with_number n old.issued
+    → map_of (references_in new) ≡ with_reference n value.0 count (map_of p)
+made old new p view n value count holds issued =
+    rw (← view)
+    (same-map _ _ _ _
+    (rows-held new ∙ ap (map reference_held) holds ∙ references-more (record { number = n; value = record { value = Some value; count = count } }) (held old)
+    ∙ ap (λ rs. with_record_of n value count rs) (sym (rows-held old)))
+    issued)
+  where
+    with_record_of : ℕ → ValueId → ℕ → List Reference → List Reference
+    with_record_of n value count rs = (with_reference n value.0 count (record { rows = rs; issued = [] })).rows
+
+pub fresh : (old : HeldPlaces ReferenceRow) (p : ReferencePlaces) → references_in old ≡ p → (n : ℕ) → has_number n (0 ∷ old.issued) ≡ false → has_number n (0 ∷ p.issued) ≡ false
+fresh old p view n new = rw (← view) new
+
+-- A REFERENCE IS DELETED
+pub deleted : (old new : HeldPlaces ReferenceRow) (p : ReferencePlaces) → references_in old ≡ p → (n : ℕ) → held new ≡ without_held n (held old) → new.issued ≡ old.issued
+    → map_of (references_in new) ≡ without_reference n (map_of p)
+deleted old new p view n holds issued =
+    rw (← view)
+    (same-map _ _ _ _
+    (rows-held new ∙ ap (map reference_held) holds
+    ∙ map-filter reference_held (λ (h : Held ReferenceRow). not (h.number == n)) (λ (r : Reference). not (r.number == n)) (λ h. refl) (held old)
+    ∙ ap (filter (λ r. not (r.number == n))) (sym (rows-held old)))
+    issued)
+
+-- A REFERENCE IS COUNTED
+abbrev pub recounted : ℕ → ReferenceRow → ReferenceRow
+recounted count row = record row { count = count }
+
 abbrev number : Reference → ℕ
 number r = r.number
 
--- A REFERENCE IS DELETED
--- xs are the rows as they were read
-pub deleted : (rows xs : List (Option ReferenceRow)) (p : ReferencePlaces) → places_of rows ≡ p → xs ≡ rows → (n : ℕ) (row : ReferenceRow) → Some row ≡ reference_row xs n
-    → map_of (places_of (set rows (n - 1) None)) ≡ without_reference n (map_of p)
-deleted rows xs p view same n row is =
-    rw (← view) (same-map _ _ _ _
-    (rows-listed (set rows (n - 1) None) ∙ listed-without referred number keeps-number rows n (Some row) None (row-element rows n row (rw same at is)) refl
-    ∙ ap (filter (λ r. not (r.number == n))) (sym (rows-listed rows)))
-    (ap up_to (length-set rows (n - 1) None)))
+abbrev counting : ℕ → ℕ → Reference → Reference
+counting n count r = cond (r.number == n) (record r { count = count }) r
 
--- A REFERENCE IS COUNTED
-abbrev recounted : ℕ → ReferenceRow → ReferenceRow
-recounted count row = record row { count = count }
+counting-keeps : (n count : ℕ) (r : Reference) → (counting n count r).number ≡ r.number
+counting-keeps n count r = by (r.number == n)
+  where
+    by : (b : Bool) → let q : Reference = cond b (record r { count = count }) r in q.number ≡ r.number
+    by true = refl
+    by false = refl
 
-pub counted : (rows xs : List (Option ReferenceRow)) (p : ReferencePlaces) → places_of rows ≡ p → xs ≡ rows → (n count : ℕ) (row : ReferenceRow) → Some row ≡ reference_row xs n
-    → map_of (places_of (set rows (n - 1) (Some (recounted count row)))) ≡ with_count n count (map_of p)
-counted rows xs p view same n count row is =
-    rw (← view) (same-map _ _ _ _
-    (rows-listed (set rows (n - 1) (Some (recounted count row)))
-    ∙ listed-changed referred number keeps-number (λ r. record r { count = count }) (λ r. refl) rows n (Some row) (Some (recounted count row))
-    (row-element rows n row (rw same at is)) refl
-    ∙ ap (map (λ r. cond (r.number == n) (record r { count = count }) r)) (sym (rows-listed rows)))
-    (ap up_to (length-set rows (n - 1) (Some (recounted count row)))))
+abbrev replacing : ℕ → ReferenceRow → Held ReferenceRow → Held ReferenceRow
+replacing n row h = cond (h.number == n) (with_value row h) h
 
--- A REFERENCE IS MADE
-made-map : (rows : List (Option ReferenceRow)) (row : ReferenceRow)
-    → as_map (λ r. r.number) (standing (references_from 1 (rows ++ Some row ∷ []))) ≡ with_record (λ r. r.number) (reference_of (length rows + 1) row)
-    (as_map (λ r. r.number) (standing (references_from 1 rows)))
-made-map rows row =
-    rows-listed (rows ++ Some row ∷ []) ∙ listed-more referred number keeps-number rows (Some row) (reference_of (length rows + 1) row) refl
-    ∙ ap (with_record (λ r. r.number) (reference_of (length rows + 1) row)) (sym (rows-listed rows))
+replacing-keeps : (n : ℕ) (row : ReferenceRow) (h : Held ReferenceRow) → (replacing n row h).number ≡ h.number
+replacing-keeps n row h = by (h.number == n)
+  where
+    by : (b : Bool) → let g : Held ReferenceRow = cond b (with_value row h) h in g.number ≡ h.number
+    by true = refl
+    by false = refl
 
-made-issued : (rows : List (Option ReferenceRow)) (row : ReferenceRow) → up_to (length (rows ++ Some row ∷ [])) ≡ with_number (length rows + 1) (up_to (length rows))
-made-issued rows row = ap up_to (length-append rows (Some row ∷ [])) ∙ sym (up_to-more (length rows))
+-- references that rise by number, found by it
+references-rise : (s : HeldPlaces ReferenceRow) → IsRising number (map reference_held (held s))
+references-rise s = subst (IsRising number) (rows-held s) (rising-as_map number (places.standing (map (option_map reference_held) s.places)))
 
-pub made : (rows : List (Option ReferenceRow)) (p : ReferencePlaces) → places_of rows ≡ p → (n : ℕ) → n ≡ length rows + 1 → (value : ValueId) (count : ℕ)
-    → map_of (places_of (rows ++ Some (record { value = Some value; count = count }) ∷ [])) ≡ with_reference n value.0 count (map_of p)
-made rows p view n is value count =
-    rw (is, ← view) (same-map _ _ _ _ (made-map rows (record { value = Some value; count = count })) (made-issued rows (record { value = Some value; count = count })))
+held-rises : (s : HeldPlaces ReferenceRow) → IsRising (λ h. h.number) (held s)
+held-rises s = rising-as_map (λ h. h.number) (standing s.places)
 
-pub fresh : (rows : List (Option ReferenceRow)) (p : ReferencePlaces) → places_of rows ≡ p → (n : ℕ) → n ≡ length rows + 1 → has_number n (0 ∷ p.issued) ≡ false
-fresh rows p view n is = rw (← view, apart-below 0 n (omega arith)) (above-up_to n (length rows) (omega arith))
+rows-rise : (hs : List (Held ReferenceRow)) → IsRising (λ h. h.number) hs → IsRising number (map reference_held hs)
+rows-rise [] rises = tt
+rows-rise (h ∷ hs) rises = (All-map (λ r. h.number < r.number) reference_held hs rises.0, rows-rise hs rises.1)
+
+rows-counted : (s : HeldPlaces ReferenceRow) (n count : ℕ) (row : ReferenceRow) → Some row ≡ value_of s n
+    → map reference_held (with_held_value n (recounted count row) (held s)) ≡ map (counting n count) (map reference_held (held s))
+rows-counted s n count row is =
+    found-same number (map reference_held (with_held_value n (recounted count row) (held s))) (map (counting n count) (map reference_held (held s)))
+    (rows-rise (with_held_value n (recounted count row) (held s)) (rising-changed (λ h. h.number) (replacing n (recounted count row)) (replacing-keeps n (recounted count row)) (held s) (held-rises s)))
+    (rising-changed number (counting n count) (counting-keeps n count) (map reference_held (held s)) (references-rise s))
+    (λ m. found-references m (with_held_value n (recounted count row) (held s))
+    ∙ ap (option_map reference_held) (found-changed (λ h. h.number) (replacing n (recounted count row)) (replacing-keeps n (recounted count row)) m (held s))
+    ∙ by m (found (λ h. h.number) m (held s)) refl
+    ∙ ap (option_map (counting n count)) (sym (found-references m (held s)))
+    ∙ sym (found-changed number (counting n count) (counting-keeps n count) m (map reference_held (held s))))
+  where
+    by : (m : ℕ) (o : Option (Held ReferenceRow)) → found (λ h. h.number) m (held s) ≡ o
+        → option_map reference_held (option_map (replacing n (recounted count row)) o) ≡ option_map (counting n count) (option_map reference_held o)
+    by m None at = refl
+    by m (Some h) at = case (h.number == n) refl
+      where
+        case : (b : Bool) → (h.number == n) ≡ b
+            → Some (reference_held (cond b (with_value (recounted count row) h) h)) ≡ Some (cond b (record (reference_held h) { count = count }) (reference_held h))
+        case false apart = refl
+        case true same =
+            let one : m ≡ n = sym (found-number (λ (g : Held ReferenceRow). g.number) m (held s) h at) ∙ same-tells h.number n same in
+            let here : Some row ≡ Some h.value = is ∙ ap (λ k. option_map (λ (g : Held ReferenceRow). g.value) (found (λ (g : Held ReferenceRow). g.number) k (held s))) (sym one) ∙ ap (option_map (λ (g : Held ReferenceRow). g.value)) at in
+            let it : row ≡ h.value = cc in
+            ap (λ (w : ReferenceRow). Some (reference_of h.number (recounted count w))) it
+
+pub counted : (old new : HeldPlaces ReferenceRow) (p : ReferencePlaces) → references_in old ≡ p → (n count : ℕ) (row : ReferenceRow) → Some row ≡ value_of old n
+    → held new ≡ with_held_value n (recounted count row) (held old) → new.issued ≡ old.issued
+    → map_of (references_in new) ≡ with_count n count (map_of p)
+counted old new p view n count row is holds issued =
+    rw (← view)
+    (same-map _ _ _ _
+    (rows-held new ∙ ap (map reference_held) holds ∙ rows-counted old n count row is ∙ ap (map (counting n count)) (sym (rows-held old)))
+    issued)

@@ -1,84 +1,74 @@
--- The reference of a number stands at its place.
-use Rattle.std.proofs.Common.{◌≡◌, ◌∙◌, ℕ, zero, suc, ◌<◌, nat_eq, ◌∷◌, true, false, List, [], length, map, Option, Some, None, IsSome, is_some, option_map, slice_index_or, refl, ap, sym, subst, arith}
-use Rattle.std.specs.List.{AllByRecursion, IsDistinct, cons_option, slice_get}
-use Rattle.std.specs.Option.{option_and_then}
-use Rattle.std.proofs.lemmas.Map.Keys.{IsDistinct-cons}
+-- The references of the map are the rows that are held.
+use Rattle.std.proofs.Common.{◌≡◌, ◌∙◌, ℕ, ◌==◌, nat_lt, nat_eq, ◌∷◌, ◌++◌, Bool, true, false, cond, List, [], length, map, filter, Option, Some, None, IsSome, is_some, option_map, refl, ap, sym, subst}
+use Rattle.std.specs.List.{IsDistinct}
+use Rattle.std.proofs.lemmas.List.{length-map, map-append}
+use Rattle.generation_slab.specs.HeldPlaces.{Held, HeldPlaces, value_of, held}
+use Rattle.generation_slab.specs.HeldPlaces as slab
 use Rattle.napi_types.specs.declared.ids.ValueId.{ValueId}
-use Rattle.napi_types.specs.plain.Counted.{element, listed}
-use Rattle.napi_types.specs.plain.Lists.{found, as_map}
+use Rattle.napi_types.specs.plain.Lists.{found, as_map, with_record}
 use Rattle.napi_types.specs.parts.References.{Reference, ReferenceMap, reference_at, has_reference, referred_value, reference_count}
-use Rattle.napi_types.proofs.plain.Counted.{found-listed, listed-map}
-use Rattle.napi_types.proofs.plain.Found.{apart-below, found-as_map, has-found}
+use Rattle.napi_types.proofs.plain.Found.{found-as_map, found-number, has-found}
+use Rattle.napi_types.proofs.plain.Maps.{map-filter}
 use Rattle.napi_reference.specs.declared.rows.ReferenceRow.{ReferenceRow}
 use Rattle.napi_reference.specs.ReferencePlaces.{ReferencePlaces, map_of, standing, EachReferenceStandsOnce}
-use Rattle.napi_reference.specs.ReferenceRows.{reference_of, references_from, places_of, reference_row}
+use Rattle.napi_reference.specs.ReferenceRows.{reference_of, reference_held, references_in}
 
--- the reference of a row of this number, where there is one
-abbrev pub referred : ℕ → Option ReferenceRow → Option Reference
-referred n row = option_map (reference_of n) row
+abbrev number : Reference → ℕ
+number r = r.number
 
-pub keeps-number : (n : ℕ) (row : Option ReferenceRow) (r : Reference) → referred n row ≡ Some r → r.number ≡ n
-keeps-number n None r is = let no : ⊥ = cc in absurd no
-keeps-number n (Some row) r is = let same : reference_of n row ≡ r = cc in ap (λ (q : Reference). q.number) (sym same)
+standing-held : (ps : List (Option (Held ReferenceRow))) → standing (map (option_map reference_held) ps) ≡ map reference_held (slab.standing ps)
+standing-held [] = refl
+standing-held (None ∷ ps) = standing-held ps
+standing-held (Some h ∷ ps) = ap (λ rs. reference_held h ∷ rs) (standing-held ps)
 
--- the references of rows whose numbers count up from this one
-abbrev pub listed_from : ℕ → List (Option ReferenceRow) → List Reference
-listed_from k rows = listed referred k rows
+pub references-more : (h : Held ReferenceRow) (hs : List (Held ReferenceRow)) → map reference_held (with_record (λ g. g.number) h hs) ≡ with_record number (reference_held h) (map reference_held hs)
+references-more h hs =
+    map-append reference_held (filter (λ g. nat_lt g.number h.number) hs) (h ∷ filter (λ g. nat_lt h.number g.number) hs)
+    ∙ ap (λ rs. rs ++ reference_held h ∷ map reference_held (filter (λ g. nat_lt h.number g.number) hs))
+    (map-filter reference_held (λ (g : Held ReferenceRow). nat_lt g.number h.number) (λ (r : Reference). nat_lt r.number h.number) (λ g. refl) hs)
+    ∙ ap (λ rs. filter (λ (r : Reference). nat_lt r.number h.number) (map reference_held hs) ++ reference_held h ∷ rs)
+    (map-filter reference_held (λ (g : Held ReferenceRow). nat_lt h.number g.number) (λ (r : Reference). nat_lt h.number r.number) (λ g. refl) hs)
 
-standing-listed : (k : ℕ) (rows : List (Option ReferenceRow)) → standing (references_from k rows) ≡ listed_from k rows
-standing-listed k [] = refl
-standing-listed k (row ∷ rows) = ap (cons_option (referred k row)) (standing-listed (suc k) rows)
+references-mapped : (hs : List (Held ReferenceRow)) → as_map number (map reference_held hs) ≡ map reference_held (as_map (λ g. g.number) hs)
+references-mapped [] = refl
+references-mapped (h ∷ hs) = ap (with_record number (reference_held h)) (references-mapped hs) ∙ sym (references-more h (as_map (λ g. g.number) hs))
 
--- their numbers rise, so that they are a finite map as they lie
-pub rows-listed : (rows : List (Option ReferenceRow)) → as_map (λ r. r.number) (standing (references_from 1 rows)) ≡ listed_from 1 rows
-rows-listed rows = ap (as_map (λ r. r.number)) (standing-listed 1 rows) ∙ listed-map referred (λ (r : Reference). r.number) keeps-number rows
+-- the map's references are those that the slab holds
+pub rows-held : (s : HeldPlaces ReferenceRow) → as_map number (standing (map (option_map reference_held) s.places)) ≡ map reference_held (held s)
+rows-held s = ap (as_map number) (standing-held s.places) ∙ references-mapped (slab.standing s.places)
 
-apart-listed : (n k : ℕ) (rows : List (Option ReferenceRow)) → n < k → AllByRecursion (λ m. nat_eq n m ≡ false) (map (λ r. r.number) (listed_from k rows))
-apart-listed n k [] h = tt
-apart-listed n k (None ∷ rows) h = apart-listed n (suc k) rows (omega arith)
-apart-listed n k (Some row ∷ rows) h = (apart-below n k h, apart-listed n (suc k) rows (omega arith))
+numbers-held : (hs : List (Held ReferenceRow)) → map number (map reference_held hs) ≡ map (λ h. h.number) hs
+numbers-held [] = refl
+numbers-held (h ∷ hs) = ap (λ ns. h.number ∷ ns) (numbers-held hs)
 
-listed-once : (k : ℕ) (rows : List (Option ReferenceRow)) → IsDistinct nat_eq (map (λ r. r.number) (listed_from k rows))
-unfolding IsDistinct
-listed-once k [] = tt
-listed-once k (None ∷ rows) = listed-once (suc k) rows
-listed-once k (Some row ∷ rows) =
-    IsDistinct-cons nat_eq k (map (λ (r : Reference). r.number) (listed_from (suc k) rows)) (apart-listed k (suc k) rows (omega arith)) (listed-once (suc k) rows)
-
--- so each stands at exactly one place, whatever the rows are
-pub stands-once : (rows : List (Option ReferenceRow)) → EachReferenceStandsOnce (places_of rows)
-stands-once rows = record {
-  there = λ n. found-as_map (λ (r : Reference). r.number) n (standing (references_from 1 rows));
-  apart = subst (λ (rs : List Reference). IsDistinct nat_eq (map (λ r. r.number) rs)) (sym (standing-listed 1 rows)) (listed-once 1 rows);
+-- so each stands at exactly one place
+pub stands-once : (s : HeldPlaces ReferenceRow) → IsDistinct nat_eq (map (λ h. h.number) (slab.standing s.places)) → EachReferenceStandsOnce (references_in s)
+stands-once s once = record {
+  there = λ n. found-as_map number n (standing (map (option_map reference_held) s.places));
+  apart =
+      subst (λ (rs : List Reference). IsDistinct nat_eq (map number rs)) (sym (standing-held s.places))
+      (subst (λ (ns : List ℕ). IsDistinct nat_eq ns) (sym (numbers-held (slab.standing s.places))) once);
 }
 
-pub length-references_from : (k : ℕ) (rows : List (Option ReferenceRow)) → length (references_from k rows) ≡ length rows
-length-references_from k [] = refl
-length-references_from k (row ∷ rows) = ap suc (length-references_from (suc k) rows)
+pub length-references : (s : HeldPlaces ReferenceRow) → length (map (option_map reference_held) s.places) ≡ length s.places
+length-references s = length-map s.places (option_map reference_held)
 
--- the map from numbers to references is the list's
-pub reference_at-row : (rows : List (Option ReferenceRow)) (n : ℕ) → reference_at (map_of (places_of rows)) n ≡ option_map (reference_of n) (reference_row rows n)
-reference_at-row rows n =
-    ap (found (λ r. r.number) n) (rows-listed rows) ∙ found-listed referred (λ (r : Reference). r.number) keeps-number n rows ∙ at n
+pub found-references : (n : ℕ) (hs : List (Held ReferenceRow)) → found number n (map reference_held hs) ≡ option_map reference_held (found (λ h. h.number) n hs)
+found-references n [] = refl
+found-references n (h ∷ hs) = by (h.number == n) (found-references n hs)
   where
-    read : (n : ℕ) (rows : List (Option ReferenceRow)) (p : ℕ) → option_and_then (referred n) (slice_get rows p) ≡ referred n (slice_index_or rows p None)
-    read n [] p = refl
-    read n (row ∷ rows) zero = refl
-    read n (row ∷ rows) (suc p) = read n rows p
+    by : (b : Bool) → found number n (map reference_held hs) ≡ option_map reference_held (found (λ g. g.number) n hs)
+        → cond b (Some (reference_held h)) (found number n (map reference_held hs)) ≡ option_map reference_held (cond b (Some h) (found (λ g. g.number) n hs))
+    by true rest = refl
+    by false rest = rest
 
-    at : (n : ℕ) → option_and_then (referred n) (element rows n) ≡ referred n (reference_row rows n)
-    at zero = refl
-    at (suc p) = read (suc p) rows p
-
--- a row that is read is an element of the list
-pub row-element : (rows : List (Option ReferenceRow)) (n : ℕ) (row : ReferenceRow) → Some row ≡ reference_row rows n → element rows n ≡ Some (Some row)
-row-element rows zero row is = let no : ⊥ = cc in absurd no
-row-element rows (suc p) row is = by rows p is
+-- the map from numbers to references is the slab's
+pub reference-at : (s : HeldPlaces ReferenceRow) (n : ℕ) → reference_at (map_of (references_in s)) n ≡ option_map (reference_of n) (value_of s n)
+reference-at s n = ap (found number n) (rows-held s) ∙ found-references n (held s) ∙ by (found (λ h. h.number) n (held s)) refl
   where
-    by : (rows : List (Option ReferenceRow)) (p : ℕ) → Some row ≡ slice_index_or rows p None → slice_get rows p ≡ Some (Some row)
-    by [] p is = let no : ⊥ = cc in absurd no
-    by (r ∷ rows) zero is = ap (λ o. Some o) (sym is)
-    by (r ∷ rows) (suc p) is = by rows p is
+    by : (o : Option (Held ReferenceRow)) → found (λ h. h.number) n (held s) ≡ o → option_map reference_held o ≡ option_map (reference_of n) (option_map (λ h. h.value) o)
+    by None is = refl
+    by (Some h) is = ap (λ m. Some (reference_of m h.value)) (found-number (λ (g : Held ReferenceRow). g.number) n (held s) h is)
 
 -- what is told of a reference by its row
 pub record IsReferenceRow (m : ReferenceMap) (n : ℕ) (row : ReferenceRow) : Type 0 where
@@ -86,10 +76,9 @@ pub record IsReferenceRow (m : ReferenceMap) (n : ℕ) (row : ReferenceRow) : Ty
   pub value : referred_value m n ≡ option_map (λ v. v.0) row.value
   pub count : reference_count m n ≡ row.count
 
--- xs are the rows as they were read
-pub row-read : (rows xs : List (Option ReferenceRow)) (p : ReferencePlaces) → places_of rows ≡ p → xs ≡ rows → (n : ℕ) (row : ReferenceRow) → Some row ≡ reference_row xs n → IsReferenceRow (map_of p) n row
-row-read rows xs p view same n row is =
-    let at : reference_at (map_of (places_of rows)) n ≡ Some (reference_of n row) = reference_at-row rows n ∙ ap (option_map (reference_of n)) (sym (rw same at is)) in
+pub row-read : (s : HeldPlaces ReferenceRow) (p : ReferencePlaces) → references_in s ≡ p → (n : ℕ) (row : ReferenceRow) → Some row ≡ value_of s n → IsReferenceRow (map_of p) n row
+row-read s p view n row is =
+    let at : reference_at (map_of (references_in s)) n ≡ Some (reference_of n row) = reference-at s n ∙ ap (option_map (reference_of n)) (sym is) in
     let here : reference_at (map_of p) n ≡ Some (reference_of n row) = ap (λ q. reference_at (map_of q) n) (sym view) ∙ at in
     record {
       there = has-found (λ (r : Reference). r.number) n (map_of p).rows ∙ ap is_some here;
@@ -97,9 +86,9 @@ row-read rows xs p view same n row is =
       count = rw here refl;
     }
 
-pub none-read : (rows xs : List (Option ReferenceRow)) (p : ReferencePlaces) → places_of rows ≡ p → xs ≡ rows → (n : ℕ) → None ≡ reference_row xs n → has_reference (map_of p) n ≡ false
-none-read rows xs p view same n is =
-    let at : reference_at (map_of (places_of rows)) n ≡ None = reference_at-row rows n ∙ ap (option_map (reference_of n)) (sym (rw same at is)) in
+pub none-read : (s : HeldPlaces ReferenceRow) (p : ReferencePlaces) → references_in s ≡ p → (n : ℕ) → None ≡ value_of s n → has_reference (map_of p) n ≡ false
+none-read s p view n is =
+    let at : reference_at (map_of (references_in s)) n ≡ None = reference-at s n ∙ ap (option_map (reference_of n)) (sym is) in
     let here : reference_at (map_of p) n ≡ None = ap (λ q. reference_at (map_of q) n) (sym view) ∙ at in
     has-found (λ (r : Reference). r.number) n (map_of p).rows ∙ ap is_some here
 

@@ -1,14 +1,15 @@
 -- The values that strong references keep, place by place.
-use Rattle.std.proofs.Common.{◌≡◌, ◌∙◌, ℕ, zero, suc, ◌+◌, ◌==◌, ◌||◌, Bool, ◌∷◌, ◌++◌, List, [], Option, Some, None, option_map, slice_index_or, refl, ap, sym, arith}
+use Rattle.std.proofs.Common.{◌≡◌, ◌∙◌, ℕ, zero, suc, ◌==◌, ◌||◌, Bool, ◌∷◌, ◌++◌, List, [], map, Option, Some, None, option_map, slice_index_or, refl, ap, sym}
 use Rattle.std.specs.List.{filter_map, cons_option, list_any}
 use Rattle.std.specs.Option.{option_to_list}
 use Rattle.std.proofs.lemmas.List.Folds.{list_any-append}
+use Rattle.generation_slab.specs.HeldPlaces.{Held, HeldPlaces}
 use Rattle.napi_types.specs.plain.Lists.{has_number, HaveSameNumbers, as_map}
 use Rattle.napi_types.specs.parts.References.{Reference, strong_value, strong_values}
 use Rattle.napi_types.proofs.plain.Maps.{list_any-as_map}
 use Rattle.napi_reference.specs.declared.rows.ReferenceRow.{ReferenceRow}
 use Rattle.napi_reference.specs.ReferencePlaces.{ReferencePlaces, map_of, standing, EachReferenceStandsOnce, strong_in}
-use Rattle.napi_reference.specs.ReferenceRows.{reference_of, references_from}
+use Rattle.napi_reference.specs.ReferenceRows.{reference_of, reference_held, references_in}
 
 strong-listed : (places : List (Option Reference)) → filter_map strong_value (standing places) ≡ filter_map strong_in places
 strong-listed [] = refl
@@ -35,13 +36,20 @@ strong_values-places p once = λ n.
     any-keeps n (as_map (λ r. r.number) (standing p.places)) ∙ list_any-as_map (λ (r : Reference). r.number) (keeps n) (standing p.places) once.apart
     ∙ sym (any-keeps n (standing p.places)) ∙ ap (has_number n) (strong-listed p.places)
 
-pub references_from-at : (k : ℕ) (rows : List (Option ReferenceRow)) (at : ℕ) → slice_index_or (references_from k rows) at None ≡ option_map (reference_of (k + at)) (slice_index_or rows at None)
-references_from-at k [] at = refl
-references_from-at k (row ∷ rows) zero = ap (λ n. option_map (reference_of n) row) (last k)
+pub reference-place : (s : HeldPlaces ReferenceRow) (at : ℕ) → slice_index_or (map (option_map reference_held) s.places) at None ≡ option_map reference_held (slice_index_or s.places at None)
+reference-place s at = each s.places at
   where
-    last : (n : ℕ) → n ≡ n + 0
-    last n = omega arith
-references_from-at k (row ∷ rows) (suc at) = references_from-at (suc k) rows at ∙ ap (λ n. option_map (reference_of n) (slice_index_or rows at None)) (next k at)
+    each : (ps : List (Option (Held ReferenceRow))) (at : ℕ) → slice_index_or (map (option_map reference_held) ps) at None ≡ option_map reference_held (slice_index_or ps at None)
+    each [] at = refl
+    each (p ∷ ps) zero = refl
+    each (p ∷ ps) (suc at) = each ps at
+
+-- the value of a strong reference at a place, by the row that stands there
+pub strong-place : (s : HeldPlaces ReferenceRow) (p : ReferencePlaces) → references_in s ≡ p → (at : ℕ) (row : Option ReferenceRow) → row ≡ option_map (λ h. h.value) (slice_index_or s.places at None)
+    → (v : Option ℕ) → ((n : ℕ) → v ≡ strong_in (option_map (reference_of n) row)) → v ≡ strong_in (slice_index_or p.places at None)
+strong-place s p view at row is v told =
+    by (slice_index_or s.places at None) is ∙ ap strong_in (sym (reference-place s at)) ∙ ap (λ (q : ReferencePlaces). strong_in (slice_index_or q.places at None)) view
   where
-    next : (n m : ℕ) → suc n + m ≡ n + suc m
-    next n m = omega arith
+    by : (o : Option (Held ReferenceRow)) → row ≡ option_map (λ h. h.value) o → v ≡ strong_in (option_map reference_held o)
+    by None same = told 0 ∙ ap (λ r. strong_in (option_map (reference_of 0) r)) same
+    by (Some h) same = told h.number ∙ ap (λ r. strong_in (option_map (reference_of h.number) r)) same

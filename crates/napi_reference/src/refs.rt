@@ -9,6 +9,7 @@ ghost use Rattle.napi_types.specs.parts.References.{no_references, with_referenc
 ghost use Rattle.napi_reference.specs.ReferencePlaces.{map_of, EachReferenceStandsOnce, strong_in};
 
 use crate::rows::{self, ReferenceRow};
+use generation_slab::GenerationSlab;
 use napi_types::{NoMemory, RefId, Status, ValueId};
 use std::alloc::Global;
 use std::marker::Model;
@@ -17,8 +18,7 @@ use std::marker::Model;
 /// deleted, and its number is never issued again.
 #[derive(Drop)]
 pub struct Refs {
-    // The reference with the number n stands at n - 1. A place whose reference was deleted stays empty.
-    rows: Vec<Option<ReferenceRow>>,
+    rows: GenerationSlab<ReferenceRow>,
 }
 
 impl Model for Refs {
@@ -26,9 +26,9 @@ impl Model for Refs {
 
     ghost Value = { ReferencePlaces };
 
-    ghost use Rattle.napi_reference.specs.ReferenceRows.{places_of};
+    ghost use Rattle.napi_reference.specs.ReferenceRows.{references_in};
 
-    ghost view = { λ refs. places_of refs.rows.items };
+    ghost view = { λ refs. references_in refs.rows };
 }
 
 impl Refs {
@@ -37,26 +37,34 @@ impl Refs {
         ensures { IfOk result (λ refs. map_of refs ≡ no_references) }
     {
         Ok(Refs {
-            rows: Vec::new(alloc),
+            rows: GenerationSlab::new(alloc),
+        })
+    }
+
+    /// No references, where a place is used `last + 1` times: no number has a generation after `last`.
+    pub fn with_generations(alloc: Global, last: u16) -> Result<Refs, NoMemory>
+        ensures { IfOk result (λ refs. map_of refs ≡ no_references) }
+    {
+        Ok(Refs {
+            rows: GenerationSlab::with_generations(alloc, last),
         })
     }
 
     /// Makes a reference to a value: the manual's `napi_create_reference`. With the count 0 it is weak. Its number was never
     /// issued before, and is not 0. Fewer than 2^48 - 2 references were made before.
     ///
-    /// Near constant time: now and then the list of references grows.
+    /// Near constant time: now and then the places grow.
     pub fn make(&mut self, value: ValueId, count: u32) -> Result<RefId, NoMemory>
         requires { length self.old.issued + 2 < 2 ^ 48 }
         ensures fresh { IfOk result (λ id. has_number id.0 (0 ∷ self.old.issued) ≡ false) }
         ensures made { IfOk result (λ id. map_of self.new ≡ with_reference id.0 value.0 count (map_of self.old)) }
         ensures err { OnErr result (self.new ≡ self.old) }
     {
-        let number = self.rows.len() as u64 + 1;
         let row = ReferenceRow {
             value: Some(value),
             count,
         };
-        rows::push(&mut self.rows, row)?;
+        let number = self.rows.make(row)?;
         Ok(RefId(number))
     }
 
@@ -69,7 +77,7 @@ impl Refs {
         ensures err { OnErr result (self.new ≡ self.old) }
     {
         rows::row_at(&self.rows, id.0).ok_or(Status::InvalidArg)?;
-        rows::put(&mut self.rows, id.0, None);
+        self.rows.free(id.0);
         Ok(())
     }
 
@@ -91,7 +99,7 @@ impl Refs {
             return Ok(0);
         }
         let count = row.count.checked_add(1).ok_or(Status::GenericFailure)?;
-        rows::put(&mut self.rows, id.0, Some(ReferenceRow { count, ..row }));
+        self.rows.replace(id.0, ReferenceRow { count, ..row });
         Ok(count)
     }
 
@@ -107,7 +115,7 @@ impl Refs {
     {
         let row = rows::row_at(&self.rows, id.0).ok_or(Status::InvalidArg)?;
         let count = row.count.checked_sub(1).ok_or(Status::GenericFailure)?;
-        rows::put(&mut self.rows, id.0, Some(ReferenceRow { count, ..row }));
+        self.rows.replace(id.0, ReferenceRow { count, ..row });
         Ok(count)
     }
 
@@ -139,7 +147,7 @@ impl Refs {
         ensures places { result ≡ length self.now.places }
         ensures once { EachReferenceStandsOnce self.now }
     {
-        self.rows.len()
+        self.rows.places()
     }
 
     /// The value of the strong reference at a place, `None` exactly where no reference stands there, or none with a value and a
@@ -148,6 +156,6 @@ impl Refs {
         requires { at < length self.now.places }
         ensures { option_map (λ v. v.0) result ≡ strong_in (slice_index_or self.now.places at None) }
     {
-        rows::strong_value(self.rows[at])
+        rows::strong_value(self.rows.value_in(at).copied())
     }
 }

@@ -1,12 +1,14 @@
-//! The list of references, read and changed by number.
-ghost use Rattle.std.specs.Prelude.{◌≡◌, ℕ, ◌-◌, ◌++◌, [], ◌∷◌, IsSome, OnOk, OnErr, Some, map, option_map, slice_set};
+//! The rows of references, read and emptied.
+ghost use Rattle.std.specs.Prelude.{◌≡◌, ℕ, ◌<◌, map, length, None, option_map, slice_index_or, slice_set};
+ghost use Rattle.generation_slab.specs.HeldPlaces.{value_of};
 ghost use Rattle.napi_types.specs.plain.Lists.{has_number};
 ghost use Rattle.napi_reference.specs.Freed.{IsInOrder};
 ghost use Rattle.napi_reference.specs.ReferencePlaces.{strong_in};
-ghost use Rattle.napi_reference.specs.ReferenceRows.{reference_of, reference_row, weak_emptied};
+ghost use Rattle.napi_reference.specs.ReferenceRows.{reference_of, weak_emptied, held_emptied, rows_emptied};
 
 use crate::freed::{Order, is_among, order_of};
-use napi_types::{NoMemory, ValueId};
+use generation_slab::GenerationSlab;
+use napi_types::ValueId;
 
 /// A reference: its value, none where that was collected, and its count.
 #[derive(Clone, Copy)]
@@ -16,10 +18,10 @@ pub(crate) struct ReferenceRow {
 }
 
 /// The row of a number.
-pub(crate) fn row_at(rows: &[Option<ReferenceRow>], number: u64) -> Option<ReferenceRow>
-    ensures { result ≡ reference_row rows.now number }
+pub(crate) fn row_at(rows: &GenerationSlab<ReferenceRow>, number: u64) -> Option<ReferenceRow>
+    ensures { result ≡ value_of rows.now number }
 {
-    rows.get(number.checked_sub(1)? as usize).copied().flatten()
+    rows.get(number).copied()
 }
 
 /// The value that the row at a place keeps, where its count is above 0.
@@ -32,44 +34,40 @@ pub(crate) fn strong_value(place: Option<ReferenceRow>) -> Option<ValueId>
     }
 }
 
-/// Adds a row at a new place.
-pub(crate) fn push(rows: &mut Vec<Option<ReferenceRow>>, row: ReferenceRow) -> Result<(), NoMemory>
-    ensures pushed { OnOk result (rows.new.items ≡ rows.old.items ++ Some row ∷ []) }
-    ensures err { OnErr result (rows.new.items ≡ rows.old.items) }
-{
-    rows.push(Some(row))?;
-    Ok(())
-}
-
-/// Puts a row, or none, in the place of the row of a number.
-pub(crate) fn put(rows: &mut Vec<Option<ReferenceRow>>, number: u64, row: Option<ReferenceRow>)
-    requires { IsSome (reference_row rows.old.items number) }
-    ensures { rows.new.items ≡ slice_set rows.old.items (number - 1) row }
-{
-    rows[(number - 1) as usize] = row;
-}
-
 /// Takes its value from each row that has the count 0 and one of these values.
-pub(crate) fn empty_weak(rows: &mut Vec<Option<ReferenceRow>>, values: &[ValueId])
-    ensures { rows.new.items ≡ map (option_map (weak_emptied (λ v. has_number v (map (λ v. v.0) values.now)))) rows.old.items }
+pub(crate) fn empty_weak(rows: &mut GenerationSlab<ReferenceRow>, values: &[ValueId])
+    ensures { rows.new ≡ rows_emptied (λ v. has_number v (map (λ v. v.0) values.now)) rows.old }
 {
     let order = order_of(values);
-    for place in rows.iter_mut() {
-        empty(place, values, order);
+    for at in 0..rows.places() {
+        empty_at(rows, at, values, order);
     }
 }
 
-fn empty(place: &mut Option<ReferenceRow>, values: &[ValueId], order: Order)
-    requires { IsInOrder order values.now }
-    ensures { place.new ≡ option_map (weak_emptied (λ v. has_number v (map (λ v. v.0) values.now))) place.old }
+/// The same of the row at a place, where one stands there.
+fn empty_at(rows: &mut GenerationSlab<ReferenceRow>, at: usize, values: &[ValueId], order: Order)
+    requires within { at < length rows.old.places }
+    requires order { IsInOrder order values.now }
+    ensures places { rows.new.places ≡ slice_set rows.old.places at (option_map (held_emptied (λ v. has_number v (map (λ v. v.0) values.now))) (slice_index_or rows.old.places at None)) }
+    ensures issued { rows.new.issued ≡ rows.old.issued }
 {
-    if let Some(row) = place {
-        if row.count == 0
-            && row
-                .value
-                .is_some_and(|value| is_among(values, order, value))
-        {
-            row.value = None;
-        }
+    if let Some(row) = rows.value_in(at).copied() {
+        rows.put_in(at, emptied(row, values, order));
+    }
+}
+
+/// The row without its value, where it has the count 0 and one of these values.
+fn emptied(row: ReferenceRow, values: &[ValueId], order: Order) -> ReferenceRow
+    requires { IsInOrder order values.now }
+    ensures { result ≡ weak_emptied (λ v. has_number v (map (λ v. v.0) values.now)) row }
+{
+    if row.count == 0
+        && row
+            .value
+            .is_some_and(|value| is_among(values, order, value))
+    {
+        ReferenceRow { value: None, ..row }
+    } else {
+        row
     }
 }

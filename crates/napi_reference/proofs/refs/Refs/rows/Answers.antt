@@ -1,12 +1,10 @@
-use Rattle.std.proofs.Common.{◌≡◌, length, ap, rules, arith, subst}
+use Rattle.std.proofs.Common.{◌∙◌, length, ap, sym, subst}
 use Rattle.napi_reference.specs.ReferencePlaces.{ReferencePlaces, EachReferenceStandsOnce}
-use Rattle.napi_reference.proofs.ReferenceNumbers.{length-references_from, stands-once}
+use Rattle.napi_reference.proofs.ReferenceNumbers.{length-references, stands-once}
 use Rattle.napi_reference.proofs.refs.Refs.rows.Goals as goal
 
 pub returns-clause-places : goal.returns-clause-places
-returns-clause-places c =
-    let many : c.len.result ≡ length c.self.inside.rows.items = search rules in
-    omega (arith, many, length-references_from 1 c.self.inside.rows.items, ap (λ (p : ReferencePlaces). length p.places) c.self.view_is)
+returns-clause-places c = c.places.ensures.places ∙ sym (length-references c.self.inside.rows) ∙ ap (λ (p : ReferencePlaces). length p.places) c.self.view_is
 
 pub returns-clause-once : goal.returns-clause-once
-returns-clause-once c = subst (λ (p : ReferencePlaces). EachReferenceStandsOnce p) c.self.view_is (stands-once c.self.inside.rows.items)
+returns-clause-once c = subst (λ (p : ReferencePlaces). EachReferenceStandsOnce p) c.self.view_is (stands-once c.self.inside.rows c.places.ensures.once)

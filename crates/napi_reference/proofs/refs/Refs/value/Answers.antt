@@ -7,16 +7,16 @@ use Rattle.napi_reference.proofs.refs.Refs.value.Goals as goal
 
 pub returns-in_err-row-clause-refusal : goal.returns-in_err-row-clause-refusal
 returns-in_err-row-clause-refusal c =
-    let none = none-read c.self.inside.rows.items c.deref.result.now c.args.self.now c.self.view_is c.deref.ensures.value c.args.id.0 (sym c.in_err-row.ensures.ok_part ∙ c.row_at.ensures) in
+    let none = none-read c.self.inside.rows c.args.self.now c.self.view_is c.args.id.0 (sym c.in_err-row.ensures.ok_part ∙ c.row_at.ensures) in
     let refused = refused_unknown (map_of c.args.self.now) c.args.id.0 (call.GetReferenceValue c.args.id) refl none in
     grind (arith, refused)
 
 pub returns-clause-refusal : goal.returns-clause-refusal
 returns-clause-refusal c =
-    let is = row-read c.self.inside.rows.items c.deref.result.now c.args.self.now c.self.view_is c.deref.ensures.value c.args.id.0 c.in_ok-row.row (sym c.in_ok-row.ensures.ok_part ∙ c.row_at.ensures) in
+    let is = row-read c.self.inside.rows c.args.self.now c.self.view_is c.args.id.0 c.in_ok-row.row (sym c.in_ok-row.ensures.ok_part ∙ c.row_at.ensures) in
     sym (refused_known (map_of c.args.self.now) c.args.id.0 (call.GetReferenceValue c.args.id) refl is.there)
 
 pub returns-clause-value : goal.returns-clause-value
 returns-clause-value c =
-    let is = row-read c.self.inside.rows.items c.deref.result.now c.args.self.now c.self.view_is c.deref.ensures.value c.args.id.0 c.in_ok-row.row (sym c.in_ok-row.ensures.ok_part ∙ c.row_at.ensures) in
+    let is = row-read c.self.inside.rows c.args.self.now c.self.view_is c.args.id.0 c.in_ok-row.row (sym c.in_ok-row.ensures.ok_part ∙ c.row_at.ensures) in
     sym is.value
