@@ -26,7 +26,7 @@ returns-else-generation-self-clause-freed g c =
     c.slot_of-slot.result at c.index-generation.result.now
     (read-generation c.self.inside.slots c.self.inside.generations.items c.args.number c.slot_of-slot.result c.index-generation.result.now at c.index-generation.ensures)
     (below-last c.self.inside.generations.items c.self.inside.last c.slot_of-slot.result c.index-generation.result.now c.self.invariant.within at.within c.index-generation.ensures
-    c.if-generation-self.false)
+    (λ same. grind (arith, same, c.if-generation-self.false)))
     c.remove.ensures.updates in it.holds
 
 pub returns-else-generation-self-clause-issued : goal.returns-else-generation-self-clause-issued
@@ -36,5 +36,5 @@ returns-else-generation-self-clause-issued g c =
     c.slot_of-slot.result at c.index-generation.result.now
     (read-generation c.self.inside.slots c.self.inside.generations.items c.args.number c.slot_of-slot.result c.index-generation.result.now at c.index-generation.ensures)
     (below-last c.self.inside.generations.items c.self.inside.last c.slot_of-slot.result c.index-generation.result.now c.self.invariant.within at.within c.index-generation.ensures
-    c.if-generation-self.false)
+    (λ same. grind (arith, same, c.if-generation-self.false)))
     c.remove.ensures.updates in it.issued

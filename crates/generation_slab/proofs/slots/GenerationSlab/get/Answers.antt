@@ -1,4 +1,4 @@
-use Rattle.std.proofs.Common.{◌∙◌, ap, sym, option_copied, length, nat_lt, ◌%◌}
+use Rattle.std.proofs.Common.{arith, ◌∙◌, ap, sym, option_copied, length, nat_lt, ◌%◌}
 use Rattle.generation_slab.proofs.Reading.{none-of-zero, none-past, none-other, none-there, value-live, read-at}
 use Rattle.generation_slab.proofs.slots.GenerationSlab.get.Goals as goal
 
@@ -16,7 +16,7 @@ pub returns-then-from-at : goal.returns-then-from-at
 returns-then-from-at g c =
     sym (none-other c.self.inside.slots c.self.inside.generations.items c.self.inside.last c.self.invariant c.args.self.now c.self.view_is c.args.number c.in_ok-at.at c.in_ok-generation.field-0.now c.in_ok-at.ensures.0 c.in_ok-at.ensures.1
     (read-at c.self.inside.generations.items c.deref.result.now c.in_ok-at.at c.in_ok-generation.field-0.now c.deref.ensures.value c.in_ok-generation.ensures.lookup.0 c.in_ok-generation.ensures.lookup.1)
-    (λ same. c.if-from-at.true (c.from.ensures ∙ same)))
+    (λ same. grind (arith, same, c.from.ensures, c.if-from-at.true)))
 
 pub returns-in_err-get : goal.returns-in_err-get
 returns-in_err-get g c =
@@ -28,5 +28,5 @@ returns g c =
     c.live.ensures
     ∙ sym (value-live c.self.inside.slots c.self.inside.generations.items c.self.inside.last c.self.invariant c.args.self.now c.self.view_is c.args.number c.in_ok-at.at c.in_ok-generation.field-0.now c.in_ok-get.field-0.now c.in_ok-at.ensures.0 c.in_ok-at.ensures.1
     (read-at c.self.inside.generations.items c.deref.result.now c.in_ok-at.at c.in_ok-generation.field-0.now c.deref.ensures.value c.in_ok-generation.ensures.lookup.0 c.in_ok-generation.ensures.lookup.1)
-    (sym c.from.ensures ∙ c.if-from-at.false)
+    (omega (arith, c.from.ensures, c.if-from-at.false))
     (sym c.in_ok-get.ensures))
