@@ -11,8 +11,8 @@ use Rattle.generation_slab.specs.declared.slots.Slot.{Slot}
 use Rattle.generation_slab.specs.declared.slots.Slot.TheVariants as slot
 use Rattle.generation_slab.specs.HeldPlaces.{Held, HeldPlaces, standing, held, value_of, with_held, without_held, with_value, with_held_value}
 use Rattle.generation_slab.specs.SlotNumbers.{number_of_slot, generation_in, places_from, issued_from, places_of, value_in, given_in, value_at, is_issued, HasGenerations}
-use Rattle.generation_slab.proofs.Numbering.{test-apart, parted, slot-below, slot-of, generation-of, value-changed, issued-more, issued-same, put-value, taken-value, other-generation, given-taken, given-back}
-use Rattle.generation_slab.proofs.Standing.{held-at, value-held}
+use Rattle.generation_slab.proofs.SlotNumbers.{tests-apart, parted, slot-below, slot-of, generation-of, value-changed, issued-more, issued-same, put-value, taken-value, other-generation, given-taken, given-back}
+use Rattle.generation_slab.proofs.HeldPlaces.{held-at, value-held}
 use Rattle.generation_slab.proofs.Issuing.{issued-at, numbers-more, numbers-kept}
 
 -- each slot up to this one has a generation, which is 0 where it had none
@@ -285,4 +285,4 @@ module _ {T : Type 0} where
       itself g = grind (arith, nat_tests)
 
       none : (g k : ℕ) → (0 == number_of_slot g k) ≡ false
-      none g k = test-apart 0 (number_of_slot g k) (λ same. omega (arith, same))
+      none g k = (tests-apart 0 (number_of_slot g k)).1 (λ same. omega (arith, same))

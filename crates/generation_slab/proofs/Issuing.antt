@@ -7,7 +7,7 @@ use Rattle.napi_types.specs.plain.Lists.{found, has_number, as_map, with_number}
 use Rattle.napi_types.proofs.plain.Found.{found-as_map, has-found, found-same, rising-as_map, rising-with_record, has-with_number, same-tells}
 use Rattle.generation_slab.specs.declared.slots.Slot.{Slot}
 use Rattle.generation_slab.specs.SlotNumbers.{number_of_slot, generation_in, numbers_before, issued_in, issued_from, places_of, given_in, is_issued, HasGenerations}
-use Rattle.generation_slab.proofs.Numbering.{apart-slots, one-slot, no-number, parted, slot-below, given-next}
+use Rattle.generation_slab.proofs.SlotNumbers.{apart-slots, one-slot, no-number, parted, slot-below, given-next}
 
 -- A SLOT'S NUMBERS
 before-slot : (a g k : ℕ) → has_number (number_of_slot a k) (numbers_before g k) ≡ nat_lt a g

@@ -1,5 +1,5 @@
 pub mod Changing
+pub mod HeldPlaces
 pub mod Issuing
-pub mod Numbering
-pub mod Reading
-pub mod Standing
+pub mod SlotNumbers
+pub mod SlotReading

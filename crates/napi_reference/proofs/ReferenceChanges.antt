@@ -11,7 +11,7 @@ use Rattle.napi_reference.specs.declared.rows.ReferenceRow.{ReferenceRow}
 use Rattle.napi_reference.specs.ReferencePlaces.{ReferencePlaces, map_of}
 use Rattle.napi_reference.specs.ReferencePlaces as places
 use Rattle.napi_reference.specs.ReferenceRows.{reference_of, reference_held, references_in}
-use Rattle.napi_reference.proofs.ReferenceNumbers.{rows-held, references-more, found-references}
+use Rattle.napi_reference.proofs.ReferenceNumbers.{number, rows-held, references-more, found-references}
 
 pub same-map : (rs qs : List Reference) (is js : List ℕ) → rs ≡ qs → is ≡ js → let m : ReferenceMap = record { rows = rs; issued = is } in m ≡ record { rows = qs; issued = js }
 same-map rs qs is js e f = cc
@@ -47,9 +47,6 @@ deleted old new p view n holds issued =
 -- A REFERENCE IS COUNTED
 abbrev pub recounted : ℕ → ReferenceRow → ReferenceRow
 recounted count row = record row { count = count }
-
-abbrev number : Reference → ℕ
-number r = r.number
 
 abbrev counting : ℕ → ℕ → Reference → Reference
 counting n count r = cond (r.number == n) (record r { count = count }) r

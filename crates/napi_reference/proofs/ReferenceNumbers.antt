@@ -13,7 +13,7 @@ use Rattle.napi_reference.specs.declared.rows.ReferenceRow.{ReferenceRow}
 use Rattle.napi_reference.specs.ReferencePlaces.{ReferencePlaces, map_of, standing, EachReferenceStandsOnce}
 use Rattle.napi_reference.specs.ReferenceRows.{reference_of, reference_held, references_in}
 
-abbrev number : Reference → ℕ
+abbrev pub number : Reference → ℕ
 number r = r.number
 
 standing-held : (ps : List (Option (Held ReferenceRow))) → standing (map (option_map reference_held) ps) ≡ map reference_held (slab.standing ps)

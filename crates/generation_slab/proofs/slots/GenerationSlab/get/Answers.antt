@@ -1,5 +1,5 @@
 use Rattle.std.proofs.Common.{arith, ◌∙◌, ap, sym, option_copied, length, nat_lt, ◌%◌}
-use Rattle.generation_slab.proofs.Reading.{none-of-zero, none-past, none-other, none-there, value-live, read-at}
+use Rattle.generation_slab.proofs.SlotReading.{none-of-zero, none-past, none-other, none-there, value-live, read-at}
 use Rattle.generation_slab.proofs.slots.GenerationSlab.get.Goals as goal
 
 pub returns-in_err-at : goal.returns-in_err-at

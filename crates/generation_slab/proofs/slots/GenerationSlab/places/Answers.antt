@@ -1,8 +1,8 @@
 use Rattle.std.proofs.Common.{◌≡◌, ◌∙◌, sym, subst, arith, nat_eq, map, length, rules}
 use Rattle.std.specs.List.{IsDistinct}
 use Rattle.generation_slab.specs.HeldPlaces.{standing}
-use Rattle.generation_slab.proofs.Reading.{long}
-use Rattle.generation_slab.proofs.Standing.{numbers-once}
+use Rattle.generation_slab.proofs.SlotReading.{long}
+use Rattle.generation_slab.proofs.HeldPlaces.{numbers-once}
 use Rattle.generation_slab.proofs.slots.GenerationSlab.places.Goals as goal
 
 pub returns-clause-places : goal.returns-clause-places

@@ -1,6 +1,6 @@
 use Rattle.std.proofs.Common.{◌∙◌}
 use Rattle.generation_slab.proofs.Changing.{twice}
-use Rattle.generation_slab.proofs.Reading.{place-taken, place-put}
+use Rattle.generation_slab.proofs.SlotReading.{place-taken, place-put}
 use Rattle.generation_slab.proofs.slots.GenerationSlab.put_in.Goals as goal
 
 pub remove-requires : goal.remove-requires

@@ -1,6 +1,6 @@
 use Rattle.std.proofs.Common.{◌∙◌, ap, is_some}
 use Rattle.generation_slab.proofs.Changing.{stands, twice, replaces}
-use Rattle.generation_slab.proofs.Reading.{value-seen}
+use Rattle.generation_slab.proofs.SlotReading.{value-seen}
 use Rattle.generation_slab.proofs.slots.GenerationSlab.replace.Goals as goal
 
 pub remove-requires : goal.remove-requires

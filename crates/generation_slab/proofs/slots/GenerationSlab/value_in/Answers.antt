@@ -1,5 +1,5 @@
 use Rattle.std.proofs.Common.{◌∙◌, ap, sym, option_copied, None, Some}
-use Rattle.generation_slab.proofs.Reading.{place-value}
+use Rattle.generation_slab.proofs.SlotReading.{place-value}
 use Rattle.generation_slab.proofs.slots.GenerationSlab.value_in.Goals as goal
 
 pub returns-in_err-get : goal.returns-in_err-get

@@ -7,8 +7,8 @@ use Rattle.generation_slab.specs.declared.slots.Slot.{Slot}
 use Rattle.generation_slab.specs.declared.slots.Slot.TheVariants as slot
 use Rattle.generation_slab.specs.HeldPlaces.{Held, HeldPlaces, value_of, with_value}
 use Rattle.generation_slab.specs.SlotNumbers.{number_of_slot, generation_in, live_in, standing_in, places_from, places_of, value_in, value_at, HasGenerations}
-use Rattle.generation_slab.proofs.Numbering.{test-apart, test-same, other-generation}
-use Rattle.generation_slab.proofs.Standing.{value-held, places-at, places-set, length-places}
+use Rattle.generation_slab.proofs.SlotNumbers.{tests-apart, test-same, other-generation}
+use Rattle.generation_slab.proofs.HeldPlaces.{value-held, places-at, places-set, length-places}
 
 -- a generation that is read
 pub read-at : (gs xs : List ℕ) (at g : ℕ) → xs ≡ gs → true ≡ nat_lt (at % 281474976710656) (length xs) → g ≡ slice_index_or xs (at % 281474976710656) g
@@ -50,7 +50,7 @@ module _ {T : Type 0} (slots : Slab (Slot T)) (gs : List ℕ) (last : ℕ) (soun
   none-other n at g above is generation apart =
       value-in-slot n at above is
       ∙ other-generation (get slots (at % 281474976710656)) (at / 281474976710656) (generation_in gs (at % 281474976710656))
-      (test-apart (generation_in gs (at % 281474976710656)) (at / 281474976710656) (λ same. apart (generation ∙ same)))
+      ((tests-apart (generation_in gs (at % 281474976710656)) (at / 281474976710656)).1 (λ same. apart (generation ∙ same)))
 
   pub none-there : (n at : ℕ) → 1 ≤ n → at ≡ n - 1 → get slots (at % 281474976710656) ≡ None → value_of s n ≡ None
   none-there n at above is vacant =

@@ -7,15 +7,16 @@ use Rattle.generation_slab.specs.declared.slots.Slot.{Slot}
 use Rattle.generation_slab.specs.declared.slots.Slot.TheVariants as slot
 use Rattle.generation_slab.specs.SlotNumbers.{number_of_slot, generation_in, value_in, given_in, value_at, is_issued}
 
-pub apart-tells : (m n : ℕ) → (m == n) ≡ false → m ≢ n
-apart-tells m n apart same = grind (arith, nat_tests)
-
-pub test-apart : (m n : ℕ) → m ≢ n → (m == n) ≡ false
-test-apart m n apart = by (m == n) refl
+-- two numbers are apart where the test says so
+pub tests-apart : (m n : ℕ) → ((m == n) ≡ false → m ≢ n) × (m ≢ n → (m == n) ≡ false)
+tests-apart m n = (λ told same. tells m n told same, λ apart. by (m == n) refl apart)
   where
-    by : (b : Bool) → (m == n) ≡ b → b ≡ false
-    by true is = absurd (apart (same-tells m n is))
-    by false is = refl
+    tells : (m n : ℕ) → (m == n) ≡ false → m ≡ n → ⊥
+    tells m n apart same = grind (arith, nat_tests)
+
+    by : (b : Bool) → (m == n) ≡ b → m ≢ n → b ≡ false
+    by true is apart = absurd (apart (same-tells m n is))
+    by false is apart = refl
 
 pub test-same : (m n : ℕ) → m ≡ n → (m == n) ≡ true
 test-same m n same = grind (arith, nat_tests)
@@ -34,17 +35,17 @@ pub parted : (at : ℕ) → suc at ≡ number_of_slot (at / 281474976710656) (at
 parted at = omega arith
 
 pub apart-slots : (g k h j : ℕ) → k < 281474976710656 → j < 281474976710656 → k ≢ j → (number_of_slot g k == number_of_slot h j) ≡ false
-apart-slots g k h j small below apart = test-apart (number_of_slot g k) (number_of_slot h j) (λ same. apart (omega (arith, same, small, below)))
+apart-slots g k h j small below apart = (tests-apart (number_of_slot g k) (number_of_slot h j)).1 (λ same. apart (omega (arith, same, small, below)))
 
 pub one-slot : (g h k : ℕ) → (number_of_slot g k == number_of_slot h k) ≡ (g == h)
 one-slot g h k = by (g == h) refl
   where
     by : (b : Bool) → (g == h) ≡ b → (number_of_slot g k == number_of_slot h k) ≡ b
     by true is = let same : g ≡ h = same-tells g h is in test-same (number_of_slot g k) (number_of_slot h k) (ap (λ m. number_of_slot m k) same)
-    by false is = test-apart (number_of_slot g k) (number_of_slot h k) (λ same. apart-tells g h is (omega (arith, same)))
+    by false is = (tests-apart (number_of_slot g k) (number_of_slot h k)).1 (λ same. (tests-apart g h).0 is (omega (arith, same)))
 
 pub no-number : (g k : ℕ) → (number_of_slot g k == 0) ≡ false
-no-number g k = test-apart (number_of_slot g k) 0 (λ same. omega (arith, same))
+no-number g k = (tests-apart (number_of_slot g k) 0).1 (λ same. omega (arith, same))
 
 -- ONE SLOT CHANGES
 module _ {T : Type 0} (old new : Slab (Slot T)) (olds news : List ℕ) (key g : ℕ) (below : key < 281474976710656)
@@ -74,7 +75,7 @@ module _ {T : Type 0} (old new : Slab (Slot T)) (olds news : List ℕ) (key g : 
           ∙ ap (λ m. cond (number_of_slot g key == suc at) x (value_in (get old key) m (at / 281474976710656))) (sym here)
           ∙ ap (λ s. cond (number_of_slot g key == suc at) x (value_in (get old s) (generation_in olds s) (at / 281474976710656))) (sym k)
       by false is =
-          let apart = apart-tells (at % 281474976710656) key is in
+          let apart = (tests-apart (at % 281474976710656) key).0 is in
           ap (λ o. value_in o (generation_in news (at % 281474976710656)) (at / 281474976710656)) (others (at % 281474976710656) apart)
           ∙ ap (λ m. value_in (get old (at % 281474976710656)) m (at / 281474976710656)) (same (at % 281474976710656) apart)
           ∙ ap (λ b. cond b x (value_at old olds (suc at))) (sym (other at apart))
@@ -92,7 +93,7 @@ module _ {T : Type 0} (old new : Slab (Slot T)) (olds news : List ℕ) (key g : 
           ∙ ap (λ m. (number_of_slot g key == suc at) || given_in (get old key) m (at / 281474976710656)) (sym here)
           ∙ ap (λ s. (number_of_slot g key == suc at) || given_in (get old s) (generation_in olds s) (at / 281474976710656)) (sym k)
       by false is =
-          let apart = apart-tells (at % 281474976710656) key is in
+          let apart = (tests-apart (at % 281474976710656) key).0 is in
           ap (λ o. given_in o (generation_in news (at % 281474976710656)) (at / 281474976710656)) (others (at % 281474976710656) apart)
           ∙ ap (λ m. given_in (get old (at % 281474976710656)) m (at / 281474976710656)) (same (at % 281474976710656) apart)
           ∙ ap (λ b. b || is_issued old olds (suc at)) (sym (other at apart))
@@ -108,7 +109,7 @@ module _ {T : Type 0} (old new : Slab (Slot T)) (olds news : List ℕ) (key g : 
           ∙ ap (λ m. given_in (get old key) m (at / 281474976710656)) (sym here)
           ∙ ap (λ s. given_in (get old s) (generation_in olds s) (at / 281474976710656)) (sym k)
       by false is =
-          let apart = apart-tells (at % 281474976710656) key is in
+          let apart = (tests-apart (at % 281474976710656) key).0 is in
           ap (λ o. given_in o (generation_in news (at % 281474976710656)) (at / 281474976710656)) (others (at % 281474976710656) apart)
           ∙ ap (λ m. given_in (get old (at % 281474976710656)) m (at / 281474976710656)) (same (at % 281474976710656) apart)
 

@@ -9,7 +9,7 @@ use Rattle.generation_slab.specs.declared.slots.Slot.{Slot}
 use Rattle.generation_slab.specs.declared.slots.Slot.TheVariants as slot
 use Rattle.generation_slab.specs.HeldPlaces.{Held, standing, held, value_of}
 use Rattle.generation_slab.specs.SlotNumbers.{number_of_slot, generation_in, standing_in, places_from, places_of, value_in, value_at, HasGenerations}
-use Rattle.generation_slab.proofs.Numbering.{apart-slots, one-slot, no-number, parted, slot-below}
+use Rattle.generation_slab.proofs.SlotNumbers.{apart-slots, one-slot, no-number, parted, slot-below}
 
 module _ {T : Type 0} where
   abbrev number : Held T → ℕ
