@@ -1,5 +1,6 @@
 //! Many tickets, hooks, references and wraps, and many finalizers of one value: that each is accepted where there is memory, also after
 //! 65,535 others, and that a long chain of tickets, or of lines that were seen, is let go and falls due within the stack. No clause says so.
+//! Three references whose place is used again are tried too.
 ghost use Rattle.std.specs.Prelude.{◌≡◌, ◌+◌, ◌<◌, ◌≤◌, ◌^◌, [], length};
 ghost use Rattle.std.specs.List.{All};
 ghost use Rattle.napi_types.specs.parts.Attachments.{no_attachments};
@@ -8,7 +9,7 @@ use super::ample;
 use cleanup_hooks::Hooks;
 use finalizer_queue::{Book, NewDuty};
 use napi_reference::Refs;
-use napi_types::{Cause, SeenList, Ticket, ValueId};
+use napi_types::{Cause, RefId, SeenList, Status, Ticket, ValueId};
 use std::alloc::Global;
 use std::process::Abort;
 use wrap_tag::Wraps;
@@ -120,6 +121,42 @@ fn many_are_accepted(rt: HostRuntime) {
         Some(MANY - 1),
     );
     assert_eq!(rt; many(&rt, rt.alloc()), want);
+}
+
+/// A reference is made, and deleted at once. Its number.
+fn make_and_delete(rt: &impl Abort, references: &mut Refs) -> RefId
+    requires { length references.old.issued < 2 ^ 20 }
+    ensures { length references.new.issued ≤ length references.old.issued + 1 }
+{
+    let reference = ample(rt, references.make(VALUE, 1));
+    assert!(rt; references.delete(reference).is_ok());
+    reference
+}
+
+/// Three are made and deleted in turn, and a place is used for two of them. Whether their numbers differ, and with what each is refused then.
+fn in_turn(rt: &impl Abort, references: &mut Refs) -> (bool, [Option<Status>; 3])
+    requires { references.old.issued ≡ [] }
+{
+    let first = make_and_delete(rt, references);
+    let second = make_and_delete(rt, references);
+    let third = make_and_delete(rt, references);
+    (
+        first != second && second != third && third != first,
+        [
+            references.value(first).err(),
+            references.value(second).err(),
+            references.value(third).err(),
+        ],
+    )
+}
+
+#[test]
+fn no_number_is_given_again(rt: HostRuntime) {
+    let mut references = ample(&rt, Refs::with_generations(rt.alloc(), 1));
+    assert_eq!(rt;
+        in_turn(&rt, &mut references),
+        (true, [Some(Status::InvalidArg); 3])
+    );
 }
 
 /// A finalizer of the value is registered and attached. No value is wrapped, and the book gave each ticket that is attached.
