@@ -1,4 +1,4 @@
-//! The program: reads a script from standard input, runs it with addons that follow it, and writes the trace to
+//! The program: runs the script that its words ask for with addons that follow it, and writes the trace or the summary to
 //! standard output. A script without a schedule runs on threads of the machine, and its gate holds none of them. It stands on `script_host`, and nothing
 //! stands on it.
 #![tactic(auto)]
@@ -67,7 +67,7 @@ fn texts(alloc: Global, given: Args) -> Result<Vec<Text>, NoMemory>
     Ok(words)
 }
 
-/// Runs the script of standard input with addons that follow it, and answers the status with which the program ends.
+/// Runs what the words ask for with addons that follow their script, and answers the status with which the program ends.
 fn run<R: Env + AllocGlobal + Input + Print + Threads + Wait + Sync>(rt: &R) -> Result<u8, Unable> {
     let alloc = rt.alloc();
     let given = env::args(rt).map_err(Unable::by)?;

@@ -1,5 +1,5 @@
 -- What the top call knows of a run that was made.
-use Rattle.std.proofs.Common.{◌≡◌, ◌<◌, ◌≤◌, ◌+◌, ◌*◌, ℕ, List, ◌++◌, length, drop, slice_get, Some, refl, subst, arith}
+use Rattle.std.proofs.Common.{◌≡◌, ◌<◌, ◌≤◌, ◌+◌, ◌*◌, ◌∙◌, ℕ, true, false, List, [], ◌++◌, length, drop, slice_get, Option, Some, None, refl, ap, sym, subst, arith}
 use Rattle.std.proofs.Common.{◌⊎◌, inl, inr}
 use Rattle.napi_types.specs.declared.duties.DueInfo.{DueInfo}
 use Rattle.napi_types.specs.declared.entry.Entry.{Entry}
@@ -23,11 +23,16 @@ use Rattle.env_loop.specs.Recording.{AddonStates, IsEnded}
 use Rattle.script_host.specs.Loading.{told_plans, setting_with}
 use Rattle.script_host.specs.ScriptActors.{MadeItsScript}
 use Rattle.script_host.specs.declared.top_call.Demand.{Demand}
+use Rattle.script_host.specs.declared.top_call.Demand.TheVariants as demand
+use Rattle.script_host.specs.declared.words.Command.{Command}
+use Rattle.script_host.specs.declared.words.Command.TheVariants as command
 use Rattle.script_host.specs.declared.words.Line.{Line}
 use Rattle.script_host.specs.declared.words.Line.TheVariants as line
 use Rattle.script_host.specs.Outside.{Input}
 use Rattle.script_host.specs.Words.{line_status}
-use Rattle.script_host.specs.Host.{IsStatus, Handed, HasRun, setting_of, Causes, Gave, HasTooManyAddons, LacksSchedule, GaveRefused}
+use Rattle.script_host.specs.Host.{IsStatus, Handed, HasRun, setting_of, Gave, HasTooManyAddons, LacksSchedule, AreRefused, CameRefused, IsScriptOf, is_met}
+use Rattle.script_host.specs.Host.{Causes, CausesOfReading, CausesOfLoad}
+use Rattle.script_host.specs.Load.{load_script}
 use Rattle.script_host.proofs.Loading.{length-told, length-told-le}
 
 -- the lists of a run with few addons, threads and workers are within their limits
@@ -96,34 +101,78 @@ line-known line.NoMemory = refl
 line-known line.ReadFault = refl
 line-known line.TooLong = refl
 
+-- where a script was chosen, want of memory is a cause: with a load no schedule is demanded
+pub memory-cause : (d : Demand) (o : Option Command) (c : Command) (s : Script) (input : Input) (handed : ℕ) → o ≡ Some c → IsScriptOf c input s
+    → is_met d s ≡ true → Causes d line.NoMemory o input handed
+memory-cause d o c s input handed asked is met =
+    subst (λ (asked : Option Command). Causes d line.NoMemory asked input handed) (sym asked) (by d c is met)
+  where
+    by : (d : Demand) (c : Command) → IsScriptOf c input s → is_met d s ≡ true → Causes d line.NoMemory (Some c) input handed
+    by d command.Run is met = tt
+    by d command.Summary is met = tt
+    by demand.Nothing (command.Load n) is met = tt
+    by demand.Schedule (command.Load n) is met = let no : true ≡ false = sym met ∙ ap (is_met demand.Schedule) is in cc
+
+-- a source gave bytes that are refused
+record GaveRefused (d : Demand) (input : Input) (handed : ℕ) : Type 0 where
+  pub bytes : List ℕ
+  pub gave : Gave input bytes
+  pub are_refused : AreRefused d bytes handed
+
 -- bytes that a source gave are not too long
 refused : (d : Demand) (input : Input) (bytes : List ℕ) (handed : ℕ) → Gave input bytes
     → IsNoJson bytes ⊎ (((w : Wrong) × IsWrong bytes w) ⊎ (HasTooManyAddons bytes handed ⊎ LacksSchedule d bytes handed)) → GaveRefused d input handed
-refused d input bytes handed gave why = record { bytes = bytes; gave = gave; is_refused = record { short = gave.within; why = why } }
+refused d input bytes handed gave why = record { bytes = bytes; gave = gave; are_refused = record { short = gave.within; why = why } }
 
 -- the cause of a line, by how many addons were handed in
-pub cause-at : (d : Demand) (l : Line) (words : List (List ℕ)) (input : Input) (counted handed : ℕ) → counted ≡ handed
-    → Causes d l words input counted → Causes d l words input handed
-cause-at d l words input counted handed same cause = let P : ℕ → Type 0 = λ n. Causes d l words input n in subst P same cause
+pub cause-at : (d : Demand) (l : Line) (o : Option Command) (input : Input) (counted handed : ℕ) → counted ≡ handed
+    → Causes d l o input counted → Causes d l o input handed
+cause-at d l o input counted handed same cause = let P : ℕ → Type 0 = λ n. Causes d l o input n in subst P same cause
 
--- a line with the status of a refusal has a refusal as its cause
-pub refused-of : (d : Demand) (l : Line) (words : List (List ℕ)) (input : Input) (handed : ℕ)
-    → Causes d l words input handed → line_status l ≡ 3 → GaveRefused d input handed
-refused-of d line.Usage words input handed cause e = absurd (omega arith)
-refused-of d line.NotJson words input handed cause e = refused d input cause.1.bytes handed cause.1.gave (inl cause.1.is_no_json)
-refused-of d (line.Shape path) words input handed cause e =
-    refused d input cause.1.bytes handed cause.1.gave (inr (inl (wrong.Shape cause.1.has_wrong_shape.0, cause.1.has_wrong_shape.2)))
-refused-of d (line.Limit which) words input handed cause e =
-    refused d input cause.1.bytes handed cause.1.gave (inr (inl (wrong.Limit which, cause.1.is_wrong)))
-refused-of d line.TooManyAddons words input handed cause e =
-    refused d input cause.1.gave.bytes handed cause.1.gave.gave
-    (inr (inr (inl (record { script = cause.1.script; is_script = cause.1.gave.is_script; more = cause.1.more }))))
-refused-of d line.Schedule words input handed cause e =
-    refused d input cause.1.gave.bytes handed cause.1.gave.gave
-    (inr (inr (inr (record { script = cause.1.script; is_script = cause.1.gave.is_script; enough = cause.1.enough; unmet = cause.1.unmet }))))
-refused-of d line.NoMemory words input handed cause e = absurd (omega arith)
-refused-of d line.ReadFault words input handed cause e = absurd (omega arith)
-refused-of d line.TooLong words input handed cause e = absurd (omega arith)
+-- a line with the status of a refusal has a refusal as its cause: where the source was read
+read-refused : (d : Demand) (l : Line) (input : Input) (handed : ℕ) → CausesOfReading d l input handed → line_status l ≡ 3 → GaveRefused d input handed
+read-refused d line.Usage input handed cause e = absurd cause
+read-refused d line.NotJson input handed cause e = refused d input cause.bytes handed cause.gave (inl cause.is_no_json)
+read-refused d (line.Shape path) input handed cause e =
+    refused d input cause.bytes handed cause.gave (inr (inl (wrong.Shape cause.has_wrong_shape.0, cause.has_wrong_shape.2)))
+read-refused d (line.Limit which) input handed cause e =
+    refused d input cause.bytes handed cause.gave (inr (inl (wrong.Limit which, cause.is_wrong)))
+read-refused d line.TooManyAddons input handed cause e =
+    refused d input cause.gave.bytes handed cause.gave.gave
+    (inr (inr (inl (record { script = cause.script; is_script = cause.gave.is_script; more = cause.more }))))
+read-refused d line.Schedule input handed cause e =
+    refused d input cause.gave.bytes handed cause.gave.gave
+    (inr (inr (inr (record { script = cause.script; is_script = cause.gave.is_script; enough = cause.enough; unmet = cause.unmet }))))
+read-refused d line.NoMemory input handed cause e = absurd (omega arith)
+read-refused d line.ReadFault input handed cause e = absurd (omega arith)
+read-refused d line.TooLong input handed cause e = absurd (omega arith)
+
+-- and where the load script was to run
+load-refused : (d : Demand) (l : Line) (n handed : ℕ) → CausesOfLoad d l (load_script n) handed → line_status l ≡ 3
+    → (is_met d (load_script n) ≡ false) ⊎ (handed < length (load_script n).addons)
+load-refused demand.Schedule l n handed cause e = inl refl
+load-refused demand.Nothing line.Usage n handed cause e = absurd cause
+load-refused demand.Nothing line.NotJson n handed cause e = absurd cause
+load-refused demand.Nothing (line.Shape path) n handed cause e = absurd cause
+load-refused demand.Nothing (line.Limit which) n handed cause e = absurd cause
+load-refused demand.Nothing line.TooManyAddons n handed cause e = inr cause
+load-refused demand.Nothing line.Schedule n handed cause e = absurd cause
+load-refused demand.Nothing line.NoMemory n handed cause e = absurd (omega arith)
+load-refused demand.Nothing line.ReadFault n handed cause e = absurd cause
+load-refused demand.Nothing line.TooLong n handed cause e = absurd cause
+
+-- a line with the status of a refusal stands where the words ask for a command that is refused
+pub refused-of : (d : Demand) (l : Line) (o : Option Command) (input : Input) (handed : ℕ)
+    → Causes d l o input handed → line_status l ≡ 3 → (c : Command) × (o ≡ Some c) × CameRefused d c input handed
+refused-of d l None input handed cause e = let no : 2 ≡ 3 = sym (ap line_status cause) ∙ e in absurd (omega (arith, no))
+refused-of d l (Some command.Run) input handed cause e =
+    let r : GaveRefused d input handed = read-refused d l input handed cause e in
+    (command.Run, refl, record { bytes = r.bytes; gave = λ reading. r.gave; is_refused = r.are_refused })
+refused-of d l (Some command.Summary) input handed cause e =
+    let r : GaveRefused d input handed = read-refused d l input handed cause e in
+    (command.Summary, refl, record { bytes = r.bytes; gave = λ reading. r.gave; is_refused = r.are_refused })
+refused-of d l (Some (command.Load n)) input handed cause e =
+    (command.Load n, refl, record { bytes = []; gave = λ reading. (let no : true ≡ false = sym reading in cc); is_refused = load-refused d l n handed cause e })
 
 -- where a fault of the source was counted, the line tells it
 pub fault-told : (l : Line) (faults risen : ℕ) → ((l ≡ line.ReadFault → ⊥) → risen ≡ faults) → (risen ≡ faults → ⊥) → line_status l ≡ 4

@@ -3,8 +3,10 @@ pub mod EndedActors
 pub mod Hosts
 pub mod LoadLists
 pub mod Loading
+pub mod Numerals
 pub mod OneKind
 pub mod Pieces
 pub mod Small
 pub mod SmallActors
 pub mod SmallLoad
+pub mod Telling

@@ -1,5 +1,5 @@
--- What the top call does: the run that it leaves, the text that it writes, and the refusals that stand in place of a trace.
-use Rattle.std.specs.Prelude.{◌≡◌, ◌≤◌, ◌<◌, ◌^◌, ℕ, Bool, true, false, List, [], ◌∷◌, ◌++◌, length, map, drop, slice_get, Some, is_some, IfSome, IsTrue, ◌==◌, ◌⊎◌}
+-- What the top call does: the run that it leaves, the text that it writes, and the refusals that stand in place of a text.
+use Rattle.std.specs.Prelude.{◌≡◌, ◌≤◌, ◌<◌, ◌^◌, ℕ, Bool, true, false, List, [], ◌∷◌, ◌++◌, length, map, drop, slice_get, Some, Option, None, is_some, IfSome, IsTrue, ◌==◌, ◌⊎◌, ⊤}
 use Rattle.std.specs.List.{list_any}
 use Rattle.std.specs.Io.KnownBytes.{prepend_known, append_known, IsAtEnd}
 use Rattle.napi_types.specs.declared.call.Ask.{Ask}
@@ -15,6 +15,7 @@ use Rattle.napi_types.specs.plain.Weave.{weave, RisesBetween}
 use Rattle.napi_types.specs.scripts.Plans.{Plan, plan_of, registers_of}
 use Rattle.napi_types.specs.scripts.Script.{IsScript, IsWrong, HasWrongShape}
 use Rattle.napi_types.specs.scripts.ScriptReading.{IsNoJson}
+use Rattle.napi_types.specs.scripts.Summary.{summary}
 use Rattle.napi_types.specs.scripts.Text.{text}
 use Rattle.napi_types.specs.hub.Actors.{Free, Over, worker_along}
 use Rattle.napi_types.specs.runs.Begins.{begun_along, of_addon}
@@ -27,12 +28,15 @@ use Rattle.napi_types.specs.all_runs.Order.{TicketsCount, HooksFall, FinalsRise}
 use Rattle.addon_trait.specs.Addons.{seen_of}
 use Rattle.script_host.specs.Reading.{longest_source, GaveTooMany}
 use Rattle.env_loop.specs.Recording.{AgreesWhereTold}
+use Rattle.script_host.specs.Load.{load_script}
 use Rattle.script_host.specs.Loading.{told_plans, setting_with}
 use Rattle.script_host.specs.Outside.{Input, Output}
 use Rattle.script_host.specs.ScriptActors.{AreActors, MadeItsScript}
-use Rattle.script_host.specs.Words.{is_run_words}
+use Rattle.script_host.specs.Words.{command_of, reads}
 use Rattle.script_host.specs.declared.top_call.Demand.{Demand}
 use Rattle.script_host.specs.declared.top_call.Demand.TheVariants as demand
+use Rattle.script_host.specs.declared.words.Command.{Command}
+use Rattle.script_host.specs.declared.words.Command.TheVariants as command
 use Rattle.script_host.specs.declared.words.Line.{Line}
 use Rattle.script_host.specs.declared.words.Line.TheVariants as line
 
@@ -97,9 +101,12 @@ pub record IsSmall (script : Script) : Type 0 where
   pub texts : length script.texts < 2 ^ 32
   pub actors : AreActors script.threads script.workers script.schedule
 
--- the text of the run
-abbrev pub trace_of : Script → Record → List ℕ
-trace_of script left = text script.texts (weave left.journal left.history)
+-- THE TEXT
+-- what a command writes of a run with these texts: its trace, or the summary of that
+abbrev pub text_of : Command → List (List ℕ) → Record → List ℕ
+text_of command.Run texts left = text texts (weave left.journal left.history)
+text_of command.Summary texts left = summary (weave left.journal left.history)
+text_of (command.Load number) texts left = summary (weave left.journal left.history)
 
 -- THE DEMAND
 -- whether a script is what a top call demands: one that demands a schedule runs no script without one
@@ -109,8 +116,8 @@ is_met demand.Schedule script = is_some script.schedule
 
 -- THE BYTES
 -- the bytes are more than a source may give
-abbrev pub IsTooLong : List ℕ → Type 0
-IsTooLong bytes = longest_source < length bytes
+abbrev pub AreTooLong : List ℕ → Type 0
+AreTooLong bytes = longest_source < length bytes
 
 -- the bytes are a script with more addons than were handed in
 pub record HasTooManyAddons (bytes : List ℕ) (handed : ℕ) : Type 0 where
@@ -127,12 +134,12 @@ pub record LacksSchedule (d : Demand) (bytes : List ℕ) (handed : ℕ) : Type 0
 
 -- the bytes are not too long, and they are no JSON text, or one in which something is wrong, or a script with too many addons, or one without the schedule that is
 -- demanded
-pub record IsRefused (d : Demand) (bytes : List ℕ) (handed : ℕ) : Type 0 where
+pub record AreRefused (d : Demand) (bytes : List ℕ) (handed : ℕ) : Type 0 where
   pub short : length bytes ≤ longest_source
   pub why : IsNoJson bytes ⊎ (((w : Wrong) × IsWrong bytes w) ⊎ (HasTooManyAddons bytes handed ⊎ LacksSchedule d bytes handed))
 
 -- the bytes are not too long, and they are a script with no more addons than were handed in, and with the schedule, where one is demanded
-pub record IsRunnable (d : Demand) (bytes : List ℕ) (handed : ℕ) : Type 0 where
+pub record AreRunnable (d : Demand) (bytes : List ℕ) (handed : ℕ) : Type 0 where
   pub short : length bytes ≤ longest_source
   pub script : Script
   pub is_script : IsScript bytes script
@@ -190,38 +197,75 @@ pub record GaveNoSchedule (d : Demand) (input : Input) (handed : ℕ) : Type 0 w
   pub enough : length script.addons ≤ handed
   pub unmet : is_met d script ≡ false
 
--- the source gave bytes that are refused
-pub record GaveRefused (d : Demand) (input : Input) (handed : ℕ) : Type 0 where
-  pub bytes : List ℕ
-  pub gave : Gave input bytes
-  pub is_refused : IsRefused d bytes handed
-
 -- the source gave more bytes than a source may
 pub record GaveTooMuch (input : Input) : Type 0 where
   pub more : GaveTooMany input.before input.after
   pub told : IfSome input.before (λ given. longest_source < length given)
 
+-- THE COMMAND
+-- the script that a command runs: what the source gave, or the load script of its number
+abbrev pub IsScriptOf : Command → Input → Script → Type 0
+IsScriptOf command.Run input script = GaveScript input script
+IsScriptOf command.Summary input script = GaveScript input script
+IsScriptOf (command.Load number) input script = script ≡ load_script number
+
+-- the command reads the source, and these bytes of it are too many
+abbrev pub IsTooLong : Command → List ℕ → Type 0
+IsTooLong c bytes = (reads (Some c) ≡ true) × AreTooLong bytes
+
+-- the command with these bytes of the source is refused. A load script has no schedule
+abbrev pub IsRefused : Demand → Command → List ℕ → ℕ → Type 0
+IsRefused d command.Run bytes handed = AreRefused d bytes handed
+IsRefused d command.Summary bytes handed = AreRefused d bytes handed
+IsRefused d (command.Load number) bytes handed = (is_met d (load_script number) ≡ false) ⊎ (handed < length (load_script number).addons)
+
+-- the command with these bytes of the source can be run
+abbrev pub IsRunnable : Demand → Command → List ℕ → ℕ → Type 0
+IsRunnable d command.Run bytes handed = AreRunnable d bytes handed
+IsRunnable d command.Summary bytes handed = AreRunnable d bytes handed
+IsRunnable d (command.Load number) bytes handed = (is_met d (load_script number) ≡ true) × (length (load_script number).addons ≤ handed)
+
+-- the command is refused, where it reads the source then with the bytes that the source gave
+pub record CameRefused (d : Demand) (c : Command) (input : Input) (handed : ℕ) : Type 0 where
+  pub bytes : List ℕ
+  pub gave : reads (Some c) ≡ true → Gave input bytes
+  pub is_refused : IsRefused d c bytes handed
+
 -- THE REFUSALS
--- why a line stands in place of a trace. The schedule comes last: it is missed only where all else is right
-abbrev pub Causes : Demand → Line → List (List ℕ) → Input → ℕ → Type 0
-Causes d line.Usage words input handed = is_run_words words ≡ false
-Causes d line.NotJson words input handed = (is_run_words words ≡ true) × GaveNoJson input
-Causes d (line.Shape path) words input handed = (is_run_words words ≡ true) × GaveWrongShape input path
-Causes d (line.Limit which) words input handed = (is_run_words words ≡ true) × GaveWrong input (wrong.Limit which)
-Causes d line.TooManyAddons words input handed = (is_run_words words ≡ true) × GaveTooManyAddons input handed
-Causes d line.Schedule words input handed = (is_run_words words ≡ true) × GaveNoSchedule d input handed
-Causes d line.NoMemory words input handed = is_run_words words ≡ true
-Causes d line.ReadFault words input handed = (is_run_words words ≡ true) × HasRisen input.faults input.faults_after
-Causes d line.TooLong words input handed = (is_run_words words ≡ true) × GaveTooMuch input
+-- why a line stands in place of a text, where the source is read. The schedule comes last: it is missed only where all else is right
+abbrev pub CausesOfReading : Demand → Line → Input → ℕ → Type 0
+CausesOfReading d line.Usage input handed = ⊥
+CausesOfReading d line.NotJson input handed = GaveNoJson input
+CausesOfReading d (line.Shape path) input handed = GaveWrongShape input path
+CausesOfReading d (line.Limit which) input handed = GaveWrong input (wrong.Limit which)
+CausesOfReading d line.TooManyAddons input handed = GaveTooManyAddons input handed
+CausesOfReading d line.Schedule input handed = GaveNoSchedule d input handed
+CausesOfReading d line.NoMemory input handed = ⊤
+CausesOfReading d line.ReadFault input handed = HasRisen input.faults input.faults_after
+CausesOfReading d line.TooLong input handed = GaveTooMuch input
+
+-- why it does where the load script is to run: where a schedule is demanded, always for want of one
+abbrev pub CausesOfLoad : Demand → Line → Script → ℕ → Type 0
+CausesOfLoad demand.Schedule l script handed = l ≡ line.Schedule
+CausesOfLoad demand.Nothing line.TooManyAddons script handed = handed < length script.addons
+CausesOfLoad demand.Nothing line.NoMemory script handed = ⊤
+CausesOfLoad demand.Nothing _ script handed = ⊥
+
+-- why it does, by what the words ask for
+abbrev pub Causes : Demand → Line → Option Command → Input → ℕ → Type 0
+Causes d l None input handed = l ≡ line.Usage
+Causes d l (Some command.Run) input handed = CausesOfReading d l input handed
+Causes d l (Some command.Summary) input handed = CausesOfReading d l input handed
+Causes d l (Some (command.Load number)) input handed = CausesOfLoad d l (load_script number) handed
 
 -- the sink took the whole line, or its faults rose and it took a front of it
 abbrev pub WroteLine : Output → List ℕ → Type 0
 WroteLine output line = (output.after ≡ append_known output.before line) ⊎ (HasRisen output.faults output.faults_after × TookFront output.before line output.after)
 
--- the sink took the whole trace; or, where the trace was cut off, its faults rose and it took a front of the trace
-abbrev pub WroteTrace : Bool → Output → List ℕ → Type 0
-WroteTrace true output trace = output.after ≡ append_known output.before trace
-WroteTrace false output trace = HasRisen output.faults output.faults_after × TookFront output.before trace output.after
+-- the sink took the whole text; or, where the text was cut off, its faults rose and it took a front of the text
+abbrev pub WroteText : Bool → Output → List ℕ → Type 0
+WroteText true output written = output.after ≡ append_known output.before written
+WroteText false output written = HasRisen output.faults output.faults_after × TookFront output.before written output.after
 
 -- THE STATUSES
 -- the statuses with which the top call ends
@@ -232,8 +276,8 @@ IsStatus status = IsTrue (list_any (λ known. known == status) (0 ∷ 2 ∷ 3 �
 abbrev pub IsRunStatus : ℕ → Type 0
 IsRunStatus status = (status ≡ 0) ⊎ (status ≡ 5)
 
--- the words are the command line, these are the source's bytes, and no read failed
-pub record IsRead (words : List (List ℕ)) (input : Input) (bytes : List ℕ) : Type 0 where
-  pub command : is_run_words words ≡ true
-  pub told : input.before ≡ Some bytes
-  pub readable : ¬ HasRisen input.faults input.faults_after
+-- the words ask for this command, and where it reads the source, these are the source's bytes, and no read failed
+pub record IsAsked (words : List (List ℕ)) (input : Input) (c : Command) (bytes : List ℕ) : Type 0 where
+  pub asked : command_of words ≡ Some c
+  pub told : reads (Some c) ≡ true → input.before ≡ Some bytes
+  pub readable : reads (Some c) ≡ true → ¬ HasRisen input.faults input.faults_after

@@ -1,9 +1,10 @@
--- A law of what bytes come to.
+-- A law of what a command and the bytes of the source come to.
 use Rattle.std.specs.Prelude.{ℕ, List, ◌⊎◌}
 use Rattle.script_host.specs.Host.{IsTooLong, IsRefused, IsRunnable}
 use Rattle.script_host.specs.declared.top_call.Demand.{Demand}
+use Rattle.script_host.specs.declared.words.Command.{Command}
 
--- whatever is demanded, all bytes are too long, refused or runnable, and none are refused and runnable at once
-pub record BytesAreOfOneKind : Type 0 where
-  pub some : (d : Demand) (bytes : List ℕ) (handed : ℕ) → IsTooLong bytes ⊎ (IsRefused d bytes handed ⊎ IsRunnable d bytes handed)
-  pub one : (d : Demand) (bytes : List ℕ) (handed : ℕ) → IsRefused d bytes handed → IsRunnable d bytes handed → ⊥
+-- whatever is demanded and asked for, the bytes are too long, or the command is refused or can be run with them, and none is refused that can be run
+pub record CommandsAreOfOneKind : Type 0 where
+  pub some : (d : Demand) (c : Command) (bytes : List ℕ) (handed : ℕ) → IsTooLong c bytes ⊎ (IsRefused d c bytes handed ⊎ IsRunnable d c bytes handed)
+  pub one : (d : Demand) (c : Command) (bytes : List ℕ) (handed : ℕ) → IsRefused d c bytes handed → IsRunnable d c bytes handed → ⊥

@@ -1,17 +1,41 @@
--- The command line, and the lines that stand in place of a trace.
-use Rattle.std.specs.Prelude.{ℕ, ◌==◌, ◌&&◌, Bool, List, [], ◌++◌, length, codes, bytes_eq, slice_index_or}
+-- The command lines, and the lines that stand in place of a text.
+use Rattle.std.specs.Prelude.{ℕ, ◌&&◌, nat_le, Bool, true, false, cond, List, [], ◌∷◌, ◌++◌, length, codes, bytes_eq, Option, Some, None, option_map}
+use Rattle.std.specs.Char.{is_ascii_digit}
+use Rattle.std.specs.List.{list_all}
+use Rattle.std.specs.Str.Parse.{digits_value}
 use Rattle.napi_types.specs.declared.script.LimitName.{LimitName}
 use Rattle.napi_types.specs.declared.script.LimitName.TheVariants as limit
+use Rattle.script_host.specs.declared.words.Command.{Command}
+use Rattle.script_host.specs.declared.words.Command.TheVariants as command
 use Rattle.script_host.specs.declared.words.Line.{Line}
 use Rattle.script_host.specs.declared.words.Line.TheVariants as line
 
--- whether the words after the program's name are the command line: the one word `run`
-abbrev pub is_run_words : List (List ℕ) → Bool
-is_run_words words = (length words == 1) && bytes_eq (slice_index_or words 0 []) (codes "run")
+-- THE COMMAND LINES
+-- a word of one to seven digits
+abbrev pub is_numeral : List ℕ → Bool
+is_numeral word = nat_le 1 (length word) && nat_le (length word) 7 && list_all is_ascii_digit word
 
--- tells the command line
+-- the number that a word of one to seven digits writes, where it is at most 1,000,000
+abbrev pub load_number : List ℕ → Option ℕ
+load_number word = cond (is_numeral word && nat_le (digits_value 10 word) 1000000) (Some (digits_value 10 word)) None
+
+-- what the words after the program's name ask for: `run`, `summary`, or `load` and a number; all other words ask for nothing
+abbrev pub command_of : List (List ℕ) → Option Command
+command_of (word ∷ []) =
+    cond (bytes_eq word (codes "run")) (Some command.Run) (cond (bytes_eq word (codes "summary")) (Some command.Summary) None)
+command_of (word ∷ number ∷ []) = cond (bytes_eq word (codes "load")) (option_map command.Load (load_number number)) None
+command_of _ = None
+
+-- whether the words ask for what the source gives
+abbrev pub reads : Option Command → Bool
+reads (Some command.Run) = true
+reads (Some command.Summary) = true
+reads _ = false
+
+-- THE LINES
+-- tells the command lines
 abbrev pub usage_line : List ℕ
-usage_line = codes "usage: napi_host run\n"
+usage_line = codes "usage: napi_host run | summary | load NUMBER\n"
 
 -- the bytes are no JSON text
 abbrev pub not_json_line : List ℕ
@@ -34,7 +58,7 @@ limit_line limit.Schedule = codes "refused limit schedule\n"
 abbrev pub schedule_line : List ℕ
 schedule_line = codes "refused schedule\n"
 
--- want of memory before the trace began
+-- want of memory before the text began
 abbrev pub no_memory_line : List ℕ
 no_memory_line = codes "out of memory\n"
 

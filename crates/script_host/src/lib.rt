@@ -12,7 +12,7 @@ mod standard;
 mod top_call;
 mod words;
 
-pub use laws::bytes_are_of_one_kind;
+pub use laws::commands_are_of_one_kind;
 pub use load::load_script;
 pub use standard::{StdSink, StdSource};
 pub use top_call::{host, host_scheduled};

@@ -1,20 +1,79 @@
-//! The command line, and the lines that stand in place of a trace.
+//! The command lines, and the lines that stand in place of a text.
+ghost use Rattle.std.specs.Char.{is_ascii_digit};
+ghost use Rattle.std.specs.List.{list_all};
 ghost use Rattle.std.specs.Prelude.{◌≡◌, ◌≤◌, OnOk, OnErr};
 ghost use Rattle.std.specs.Io.KnownBytes.{append_known};
 ghost use Rattle.napi_types.specs.plain.Edge.{HasRisen, TookFront};
-ghost use Rattle.script_host.specs.Words.{is_run_words, line_text, line_status, limit_line, shape_line};
+ghost use Rattle.script_host.specs.Words.{command_of, is_numeral, load_number, line_text, line_status, limit_line, shape_line};
 
 use napi_types::{Failed, LimitName, Sink, Text};
 use trace_text::put_all;
 
-/// Whether the words after the program's name are the command line, which is the one word `run`.
-pub(crate) fn is_run(words: &[Text]) -> bool
-    ensures { result ≡ is_run_words words.now }
-{
-    words.len() == 1 && words[0].bytes() == b"run".as_slice()
+/// The greatest number of a load script.
+const GREATEST_LOAD: u32 = 1_000_000;
+
+/// The most digits with which it is written.
+const MOST_DIGITS: usize = 7;
+
+/// What the words after the program's name ask for.
+#[derive(Clone, Copy)]
+pub(crate) enum Command {
+    /// To run the script that the source gives, and to write the trace.
+    Run,
+    /// To run it, and to write the summary of the trace.
+    Summary,
+    /// To run the load script of this number, and to write the summary of the trace.
+    Load(u32),
 }
 
-/// A line that the program writes in place of a trace.
+/// What the words after the program's name ask for: `run`, `summary`, or `load` and a number.
+pub(crate) fn command_of(words: &[Text]) -> Option<Command>
+    ensures { result ≡ command_of words.now }
+{
+    match words {
+        [word] if word.bytes() == b"run".as_slice() => Some(Command::Run),
+        [word] if word.bytes() == b"summary".as_slice() => Some(Command::Summary),
+        [word, number] if word.bytes() == b"load".as_slice() => {
+            Some(Command::Load(number_of(number.bytes())?))
+        }
+        _ => None,
+    }
+}
+
+/// Whether all bytes of a word are digits.
+fn are_digits(word: &[u8]) -> bool
+    ensures { result ≡ list_all is_ascii_digit word.now }
+{
+    word.iter().all(|byte| byte.is_ascii_digit())
+}
+
+/// Whether a word has one to seven digits, and nothing else.
+fn is_numeral(word: &[u8]) -> bool
+    ensures { result ≡ is_numeral word.now }
+{
+    !word.is_empty() && word.len() <= MOST_DIGITS && are_digits(word)
+}
+
+/// The number that a word of one to seven digits writes, where it is at most 1,000,000.
+fn number_of(word: &[u8]) -> Option<u32>
+    ensures { result ≡ load_number word.now }
+{
+    if !is_numeral(word) {
+        return None;
+    }
+    let Ok(text) = str::from_utf8(word) else {
+        return None;
+    };
+    let Ok(number) = text.parse::<u32>() else {
+        return None;
+    };
+    if number > GREATEST_LOAD {
+        return None;
+    }
+    Some(number)
+}
+
+/// A line that the program writes in place of a text.
 #[derive(Drop)]
 pub(crate) enum Line {
     /// The words are no command line.
@@ -29,7 +88,7 @@ pub(crate) enum Line {
     TooManyAddons,
     /// It has no schedule, and one is demanded.
     Schedule,
-    /// There was no memory before the trace began.
+    /// There was no memory before the text began.
     NoMemory,
     /// The source failed.
     ReadFault,
@@ -62,7 +121,7 @@ impl Line {
         match self {
             Line::Shape(path) => put_path(sink, path),
             Line::Limit(which) => put_text(sink, limit_line(*which)),
-            Line::Usage => put_text(sink, "usage: napi_host run\n"),
+            Line::Usage => put_text(sink, "usage: napi_host run | summary | load NUMBER\n"),
             Line::NotJson => put_text(sink, "refused json\n"),
             Line::TooManyAddons => put_text(sink, limit_line(LimitName::Addons)),
             Line::Schedule => put_text(sink, "refused schedule\n"),

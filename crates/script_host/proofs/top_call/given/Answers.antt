@@ -1,5 +1,5 @@
 use Rattle.script_host.proofs.SmallActors.{small-of}
-use Rattle.script_host.proofs.top_call.script_of.Goals as goal
+use Rattle.script_host.proofs.top_call.given.Goals as goal
 
 pub returns-in-Ok-read_script-clause-small : goal.returns-in-Ok-read_script-clause-small
 returns-in-Ok-read_script-clause-small g c =
