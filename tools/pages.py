@@ -103,9 +103,16 @@ def status_names():
 
 
 def rows():
-    """Returns the name and the script of each row, in their order; the lines of options are left out."""
-    lines = text_of("crates/rows_suite/stdin").split("\n")
-    return [tuple(it.split(" ", 1)) for it in lines if it and not it.startswith(("#", "@"))]
+    """Returns the name and the script of each row, in their order; the lines of options are left out, and so is each row that asks for no trace."""
+    found, options = [], []
+    for line in text_of("crates/rows_suite/stdin").split("\n"):
+        if line.startswith("@"):
+            options = line[1:].split(" ")
+        elif line and not line.startswith("#"):
+            if not {"word=summary", "word=load"} & set(options):
+                found.append(tuple(line.split(" ", 1)))
+            options = []
+    return found
 
 
 def results():
