@@ -159,7 +159,7 @@ ended-turn ps old new all now v how i local here same =
     })
 
 -- ITS END IS OWED
-owed-end : (ps : List Plan) (old : Run) (all : AddonStates) (v : Option HandleId) (how : FrameEnd) → MayEndInScripts ps old all v how
+pub owed-end : (ps : List Plan) (old : Run) (all : AddonStates) (v : Option HandleId) (how : FrameEnd) → MayEndInScripts ps old all v how
     → is_hub_duty (duty_of old.core.env.frames) ≡ true
     → OwesMore ps old all (record old { ending = Some how }) all
 owed-end ps old all v how i hub = record {

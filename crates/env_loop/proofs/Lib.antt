@@ -1,6 +1,7 @@
 pub mod ActorsStand
 pub mod AnsweredCalls
 pub mod AwaitedCalls
+pub mod Bursts
 pub mod CallTurns
 pub mod CutTurns
 pub mod Deliveries

@@ -1,5 +1,6 @@
 pub mod ActorRuns
 pub mod ActorTurns
+pub mod Bursts
 pub mod FollowedRuns
 pub mod FreshAndEnded
 pub mod HeldWorks

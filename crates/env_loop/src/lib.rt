@@ -5,11 +5,13 @@
 #![tactic(auto)]
 
 mod actor;
+mod burst;
 mod hub_turn;
 pub mod recorded_laws;
 mod run;
 mod turn;
 
 pub use actor::{ActorRun, ActorTurn, FreshActor, FreshThread, NextStep, ThreadRun, WorkerRun};
+pub use burst::Burst;
 pub use run::{EnvRun, FrameEnd, HubTurn};
 pub use turn::LocalTurn;

@@ -331,7 +331,7 @@ impl EnvRun {
 }
 
 /// Whether it is a duty of the hub.
-fn is_of_hub(duty: Option<Duty>) -> bool
+pub(crate) fn is_of_hub(duty: Option<Duty>) -> bool
     ensures { result ≡ is_hub_duty duty }
 {
     match duty {

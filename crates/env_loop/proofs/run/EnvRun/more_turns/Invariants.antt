@@ -1,0 +1,21 @@
+use Rattle.std.proofs.Common.{◌≡◌, ℕ, List, Option, length, map}
+use Rattle.napi_types.specs.declared.duties.DueInfo.{DueInfo}
+use Rattle.napi_types.specs.declared.op.Op.{Op}
+use Rattle.env_loop.specs.Bursts.{IsPaid, IsBurst}
+use Rattle.env_loop.proofs.run.EnvRun.more_turns.Given as goal
+
+-- the turns so far made this many entries, and nothing is owed
+abbrev pub invariant-loop-made : goal.invariant-loop-made
+invariant-loop-made g l =
+    let first_plans : List (Option (List (List Op))) = map (λ b. (goal.Addon-dyn g (b.vtable, b.value)).plan b.value) l.fn.addons.items in
+    let first_regs : List (List ℕ) = map (λ b. (goal.Addon-dyn g (b.vtable, b.value)).regs b.value) l.fn.addons.items in
+    let first_seen : List (List DueInfo) = map (λ b. (goal.Addon-dyn g (b.vtable, b.value)).seen b.value) l.fn.addons.items in
+    let plans : List (Option (List (List Op))) = map (λ b. (goal.Addon-dyn g (b.vtable, b.value)).plan b.value) l.addons.items in
+    let regs : List (List ℕ) = map (λ b. (goal.Addon-dyn g (b.vtable, b.value)).regs b.value) l.addons.items in
+    let seen : List (List DueInfo) = map (λ b. (goal.Addon-dyn g (b.vtable, b.value)).seen b.value) l.addons.items in
+    record {
+      count : length l.addons.items ≡ length l.fn.addons.items;
+      plans : plans ≡ first_plans;
+      burst : IsBurst g.N.Naming.numbers first_plans l.made l.fn.self l.fn.hub (record { registers = first_regs; seen = first_seen }) l.self l.hub (record { registers = regs; seen = seen });
+      paid : IsPaid l.self;
+    }
