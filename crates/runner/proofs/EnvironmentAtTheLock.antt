@@ -1,7 +1,7 @@
 -- The environment's run beside its pass, from one turn of the lock to the next.
-use Rattle.std.proofs.Common.{◌≡◌, ◌≢◌, ◌∙◌, ℕ, inl, inr, Bool, true, false, cond, List, [], ◌∷◌, drop, Option, None, Some, refl, sym, subst}
+use Rattle.std.proofs.Common.{◌≡◌, ◌∙◌, ℕ, Bool, true, false, cond, List, [], ◌∷◌, drop, Option, None, Some, refl, sym, subst}
 use mathlib.Core.List.{IsPrefix}
-use Rattle.napi_types.specs.declared.entry.Actor.TheVariants as actor
+use Rattle.napi_types.specs.declared.entry.Actor.{Actor}
 use Rattle.napi_types.specs.declared.entry.Entry.{Entry}
 use Rattle.napi_types.specs.declared.entry.Phase.{Phase}
 use Rattle.napi_types.specs.declared.entry.Phase.TheVariants as phase
@@ -16,19 +16,17 @@ use Rattle.shared_hub.specs.declared.naming.Numbers.{Numbers}
 use Rattle.shared_hub.specs.HubRows.{rows_of}
 use Rattle.shared_hub.specs.HubStates.{HubSeen, hub_seen}
 use Rattle.shared_hub.specs.KeptHubs.{IsLedHub}
-use Rattle.env_loop.specs.declared.run.HubTurn.{HubTurn}
-use Rattle.env_loop.specs.declared.run.HubTurn.TheVariants as turn
 use Rattle.env_loop.specs.declared.turn.LocalTurn.TheVariants as local
-use Rattle.env_loop.specs.ActorRuns.{AddsEntryOf}
+use Rattle.env_loop.specs.Bursts.{AddsEntriesOf}
 use Rattle.env_loop.specs.FollowedRuns.{IsFollowed, RunGoesOn, GoesOnAt}
 use Rattle.env_loop.specs.OpenedAndGone.{IsOpenedRun}
 use Rattle.env_loop.specs.RecordedRuns.{Run, FitsHub, owes_hub}
 use Rattle.env_loop.specs.Recording.{AddonStates}
-use Rattle.env_loop.specs.Turns.{event_turn, turn_at, turn_of, turn_after, needs_hub, OwesAlone}
+use Rattle.env_loop.specs.Turns.{event_turn, turn_at, turn_of, turn_after, OwesAlone}
 use Rattle.env_loop.proofs.FreshAndEnded.{opened-runs-fit}
 use Rattle.runner.specs.AtPasses.{StandsBeside}
+use Rattle.runner.specs.ActorsAtTheLock.{GrewByEntries}
 use Rattle.runner.specs.Environments.{HasGoneOn, HasGoneOnBeside}
-use Rattle.runner.specs.ActorsAtTheLock.{GrewBy}
 use Rattle.runner.proofs.TakenTurns.{run-at-take, stands-after, stands-at-first}
 
 -- GOING ON
@@ -104,13 +102,11 @@ gone-then old new owes is = (λ i. (owes i).core.env.phase) ∙ by (owes_hub new
     by false gone = gone-at old.core.env.frames old.core.env gone
 
 -- A TURN AT THE HUB
--- it added an entry of the environment's, or none
-pub grew-at : (r : HubTurn) (s0 s1 : HubSeen) → (r ≡ turn.Made → AddsEntryOf actor.Env s0 s1) → (r ≢ turn.Made → s1 ≡ s0) → GrewBy actor.Env s0 s1
-grew-at turn.Made s0 s1 made stays = inl (made refl)
-grew-at turn.Nothing s0 s1 made stays = inr (stays (λ e. cc))
-grew-at (turn.Cut w) s0 s1 made stays = inr (stays (λ e. cc))
-
 -- the hub of the turn is the one under the lock
+pub grew-there : (who : Actor) (s0 t0 t1 s1 : HubSeen) (count : ℕ) → t0 ≡ s0 → s1 ≡ t1 → AddsEntriesOf who count t0 t1 → GrewByEntries who s0 s1
+grew-there who s0 t0 t1 s1 count first last grew =
+    (count, subst (λ s. AddsEntriesOf who count s0 s) (sym last) (subst (λ s. AddsEntriesOf who count s t1) first grew))
+
 pub goes-there : (n : Numbers) (plans : List Plan) (old new : Run) (before after : AddonStates) (s0 t0 t1 s1 : HubSeen) → t0 ≡ s0 → s1 ≡ t1
     → GoesOnAt n plans old t0.history before new t1.history after → GoesOnAt n plans old s0.history before new s1.history after
 goes-there n plans old new before after s0 t0 t1 s1 first last goes = λ s firsts numbers of f.

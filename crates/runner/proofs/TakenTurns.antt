@@ -1,6 +1,8 @@
 -- What stands beside a pass as turns of the lock are taken and given back.
-use Rattle.std.proofs.Common.{◌≡◌, ◌∙◌, ℕ, inl, inr, true, List, [], ◌++◌, refl, ap, sym, subst, append_assoc}
+use Rattle.std.proofs.Common.{◌≡◌, ◌∙◌, ℕ, inl, inr, true, List, [], ◌∷◌, ◌++◌, refl, ap, sym, subst, append_assoc}
+use Rattle.std.specs.List.{All}
 use Rattle.std.proofs.lemmas.List.{append-nil}
+use Rattle.std.proofs.lemmas.List.Elements.{All-nil, All-cons, All-head, All-tail}
 use mathlib.Core.List.{IsPrefix}
 use Rattle.napi_types.specs.declared.entry.Actor.{Actor}
 use Rattle.napi_types.specs.declared.entry.Entry.{Entry}
@@ -10,10 +12,10 @@ use Rattle.turn_lock.specs.Passes.{PassState}
 use Rattle.turn_lock.specs.Rows.{own_rows, GoesOn}
 use Rattle.turn_lock.proofs.Histories.{others_only}
 use Rattle.shared_hub.specs.declared.naming.Numbers.{Numbers}
-use Rattle.shared_hub.specs.HubRows.{pass_of, rows_of}
+use Rattle.shared_hub.specs.HubRows.{pass_of, row_of, rows_of}
 use Rattle.shared_hub.specs.HubStates.{HubSeen, hub_seen}
 use Rattle.shared_hub.specs.KeptHubs.{IsLedHub}
-use Rattle.shared_hub.proofs.RowsOfHistories.{histories-go-on}
+use Rattle.shared_hub.proofs.RowsOfHistories.{rows-go-on, histories-go-on}
 use Rattle.hub_lock.specs.SeenTurns.{SamePass}
 use Rattle.hub_lock.proofs.LookingTurns.{back, shown, goes-on-none, goes-on-one}
 use Rattle.env_loop.specs.ActorTurns.{IsActorOf}
@@ -25,7 +27,7 @@ use Rattle.env_loop.proofs.FreshAndEnded.{fresh-actors-stand}
 use Rattle.env_loop.proofs.RunsOverRows.{actor-runs-stand-over, runs-followed-over, fitting-runs-stand-over}
 use Rattle.runner.specs.AtPasses.{StandsBeside, IsAtPass, IsFreshAtPass}
 use Rattle.runner.specs.Environments.{HasGoneOn}
-use Rattle.runner.specs.ActorsAtTheLock.{GrewBy}
+use Rattle.runner.specs.ActorsAtTheLock.{GrewBy, GrewByEntries}
 
 prefix-twice : {A : Type 0} (xs ys zs : List A) → IsPrefix xs ys → IsPrefix ys zs → IsPrefix xs zs
 prefix-twice xs ys zs p q = (p.0 ++ q.0, sym (append_assoc xs p.0 q.0) ∙ (ap (λ l. l ++ q.0) p.1 ∙ q.1))
@@ -72,6 +74,22 @@ module _ (n : Numbers) (p : PassState) (history : List Entry) (before : IsPrefix
 pub grew-goes-on : (number threads : ℕ) (who : Actor) (s0 s1 : HubSeen) → pass_of threads who ≡ number → GrewBy who s0 s1 → GoesOn number (rows_of threads s0.history) (rows_of threads s1.history)
 grew-goes-on number threads who s0 s1 is (inl a) = goes-on-one number threads s0 s1 a.entry (ap (pass_of threads) a.by ∙ is) a.adds.history
 grew-goes-on number threads who s0 s1 is (inr same) = goes-on-none number threads s0 s1 same
+
+-- so are all entries of a burst
+entry-rows : (number threads : ℕ) (who : Actor) → pass_of threads who ≡ number → (xs : List Entry) → All (λ (x : Entry). x.actor ≡ who) xs
+    → All (λ (r : Row). r.pass ≡ number) (rows_of threads xs)
+entry-rows number threads who is [] own = All-nil (λ (r : Row). r.pass ≡ number)
+entry-rows number threads who is (x ∷ xs) own =
+    All-cons (λ (r : Row). r.pass ≡ number) (row_of threads x) (rows_of threads xs) (ap (pass_of threads) (All-head (λ (y : Entry). y.actor ≡ who) x xs own) ∙ is)
+    (entry-rows number threads who is xs (All-tail (λ (y : Entry). y.actor ≡ who) x xs own))
+
+pub grew-on : (number threads : ℕ) (who : Actor) (s0 s1 : HubSeen) → pass_of threads who ≡ number → GrewByEntries who s0 s1
+    → GoesOn number (rows_of threads s0.history) (rows_of threads s1.history)
+grew-on number threads who s0 s1 is grew = (
+  rows_of threads grew.1.entries,
+  ap (rows_of threads) grew.1.history ∙ rows-go-on threads s0.history grew.1.entries,
+  entry-rows number threads who is grew.1.entries grew.1.by,
+)
 
 -- it is the same pass that comes back
 pub same-pass-back : (old new h : PassState) (taken rows : List Row) → h ≡ record old { holds = true } → new ≡ back h taken rows → SamePass old new

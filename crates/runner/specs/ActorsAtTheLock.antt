@@ -1,9 +1,10 @@
 -- What one turn of an actor comes to under the lock.
-use Rattle.std.specs.Prelude.{◌≡◌, ◌⊎◌, true, false}
+use Rattle.std.specs.Prelude.{◌≡◌, ◌⊎◌, ℕ, true, false}
 use Rattle.napi_types.specs.declared.entry.Actor.{Actor}
 use Rattle.shared_hub.specs.declared.naming.Numbers.{Numbers}
 use Rattle.shared_hub.specs.HubStates.{HubSeen}
 use Rattle.env_loop.specs.ActorRuns.{AddsEntryOf}
+use Rattle.env_loop.specs.Bursts.{AddsEntriesOf}
 use Rattle.env_loop.specs.ActorTurns.{actor_of, is_over, IsSameActor, IsBlocked}
 use Rattle.env_loop.specs.declared.actor.ActorRun.{ActorRun}
 use Rattle.env_loop.specs.declared.actor.ActorTurn.{ActorTurn}
@@ -16,6 +17,10 @@ use Rattle.hub_lock.specs.SeenTurns.{SamePass}
 -- one entry came, which this actor made, or nothing changed
 abbrev pub GrewBy : Actor → HubSeen → HubSeen → Type 0
 GrewBy who old new = AddsEntryOf who old new ⊎ (new ≡ old)
+
+-- so many entries came, and this actor made them
+abbrev pub GrewByEntries : Actor → HubSeen → HubSeen → Type 0
+GrewByEntries who old new = (count : ℕ) × AddsEntriesOf who count old new
 
 module _ {J : Type 0} where
   -- it added one entry, or nothing changed; where it says that the actor waits it does, and where it says that the actor has ended it had

@@ -12,7 +12,7 @@ ghost use Rattle.env_loop.specs.Recording.{AddonStates};
 ghost use Rattle.env_loop.specs.Turns.{needs_hub};
 ghost use Rattle.runner.specs.AtPasses.{StandsBeside};
 ghost use Rattle.runner.specs.Environments.{HasGoneOnBeside};
-ghost use Rattle.runner.specs.ActorsAtTheLock.{GrewBy, IsStray, IsFreshStray, IsSameStray, HasEndedStray};
+ghost use Rattle.runner.specs.ActorsAtTheLock.{GrewByEntries, IsStray, IsFreshStray, IsSameStray, HasEndedStray};
 
 use crate::strays::{Stray, end_strays, turn_strays};
 use addon_trait::Addon;
@@ -26,6 +26,9 @@ use turn_lock::Pass;
 
 /// The number of the environment's pass.
 const ENVIRONMENT: u32 = 0;
+
+/// How many events of the hub share a turn of the lock at most.
+const MOST_EVENTS: u32 = 64;
 
 /// Runs the environment until it is gone, while threads and workers make their entries. It sleeps where there is nothing to do.
 ///
@@ -168,7 +171,7 @@ fn turn_at_the_lock<J: Job, N: Naming, R: Wait>(
     turn
 }
 
-/// What it does while it holds the turn. Where it has nothing to do it notes that it will sleep.
+/// What it does while it holds the turn: a burst of the hub's events. Where it has nothing to do then it notes that it will sleep.
 fn turn_under_the_lock<J: Job, N: Naming>(
     locked: &mut Locked<HubState<J, N>>,
     env: &mut EnvRun,
@@ -179,7 +182,7 @@ fn turn_under_the_lock<J: Job, N: Naming>(
     requires enough { env.old.core.env.addons ≤ length addons.old.items }
     ensures count { length addons.new.items ≡ length addons.old.items }
     ensures plans { map (λ b. plan b) addons.new.items ≡ map (λ b. plan b) addons.old.items }
-    ensures grew { GrewBy actor.Env locked.old.state.value locked.new.state.value }
+    ensures grew { GrewByEntries actor.Env locked.old.state.value locked.new.state.value }
     ensures known { IsLedHub N.numbers locked.new.state.value }
     ensures fits { FitsHub env.new locked.new.state.value }
     ensures goes { let before : AddonStates = record { registers = map (λ b. regs b) addons.old.items; seen = map (λ b. seen b) addons.old.items } in
@@ -189,10 +192,10 @@ fn turn_under_the_lock<J: Job, N: Naming>(
     ensures others { let n = env.old.core.env.addons in
         drop n (map (λ b. regs b) addons.new.items) ≡ drop n (map (λ b. regs b) addons.old.items) }
 {
-    let turn = env.hub_turn(&mut locked.state, addons);
-    note_idle(locked, turn);
+    let burst = env.hub_burst(&mut locked.state, addons, MOST_EVENTS);
+    note_idle(locked, burst.last);
     locked.knows();
-    turn
+    burst.last
 }
 
 /// Where it had nothing to do it will sleep.

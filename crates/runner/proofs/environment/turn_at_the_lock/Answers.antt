@@ -1,7 +1,7 @@
 use Rattle.std.proofs.Common.{◌∙◌, refl, sym, ap}
 use Rattle.napi_types.specs.declared.entry.Actor.TheVariants as actor
 use Rattle.turn_lock.specs.Passes.{PassState}
-use Rattle.runner.proofs.TakenTurns.{run-fits-at-take, grew-goes-on}
+use Rattle.runner.proofs.TakenTurns.{run-fits-at-take, grew-on}
 use Rattle.runner.proofs.EnvironmentAtTheLock.{has-run-locked}
 use Rattle.runner.proofs.environment.turn_at_the_lock.Goals as goal
 
@@ -14,7 +14,7 @@ pub give-requires-clause-adds : goal.give-requires-clause-adds
 give-requires-clause-adds g c κs within =
     let num = ap (λ (h : PassState). h.number) c.take-held.ensures.holder in
     rw c.take-held.ensures.taken
-    (grew-goes-on c.take-held.result.seat.me.0.number g.N.Naming.numbers.threads actor.Env c.take-held.result.value.state.value c.turn_under_the_lock-turn.new.locked.state.value
+    (grew-on c.take-held.result.seat.me.0.number g.N.Naming.numbers.threads actor.Env c.take-held.result.value.state.value c.turn_under_the_lock-turn.new.locked.state.value
     (sym (num ∙ c.requires.number)) c.turn_under_the_lock-turn.ensures.grew)
 
 pub returns-clause-ran : goal.returns-clause-ran
