@@ -5,6 +5,7 @@ use napi_types::{Duty, NoMemory, Out, Reply, Why};
 use std::process::Abort;
 
 mod actors;
+mod bursts;
 mod calls;
 mod driving;
 mod hub_turns;
