@@ -131,13 +131,13 @@ fn references_and_duties(rt: &impl Abort, core: &mut EnvCore) {
     tells(rt, core, Call::ReferenceUnref(RefId(1)), "number", 1);
     gives(rt, core, Call::GetReferenceValue(RefId(1)), 20);
     does(rt, core, Call::DeleteReference(RefId(2)));
-    // Wraps, tags and finalizers. A ticket that was withdrawn is not given again.
+    // Wraps, tags and finalizers. A ticket that was withdrawn is not given again. The place of the deleted reference is used again, in its next generation.
     refuses(rt, core, Call::Wrap(STRING, 5, Some(1), 0, true), 2);
     tells_tickets(
         rt,
         core,
         Call::Wrap(OBJECT, 5, Some(1), 0, true),
-        ("reference", 3),
+        ("reference", 0x1_0000_0000_0002),
         [2, 0],
     );
     tells(rt, core, Call::Unwrap(OBJECT), "number", 5);
@@ -145,7 +145,7 @@ fn references_and_duties(rt: &impl Abort, core: &mut EnvCore) {
         rt,
         core,
         Call::AddFinalizer(OBJECT, 7, 3, 8, true),
-        ("reference", 4),
+        ("reference", 3),
         [3, 0],
     );
     tells_tickets(rt, core, Call::RemoveWrap(OBJECT), ("number", 5), [0, 2]);
@@ -254,7 +254,7 @@ fn others(rt: &impl Abort, core: &mut EnvCore) {
         core,
         Call::CreateReference(HandleId(28), 0),
         "reference",
-        5,
+        4,
     );
     tells_tickets(
         rt,
