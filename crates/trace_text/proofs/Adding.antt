@@ -51,6 +51,14 @@ adds_then {a = a} {b = b} {c = c} {xs = xs} {ys = ys} one two = record {
   counted = λ now. two.counted now ∙ one.counted (two.fine now);
 }
 
+-- a piece, and then another one between two of the same bytes
+pub adds_between : {a b c : Stand} {xs : List ℕ} (space ys : List ℕ) → Adds a xs b → Adds b (space ++ ys ++ space) c → Adds a (xs ++ space ++ ys ++ space) c
+adds_between {a = a} {b = b} {c = c} {xs = xs} space ys one two =
+    let P : List ℕ → Type 0 = λ bytes. Adds a bytes c in
+    let apart : xs ++ (space ++ ys ++ space) ≡ xs ++ space ++ ys ++ space =
+    sym (append_assoc xs (space ++ ys) space) ∙ ap (λ bytes. bytes ++ space) (sym (append_assoc xs space ys)) in
+    subst P apart (adds_then one two)
+
 -- the pieces of a list up to a place, and then that of the element there
 pub adds_more : {X : Type 0} {a b c : Stand} (f : X → List ℕ) (xs : List X) (i : ℕ) (d : X) → i < length xs →
     Adds a (flat_map f (take i xs)) b → Adds b (f (get_or xs i d)) c → Adds a (flat_map f (take (i + 1) xs)) c

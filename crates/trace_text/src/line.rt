@@ -20,19 +20,22 @@ pub fn add_number<K: Sink, I: Integer>(sink: &mut K, pending: &mut Pending, n: I
     add(sink, pending, buffer.format(n).as_bytes());
 }
 
+/// Adds an actor between two spaces.
 fn add_actor<K: Sink>(sink: &mut K, pending: &mut Pending, actor: Actor)
-    ensures { Adds (stand (K.taken sink.old) (K.faults sink.old) pending.old) (actor_text actor)
+    ensures { Adds (stand (K.taken sink.old) (K.faults sink.old) pending.old) (codes " " ++ actor_text actor ++ codes " ")
         (stand (K.taken sink.new) (K.faults sink.new) pending.new) }
 {
     match actor {
-        Actor::Env => add(sink, pending, b"env"),
+        Actor::Env => add(sink, pending, b" env "),
         Actor::Thread(n) => {
-            add(sink, pending, b"t");
+            add(sink, pending, b" t");
             add_number(sink, pending, n);
+            add(sink, pending, b" ");
         }
         Actor::Worker(n) => {
-            add(sink, pending, b"w");
+            add(sink, pending, b" w");
             add_number(sink, pending, n);
+            add(sink, pending, b" ");
         }
     }
 }
@@ -183,11 +186,18 @@ fn add_out<K: Sink>(sink: &mut K, pending: &mut Pending, texts: &Texts, out: Out
     }
 }
 
+/// Adds a status between two spaces.
 fn add_status<K: Sink>(sink: &mut K, pending: &mut Pending, status: Status)
-    ensures { Adds (stand (K.taken sink.old) (K.faults sink.old) pending.old) (decimal (status_number status))
+    ensures { Adds (stand (K.taken sink.old) (K.faults sink.old) pending.old) (codes " " ++ decimal (status_number status) ++ codes " ")
         (stand (K.taken sink.new) (K.faults sink.new) pending.new) }
 {
+    if let Status::Ok = status {
+        add(sink, pending, b" 0 ");
+        return;
+    }
+    add(sink, pending, b" ");
     add_number(sink, pending, status.number());
+    add(sink, pending, b" ");
 }
 
 /// Adds the line of an entry.
@@ -196,20 +206,16 @@ pub fn add_line<K: Sink>(
     pending: &mut Pending,
     texts: &Texts,
     number: u64,
-    entry: Entry,
+    entry: &Entry,
 )
-    ensures { Adds (stand (K.taken sink.old) (K.faults sink.old) pending.old) (line texts.now number entry)
+    ensures { Adds (stand (K.taken sink.old) (K.faults sink.old) pending.old) (line texts.now number entry.now)
         (stand (K.taken sink.new) (K.faults sink.new) pending.new) }
 {
-    let reply = entry.reply;
+    let reply = &entry.reply;
     add_number(sink, pending, number);
-    add(sink, pending, b" ");
     add_actor(sink, pending, entry.actor);
-    add(sink, pending, b" ");
     add(sink, pending, entry.what.name().as_bytes());
-    add(sink, pending, b" ");
     add_status(sink, pending, reply.status);
-    add(sink, pending, b" ");
     add_out(sink, pending, texts, reply.out);
     add_marked(sink, pending, b" -", reply.dropped);
     add_marked(sink, pending, b" +", reply.made);

@@ -42,22 +42,22 @@ fn is_local_next(journal: &[Local], passed: Passed) -> bool
 }
 
 /// The next entry of the weave, and how many are passed with it.
-fn next_of(journal: &[Local], history: &[Entry], passed: Passed) -> (Entry, Passed)
+fn next_of<'a>(journal: &'a [Local], history: &'a [Entry], passed: Passed) -> (&'a Entry, Passed)
     requires rises { RisesBetween passed.shared (length history.now) (drop passed.locals journal.now) }
     requires within { passed.locals ≤ length journal.now }
     requires more { passed.locals + passed.shared < length journal.now + length history.now }
     ensures woven { unwoven journal.now history.now passed.locals passed.shared
-        ≡ result.0 ∷ unwoven journal.now history.now result.1.locals result.1.shared }
+        ≡ result.0.now ∷ unwoven journal.now history.now result.1.locals result.1.shared }
     ensures rises { RisesBetween result.1.shared (length history.now) (drop result.1.locals journal.now) }
     ensures within { result.1.locals ≤ length journal.now }
     ensures one { result.1.locals + result.1.shared ≡ passed.locals + passed.shared + 1 }
 {
     if is_local_next(journal, passed) {
         let locals = passed.locals + 1;
-        (journal[passed.locals].entry, Passed { locals, ..passed })
+        (&journal[passed.locals].entry, Passed { locals, ..passed })
     } else {
         let shared = passed.shared + 1;
-        (history[passed.shared], Passed { shared, ..passed })
+        (&history[passed.shared], Passed { shared, ..passed })
     }
 }
 

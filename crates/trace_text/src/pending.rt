@@ -98,6 +98,7 @@ pub fn write_out<K: Sink>(sink: &mut K, pending: &mut Pending)
 }
 
 /// Adds a piece to a text, unless the writing failed before. It waits for a write, which may mark a fault.
+#[inline(always)]
 pub fn add<K: Sink>(sink: &mut K, pending: &mut Pending, bytes: &[u8])
     ensures { Adds (stand (K.taken sink.old) (K.faults sink.old) pending.old) bytes.now
         (stand (K.taken sink.new) (K.faults sink.new) pending.new) }
@@ -106,6 +107,16 @@ pub fn add<K: Sink>(sink: &mut K, pending: &mut Pending, bytes: &[u8])
         pending.hold(bytes);
         return;
     }
+    add_behind_a_write(sink, pending, bytes);
+}
+
+/// Adds a piece once those that wait are written.
+#[cold]
+#[inline(never)]
+fn add_behind_a_write<K: Sink>(sink: &mut K, pending: &mut Pending, bytes: &[u8])
+    ensures { Adds (stand (K.taken sink.old) (K.faults sink.old) pending.old) bytes.now
+        (stand (K.taken sink.new) (K.faults sink.new) pending.new) }
+{
     write_out(sink, pending);
     add_first(sink, pending, bytes);
 }

@@ -25,7 +25,7 @@ pub fn add_scanned<K: Sink>(
 {
     let mut number = 1;
     for (at, shared) in history.iter().enumerate() {
-        number = add_place(sink, pending, texts, number, journal, at as u64, *shared);
+        number = add_place(sink, pending, texts, number, journal, at as u64, shared);
     }
     add_locals(sink, pending, texts, number, journal, history.len() as u64);
 }
@@ -38,13 +38,13 @@ fn add_place<K: Sink>(
     first: u64,
     journal: &[Local],
     at: u64,
-    shared: Entry,
+    shared: &Entry,
 ) -> u64
     requires { first + length journal.now + 1 < 2 ^ 64 }
-    ensures next { result ≡ first + length (local_at at journal.now ++ shared ∷ []) }
+    ensures next { result ≡ first + length (local_at at journal.now ++ shared.now ∷ []) }
     ensures few { result ≤ first + length journal.now + 1 }
     ensures added { Adds (stand (K.taken sink.old) (K.faults sink.old) pending.old)
-        (lines_from texts.now first (local_at at journal.now ++ shared ∷ []))
+        (lines_from texts.now first (local_at at journal.now ++ shared.now ∷ []))
         (stand (K.taken sink.new) (K.faults sink.new) pending.new) }
 {
     let number = add_locals(sink, pending, texts, first, journal, at);
@@ -70,7 +70,7 @@ fn add_locals<K: Sink>(
 {
     let mut number = first;
     for local in journal {
-        number = add_local(sink, pending, texts, number, *local, at);
+        number = add_local(sink, pending, texts, number, local, at);
     }
     number
 }
@@ -81,19 +81,19 @@ fn add_local<K: Sink>(
     pending: &mut Pending,
     texts: &Texts,
     number: u64,
-    local: Local,
+    local: &Local,
     at: u64,
 ) -> u64
     requires { number + 1 < 2 ^ 64 }
-    ensures next { result ≡ number + length (local_at at (local ∷ [])) }
+    ensures next { result ≡ number + length (local_at at (local.now ∷ [])) }
     ensures few { result ≤ number + 1 }
     ensures added { Adds (stand (K.taken sink.old) (K.faults sink.old) pending.old)
-        (lines_from texts.now number (local_at at (local ∷ [])))
+        (lines_from texts.now number (local_at at (local.now ∷ [])))
         (stand (K.taken sink.new) (K.faults sink.new) pending.new) }
 {
     if local.at != at {
         return number;
     }
-    add_line(sink, pending, texts, number, local.entry);
+    add_line(sink, pending, texts, number, &local.entry);
     number + 1
 }

@@ -1,9 +1,6 @@
 use Rattle.std.proofs.Common.{sym}
-use Rattle.trace_text.proofs.Adding.{adds_held, adds_then}
+use Rattle.trace_text.proofs.Adding.{adds_held}
 use Rattle.trace_text.proofs.pending.add.Goals as goal
 
 pub returns-then-has_room : goal.returns-then-has_room
 returns-then-has_room g c = adds_held _ _ _ _ _ (sym c.if-not-has_failed.ensures.failed) c.hold.ensures
-
-pub returns : goal.returns
-returns g c = adds_then c.write_out.ensures.added c.add_first.ensures
