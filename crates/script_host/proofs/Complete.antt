@@ -11,7 +11,7 @@ use Rattle.napi_types.specs.scripts.Script.{IsScript, IsWrong, script}
 use Rattle.napi_types.specs.scripts.ScriptReading.{IsJson, IsNoJson}
 use Rattle.script_host.specs.Reading.{longest_source}
 use Rattle.script_host.specs.Host.{Gave, GaveScript, GaveTooMuch, AreTooLong, AreRefused, HasTooManyAddons, LacksSchedule, AreRunnable, is_met, CausesOfReading}
-use Rattle.script_host.specs.Host.{IsScriptOf, IsAsked, IsTooLong, IsRefused, IsRunnable, Causes, CausesOfLoad}
+use Rattle.script_host.specs.Host.{IsScriptOf, IsAskedFor, IsTooLong, IsRefused, IsRunnable, Causes, CausesOfLoad}
 use Rattle.script_host.specs.Outside.{Input}
 use Rattle.script_host.specs.Load.{load_script}
 use Rattle.script_host.specs.Words.{command_of, line_status, reads}
@@ -181,7 +181,7 @@ one-command words b c eb ec = let same : Some b ≡ Some c = sym eb ∙ ec in cc
 -- where the words ask for a command, and the source's bytes are told where it reads them
 module _ (d : Demand) (words : List (List ℕ)) (input : Input) (handed : ℕ) where
   -- of bytes that are too long no line tells but that they are, or that there was no memory
-  pub too-long-line : (c : Command) (bytes : List ℕ) → IsAsked words input c bytes → IsTooLong c bytes → (l : Line)
+  pub too-long-line : (c : Command) (bytes : List ℕ) → IsAskedFor words input c bytes → IsTooLong c bytes → (l : Line)
       → Causes d l (command_of words) input handed → (line_status l ≡ 7) ⊎ (line_status l ≡ 6)
   too-long-line c bytes r long l cause = by c r.asked r.told r.readable long (asked-cause d l words input handed c r.asked cause)
     where
@@ -193,7 +193,7 @@ module _ (d : Demand) (words : List (List ℕ)) (input : Input) (handed : ℕ) w
       by (command.Load n) asked told readable long cause = let no : true ≡ false = sym long.0 in cc
 
   -- of a command that is refused no line tells but that it is, or that there was no memory
-  pub refused-line : (c : Command) (bytes : List ℕ) → IsAsked words input c bytes → IsRefused d c bytes handed → (l : Line)
+  pub refused-line : (c : Command) (bytes : List ℕ) → IsAskedFor words input c bytes → IsRefused d c bytes handed → (l : Line)
       → Causes d l (command_of words) input handed → (line_status l ≡ 3) ⊎ (line_status l ≡ 6)
   refused-line c bytes r bad l cause = by c r.told r.readable bad (asked-cause d l words input handed c r.asked cause)
     where
@@ -205,7 +205,7 @@ module _ (d : Demand) (words : List (List ℕ)) (input : Input) (handed : ℕ) w
       by (command.Load n) told readable bad cause = load-line d l (load_script n) handed cause
 
   -- of a command that can be run no line tells but that there was no memory
-  pub only-memory : (c : Command) (bytes : List ℕ) → IsAsked words input c bytes → IsRunnable d c bytes handed → (l : Line)
+  pub only-memory : (c : Command) (bytes : List ℕ) → IsAskedFor words input c bytes → IsRunnable d c bytes handed → (l : Line)
       → Causes d l (command_of words) input handed → line_status l ≡ 6
   only-memory c bytes r fit l cause = by c r.told r.readable fit (asked-cause d l words input handed c r.asked cause)
     where
@@ -217,7 +217,7 @@ module _ (d : Demand) (words : List (List ℕ)) (input : Input) (handed : ℕ) w
       by (command.Load n) told readable fit cause = load-memory d l n handed fit.0 fit.1 cause
 
   -- and where the script was given, the bytes are not too long, and the command is not refused
-  pub too-long-run : (c : Command) (bytes : List ℕ) → IsAsked words input c bytes → IsTooLong c bytes → (ran : Command) → command_of words ≡ Some ran
+  pub too-long-run : (c : Command) (bytes : List ℕ) → IsAskedFor words input c bytes → IsTooLong c bytes → (ran : Command) → command_of words ≡ Some ran
       → (s : Script) → IsScriptOf ran input s → ⊥
   too-long-run c bytes r long ran chosen s gave =
       by c r.told r.readable long (subst (λ (b : Command). IsScriptOf b input s) (one-command words ran c chosen r.asked) gave)
@@ -228,7 +228,7 @@ module _ (d : Demand) (words : List (List ℕ)) (input : Input) (handed : ℕ) w
       by command.Summary told readable long gave = long-run d input handed bytes (told refl) (readable refl) long.1 s gave
       by (command.Load n) told readable long gave = let no : true ≡ false = sym long.0 in cc
 
-  pub refused-run : (c : Command) (bytes : List ℕ) → IsAsked words input c bytes → IsRefused d c bytes handed → (ran : Command) → command_of words ≡ Some ran
+  pub refused-run : (c : Command) (bytes : List ℕ) → IsAskedFor words input c bytes → IsRefused d c bytes handed → (ran : Command) → command_of words ≡ Some ran
       → (s : Script) → IsScriptOf ran input s → length s.addons ≤ handed → is_met d s ≡ true → ⊥
   refused-run c bytes r bad ran chosen s gave enough met =
       by c r.told r.readable bad (subst (λ (b : Command). IsScriptOf b input s) (one-command words ran c chosen r.asked) gave)

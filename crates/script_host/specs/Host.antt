@@ -103,10 +103,10 @@ pub record IsSmall (script : Script) : Type 0 where
 
 -- THE TEXT
 -- what a command writes of a run with these texts: its trace, or the summary of that
-abbrev pub text_of : Command → List (List ℕ) → Record → List ℕ
-text_of command.Run texts left = text texts (weave left.journal left.history)
-text_of command.Summary texts left = summary (weave left.journal left.history)
-text_of (command.Load number) texts left = summary (weave left.journal left.history)
+abbrev pub text_written : Command → List (List ℕ) → Record → List ℕ
+text_written command.Run texts left = text texts (weave left.journal left.history)
+text_written command.Summary texts left = summary (weave left.journal left.history)
+text_written (command.Load number) texts left = summary (weave left.journal left.history)
 
 -- THE DEMAND
 -- whether a script is what a top call demands: one that demands a schedule runs no script without one
@@ -277,7 +277,7 @@ abbrev pub IsRunStatus : ℕ → Type 0
 IsRunStatus status = (status ≡ 0) ⊎ (status ≡ 5)
 
 -- the words ask for this command, and where it reads the source, these are the source's bytes, and no read failed
-pub record IsAsked (words : List (List ℕ)) (input : Input) (c : Command) (bytes : List ℕ) : Type 0 where
+pub record IsAskedFor (words : List (List ℕ)) (input : Input) (c : Command) (bytes : List ℕ) : Type 0 where
   pub asked : command_of words ≡ Some c
   pub told : reads (Some c) ≡ true → input.before ≡ Some bytes
   pub readable : reads (Some c) ≡ true → ¬ HasRisen input.faults input.faults_after

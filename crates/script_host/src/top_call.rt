@@ -3,8 +3,8 @@ ghost use Rattle.std.specs.Prelude.{◌≡◌, ◌≢◌, ◌≤◌, ◌<◌, �
 ghost use Rattle.std.specs.Io.KnownBytes.{append_known};
 ghost use Rattle.napi_types.specs.plain.Edge.{HasRisen, TookFront};
 ghost use Rattle.napi_types.specs.plain.Room.{most_entries};
-ghost use Rattle.script_host.specs.Host.{handed_in, HasRun, IsSmall, IsScriptOf, text_of, WroteText, is_met, IsStatus, IsRunStatus, Misses};
-ghost use Rattle.script_host.specs.Host.{GaveScript, GaveTooMuch, CameRefused, Causes, CausesOfReading, CausesOfLoad, WroteLine, IsAsked, IsTooLong, IsRefused, IsRunnable};
+ghost use Rattle.script_host.specs.Host.{handed_in, HasRun, IsSmall, IsScriptOf, text_written, WroteText, is_met, IsStatus, IsRunStatus, Misses};
+ghost use Rattle.script_host.specs.Host.{GaveScript, GaveTooMuch, CameRefused, Causes, CausesOfReading, CausesOfLoad, WroteLine, IsAskedFor, IsTooLong, IsRefused, IsRunnable};
 ghost use Rattle.script_host.specs.Load.{load_script};
 ghost use Rattle.script_host.specs.Outside.{input_of, output_of};
 ghost use Rattle.script_host.specs.Reading.{GaveFront};
@@ -67,8 +67,8 @@ fn write_text<K: Sink>(
 ) -> Result<(), Failed>
     requires journal { length left.now.journal ≤ most_entries }
     requires history { length left.now.history ≤ most_entries }
-    ensures ok { OnOk result (K.taken sink.new ≡ append_known (K.taken sink.old) (text_of command texts.now left.now)) }
-    ensures err { OnErr result (TookFront (K.taken sink.old) (text_of command texts.now left.now) (K.taken sink.new)) }
+    ensures ok { OnOk result (K.taken sink.new ≡ append_known (K.taken sink.old) (text_written command texts.now left.now)) }
+    ensures err { OnErr result (TookFront (K.taken sink.old) (text_written command texts.now left.now) (K.taken sink.new)) }
     ensures failed { OnErr result (HasRisen (K.faults sink.old) (K.faults sink.new)) }
     ensures counted { OnOk result (K.faults sink.new ≡ K.faults sink.old) }
     ensures faults { K.faults sink.old ≤ K.faults sink.new }
@@ -88,7 +88,7 @@ fn tell<K: Sink>(command: Command, sink: &mut K, texts: &Texts, left: &Record) -
     requires history { length left.now.history ≤ most_entries }
     ensures run { IsRunStatus result }
     ensures wrote { let output = output_of K.taken K.faults sink.old sink.new in
-        WroteText (result == 0) output (text_of command texts.now left.now) }
+        WroteText (result == 0) output (text_written command texts.now left.now) }
     ensures fault { result ≡ 5 → HasRisen (K.faults sink.old) (K.faults sink.new) }
     ensures told { K.faults sink.new ≢ K.faults sink.old → result ≡ 5 }
     ensures faults { K.faults sink.old ≤ K.faults sink.new }
@@ -247,7 +247,7 @@ pub fn host<R: Threads + Wait + Sync, S: Source, K: Sink, G: Gate>(
         let before = handed_in (λ b. plan b) (λ b. regs b) (λ b. seen b) addons.old.items in
         let after = handed_in (λ b. plan b) (λ b. regs b) (λ b. seen b) addons.new.items in
         IsRunStatus result → (command : Command) × (script : Script) × (command_of words.now ≡ Some command) × IsScriptOf command input script
-        × HasRun script before left.new after × WroteText (result == 0) output (text_of command script.texts left.new) }
+        × HasRun script before left.new after × WroteText (result == 0) output (text_written command script.texts left.new) }
 
     // At every other status a line has its cause, and stands in place of the text.
     ensures refused { let input = input_of S.left S.faults source.old source.new in
@@ -272,11 +272,11 @@ pub fn host<R: Threads + Wait + Sync, S: Source, K: Sink, G: Gate>(
 
     // Where no read failed, the words and the bytes that the source has say the status, or there was no memory: 7, else 3, else 0 or 5.
     ensures too_long_told { let input = input_of S.left S.faults source.old source.new in
-        (command : Command) (bytes : List ℕ) → IsAsked words.now input command bytes → IsTooLong command bytes → (result ≡ 7) ⊎ (result ≡ 6) }
+        (command : Command) (bytes : List ℕ) → IsAskedFor words.now input command bytes → IsTooLong command bytes → (result ≡ 7) ⊎ (result ≡ 6) }
     ensures refused_told { let input = input_of S.left S.faults source.old source.new in
-        (command : Command) (bytes : List ℕ) → IsAsked words.now input command bytes → IsRefused Demand.Nothing command bytes (length addons.old.items) → (result ≡ 3) ⊎ (result ≡ 6) }
+        (command : Command) (bytes : List ℕ) → IsAskedFor words.now input command bytes → IsRefused Demand.Nothing command bytes (length addons.old.items) → (result ≡ 3) ⊎ (result ≡ 6) }
     ensures complete { let input = input_of S.left S.faults source.old source.new in
-        (command : Command) (bytes : List ℕ) → IsAsked words.now input command bytes → IsRunnable Demand.Nothing command bytes (length addons.old.items) → IsRunStatus result ⊎ (result ≡ 6) }
+        (command : Command) (bytes : List ℕ) → IsAskedFor words.now input command bytes → IsRunnable Demand.Nothing command bytes (length addons.old.items) → IsRunStatus result ⊎ (result ≡ 6) }
 
     // Nothing is read where the words are no command line or ask for a load, and else no more than a front of what the source has left.
     ensures unread { reads (command_of words.now) ≡ false → S.left source.new ≡ S.left source.old }
@@ -316,7 +316,7 @@ pub fn host_scheduled<S: Source, K: Sink>(
         let after = handed_in (λ b. plan b) (λ b. regs b) (λ b. seen b) addons.new.items in
         IsRunStatus result → (command : Command) × (script : Script) × (command_of words.now ≡ Some command) × IsScriptOf command input script
         × (is_met Demand.Schedule script ≡ true) × HasRun script before left.new after
-        × WroteText (result == 0) output (text_of command script.texts left.new) }
+        × WroteText (result == 0) output (text_written command script.texts left.new) }
 
     ensures refused { let input = input_of S.left S.faults source.old source.new in
         let output = output_of K.taken K.faults sink.old sink.new in
@@ -337,11 +337,11 @@ pub fn host_scheduled<S: Source, K: Sink>(
     ensures write_fault_told { IsRunStatus result → K.faults sink.new ≢ K.faults sink.old → result ≡ 5 }
 
     ensures too_long_told { let input = input_of S.left S.faults source.old source.new in
-        (command : Command) (bytes : List ℕ) → IsAsked words.now input command bytes → IsTooLong command bytes → (result ≡ 7) ⊎ (result ≡ 6) }
+        (command : Command) (bytes : List ℕ) → IsAskedFor words.now input command bytes → IsTooLong command bytes → (result ≡ 7) ⊎ (result ≡ 6) }
     ensures refused_told { let input = input_of S.left S.faults source.old source.new in
-        (command : Command) (bytes : List ℕ) → IsAsked words.now input command bytes → IsRefused Demand.Schedule command bytes (length addons.old.items) → (result ≡ 3) ⊎ (result ≡ 6) }
+        (command : Command) (bytes : List ℕ) → IsAskedFor words.now input command bytes → IsRefused Demand.Schedule command bytes (length addons.old.items) → (result ≡ 3) ⊎ (result ≡ 6) }
     ensures complete { let input = input_of S.left S.faults source.old source.new in
-        (command : Command) (bytes : List ℕ) → IsAsked words.now input command bytes → IsRunnable Demand.Schedule command bytes (length addons.old.items) → IsRunStatus result ⊎ (result ≡ 6) }
+        (command : Command) (bytes : List ℕ) → IsAskedFor words.now input command bytes → IsRunnable Demand.Schedule command bytes (length addons.old.items) → IsRunStatus result ⊎ (result ≡ 6) }
 
     ensures unread { reads (command_of words.now) ≡ false → S.left source.new ≡ S.left source.old }
     ensures uncounted { reads (command_of words.now) ≡ false → S.faults source.new ≡ S.faults source.old }
