@@ -1,28 +1,31 @@
 -- Where a work came out the first completion is there.
 use Rattle.std.proofs.Common.{◌≡◌, ◌∙◌, ◌==◌, true, ℕ, suc, length, Bool, List, [], ◌∷◌, map, refl, ap, sym, subst, Option, Some, None, is_some, option_map, not, false, arith}
 use Rattle.std.specs.Option.{option_and_then, option_map_or}
+use Rattle.generation_slab.specs.HeldPlaces.{Held}
 use Rattle.napi_types.specs.plain.Lists.{head}
 use Rattle.napi_types.specs.parts.Pool.{work_numbered, completion_info, first_completion}
 use Rattle.napi_types.specs.parts.Works.{Work, Outcome}
+use Rattle.napi_types.proofs.plain.Found.{IsRising}
 use Rattle.async_work.specs.KeptPool.{pool_of, IsKeptPool, StandsInLine, CameOutOnce}
 use Rattle.async_work.specs.Line.{InLine, CameOut, Done, outcome_of, has_ended, is_done_in_line, ended_at, line_work_at, line_stage_at}
-use Rattle.async_work.specs.WorkPlaces.{Placed, work_of}
+use Rattle.async_work.specs.WorkPlaces.{Placed}
 use Rattle.async_work.proofs.Linking.{ended-unfinished, first-ended, stage-of}
 use Rattle.async_work.proofs.StandingWorks.{numbered-at}
 
-module _ (places : List (Option Placed)) (line : List InLine) (finished : List CameOut) (first queued running : ℕ) (closing : Bool) (line_places finished_places : ℕ)
-    (kept : IsKeptPool places line finished first queued running closing line_places finished_places) where
-  completion-of : (o : CameOut) → ended_at line o.number ≡ true → is_some (work_numbered (pool_of places line finished closing) o.number) ≡ true
+module _ (places : List (Held Placed)) (issued : List ℕ) (line : List InLine) (finished : List CameOut) (first created queued running : ℕ) (closing : Bool)
+    (line_places finished_places : ℕ) (rises : IsRising (λ h. h.number) places)
+    (kept : IsKeptPool places issued line finished first created queued running closing line_places finished_places) where
+  completion-of : (o : CameOut) → ended_at line o.number ≡ true → is_some (work_numbered (pool_of places issued line finished closing) o.number) ≡ true
   completion-of o ended = by (line_work_at line o.number) refl
     where
-      by : (e : Option InLine) → line_work_at line o.number ≡ e → is_some (work_numbered (pool_of places line finished closing) o.number) ≡ true
+      by : (e : Option InLine) → line_work_at line o.number ≡ e → is_some (work_numbered (pool_of places issued line finished closing) o.number) ≡ true
       by None at = let no : false ≡ true = sym (ap (λ (w : Option InLine). has_ended (option_map_or (λ (x : InLine). x.stage) w Done)) at) ∙ ended in cc
       by (Some e) at =
           let unfinished : is_done_in_line e.stage ≡ false = ap is_done_in_line (sym (stage-of line o.number e at)) ∙ ended-unfinished (line_stage_at line o.number) ended in
           let stands : StandsInLine places o.number e = kept.linked.placed o.number e at unfinished in
-          ap is_some (numbered-at places line finished first queued running closing line_places finished_places kept o.number e at stands)
+          ap is_some (numbered-at places issued line finished first created queued running closing line_places finished_places kept o.number e rises at stands)
 
-  pub completion-there : is_some (first_completion (pool_of places line finished closing)) ≡ not (length finished == 0)
+  pub completion-there : is_some (first_completion (pool_of places issued line finished closing)) ≡ not (length finished == 0)
   completion-there = by finished refl
     where
       some : (n : ℕ) → (suc n == 0) ≡ false
@@ -33,10 +36,10 @@ module _ (places : List (Option Placed)) (line : List InLine) (finished : List C
       told o (Some w) there = refl
 
       by : (os : List CameOut) → finished ≡ os
-          → is_some (option_and_then (λ (x : Outcome). option_map (λ w. completion_info w x) (work_numbered (pool_of places line finished closing) x.work)) (head (map outcome_of os)))
+          → is_some (option_and_then (λ (x : Outcome). option_map (λ w. completion_info w x) (work_numbered (pool_of places issued line finished closing) x.work)) (head (map outcome_of os)))
           ≡ not (length os == 0)
       by [] are = refl
       by (o ∷ os) are =
-          told o (work_numbered (pool_of places line finished closing) o.number)
+          told o (work_numbered (pool_of places issued line finished closing) o.number)
           (completion-of o (first-ended places line o os (subst (CameOutOnce places line) are kept.came_out)))
           ∙ ap not (sym (some (length os)))

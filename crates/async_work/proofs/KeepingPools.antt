@@ -1,22 +1,20 @@
 -- Places, line and what came out go on standing for a pool.
 use Rattle.std.proofs.Common.{◌≡◌, ◌∙◌, ℕ, zero, suc, ◌+◌, ◌-◌, ◌<◌, ◌≤◌, ◌==◌, Bool, true, false, not, cond, List, [], ◌∷◌, ◌++◌, length, filter, set, get_or, Option, Some, None, IfSome, is_some, option_map, ◌⊎◌, refl, ap, sym, subst, arith, length-append, inl, inr}
 use Rattle.std.specs.List.{count_by}
-use Rattle.std.specs.Option.{option_map_or}
+use Rattle.std.specs.Option.{option_map_or, is_none}
+use Rattle.generation_slab.specs.HeldPlaces.{Held, with_held, without_held, with_value}
 use Rattle.std.proofs.lemmas.Bool.{cases_lt}
-use Rattle.std.proofs.lemmas.List.Sums.{sum_by-cons, sum_by-append, sum_by-set}
 use Rattle.std.proofs.lemmas.List.Elements.{All-nil}
-use Rattle.std.proofs.lemmas.Option.{get_or_from_slice_get}
 use Rattle.napi_types.specs.declared.call.JobSpec.{JobSpec}
-use Rattle.napi_types.specs.plain.Lists.{found, has_number, with_record, one, head, tail}
+use Rattle.napi_types.specs.plain.Lists.{found, has_number, with_record, with_number, one, head, tail}
 use Rattle.napi_types.proofs.plain.Found.{IsRising, same-self, same-tells, apart-above}
 use Rattle.napi_types.proofs.plain.Maps.{filter_all}
-use Rattle.napi_types.specs.plain.Counted.{element}
 use Rattle.async_work.specs.declared.line.Numbered.{Numbered}
-use Rattle.async_work.specs.WorkPlaces.{Placed, place_at, is_held, with_place_number}
+use Rattle.async_work.specs.WorkPlaces.{Placed, place_at, is_unqueued, with_place_number, with_number_at}
 use Rattle.async_work.specs.Line.{LineStage, Waits, Runs, Ended, Done, InLine, CameOut, entry_seen, line_seen, waiting_job, runner, has_ended, is_done_in_line, with_stage, line_work_at, line_stage_at, waits, runner_at, ended_at, waiting_works, executions}
 use Rattle.async_work.specs.KeptPool.{StandsInLine, spec_at, KeepsJob, IsLine, CameOutOnce, IsKeptPool}
-use Rattle.napi_types.proofs.plain.Counted.{element-within}
-use Rattle.async_work.proofs.Ids.{Replaced, replaced, element-place}
+use Rattle.async_work.proofs.Ids.{Replaced, replaced-made, replaced-freed, replaced-numbered, held-at, none-held, new-absent, issued-made, issued-freed, issued-kept}
+use Rattle.async_work.proofs.Mapped.{count-less, count-more, count-changed}
 use Rattle.async_work.proofs.Queueing.{Restaged, restaged, stage-restaged, stage-push, stage-past, waiting-same, waiting-less, waiting-more, waiting-none, waiting-first, has-waiting, length-less, read-at, bounds-at}
 use Rattle.async_work.proofs.PoolExecutions.{AreApart, apart-less, apart-started, executions-same, executions-started, executions-finished, length-finished, idle-worker}
 use Rattle.async_work.proofs.Linking.{linked-created, linked-deleted, linked-queued, linked-restaged, out-created, out-deleted, out-queued, out-started, out-ended, out-completed, spec-stands, first-ended}
@@ -74,42 +72,23 @@ runner-queued line e job waits_for m = stage-push runner line e m ∙ by (length
         ∙ sym (stage-past runner line m (omega (arith, at)))
     by false same = refl
 
--- HOW MANY PLACES HOLD A JOB
-held-replaced : (places : List (Option Placed)) (id : ℕ) (p : Placed) (place : Option Placed) → place_at places id ≡ Some p
-    → count_by is_held (set places (id - 1) place) + cond (is_some p.job) 1 0 ≡ count_by is_held places + cond (is_held place) 1 0
-held-replaced places id p place is = by id refl is
-  where
-    by : (n : ℕ) → n ≡ id → place_at places n ≡ Some p → count_by is_held (set places (n - 1) place) + cond
-        (is_some p.job) 1 0 ≡ count_by is_held places + cond (is_held place) 1 0
-    by zero same at = let no : ⊥ = cc in absurd no
-    by (suc k) same at =
-        let there : element places (suc k) ≡ Some (Some p) = element-place places (suc k) p at in
-        let within = element-within places (suc k) (Some p) there in
-        let read : get_or places k None ≡ Some p = get_or_from_slice_get places k (Some p) None there in
-        let place_is : suc k - 1 ≡ k = omega arith in
-        ap (λ i. count_by is_held (set places i place) + cond (is_some p.job) 1 0) place_is
-        ∙ ap (λ q. count_by is_held (set places k place) + cond (is_held q) 1 0) (sym read)
-        ∙ sum_by-set (λ q. cond (is_held q) 1 0) places k place None (omega (arith, within.1))
-
-counts_one : (o : Option JobSpec) (job : JobSpec) → o ≡ Some job → cond {A = ℕ} (is_some o) 1 0 ≡ 1
-counts_one None job is = let no : ⊥ = cc in absurd no
-counts_one (Some t) job is = refl
-
--- one that holds a job is one at least
-held-some : (places : List (Option Placed)) (id : ℕ) (p : Placed) (job : JobSpec) → place_at places id ≡ Some p → p.job ≡ Some job → 1 ≤ count_by is_held places
-held-some places id p job is holds =
-    let less = held-replaced places id p None is in
-    let counts = counts_one p.job job holds in
-    omega (arith, less, counts)
-
 -- ROOM
-module _ (places : List (Option Placed)) (line : List InLine) (finished : List CameOut) (first queued running : ℕ) (closing : Bool)
+module _ (places : List (Held Placed)) (issued : List ℕ) (line : List InLine) (finished : List CameOut) (first created queued running : ℕ) (closing : Bool)
     (line_places finished_places : ℕ)
-    (kept : IsKeptPool places line finished first queued running closing line_places finished_places) where
-  pub room-to-queue : (id : ℕ) (p : Placed) → place_at places id ≡ Some p → p.number ≡ None → length line < line_places
-  room-to-queue id p is none =
-      let held = held-some places id p p.spec is (kept.linked.held id p is none) in
-      omega (arith, held, kept.room.to_queue, kept.room.line_room)
+    (kept : IsKeptPool places issued line finished first created queued running closing line_places finished_places) where
+  -- a work that was not queued is counted
+  pub counted-within : (id : ℕ) (p : Placed) → IsRising (λ h. h.number) places → place_at places id ≡ Some p → cond (is_none p.number) 1 0 ≤ created
+  counted-within id p rises is =
+      let less = count-less (λ (h : Held Placed). h.number) is_unqueued id places (record { number = id; value = p }) rises (held-at places id p is) in
+      omega (arith, less, kept.room.created_are)
+
+  pub created-some : (id : ℕ) (p : Placed) → IsRising (λ h. h.number) places → place_at places id ≡ Some p → p.number ≡ None → 1 ≤ created
+  created-some id p rises is none = subst (λ o. cond (is_none o) 1 0 ≤ created) none (counted-within id p rises is)
+
+  pub room-to-queue : (id : ℕ) (p : Placed) → IsRising (λ h. h.number) places → place_at places id ≡ Some p → p.number ≡ None → length line < line_places
+  room-to-queue id p rises is none =
+      let some = created-some id p rises is none in
+      omega (arith, some, kept.room.line_room)
 
   pub queued-some : (n : ℕ) → waits line n ≡ true → 1 ≤ queued
   queued-some n is = let less = length-less line n is in omega (arith, less, kept.room.queued_are)
@@ -117,7 +96,7 @@ module _ (places : List (Option Placed)) (line : List InLine) (finished : List C
   pub room-to-cancel : (n : ℕ) → waits line n ≡ true → length finished < finished_places
   room-to-cancel n is =
       let some = queued-some n is in
-      omega (arith, some, kept.room.to_finish, kept.room.to_queue, kept.room.finished_room)
+      omega (arith, some, kept.room.finished_room)
 
   pub running-some : (n w : ℕ) → runner_at line n ≡ Some w → 1 ≤ running
   running-some n w is =
@@ -130,20 +109,20 @@ module _ (places : List (Option Placed)) (line : List InLine) (finished : List C
   pub room-to-finish : (n w : ℕ) → runner_at line n ≡ Some w → length finished < finished_places
   room-to-finish n w is =
       let some = running-some n w is in
-      omega (arith, some, kept.room.to_finish, kept.room.to_queue, kept.room.finished_room)
+      omega (arith, some, kept.room.finished_room)
 
   -- MEMORY WAS TAKEN
   pub kept-more : (more_line more_finished : ℕ) → line_places ≤ more_line → finished_places ≤ more_finished
-      → IsKeptPool places line finished first queued running closing more_line more_finished
+      → IsKeptPool places issued line finished first created queued running closing more_line more_finished
   kept-more more_line more_finished a b = record {
+    known = kept.known;
     linked = kept.linked;
     in_line = kept.in_line;
     came_out = kept.came_out;
     room = record {
+      created_are = kept.room.created_are;
       queued_are = kept.room.queued_are;
       running_are = kept.room.running_are;
-      to_queue = kept.room.to_queue;
-      to_finish = kept.room.to_finish;
       line_room = omega (arith, kept.room.line_room, a);
       finished_room = omega (arith, kept.room.finished_room, b);
     };
@@ -151,71 +130,79 @@ module _ (places : List (Option Placed)) (line : List InLine) (finished : List C
   }
 
   -- A WORK IS CREATED
-  pub kept-created : (others : List (Option Placed)) (p : Placed) (more_line more_finished : ℕ) → others ≡ places ++ Some p ∷ [] → p.number ≡ None
-      → p.job ≡ Some p.spec
-      → length places + 1 ≤ more_line → length places + 1 ≤ more_finished → IsKeptPool others line finished first queued running closing more_line more_finished
-  kept-created others p more_line more_finished is none held a b = rw is (record {
-    linked = linked-created places line p kept.linked none held;
+  pub kept-created : (others : List (Held Placed)) (id : ℕ) (p : Placed) (more more_line more_finished : ℕ) → IsRising (λ h. h.number) places
+      → has_number id (0 ∷ issued) ≡ false → others ≡ with_held id p places → p.number ≡ None → p.job ≡ Some p.spec → more ≡ created + 1
+      → length line + more ≤ more_line → length finished + more + queued + running ≤ more_finished
+      → IsKeptPool others (with_number id issued) line finished first more queued running closing more_line more_finished
+  kept-created others id p more more_line more_finished rises new is none held more_is a b = rw is (record {
+    known = issued-made places (with_held id p places) issued id p change kept.known;
+    linked = linked-created places (with_held id p places) line id p kept.linked absent change none held;
     in_line = kept.in_line;
-    came_out = out-created places line finished (Some p) kept.came_out;
+    came_out = out-created places (with_held id p places) line finished id p absent change kept.came_out;
     room = record {
+      created_are = omega (arith, kept.room.created_are, more_is, counted, counts);
       queued_are = kept.room.queued_are;
       running_are = kept.room.running_are;
-      to_queue = omega (arith, kept.room.to_queue, longer, counted);
-      to_finish = kept.room.to_finish;
-      line_room = omega (arith, longer, a);
-      finished_room = omega (arith, longer, b);
+      line_room = a;
+      finished_room = b;
     };
     shut = kept.shut;
   })
     where
-      longer : length (places ++ Some p ∷ []) ≡ length places + 1
-      longer = length-append places (Some p ∷ [])
+      change : Replaced places (with_held id p places) id (Some p)
+      change = replaced-made places id p
 
-      counted : count_by is_held (places ++ Some p ∷ []) ≡ count_by is_held places + 1
-      counted =
-          sum_by-append (λ q. cond (is_held q) 1 0) places (Some p ∷ [])
-          ∙ ap (λ k. count_by is_held places + k) (sum_by-cons (λ q. cond (is_held q) 1 0) (Some p) [] ∙ ap (λ o. cond (is_some o) 1 0 + 0) held)
+      absent : place_at places id ≡ None
+      absent = new-absent places issued id kept.known new
+
+      counts : cond {A = ℕ} (is_none p.number) 1 0 ≡ 1
+      counts = ap (λ o. cond (is_none o) 1 0) none
+
+      counted : count_by is_unqueued (with_held id p places) ≡ count_by is_unqueued places + cond (is_none p.number) 1 0
+      counted = count-more (λ (h : Held Placed). h.number) is_unqueued (record { number = id; value = p }) places rises (none-held places id absent)
 
   -- A WORK IS DELETED
-  pub kept-deleted : (others : List (Option Placed)) (id : ℕ) (p : Placed) → others ≡ set places (id - 1) None → place_at places id ≡ Some p → ((n : ℕ)
-      → p.number ≡ Some n → is_done_in_line (line_stage_at line n) ≡ true)
-      → IsKeptPool others line finished first queued running closing line_places finished_places
-  kept-deleted others id p same is done = rw same (record {
-    linked = linked-deleted places (set places (id - 1) None) line id p kept.linked is change done;
+  pub kept-deleted : (others : List (Held Placed)) (id : ℕ) (p : Placed) (fewer : ℕ) → IsRising (λ h. h.number) places → others ≡ without_held id places
+      → place_at places id ≡ Some p → ((n : ℕ) → p.number ≡ Some n → is_done_in_line (line_stage_at line n) ≡ true)
+      → fewer + cond (is_none p.number) 1 0 ≡ created
+      → IsKeptPool others issued line finished first fewer queued running closing line_places finished_places
+  kept-deleted others id p fewer rises same is done fewer_is = rw same (record {
+    known = issued-freed places (without_held id places) issued id change kept.known;
+    linked = linked-deleted places (without_held id places) line id p kept.linked is change done;
     in_line = kept.in_line;
-    came_out = out-deleted places (set places (id - 1) None) line finished id p kept.linked kept.came_out is change done;
+    came_out = out-deleted places (without_held id places) line finished id p kept.linked kept.came_out is change done;
     room = record {
+      created_are = omega (arith, kept.room.created_are, fewer_is, counted);
       queued_are = kept.room.queued_are;
       running_are = kept.room.running_are;
-      to_queue = omega (arith, kept.room.to_queue, change.long, counted);
-      to_finish = kept.room.to_finish;
-      line_room = omega (arith, change.long, kept.room.line_room);
-      finished_room = omega (arith, change.long, kept.room.finished_room);
+      line_room = omega (arith, kept.room.line_room, fewer_is);
+      finished_room = omega (arith, kept.room.finished_room, fewer_is);
     };
     shut = kept.shut;
   })
     where
-      change : Replaced places (set places (id - 1) None) id None
-      change = replaced places id p None is
+      change : Replaced places (without_held id places) id None
+      change = replaced-freed places id
 
-      counted : count_by is_held (set places (id - 1) None) + cond (is_some p.job) 1 0 ≡ count_by is_held places + 0
-      counted = held-replaced places id p None is
+      counted : count_by is_unqueued (without_held id places) + cond (is_none p.number) 1 0 ≡ count_by is_unqueued places
+      counted = count-less (λ (h : Held Placed). h.number) is_unqueued id places (record { number = id; value = p }) rises (held-at places id p is)
 
   -- A WORK IS QUEUED
-  pub kept-queued : (others : List (Option Placed)) (lines : List InLine) (id n more : ℕ) (p : Placed) (e : InLine)
-      → others ≡ set places (id - 1) (Some (with_place_number n p)) → lines ≡ line ++ e ∷ [] → closing ≡ false
-      → n ≡ length line + 1 → place_at places id ≡ Some p → p.number ≡ None → e.id ≡ id → waiting_job e.stage ≡ Some p.spec → more ≡ queued + 1
-      → IsKeptPool others lines finished first more running closing line_places finished_places
-  kept-queued others lines id n more p e places_are line_is still_open number is none its waits_for more_is = rw (places_are, line_is) (record {
-    linked = linked-queued places (set places (id - 1) (Some (with_place_number n p))) line id n p e kept.linked number is none change its waits_for;
+  pub kept-queued : (others : List (Held Placed)) (lines : List InLine) (id n fewer more : ℕ) (p : Placed) (e : InLine) → IsRising (λ h. h.number) places
+      → others ≡ with_number_at id n places → lines ≡ line ++ e ∷ [] → closing ≡ false
+      → n ≡ length line + 1 → place_at places id ≡ Some p → p.number ≡ None → e.id ≡ id → waiting_job e.stage ≡ Some p.spec → fewer ≡ created - 1 → more ≡ queued + 1
+      → IsKeptPool others issued lines finished first fewer more running closing line_places finished_places
+  kept-queued others lines id n fewer more p e rises places_are line_is still_open number is none its waits_for fewer_is more_is = rw (places_are, line_is) (record {
+    known = issued-kept places (with_number_at id n places) issued id p (with_place_number n p) is change kept.known;
+    linked = linked-queued places (with_number_at id n places) line id n p e kept.linked number is none change its waits_for;
     in_line = record {
       apart = λ a b w here there. kept.in_line.apart a b w (sym (same_runner a) ∙ here) (sym (same_runner b) ∙ there);
       within = omega (arith, longer, kept.in_line.within);
       passed = λ m before. still m before;
     };
-    came_out = out-queued places (set places (id - 1) (Some (with_place_number n p))) line finished id n p e kept.came_out is change only.lives;
+    came_out = out-queued places (with_number_at id n places) line finished id n p e kept.came_out is change only.lives;
     room = record {
+      created_are = omega (arith, kept.room.created_are, fewer_is, counted, counts);
       queued_are = omega (
         arith,
         more_is,
@@ -224,28 +211,30 @@ module _ (places : List (Option Placed)) (line : List InLine) (finished : List C
         length-append (waiting_works line) (one (length line + 1)),
       );
       running_are = kept.room.running_are ∙ ap length (sym (executions-same line (line ++ e ∷ []) same_runner));
-      to_queue = omega (arith, kept.room.to_queue, longer, change.long, counted, counts);
-      to_finish = omega (arith, kept.room.to_finish, longer, more_is);
-      line_room = omega (arith, change.long, kept.room.line_room);
-      finished_room = omega (arith, change.long, kept.room.finished_room);
+      line_room = omega (arith, kept.room.line_room, longer, fewer_is, some);
+      finished_room = omega (arith, kept.room.finished_room, fewer_is, more_is, some);
     };
     shut = λ shut. let no : ⊥ = cc in absurd no;
   })
     where
-      change : Replaced places (set places (id - 1) (Some (with_place_number n p))) id (Some (with_place_number n p))
-      change = replaced places id p (Some (with_place_number n p)) is
+      change : Replaced places (with_number_at id n places) id (Some (with_place_number n p))
+      change = replaced-numbered places id n p is
 
       only : OnlyWaits e.stage
       only = only-waits e.stage p.spec waits_for
 
+      some : 1 ≤ created
+      some = created-some id p rises is none
+
       longer : length (line ++ e ∷ []) ≡ length line + 1
       longer = length-append line (e ∷ [])
 
-      counts : cond {A = ℕ} (is_some p.job) 1 0 ≡ 1
-      counts = counts_one p.job p.spec (kept.linked.held id p is none)
+      counts : cond {A = ℕ} (is_none p.number) 1 0 ≡ 1
+      counts = ap (λ o. cond (is_none o) 1 0) none
 
-      counted : count_by is_held (set places (id - 1) (Some (with_place_number n p))) + cond (is_some p.job) 1 0 ≡ count_by is_held places + 0
-      counted = held-replaced places id p (Some (with_place_number n p)) is
+      counted : count_by is_unqueued (with_number_at id n places) + cond (is_none p.number) 1 0 ≡ count_by is_unqueued places + 0
+      counted = count-changed (λ (h : Held Placed). h.number) is_unqueued id (λ h. with_value (with_place_number n h.value) h) (λ h. refl)
+          (record { number = id; value = p }) places rises (held-at places id p is)
 
       same_runner : (m : ℕ) → runner_at (line ++ e ∷ []) m ≡ runner_at line m
       same_runner = runner-queued line e p.spec waits_for
@@ -259,8 +248,9 @@ module _ (places : List (Option Placed)) (line : List InLine) (finished : List C
 
   -- WORKS ARE PASSED OVER THAT DO NOT WAIT
   pub kept-passed : (next : ℕ) → next ≤ length line → ((m : ℕ) → first < m → m ≤ next → waits line m ≡ false)
-      → IsKeptPool places line finished next queued running closing line_places finished_places
+      → IsKeptPool places issued line finished next created queued running closing line_places finished_places
   kept-passed next within passed = record {
+    known = kept.known;
     linked = kept.linked;
     in_line = record { apart = kept.in_line.apart; within = within; passed = λ m before. by m before (cases_lt first m) };
     came_out = kept.came_out;
@@ -353,18 +343,18 @@ module _ (places : List (Option Placed)) (line : List InLine) (finished : List C
               by false same = refl
 
       pub kept-started : (fewer more : ℕ) → lines ≡ set line (n - 1) (with_stage (Runs w) e) → closing ≡ false → fewer ≡ queued - 1 → more ≡ running + 1
-          → IsKeptPool places lines finished first fewer more closing line_places finished_places
+          → IsKeptPool places issued lines finished first created fewer more closing line_places finished_places
       kept-started fewer more is still_open fewer_is more_is = rw is (record {
+        known = kept.known;
         linked = linked-restaged places line (set line (n - 1) (with_stage (Runs w) e)) n e (Runs w) kept.linked change refl (λ _. only.unfinished);
         in_line = record { apart = apart-now; within = omega (arith, change.long, kept.in_line.within); passed = still-passed (Runs w) refl };
         came_out = out-started places line (set line (n - 1) (with_stage (Runs w) e)) finished n e (Runs w) kept.came_out change refl only.lives;
         room = record {
+          created_are = kept.room.created_are;
           queued_are = omega (arith, fewer_is, kept.room.queued_are, fewer-wait (Runs w) job refl waits_for);
           running_are = omega (arith, more_is, kept.room.running_are, more-run);
-          to_queue = omega (arith, change.long, kept.room.to_queue);
-          to_finish = omega (arith, change.long, kept.room.to_finish, fewer_is, more_is, queued-some n (waits-here job waits_for));
-          line_room = kept.room.line_room;
-          finished_room = kept.room.finished_room;
+          line_room = omega (arith, change.long, kept.room.line_room);
+          finished_room = omega (arith, kept.room.finished_room, fewer_is, more_is, queued-some n (waits-here job waits_for));
         };
         shut = λ shut. let no : ⊥ = cc in absurd no;
       })
@@ -378,8 +368,9 @@ module _ (places : List (Option Placed)) (line : List InLine) (finished : List C
     -- it is cancelled
     pub kept-cancelled : (outcomes : List CameOut) (o : CameOut) (fewer : ℕ) (job : JobSpec) → lines ≡ set line (n - 1) (with_stage Ended e)
         → outcomes ≡ finished ++ o ∷ [] → waiting_job e.stage ≡ Some job
-        → o.number ≡ n → o.unspent ≡ Some job → fewer ≡ queued - 1 → IsKeptPool places lines outcomes first fewer running closing line_places finished_places
+        → o.number ≡ n → o.unspent ≡ Some job → fewer ≡ queued - 1 → IsKeptPool places issued lines outcomes first created fewer running closing line_places finished_places
     kept-cancelled outcomes o fewer job is out_is waits_for its unspent fewer_is = rw (is, out_is) (record {
+      known = kept.known;
       linked = linked-restaged places line (set line (n - 1) (with_stage Ended e)) n e Ended kept.linked change refl (λ _. only.unfinished);
       in_line = record {
         apart = apart-less line (set line (n - 1) (with_stage Ended e)) n kept.in_line.apart (fewer-run Ended refl);
@@ -388,12 +379,11 @@ module _ (places : List (Option Placed)) (line : List InLine) (finished : List C
       };
       came_out = out-ended places line (set line (n - 1) (with_stage Ended e)) finished n e Ended kept.came_out change o refl only.lives its told;
       room = record {
+        created_are = kept.room.created_are;
         queued_are = omega (arith, fewer_is, kept.room.queued_are, fewer-wait Ended job refl waits_for);
         running_are = kept.room.running_are ∙ ap length (sym (executions-still Ended refl only.idle));
-        to_queue = omega (arith, change.long, kept.room.to_queue);
-        to_finish = omega (arith, change.long, kept.room.to_finish, fewer_is, queued-some n (waits-here job waits_for), length-append finished (o ∷ []));
-        line_room = kept.room.line_room;
-        finished_room = kept.room.finished_room;
+        line_room = omega (arith, change.long, kept.room.line_room);
+        finished_room = omega (arith, kept.room.finished_room, fewer_is, queued-some n (waits-here job waits_for), length-append finished (o ∷ []));
       };
       shut = λ shut. let none : waits line n ≡ false = sym (has-waiting line n) ∙ ap (has_number n)
           (kept.shut shut) in let here = waits-here job waits_for in let no : ⊥ = cc in absurd no;
@@ -415,8 +405,9 @@ module _ (places : List (Option Placed)) (line : List InLine) (finished : List C
     -- it finishes
     pub kept-finished : (outcomes : List CameOut) (o : CameOut) (w fewer : ℕ) → lines ≡ set line (n - 1) (with_stage Ended e)
         → outcomes ≡ finished ++ o ∷ [] → runner e.stage ≡ Some w
-        → o.number ≡ n → o.unspent ≡ None → fewer ≡ running - 1 → IsKeptPool places lines outcomes first queued fewer closing line_places finished_places
+        → o.number ≡ n → o.unspent ≡ None → fewer ≡ running - 1 → IsKeptPool places issued lines outcomes first created queued fewer closing line_places finished_places
     kept-finished outcomes o w fewer is out_is runs its unspent fewer_is = rw (is, out_is) (record {
+      known = kept.known;
       linked = linked-restaged places line (set line (n - 1) (with_stage Ended e)) n e Ended kept.linked change refl (λ _. only.unfinished);
       in_line = record {
         apart = apart-less line (set line (n - 1) (with_stage Ended e)) n kept.in_line.apart (fewer-run Ended refl);
@@ -426,12 +417,11 @@ module _ (places : List (Option Placed)) (line : List InLine) (finished : List C
       came_out = out-ended places line (set line (n - 1) (with_stage Ended e)) finished n e Ended kept.came_out change o refl only.lives its (subst
           (λ u. IfSome u (λ t. spec_at places line n ≡ Some t)) (sym unspent) tt);
       room = record {
+        created_are = kept.room.created_are;
         queued_are = kept.room.queued_are ∙ ap length (sym (waiting-still Ended refl only.started));
         running_are = omega (arith, fewer_is, kept.room.running_are, less);
-        to_queue = omega (arith, change.long, kept.room.to_queue);
-        to_finish = omega (arith, change.long, kept.room.to_finish, fewer_is, running-some n w runs_here, length-append finished (o ∷ []));
-        line_room = kept.room.line_room;
-        finished_room = kept.room.finished_room;
+        line_room = omega (arith, change.long, kept.room.line_room);
+        finished_room = omega (arith, kept.room.finished_room, fewer_is, running-some n w runs_here, length-append finished (o ∷ []));
       };
       shut = λ shut. waiting-still Ended refl only.started ∙ kept.shut shut;
     })
@@ -451,29 +441,29 @@ module _ (places : List (Option Placed)) (line : List InLine) (finished : List C
             ∙ length-finished line (set line (n - 1) (with_stage Ended e)) n w kept.in_line.apart runs_here (fewer-run Ended refl)
 
 -- its completion begins
-pub kept-completed : (places : List (Option Placed)) (line lines : List InLine) (finished outcomes : List CameOut) (o : CameOut) (first queued running : ℕ)
+pub kept-completed : (places : List (Held Placed)) (issued : List ℕ) (line lines : List InLine) (finished outcomes : List CameOut) (o : CameOut) (first created queued running : ℕ)
     (closing : Bool) (line_places finished_places : ℕ) (e : InLine)
-    → IsKeptPool places line finished first queued running closing line_places finished_places → finished ≡ o ∷ outcomes → line_work_at line o.number ≡ Some e
+    → IsKeptPool places issued line finished first created queued running closing line_places finished_places → finished ≡ o ∷ outcomes → line_work_at line o.number ≡ Some e
     → lines ≡ set line (o.number - 1) (with_stage Done e)
-    → IsKeptPool places lines outcomes first queued running closing line_places finished_places
-kept-completed places line lines finished outcomes o first queued running closing line_places finished_places e kept out_is there is = rw is (record {
+    → IsKeptPool places issued lines outcomes first created queued running closing line_places finished_places
+kept-completed places issued line lines finished outcomes o first created queued running closing line_places finished_places e kept out_is there is = rw is (record {
+  known = kept.known;
   linked = linked-restaged places line (set line (o.number - 1) (with_stage Done e)) o.number e Done kept.linked change refl
       (λ no. let not_so : ⊥ = cc in absurd not_so);
   in_line = record {
     apart = apart-less line (set line (o.number - 1) (with_stage Done e)) o.number kept.in_line.apart
-        (fewer-run places line finished first queued running closing line_places finished_places kept lines o.number e there Done refl);
+        (fewer-run places issued line finished first created queued running closing line_places finished_places kept lines o.number e there Done refl);
     within = omega (arith, change.long, kept.in_line.within);
-    passed = still-passed places line finished first queued running closing line_places finished_places kept lines o.number e there Done refl;
+    passed = still-passed places issued line finished first created queued running closing line_places finished_places kept lines o.number e there Done refl;
   };
   came_out = out-completed places line (set line (o.number - 1) (with_stage Done e)) o outcomes e Done out change refl;
   room = record {
+    created_are = kept.room.created_are;
     queued_are = kept.room.queued_are ∙ ap length (sym waiting_same);
     running_are = kept.room.running_are ∙ ap length (sym
-        (executions-still places line finished first queued running closing line_places finished_places kept lines o.number e there Done refl only.idle));
-    to_queue = omega (arith, change.long, kept.room.to_queue);
-    to_finish = omega (arith, change.long, kept.room.to_finish, ap length out_is);
-    line_room = kept.room.line_room;
-    finished_room = kept.room.finished_room;
+        (executions-still places issued line finished first created queued running closing line_places finished_places kept lines o.number e there Done refl only.idle));
+    line_room = omega (arith, change.long, kept.room.line_room);
+    finished_room = omega (arith, kept.room.finished_room, ap length out_is);
   };
   shut = λ shut. waiting_same ∙ kept.shut shut;
 })
@@ -488,14 +478,15 @@ kept-completed places line lines finished outcomes o first queued running closin
     only = only-ended e.stage (ap has_ended (sym (ap (λ x. option_map_or (λ (y : InLine). y.stage) x Done) there)) ∙ first-ended places line o outcomes out)
 
     waiting_same : waiting_works (set line (o.number - 1) (with_stage Done e)) ≡ waiting_works line
-    waiting_same = waiting-still places line finished first queued running closing line_places finished_places kept lines o.number e there Done refl only.started
+    waiting_same = waiting-still places issued line finished first created queued running closing line_places finished_places kept lines o.number e there Done refl only.started
 
 -- where none waits, any work may start or none
-pub kept-closed : (places : List (Option Placed)) (line : List InLine) (finished : List CameOut) (first queued running : ℕ) (closing now : Bool)
+pub kept-closed : (places : List (Held Placed)) (issued : List ℕ) (line : List InLine) (finished : List CameOut) (first created queued running : ℕ) (closing now : Bool)
     (line_places finished_places : ℕ)
-    → IsKeptPool places line finished first queued running closing line_places finished_places → waiting_works line ≡ []
-    → IsKeptPool places line finished first queued running now line_places finished_places
-kept-closed places line finished first queued running closing now line_places finished_places kept none = record {
+    → IsKeptPool places issued line finished first created queued running closing line_places finished_places → waiting_works line ≡ []
+    → IsKeptPool places issued line finished first created queued running now line_places finished_places
+kept-closed places issued line finished first created queued running closing now line_places finished_places kept none = record {
+  known = kept.known;
   linked = kept.linked;
   in_line = kept.in_line;
   came_out = kept.came_out;
@@ -504,9 +495,10 @@ kept-closed places line finished first queued running closing now line_places fi
 }
 
 -- before the first work is created
-pub kept-new : (places : List (Option Placed)) (line : List InLine) (finished : List CameOut) (line_places finished_places : ℕ) → places ≡ [] → line ≡ []
-    → finished ≡ [] → IsKeptPool places line finished 0 0 0 false line_places finished_places
-kept-new places line finished line_places finished_places no_places no_line no_finished = rw (no_places, no_line, no_finished) (record {
+pub kept-new : (places : List (Held Placed)) (issued : List ℕ) (line : List InLine) (finished : List CameOut) (line_places finished_places : ℕ) → places ≡ [] → line ≡ []
+    → finished ≡ [] → IsKeptPool places issued line finished 0 0 0 0 false line_places finished_places
+kept-new places issued line finished line_places finished_places no_places no_line no_finished = rw (no_places, no_line, no_finished) (record {
+  known = λ id p is. absurd (nowhere id p is);
   linked = record {
     named = λ id p is. absurd (nowhere id p is);
     held = λ id p is. absurd (nowhere id p is);
@@ -522,10 +514,9 @@ kept-new places line finished line_places finished_places no_places no_line no_f
     told = All-nil (KeepsJob [] []);
   };
   room = record {
+    created_are = refl;
     queued_are = refl;
     running_are = refl;
-    to_queue = omega arith;
-    to_finish = omega arith;
     line_room = omega arith;
     finished_room = omega arith;
   };
@@ -533,8 +524,7 @@ kept-new places line finished line_places finished_places no_places no_line no_f
 })
   where
     nowhere : (id : ℕ) (p : Placed) → place_at [] id ≡ Some p → ⊥
-    nowhere zero p is = cc
-    nowhere (suc k) p is = cc
+    nowhere id p is = cc
 
     no_entry : (n : ℕ) (e : InLine) → line_work_at [] n ≡ Some e → ⊥
     no_entry zero e is = cc

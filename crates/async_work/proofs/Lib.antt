@@ -4,6 +4,7 @@ pub mod FirstCompletions
 pub mod Ids
 pub mod KeepingPools
 pub mod Linking
+pub mod Mapped
 pub mod PoolExecutions
 pub mod Queueing
 pub mod StandingWorks

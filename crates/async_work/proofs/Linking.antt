@@ -2,16 +2,16 @@
 use Rattle.std.proofs.Common.{◌≡◌, ◌∙◌, ℕ, ◌+◌, ◌<◌, ◌≤◌, ◌==◌, Bool, true, false, cond, List, [], ◌∷◌, ◌++◌, length, get_or, Option, Some, None, IfSome, option_map, refl, ap, sym, subst, arith}
 use Rattle.std.specs.List.{All, count_by}
 use Rattle.std.specs.Option.{option_and_then, option_map_or}
+use Rattle.generation_slab.specs.HeldPlaces.{Held}
 use Rattle.std.proofs.lemmas.List.Sums.{sum_by-cons, sum_by-append, get_or-le-sum_by}
 use Rattle.std.proofs.lemmas.List.Elements.{All-append, All-cons, All-nil, All-head, All-tail}
 use Rattle.napi_types.specs.declared.call.JobSpec.{JobSpec}
 use Rattle.napi_types.proofs.plain.Found.{same-self, same-tells, apart-above}
-use Rattle.napi_types.specs.plain.Counted.{element}
 use Rattle.async_work.specs.WorkPlaces.{Placed, place_at, with_place_number}
 use Rattle.async_work.specs.Line.{LineStage, Waits, Runs, Ended, Done, InLine, CameOut, waiting_job, has_ended, is_done_in_line, with_stage, line_work_at, line_stage_at, line_id_at, ended_at}
 use Rattle.async_work.specs.KeptPool.{StandsInLine, spec_at, KeepsJob, AreLinked, CameOutOnce}
 use Rattle.napi_types.proofs.plain.Counted.{element-within}
-use Rattle.async_work.proofs.Ids.{Replaced, place_at-push}
+use Rattle.async_work.proofs.Ids.{Replaced}
 use Rattle.async_work.proofs.Queueing.{Restaged, stage-restaged, id-restaged, entry-push, stage-push, stage-past}
 
 pub same-some : {A : Type 0} (x y : A) → Some x ≡ Some y → x ≡ y
@@ -36,19 +36,13 @@ apart-of m n apart = by (m == n) refl
     by true is = absurd (apart (same-tells m n is))
     by false is = refl
 
--- a place of which something is known is among the places
-pub place-within : (places : List (Option Placed)) (id : ℕ) (p : Placed) → place_at places id ≡ Some p → (1 ≤ id) × (id ≤ length places)
-place-within places id p is = by (element places id) refl is
+-- a work that was there still is once another is created
+pub place_at-old : (places others : List (Held Placed)) (id : ℕ) (p : Placed) (m : ℕ) (q : Placed) → place_at places id ≡ None → Replaced places others id (Some p)
+    → place_at places m ≡ Some q → place_at others m ≡ Some q
+place_at-old places others id p m q absent change is = change.at m ∙ ap (λ b. cond b (Some p) (place_at places m)) (apart-of id m other) ∙ is
   where
-    by : (o : Option (Option Placed)) → element places id ≡ o → option_and_then (λ place. place) o ≡ Some p → (1 ≤ id) × (id ≤ length places)
-    by None at told = let no : ⊥ = cc in absurd no
-    by (Some place) at told = element-within places id place at
-
-pub place_at-old : (places : List (Option Placed)) (place : Option Placed) (id : ℕ) (p : Placed) → place_at places id ≡ Some p
-    → place_at (places ++ place ∷ []) id ≡ Some p
-place_at-old places place id p is =
-    let within = place-within places id p is in
-    place_at-push places place id ∙ ap (λ b. cond b place (place_at places id)) (apart-above id (length places + 1) (omega (arith, within.1))) ∙ is
+    other : id ≡ m → ⊥
+    other same = let it : None ≡ Some q = sym absent ∙ ap (place_at places) same ∙ is in cc
 
 pub entry-old : (line : List InLine) (e x : InLine) (n : ℕ) → line_work_at line n ≡ Some x → line_work_at (line ++ e ∷ []) n ≡ Some x
 entry-old line e x n is =
@@ -69,27 +63,27 @@ pub stage-of : (line : List InLine) (n : ℕ) (e : InLine) → line_work_at line
 stage-of line n e is = ap (λ o. option_map_or (λ (x : InLine). x.stage) o Done) is
 
 -- A WORK IS CREATED
-pub linked-created : (places : List (Option Placed)) (line : List InLine) (p : Placed) → AreLinked places line → p.number ≡ None → p.job ≡ Some p.spec
-    → AreLinked (places ++ Some p ∷ []) line
-linked-created places line p linked none held = record {
-  named = λ id q is. named id q (length places + 1 == id) (sym (place_at-push places (Some p) id) ∙ is);
-  held = λ id q is. keeps id q (length places + 1 == id) (sym (place_at-push places (Some p) id) ∙ is);
+pub linked-created : (places others : List (Held Placed)) (line : List InLine) (id : ℕ) (p : Placed) → AreLinked places line → place_at places id ≡ None
+    → Replaced places others id (Some p) → p.number ≡ None → p.job ≡ Some p.spec → AreLinked others line
+linked-created places others line id p linked absent change none held = record {
+  named = λ m q is. named m q (id == m) (sym (change.at m) ∙ is);
+  held = λ m q is. keeps m q (id == m) (sym (change.at m) ∙ is);
   placed = λ n e is unfinished. stands n e (linked.placed n e is unfinished);
 }
   where
-    named : (id : ℕ) (q : Placed) (b : Bool) → cond b (Some p) (place_at places id) ≡ Some q → IfSome q.number (λ n. line_id_at line n ≡ Some id)
-    named id q true told = if-none (λ n. line_id_at line n ≡ Some id) q.number (ap (λ (r : Placed). r.number) (sym (same-some p q told)) ∙ none)
-    named id q false told = linked.named id q told
+    named : (m : ℕ) (q : Placed) (b : Bool) → cond b (Some p) (place_at places m) ≡ Some q → IfSome q.number (λ n. line_id_at line n ≡ Some m)
+    named m q true told = if-none (λ n. line_id_at line n ≡ Some m) q.number (ap (λ (r : Placed). r.number) (sym (same-some p q told)) ∙ none)
+    named m q false told = linked.named m q told
 
-    keeps : (id : ℕ) (q : Placed) (b : Bool) → cond b (Some p) (place_at places id) ≡ Some q → q.number ≡ None → q.job ≡ Some q.spec
-    keeps id q true told empty = let same : p ≡ q = same-some p q told in subst (λ (r : Placed). r.job ≡ Some r.spec) same held
-    keeps id q false told empty = linked.held id q told empty
+    keeps : (m : ℕ) (q : Placed) (b : Bool) → cond b (Some p) (place_at places m) ≡ Some q → q.number ≡ None → q.job ≡ Some q.spec
+    keeps m q true told empty = let same : p ≡ q = same-some p q told in subst (λ (r : Placed). r.job ≡ Some r.spec) same held
+    keeps m q false told empty = linked.held m q told empty
 
-    stands : (n : ℕ) (e : InLine) → StandsInLine places n e → StandsInLine (places ++ Some p ∷ []) n e
-    stands n e old = record { place = old.place; there = place_at-old places (Some p) e.id old.place old.there; numbered = old.numbered; job = old.job }
+    stands : (n : ℕ) (e : InLine) → StandsInLine places n e → StandsInLine others n e
+    stands n e old = record { place = old.place; there = place_at-old places others id p e.id old.place absent change old.there; numbered = old.numbered; job = old.job }
 
 -- A WORK IS DELETED
-pub linked-deleted : (places others : List (Option Placed)) (line : List InLine) (id : ℕ) (p : Placed) → AreLinked places line
+pub linked-deleted : (places others : List (Held Placed)) (line : List InLine) (id : ℕ) (p : Placed) → AreLinked places line
     → place_at places id ≡ Some p → Replaced places others id None
     → ((n : ℕ) → p.number ≡ Some n → is_done_in_line (line_stage_at line n) ≡ true) → AreLinked others line
 linked-deleted places others line id p linked is change done = record {
@@ -118,7 +112,7 @@ linked-deleted places others line id p linked is change done = record {
             cc
 
 -- A WORK IS QUEUED
-pub linked-queued : (places others : List (Option Placed)) (line : List InLine) (id n : ℕ) (p : Placed) (e : InLine) → AreLinked places line
+pub linked-queued : (places others : List (Held Placed)) (line : List InLine) (id n : ℕ) (p : Placed) (e : InLine) → AreLinked places line
     → n ≡ length line + 1 → place_at places id ≡ Some p → p.number ≡ None
     → Replaced places others id (Some (with_place_number n p)) → e.id ≡ id → waiting_job e.stage ≡ Some p.spec → AreLinked others (line ++ e ∷ [])
 linked-queued places others line id n p e linked new is none change its waits_for = record {
@@ -170,7 +164,7 @@ linked-queued places others line id n p e linked new is none change its waits_fo
         }
 
 -- A WORK COMES FURTHER
-pub linked-restaged : (places : List (Option Placed)) (line others : List InLine) (n : ℕ) (e : InLine) (s : LineStage) → AreLinked places line
+pub linked-restaged : (places : List (Held Placed)) (line others : List InLine) (n : ℕ) (e : InLine) (s : LineStage) → AreLinked places line
     → Restaged line others n e s
     → waiting_job s ≡ None → (is_done_in_line s ≡ false → is_done_in_line e.stage ≡ false) → AreLinked places others
 linked-restaged places line others n e s linked change no_job before_open = record {
@@ -195,14 +189,14 @@ linked-restaged places line others n e s linked change no_job before_open = reco
     placed m x unfinished false same told = linked.placed m x told unfinished
 
 -- WHAT CAME OUT
-told-all : (places others : List (Option Placed)) (line lines : List InLine) (finished : List CameOut)
+told-all : (places others : List (Held Placed)) (line lines : List InLine) (finished : List CameOut)
     → ((n : ℕ) (s : JobSpec) → spec_at places line n ≡ Some s → spec_at others lines n ≡ Some s) → All (KeepsJob places line) finished
     → All (KeepsJob others lines) finished
 told-all places others line lines finished more told k d inside =
     let o : CameOut = get_or finished k d in
     if-more (λ s. spec_at places line o.number ≡ Some s) (λ s. spec_at others lines o.number ≡ Some s) o.unspent (λ s is. more o.number s is) (told k d inside)
 
-spec-parts : (places : List (Option Placed)) (line : List InLine) (n : ℕ) (s : JobSpec) → spec_at places line n ≡ Some s
+spec-parts : (places : List (Held Placed)) (line : List InLine) (n : ℕ) (s : JobSpec) → spec_at places line n ≡ Some s
     → (i : ℕ) × (p : Placed) × (line_id_at line n ≡ Some i) × (place_at places i ≡ Some p) × (p.spec ≡ s)
 spec-parts places line n s is = by (line_id_at line n) refl is
   where
@@ -216,25 +210,25 @@ spec-parts places line n s is = by (line_id_at line n) refl is
     by None id told = let no : ⊥ = cc in absurd no
     by (Some i) id told = place i (place_at places i) id refl told
 
-spec-of : (places : List (Option Placed)) (line : List InLine) (n i : ℕ) (p : Placed) (s : JobSpec) → line_id_at line n ≡ Some i → place_at places i ≡ Some p
+spec-of : (places : List (Held Placed)) (line : List InLine) (n i : ℕ) (p : Placed) (s : JobSpec) → line_id_at line n ≡ Some i → place_at places i ≡ Some p
     → p.spec ≡ s → spec_at places line n ≡ Some s
 spec-of places line n i p s id at is = ap (λ o. option_map (λ (q : Placed). q.spec) (option_and_then (place_at places) o)) id
     ∙ ap (option_map (λ (q : Placed). q.spec)) at ∙ ap (λ t. Some t) is
 
 -- the work that stands in line computes what it is to compute
-pub spec-stands : (places : List (Option Placed)) (line : List InLine) (n : ℕ) (e : InLine) → line_work_at line n ≡ Some e → (stands : StandsInLine places n e)
+pub spec-stands : (places : List (Held Placed)) (line : List InLine) (n : ℕ) (e : InLine) → line_work_at line n ≡ Some e → (stands : StandsInLine places n e)
     → spec_at places line n ≡ Some stands.place.spec
 spec-stands places line n e at stands = spec-of places line n e.id stands.place stands.place.spec (ap (option_map (λ (x : InLine). x.id)) at) stands.there refl
 
-pub out-created : (places : List (Option Placed)) (line : List InLine) (finished : List CameOut) (place : Option Placed) → CameOutOnce places line finished
-    → CameOutOnce (places ++ place ∷ []) line finished
-out-created places line finished place out = record {
+pub out-created : (places others : List (Held Placed)) (line : List InLine) (finished : List CameOut) (id : ℕ) (p : Placed) → place_at places id ≡ None
+    → Replaced places others id (Some p) → CameOutOnce places line finished → CameOutOnce others line finished
+out-created places others line finished id p absent change out = record {
   once = out.once;
-  told = told-all places (places ++ place ∷ []) line line finished still out.told;
+  told = told-all places others line line finished still out.told;
 }
   where
-    still : (n : ℕ) (s : JobSpec) → spec_at places line n ≡ Some s → spec_at (places ++ place ∷ []) line n ≡ Some s
-    still n s is = let x = spec-parts places line n s is in spec-of (places ++ place ∷ []) line n x.0 x.1 s x.2 (place_at-old places place x.0 x.1 x.3) x.4
+    still : (n : ℕ) (s : JobSpec) → spec_at places line n ≡ Some s → spec_at others line n ≡ Some s
+    still n s is = let x = spec-parts places line n s is in spec-of others line n x.0 x.1 s x.2 (place_at-old places others id p x.0 x.1 absent change x.3) x.4
 
 pub ended-unfinished : (s : LineStage) → has_ended s ≡ true → is_done_in_line s ≡ false
 ended-unfinished (Waits spec) is = refl
@@ -243,7 +237,7 @@ ended-unfinished Ended is = refl
 ended-unfinished Done is = let no : ⊥ = cc in absurd no
 
 -- what is in the list has ended
-among-ended : (places : List (Option Placed)) (line : List InLine) (finished : List CameOut) (k : ℕ) (d : CameOut) → CameOutOnce places line finished
+among-ended : (places : List (Held Placed)) (line : List InLine) (finished : List CameOut) (k : ℕ) (d : CameOut) → CameOutOnce places line finished
     → k < length finished → ended_at line (get_or finished k d).number ≡ true
 among-ended places line finished k d out inside =
     let o : CameOut = get_or finished k d in
@@ -256,7 +250,7 @@ among-ended places line finished k d out inside =
     by false true same count least = absurd (omega (arith, count, least))
     by false false same count least = let no : ⊥ = cc in absurd no
 
-pub out-deleted : (places others : List (Option Placed)) (line : List InLine) (finished : List CameOut) (id : ℕ) (p : Placed) → AreLinked places line
+pub out-deleted : (places others : List (Held Placed)) (line : List InLine) (finished : List CameOut) (id : ℕ) (p : Placed) → AreLinked places line
     → CameOutOnce places line finished → place_at places id ≡ Some p
     → Replaced places others id None → ((n : ℕ) → p.number ≡ Some n → is_done_in_line (line_stage_at line n) ≡ true) → CameOutOnce others line finished
 out-deleted places others line finished id p linked out is change done = record { once = out.once; told = told }
@@ -283,7 +277,7 @@ out-deleted places others line finished id p linked out is change done = record 
         if-more (λ s. spec_at places line o.number ≡ Some s) (λ s. spec_at others line o.number ≡ Some s) o.unspent (λ s is. still o.number s ended is)
         (out.told k d inside)
 
-pub out-queued : (places others : List (Option Placed)) (line : List InLine) (finished : List CameOut) (id n : ℕ) (p : Placed) (e : InLine)
+pub out-queued : (places others : List (Held Placed)) (line : List InLine) (finished : List CameOut) (id n : ℕ) (p : Placed) (e : InLine)
     → CameOutOnce places line finished → place_at places id ≡ Some p
     → Replaced places others id (Some (with_place_number n p)) → has_ended e.stage ≡ false → CameOutOnce others (line ++ e ∷ []) finished
 out-queued places others line finished id n p e out is change waits_still = record {
@@ -310,7 +304,7 @@ out-queued places others line finished id n p e out is change waits_still = reco
         by i q its at spec false one = spec-of others (line ++ e ∷ []) m i q s its (change.at i
             ∙ ap (λ b. cond b (Some (with_place_number n p)) (place_at places i)) one ∙ at) spec
 
-module _ (places : List (Option Placed)) (line others : List InLine) (finished : List CameOut) (n : ℕ) (e : InLine) (s : LineStage)
+module _ (places : List (Held Placed)) (line others : List InLine) (finished : List CameOut) (n : ℕ) (e : InLine) (s : LineStage)
     (out : CameOutOnce places line finished) (change : Restaged line others n e s) where
   spec-restaged : (m : ℕ) → spec_at places others m ≡ spec_at places line m
   spec-restaged m = ap (λ o. option_map (λ (q : Placed). q.spec) (option_and_then (place_at places) o)) (id-restaged line others n e s change m)
@@ -367,7 +361,7 @@ module _ (places : List (Option Placed)) (line others : List InLine) (finished :
           plain k = omega arith
 
 -- its completion begins
-pub out-completed : (places : List (Option Placed)) (line others : List InLine) (o : CameOut) (finished : List CameOut) (e : InLine) (s : LineStage)
+pub out-completed : (places : List (Held Placed)) (line others : List InLine) (o : CameOut) (finished : List CameOut) (e : InLine) (s : LineStage)
     → CameOutOnce places line (o ∷ finished)
     → Restaged line others o.number e s → has_ended s ≡ false → CameOutOnce places others finished
 out-completed places line others o finished e s out change after = record {
@@ -395,12 +389,12 @@ out-completed places line others o finished e s out change after = record {
         plain k = omega arith
 
 -- the first of them has the job that it should have
-pub first-told : (places : List (Option Placed)) (line : List InLine) (o : CameOut) (finished : List CameOut) (spec : JobSpec)
+pub first-told : (places : List (Held Placed)) (line : List InLine) (o : CameOut) (finished : List CameOut) (spec : JobSpec)
     → CameOutOnce places line (o ∷ finished) → spec_at places line o.number ≡ Some spec → IfSome o.unspent (λ s. spec ≡ s)
 first-told places line o finished spec out is = if-more (λ s. spec_at places line o.number ≡ Some s) (λ s. spec ≡ s) o.unspent (λ s told. same-some spec s
     (sym is ∙ told)) (All-head (KeepsJob places line) o finished out.told)
 
 -- what has come out has ended
-pub first-ended : (places : List (Option Placed)) (line : List InLine) (o : CameOut) (finished : List CameOut) → CameOutOnce places line (o ∷ finished)
+pub first-ended : (places : List (Held Placed)) (line : List InLine) (o : CameOut) (finished : List CameOut) → CameOutOnce places line (o ∷ finished)
     → ended_at line o.number ≡ true
 first-ended places line o finished out = among-ended places line (o ∷ finished) 0 o out (omega arith)

@@ -1,13 +1,15 @@
 -- What a pool says of a work is what its place and the line say.
 use Rattle.std.proofs.Common.{◌≡◌, ◌∙◌, ℕ, ◌==◌, ◌||◌, Bool, true, false, cond, List, [], ◌∷◌, map, Option, Some, None, IfSome, is_some, option_map, refl, ap, sym, subst}
 use Rattle.std.specs.List.{list_any}
-use Rattle.std.specs.Option.{option_and_then, option_map_or}
+use Rattle.std.specs.Option.{option_and_then, option_map_or, is_none}
 use Rattle.napi_types.specs.declared.call.JobSpec.{JobSpec}
 use Rattle.napi_types.specs.declared.status.Status.{Status}
 use Rattle.napi_types.specs.declared.status.Status.TheVariants as status
+use Rattle.generation_slab.specs.HeldPlaces.{Held}
 use Rattle.napi_types.specs.plain.Lists.{has, unless}
 use Rattle.napi_types.specs.parts.Pool.{WorkPool, work_at, work_numbered, number_of_work, standing_at, work_state, state_refusal, work_refusal}
 use Rattle.napi_types.specs.parts.Works.{Work, WorkState, Created, Queued, Running, Finished, Completed, Outcome, is_created, is_deletable}
+use Rattle.napi_types.proofs.plain.Found.{IsRising}
 use Rattle.async_work.specs.WorkPlaces.{Placed, place_at, work_of}
 use Rattle.async_work.specs.Line.{LineStage, Waits, Runs, Ended, Done, InLine, CameOut, outcome_of, outcome_status, waiting_job, runner, has_ended, is_done_in_line, stage_state, line_work_at, line_stage_at, line_id_at, waits, ended_at}
 use Rattle.async_work.specs.KeptPool.{pool_of, StandsInLine, IsKeptPool}
@@ -38,11 +40,11 @@ has-outcome : (finished : List CameOut) (n : ℕ) → has (λ (o : Outcome). o.w
 has-outcome [] n = refl
 has-outcome (o ∷ os) n = ap (λ b. (o.number == n) || b) (has-outcome os n)
 
-module _ (places : List (Option Placed)) (line : List InLine) (finished : List CameOut) (first queued running : ℕ) (closing : Bool)
+module _ (places : List (Held Placed)) (issued : List ℕ) (line : List InLine) (finished : List CameOut) (first created queued running : ℕ) (closing : Bool)
     (line_places finished_places : ℕ)
-    (kept : IsKeptPool places line finished first queued running closing line_places finished_places) where
+    (kept : IsKeptPool places issued line finished first created queued running closing line_places finished_places) where
   abbrev pool : WorkPool
-  pool = pool_of places line finished closing
+  pool = pool_of places issued line finished closing
 
   pub stands-at : (n : ℕ) → standing_at pool n ≡ numbered_state line n
   stands-at n =
@@ -86,8 +88,9 @@ module _ (places : List (Option Placed)) (line : List InLine) (finished : List C
       by (Some p) = refl
 
   -- the work of a number stands at the place of its id
-  pub numbered-at : (n : ℕ) (e : InLine) → line_work_at line n ≡ Some e → (stands : StandsInLine places n e) → work_numbered pool n ≡ Some (work_of e.id stands.place)
-  numbered-at n e at stands = numbered-work places e.id n stands.place stands.there stands.numbered only
+  pub numbered-at : (n : ℕ) (e : InLine) → IsRising (λ h. h.number) places → line_work_at line n ≡ Some e → (stands : StandsInLine places n e)
+      → work_numbered pool n ≡ Some (work_of e.id stands.place)
+  numbered-at n e rises at stands = numbered-work places e.id n stands.place rises stands.there stands.numbered only
     where
       only : (m : ℕ) (q : Placed) → place_at places m ≡ Some q → q.number ≡ Some n → m ≡ e.id
       only m q there is =
@@ -107,7 +110,7 @@ module _ (places : List (Option Placed)) (line : List InLine) (finished : List C
           entry (Some e) told = refl
 
 -- by the state that is told of the place of an id
-module _ (places : List (Option Placed)) (line : List InLine) (id : ℕ) (s : WorkState) (is : Some s ≡ option_map (place_state line) (place_at places id)) where
+module _ (places : List (Held Placed)) (line : List InLine) (id : ℕ) (s : WorkState) (is : Some s ≡ option_map (place_state line) (place_at places id)) where
   pub state-place : (p : Placed) × (place_at places id ≡ Some p) × (place_state line p ≡ s)
   state-place = by (place_at places id) refl is
     where
@@ -158,6 +161,20 @@ deletable-done line p Queued is passes = let no : ⊥ = cc in absurd no
 deletable-done line p Running is passes = let no : ⊥ = cc in absurd no
 deletable-done line p Finished is passes = let no : ⊥ = cc in absurd no
 deletable-done line p Completed is passes = completed-done line p is
+
+-- a work was not queued where it is created
+pub unqueued-created : (line : List InLine) (p : Placed) (s : WorkState) → place_state line p ≡ s → is_none p.number ≡ is_created s
+unqueued-created line p s is = by p.number ∙ ap is_created is
+  where
+    staged : (t : LineStage) → false ≡ is_created (stage_state t)
+    staged (Waits spec) = refl
+    staged (Runs w) = refl
+    staged Ended = refl
+    staged Done = refl
+
+    by : (o : Option ℕ) → is_none o ≡ is_created (option_map_or (numbered_state line) o Created)
+    by None = refl
+    by (Some n) = staged (line_stage_at line n)
 
 -- another state than this one
 pub not-created : (s : WorkProgress) → (s ≡ state.Created → ⊥) → is_created (state_seen s) ≡ false

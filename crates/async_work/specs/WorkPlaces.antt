@@ -1,9 +1,10 @@
--- The works by their ids, as they stand at places. A job is seen as what it computes.
-use Rattle.std.specs.Prelude.{ℕ, Bool, List, map, Option, Some, None, is_some, option_map}
-use Rattle.std.specs.Option.{option_and_then}
+-- The works by their ids, each held under its own. A job is seen as what it computes.
+use Rattle.std.specs.Prelude.{ℕ, ◌==◌, Bool, cond, List, map, Option, Some, None, option_map}
+use Rattle.std.specs.Option.{option_and_then, is_none}
+use Rattle.generation_slab.specs.HeldPlaces.{Held, HeldPlaces, held, with_value}
 use Rattle.napi_types.specs.declared.call.JobSpec.{JobSpec}
 use Rattle.napi_types.specs.parts.Works.{Work}
-use Rattle.napi_types.specs.plain.Counted.{element, listed}
+use Rattle.napi_types.specs.plain.Lists.{found}
 use Rattle.async_work.specs.declared.place.WorkPlace.{WorkPlace}
 use Rattle.async_work.specs.declared.place.Standing.{Standing}
 use Rattle.async_work.specs.declared.place.Standing.TheVariants as standing
@@ -36,31 +37,40 @@ module _ {J : Type 0} (spec : J → JobSpec) where
     job = standing_job p.standing;
   }
 
-  abbrev pub places_seen : List (Option (WorkPlace J)) → List (Option Placed)
-  places_seen places = map (option_map place_seen) places
+  abbrev pub held_seen : Held (WorkPlace J) → Held Placed
+  held_seen h = record { number = h.number; value = place_seen h.value }
+
+  -- all works, as a finite map by their ids
+  abbrev pub places_seen : HeldPlaces (WorkPlace J) → List (Held Placed)
+  places_seen places = map held_seen (held places)
 
 -- the work of an id, without it
-abbrev pub place_at : List (Option Placed) → ℕ → Option Placed
-place_at places id = option_and_then (λ place. place) (element places id)
+abbrev pub place_at : List (Held Placed) → ℕ → Option Placed
+place_at places id = option_map (λ h. h.value) (found (λ h. h.number) id places)
 
 -- what the job computes that a place holds
 abbrev pub held_job : Option Placed → Option JobSpec
 held_job place = option_and_then (λ (p : Placed). p.job) place
 
-abbrev pub is_held : Option Placed → Bool
-is_held place = is_some (held_job place)
+-- it was not queued
+abbrev pub is_unqueued : Held Placed → Bool
+is_unqueued h = is_none h.value.number
 
 -- a place whose work is queued under a number
 abbrev pub with_place_number : ℕ → Placed → Placed
 with_place_number n p = record p { number = Some n; job = None }
+
+-- the work of this id is queued under a number
+abbrev pub with_number_at : ℕ → ℕ → List (Held Placed) → List (Held Placed)
+with_number_at id n places = map (λ h. cond (h.number == id) (with_value (with_place_number n h.value) h) h) places
 
 -- with its id
 abbrev pub work_of : ℕ → Placed → Work
 work_of id p = record { id = id; spec = p.spec; addon = p.addon; entry = p.entry; payload = p.payload; number = p.number }
 
 -- the works at all places
-abbrev pub listed_work : ℕ → Option Placed → Option Work
-listed_work id place = option_map (work_of id) place
+abbrev pub work_held : Held Placed → Work
+work_held h = work_of h.number h.value
 
-abbrev pub works_of : List (Option Placed) → List Work
-works_of places = listed listed_work 1 places
+abbrev pub works_of : List (Held Placed) → List Work
+works_of places = map work_held places

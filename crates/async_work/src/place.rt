@@ -1,8 +1,9 @@
-//! The works that there are, each at the place of its id.
-ghost use Rattle.std.specs.Prelude.{◌≡◌, IsSome, None, Some, option_map};
-ghost use Rattle.async_work.specs.WorkPlaces.{place_seen, places_seen, place_at, held_job, with_place_number};
+//! The works that there are, each held under its id.
+ghost use Rattle.std.specs.Prelude.{◌≡◌, IsSome, Some, option_map};
+ghost use Rattle.async_work.specs.WorkPlaces.{place_seen, places_seen, place_at, held_job, with_number_at};
 
 use crate::Job;
+use generation_slab::GenerationSlab;
 use napi_types::{JobSpec, Slip};
 
 /// Where the job of a work is. Until the work is queued it is here, with the memory for the line that its completion will be in a list of what was
@@ -25,36 +26,39 @@ pub(crate) struct WorkPlace<J> {
 }
 
 /// The work of an id.
-pub(crate) fn place_of<J: Job>(places: &[Option<WorkPlace<J>>], id: u64) -> Option<&WorkPlace<J>>
+pub(crate) fn place_of<J: Job>(
+    places: &GenerationSlab<WorkPlace<J>>,
+    id: u64,
+) -> Option<&WorkPlace<J>>
     ensures { option_map (λ p. place_seen J.spec p.now) result ≡ place_at (places_seen J.spec places.now) id }
 {
-    places.get(id.checked_sub(1)? as usize)?.as_ref()
+    places.get(id)
 }
 
 /// A work that was not queued before gets a number, and gives its job and its memory away.
-pub(crate) fn give_number<J: Job>(place: &mut Option<WorkPlace<J>>, number: u64) -> (J, Slip)
-    requires { IsSome (held_job (option_map (place_seen J.spec) place.old)) }
-    ensures job { held_job (option_map (place_seen J.spec) place.old) ≡ Some (J.spec result.0) }
-    ensures numbered { option_map (place_seen J.spec) place.new ≡ option_map (with_place_number number) (option_map (place_seen J.spec) place.old) }
+pub(crate) fn give_number<J: Job>(
+    places: &mut GenerationSlab<WorkPlace<J>>,
+    id: u64,
+    number: u64,
+) -> (J, Slip)
+    requires { IsSome (held_job (place_at (places_seen J.spec places.old) id)) }
+    ensures job { held_job (place_at (places_seen J.spec places.old) id) ≡ Some (J.spec result.0) }
+    ensures numbered { places_seen J.spec places.new ≡ with_number_at id number (places_seen J.spec places.old) }
+    ensures issued { places.new.issued ≡ places.old.issued }
 {
-    let Some(
-        WorkPlace {
-            spec,
-            addon,
-            entry,
-            payload,
-            standing: Standing::Created(job, slip),
-        },
-    ) = place.take()
-    else {
+    let Some(place) = places.get(id) else {
         unreachable!()
     };
-    *place = Some(WorkPlace {
-        spec,
-        addon,
-        entry,
-        payload,
+    let numbered = WorkPlace {
+        spec: place.spec,
+        addon: place.addon,
+        entry: place.entry,
+        payload: place.payload,
         standing: Standing::Numbered(number),
-    });
-    (job, slip)
+    };
+    let WorkPlace { standing, .. } = places.replace(id, numbered);
+    match standing {
+        Standing::Created(job, slip) => (job, slip),
+        Standing::Numbered(_) => unreachable!(),
+    }
 }

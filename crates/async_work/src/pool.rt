@@ -1,5 +1,5 @@
 //! The pool.
-ghost use Rattle.std.specs.Prelude.{◌≡◌, ◌+◌, ◌<◌, ◌^◌, ◌==◌, ◌&&◌, [], ◌∷◌, true, false, not, length, filter, option_map};
+ghost use Rattle.std.specs.Prelude.{◌≡◌, ◌+◌, ◌<◌, ◌^◌, ◌==◌, ◌&&◌, [], ◌∷◌, true, false, not, cond, length, filter, option_map};
 ghost use Rattle.std.specs.Prelude.{None, Some, IfSome, IfOk, OnOk, OnErr};
 ghost use Rattle.std.specs.Option.{is_none, is_some};
 ghost use Rattle.std.specs.Result.{result_err};
@@ -14,6 +14,7 @@ ghost use Rattle.async_work.specs.WorkStates.{state_seen, state_number};
 use crate::line::{self, EndedWork, Ending, Numbered, WorkStage};
 use crate::place::{self, Standing, WorkPlace};
 use crate::{Job, Ran, Running};
+use generation_slab::GenerationSlab;
 use napi_types::{Cause, Due, DueInfo, Duty, JobSpec, NoMemory, Slip, Status, WorkId};
 use std::alloc::Global;
 use std::collections::VecDeque;
@@ -83,14 +84,16 @@ pub enum Picked<J: Job> {
 /// The asynchronous works. Each has an id and, from its queueing on, a number in the order of queueing.
 #[derive(Drop)]
 pub struct Pool<J: Job> {
-    // The work with the id n stands at n - 1. A place whose work was deleted stays empty.
-    places: Vec<Option<WorkPlace<J>>>,
-    // The work with the number n stands at n - 1. There is room for each work.
+    // The works that were created and not deleted.
+    places: GenerationSlab<WorkPlace<J>>,
+    // The work with the number n stands at n - 1. There is room for each work that was created and not queued.
     line: Vec<Numbered<J>>,
     // No work before this place of the line is queued.
     first: usize,
-    // Works that came out and whose completion has not begun, in the order of finishing. There is room for each work.
+    // Works that came out and whose completion has not begun, in the order of finishing. There is room for each work that has not come out.
     finished: VecDeque<EndedWork<J>>,
+    // How many works were created and not queued.
+    created: u64,
     queued: u64,
     running: u64,
     closing: bool,
@@ -108,12 +111,12 @@ impl<J: Job> Model for Pool<J> {
     ghost Value = { WorkPool };
 
     ghost view = { λ pool.
-        pool_of (places_seen J.spec pool.places.items) (line_seen J.spec pool.line.items) (outcomes_seen J.spec pool.finished.items)
+        pool_of (places_seen J.spec pool.places) pool.places.issued (line_seen J.spec pool.line.items) (outcomes_seen J.spec pool.finished.items)
         pool.closing };
 
     ghost invariant = { λ pool.
-        IsKeptPool (places_seen J.spec pool.places.items) (line_seen J.spec pool.line.items) (outcomes_seen J.spec pool.finished.items)
-        pool.first pool.queued pool.running pool.closing (vec_capacity pool.line) (deque_capacity pool.finished) };
+        IsKeptPool (places_seen J.spec pool.places) pool.places.issued (line_seen J.spec pool.line.items) (outcomes_seen J.spec pool.finished.items)
+        pool.first pool.created pool.queued pool.running pool.closing (vec_capacity pool.line) (deque_capacity pool.finished) };
 }
 
 /// How far a work has come.
@@ -134,6 +137,16 @@ impl WorkProgress {
     {
         matches!(self, WorkProgress::Created | WorkProgress::Completed)
     }
+
+    /// 1 where the work was not queued, else 0.
+    fn unqueued(self) -> u64
+        ensures { result ≡ cond (is_created (state_seen self)) 1 0 }
+    {
+        match self {
+            WorkProgress::Created => 1,
+            _ => 0,
+        }
+    }
 }
 
 impl<J: Job> Pool<J> {
@@ -142,10 +155,11 @@ impl<J: Job> Pool<J> {
         ensures { IfOk result (λ pool. pool ≡ new_pool) }
     {
         Ok(Pool {
-            places: Vec::new(alloc),
+            places: GenerationSlab::new(alloc),
             line: Vec::new(alloc),
             first: 0,
             finished: VecDeque::new(alloc),
+            created: 0,
             queued: 0,
             running: 0,
             closing: false,
@@ -169,19 +183,20 @@ impl<J: Job> Pool<J> {
         ensures made { IfOk result (λ id. self.new ≡ with_work id.0 spec addon entry payload self.old) }
         ensures err { OnErr result (self.new ≡ self.old) }
     {
-        let works = self.places.len() + 1;
-        self.line.reserve(works - self.line.len())?;
-        self.finished.reserve(works - self.finished.len())?;
-        self.places.reserve(1)?;
+        let created = self.created + 1;
+        self.line.reserve(created as usize)?;
+        self.finished
+            .reserve((created + self.queued + self.running) as usize)?;
         let slip = Slip::new(self.alloc)?;
-        self.places.push_reserved(Some(WorkPlace {
+        let id = self.places.make(WorkPlace {
             spec,
             addon,
             entry,
             payload,
             standing: Standing::Created(J::of(spec), slip),
-        }));
-        Ok(WorkId(works as u64))
+        })?;
+        self.created = created;
+        Ok(WorkId(id))
     }
 
     /// Deletes a work: the manual's `napi_delete_async_work`. Refused with 1 where no work has the id, and with 9 where it is queued,
@@ -197,7 +212,8 @@ impl<J: Job> Pool<J> {
         if !state.is_deletable() {
             return Err(Status::GenericFailure);
         }
-        self.places[(id.0 - 1) as usize] = None;
+        self.created -= state.unqueued();
+        self.places.free(id.0);
         Ok(())
     }
 
@@ -216,11 +232,12 @@ impl<J: Job> Pool<J> {
             return Err(Status::GenericFailure);
         };
         let number = self.line.len() as u64 + 1;
-        let (job, slip) = place::give_number(&mut self.places[(id.0 - 1) as usize], number);
+        let (job, slip) = place::give_number(&mut self.places, id.0, number);
         self.line.push_reserved(Numbered {
             id: id.0,
             stage: WorkStage::Queued(job, slip),
         });
+        self.created -= 1;
         self.queued += 1;
         Ok(number)
     }

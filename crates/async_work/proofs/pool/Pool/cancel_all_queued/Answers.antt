@@ -37,7 +37,7 @@ empty g c = ap (λ (p : WorkPool). head p.queued) c.first_queued.ensures.same �
 
 pub invariant_of-self : goal.invariant_of-self
 invariant_of-self g c =
-    kept-closed _ _ _ _ _ _ _ _ _ _ c.self-2.invariant (none-first _ (ap (λ (p : WorkPool). head p.queued) c.self-2.view_is ∙ empty g c))
+    kept-closed _ _ _ _ _ _ _ _ _ _ _ _ c.self-2.invariant (none-first _ (ap (λ (p : WorkPool). head p.queued) c.self-2.view_is ∙ empty g c))
 
 pub returns-clause-drained : goal.returns-clause-drained
 returns-clause-drained g c =

@@ -33,7 +33,7 @@ cancel-outcome-requires-after_bounds g c = λ κs lives. let x = read g c in som
 pub push_back_reserved-requires : goal.push_back_reserved-requires
 push_back_reserved-requires g c =
     let long = length-map c.self.inside.finished.items (outcome_seen g.J.Job.spec) in
-    let room = room-to-cancel _ _ _ _ _ _ _ _ _ c.self.invariant c.args.number (here g ((goal.at.push_back_reserved-requires g c).After-index_mut).before) in
+    let room = room-to-cancel _ _ _ _ _ _ _ _ _ _ _ c.self.invariant c.args.number (here g ((goal.at.push_back_reserved-requires g c).After-index_mut).before) in
     omega (arith, long, room, c.self.inside.finished.ok.0)
 
 pub invariant_of-self : goal.invariant_of-self
@@ -41,7 +41,7 @@ invariant_of-self g c =
     let spec = g.J.Job.spec in
     let x = read g (goal.at.invariant_of-self g c).After-index_mut in
     rw c.push_back_reserved.ensures.capacity
-    (kept-cancelled _ _ _ _ _ _ _ _ _ c.self.invariant _ c.args.number _ x.there _ (outcome_seen spec c.cancel-outcome.result) _ x.job
+    (kept-cancelled _ _ _ _ _ _ _ _ _ _ _ c.self.invariant _ c.args.number _ x.there _ (outcome_seen spec c.cancel-outcome.result) _ x.job
     (line-set spec c.self.inside.line.items _ c.cancel-outcome.new.numbered c.index_mut.result.now Ended c.cancel-outcome.ensures.finished)
     (outcomes-push spec c.self.inside.finished.items _ c.cancel-outcome.result c.push_back_reserved.ensures.items) x.waits_for
     (ap (λ (o : CameOut). o.number) c.cancel-outcome.ensures.outcome) (ap (λ (o : CameOut). o.unspent) c.cancel-outcome.ensures.outcome ∙ x.waits_for) refl)
@@ -50,7 +50,7 @@ pub returns : goal.returns
 returns g c =
     let spec = g.J.Job.spec in
     let x = read g (goal.at.returns g c).After-index_mut in
-    view-cancelled _ _ _ _ _ _ _ _ _ c.self.invariant _ c.args.number _ x.there _ (outcome_seen spec c.cancel-outcome.result) x.job
+    view-cancelled _ _ _ _ _ _ _ _ _ _ _ c.self.invariant _ c.args.number _ x.there _ (outcome_seen spec c.cancel-outcome.result) x.job
     (line-set spec c.self.inside.line.items _ c.cancel-outcome.new.numbered c.index_mut.result.now Ended c.cancel-outcome.ensures.finished)
     (outcomes-push spec c.self.inside.finished.items _ c.cancel-outcome.result c.push_back_reserved.ensures.items) x.waits_for
     (c.cancel-outcome.ensures.outcome ∙ ap (λ o. unstarted_outcome c.args.number o) x.waits_for)

@@ -39,7 +39,7 @@ finish-outcome-requires-after_bounds g c = λ κs lives. some-is _ c.args.worker
 
 pub push_back_reserved-requires : goal.push_back_reserved-requires
 push_back_reserved-requires g c =
-    let room = room-to-finish _ _ _ _ _ _ _ _ _ c.self.invariant c.into_parts-number.result.0 c.args.worker (runs g
+    let room = room-to-finish _ _ _ _ _ _ _ _ _ _ _ c.self.invariant c.into_parts-number.result.0 c.args.worker (runs g
     ((goal.at.push_back_reserved-requires g c).After-index_mut).before) in
     omega (arith, length-map c.self.inside.finished.items (outcome_seen g.J.Job.spec), room, c.self.inside.finished.ok.0)
 
@@ -56,7 +56,7 @@ pub invariant_of-self : goal.invariant_of-self
 invariant_of-self g c =
     let x = read g (goal.at.invariant_of-self g c).After-index_mut in
     rw c.push_back_reserved.ensures.capacity
-    (kept-finished _ _ _ _ _ _ _ _ _ c.self.invariant _ c.into_parts-number.result.0 _ x.0 _
+    (kept-finished _ _ _ _ _ _ _ _ _ _ _ c.self.invariant _ c.into_parts-number.result.0 _ x.0 _
     (outcome_seen g.J.Job.spec c.finish-outcome.result) c.args.worker _ (lines g c) (outcomes g c) x.1
     (ap (λ (o : CameOut). o.number) c.finish-outcome.ensures.outcome) (ap (λ (o : CameOut). o.unspent) c.finish-outcome.ensures.outcome) refl)
 
@@ -65,7 +65,7 @@ returns g c =
     let after = (goal.at.returns g c).After-index_mut in
     let x = read g after in
     let n = c.into_parts-number.result.0 in
-    view-finished _ _ _ _ _ _ _ _ _ c.self.invariant _ n _ x.0 _ (outcome_seen g.J.Job.spec c.finish-outcome.result) c.args.worker (lines g c)
+    view-finished _ _ _ _ _ _ _ _ _ _ _ c.self.invariant _ n _ x.0 _ (outcome_seen g.J.Job.spec c.finish-outcome.result) c.args.worker (lines g c)
     (outcomes g c) x.1 (runs g after.before)
     (ap (λ (p : WorkPool). executed_by p c.args.worker) c.self.view_is ∙ executes g after.before)
     (c.finish-outcome.ensures.outcome ∙ ap (ran_outcome n) (c.into_parts-number.ensures.1 ∙ c.requires.value

@@ -23,7 +23,7 @@ passed g c = rw c.deref.ensures.value at c.next_queued-self-inside.ensures.passe
 pub invariant_of-self : goal.invariant_of-self
 invariant_of-self g c =
     let next = (goal.at.invariant_of-self g c).After-next_queued-self-inside in
-    kept-passed _ _ _ _ _ _ _ _ _ c.self.invariant _ (within g next) (passed g next)
+    kept-passed _ _ _ _ _ _ _ _ _ _ _ c.self.invariant _ (within g next) (passed g next)
 
 pub returns-then-self-end-clause-first : goal.returns-then-self-end-clause-first
 returns-then-self-end-clause-first g c =
@@ -45,7 +45,7 @@ returns-then-self-end-clause-rest g c =
 pub invariant_of-self-2 : goal.invariant_of-self-2
 invariant_of-self-2 g c =
     let next = (goal.at.invariant_of-self-2 g c).After-next_queued-self-inside in
-    kept-passed _ _ _ _ _ _ _ _ _ c.self.invariant _ (within g next) (passed g next)
+    kept-passed _ _ _ _ _ _ _ _ _ _ _ c.self.invariant _ (within g next) (passed g next)
 
 here : (g : _) (c : Else-self-end g) → waits (line_seen g.J.Job.spec c.self.inside.line.items) (c.next_queued-self-inside.result + 1) ≡ true
 here g c =

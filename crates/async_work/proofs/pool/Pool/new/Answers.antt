@@ -6,5 +6,5 @@ use Rattle.async_work.proofs.pool.Pool.new.Goals as goal
 
 pub invariant_of-result : goal.invariant_of-result
 invariant_of-result g c =
-    kept-new _ _ _ _ _ (ap (places_seen g.J.Job.spec) c.new.ensures.items) (ap (line_seen g.J.Job.spec) c.new-2.ensures.items) (ap
+    kept-new _ _ _ _ _ _ (ap (places_seen g.J.Job.spec) c.new.ensures) (ap (line_seen g.J.Job.spec) c.new-2.ensures.items) (ap
     (outcomes_seen g.J.Job.spec) c.new-3.ensures.items)

@@ -1,14 +1,14 @@
-use Rattle.std.proofs.Common.{◌≡◌, ◌∙◌, ◌+◌, ◌-◌, ◌++◌, [], ◌∷◌, Some, None, option_map, length, set, refl, sym, ap, arith}
+use Rattle.std.proofs.Common.{◌≡◌, ◌∙◌, ◌+◌, ◌++◌, [], ◌∷◌, Some, None, option_map, length, refl, sym, ap, arith}
 use Rattle.std.proofs.lemmas.List.{length-map, map-append}
 use Rattle.napi_types.specs.declared.status.Status.TheVariants as status
 use Rattle.napi_types.specs.plain.Lists.{unless}
 use Rattle.napi_types.specs.parts.Pool.{WorkPool, work_at, work_state, with_queued}
 use Rattle.napi_types.specs.parts.Works.{is_created}
 use Rattle.async_work.specs.Line.{Waits, entry_seen, line_seen}
-use Rattle.async_work.specs.WorkPlaces.{Placed, places_seen, place_at, held_job, with_place_number}
+use Rattle.async_work.specs.WorkPlaces.{Placed, places_seen, place_at, held_job}
 use Rattle.async_work.specs.WorkStates.{state_seen}
-use Rattle.async_work.proofs.Ids.{place-bounds, place-read, places-set}
-use Rattle.async_work.proofs.KeepingPools.{kept-queued, room-to-queue}
+use Rattle.async_work.proofs.Ids.{places-rise}
+use Rattle.async_work.proofs.KeepingPools.{kept-queued, room-to-queue, created-some}
 use Rattle.async_work.proofs.Queueing.{some-is}
 use Rattle.async_work.proofs.StandingWorks.{refusal-of, states-of, state-place, created-none, not-created}
 use Rattle.async_work.proofs.Viewing.{view-queued}
@@ -28,43 +28,28 @@ returns-in_default g c = record {
 }
 
 -- where the work stands
-place : (g : _) (c : In-Created g) → (p : Placed) × (place_at (places_seen g.J.Job.spec c.self.inside.places.items) c.args.id.0 ≡ Some p) × (p.number ≡ None)
+place : (g : _) (c : In-Created g) → (p : Placed) × (place_at (places_seen g.J.Job.spec c.self.inside.places) c.args.id.0 ≡ Some p) × (p.number ≡ None)
 place g c =
-    let p = state-place _ _ c.args.id.0 _ (known g c.before ∙ states-of _ _ _ _ _ _ _ _ _ c.self.invariant _ c.self.view_is c.args.id.0) in
+    let p = state-place _ _ c.args.id.0 _ (known g c.before ∙ states-of _ _ _ _ _ _ _ _ _ _ _ c.self.invariant _ c.self.view_is c.args.id.0) in
     (p.0, p.1, created-none (line_seen g.J.Job.spec c.self.inside.line.items) p.0 (p.2 ∙ ap state_seen c.in-Created.is))
-
-pub overflow_sub-id : goal.overflow_sub-id
-overflow_sub-id g c =
-    let p = place g (goal.at.overflow_sub-id g c).In-Created in
-    (place-bounds g.J.Job.spec c.self.inside.places.items c.args.id.0 p.0 p.1).0
-
-pub index_mut-requires : goal.index_mut-requires
-index_mut-requires g c =
-    let p = place g (goal.at.index_mut-requires g c).In-Created in
-    let bounds = place-bounds g.J.Job.spec c.self.inside.places.items c.args.id.0 p.0 p.1 in
-    omega (arith, bounds.0, bounds.1, c.self.inside.places.ok.0)
 
 pub give_number-job-requires-after_bounds : goal.give_number-job-requires-after_bounds
 give_number-job-requires-after_bounds g c = λ κs lives.
     let p = place g (goal.at.give_number-job-requires-after_bounds g c).In-Created in
-    let read = place-read g.J.Job.spec c.self.inside.places.items c.args.id.0 c.index_mut.result.now p.0 p.1 c.index_mut.ensures.value in
-    some-is _ p.0.spec (ap held_job read ∙ c.self.invariant.linked.held c.args.id.0 p.0 p.1 p.2)
+    some-is _ p.0.spec (ap held_job p.1 ∙ c.self.invariant.linked.held c.args.id.0 p.0 p.1 p.2)
 
 pub push_reserved-requires : goal.push_reserved-requires
 push_reserved-requires g c =
     let p = place g (goal.at.push_reserved-requires g c).In-Created in
-    let room = room-to-queue _ _ _ _ _ _ _ _ _ c.self.invariant c.args.id.0 p.0 p.1 p.2 in
+    let room = room-to-queue _ _ _ _ _ _ _ _ _ _ _ c.self.invariant c.args.id.0 p.0 (places-rise g.J.Job.spec c.self.inside.places) p.1 p.2 in
     omega (arith, room, length-map c.self.inside.line.items (entry_seen g.J.Job.spec), c.self.inside.line.ok.0)
 
--- the place and the line as they become
-numbered : (g : _) (c : After-push_reserved g) → (p : Placed) → place_at (places_seen g.J.Job.spec c.self.inside.places.items) c.args.id.0 ≡ Some p
-    → places_seen g.J.Job.spec (set c.self.inside.places.items (c.args.id.0 - 1) c.give_number-job.new.place) ≡ set
-    (places_seen g.J.Job.spec c.self.inside.places.items) (c.args.id.0 - 1) (Some (with_place_number (c.len.result + 1) p))
-numbered g c p at =
-    places-set g.J.Job.spec c.self.inside.places.items _ _ _ (c.give_number-job.ensures.numbered
-    ∙ ap (option_map (with_place_number (c.len.result + 1)))
-    (place-read g.J.Job.spec c.self.inside.places.items c.args.id.0 c.index_mut.result.now p at c.index_mut.ensures.value))
+pub overflow_sub-self : goal.overflow_sub-self
+overflow_sub-self g c =
+    let p = place g (goal.at.overflow_sub-self g c).In-Created in
+    created-some _ _ _ _ _ _ _ _ _ _ _ c.self.invariant c.args.id.0 p.0 (places-rise g.J.Job.spec c.self.inside.places) p.1 p.2
 
+-- the line as it becomes
 longer : (g : _) (c : After-push_reserved g) → line_seen g.J.Job.spec c.push_reserved.new.self.items ≡ line_seen g.J.Job.spec c.self.inside.line.items ++
     (record { id = c.args.id.0; stage = Waits (g.J.Job.spec c.give_number-job.result.0) }) ∷ []
 longer g c = ap (line_seen g.J.Job.spec) c.push_reserved.ensures.items ∙ map-append (entry_seen g.J.Job.spec) c.self.inside.line.items _
@@ -72,20 +57,18 @@ longer g c = ap (line_seen g.J.Job.spec) c.push_reserved.ensures.items ∙ map-a
 next : (g : _) (c : After-push_reserved g) → c.len.result + 1 ≡ length (line_seen g.J.Job.spec c.self.inside.line.items) + 1
 next g c = omega (arith, c.len.ensures, c.self.inside.line.ok.0, length-map c.self.inside.line.items (entry_seen g.J.Job.spec))
 
-waits_for : (g : _) (c : After-push_reserved g) (p : Placed) → place_at (places_seen g.J.Job.spec c.self.inside.places.items) c.args.id.0 ≡ Some p
+waits_for : (g : _) (c : After-push_reserved g) (p : Placed) → place_at (places_seen g.J.Job.spec c.self.inside.places) c.args.id.0 ≡ Some p
     → p.number ≡ None → Some (g.J.Job.spec c.give_number-job.result.0) ≡ Some p.spec
-waits_for g c p at none =
-    sym c.give_number-job.ensures.job ∙ ap held_job
-    (place-read g.J.Job.spec c.self.inside.places.items c.args.id.0 c.index_mut.result.now p at c.index_mut.ensures.value)
-    ∙ c.self.invariant.linked.held c.args.id.0 p at none
+waits_for g c p at none = sym c.give_number-job.ensures.job ∙ ap held_job at ∙ c.self.invariant.linked.held c.args.id.0 p at none
 
 pub invariant_of-self : goal.invariant_of-self
 invariant_of-self g c =
     let p = place g (goal.at.invariant_of-self g c).In-Created in
     let after = (goal.at.invariant_of-self g c).After-push_reserved in
-    rw c.push_reserved.ensures.capacity
-    (kept-queued _ _ _ _ _ _ _ _ _ c.self.invariant _ _ c.args.id.0 (c.len.result + 1) _ p.0 _ (numbered g after p.0 p.1) (longer g after)
-    (ap (λ (q : WorkPool). q.closing) c.self.view_is ∙ c.requires) (next g after) p.1 p.2 refl (waits_for g after p.0 p.1 p.2) refl)
+    rw (c.push_reserved.ensures.capacity, c.give_number-job.ensures.issued)
+    (kept-queued _ _ _ _ _ _ _ _ _ _ _ c.self.invariant _ _ c.args.id.0 (c.len.result + 1) _ _ p.0 _ (places-rise g.J.Job.spec c.self.inside.places)
+    c.give_number-job.ensures.numbered (longer g after) (ap (λ (q : WorkPool). q.closing) c.self.view_is ∙ c.requires) (next g after) p.1 p.2 refl
+    (waits_for g after p.0 p.1 p.2) refl refl)
 
 pub returns-clause-refusal : goal.returns-clause-refusal
 returns-clause-refusal g c =
@@ -96,5 +79,6 @@ pub returns-clause-ok : goal.returns-clause-ok
 returns-clause-ok g c =
     let p = place g (goal.at.returns-clause-ok g c).In-Created in
     let after = (goal.at.returns-clause-ok g c).After-push_reserved in
-    view-queued _ _ _ _ _ _ c.args.id.0 (c.len.result + 1) p.0 _ (numbered g after p.0 p.1) (longer g after) p.1 (next g after) (waits_for g after p.0 p.1 p.2)
+    view-queued _ _ _ _ _ _ _ _ c.args.id.0 (c.len.result + 1) p.0.spec _ c.give_number-job.ensures.numbered c.give_number-job.ensures.issued (longer g after)
+    (next g after) (waits_for g after p.0 p.1 p.2)
     ∙ ap (with_queued c.args.id.0) c.self.view_is

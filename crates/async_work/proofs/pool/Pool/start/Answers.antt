@@ -9,6 +9,7 @@ use Rattle.async_work.specs.Line.{Runs, entry_seen, line_seen, outcomes_seen, wa
 use Rattle.async_work.specs.Picking.{work_to_start, first_to_start}
 use Rattle.async_work.specs.WorkPlaces.{places_seen}
 use Rattle.async_work.proofs.Draining.{first-of, none-first}
+use Rattle.async_work.proofs.Ids.{places-rise}
 use Rattle.async_work.proofs.KeepingPools.{only-waits, kept-started, rest-waits}
 use Rattle.async_work.proofs.Linking.{if-some}
 use Rattle.async_work.proofs.Queueing.{IsWaiting, waits-read, bounds-at, waits-within, head-first, rising-waiting, line-set, some-is}
@@ -24,7 +25,7 @@ returns-in_default-clause-nothing g c =
     rw (open_still, empty) refl
 
 -- the pool is as it was
-view : (g : _) (c : After-index_mut-arg-1 g) → pool_of (places_seen g.J.Job.spec c.self-2.inside.places.items)
+view : (g : _) (c : After-index_mut-arg-1 g) → pool_of (places_seen g.J.Job.spec c.self-2.inside.places) c.self-2.inside.places.issued
     (line_seen g.J.Job.spec c.self-2.inside.line.items) (outcomes_seen g.J.Job.spec c.self-2.inside.finished.items) c.self-2.inside.closing ≡ c.args.self.now
 view g c = c.self-2.view_is ∙ c.first_queued.ensures.same
 
@@ -52,7 +53,7 @@ start-job-requires-after_bounds g c = λ κs lives. let x = read g c in some-is 
 
 -- the worker executes nothing
 free : (g : _) (c : After-index_mut g)
-    → executed_by (pool_of (places_seen g.J.Job.spec c.self-2.inside.places.items) (line_seen g.J.Job.spec c.self-2.inside.line.items)
+    → executed_by (pool_of (places_seen g.J.Job.spec c.self-2.inside.places) c.self-2.inside.places.issued (line_seen g.J.Job.spec c.self-2.inside.line.items)
     (outcomes_seen g.J.Job.spec c.self-2.inside.finished.items) c.self-2.inside.closing) c.args.worker ≡ None
 free g c = ap (λ (p : WorkPool). executed_by p c.args.worker) (view g c.before) ∙ c.requires
 
@@ -65,7 +66,7 @@ pub invariant_of-self : goal.invariant_of-self
 invariant_of-self g c =
     let at = (goal.at.invariant_of-self g c).After-index_mut in
     let x = read g at in
-    kept-started _ _ _ _ _ _ _ _ _ c.self-2.invariant _ c.in-Some.number _ x.there c.args.worker x.job x.waits_for (free g at) _ _ (lines g c)
+    kept-started _ _ _ _ _ _ _ _ _ _ _ c.self-2.invariant _ c.in-Some.number _ x.there c.args.worker x.job x.waits_for (free g at) _ _ (lines g c)
     (ap (λ (p : WorkPool). p.closing) (view g at.before ∙ sym c.self.view_is) ∙ c.if-self.false) refl refl
 
 pub returns-clause-job : goal.returns-clause-job
@@ -73,12 +74,12 @@ returns-clause-job g c =
     let at = (goal.at.returns-clause-job g c).After-index_mut in
     let n = c.in-Some.number in
     let x = read g at in
-    let stands : StandsInLine (places_seen g.J.Job.spec c.self-2.inside.places.items) n
+    let stands : StandsInLine (places_seen g.J.Job.spec c.self-2.inside.places) n
     (entry_seen g.J.Job.spec c.index_mut.result.now) = c.self-2.invariant.linked.placed n _ x.there (only-waits _ x.job x.waits_for).unfinished in
     let same : g.J.Job.spec c.start-job.result ≡ stands.place.spec = if-some (λ s. s ≡ stands.place.spec) _ _ c.start-job.ensures.job stands.job in
     ap (λ (w : StartedWork). Some w) c.new.ensures ∙ ap (λ s. Some (record { number = n; spec = s })) same
-    ∙ ap (option_map (λ (w : Work). record { number = n; spec = w.spec })) (sym (numbered-at _ _ _ _ _ _ _ _ _ c.self-2.invariant n _ x.there stands))
-    ∙ ap (option_and_then (work_to_start (pool_of (places_seen g.J.Job.spec c.self-2.inside.places.items)
+    ∙ ap (option_map (λ (w : Work). record { number = n; spec = w.spec })) (sym (numbered-at _ _ _ _ _ _ _ _ _ _ _ c.self-2.invariant n _ (places-rise g.J.Job.spec c.self-2.inside.places) x.there stands))
+    ∙ ap (option_and_then (work_to_start (pool_of (places_seen g.J.Job.spec c.self-2.inside.places) c.self-2.inside.places.issued
     (line_seen g.J.Job.spec c.self-2.inside.line.items) (outcomes_seen g.J.Job.spec c.self-2.inside.finished.items) c.self-2.inside.closing))) (sym
     (first g at.before))
     ∙ ap first_to_start (view g at.before)
@@ -88,7 +89,7 @@ returns-clause-started g c =
     let at = (goal.at.returns-clause-started g c).After-index_mut in
     let x = read g at in
     let L = line_seen g.J.Job.spec c.self-2.inside.line.items in
-    view-started _ _ _ _ _ _ _ _ _ c.self-2.invariant _ c.in-Some.number _ x.there c.args.worker x.job _ (lines g c) x.waits_for (free g at)
+    view-started _ _ _ _ _ _ _ _ _ _ _ c.self-2.invariant _ c.in-Some.number _ x.there c.args.worker x.job _ (lines g c) x.waits_for (free g at)
     (first-of _ c.in-Some.number (first g at.before)) (if-some (λ n. filter (λ m. not (m == n)) (waiting_works L) ≡ tail (waiting_works L)) _ c.in-Some.number
     (first g at.before) (rest-waits (waiting_works L) (rising-waiting L)))
     ∙ ap (with_started c.args.worker) (view g at.before)

@@ -14,23 +14,23 @@ use Rattle.async_work.proofs.StandingWorks.{states-of, number-at, has-number}
 use Rattle.async_work.proofs.pool.Pool.state.Goals as goal
 use Rattle.async_work.proofs.pool.Pool.state.Goals.{In_ok-place, In-Numbered, After-index}
 
-placed : (g : _) (c : In_ok-place g) → place_at (places_seen g.J.Job.spec c.self.inside.places.items) c.args.id.0 ≡ Some
+placed : (g : _) (c : In_ok-place g) → place_at (places_seen g.J.Job.spec c.self.inside.places) c.args.id.0 ≡ Some
     (place_seen g.J.Job.spec c.in_ok-place.place.now)
-placed g c = sym (rw c.deref.ensures.value at c.in_ok-place.ensures)
+placed g c = sym c.in_ok-place.ensures
 
 -- what is told of the place is told of the work
 known : (g : _) (c : In_ok-place g) (s : WorkState) → place_state (line_seen g.J.Job.spec c.self.inside.line.items)
     (place_seen g.J.Job.spec c.in_ok-place.place.now) ≡ s
     → Some s ≡ option_map (work_state c.args.self.now) (work_at c.args.self.now c.args.id.0)
 known g c s is =
-    sym (states-of _ _ _ _ _ _ _ _ _ c.self.invariant _ c.self.view_is c.args.id.0 ∙ ap (option_map (place_state
+    sym (states-of _ _ _ _ _ _ _ _ _ _ _ c.self.invariant _ c.self.view_is c.args.id.0 ∙ ap (option_map (place_state
     (line_seen g.J.Job.spec c.self.inside.line.items))) (placed g c) ∙ ap (λ t. Some t) is)
 
 pub returns-in_err-place-clause-state : goal.returns-in_err-place-clause-state
 returns-in_err-place-clause-state g c =
-    let none : place_at (places_seen g.J.Job.spec c.self.inside.places.items) c.args.id.0 ≡ None = sym (rw c.deref.ensures.value at c.in_err-place.ensures) in
+    let none : place_at (places_seen g.J.Job.spec c.self.inside.places) c.args.id.0 ≡ None = sym c.in_err-place.ensures in
     ap (option_map state_seen) c.from_residual.ensures
-    ∙ sym (states-of _ _ _ _ _ _ _ _ _ c.self.invariant _ c.self.view_is c.args.id.0 ∙ ap (option_map (place_state
+    ∙ sym (states-of _ _ _ _ _ _ _ _ _ _ _ c.self.invariant _ c.self.view_is c.args.id.0 ∙ ap (option_map (place_state
     (line_seen g.J.Job.spec c.self.inside.line.items))) none)
 
 pub returns-in_default-clause-state : goal.returns-in_default-clause-state
@@ -44,7 +44,7 @@ number g c = ap (standing_number g.J.Job.spec) c.in-Numbered.is
 
 bounds : (g : _) (c : In-Numbered g) → (1 ≤ c.in-Numbered.number) × (c.in-Numbered.number ≤ length c.self.inside.line.items)
 bounds g c =
-    let there = if-some _ _ c.in-Numbered.number (number g c) (has-number _ _ _ _ _ _ _ _ _ c.self.invariant c.args.id.0 _ (placed g c.before)) in
+    let there = if-some _ _ c.in-Numbered.number (number g c) (has-number _ _ _ _ _ _ _ _ _ _ _ c.self.invariant c.args.id.0 _ (placed g c.before)) in
     let e = some (line_work_at (line_seen g.J.Job.spec c.self.inside.line.items) c.in-Numbered.number) there in
     bounds-at g.J.Job.spec c.self.inside.line.items c.in-Numbered.number e.0 e.1
 
@@ -74,7 +74,7 @@ returns-in-Queued-clause-state g c =
 
 pub returns-in-Queued-clause-number : goal.returns-in-Queued-clause-number
 returns-in-Queued-clause-number g c =
-    sym (ap (λ (p : WorkPool). number_of_work p c.args.id.0) c.self.view_is) ∙ number-at _ _ _ _ _ _ _ _ _ c.self.invariant c.args.id.0
+    sym (ap (λ (p : WorkPool). number_of_work p c.args.id.0) c.self.view_is) ∙ number-at _ _ _ _ _ _ _ _ _ _ _ c.self.invariant c.args.id.0
     ∙ ap (option_and_then (λ (p : Placed). p.number)) (placed g (goal.at.returns-in-Queued-clause-number g c).In_ok-place)
     ∙ number g (goal.at.returns-in-Queued-clause-number g c).In-Numbered
 

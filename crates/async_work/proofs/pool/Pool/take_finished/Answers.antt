@@ -8,6 +8,7 @@ use Rattle.async_work.specs.KeptPool.{pool_of, StandsInLine, CameOutOnce}
 use Rattle.async_work.specs.Line.{Done, entry_seen, line_seen, outcome_seen, outcomes_seen, outcome_of, outcome_status, line_work_at, line_stage_at, has_ended, is_done_in_line, with_stage}
 use Rattle.async_work.specs.Picking.{unspent_spec}
 use Rattle.async_work.specs.WorkPlaces.{place_seen, places_seen, work_of}
+use Rattle.async_work.proofs.Ids.{places-rise}
 use Rattle.async_work.proofs.KeepingPools.{OnlyEnded, only-ended, live-bounds, live-read, kept-completed}
 use Rattle.async_work.proofs.Linking.{ended-unfinished, first-ended, first-told, same-some, spec-stands, stage-of}
 use Rattle.async_work.proofs.Queueing.{line-set}
@@ -21,10 +22,10 @@ outcomes : (g : _) (c : After-index_mut-arg-1 g)
     → outcomes_seen g.J.Job.spec c.self.inside.finished.items ≡ outcome_seen g.J.Job.spec c.in_ok-outcome.outcome ∷ outcomes_seen g.J.Job.spec c.pop_front.new.self.items
 outcomes g c = ap (outcomes_seen g.J.Job.spec) c.in_ok-outcome.ensures.items
 
-came_out : (g : _) (c : After-index_mut-arg-1 g) → CameOutOnce (places_seen g.J.Job.spec c.self.inside.places.items)
+came_out : (g : _) (c : After-index_mut-arg-1 g) → CameOutOnce (places_seen g.J.Job.spec c.self.inside.places)
     (line_seen g.J.Job.spec c.self.inside.line.items)
     (outcome_seen g.J.Job.spec c.in_ok-outcome.outcome ∷ outcomes_seen g.J.Job.spec c.pop_front.new.self.items)
-came_out g c = subst (CameOutOnce (places_seen g.J.Job.spec c.self.inside.places.items) (line_seen g.J.Job.spec c.self.inside.line.items))
+came_out g c = subst (CameOutOnce (places_seen g.J.Job.spec c.self.inside.places) (line_seen g.J.Job.spec c.self.inside.line.items))
     (outcomes g c) c.self.invariant.came_out
 
 -- and its work has ended
@@ -45,7 +46,7 @@ there : (g : _) (c : After-index_mut g) → line_work_at (line_seen g.J.Job.spec
 there g c = live-read g.J.Job.spec c.self.inside.line.items c.in_ok-outcome.outcome.number c.index_mut.result.now
     (unfinished g c.before) c.index_mut.ensures.value
 
-stands : (g : _) (c : After-index_mut g) → StandsInLine (places_seen g.J.Job.spec c.self.inside.places.items) c.in_ok-outcome.outcome.number
+stands : (g : _) (c : After-index_mut g) → StandsInLine (places_seen g.J.Job.spec c.self.inside.places) c.in_ok-outcome.outcome.number
     (entry_seen g.J.Job.spec c.index_mut.result.now)
 stands g c = c.self.invariant.linked.placed c.in_ok-outcome.outcome.number _ (there g c) (ap is_done_in_line (sym (stage-of
     (line_seen g.J.Job.spec c.self.inside.line.items) c.in_ok-outcome.outcome.number _ (there g c))) ∙ unfinished g c.before)
@@ -53,7 +54,7 @@ stands g c = c.self.invariant.linked.placed c.in_ok-outcome.outcome.number _ (th
 pub unreachable-requires : goal.unreachable-requires
 unreachable-requires g c =
     let s = stands g (goal.at.unreachable-requires g c).After-index_mut in
-    let none = rw (c.deref.ensures.value, c.complete-id.ensures.id) at c.in_default.ensures in
+    let none = rw c.complete-id.ensures.id at c.in_default.ensures in
     let no = none ∙ s.there in
     cc
 
@@ -72,23 +73,23 @@ pub invariant_of-self-2 : goal.invariant_of-self-2
 invariant_of-self-2 g c =
     let at = (goal.at.invariant_of-self-2 g c).After-index_mut in
     rw c.pop_front.ensures.capacity
-    (kept-completed _ _ _ _ _ (outcome_seen g.J.Job.spec c.in_ok-outcome.outcome) _ _ _ _ _ _ _ c.self.invariant (outcomes g at.before) (there g at)
+    (kept-completed _ _ _ _ _ _ (outcome_seen g.J.Job.spec c.in_ok-outcome.outcome) _ _ _ _ _ _ _ _ c.self.invariant (outcomes g at.before) (there g at)
     (lines g c))
 
 -- the place that is told of is that of the work
-placed : (g : _) (c : After-finished_of g) (s : StandsInLine (places_seen g.J.Job.spec c.self.inside.places.items) c.in_ok-outcome.outcome.number
+placed : (g : _) (c : After-finished_of g) (s : StandsInLine (places_seen g.J.Job.spec c.self.inside.places) c.in_ok-outcome.outcome.number
     (entry_seen g.J.Job.spec c.index_mut.result.now)) → place_seen g.J.Job.spec c.in-Some.place.now ≡ s.place
-placed g c s = same-some _ _ (rw (c.deref.ensures.value, c.complete-id.ensures.id) at c.in-Some.ensures ∙ s.there)
+placed g c s = same-some _ _ (rw c.complete-id.ensures.id at c.in-Some.ensures ∙ s.there)
 
 pub returns-clause-told : goal.returns-clause-told
 returns-clause-told g c =
     let at = (goal.at.returns-clause-told g c).After-index_mut in
     let o = outcome_seen g.J.Job.spec c.in_ok-outcome.outcome in
     let s = stands g at in
-    let pool = pool_of (places_seen g.J.Job.spec c.self.inside.places.items) (line_seen g.J.Job.spec c.self.inside.line.items)
+    let pool = pool_of (places_seen g.J.Job.spec c.self.inside.places) c.self.inside.places.issued (line_seen g.J.Job.spec c.self.inside.line.items)
     (outcomes_seen g.J.Job.spec c.self.inside.finished.items) c.self.inside.closing in
     ap (λ (d : DueInfo). Some d) (c.finished_of.ensures.told ∙ ap (λ p. completion_info (work_of 0 p) (outcome_of o)) (placed g c s))
-    ∙ ap (option_map (λ w. completion_info w (outcome_of o))) (sym (numbered-at _ _ _ _ _ _ _ _ _ c.self.invariant o.number _ (there g at) s))
+    ∙ ap (option_map (λ w. completion_info w (outcome_of o))) (sym (numbered-at _ _ _ _ _ _ _ _ _ _ _ c.self.invariant o.number _ (places-rise g.J.Job.spec c.self.inside.places) (there g at) s))
     ∙ ap (λ os. option_and_then (λ (x : Outcome). option_map (λ w. completion_info w x) (work_numbered pool x.work)) (head (map outcome_of os))) (sym
     (outcomes g at.before))
     ∙ ap first_completion c.self.view_is
@@ -98,11 +99,11 @@ returns-clause-unspent g c =
     let at = (goal.at.returns-clause-unspent g c).After-index_mut in
     let o = outcome_seen g.J.Job.spec c.in_ok-outcome.outcome in
     let s = stands g at in
-    let pool = pool_of (places_seen g.J.Job.spec c.self.inside.places.items) (line_seen g.J.Job.spec c.self.inside.line.items)
+    let pool = pool_of (places_seen g.J.Job.spec c.self.inside.places) c.self.inside.places.issued (line_seen g.J.Job.spec c.self.inside.line.items)
     (outcomes_seen g.J.Job.spec c.self.inside.finished.items) c.self.inside.closing in
     let told = first-told _ _ o _ s.place.spec (came_out g at.before) (spec-stands _ _ o.number _ (there g at) s) in
     c.finished_of.ensures.unspent
-    ∙ unspent-of pool o.number _ o.unspent (numbered-at _ _ _ _ _ _ _ _ _ c.self.invariant o.number _ (there g at) s) told
+    ∙ unspent-of pool o.number _ o.unspent (numbered-at _ _ _ _ _ _ _ _ _ _ _ c.self.invariant o.number _ (places-rise g.J.Job.spec c.self.inside.places) (there g at) s) told
     ∙ ap (λ n. unspent_spec pool n (outcome_status o.unspent)) (sym c.finished_of.ensures.number)
     ∙ ap (unspent_spec pool c.finished_of.result.number) (sym c.finished_of.ensures.status)
     ∙ ap (λ (p : WorkPool). unspent_spec p c.finished_of.result.number c.finished_of.result.status) c.self.view_is
@@ -111,6 +112,6 @@ pub returns-clause-taken : goal.returns-clause-taken
 returns-clause-taken g c =
     let at = (goal.at.returns-clause-taken g c).After-index_mut in
     let ended = only g at in
-    view-completed _ _ _ _ _ _ _ _ _ c.self.invariant _ c.in_ok-outcome.outcome.number _ (there g at) _ (outcome_seen g.J.Job.spec c.in_ok-outcome.outcome)
+    view-completed _ _ _ _ _ _ _ _ _ _ _ c.self.invariant _ c.in_ok-outcome.outcome.number _ (there g at) _ (outcome_seen g.J.Job.spec c.in_ok-outcome.outcome)
     (lines g c) (outcomes g at.before) ended.started ended.idle
     ∙ ap with_completed c.self.view_is
