@@ -13,8 +13,8 @@ use Rattle.async_work.proofs.Linking.{ended-unfinished, first-ended, stage-of}
 use Rattle.async_work.proofs.StandingWorks.{numbered-at}
 
 module _ (places : List (Held Placed)) (issued : List ℕ) (line : List InLine) (finished : List CameOut) (first created queued running : ℕ) (closing : Bool)
-    (line_places finished_places : ℕ) (rises : IsRising (λ h. h.number) places)
-    (kept : IsKeptPool places issued line finished first created queued running closing line_places finished_places) where
+    (spare finished_places : ℕ) (rises : IsRising (λ h. h.number) places)
+    (kept : IsKeptPool places issued line finished first created queued running closing spare finished_places) where
   completion-of : (o : CameOut) → ended_at line o.number ≡ true → is_some (work_numbered (pool_of places issued line finished closing) o.number) ≡ true
   completion-of o ended = by (line_work_at line o.number) refl
     where
@@ -23,7 +23,7 @@ module _ (places : List (Held Placed)) (issued : List ℕ) (line : List InLine) 
       by (Some e) at =
           let unfinished : is_done_in_line e.stage ≡ false = ap is_done_in_line (sym (stage-of line o.number e at)) ∙ ended-unfinished (line_stage_at line o.number) ended in
           let stands : StandsInLine places o.number e = kept.linked.placed o.number e at unfinished in
-          ap is_some (numbered-at places issued line finished first created queued running closing line_places finished_places kept o.number e rises at stands)
+          ap is_some (numbered-at places issued line finished first created queued running closing spare finished_places kept o.number e rises at unfinished stands)
 
   pub completion-there : is_some (first_completion (pool_of places issued line finished closing)) ≡ not (length finished == 0)
   completion-there = by finished refl

@@ -1,7 +1,8 @@
 -- The works by their ids.
-use Rattle.std.proofs.Common.{◌≡◌, ◌∙◌, ℕ, ◌==◌, ◌||◌, ◌∷◌, Bool, true, false, not, cond, List, map, filter, get_or, find, Option, Some, None, IsSome, option_map, refl, ap, sym, Bor}
+use Rattle.std.proofs.Common.{◌≡◌, ◌∙◌, ℕ, ◌+◌, ◌==◌, ◌||◌, ◌∷◌, Bool, true, false, not, cond, List, length, map, filter, get_or, find, Option, Some, None, IsSome, option_map, refl, ap, sym, Bor}
 use Rattle.std.specs.Option.{option_copied}
 use Rattle.std.proofs.lemmas.List.Elements.{All-map}
+use Rattle.std.proofs.lemmas.Bool.{or_parts}
 use Rattle.generation_slab.specs.HeldPlaces.{Held, HeldPlaces, held, standing, value_of, with_held, without_held, with_value, with_held_value}
 use Rattle.napi_types.specs.declared.call.JobSpec.{JobSpec}
 use Rattle.napi_types.specs.plain.Lists.{found, has_number, with_record, with_number}
@@ -11,9 +12,9 @@ use Rattle.async_work.specs.declared.place.WorkPlace.{WorkPlace}
 use Rattle.async_work.specs.declared.place.Standing.{Standing}
 use Rattle.async_work.specs.declared.place.Standing.TheVariants as standing
 use Rattle.async_work.specs.WorkPlaces.{Placed, standing_number, place_seen, held_seen, places_seen, place_at, with_place_number, with_number_at, work_of, work_held, works_of}
-use Rattle.async_work.specs.KeptPool.{AreIssued}
+use Rattle.async_work.specs.KeptPool.{HaveIssuedIds}
 use Rattle.async_work.proofs.CountingWorks.{find-only}
-use Rattle.async_work.proofs.Mapped.{map-more, map-less, map-changed, map-found, map-rises, found-each, changed-alike}
+use Rattle.async_work.proofs.Mapped.{map-more, map-less, map-changed, map-found, map-rises, found-each, changed-alike, length-more}
 
 pub seen_of : {X Y : Type 0} (f : X → Y) (o : Option (Bor X)) → option_map (λ p. f p.now) o ≡ option_map f (option_copied o)
 seen_of f None = refl
@@ -206,7 +207,7 @@ numbered-work places id n p rises is number only =
 
 -- ISSUED IDS
 -- one that is new is no work's
-pub new-absent : (places : List (Held Placed)) (issued : List ℕ) (id : ℕ) → AreIssued places issued → has_number id (0 ∷ issued) ≡ false → place_at places id ≡ None
+pub new-absent : (places : List (Held Placed)) (issued : List ℕ) (id : ℕ) → HaveIssuedIds places issued → has_number id (0 ∷ issued) ≡ false → place_at places id ≡ None
 new-absent places issued id known new = by (place_at places id) refl
   where
     never : (a : Bool) → (a || true) ≡ false → ⊥
@@ -217,15 +218,15 @@ new-absent places issued id known new = by (place_at places id) refl
     by None at = refl
     by (Some p) at = absurd (never (0 == id) (ap (λ b. (0 == id) || b) (sym (known id p at)) ∙ new))
 
-pub issued-made : (places others : List (Held Placed)) (issued : List ℕ) (id : ℕ) (p : Placed) → Replaced places others id (Some p) → AreIssued places issued
-    → AreIssued others (with_number id issued)
+pub issued-made : (places others : List (Held Placed)) (issued : List ℕ) (id : ℕ) (p : Placed) → Replaced places others id (Some p) → HaveIssuedIds places issued
+    → HaveIssuedIds others (with_number id issued)
 issued-made places others issued id p change known m q is = has-with_number m id issued ∙ by (id == m) (sym (change.at m) ∙ is)
   where
     by : (b : Bool) → cond b (Some p) (place_at places m) ≡ Some q → (b || has_number m issued) ≡ true
     by true told = refl
     by false told = known m q told
 
-pub issued-freed : (places others : List (Held Placed)) (issued : List ℕ) (id : ℕ) → Replaced places others id None → AreIssued places issued → AreIssued others issued
+pub issued-freed : (places others : List (Held Placed)) (issued : List ℕ) (id : ℕ) → Replaced places others id None → HaveIssuedIds places issued → HaveIssuedIds others issued
 issued-freed places others issued id change known m q is = by (id == m) (sym (change.at m) ∙ is)
   where
     by : (b : Bool) → cond b None (place_at places m) ≡ Some q → has_number m issued ≡ true
@@ -233,9 +234,12 @@ issued-freed places others issued id change known m q is = by (id == m) (sym (ch
     by false told = known m q told
 
 pub issued-kept : (places others : List (Held Placed)) (issued : List ℕ) (id : ℕ) (p place : Placed) → place_at places id ≡ Some p
-    → Replaced places others id (Some place) → AreIssued places issued → AreIssued others issued
+    → Replaced places others id (Some place) → HaveIssuedIds places issued → HaveIssuedIds others issued
 issued-kept places others issued id p place there change known m q is = by (id == m) refl (sym (change.at m) ∙ is)
   where
     by : (b : Bool) → (id == m) ≡ b → cond b (Some place) (place_at places m) ≡ Some q → has_number m issued ≡ true
     by true same told = ap (λ k. has_number k issued) (sym (same-tells id m same)) ∙ known id p there
     by false same told = known m q told
+
+pub length-issued : (issued : List ℕ) (id : ℕ) → has_number id (0 ∷ issued) ≡ false → length (with_number id issued) ≡ length issued + 1
+length-issued issued id new = length-more (λ m. m) id issued (or_parts (0 == id) (has_number id issued) new).1

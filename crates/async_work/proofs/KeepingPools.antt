@@ -1,5 +1,5 @@
 -- Places, line and what came out go on standing for a pool.
-use Rattle.std.proofs.Common.{◌≡◌, ◌∙◌, ℕ, zero, suc, ◌+◌, ◌-◌, ◌<◌, ◌≤◌, ◌==◌, Bool, true, false, not, cond, List, [], ◌∷◌, ◌++◌, length, filter, set, get_or, Option, Some, None, IfSome, is_some, option_map, ◌⊎◌, refl, ap, sym, subst, arith, length-append, inl, inr}
+use Rattle.std.proofs.Common.{◌≡◌, ◌∙◌, ℕ, zero, suc, ◌+◌, ◌-◌, ◌^◌, ◌<◌, ◌≤◌, ◌==◌, Bool, true, false, not, cond, List, [], ◌∷◌, ◌++◌, length, filter, set, get_or, Option, Some, None, IfSome, is_some, option_map, ◌⊎◌, refl, ap, sym, subst, arith, length-append, inl, inr}
 use Rattle.std.specs.List.{count_by}
 use Rattle.std.specs.Option.{option_map_or, is_none}
 use Rattle.generation_slab.specs.HeldPlaces.{Held, with_held, without_held, with_value}
@@ -9,15 +9,14 @@ use Rattle.napi_types.specs.declared.call.JobSpec.{JobSpec}
 use Rattle.napi_types.specs.plain.Lists.{found, has_number, with_record, with_number, one, head, tail}
 use Rattle.napi_types.proofs.plain.Found.{IsRising, same-self, same-tells, apart-above}
 use Rattle.napi_types.proofs.plain.Maps.{filter_all}
-use Rattle.async_work.specs.declared.line.Numbered.{Numbered}
 use Rattle.async_work.specs.WorkPlaces.{Placed, place_at, is_unqueued, with_place_number, with_number_at}
-use Rattle.async_work.specs.Line.{LineStage, Waits, Runs, Ended, Done, InLine, CameOut, entry_seen, line_seen, waiting_job, runner, has_ended, is_done_in_line, with_stage, line_work_at, line_stage_at, waits, runner_at, ended_at, waiting_works, executions}
-use Rattle.async_work.specs.KeptPool.{StandsInLine, spec_at, KeepsJob, IsLine, CameOutOnce, IsKeptPool}
-use Rattle.async_work.proofs.Ids.{Replaced, replaced-made, replaced-freed, replaced-numbered, held-at, none-held, new-absent, issued-made, issued-freed, issued-kept}
+use Rattle.async_work.specs.Line.{LineStage, Waits, Runs, Ended, Done, InLine, CameOut, waiting_job, runner, has_ended, is_done_in_line, with_stage, line_work_at, line_stage_at, waits, runner_at, ended_at, waiting_works, executions}
+use Rattle.async_work.specs.KeptPool.{KeepsJob, IsLine, CameOutOnce, IsKeptPool}
+use Rattle.async_work.proofs.Ids.{Replaced, replaced-made, replaced-freed, replaced-numbered, held-at, none-held, new-absent, issued-made, issued-freed, issued-kept, length-issued}
 use Rattle.async_work.proofs.Mapped.{count-less, count-more, count-changed}
-use Rattle.async_work.proofs.Queueing.{Restaged, restaged, stage-restaged, stage-push, stage-past, waiting-same, waiting-less, waiting-more, waiting-none, waiting-first, has-waiting, length-less, read-at, bounds-at}
+use Rattle.async_work.proofs.Queueing.{Restaged, restaged, stage-restaged, stage-push, stage-past, waiting-same, waiting-less, waiting-more, waiting-none, waiting-first, has-waiting, length-less}
 use Rattle.async_work.proofs.PoolExecutions.{AreApart, apart-less, apart-started, executions-same, executions-started, executions-finished, length-finished, idle-worker}
-use Rattle.async_work.proofs.Linking.{linked-created, linked-deleted, linked-queued, linked-restaged, out-created, out-deleted, out-queued, out-started, out-ended, out-completed, spec-stands, first-ended}
+use Rattle.async_work.proofs.Linking.{linked-created, linked-deleted, linked-queued, linked-restaged, out-created, out-deleted, out-queued, out-started, out-ended, out-completed, keeps-job, keeps-none, first-ended}
 
 -- STAGES
 pub record OnlyWaits (s : LineStage) : Type 0 where
@@ -74,8 +73,8 @@ runner-queued line e job waits_for m = stage-push runner line e m ∙ by (length
 
 -- ROOM
 module _ (places : List (Held Placed)) (issued : List ℕ) (line : List InLine) (finished : List CameOut) (first created queued running : ℕ) (closing : Bool)
-    (line_places finished_places : ℕ)
-    (kept : IsKeptPool places issued line finished first created queued running closing line_places finished_places) where
+    (spare finished_places : ℕ)
+    (kept : IsKeptPool places issued line finished first created queued running closing spare finished_places) where
   -- a work that was not queued is counted
   pub counted-within : (id : ℕ) (p : Placed) → IsRising (λ h. h.number) places → place_at places id ≡ Some p → cond (is_none p.number) 1 0 ≤ created
   counted-within id p rises is =
@@ -85,7 +84,7 @@ module _ (places : List (Held Placed)) (issued : List ℕ) (line : List InLine) 
   pub created-some : (id : ℕ) (p : Placed) → IsRising (λ h. h.number) places → place_at places id ≡ Some p → p.number ≡ None → 1 ≤ created
   created-some id p rises is none = subst (λ o. cond (is_none o) 1 0 ≤ created) none (counted-within id p rises is)
 
-  pub room-to-queue : (id : ℕ) (p : Placed) → IsRising (λ h. h.number) places → place_at places id ≡ Some p → p.number ≡ None → length line < line_places
+  pub room-to-queue : (id : ℕ) (p : Placed) → IsRising (λ h. h.number) places → place_at places id ≡ Some p → p.number ≡ None → 0 < spare
   room-to-queue id p rises is none =
       let some = created-some id p rises is none in
       omega (arith, some, kept.room.line_room)
@@ -112,7 +111,7 @@ module _ (places : List (Held Placed)) (issued : List ℕ) (line : List InLine) 
       omega (arith, some, kept.room.finished_room)
 
   -- MEMORY WAS TAKEN
-  pub kept-more : (more_line more_finished : ℕ) → line_places ≤ more_line → finished_places ≤ more_finished
+  pub kept-more : (more_line more_finished : ℕ) → spare ≤ more_line → finished_places ≤ more_finished
       → IsKeptPool places issued line finished first created queued running closing more_line more_finished
   kept-more more_line more_finished a b = record {
     known = kept.known;
@@ -122,6 +121,8 @@ module _ (places : List (Held Placed)) (issued : List ℕ) (line : List InLine) 
     room = record {
       created_are = kept.room.created_are;
       queued_are = kept.room.queued_are;
+      numbers = kept.room.numbers;
+      few = kept.room.few;
       running_are = kept.room.running_are;
       line_room = omega (arith, kept.room.line_room, a);
       finished_room = omega (arith, kept.room.finished_room, b);
@@ -131,17 +132,19 @@ module _ (places : List (Held Placed)) (issued : List ℕ) (line : List InLine) 
 
   -- A WORK IS CREATED
   pub kept-created : (others : List (Held Placed)) (id : ℕ) (p : Placed) (more more_line more_finished : ℕ) → IsRising (λ h. h.number) places
-      → has_number id (0 ∷ issued) ≡ false → others ≡ with_held id p places → p.number ≡ None → p.job ≡ Some p.spec → more ≡ created + 1
-      → length line + more ≤ more_line → length finished + more + queued + running ≤ more_finished
+      → length issued + 2 < 2 ^ 48 → has_number id (0 ∷ issued) ≡ false → others ≡ with_held id p places → p.number ≡ None → p.job ≡ Some p.spec → more ≡ created + 1
+      → more ≤ more_line → length finished + more + queued + running ≤ more_finished
       → IsKeptPool others (with_number id issued) line finished first more queued running closing more_line more_finished
-  kept-created others id p more more_line more_finished rises new is none held more_is a b = rw is (record {
+  kept-created others id p more more_line more_finished rises few new is none held more_is a b = rw is (record {
     known = issued-made places (with_held id p places) issued id p change kept.known;
     linked = linked-created places (with_held id p places) line id p kept.linked absent change none held;
     in_line = kept.in_line;
-    came_out = out-created places (with_held id p places) line finished id p absent change kept.came_out;
+    came_out = out-created places (with_held id p places) line finished id p none change kept.came_out;
     room = record {
       created_are = omega (arith, kept.room.created_are, more_is, counted, counts);
       queued_are = kept.room.queued_are;
+      numbers = omega (arith, kept.room.numbers, more_is, length-issued issued id new);
+      few = omega (arith, length-issued issued id new, few);
       running_are = kept.room.running_are;
       line_room = a;
       finished_room = b;
@@ -165,15 +168,17 @@ module _ (places : List (Held Placed)) (issued : List ℕ) (line : List InLine) 
   pub kept-deleted : (others : List (Held Placed)) (id : ℕ) (p : Placed) (fewer : ℕ) → IsRising (λ h. h.number) places → others ≡ without_held id places
       → place_at places id ≡ Some p → ((n : ℕ) → p.number ≡ Some n → is_done_in_line (line_stage_at line n) ≡ true)
       → fewer + cond (is_none p.number) 1 0 ≡ created
-      → IsKeptPool others issued line finished first fewer queued running closing line_places finished_places
+      → IsKeptPool others issued line finished first fewer queued running closing spare finished_places
   kept-deleted others id p fewer rises same is done fewer_is = rw same (record {
     known = issued-freed places (without_held id places) issued id change kept.known;
     linked = linked-deleted places (without_held id places) line id p kept.linked is change done;
     in_line = kept.in_line;
-    came_out = out-deleted places (without_held id places) line finished id p kept.linked kept.came_out is change done;
+    came_out = out-deleted places (without_held id places) line finished id kept.came_out change;
     room = record {
       created_are = omega (arith, kept.room.created_are, fewer_is, counted);
       queued_are = kept.room.queued_are;
+      numbers = omega (arith, kept.room.numbers, fewer_is);
+      few = kept.room.few;
       running_are = kept.room.running_are;
       line_room = omega (arith, kept.room.line_room, fewer_is);
       finished_room = omega (arith, kept.room.finished_room, fewer_is);
@@ -188,11 +193,11 @@ module _ (places : List (Held Placed)) (issued : List ℕ) (line : List InLine) 
       counted = count-less (λ (h : Held Placed). h.number) is_unqueued id places (record { number = id; value = p }) rises (held-at places id p is)
 
   -- A WORK IS QUEUED
-  pub kept-queued : (others : List (Held Placed)) (lines : List InLine) (id n fewer more : ℕ) (p : Placed) (e : InLine) → IsRising (λ h. h.number) places
+  pub kept-queued : (others : List (Held Placed)) (lines : List InLine) (id n fewer more left : ℕ) (p : Placed) (e : InLine) → IsRising (λ h. h.number) places
       → others ≡ with_number_at id n places → lines ≡ line ++ e ∷ [] → closing ≡ false
-      → n ≡ length line + 1 → place_at places id ≡ Some p → p.number ≡ None → e.id ≡ id → waiting_job e.stage ≡ Some p.spec → fewer ≡ created - 1 → more ≡ queued + 1
-      → IsKeptPool others issued lines finished first fewer more running closing line_places finished_places
-  kept-queued others lines id n fewer more p e rises places_are line_is still_open number is none its waits_for fewer_is more_is = rw (places_are, line_is) (record {
+      → n ≡ length line + 1 → place_at places id ≡ Some p → p.number ≡ None → e.id ≡ id → waiting_job e.stage ≡ Some p.spec → fewer ≡ created - 1 → more ≡ queued + 1 → left + 1 ≡ spare
+      → IsKeptPool others issued lines finished first fewer more running closing left finished_places
+  kept-queued others lines id n fewer more left p e rises places_are line_is still_open number is none its waits_for fewer_is more_is left_is = rw (places_are, line_is) (record {
     known = issued-kept places (with_number_at id n places) issued id p (with_place_number n p) is change kept.known;
     linked = linked-queued places (with_number_at id n places) line id n p e kept.linked number is none change its waits_for;
     in_line = record {
@@ -200,7 +205,7 @@ module _ (places : List (Held Placed)) (issued : List ℕ) (line : List InLine) 
       within = omega (arith, longer, kept.in_line.within);
       passed = λ m before. still m before;
     };
-    came_out = out-queued places (with_number_at id n places) line finished id n p e kept.came_out is change only.lives;
+    came_out = out-queued places (with_number_at id n places) line finished id n p e kept.came_out number change only.lives;
     room = record {
       created_are = omega (arith, kept.room.created_are, fewer_is, counted, counts);
       queued_are = omega (
@@ -210,8 +215,10 @@ module _ (places : List (Held Placed)) (issued : List ℕ) (line : List InLine) 
         ap length (waiting-more line e p.spec waits_for),
         length-append (waiting_works line) (one (length line + 1)),
       );
+      numbers = omega (arith, kept.room.numbers, longer, fewer_is, some);
+      few = kept.room.few;
       running_are = kept.room.running_are ∙ ap length (sym (executions-same line (line ++ e ∷ []) same_runner));
-      line_room = omega (arith, kept.room.line_room, longer, fewer_is, some);
+      line_room = omega (arith, kept.room.line_room, fewer_is, left_is, some);
       finished_room = omega (arith, kept.room.finished_room, fewer_is, more_is, some);
     };
     shut = λ shut. let no : ⊥ = cc in absurd no;
@@ -248,7 +255,7 @@ module _ (places : List (Held Placed)) (issued : List ℕ) (line : List InLine) 
 
   -- WORKS ARE PASSED OVER THAT DO NOT WAIT
   pub kept-passed : (next : ℕ) → next ≤ length line → ((m : ℕ) → first < m → m ≤ next → waits line m ≡ false)
-      → IsKeptPool places issued line finished next created queued running closing line_places finished_places
+      → IsKeptPool places issued line finished next created queued running closing spare finished_places
   kept-passed next within passed = record {
     known = kept.known;
     linked = kept.linked;
@@ -343,7 +350,7 @@ module _ (places : List (Held Placed)) (issued : List ℕ) (line : List InLine) 
               by false same = refl
 
       pub kept-started : (fewer more : ℕ) → lines ≡ set line (n - 1) (with_stage (Runs w) e) → closing ≡ false → fewer ≡ queued - 1 → more ≡ running + 1
-          → IsKeptPool places issued lines finished first created fewer more closing line_places finished_places
+          → IsKeptPool places issued lines finished first created fewer more closing spare finished_places
       kept-started fewer more is still_open fewer_is more_is = rw is (record {
         known = kept.known;
         linked = linked-restaged places line (set line (n - 1) (with_stage (Runs w) e)) n e (Runs w) kept.linked change refl (λ _. only.unfinished);
@@ -352,8 +359,10 @@ module _ (places : List (Held Placed)) (issued : List ℕ) (line : List InLine) 
         room = record {
           created_are = kept.room.created_are;
           queued_are = omega (arith, fewer_is, kept.room.queued_are, fewer-wait (Runs w) job refl waits_for);
+          numbers = omega (arith, change.long, kept.room.numbers);
+          few = kept.room.few;
           running_are = omega (arith, more_is, kept.room.running_are, more-run);
-          line_room = omega (arith, change.long, kept.room.line_room);
+          line_room = kept.room.line_room;
           finished_room = omega (arith, kept.room.finished_room, fewer_is, more_is, queued-some n (waits-here job waits_for));
         };
         shut = λ shut. let no : ⊥ = cc in absurd no;
@@ -368,7 +377,7 @@ module _ (places : List (Held Placed)) (issued : List ℕ) (line : List InLine) 
     -- it is cancelled
     pub kept-cancelled : (outcomes : List CameOut) (o : CameOut) (fewer : ℕ) (job : JobSpec) → lines ≡ set line (n - 1) (with_stage Ended e)
         → outcomes ≡ finished ++ o ∷ [] → waiting_job e.stage ≡ Some job
-        → o.number ≡ n → o.unspent ≡ Some job → fewer ≡ queued - 1 → IsKeptPool places issued lines outcomes first created fewer running closing line_places finished_places
+        → o.number ≡ n → o.unspent ≡ Some job → fewer ≡ queued - 1 → IsKeptPool places issued lines outcomes first created fewer running closing spare finished_places
     kept-cancelled outcomes o fewer job is out_is waits_for its unspent fewer_is = rw (is, out_is) (record {
       known = kept.known;
       linked = linked-restaged places line (set line (n - 1) (with_stage Ended e)) n e Ended kept.linked change refl (λ _. only.unfinished);
@@ -381,8 +390,10 @@ module _ (places : List (Held Placed)) (issued : List ℕ) (line : List InLine) 
       room = record {
         created_are = kept.room.created_are;
         queued_are = omega (arith, fewer_is, kept.room.queued_are, fewer-wait Ended job refl waits_for);
+        numbers = omega (arith, change.long, kept.room.numbers);
+        few = kept.room.few;
         running_are = kept.room.running_are ∙ ap length (sym (executions-still Ended refl only.idle));
-        line_room = omega (arith, change.long, kept.room.line_room);
+        line_room = kept.room.line_room;
         finished_room = omega (arith, kept.room.finished_room, fewer_is, queued-some n (waits-here job waits_for), length-append finished (o ∷ []));
       };
       shut = λ shut. let none : waits line n ≡ false = sym (has-waiting line n) ∙ ap (has_number n)
@@ -395,17 +406,13 @@ module _ (places : List (Held Placed)) (issued : List ℕ) (line : List InLine) 
         only : OnlyWaits e.stage
         only = only-waits e.stage job waits_for
 
-        stands : StandsInLine places n e
-        stands = kept.linked.placed n e there only.unfinished
-
-        told : IfSome o.unspent (λ t. spec_at places line n ≡ Some t)
-        told = subst (λ u. IfSome u (λ t. spec_at places line n ≡ Some t)) (sym unspent) (spec-stands places line n e there stands
-            ∙ ap (λ t. Some t) (sym (subst (λ u. IfSome u (λ t. t ≡ stands.place.spec)) waits_for stands.job)))
+        told : KeepsJob places o
+        told = keeps-job places line n e kept.linked there only.unfinished (kept.linked.placed n e there only.unfinished) o its (unspent ∙ sym waits_for)
 
     -- it finishes
     pub kept-finished : (outcomes : List CameOut) (o : CameOut) (w fewer : ℕ) → lines ≡ set line (n - 1) (with_stage Ended e)
         → outcomes ≡ finished ++ o ∷ [] → runner e.stage ≡ Some w
-        → o.number ≡ n → o.unspent ≡ None → fewer ≡ running - 1 → IsKeptPool places issued lines outcomes first created queued fewer closing line_places finished_places
+        → o.number ≡ n → o.unspent ≡ None → fewer ≡ running - 1 → IsKeptPool places issued lines outcomes first created queued fewer closing spare finished_places
     kept-finished outcomes o w fewer is out_is runs its unspent fewer_is = rw (is, out_is) (record {
       known = kept.known;
       linked = linked-restaged places line (set line (n - 1) (with_stage Ended e)) n e Ended kept.linked change refl (λ _. only.unfinished);
@@ -414,13 +421,14 @@ module _ (places : List (Held Placed)) (issued : List ℕ) (line : List InLine) 
         within = omega (arith, change.long, kept.in_line.within);
         passed = still-passed Ended refl;
       };
-      came_out = out-ended places line (set line (n - 1) (with_stage Ended e)) finished n e Ended kept.came_out change o refl only.lives its (subst
-          (λ u. IfSome u (λ t. spec_at places line n ≡ Some t)) (sym unspent) tt);
+      came_out = out-ended places line (set line (n - 1) (with_stage Ended e)) finished n e Ended kept.came_out change o refl only.lives its (keeps-none places o unspent);
       room = record {
         created_are = kept.room.created_are;
         queued_are = kept.room.queued_are ∙ ap length (sym (waiting-still Ended refl only.started));
+        numbers = omega (arith, change.long, kept.room.numbers);
+        few = kept.room.few;
         running_are = omega (arith, fewer_is, kept.room.running_are, less);
-        line_room = omega (arith, change.long, kept.room.line_room);
+        line_room = kept.room.line_room;
         finished_room = omega (arith, kept.room.finished_room, fewer_is, running-some n w runs_here, length-append finished (o ∷ []));
       };
       shut = λ shut. waiting-still Ended refl only.started ∙ kept.shut shut;
@@ -442,27 +450,29 @@ module _ (places : List (Held Placed)) (issued : List ℕ) (line : List InLine) 
 
 -- its completion begins
 pub kept-completed : (places : List (Held Placed)) (issued : List ℕ) (line lines : List InLine) (finished outcomes : List CameOut) (o : CameOut) (first created queued running : ℕ)
-    (closing : Bool) (line_places finished_places : ℕ) (e : InLine)
-    → IsKeptPool places issued line finished first created queued running closing line_places finished_places → finished ≡ o ∷ outcomes → line_work_at line o.number ≡ Some e
+    (closing : Bool) (spare finished_places more : ℕ) (e : InLine)
+    → IsKeptPool places issued line finished first created queued running closing spare finished_places → finished ≡ o ∷ outcomes → line_work_at line o.number ≡ Some e
     → lines ≡ set line (o.number - 1) (with_stage Done e)
-    → IsKeptPool places issued lines outcomes first created queued running closing line_places finished_places
-kept-completed places issued line lines finished outcomes o first created queued running closing line_places finished_places e kept out_is there is = rw is (record {
+    → spare ≤ more → IsKeptPool places issued lines outcomes first created queued running closing more finished_places
+kept-completed places issued line lines finished outcomes o first created queued running closing spare finished_places more e kept out_is there is a = rw is (record {
   known = kept.known;
   linked = linked-restaged places line (set line (o.number - 1) (with_stage Done e)) o.number e Done kept.linked change refl
       (λ no. let not_so : ⊥ = cc in absurd not_so);
   in_line = record {
     apart = apart-less line (set line (o.number - 1) (with_stage Done e)) o.number kept.in_line.apart
-        (fewer-run places issued line finished first created queued running closing line_places finished_places kept lines o.number e there Done refl);
+        (fewer-run places issued line finished first created queued running closing spare finished_places kept lines o.number e there Done refl);
     within = omega (arith, change.long, kept.in_line.within);
-    passed = still-passed places issued line finished first created queued running closing line_places finished_places kept lines o.number e there Done refl;
+    passed = still-passed places issued line finished first created queued running closing spare finished_places kept lines o.number e there Done refl;
   };
   came_out = out-completed places line (set line (o.number - 1) (with_stage Done e)) o outcomes e Done out change refl;
   room = record {
     created_are = kept.room.created_are;
     queued_are = kept.room.queued_are ∙ ap length (sym waiting_same);
+    numbers = omega (arith, change.long, kept.room.numbers);
+    few = kept.room.few;
     running_are = kept.room.running_are ∙ ap length (sym
-        (executions-still places issued line finished first created queued running closing line_places finished_places kept lines o.number e there Done refl only.idle));
-    line_room = omega (arith, change.long, kept.room.line_room);
+        (executions-still places issued line finished first created queued running closing spare finished_places kept lines o.number e there Done refl only.idle));
+    line_room = omega (arith, kept.room.line_room, a);
     finished_room = omega (arith, kept.room.finished_room, ap length out_is);
   };
   shut = λ shut. waiting_same ∙ kept.shut shut;
@@ -478,14 +488,14 @@ kept-completed places issued line lines finished outcomes o first created queued
     only = only-ended e.stage (ap has_ended (sym (ap (λ x. option_map_or (λ (y : InLine). y.stage) x Done) there)) ∙ first-ended places line o outcomes out)
 
     waiting_same : waiting_works (set line (o.number - 1) (with_stage Done e)) ≡ waiting_works line
-    waiting_same = waiting-still places issued line finished first created queued running closing line_places finished_places kept lines o.number e there Done refl only.started
+    waiting_same = waiting-still places issued line finished first created queued running closing spare finished_places kept lines o.number e there Done refl only.started
 
 -- where none waits, any work may start or none
 pub kept-closed : (places : List (Held Placed)) (issued : List ℕ) (line : List InLine) (finished : List CameOut) (first created queued running : ℕ) (closing now : Bool)
-    (line_places finished_places : ℕ)
-    → IsKeptPool places issued line finished first created queued running closing line_places finished_places → waiting_works line ≡ []
-    → IsKeptPool places issued line finished first created queued running now line_places finished_places
-kept-closed places issued line finished first created queued running closing now line_places finished_places kept none = record {
+    (spare finished_places : ℕ)
+    → IsKeptPool places issued line finished first created queued running closing spare finished_places → waiting_works line ≡ []
+    → IsKeptPool places issued line finished first created queued running now spare finished_places
+kept-closed places issued line finished first created queued running closing now spare finished_places kept none = record {
   known = kept.known;
   linked = kept.linked;
   in_line = kept.in_line;
@@ -495,9 +505,9 @@ kept-closed places issued line finished first created queued running closing now
 }
 
 -- before the first work is created
-pub kept-new : (places : List (Held Placed)) (issued : List ℕ) (line : List InLine) (finished : List CameOut) (line_places finished_places : ℕ) → places ≡ [] → line ≡ []
-    → finished ≡ [] → IsKeptPool places issued line finished 0 0 0 0 false line_places finished_places
-kept-new places issued line finished line_places finished_places no_places no_line no_finished = rw (no_places, no_line, no_finished) (record {
+pub kept-new : (places : List (Held Placed)) (issued : List ℕ) (line : List InLine) (finished : List CameOut) (spare finished_places : ℕ) → places ≡ [] → issued ≡ [] → line ≡ []
+    → finished ≡ [] → IsKeptPool places issued line finished 0 0 0 0 false spare finished_places
+kept-new places issued line finished spare finished_places no_places no_issued no_line no_finished = rw (no_places, no_issued, no_line, no_finished) (record {
   known = λ id p is. absurd (nowhere id p is);
   linked = record {
     named = λ id p is. absurd (nowhere id p is);
@@ -511,11 +521,13 @@ kept-new places issued line finished line_places finished_places no_places no_li
   };
   came_out = record {
     once = λ n. sym (ap (λ b. cond b 1 0) (unended n));
-    told = All-nil (KeepsJob [] []);
+    told = All-nil (KeepsJob []);
   };
   room = record {
     created_are = refl;
     queued_are = refl;
+    numbers = omega arith;
+    few = omega arith;
     running_are = refl;
     line_room = omega arith;
     finished_room = omega arith;
@@ -567,19 +579,3 @@ pub rest-waits : (ns : List ℕ) → IsRising (λ m. m) ns → IfSome (head ns) 
 rest-waits [] rises = tt
 rest-waits (n ∷ ns) rises = ap (λ b. cond (not b) (n ∷ filter (λ m. not (m == n)) ns) (filter (λ m. not (m == n)) ns)) (same-self n)
     ∙ filter_all (λ m. not (m == n)) ns (λ k d inside. ap not (apart-above n (get_or ns k d) (rises.0 k d inside)))
-
--- a work that has not begun its completion, as it is read
-pub live-read : {J : Type 0} (spec : J → JobSpec) (line : List (Numbered J)) (n : ℕ) (x : Numbered J) → is_done_in_line (line_stage_at (line_seen spec line) n) ≡ false
-    → x ≡ get_or line (n - 1) x → line_work_at (line_seen spec line) n ≡ Some (entry_seen spec x)
-live-read spec line n x unfinished here = let e = entry-live (line_seen spec line) n unfinished in read-at spec line n x e.0 e.1 here
-
-pub live-bounds : {J : Type 0} (spec : J → JobSpec) (line : List (Numbered J)) (n : ℕ) → is_done_in_line (line_stage_at (line_seen spec line) n) ≡ false
-    → (1 ≤ n) × (n ≤ length line)
-live-bounds spec line n unfinished = let e = entry-live (line_seen spec line) n unfinished in bounds-at spec line n e.0 e.1
-
-pub runs-read : {J : Type 0} (spec : J → JobSpec) (line : List (Numbered J)) (n w : ℕ) (x : Numbered J) → runner_at (line_seen spec line) n ≡ Some w
-    → x ≡ get_or line (n - 1) x
-    → (line_work_at (line_seen spec line) n ≡ Some (entry_seen spec x)) × (runner (entry_seen spec x).stage ≡ Some w)
-runs-read spec line n w x runs here =
-    let there = live-read spec line n x (only-runs (line_stage_at (line_seen spec line) n) w runs).unfinished here in
-    (there, sym (ap (λ o. runner (option_map_or (λ (y : InLine). y.stage) o Done)) there) ∙ runs)

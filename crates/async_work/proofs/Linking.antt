@@ -1,18 +1,16 @@
 -- Places and line go on naming each other, and what came out stays as it was told.
-use Rattle.std.proofs.Common.{◌≡◌, ◌∙◌, ℕ, ◌+◌, ◌<◌, ◌≤◌, ◌==◌, Bool, true, false, cond, List, [], ◌∷◌, ◌++◌, length, get_or, Option, Some, None, IfSome, option_map, refl, ap, sym, subst, arith}
+use Rattle.std.proofs.Common.{◌≡◌, ◌∙◌, ℕ, ◌+◌, ◌<◌, ◌≤◌, ◌==◌, Bool, true, false, cond, List, [], ◌∷◌, ◌++◌, length, get_or, Option, Some, None, IfSome, option_map, refl, ap, sym, subst, arith, length-append}
 use Rattle.std.specs.List.{All, count_by}
-use Rattle.std.specs.Option.{option_and_then, option_map_or}
+use Rattle.std.specs.Option.{option_map_or}
 use Rattle.generation_slab.specs.HeldPlaces.{Held}
 use Rattle.std.proofs.lemmas.List.Sums.{sum_by-cons, sum_by-append, get_or-le-sum_by}
 use Rattle.std.proofs.lemmas.List.Elements.{All-append, All-cons, All-nil, All-head, All-tail}
-use Rattle.napi_types.specs.declared.call.JobSpec.{JobSpec}
 use Rattle.napi_types.proofs.plain.Found.{same-self, same-tells, apart-above}
 use Rattle.async_work.specs.WorkPlaces.{Placed, place_at, with_place_number}
 use Rattle.async_work.specs.Line.{LineStage, Waits, Runs, Ended, Done, InLine, CameOut, waiting_job, has_ended, is_done_in_line, with_stage, line_work_at, line_stage_at, line_id_at, ended_at}
-use Rattle.async_work.specs.KeptPool.{StandsInLine, spec_at, KeepsJob, AreLinked, CameOutOnce}
-use Rattle.napi_types.proofs.plain.Counted.{element-within}
+use Rattle.async_work.specs.KeptPool.{StandsInLine, KeepsJob, IsNumberOf, AreLinked, CameOutOnce}
 use Rattle.async_work.proofs.Ids.{Replaced}
-use Rattle.async_work.proofs.Queueing.{Restaged, stage-restaged, id-restaged, entry-push, stage-push, stage-past}
+use Rattle.async_work.proofs.Queueing.{Restaged, stage-restaged, id-restaged, id-other, entry-push, stage-push, stage-past, stage-in_line, id-in_line}
 
 pub same-some : {A : Type 0} (x y : A) → Some x ≡ Some y → x ≡ y
 same-some x y is = cc
@@ -25,7 +23,7 @@ pub if-some : {A : Type 0} (P : A → Type 0) (o : Option A) (x : A) → o ≡ S
 if-some P None x is holds = let no : ⊥ = cc in absurd no
 if-some P (Some y) x is holds = subst P (same-some y x is) holds
 
-if-more : {A : Type 0} (P Q : A → Type 0) (o : Option A) → ((x : A) → P x → Q x) → IfSome o P → IfSome o Q
+pub if-more : {A : Type 0} (P Q : A → Type 0) (o : Option A) → ((x : A) → P x → Q x) → IfSome o P → IfSome o Q
 if-more P Q None more holds = tt
 if-more P Q (Some x) more holds = more x holds
 
@@ -44,21 +42,6 @@ place_at-old places others id p m q absent change is = change.at m ∙ ap (λ b.
     other : id ≡ m → ⊥
     other same = let it : None ≡ Some q = sym absent ∙ ap (place_at places) same ∙ is in cc
 
-pub entry-old : (line : List InLine) (e x : InLine) (n : ℕ) → line_work_at line n ≡ Some x → line_work_at (line ++ e ∷ []) n ≡ Some x
-entry-old line e x n is =
-    let within = element-within line n x is in
-    entry-push line e n ∙ ap (λ b. cond b (Some e) (line_work_at line n)) (apart-above n (length line + 1) (omega (arith, within.1))) ∙ is
-
-id-entry : (line : List InLine) (n i : ℕ) → line_id_at line n ≡ Some i → (e : InLine) × (line_work_at line n ≡ Some e) × (e.id ≡ i)
-id-entry line n i is = by (line_work_at line n) refl is
-  where
-    by : (o : Option InLine) → line_work_at line n ≡ o → option_map (λ (e : InLine). e.id) o ≡ Some i → (e : InLine) × (line_work_at line n ≡ Some e) × (e.id ≡ i)
-    by None at told = let no : ⊥ = cc in absurd no
-    by (Some e) at told = (e, at, same-some e.id i told)
-
-id-old : (line : List InLine) (e : InLine) (n i : ℕ) → line_id_at line n ≡ Some i → line_id_at (line ++ e ∷ []) n ≡ Some i
-id-old line e n i is = let x = id-entry line n i is in ap (option_map (λ (y : InLine). y.id)) (entry-old line e x.0 n x.1) ∙ ap (λ k. Some k) x.2
-
 pub stage-of : (line : List InLine) (n : ℕ) (e : InLine) → line_work_at line n ≡ Some e → line_stage_at line n ≡ e.stage
 stage-of line n e is = ap (λ o. option_map_or (λ (x : InLine). x.stage) o Done) is
 
@@ -71,8 +54,8 @@ linked-created places others line id p linked absent change none held = record {
   placed = λ n e is unfinished. stands n e (linked.placed n e is unfinished);
 }
   where
-    named : (m : ℕ) (q : Placed) (b : Bool) → cond b (Some p) (place_at places m) ≡ Some q → IfSome q.number (λ n. line_id_at line n ≡ Some m)
-    named m q true told = if-none (λ n. line_id_at line n ≡ Some m) q.number (ap (λ (r : Placed). r.number) (sym (same-some p q told)) ∙ none)
+    named : (m : ℕ) (q : Placed) (b : Bool) → cond b (Some p) (place_at places m) ≡ Some q → IfSome q.number (λ n. IsNumberOf line m n)
+    named m q true told = if-none (λ n. IsNumberOf line m n) q.number (ap (λ (r : Placed). r.number) (sym (same-some p q told)) ∙ none)
     named m q false told = linked.named m q told
 
     keeps : (m : ℕ) (q : Placed) (b : Bool) → cond b (Some p) (place_at places m) ≡ Some q → q.number ≡ None → q.job ≡ Some q.spec
@@ -121,17 +104,32 @@ linked-queued places others line id n p e linked new is none change its waits_fo
   placed = λ m x at unfinished. placed m x unfinished (length line + 1 == m) refl (sym (entry-push line e m) ∙ at);
 }
   where
+    longer : length (line ++ e ∷ []) ≡ length line + 1
+    longer = length-append line (e ∷ [])
+
     here : line_id_at (line ++ e ∷ []) n ≡ Some id
     here = ap (option_map (λ (x : InLine). x.id)) (entry-push line e n ∙ ap (λ b. cond b (Some e) (line_work_at line n)) (ap (λ k. length line + 1 == k) new
         ∙ same-self (length line + 1))) ∙ ap (λ k. Some k) its
 
+    -- a number within the line stays that of its work
+    still : (m k : ℕ) → IsNumberOf line m k → IsNumberOf (line ++ e ∷ []) m k
+    still m k old = (
+      omega (arith, longer, old.0),
+      λ unfinished.
+          ap (option_map (λ (x : InLine). x.id)) (entry-push line e k ∙ ap (λ b. cond b (Some e) (line_work_at line k)) apart)
+          ∙ old.1 (sym (stage-push is_done_in_line line e k ∙ ap (λ b. cond b (is_done_in_line e.stage) (is_done_in_line (line_stage_at line k))) apart) ∙ unfinished),
+    )
+      where
+        apart : (length line + 1 == k) ≡ false
+        apart = apart-above k (length line + 1) (omega (arith, old.0))
+
     named : (m : ℕ) (q : Placed) (b : Bool) → (id == m) ≡ b → cond b (Some (with_place_number n p)) (place_at places m) ≡ Some q
-        → IfSome q.number (λ k. line_id_at (line ++ e ∷ []) k ≡ Some m)
+        → IfSome q.number (λ k. IsNumberOf (line ++ e ∷ []) m k)
     named m q true same told =
         let one : with_place_number n p ≡ q = same-some (with_place_number n p) q told in
-        subst (λ (r : Placed). IfSome r.number (λ k. line_id_at (line ++ e ∷ []) k ≡ Some m)) one (here ∙ ap (λ k. Some k) (same-tells id m same))
-    named m q false same told = if-more (λ k. line_id_at line k ≡ Some m) (λ k. line_id_at (line ++ e ∷ []) k ≡ Some m) q.number (λ k old. id-old line e k m old)
-        (linked.named m q told)
+        subst (λ (r : Placed). IfSome r.number (λ k. IsNumberOf (line ++ e ∷ []) m k)) one
+        (omega (arith, new, longer), λ _. here ∙ ap (λ k. Some k) (same-tells id m same))
+    named m q false same told = if-more (λ k. IsNumberOf line m k) (λ k. IsNumberOf (line ++ e ∷ []) m k) q.number (still m) (linked.named m q told)
 
     keeps : (m : ℕ) (q : Placed) (b : Bool) → cond b (Some (with_place_number n p)) (place_at places m) ≡ Some q → q.number ≡ None → q.job ≡ Some q.spec
     keeps m q true told empty =
@@ -168,68 +166,40 @@ pub linked-restaged : (places : List (Held Placed)) (line others : List InLine) 
     → Restaged line others n e s
     → waiting_job s ≡ None → (is_done_in_line s ≡ false → is_done_in_line e.stage ≡ false) → AreLinked places others
 linked-restaged places line others n e s linked change no_job before_open = record {
-  named = λ id q is. if-more (λ k. line_id_at line k ≡ Some id) (λ k. line_id_at others k ≡ Some id) q.number (λ k old. id-restaged line others n e s change k
-      ∙ old) (linked.named id q is);
+  named = λ id q is. if-more (λ k. IsNumberOf line id k) (λ k. IsNumberOf others id k) q.number (still id) (linked.named id q is);
   held = linked.held;
   placed = λ m x at unfinished. placed m x unfinished (n == m) refl (sym (change.at m) ∙ at);
 }
   where
+    still : (id k : ℕ) → IsNumberOf line id k → IsNumberOf others id k
+    still id k old = (omega (arith, change.long, old.0), λ unfinished. by (n == k) refl unfinished)
+      where
+        at-stage : (b : Bool) → (n == k) ≡ b → is_done_in_line (line_stage_at others k) ≡ cond b (is_done_in_line s) (is_done_in_line (line_stage_at line k))
+        at-stage b same = stage-restaged line others n e s change is_done_in_line k ∙ ap (λ c. cond c (is_done_in_line s) (is_done_in_line (line_stage_at line k))) same
+
+        by : (b : Bool) → (n == k) ≡ b → is_done_in_line (line_stage_at others k) ≡ false → line_id_at others k ≡ Some id
+        by true same unfinished =
+            let open_still : is_done_in_line s ≡ false = sym (at-stage true same) ∙ unfinished in
+            let was : is_done_in_line (line_stage_at line k) ≡ false =
+            ap (λ m. is_done_in_line (line_stage_at line m)) (sym (same-tells n k same)) ∙ ap is_done_in_line (stage-of line n e change.there) ∙ before_open open_still in
+            id-restaged line others n e s change open_still k ∙ old.1 was
+        by false same unfinished = id-other line others n e s change k same ∙ old.1 (sym (at-stage false same) ∙ unfinished)
+
     placed : (m : ℕ) (x : InLine) → is_done_in_line x.stage ≡ false → (b : Bool) → (n == m) ≡ b → cond b (Some (with_stage s e)) (line_work_at line m) ≡ Some x
         → StandsInLine places m x
     placed m x unfinished true same told =
         let one : with_stage s e ≡ x = same-some (with_stage s e) x told in
-        let was : is_done_in_line s ≡ false = ap (λ (y : InLine). is_done_in_line y.stage) one ∙ unfinished in
-        let old : StandsInLine places n e = linked.placed n e change.there (before_open was) in
+        let stays : is_done_in_line s ≡ false = ap is_done_in_line (sym (stage-in_line e.id s)) ∙ ap (λ (y : InLine). is_done_in_line y.stage) one ∙ unfinished in
+        let old : StandsInLine places n e = linked.placed n e change.there (before_open stays) in
         subst (λ (y : InLine). StandsInLine places m y) one (record {
           place = old.place;
-          there = old.there;
+          there = ap (place_at places) (id-in_line e.id s stays) ∙ old.there;
           numbered = old.numbered ∙ ap (λ k. Some k) (same-tells n m same);
-          job = subst (λ o. IfSome o (λ t. t ≡ old.place.spec)) (sym no_job) tt;
+          job = subst (λ o. IfSome o (λ t. t ≡ old.place.spec)) (sym (ap waiting_job (stage-in_line e.id s) ∙ no_job)) tt;
         })
     placed m x unfinished false same told = linked.placed m x told unfinished
 
 -- WHAT CAME OUT
-told-all : (places others : List (Held Placed)) (line lines : List InLine) (finished : List CameOut)
-    → ((n : ℕ) (s : JobSpec) → spec_at places line n ≡ Some s → spec_at others lines n ≡ Some s) → All (KeepsJob places line) finished
-    → All (KeepsJob others lines) finished
-told-all places others line lines finished more told k d inside =
-    let o : CameOut = get_or finished k d in
-    if-more (λ s. spec_at places line o.number ≡ Some s) (λ s. spec_at others lines o.number ≡ Some s) o.unspent (λ s is. more o.number s is) (told k d inside)
-
-spec-parts : (places : List (Held Placed)) (line : List InLine) (n : ℕ) (s : JobSpec) → spec_at places line n ≡ Some s
-    → (i : ℕ) × (p : Placed) × (line_id_at line n ≡ Some i) × (place_at places i ≡ Some p) × (p.spec ≡ s)
-spec-parts places line n s is = by (line_id_at line n) refl is
-  where
-    place : (i : ℕ) (o : Option Placed) → line_id_at line n ≡ Some i → place_at places i ≡ o → option_map (λ (p : Placed). p.spec) o ≡ Some s
-        → (j : ℕ) × (p : Placed) × (line_id_at line n ≡ Some j) × (place_at places j ≡ Some p) × (p.spec ≡ s)
-    place i None id at told = let no : ⊥ = cc in absurd no
-    place i (Some p) id at told = (i, p, id, at, same-some p.spec s told)
-
-    by : (o : Option ℕ) → line_id_at line n ≡ o → option_map (λ (p : Placed). p.spec) (option_and_then (place_at places) o) ≡ Some s
-        → (i : ℕ) × (p : Placed) × (line_id_at line n ≡ Some i) × (place_at places i ≡ Some p) × (p.spec ≡ s)
-    by None id told = let no : ⊥ = cc in absurd no
-    by (Some i) id told = place i (place_at places i) id refl told
-
-spec-of : (places : List (Held Placed)) (line : List InLine) (n i : ℕ) (p : Placed) (s : JobSpec) → line_id_at line n ≡ Some i → place_at places i ≡ Some p
-    → p.spec ≡ s → spec_at places line n ≡ Some s
-spec-of places line n i p s id at is = ap (λ o. option_map (λ (q : Placed). q.spec) (option_and_then (place_at places) o)) id
-    ∙ ap (option_map (λ (q : Placed). q.spec)) at ∙ ap (λ t. Some t) is
-
--- the work that stands in line computes what it is to compute
-pub spec-stands : (places : List (Held Placed)) (line : List InLine) (n : ℕ) (e : InLine) → line_work_at line n ≡ Some e → (stands : StandsInLine places n e)
-    → spec_at places line n ≡ Some stands.place.spec
-spec-stands places line n e at stands = spec-of places line n e.id stands.place stands.place.spec (ap (option_map (λ (x : InLine). x.id)) at) stands.there refl
-
-pub out-created : (places others : List (Held Placed)) (line : List InLine) (finished : List CameOut) (id : ℕ) (p : Placed) → place_at places id ≡ None
-    → Replaced places others id (Some p) → CameOutOnce places line finished → CameOutOnce others line finished
-out-created places others line finished id p absent change out = record {
-  once = out.once;
-  told = told-all places others line line finished still out.told;
-}
-  where
-    still : (n : ℕ) (s : JobSpec) → spec_at places line n ≡ Some s → spec_at others line n ≡ Some s
-    still n s is = let x = spec-parts places line n s is in spec-of others line n x.0 x.1 s x.2 (place_at-old places others id p x.0 x.1 absent change x.3) x.4
-
 pub ended-unfinished : (s : LineStage) → has_ended s ≡ true → is_done_in_line s ≡ false
 ended-unfinished (Waits spec) is = refl
 ended-unfinished (Runs w) is = refl
@@ -250,39 +220,50 @@ among-ended places line finished k d out inside =
     by false true same count least = absurd (omega (arith, count, least))
     by false false same count least = let no : ⊥ = cc in absurd no
 
-pub out-deleted : (places others : List (Held Placed)) (line : List InLine) (finished : List CameOut) (id : ℕ) (p : Placed) → AreLinked places line
-    → CameOutOnce places line finished → place_at places id ≡ Some p
-    → Replaced places others id None → ((n : ℕ) → p.number ≡ Some n → is_done_in_line (line_stage_at line n) ≡ true) → CameOutOnce others line finished
-out-deleted places others line finished id p linked out is change done = record { once = out.once; told = told }
-  where
-    still : (n : ℕ) (s : JobSpec) → ended_at line n ≡ true → spec_at places line n ≡ Some s → spec_at others line n ≡ Some s
-    still n s ended told =
-        let x = spec-parts places line n s told in
-        spec-of others line n x.0 x.1 s x.2 (change.at x.0 ∙ ap (λ b. cond b None (place_at places x.0)) (apart-of id x.0 (other x.0 x.1 x.2 x.3)) ∙ x.3) x.4
-      where
-        other : (i : ℕ) (q : Placed) → line_id_at line n ≡ Some i → place_at places i ≡ Some q → id ≡ i → ⊥
-        other i q its at same =
-            let e = id-entry line n i its in
-            let stands : StandsInLine places n e.0 = linked.placed n e.0 e.1 (ap is_done_in_line (sym (stage-of line n e.0 e.1))
-            ∙ ended-unfinished (line_stage_at line n) ended) in
-            let one : p ≡ stands.place = same-some p stands.place (sym is ∙ ap (place_at places) (same ∙ sym e.2) ∙ stands.there) in
-            let over : is_done_in_line (line_stage_at line n) ≡ true = done n (ap (λ (r : Placed). r.number) one ∙ stands.numbered) in
-            let not_over : is_done_in_line (line_stage_at line n) ≡ false = ended-unfinished (line_stage_at line n) ended in
-            cc
+-- a job that is kept stays so where each work that has its number was there before, and computed the same
+told-all : (places others : List (Held Placed)) (line : List InLine) (finished : List CameOut) → CameOutOnce places line finished
+    → ((n : ℕ) → ended_at line n ≡ true → (id : ℕ) (q : Placed) → place_at others id ≡ Some q → q.number ≡ Some n
+    → (r : Placed) × (place_at places id ≡ Some r) × (r.number ≡ Some n) × (r.spec ≡ q.spec))
+    → All (KeepsJob others) finished
+told-all places others line finished out before k d inside =
+    let o : CameOut = get_or finished k d in
+    if-more (λ s. (id : ℕ) (p : Placed) → place_at places id ≡ Some p → p.number ≡ Some o.number → p.spec ≡ s)
+    (λ s. (id : ℕ) (p : Placed) → place_at others id ≡ Some p → p.number ≡ Some o.number → p.spec ≡ s) o.unspent
+    (λ s told id q at number. let r = before o.number (among-ended places line finished k d out inside) id q at number in sym r.3 ∙ told id r.0 r.1 r.2)
+    (out.told k d inside)
 
-    told : All (KeepsJob others line) finished
-    told k d inside =
-        let o : CameOut = get_or finished k d in
-        let ended : ended_at line o.number ≡ true = among-ended places line finished k d out inside in
-        if-more (λ s. spec_at places line o.number ≡ Some s) (λ s. spec_at others line o.number ≡ Some s) o.unspent (λ s is. still o.number s ended is)
-        (out.told k d inside)
+pub out-created : (places others : List (Held Placed)) (line : List InLine) (finished : List CameOut) (id : ℕ) (p : Placed) → p.number ≡ None
+    → Replaced places others id (Some p) → CameOutOnce places line finished → CameOutOnce others line finished
+out-created places others line finished id p none change out = record {
+  once = out.once;
+  told = told-all places others line finished out (λ n ended m q at number. by n m q (id == m) (sym (change.at m) ∙ at) number);
+}
+  where
+    by : (n m : ℕ) (q : Placed) (b : Bool) → cond b (Some p) (place_at places m) ≡ Some q → q.number ≡ Some n
+        → (r : Placed) × (place_at places m ≡ Some r) × (r.number ≡ Some n) × (r.spec ≡ q.spec)
+    by n m q true told number =
+        let it : None ≡ Some n = sym none ∙ ap (λ (r : Placed). r.number) (same-some p q told) ∙ number in
+        let no : ⊥ = cc in absurd no
+    by n m q false told number = (q, told, number, refl)
+
+pub out-deleted : (places others : List (Held Placed)) (line : List InLine) (finished : List CameOut) (id : ℕ)
+    → CameOutOnce places line finished → Replaced places others id None → CameOutOnce others line finished
+out-deleted places others line finished id out change = record {
+  once = out.once;
+  told = told-all places others line finished out (λ n ended m q at number. by n m q (id == m) (sym (change.at m) ∙ at) number);
+}
+  where
+    by : (n m : ℕ) (q : Placed) (b : Bool) → cond b None (place_at places m) ≡ Some q → q.number ≡ Some n
+        → (r : Placed) × (place_at places m ≡ Some r) × (r.number ≡ Some n) × (r.spec ≡ q.spec)
+    by n m q true told number = let no : ⊥ = cc in absurd no
+    by n m q false told number = (q, told, number, refl)
 
 pub out-queued : (places others : List (Held Placed)) (line : List InLine) (finished : List CameOut) (id n : ℕ) (p : Placed) (e : InLine)
-    → CameOutOnce places line finished → place_at places id ≡ Some p
+    → CameOutOnce places line finished → n ≡ length line + 1
     → Replaced places others id (Some (with_place_number n p)) → has_ended e.stage ≡ false → CameOutOnce others (line ++ e ∷ []) finished
-out-queued places others line finished id n p e out is change waits_still = record {
+out-queued places others line finished id n p e out new change waits_still = record {
   once = λ m. out.once m ∙ ap (λ b. cond b 1 0) (sym (same m (length line + 1 == m) refl));
-  told = told-all places others line (line ++ e ∷ []) finished still out.told;
+  told = told-all places others line finished out (λ k ended m q at number. by k m q ended (id == m) (sym (change.at m) ∙ at) number);
 }
   where
     same : (m : ℕ) (b : Bool) → (length line + 1 == m) ≡ b → ended_at (line ++ e ∷ []) m ≡ ended_at line m
@@ -292,31 +273,22 @@ out-queued places others line finished id n p e out is change waits_still = reco
         ∙ sym (stage-past has_ended line m (omega (arith, at)))
     same m false here = stage-push has_ended line e m ∙ ap (λ b. cond b (has_ended e.stage) (ended_at line m)) here
 
-    still : (m : ℕ) (s : JobSpec) → spec_at places line m ≡ Some s → spec_at others (line ++ e ∷ []) m ≡ Some s
-    still m s told = let x = spec-parts places line m s told in by x.0 x.1 (id-old line e m x.0 x.2) x.3 x.4 (id == x.0) refl
-      where
-        by : (i : ℕ) (q : Placed) → line_id_at (line ++ e ∷ []) m ≡ Some i → place_at places i ≡ Some q → q.spec ≡ s → (b : Bool) → (id == i) ≡ b
-            → spec_at others (line ++ e ∷ []) m ≡ Some s
-        by i q its at spec true one =
-            let first : p ≡ q = same-some p q (sym is ∙ ap (place_at places) (same-tells id i one) ∙ at) in
-            spec-of others (line ++ e ∷ []) m i (with_place_number n p) s its (change.at i ∙ ap (λ b. cond b (Some (with_place_number n p))
-            (place_at places i)) one) (ap (λ (r : Placed). r.spec) first ∙ spec)
-        by i q its at spec false one = spec-of others (line ++ e ∷ []) m i q s its (change.at i
-            ∙ ap (λ b. cond b (Some (with_place_number n p)) (place_at places i)) one ∙ at) spec
+    by : (k m : ℕ) (q : Placed) → ended_at line k ≡ true → (b : Bool) → cond b (Some (with_place_number n p)) (place_at places m) ≡ Some q → q.number ≡ Some k
+        → (r : Placed) × (place_at places m ≡ Some r) × (r.number ≡ Some k) × (r.spec ≡ q.spec)
+    by k m q ended true told number =
+        let it : Some n ≡ Some k = ap (λ (r : Placed). r.number) (same-some (with_place_number n p) q told) ∙ number in
+        let here : n ≡ k = same-some n k it in
+        let over : ended_at line k ≡ false = stage-past has_ended line k (omega (arith, new, here)) in
+        let no : ⊥ = cc in absurd no
+    by k m q ended false told number = (q, told, number, refl)
 
 module _ (places : List (Held Placed)) (line others : List InLine) (finished : List CameOut) (n : ℕ) (e : InLine) (s : LineStage)
     (out : CameOutOnce places line finished) (change : Restaged line others n e s) where
-  spec-restaged : (m : ℕ) → spec_at places others m ≡ spec_at places line m
-  spec-restaged m = ap (λ o. option_map (λ (q : Placed). q.spec) (option_and_then (place_at places) o)) (id-restaged line others n e s change m)
-
-  still-told : All (KeepsJob places others) finished
-  still-told = told-all places places line others finished (λ m t is. spec-restaged m ∙ is) out.told
-
   -- it starts
   pub out-started : has_ended s ≡ false → has_ended e.stage ≡ false → CameOutOnce places others finished
   out-started not_after not_before = record {
     once = λ m. out.once m ∙ ap (λ b. cond b 1 0) (sym (stage-restaged line others n e s change has_ended m ∙ by m (n == m) refl));
-    told = still-told;
+    told = out.told;
   }
     where
       by : (m : ℕ) (b : Bool) → (n == m) ≡ b → cond b (has_ended s) (ended_at line m) ≡ ended_at line m
@@ -324,17 +296,12 @@ module _ (places : List (Held Placed)) (line others : List InLine) (finished : L
       by m false same = refl
 
   -- it ends
-  pub out-ended : (o : CameOut) → has_ended s ≡ true → has_ended e.stage ≡ false → o.number ≡ n → IfSome o.unspent (λ t. spec_at places line n ≡ Some t)
-      → CameOutOnce places others (finished ++ o ∷ [])
+  pub out-ended : (o : CameOut) → has_ended s ≡ true → has_ended e.stage ≡ false → o.number ≡ n → KeepsJob places o → CameOutOnce places others (finished ++ o ∷ [])
   out-ended o after not_before its told = record {
     once = λ m. sum_by-append (λ (x : CameOut). cond (x.number == m) 1 0) finished (o ∷ []) ∙ by m (n == m) refl (out.once m);
-    told = All-append (KeepsJob places others) finished (o ∷ []) still-told (All-cons (KeepsJob places others) o [] here (All-nil (KeepsJob places others)));
+    told = All-append (KeepsJob places) finished (o ∷ []) out.told (All-cons (KeepsJob places) o [] told (All-nil (KeepsJob places)));
   }
     where
-      here : KeepsJob places others o
-      here = if-more (λ t. spec_at places line n ≡ Some t) (λ t. spec_at places others o.number ≡ Some t) o.unspent (λ t is. ap (spec_at places others) its
-          ∙ spec-restaged n ∙ is) told
-
       count-one : (m : ℕ) (b : Bool) → (n == m) ≡ b → count_by (λ (x : CameOut). x.number == m) (o ∷ []) ≡ cond b 1 0
       count-one m b same = sum_by-cons (λ (x : CameOut). cond (x.number == m) 1 0) o [] ∙ ap (λ k. cond (k == m) 1 0 + 0) its
           ∙ ap (λ c. cond c 1 0 + 0) same ∙ plain (cond b 1 0)
@@ -366,7 +333,7 @@ pub out-completed : (places : List (Held Placed)) (line others : List InLine) (o
     → Restaged line others o.number e s → has_ended s ≡ false → CameOutOnce places others finished
 out-completed places line others o finished e s out change after = record {
   once = λ m. by m (o.number == m) refl (sym (sum_by-cons (λ (x : CameOut). cond (x.number == m) 1 0) o finished) ∙ out.once m);
-  told = All-tail (KeepsJob places others) o finished (still-told places line others (o ∷ finished) o.number e s out change);
+  told = All-tail (KeepsJob places) o finished out.told;
 }
   where
     by : (m : ℕ) (b : Bool) → (o.number == m) ≡ b → cond (o.number == m) 1 0 + count_by (λ (x : CameOut). x.number == m) finished ≡ cond (ended_at line m) 1 0
@@ -389,10 +356,29 @@ out-completed places line others o finished e s out change after = record {
         plain k = omega arith
 
 -- the first of them has the job that it should have
-pub first-told : (places : List (Held Placed)) (line : List InLine) (o : CameOut) (finished : List CameOut) (spec : JobSpec)
-    → CameOutOnce places line (o ∷ finished) → spec_at places line o.number ≡ Some spec → IfSome o.unspent (λ s. spec ≡ s)
-first-told places line o finished spec out is = if-more (λ s. spec_at places line o.number ≡ Some s) (λ s. spec ≡ s) o.unspent (λ s told. same-some spec s
-    (sym is ∙ told)) (All-head (KeepsJob places line) o finished out.told)
+pub first-told : (places : List (Held Placed)) (line : List InLine) (o : CameOut) (finished : List CameOut) (e : InLine) (stands : StandsInLine places o.number e)
+    → CameOutOnce places line (o ∷ finished) → IfSome o.unspent (λ s. stands.place.spec ≡ s)
+first-told places line o finished e stands out =
+    if-more (λ s. (id : ℕ) (p : Placed) → place_at places id ≡ Some p → p.number ≡ Some o.number → p.spec ≡ s) (λ s. stands.place.spec ≡ s) o.unspent
+    (λ s told. told e.id stands.place stands.there stands.numbered) (All-head (KeepsJob places) o finished out.told)
+
+pub keeps-none : (places : List (Held Placed)) (o : CameOut) → o.unspent ≡ None → KeepsJob places o
+keeps-none places o is = if-none (λ s. (id : ℕ) (p : Placed) → place_at places id ≡ Some p → p.number ≡ Some o.number → p.spec ≡ s) o.unspent is
+
+-- the job of a work that stands in line is the one that it should be
+pub keeps-job : (places : List (Held Placed)) (line : List InLine) (n : ℕ) (e : InLine) → AreLinked places line → line_work_at line n ≡ Some e
+    → is_done_in_line e.stage ≡ false → (stands : StandsInLine places n e) (o : CameOut) → o.number ≡ n → o.unspent ≡ waiting_job e.stage → KeepsJob places o
+keeps-job places line n e linked at unfinished stands o number is =
+    subst (λ u. IfSome u (λ s. (id : ℕ) (p : Placed) → place_at places id ≡ Some p → p.number ≡ Some o.number → p.spec ≡ s)) (sym is)
+    (if-more (λ s. s ≡ stands.place.spec) (λ s. (id : ℕ) (p : Placed) → place_at places id ≡ Some p → p.number ≡ Some o.number → p.spec ≡ s) (waiting_job e.stage)
+    (λ s its id p there its_number. ap (λ (q : Placed). q.spec) (same id p there (its_number ∙ ap (λ k. Some k) number)) ∙ sym its) stands.job)
+  where
+    same : (id : ℕ) (p : Placed) → place_at places id ≡ Some p → p.number ≡ Some n → p ≡ stands.place
+    same id p there its =
+        let named = if-some (λ k. IsNumberOf line id k) p.number n its (linked.named id p there) in
+        let its_id : line_id_at line n ≡ Some id = named.1 (ap is_done_in_line (stage-of line n e at) ∙ unfinished) in
+        let one : id ≡ e.id = same-some id e.id (sym its_id ∙ ap (option_map (λ (x : InLine). x.id)) at) in
+        same-some p stands.place (sym there ∙ ap (place_at places) one ∙ stands.there)
 
 -- what has come out has ended
 pub first-ended : (places : List (Held Placed)) (line : List InLine) (o : CameOut) (finished : List CameOut) → CameOutOnce places line (o ∷ finished)

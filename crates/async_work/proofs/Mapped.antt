@@ -1,12 +1,13 @@
 -- Finite maps whose records are seen as others of the same numbers, and what is counted of a map as it changes.
-use Rattle.std.proofs.Common.{◌≡◌, ◌∙◌, ℕ, ◌+◌, ◌<◌, ◌==◌, nat_lt, Bool, true, false, not, cond, List, [], ◌∷◌, ◌++◌, map, filter, get_or, Option, Some, None, option_map, refl, ap, sym, arith}
+use Rattle.std.proofs.Common.{◌≡◌, ◌∙◌, ℕ, suc, ◌+◌, ◌<◌, ◌==◌, nat_lt, Bool, true, false, not, cond, List, [], ◌∷◌, ◌++◌, length, map, filter, get_or, Option, Some, None, option_map, refl, ap, sym, arith, length-append}
 use Rattle.std.specs.List.{All, count_by}
 use Rattle.std.proofs.lemmas.List.{map-append}
 use Rattle.std.proofs.lemmas.List.Elements.{All-cons, All-nil, All-map}
 use Rattle.std.proofs.lemmas.List.Sums.{sum_by-cons}
-use Rattle.napi_types.specs.plain.Lists.{found, with_record}
+use Rattle.std.proofs.lemmas.Bool.{or_parts}
+use Rattle.napi_types.specs.plain.Lists.{found, has, with_record}
 use Rattle.napi_types.proofs.plain.Found.{IsRising, same-self, same-tells, turned, apart-below, found-first, found-later, found-number, found-same, found-filter, found-changed, found-with_record, rising-filter, rising-changed, rising-with_record}
-use Rattle.napi_types.proofs.plain.Maps.{map-filter, filter_all}
+use Rattle.napi_types.proofs.plain.Maps.{map-filter, filter_all, one-below}
 
 -- EACH RECORD IS SEEN AS ANOTHER
 module _ {A B : Type 0} (key : A → ℕ) (other : B → ℕ) (f : A → B) (keeps : (x : A) → other (f x) ≡ key x) where
@@ -172,3 +173,25 @@ module _ {A : Type 0} (key : A → ℕ) where
           by m false here None is = refl
           by m false here (Some y) is =
               ap (λ b. Some (cond b (c y) y)) (ap (λ k. k == n) (found-number key m xs y is) ∙ here)
+
+  -- how many there are, with one record more
+  parts-whole : (n : ℕ) (xs : List A) → has key n xs ≡ false
+      → length (filter (λ y. nat_lt (key y) n) xs) + length (filter (λ y. nat_lt n (key y)) xs) ≡ length xs
+  parts-whole n [] absent = refl
+  parts-whole n (y ∷ ys) absent =
+      let apart = or_parts (key y == n) (has key n ys) absent in
+      by (nat_lt (key y) n) (nat_lt n (key y)) (one-below (key y) n apart.0) (parts-whole n ys apart.1)
+    where
+      by : (a b : Bool) → a ≡ not b → length (filter (λ z. nat_lt (key z) n) ys) + length (filter (λ z. nat_lt n (key z)) ys) ≡ length ys
+          → length (cond a (y ∷ filter (λ z. nat_lt (key z) n) ys) (filter (λ z. nat_lt (key z) n) ys))
+          + length (cond b (y ∷ filter (λ z. nat_lt n (key z)) ys) (filter (λ z. nat_lt n (key z)) ys)) ≡ suc (length ys)
+      by true true e rest = let no : ⊥ = cc in absurd no
+      by true false e rest = omega (arith, rest)
+      by false true e rest = omega (arith, rest)
+      by false false e rest = let no : ⊥ = cc in absurd no
+
+  pub length-more : (x : A) (xs : List A) → has key (key x) xs ≡ false → length (with_record key x xs) ≡ length xs + 1
+  length-more x xs absent =
+      let parts = parts-whole (key x) xs absent in
+      let both = length-append (filter (λ y. nat_lt (key y) (key x)) xs) (x ∷ filter (λ y. nat_lt (key x) (key y)) xs) in
+      omega (arith, parts, both)

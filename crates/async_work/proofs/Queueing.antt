@@ -1,31 +1,31 @@
 -- The works by their numbers, and those that wait.
-use Rattle.std.proofs.Common.{◌≡◌, ◌∙◌, ℕ, zero, suc, ◌+◌, ◌-◌, ◌<◌, ◌≤◌, ◌==◌, nat_lt, ◌||◌, Bool, true, false, not, cond, List, [], ◌∷◌, ◌++◌, length, filter, set, get_or, Option, Some, None, IsSome, is_some, option_map, refl, ap, sym, arith}
-use Rattle.std.specs.List.{slice_get, cons_option}
+use Rattle.std.proofs.Common.{◌≡◌, ◌∙◌, ℕ, zero, suc, ◌+◌, ◌-◌, ◌<◌, ◌==◌, nat_lt, ◌||◌, Bool, true, false, not, cond, List, [], ◌∷◌, ◌++◌, length, filter, set, Option, Some, None, IsSome, is_some, option_map, slice_index_or, refl, ap, sym, arith}
+use Rattle.std.specs.List.{cons_option}
 use Rattle.std.specs.Option.{option_and_then, option_map_or}
-use Rattle.std.proofs.lemmas.List.{length-set, length-map, map-set, map-append}
-use Rattle.std.proofs.lemmas.Option.{slice_get-get_or}
+use Rattle.std.proofs.lemmas.List.{length-set, map-append}
+use Rattle.std.proofs.lemmas.Option.{get_or_from_slice_get}
 use Rattle.std.proofs.lemmas.Bool.{ltb-true}
 use Rattle.napi_types.specs.declared.call.JobSpec.{JobSpec}
-use Rattle.napi_types.specs.declared.duties.Slip.{Slip}
 use Rattle.napi_types.specs.plain.Lists.{found, has_number, one}
 use Rattle.napi_types.proofs.plain.Found.{IsRising, same-self, same-tells, found-same, found-filter, rising-filter, has-found, turned}
 use Rattle.napi_types.proofs.plain.Maps.{all-among}
-use Rattle.async_work.specs.declared.line.Numbered.{Numbered}
 use Rattle.async_work.specs.declared.line.EndedWork as code
-use Rattle.async_work.specs.declared.line.WorkStage.{WorkStage}
-use Rattle.async_work.specs.declared.line.WorkStage.TheVariants as stage
-use Rattle.async_work.specs.Line.{LineStage, Done, InLine, stage_seen, entry_seen, line_seen, outcome_seen, outcomes_seen, waiting_job, with_stage, line_work_at, line_stage_at, line_id_at, waits, listed_number, waiting_works}
-use Rattle.napi_types.proofs.plain.Counted.{element-set, element-push, element-map, element-past, element-within, listed-push, listed-rising, found-listed}
+use Rattle.async_work.specs.Line.{LineStage, Waits, Runs, Ended, Done, InLine, in_line, outcome_seen, outcomes_seen, waiting_job, is_done_in_line, with_stage, with_stage_at, line_work_at, line_stage_at, line_id_at, waits, listed_number, waiting_works}
+use Rattle.napi_types.proofs.plain.Counted.{element-set, element-push, element-past, listed-push, listed-rising, found-listed}
 use Rattle.async_work.proofs.CountingWorks.{length-without}
 
--- what is read at a place of the line is the work of its number
-pub line_work_at-read : {J : Type 0} (spec : J → JobSpec) (line : List (Numbered J)) (n at : ℕ) (x : Numbered J) → n ≡ at + 1 → at < length line
-    → x ≡ get_or line at x → line_work_at (line_seen spec line) n ≡ Some (entry_seen spec x)
-line_work_at-read spec line zero at x is within here = absurd (omega arith)
-line_work_at-read spec line (suc k) at x is within here =
-    let same : at ≡ k = omega arith in
-    element-map (entry_seen spec) line (suc k) ∙ ap (option_map (entry_seen spec)) (ap (slice_get line) (sym same) ∙ slice_get-get_or line at x within
-    ∙ ap (λ y. Some y) (sym here))
+-- a work in line has its stage, and its id as long as its completion has not begun
+pub stage-in_line : (id : ℕ) (s : LineStage) → (in_line id s).stage ≡ s
+stage-in_line id (Waits job) = refl
+stage-in_line id (Runs w) = refl
+stage-in_line id Ended = refl
+stage-in_line id Done = refl
+
+pub id-in_line : (id : ℕ) (s : LineStage) → is_done_in_line s ≡ false → (in_line id s).id ≡ id
+id-in_line id (Waits job) unfinished = refl
+id-in_line id (Runs w) unfinished = refl
+id-in_line id Ended unfinished = refl
+id-in_line id Done unfinished = let no : ⊥ = cc in absurd no
 
 -- the line is the same but for how far the work of one number has come
 pub record Restaged (line others : List InLine) (n : ℕ) (e : InLine) (s : LineStage) : Type 0 where
@@ -33,7 +33,8 @@ pub record Restaged (line others : List InLine) (n : ℕ) (e : InLine) (s : Line
   pub at : (m : ℕ) → line_work_at others m ≡ cond (n == m) (Some (with_stage s e)) (line_work_at line m)
   pub long : length others ≡ length line
 
-pub restaged : (line : List InLine) (n : ℕ) (e : InLine) (s : LineStage) → line_work_at line n ≡ Some e → Restaged line (set line (n - 1) (with_stage s e)) n e s
+pub restaged : (line : List InLine) (n : ℕ) (e : InLine) (s : LineStage) → line_work_at line n ≡ Some e
+    → Restaged line (set line (n - 1) (with_stage s e)) n e s
 restaged line n e s there = record { there = there; at = element-set line n e (with_stage s e) there; long = length-set line (n - 1) (with_stage s e) }
 
 module _ (line others : List InLine) (n : ℕ) (e : InLine) (s : LineStage) (change : Restaged line others n e s) where
@@ -41,15 +42,20 @@ module _ (line others : List InLine) (n : ℕ) (e : InLine) (s : LineStage) (cha
   stage-restaged {B} f m = ap (λ o. f (option_map_or (λ (x : InLine). x.stage) o Done)) (change.at m) ∙ by (n == m)
     where
       by : (b : Bool) → f (option_map_or (λ (x : InLine). x.stage) (cond b (Some (with_stage s e)) (line_work_at line m)) Done) ≡ cond b (f s) (f (line_stage_at line m))
-      by true = refl
+      by true = ap f (stage-in_line e.id s)
       by false = refl
 
-  pub id-restaged : (m : ℕ) → line_id_at others m ≡ line_id_at line m
-  id-restaged m = ap (option_map (λ (x : InLine). x.id)) (change.at m) ∙ by (n == m) refl
+  pub id-restaged : is_done_in_line s ≡ false → (m : ℕ) → line_id_at others m ≡ line_id_at line m
+  id-restaged unfinished m = ap (option_map (λ (x : InLine). x.id)) (change.at m) ∙ by (n == m) refl
     where
       by : (b : Bool) → (n == m) ≡ b → option_map (λ (x : InLine). x.id) (cond b (Some (with_stage s e)) (line_work_at line m)) ≡ line_id_at line m
-      by true same = sym (ap (λ k. line_id_at line k) (sym (same-tells n m same)) ∙ ap (option_map (λ (x : InLine). x.id)) change.there)
+      by true same =
+          ap (λ i. Some i) (id-in_line e.id s unfinished)
+          ∙ sym (ap (λ k. line_id_at line k) (sym (same-tells n m same)) ∙ ap (option_map (λ (x : InLine). x.id)) change.there)
       by false same = refl
+
+  pub id-other : (m : ℕ) → (n == m) ≡ false → line_id_at others m ≡ line_id_at line m
+  id-other m apart = ap (option_map (λ (x : InLine). x.id)) (change.at m ∙ ap (λ b. cond b (Some (with_stage s e)) (line_work_at line m)) apart)
 
   pub stage-before : line_stage_at line n ≡ e.stage
   stage-before = ap (λ o. option_map_or (λ (x : InLine). x.stage) o Done) change.there
@@ -181,77 +187,27 @@ head-first line n ns is = sym (has-waiting line n) ∙ ap (has_number n) is ∙ 
     by true h = refl
     by false h = let no : ⊥ = cc in absurd no
 
+-- a work waits that the pool says to
+pub waits-of : (line : List InLine) (ns : List ℕ) (n : ℕ) → waiting_works line ≡ ns → has_number n ns ≡ true → waits line n ≡ true
+waits-of line ns n are here = sym (has-waiting line n) ∙ ap (has_number n) are ∙ here
+
 -- how many wait where one waits no longer
 pub length-less : (line : List InLine) (n : ℕ) → waits line n ≡ true → length (filter (λ m. not (m == n)) (waiting_works line)) + 1 ≡ length (waiting_works line)
 length-less line n is = length-without (λ m. m) n (waiting_works line) n (rising-waiting line) (found-waiting line n ∙ ap (λ b. cond b (Some n) None) is)
 
--- READING
--- what is read at a place, whatever stands for it past the end
-entry-read : {J : Type 0} (spec : J → JobSpec) (line : List (Numbered J)) (at : ℕ) (d : Numbered J) → at < length line
-    → line_work_at (line_seen spec line) (at + 1) ≡ Some (entry_seen spec (get_or line at d))
-entry-read spec line at d within =
-    let next : at + 1 ≡ suc at = omega arith in
-    rw next (element-map (entry_seen spec) line (suc at) ∙ ap (option_map (entry_seen spec)) (slice_get-get_or line at d within))
+-- the work that stands there comes further
+pub with_stage_at-there : (line : List InLine) (n : ℕ) (s : LineStage) (e : InLine) → line_work_at line n ≡ Some e → with_stage_at n s line ≡ set line (n - 1) (with_stage s e)
+with_stage_at-there line zero s e is = let no : ⊥ = cc in absurd no
+with_stage_at-there line (suc at) s e is =
+    let place : suc at - 1 ≡ at = omega arith in
+    ap (λ k. set line (suc at - 1) (with_stage s (slice_index_or line k (in_line 0 Done)))) place
+    ∙ ap (λ x. set line (suc at - 1) (with_stage s x)) (get_or_from_slice_get line at e (in_line 0 Done) is)
 
-pub stage-read : {J : Type 0} (spec : J → JobSpec) (line : List (Numbered J)) (at : ℕ) (d : Numbered J) (s : WorkStage J) → at < length line
-    → (get_or line at d).stage ≡ s → line_stage_at (line_seen spec line) (at + 1) ≡ stage_seen spec s
-stage-read spec line at d s within is = ap (λ o. option_map_or (λ (x : InLine). x.stage) o Done) (entry-read spec line at d within) ∙ ap (stage_seen spec) is
-
-pub queued-read : {J : Type 0} (spec : J → JobSpec) (line : List (Numbered J)) (at : ℕ) (d : Numbered J) (job : J) (slip : Slip) → at < length line
-    → (get_or line at d).stage ≡ stage.Queued job slip
-    → waits (line_seen spec line) (at + 1) ≡ true
-queued-read spec line at d job slip within is = ap (λ s. is_some (waiting_job s)) (stage-read spec line at d (stage.Queued job slip) within is)
-
-pub unqueued-read : {J : Type 0} (spec : J → JobSpec) (line : List (Numbered J)) (at : ℕ) (d : Numbered J) → at < length line → ((job : J) (slip : Slip)
-    → (get_or line at d).stage ≡ stage.Queued job slip → ⊥)
-    → waits (line_seen spec line) (at + 1) ≡ false
-unqueued-read {J} spec line at d within other = ap (λ s. is_some (waiting_job s)) (stage-read spec line at d (get_or line at d).stage within refl)
-    ∙ by (get_or line at d).stage other
-  where
-    by : (s : WorkStage J) → ((job : J) (slip : Slip) → s ≡ stage.Queued job slip → ⊥) → is_some (waiting_job (stage_seen spec s)) ≡ false
-    by (stage.Queued job slip) never = absurd (never job slip refl)
-    by (stage.Running w slip) never = refl
-    by stage.Finished never = refl
-    by stage.Completed never = refl
-
--- the work that is read at the place of a number is the one of that number
-pub read-at : {J : Type 0} (spec : J → JobSpec) (line : List (Numbered J)) (n : ℕ) (x : Numbered J) (e : InLine)
-    → line_work_at (line_seen spec line) n ≡ Some e → x ≡ get_or line (n - 1) x → line_work_at (line_seen spec line) n ≡ Some (entry_seen spec x)
-read-at spec line n x e is here =
-    let within = element-within (line_seen spec line) n e is in
-    line_work_at-read spec line n (n - 1) x (omega (arith, within.0)) (omega (arith, within.0, within.1, length-map line (entry_seen spec))) here
-
-pub bounds-at : {J : Type 0} (spec : J → JobSpec) (line : List (Numbered J)) (n : ℕ) (e : InLine) → line_work_at (line_seen spec line) n ≡ Some e
-    → (1 ≤ n) × (n ≤ length line)
-bounds-at spec line n e is = let within = element-within (line_seen spec line) n e is in (within.0, omega (arith, within.1, length-map line (entry_seen spec)))
-
--- it comes further
-pub line-set : {J : Type 0} (spec : J → JobSpec) (line : List (Numbered J)) (at : ℕ) (x old : Numbered J) (s : LineStage)
-    → entry_seen spec x ≡ with_stage s (entry_seen spec old)
-    → line_seen spec (set line at x) ≡ set (line_seen spec line) at (with_stage s (entry_seen spec old))
-line-set spec line at x old s is = map-set (entry_seen spec) line at x ∙ ap (set (line_seen spec line) at) is
+-- the work of which this is known
+pub some-is : {A : Type 0} (o : Option A) (x : A) → o ≡ Some x → IsSome o
+some-is None x is = let no : ⊥ = cc in absurd no
+some-is (Some y) x is = refl
 
 pub outcomes-push : {J : Type 0} (spec : J → JobSpec) (outcomes others : List (code.EndedWork J)) (o : code.EndedWork J) → others ≡ outcomes ++ o ∷ []
     → outcomes_seen spec others ≡ outcomes_seen spec outcomes ++ outcome_seen spec o ∷ []
 outcomes-push spec outcomes others o is = ap (outcomes_seen spec) is ∙ map-append (outcome_seen spec) outcomes (o ∷ [])
-
--- a work that waits, as it is read
-pub record IsWaiting {J : Type 0} (spec : J → JobSpec) (line : List (Numbered J)) (n : ℕ) (x : Numbered J) : Type 0 where
-  pub job : JobSpec
-  pub there : line_work_at (line_seen spec line) n ≡ Some (entry_seen spec x)
-  pub waits_for : waiting_job (entry_seen spec x).stage ≡ Some job
-
-pub waits-read : {J : Type 0} (spec : J → JobSpec) (line : List (Numbered J)) (n : ℕ) (x : Numbered J) → waits (line_seen spec line) n ≡ true
-    → x ≡ get_or line (n - 1) x → IsWaiting spec line n x
-waits-read spec line n x is here =
-    let e = waits-within (line_seen spec line) n is in
-    let there : line_work_at (line_seen spec line) n ≡ Some (entry_seen spec x) = read-at spec line n x e.0 e.2 here in
-    let same : e.0 ≡ entry_seen spec x = one-entry e.0 (entry_seen spec x) (sym e.2 ∙ there) in
-    record { job = e.1; there = there; waits_for = ap (λ (y : InLine). waiting_job y.stage) (sym same) ∙ e.3 }
-  where
-    one-entry : (a b : InLine) → Some a ≡ Some b → a ≡ b
-    one-entry a b h = cc
-
-pub some-is : {A : Type 0} (o : Option A) (x : A) → o ≡ Some x → IsSome o
-some-is None x is = let no : ⊥ = cc in absurd no
-some-is (Some y) x is = refl

@@ -12,7 +12,7 @@ use Rattle.napi_types.specs.parts.Works.{Work, WorkState, Created, Queued, Runni
 use Rattle.napi_types.proofs.plain.Found.{IsRising}
 use Rattle.async_work.specs.WorkPlaces.{Placed, place_at, work_of}
 use Rattle.async_work.specs.Line.{LineStage, Waits, Runs, Ended, Done, InLine, CameOut, outcome_of, outcome_status, waiting_job, runner, has_ended, is_done_in_line, stage_state, line_work_at, line_stage_at, line_id_at, waits, ended_at}
-use Rattle.async_work.specs.KeptPool.{pool_of, StandsInLine, IsKeptPool}
+use Rattle.async_work.specs.KeptPool.{pool_of, StandsInLine, IsNumberOf, IsKeptPool}
 use Rattle.async_work.specs.declared.pool.WorkProgress.{WorkProgress}
 use Rattle.async_work.specs.declared.pool.WorkProgress.TheVariants as state
 use Rattle.async_work.specs.Picking.{unspent_spec}
@@ -21,7 +21,7 @@ use Rattle.async_work.proofs.CountingWorks.{any-counted}
 use Rattle.async_work.proofs.Ids.{found-works, numbered-work}
 use Rattle.async_work.proofs.Queueing.{has-waiting}
 use Rattle.async_work.proofs.PoolExecutions.{has-work}
-use Rattle.async_work.proofs.Linking.{if-some, same-some}
+use Rattle.async_work.proofs.Linking.{if-some, same-some, stage-of}
 
 -- a call on the work of an id, by how far it has come
 abbrev pub refused : (WorkState → Bool) → Option WorkState → Option Status
@@ -41,8 +41,8 @@ has-outcome [] n = refl
 has-outcome (o ∷ os) n = ap (λ b. (o.number == n) || b) (has-outcome os n)
 
 module _ (places : List (Held Placed)) (issued : List ℕ) (line : List InLine) (finished : List CameOut) (first created queued running : ℕ) (closing : Bool)
-    (line_places finished_places : ℕ)
-    (kept : IsKeptPool places issued line finished first created queued running closing line_places finished_places) where
+    (spare finished_places : ℕ)
+    (kept : IsKeptPool places issued line finished first created queued running closing spare finished_places) where
   abbrev pool : WorkPool
   pool = pool_of places issued line finished closing
 
@@ -88,26 +88,15 @@ module _ (places : List (Held Placed)) (issued : List ℕ) (line : List InLine) 
       by (Some p) = refl
 
   -- the work of a number stands at the place of its id
-  pub numbered-at : (n : ℕ) (e : InLine) → IsRising (λ h. h.number) places → line_work_at line n ≡ Some e → (stands : StandsInLine places n e)
-      → work_numbered pool n ≡ Some (work_of e.id stands.place)
-  numbered-at n e rises at stands = numbered-work places e.id n stands.place rises stands.there stands.numbered only
+  pub numbered-at : (n : ℕ) (e : InLine) → IsRising (λ h. h.number) places → line_work_at line n ≡ Some e → is_done_in_line e.stage ≡ false
+      → (stands : StandsInLine places n e) → work_numbered pool n ≡ Some (work_of e.id stands.place)
+  numbered-at n e rises at unfinished stands = numbered-work places e.id n stands.place rises stands.there stands.numbered only
     where
       only : (m : ℕ) (q : Placed) → place_at places m ≡ Some q → q.number ≡ Some n → m ≡ e.id
       only m q there is =
-          let named : line_id_at line n ≡ Some m = if-some (λ k. line_id_at line k ≡ Some m) q.number n is (kept.linked.named m q there) in
+          let number = if-some (λ k. IsNumberOf line m k) q.number n is (kept.linked.named m q there) in
+          let named : line_id_at line n ≡ Some m = number.1 (ap is_done_in_line (stage-of line n e at) ∙ unfinished) in
           same-some m e.id (sym named ∙ ap (option_map (λ (x : InLine). x.id)) at)
-
-  -- what a place has by how far its work has come
-  pub has-number : (id : ℕ) (p : Placed) → place_at places id ≡ Some p → IfSome p.number (λ n. is_some (line_work_at line n) ≡ true)
-  has-number id p at = by p.number (kept.linked.named id p at)
-    where
-      by : (o : Option ℕ) → IfSome o (λ n. line_id_at line n ≡ Some id) → IfSome o (λ n. is_some (line_work_at line n) ≡ true)
-      by None is = tt
-      by (Some n) is = entry (line_work_at line n) is
-        where
-          entry : (x : Option InLine) → option_map (λ (e : InLine). e.id) x ≡ Some id → is_some x ≡ true
-          entry None told = let no : ⊥ = cc in absurd no
-          entry (Some e) told = refl
 
 -- by the state that is told of the place of an id
 module _ (places : List (Held Placed)) (line : List InLine) (id : ℕ) (s : WorkState) (is : Some s ≡ option_map (place_state line) (place_at places id)) where

@@ -48,8 +48,8 @@ view-queued places others issued news line lines finished closing id n spec e pl
     (executions-same line (line ++ e ∷ []) (runner-queued line e spec waits_for)) refl refl)
 
 module _ (places : List (Held Placed)) (issued : List ℕ) (line : List InLine) (finished : List CameOut) (first created queued running : ℕ) (closing : Bool)
-    (line_places finished_places : ℕ)
-    (kept : IsKeptPool places issued line finished first created queued running closing line_places finished_places) (lines : List InLine) (n : ℕ) (e : InLine)
+    (spare finished_places : ℕ)
+    (kept : IsKeptPool places issued line finished first created queued running closing spare finished_places) (lines : List InLine) (n : ℕ) (e : InLine)
     (there : line_work_at line n ≡ Some e) where
   pub view-started : (w : ℕ) (job : JobSpec) (ns : List ℕ) → lines ≡ set line (n - 1) (with_stage (Runs w) e) → waiting_job e.stage ≡ Some job
       → executed_by (pool_of places issued line finished closing) w ≡ None
@@ -58,8 +58,8 @@ module _ (places : List (Held Placed)) (issued : List ℕ) (line : List InLine) 
   view-started w job ns is waits_for free starts rest =
       rw is (same-pool _ _ _ _ _ _ _ _ _ _ _ _ _ _ refl refl (length-set line (n - 1) (with_stage (Runs w) e))
       (waiting-less line (set line (n - 1) (with_stage (Runs w) e)) n
-      (passed-over places issued line finished first created queued running closing line_places finished_places kept lines n e there (Runs w) refl) ∙ rest)
-      (executions-now places issued line finished first created queued running closing line_places finished_places kept lines n e there w job waits_for free) refl refl)
+      (passed-over places issued line finished first created queued running closing spare finished_places kept lines n e there (Runs w) refl) ∙ rest)
+      (executions-now places issued line finished first created queued running closing spare finished_places kept lines n e there w job waits_for free) refl refl)
       ∙ ap (λ q. started_from q w (pool_of places issued line finished closing)) (sym starts)
 
   pub view-cancelled : (outcomes : List CameOut) (o : CameOut) (job : JobSpec) → lines ≡ set line (n - 1) (with_stage Ended e)
@@ -68,8 +68,8 @@ module _ (places : List (Held Placed)) (issued : List ℕ) (line : List InLine) 
   view-cancelled outcomes o job is out_is waits_for o_is =
       rw (is, out_is) (same-pool _ _ _ _ _ _ _ _ _ _ _ _ _ _ refl refl (length-set line (n - 1) (with_stage Ended e))
       (waiting-less line (set line (n - 1) (with_stage Ended e)) n
-      (passed-over places issued line finished first created queued running closing line_places finished_places kept lines n e there Ended refl))
-      (executions-still places issued line finished first created queued running closing line_places finished_places kept lines n e there Ended refl
+      (passed-over places issued line finished first created queued running closing spare finished_places kept lines n e there Ended refl))
+      (executions-still places issued line finished first created queued running closing spare finished_places kept lines n e there Ended refl
       (only-waits e.stage job waits_for).idle)
       (outcomes-more finished o ∙ ap (λ x. map outcome_of finished ++ one (outcome_of x)) o_is) refl)
 
@@ -79,10 +79,10 @@ module _ (places : List (Held Placed)) (issued : List ℕ) (line : List InLine) 
       → pool_of places issued lines outcomes closing ≡ with_finished w (pool_of places issued line finished closing)
   view-finished outcomes o w is out_is runs runs_here executes o_is =
       rw (is, out_is) (same-pool _ _ _ _ _ _ _ _ _ _ _ _ _ _ refl refl (length-set line (n - 1) (with_stage Ended e))
-      (waiting-still places issued line finished first created queued running closing line_places finished_places kept lines n e there Ended refl
+      (waiting-still places issued line finished first created queued running closing spare finished_places kept lines n e there Ended refl
       (only-runs e.stage w runs).started)
       (executions-finished line (set line (n - 1) (with_stage Ended e)) n w kept.in_line.apart runs_here
-      (fewer-run places issued line finished first created queued running closing line_places finished_places kept lines n e there Ended refl))
+      (fewer-run places issued line finished first created queued running closing spare finished_places kept lines n e there Ended refl))
       (outcomes-more finished o ∙ ap (λ x. map outcome_of finished ++ one (outcome_of x)) o_is) refl)
       ∙ ap (λ x. finished_at w x (pool_of places issued line finished closing)) (sym executes)
 
@@ -91,5 +91,5 @@ module _ (places : List (Held Placed)) (issued : List ℕ) (line : List InLine) 
       → pool_of places issued lines outcomes closing ≡ with_completed (pool_of places issued line finished closing)
   view-completed outcomes o is out_is started idle =
       rw (is, out_is) (same-pool _ _ _ _ _ _ _ _ _ _ _ _ _ _ refl refl (length-set line (n - 1) (with_stage Done e))
-      (waiting-still places issued line finished first created queued running closing line_places finished_places kept lines n e there Done refl started)
-      (executions-still places issued line finished first created queued running closing line_places finished_places kept lines n e there Done refl idle) refl refl)
+      (waiting-still places issued line finished first created queued running closing spare finished_places kept lines n e there Done refl started)
+      (executions-still places issued line finished first created queued running closing spare finished_places kept lines n e there Done refl idle) refl refl)

@@ -1,15 +1,12 @@
 -- How the places, the line and the list of what came out stand for the pool, and what holds of them.
-use Rattle.std.specs.Prelude.{◌≡◌, ℕ, ◌+◌, ◌≤◌, ◌==◌, Bool, true, false, cond, List, [], map, length, count_by, Option, Some, None, IfSome, option_map}
+use Rattle.std.specs.Prelude.{◌≡◌, ℕ, ◌+◌, ◌<◌, ◌≤◌, ◌^◌, ◌==◌, Bool, true, false, cond, List, [], map, length, count_by, Some, None, IfSome}
 use Rattle.std.specs.List.{All}
-use Rattle.std.specs.Option.{option_and_then}
 use Rattle.generation_slab.specs.HeldPlaces.{Held}
-use Rattle.napi_types.specs.declared.call.JobSpec.{JobSpec}
 use Rattle.napi_types.specs.plain.Lists.{has_number}
 use Rattle.napi_types.specs.parts.Pool.{WorkPool}
 use Rattle.async_work.specs.WorkPlaces.{Placed, place_at, is_unqueued, works_of}
-use Rattle.async_work.specs.Line.{InLine, CameOut, outcome_of, is_done_in_line, waiting_job, line_work_at, line_id_at, waits, runner_at, ended_at, waiting_works, executions}
+use Rattle.async_work.specs.Line.{InLine, CameOut, outcome_of, is_done_in_line, waiting_job, line_work_at, line_stage_at, line_id_at, waits, runner_at, ended_at, waiting_works, executions}
 
--- the work of the number n stands at place n - 1 of the line
 abbrev pub pool_of : List (Held Placed) → List ℕ → List InLine → List CameOut → Bool → WorkPool
 pool_of places issued line finished closing = record {
   works = works_of places;
@@ -28,23 +25,23 @@ pub record StandsInLine (places : List (Held Placed)) (n : ℕ) (e : InLine) : T
   pub numbered : place.number ≡ Some n
   pub job : IfSome (waiting_job e.stage) (λ s. s ≡ place.spec)
 
--- what the work of a number computes
-abbrev pub spec_at : List (Held Placed) → List InLine → ℕ → Option JobSpec
-spec_at places line n = option_map (λ (p : Placed). p.spec) (option_and_then (place_at places) (line_id_at line n))
-
 -- a job that did not run computes what its work was to compute
-abbrev pub KeepsJob : List (Held Placed) → List InLine → CameOut → Type 0
-KeepsJob places line o = IfSome o.unspent (λ s. spec_at places line o.number ≡ Some s)
+abbrev pub KeepsJob : List (Held Placed) → CameOut → Type 0
+KeepsJob places o = IfSome o.unspent (λ s. (id : ℕ) (p : Placed) → place_at places id ≡ Some p → p.number ≡ Some o.number → p.spec ≡ s)
+
+-- a number is that of a work in line, which has this id as long as its completion has not begun
+abbrev pub IsNumberOf : List InLine → ℕ → ℕ → Type 0
+IsNumberOf line id n = (n ≤ length line) × (is_done_in_line (line_stage_at line n) ≡ false → line_id_at line n ≡ Some id)
 
 -- places and line name each other
 pub record AreLinked (places : List (Held Placed)) (line : List InLine) : Type 0 where
-  pub named : (id : ℕ) (p : Placed) → place_at places id ≡ Some p → IfSome p.number (λ n. line_id_at line n ≡ Some id)
+  pub named : (id : ℕ) (p : Placed) → place_at places id ≡ Some p → IfSome p.number (λ n. IsNumberOf line id n)
   pub held : (id : ℕ) (p : Placed) → place_at places id ≡ Some p → p.number ≡ None → p.job ≡ Some p.spec
   pub placed : (n : ℕ) (e : InLine) → line_work_at line n ≡ Some e → is_done_in_line e.stage ≡ false → StandsInLine places n e
 
 -- the id of each work was issued
-abbrev pub AreIssued : List (Held Placed) → List ℕ → Type 0
-AreIssued places issued = (id : ℕ) (p : Placed) → place_at places id ≡ Some p → has_number id issued ≡ true
+abbrev pub HaveIssuedIds : List (Held Placed) → List ℕ → Type 0
+HaveIssuedIds places issued = (id : ℕ) (p : Placed) → place_at places id ≡ Some p → has_number id issued ≡ true
 
 -- no worker executes two works, and none of the first works of the line waits
 pub record IsLine (line : List InLine) (first : ℕ) : Type 0 where
@@ -55,22 +52,24 @@ pub record IsLine (line : List InLine) (first : ℕ) : Type 0 where
 -- each work that has ended came out once, with the job that it should have
 pub record CameOutOnce (places : List (Held Placed)) (line : List InLine) (finished : List CameOut) : Type 0 where
   pub once : (n : ℕ) → count_by (λ o. o.number == n) finished ≡ cond (ended_at line n) 1 0
-  pub told : All (KeepsJob places line) finished
+  pub told : All (KeepsJob places) finished
 
 -- the counts, and there is room in the line for each work that is not in it, and among those that came out for each that has not come out
-pub record PoolHasRoom (places : List (Held Placed)) (line : List InLine) (finished : List CameOut)
-    (created queued running line_places finished_places : ℕ) : Type 0 where
+pub record PoolHasRoom (places : List (Held Placed)) (issued : List ℕ) (line : List InLine) (finished : List CameOut)
+    (created queued running spare finished_places : ℕ) : Type 0 where
   pub created_are : created ≡ count_by is_unqueued places
   pub queued_are : queued ≡ length (waiting_works line)
   pub running_are : running ≡ length (executions line)
-  pub line_room : length line + created ≤ line_places
+  pub numbers : length line + created ≤ length issued
+  pub few : length issued + 1 < 2 ^ 48
+  pub line_room : created ≤ spare
   pub finished_room : length finished + created + queued + running ≤ finished_places
 
 pub record IsKeptPool (places : List (Held Placed)) (issued : List ℕ) (line : List InLine) (finished : List CameOut) (first created queued running : ℕ)
-    (closing : Bool) (line_places finished_places : ℕ) : Type 0 where
-  pub known : AreIssued places issued
+    (closing : Bool) (spare finished_places : ℕ) : Type 0 where
+  pub known : HaveIssuedIds places issued
   pub linked : AreLinked places line
   pub in_line : IsLine line first
   pub came_out : CameOutOnce places line finished
-  pub room : PoolHasRoom places line finished created queued running line_places finished_places
+  pub room : PoolHasRoom places issued line finished created queued running spare finished_places
   pub shut : closing ≡ true → waiting_works line ≡ []

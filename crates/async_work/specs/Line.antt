@@ -1,5 +1,5 @@
 -- The works that were queued, by their numbers. A job is seen as what it computes.
-use Rattle.std.specs.Prelude.{ℕ, Bool, true, false, List, map, Option, Some, None, is_some, option_map}
+use Rattle.std.specs.Prelude.{ℕ, zero, suc, ◌-◌, Bool, true, false, List, ◌∷◌, map, Option, Some, None, is_some, option_map, slice_index_or, slice_set}
 use Rattle.std.specs.Option.{option_map_or}
 use Rattle.napi_types.specs.declared.call.JobSpec.{JobSpec}
 use Rattle.napi_types.specs.declared.status.Status.{Status}
@@ -21,10 +21,25 @@ pub data LineStage : Type 0 where
   Ended : LineStage
   Done : LineStage
 
--- the id of a work, and how far it has come
+-- the id of a work, 0 once its completion has begun, and how far it has come
 pub record InLine : Type 0 where
   pub id : ℕ
   pub stage : LineStage
+
+-- all works that were queued, each at the place of its number less one, and for how many more there is room
+pub record WorksInLine : Type 0 where
+  pub works : List InLine
+  pub room : ℕ
+
+-- a work of this id that has come so far
+abbrev pub in_line : ℕ → LineStage → InLine
+in_line id Done = record { id = 0; stage = Done }
+in_line id s = record { id = id; stage = s }
+
+-- a line behind so many works whose completion has begun
+abbrev pub behind : ℕ → List InLine → List InLine
+behind zero line = line
+behind (suc n) line = in_line 0 Done ∷ behind n line
 
 -- a work that came out: its number, what its job computes, where that did not run, and its value
 pub record CameOut : Type 0 where
@@ -40,10 +55,11 @@ module _ {J : Type 0} (spec : J → JobSpec) where
   stage_seen stage.Completed = Done
 
   abbrev pub entry_seen : Numbered J → InLine
-  entry_seen n = record { id = n.id; stage = stage_seen n.stage }
+  entry_seen n = in_line n.id (stage_seen n.stage)
 
-  abbrev pub line_seen : List (Numbered J) → List InLine
-  line_seen line = map entry_seen line
+  -- where so many works in front are no longer kept
+  abbrev pub line_seen : ℕ → List (Numbered J) → List InLine
+  line_seen dropped line = behind dropped (map entry_seen line)
 
   abbrev pub ending_job : Ending J → Option JobSpec
   ending_job (ending.Ran value) = None
@@ -97,7 +113,7 @@ stage_state Ended = Finished
 stage_state Done = Completed
 
 abbrev pub with_stage : LineStage → InLine → InLine
-with_stage s e = record e { stage = s }
+with_stage s e = in_line e.id s
 
 -- THE LINE
 -- the work of a number
@@ -109,6 +125,10 @@ line_stage_at line n = option_map_or (λ (e : InLine). e.stage) (line_work_at li
 
 abbrev pub line_id_at : List InLine → ℕ → Option ℕ
 line_id_at line n = option_map (λ (e : InLine). e.id) (line_work_at line n)
+
+-- the work of a number has come so far
+abbrev pub with_stage_at : ℕ → LineStage → List InLine → List InLine
+with_stage_at n s line = slice_set line (n - 1) (with_stage s (slice_index_or line (n - 1) (in_line 0 Done)))
 
 -- it waits for a worker
 abbrev pub waits : List InLine → ℕ → Bool

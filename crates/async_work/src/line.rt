@@ -1,10 +1,17 @@
-//! The works that were queued, each at the place of its number.
-ghost use Rattle.std.specs.Prelude.{◌≡◌, ℕ, ◌+◌, ◌<◌, ◌≤◌, true, false, IsSome, None, Some, length};
-ghost use Rattle.async_work.specs.Line.{line_seen, entry_seen, waiting_job, runner, with_stage, waits, Runs, Ended, Done};
+//! The works that were queued, each under its number in the order of queueing. Contracts see all of them (`specs/Line.antt`); those in front whose
+//! completion has begun are no longer kept.
+ghost use Rattle.std.specs.Prelude.{◌≡◌, ℕ, ◌+◌, ◌++◌, ◌<◌, ◌^◌, ◌≤◌, true, false, [], IsSome, Some, OnOk, length};
+ghost use Rattle.std.specs.Option.{is_some, option_map_or};
+ghost use Rattle.std.specs.VecDeque.{deque_capacity, deque_len};
+ghost use Rattle.napi_types.specs.plain.Lists.{one};
+ghost use Rattle.async_work.specs.Line.{line_seen, stage_seen, line_stage_at, line_id_at, waiting_job, runner, has_ended, is_done_in_line, with_stage_at, waits, Waits, Runs, Ended, Done};
 ghost use Rattle.async_work.specs.Line.{outcome_seen, ran_outcome, unstarted_outcome};
 
 use crate::Job;
-use napi_types::{Slip, Status};
+use napi_types::{NoMemory, Slip, Status};
+use std::alloc::Global;
+use std::collections::VecDeque;
+use std::marker::Model;
 use std::mem;
 
 /// How far a work that was queued has come. Until a worker starts it its job is here. The memory for the line that its completion will be in a list
@@ -21,8 +28,8 @@ pub(crate) enum WorkStage<J> {
 /// A work that was queued.
 #[derive(Drop)]
 pub(crate) struct Numbered<J> {
-    pub(crate) id: u64,
-    pub(crate) stage: WorkStage<J>,
+    id: u64,
+    stage: WorkStage<J>,
 }
 
 /// How a work came out.
@@ -42,26 +49,178 @@ pub(crate) struct EndedWork<J> {
     pub(crate) ending: Ending<J>,
 }
 
-/// The first place from this one on whose work is queued, the length of the line where none is.
-pub(crate) fn next_queued<J: Job>(line: &[Numbered<J>], from: usize) -> usize
-    requires { from ≤ length line.now }
-    ensures within { (from ≤ result) × (result ≤ length line.now) }
-    ensures passed { (n : ℕ) → from < n → n ≤ result → waits (line_seen J.spec line.now) n ≡ false }
-    ensures queued { result < length line.now → waits (line_seen J.spec line.now) (result + 1) ≡ true }
+/// The works that were queued, in their order. Their numbers count from 1.
+#[derive(Drop)]
+pub(crate) struct WorkLine<J: Job> {
+    // The work with the number n stands at n - 1 - dropped.
+    works: VecDeque<Numbered<J>>,
+    // How many works are no longer kept: those in front whose completion has begun.
+    dropped: u64,
+}
+
+impl<J: Job> Model for WorkLine<J> {
+    ghost use Rattle.async_work.specs.Line.{WorksInLine};
+
+    ghost Value = { WorksInLine };
+
+    ghost use Rattle.std.specs.Prelude.{◌+◌, ◌-◌, ◌<◌, ◌^◌, length};
+    ghost use Rattle.std.specs.VecDeque.{deque_capacity, deque_len};
+    ghost use Rattle.async_work.specs.Line.{line_seen};
+
+    ghost view = { λ line.
+        record { works = line_seen J.spec line.dropped line.works.items; room = deque_capacity line.works - deque_len line.works } };
+
+    ghost invariant = { λ line. line.dropped + length line.works.items + 1 < 2 ^ 64 };
+}
+
+impl<J: Job> WorkLine<J> {
+    /// No works. It takes no memory.
+    pub(crate) fn new(alloc: Global) -> WorkLine<J>
+        ensures { result.works ≡ [] }
+    {
+        WorkLine {
+            works: VecDeque::new(alloc),
+            dropped: 0,
+        }
+    }
+
+    /// Takes the memory for so many works more.
+    pub(crate) fn reserve(&mut self, more: usize) -> Result<(), NoMemory>
+        ensures works { self.new.works ≡ self.old.works }
+        ensures room { OnOk result (more ≤ self.new.room) }
+        ensures kept { self.old.room ≤ self.new.room }
+    {
+        self.works.reserve(more)?;
+        Ok(())
+    }
+
+    /// How many works were queued.
+    pub(crate) fn len(&self) -> u64
+        ensures { result ≡ length self.now.works }
+    {
+        self.dropped + self.works.len() as u64
+    }
+
+    /// A work is queued, behind all others. Its number.
+    pub(crate) fn push(&mut self, id: u64, job: J, slip: Slip) -> u64
+        requires room { 0 < self.old.room }
+        requires few { length self.old.works + 2 < 2 ^ 64 }
+        ensures number { result ≡ length self.old.works + 1 }
+        ensures longer { self.new.works ≡ self.old.works ++ one (record { id = id; stage = Waits (J.spec job) }) }
+        ensures room { self.new.room + 1 ≡ self.old.room }
+    {
+        let number = self.dropped + self.works.len() as u64 + 1;
+        self.works.push_back_reserved(Numbered {
+            id,
+            stage: WorkStage::Queued(job, slip),
+        });
+        number
+    }
+
+    /// How far the work of a number has come. `None` where its completion has begun and it is no longer kept.
+    pub(crate) fn stage(&self, number: u64) -> Option<&WorkStage<J>>
+        ensures { option_map_or (λ s. stage_seen J.spec s.now) result Done ≡ line_stage_at self.now.works number }
+    {
+        let place = number.checked_sub(self.dropped + 1)?;
+        Some(&self.works.get(place as usize)?.stage)
+    }
+
+    /// How many works were queued before the first one behind these that is queued: how many there are, where none is.
+    pub(crate) fn next_queued(&self, from: u64) -> u64
+        requires { from ≤ length self.now.works }
+        ensures within { (from ≤ result) × (result ≤ length self.now.works) }
+        ensures passed { (n : ℕ) → from < n → n ≤ result → waits self.now.works n ≡ false }
+        ensures queued { result < length self.now.works → waits self.now.works (result + 1) ≡ true }
+    {
+        let first = from.saturating_sub(self.dropped) as usize;
+        let place = next_queued(&self.works, first);
+        self.dropped + place as u64
+    }
+
+    /// A work that is queued runs, and gives its job away.
+    pub(crate) fn start(&mut self, number: u64, worker: u32) -> J
+        requires { IsSome (waiting_job (line_stage_at self.old.works number)) }
+        ensures job { waiting_job (line_stage_at self.old.works number) ≡ Some (J.spec result) }
+        ensures started { self.new.works ≡ with_stage_at number (Runs worker) self.old.works }
+        ensures room { self.new.room ≡ self.old.room }
+    {
+        start(
+            &mut self.works[(number - 1 - self.dropped) as usize],
+            worker,
+        )
+    }
+
+    /// A work that runs came out, with this value.
+    pub(crate) fn finish(&mut self, number: u64, value: u64) -> EndedWork<J>
+        requires { IsSome (runner (line_stage_at self.old.works number)) }
+        ensures outcome { outcome_seen J.spec result ≡ ran_outcome number value }
+        ensures finished { self.new.works ≡ with_stage_at number Ended self.old.works }
+        ensures room { self.new.room ≡ self.old.room }
+    {
+        finish(
+            &mut self.works[(number - 1 - self.dropped) as usize],
+            number,
+            value,
+        )
+    }
+
+    /// A work that is queued is cancelled.
+    pub(crate) fn cancel(&mut self, number: u64) -> EndedWork<J>
+        requires { IsSome (waiting_job (line_stage_at self.old.works number)) }
+        ensures outcome { outcome_seen J.spec result ≡ unstarted_outcome number (waiting_job (line_stage_at self.old.works number)) }
+        ensures finished { self.new.works ≡ with_stage_at number Ended self.old.works }
+        ensures room { self.new.room ≡ self.old.room }
+    {
+        cancel(
+            &mut self.works[(number - 1 - self.dropped) as usize],
+            number,
+        )
+    }
+
+    /// The completion of a work that has ended begins. The id of the work.
+    ///
+    /// Constant time over all works: it drops those in front whose completion has begun.
+    pub(crate) fn complete(&mut self, number: u64) -> u64
+        requires { has_ended (line_stage_at self.old.works number) ≡ true }
+        ensures id { line_id_at self.old.works number ≡ Some result }
+        ensures completed { self.new.works ≡ with_stage_at number Done self.old.works }
+        ensures room { self.old.room ≤ self.new.room }
+    {
+        let id = complete(&mut self.works[(number - 1 - self.dropped) as usize]);
+        let dropped = drop_completed(&mut self.works, self.dropped);
+        self.dropped = dropped;
+        id
+    }
+}
+
+/// The first place from this one on whose work is queued, how many places there are where none is.
+fn next_queued<J: Job>(works: &VecDeque<Numbered<J>>, from: usize) -> usize
+    requires { from ≤ length works.now.items }
+    ensures within { (from ≤ result) × (result ≤ length works.now.items) }
+    ensures passed { (n : ℕ) → from < n → n ≤ result → waits (line_seen J.spec 0 works.now.items) n ≡ false }
+    ensures queued { result < length works.now.items → waits (line_seen J.spec 0 works.now.items) (result + 1) ≡ true }
 {
-    for place in from..line.len() {
-        if matches!(line[place].stage, WorkStage::Queued(..)) {
+    for place in from..works.len() {
+        if is_queued(&works[place]) {
             return place;
         }
     }
-    line.len()
+    works.len()
+}
+
+/// Whether a work is queued.
+fn is_queued<J: Job>(numbered: &Numbered<J>) -> bool
+    ensures { result ≡ is_some (waiting_job (stage_seen J.spec numbered.now.stage)) }
+{
+    matches!(numbered.stage, WorkStage::Queued(..))
 }
 
 /// A work that is queued runs, and gives its job away.
-pub(crate) fn start<J: Job>(numbered: &mut Numbered<J>, worker: u32) -> J
-    requires { IsSome (waiting_job (entry_seen J.spec numbered.old).stage) }
-    ensures job { waiting_job (entry_seen J.spec numbered.old).stage ≡ Some (J.spec result) }
-    ensures started { entry_seen J.spec numbered.new ≡ with_stage (Runs worker) (entry_seen J.spec numbered.old) }
+fn start<J: Job>(numbered: &mut Numbered<J>, worker: u32) -> J
+    requires { IsSome (waiting_job (stage_seen J.spec numbered.old.stage)) }
+    ensures job { waiting_job (stage_seen J.spec numbered.old.stage) ≡ Some (J.spec result) }
+    ensures started { stage_seen J.spec numbered.new.stage ≡ Runs worker }
+    ensures same { numbered.new.id ≡ numbered.old.id }
 {
     match mem::replace(&mut numbered.stage, WorkStage::Completed) {
         WorkStage::Queued(job, slip) => {
@@ -73,10 +232,11 @@ pub(crate) fn start<J: Job>(numbered: &mut Numbered<J>, worker: u32) -> J
 }
 
 /// A work that runs came out, with this value.
-pub(crate) fn finish<J: Job>(numbered: &mut Numbered<J>, number: u64, value: u64) -> EndedWork<J>
-    requires { IsSome (runner (entry_seen J.spec numbered.old).stage) }
+fn finish<J: Job>(numbered: &mut Numbered<J>, number: u64, value: u64) -> EndedWork<J>
+    requires { IsSome (runner (stage_seen J.spec numbered.old.stage)) }
     ensures outcome { outcome_seen J.spec result ≡ ran_outcome number value }
-    ensures finished { entry_seen J.spec numbered.new ≡ with_stage Ended (entry_seen J.spec numbered.old) }
+    ensures finished { stage_seen J.spec numbered.new.stage ≡ Ended }
+    ensures same { numbered.new.id ≡ numbered.old.id }
 {
     match mem::replace(&mut numbered.stage, WorkStage::Finished) {
         WorkStage::Running(_, slip) => EndedWork {
@@ -89,10 +249,11 @@ pub(crate) fn finish<J: Job>(numbered: &mut Numbered<J>, number: u64, value: u64
 }
 
 /// A work that is queued is cancelled.
-pub(crate) fn cancel<J: Job>(numbered: &mut Numbered<J>, number: u64) -> EndedWork<J>
-    requires { IsSome (waiting_job (entry_seen J.spec numbered.old).stage) }
-    ensures outcome { outcome_seen J.spec result ≡ unstarted_outcome number (waiting_job (entry_seen J.spec numbered.old).stage) }
-    ensures finished { entry_seen J.spec numbered.new ≡ with_stage Ended (entry_seen J.spec numbered.old) }
+fn cancel<J: Job>(numbered: &mut Numbered<J>, number: u64) -> EndedWork<J>
+    requires { IsSome (waiting_job (stage_seen J.spec numbered.old.stage)) }
+    ensures outcome { outcome_seen J.spec result ≡ unstarted_outcome number (waiting_job (stage_seen J.spec numbered.old.stage)) }
+    ensures finished { stage_seen J.spec numbered.new.stage ≡ Ended }
+    ensures same { numbered.new.id ≡ numbered.old.id }
 {
     match mem::replace(&mut numbered.stage, WorkStage::Finished) {
         WorkStage::Queued(job, slip) => EndedWork {
@@ -105,10 +266,37 @@ pub(crate) fn cancel<J: Job>(numbered: &mut Numbered<J>, number: u64) -> EndedWo
 }
 
 /// The completion of a work begins. The id of the work.
-pub(crate) fn complete<J: Job>(numbered: &mut Numbered<J>) -> u64
-    ensures id { result ≡ (entry_seen J.spec numbered.old).id }
-    ensures completed { entry_seen J.spec numbered.new ≡ with_stage Done (entry_seen J.spec numbered.old) }
+fn complete<J: Job>(numbered: &mut Numbered<J>) -> u64
+    ensures id { result ≡ numbered.old.id }
+    ensures completed { stage_seen J.spec numbered.new.stage ≡ Done }
+    ensures same { numbered.new.id ≡ numbered.old.id }
 {
     numbered.stage = WorkStage::Completed;
     numbered.id
+}
+
+/// Drops the works in front whose completion has begun. How many were dropped in all, where these were before.
+fn drop_completed<J: Job>(works: &mut VecDeque<Numbered<J>>, dropped: u64) -> u64
+    requires { dropped + length works.old.items < 2 ^ 64 }
+    ensures same { line_seen J.spec result works.new.items ≡ line_seen J.spec dropped works.old.items }
+    ensures as_many { result + length works.new.items ≡ dropped + length works.old.items }
+    ensures capacity { deque_capacity works.new ≡ deque_capacity works.old }
+    ensures fewer { length works.new.items ≤ length works.old.items }
+{
+    let mut gone = dropped;
+    while is_completed(works.front()) {
+        works.pop_front();
+        gone += 1;
+    }
+    gone
+}
+
+/// Whether there is a work, and its completion has begun.
+fn is_completed<J: Job>(first: Option<&Numbered<J>>) -> bool
+    ensures { result ≡ option_map_or (λ n. is_done_in_line (stage_seen J.spec n.now.stage)) first.entry false }
+{
+    match first {
+        Some(numbered) => matches!(numbered.stage, WorkStage::Completed),
+        None => false,
+    }
 }

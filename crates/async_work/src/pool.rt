@@ -1,17 +1,17 @@
 //! The pool.
 ghost use Rattle.std.specs.Prelude.{◌≡◌, ◌+◌, ◌<◌, ◌^◌, ◌==◌, ◌&&◌, [], ◌∷◌, true, false, not, cond, length, filter, option_map};
 ghost use Rattle.std.specs.Prelude.{None, Some, IfSome, IfOk, OnOk, OnErr};
-ghost use Rattle.std.specs.Option.{is_none, is_some};
+ghost use Rattle.std.specs.Option.{is_none, is_some, option_map_or};
 ghost use Rattle.std.specs.Result.{result_err};
 ghost use Rattle.napi_types.specs.plain.Lists.{has_number, head, tail, is_empty};
 ghost use Rattle.napi_types.specs.parts.Pool.{new_pool, work_at, work_state, work_refusal, number_of_work, new_number, executed_by, value_of_work, completion_info, first_completion, with_work, without_work, with_queued, with_cancelled, cancelled_at, with_started, with_finished, with_completed, drained};
 ghost use Rattle.napi_types.specs.parts.Works.{is_created, is_queued, is_deletable};
-ghost use Rattle.async_work.specs.Line.{outcome_seen, outcome_status, outcome_of};
+ghost use Rattle.async_work.specs.Line.{outcome_seen, outcome_status, outcome_of, stage_seen, stage_state, Done};
 ghost use Rattle.async_work.specs.Picking.{is_closing, is_nothing, picked_work, finished_info, first_to_start, unspent_spec};
 ghost use Rattle.async_work.specs.WorkPlaces.{place_seen, work_of};
 ghost use Rattle.async_work.specs.WorkStates.{state_seen, state_number};
 
-use crate::line::{self, EndedWork, Ending, Numbered, WorkStage};
+use crate::line::{EndedWork, Ending, WorkLine, WorkStage};
 use crate::place::{self, Standing, WorkPlace};
 use crate::{Job, Ran, Running};
 use generation_slab::GenerationSlab;
@@ -86,10 +86,10 @@ pub enum Picked<J: Job> {
 pub struct Pool<J: Job> {
     // The works that were created and not deleted.
     places: GenerationSlab<WorkPlace<J>>,
-    // The work with the number n stands at n - 1. There is room for each work that was created and not queued.
-    line: Vec<Numbered<J>>,
-    // No work before this place of the line is queued.
-    first: usize,
+    // There is room for each work that was created and not queued.
+    line: WorkLine<J>,
+    // So many works in front of the line do not wait.
+    first: u64,
     // Works that came out and whose completion has not begun, in the order of finishing. There is room for each work that has not come out.
     finished: VecDeque<EndedWork<J>>,
     // How many works were created and not queued.
@@ -101,22 +101,21 @@ pub struct Pool<J: Job> {
 }
 
 impl<J: Job> Model for Pool<J> {
-    ghost use Rattle.std.specs.Prelude.{vec_capacity};
     ghost use Rattle.std.specs.VecDeque.{deque_capacity};
     ghost use Rattle.napi_types.specs.parts.Pool.{WorkPool};
     ghost use Rattle.async_work.specs.KeptPool.{pool_of, IsKeptPool};
-    ghost use Rattle.async_work.specs.Line.{line_seen, outcomes_seen};
+    ghost use Rattle.async_work.specs.Line.{outcomes_seen};
     ghost use Rattle.async_work.specs.WorkPlaces.{places_seen};
 
     ghost Value = { WorkPool };
 
     ghost view = { λ pool.
-        pool_of (places_seen J.spec pool.places) pool.places.issued (line_seen J.spec pool.line.items) (outcomes_seen J.spec pool.finished.items)
+        pool_of (places_seen J.spec pool.places) pool.places.issued pool.line.works (outcomes_seen J.spec pool.finished.items)
         pool.closing };
 
     ghost invariant = { λ pool.
-        IsKeptPool (places_seen J.spec pool.places) pool.places.issued (line_seen J.spec pool.line.items) (outcomes_seen J.spec pool.finished.items)
-        pool.first pool.created pool.queued pool.running pool.closing (vec_capacity pool.line) (deque_capacity pool.finished) };
+        IsKeptPool (places_seen J.spec pool.places) pool.places.issued pool.line.works (outcomes_seen J.spec pool.finished.items)
+        pool.first pool.created pool.queued pool.running pool.closing pool.line.room (deque_capacity pool.finished) };
 }
 
 /// How far a work has come.
@@ -156,7 +155,7 @@ impl<J: Job> Pool<J> {
     {
         Ok(Pool {
             places: GenerationSlab::new(alloc),
-            line: Vec::new(alloc),
+            line: WorkLine::new(alloc),
             first: 0,
             finished: VecDeque::new(alloc),
             created: 0,
@@ -231,12 +230,9 @@ impl<J: Job> Pool<J> {
         let WorkProgress::Created = self.state(id).ok_or(Status::InvalidArg)? else {
             return Err(Status::GenericFailure);
         };
-        let number = self.line.len() as u64 + 1;
+        let number = self.line.len() + 1;
         let (job, slip) = place::give_number(&mut self.places, id.0, number);
-        self.line.push_reserved(Numbered {
-            id: id.0,
-            stage: WorkStage::Queued(job, slip),
-        });
+        self.line.push(id.0, job, slip);
         self.created -= 1;
         self.queued += 1;
         Ok(number)
@@ -276,7 +272,7 @@ impl<J: Job> Pool<J> {
         let Some(number) = self.first_queued() else {
             return Picked::Nothing;
         };
-        let job = line::start(&mut self.line[(number - 1) as usize], worker);
+        let job = self.line.start(number, worker);
         self.queued -= 1;
         self.running += 1;
         Picked::Job(Running::new(number, job))
@@ -291,7 +287,7 @@ impl<J: Job> Pool<J> {
         ensures { self.new ≡ with_finished worker self.old }
     {
         let (number, value) = ran.into_parts();
-        let outcome = line::finish(&mut self.line[(number - 1) as usize], number, value);
+        let outcome = self.line.finish(number, value);
         self.finished.push_back_reserved(outcome);
         self.running -= 1;
     }
@@ -299,7 +295,7 @@ impl<J: Job> Pool<J> {
     /// The completion begins of the work that came out first. `None` exactly where none is finished. Its job is there exactly where it
     /// was cancelled.
     ///
-    /// Constant time. It takes no memory.
+    /// Constant time over all completions: the line lets each work go once. It takes no memory.
     pub fn take_finished(&mut self) -> Option<Finished<J>>
         ensures none { is_none result ≡ is_empty self.old.finished }
         ensures told { option_map finished_info result ≡ first_completion self.old }
@@ -307,7 +303,7 @@ impl<J: Job> Pool<J> {
         ensures taken { self.new ≡ with_completed self.old }
     {
         let outcome = self.finished.pop_front()?;
-        let id = line::complete(&mut self.line[(outcome.number - 1) as usize]);
+        let id = self.line.complete(outcome.number);
         let Some(place) = place::place_of(&self.places, id) else {
             unreachable!()
         };
@@ -373,12 +369,7 @@ impl<J: Job> Pool<J> {
         let Standing::Numbered(number) = place.standing else {
             return Some(WorkProgress::Created);
         };
-        Some(match self.line[(number - 1) as usize].stage {
-            WorkStage::Queued(..) => WorkProgress::Queued(number),
-            WorkStage::Running(..) => WorkProgress::Running,
-            WorkStage::Finished => WorkProgress::Finished,
-            WorkStage::Completed => WorkProgress::Completed,
-        })
+        Some(progress_of(self.line.stage(number), number))
     }
 
     /// The number of the work that was queued first, where one waits.
@@ -388,11 +379,11 @@ impl<J: Job> Pool<J> {
         ensures same { self.new ≡ self.old }
     {
         let end = self.line.len();
-        self.first = line::next_queued(&self.line, self.first);
+        self.first = self.line.next_queued(self.first);
         if self.first == end {
             return None;
         }
-        Some(self.first as u64 + 1)
+        Some(self.first + 1)
     }
 
     /// A work that waits comes out as cancelled.
@@ -400,9 +391,25 @@ impl<J: Job> Pool<J> {
         requires { has_number number self.old.queued ≡ true }
         ensures { self.new ≡ cancelled_at (Some number) self.old }
     {
-        let outcome = line::cancel(&mut self.line[(number - 1) as usize], number);
+        let outcome = self.line.cancel(number);
         self.finished.push_back_reserved(outcome);
         self.queued -= 1;
+    }
+}
+
+/// How far a work of this number has come that is at this stage, or no longer kept in line.
+fn progress_of<J: Job>(stage: Option<&WorkStage<J>>, number: u64) -> WorkProgress
+    ensures state { state_seen result ≡ stage_state (option_map_or (λ s. stage_seen J.spec s.now) stage.entry Done) }
+    ensures number { IfSome (state_number result) (λ n. n ≡ number) }
+{
+    let Some(stage) = stage else {
+        return WorkProgress::Completed;
+    };
+    match stage {
+        WorkStage::Queued(..) => WorkProgress::Queued(number),
+        WorkStage::Running(..) => WorkProgress::Running,
+        WorkStage::Finished => WorkProgress::Finished,
+        WorkStage::Completed => WorkProgress::Completed,
     }
 }
 

@@ -1,57 +1,43 @@
-use Rattle.std.proofs.Common.{◌≡◌, ◌∙◌, true, Some, sym, ap, refl, arith}
+use Rattle.std.proofs.Common.{◌∙◌, Some, ap, refl, arith}
 use Rattle.std.proofs.lemmas.List.{length-map}
-use Rattle.napi_types.specs.plain.Lists.{has_number}
 use Rattle.napi_types.specs.parts.Pool.{WorkPool, cancelled_at}
-use Rattle.async_work.specs.Line.{line_seen, outcome_seen, waits, CameOut, Ended, unstarted_outcome}
+use Rattle.async_work.specs.Line.{outcome_seen, waiting_job, CameOut, Ended, unstarted_outcome}
 use Rattle.async_work.proofs.KeepingPools.{kept-cancelled, room-to-cancel}
-use Rattle.async_work.proofs.Queueing.{has-waiting, waits-within, bounds-at, line-set, outcomes-push, waits-read, IsWaiting, some-is}
+use Rattle.async_work.proofs.Linking.{stage-of}
+use Rattle.async_work.proofs.Queueing.{waits-of, waits-within, outcomes-push, with_stage_at-there}
 use Rattle.async_work.proofs.Viewing.{view-cancelled}
 use Rattle.async_work.proofs.pool.Pool.cancel_queued.Goals as goal
-use Rattle.async_work.proofs.pool.Pool.cancel_queued.Goals.{After-index_mut-arg-1, After-index_mut}
-
--- the work waits
-here : (g : _) (c : After-index_mut-arg-1 g) → waits (line_seen g.J.Job.spec c.self.inside.line.items) c.args.number ≡ true
-here g c = sym (has-waiting (line_seen g.J.Job.spec c.self.inside.line.items) c.args.number)
-    ∙ ap (λ (p : WorkPool). has_number c.args.number p.queued) c.self.view_is ∙ c.requires
-
-pub overflow_sub-number : goal.overflow_sub-number
-overflow_sub-number g c = let e = waits-within _ c.args.number (here g c) in (bounds-at g.J.Job.spec c.self.inside.line.items c.args.number e.0 e.2).0
-
-pub index_mut-requires : goal.index_mut-requires
-index_mut-requires g c =
-    let e = waits-within _ c.args.number (here g c) in
-    let bounds = bounds-at g.J.Job.spec c.self.inside.line.items c.args.number e.0 e.2 in
-    omega (arith, bounds.0, bounds.1, c.self.inside.line.ok.0)
-
--- and it is the one that is read
-read : (g : _) (c : After-index_mut g) → IsWaiting g.J.Job.spec c.self.inside.line.items c.args.number c.index_mut.result.now
-read g c = waits-read g.J.Job.spec c.self.inside.line.items c.args.number c.index_mut.result.now (here g c.before) c.index_mut.ensures.value
 
 pub cancel-outcome-requires-after_bounds : goal.cancel-outcome-requires-after_bounds
-cancel-outcome-requires-after_bounds g c = λ κs lives. let x = read g c in some-is _ x.job x.waits_for
+cancel-outcome-requires-after_bounds g c = λ κs lives.
+    waits-of c.self.inside.line.works _ c.args.number (ap (λ (p : WorkPool). p.queued) c.self.view_is) c.requires
 
 pub push_back_reserved-requires : goal.push_back_reserved-requires
 push_back_reserved-requires g c =
     let long = length-map c.self.inside.finished.items (outcome_seen g.J.Job.spec) in
-    let room = room-to-cancel _ _ _ _ _ _ _ _ _ _ _ c.self.invariant c.args.number (here g ((goal.at.push_back_reserved-requires g c).After-index_mut).before) in
+    let here = waits-of c.self.inside.line.works _ c.args.number (ap (λ (p : WorkPool). p.queued) c.self.view_is) c.requires in
+    let room = room-to-cancel _ _ _ _ _ _ _ _ _ _ _ c.self.invariant c.args.number here in
     omega (arith, long, room, c.self.inside.finished.ok.0)
 
 pub invariant_of-self : goal.invariant_of-self
 invariant_of-self g c =
-    let spec = g.J.Job.spec in
-    let x = read g (goal.at.invariant_of-self g c).After-index_mut in
-    rw c.push_back_reserved.ensures.capacity
-    (kept-cancelled _ _ _ _ _ _ _ _ _ _ _ c.self.invariant _ c.args.number _ x.there _ (outcome_seen spec c.cancel-outcome.result) _ x.job
-    (line-set spec c.self.inside.line.items _ c.cancel-outcome.new.numbered c.index_mut.result.now Ended c.cancel-outcome.ensures.finished)
-    (outcomes-push spec c.self.inside.finished.items _ c.cancel-outcome.result c.push_back_reserved.ensures.items) x.waits_for
-    (ap (λ (o : CameOut). o.number) c.cancel-outcome.ensures.outcome) (ap (λ (o : CameOut). o.unspent) c.cancel-outcome.ensures.outcome ∙ x.waits_for) refl)
+    let L = c.self.inside.line.works in
+    let n = c.args.number in
+    let x = waits-within L n (waits-of L _ n (ap (λ (p : WorkPool). p.queued) c.self.view_is) c.requires) in
+    rw (c.push_back_reserved.ensures.capacity, c.cancel-outcome.ensures.room)
+    (kept-cancelled _ _ _ _ _ _ _ _ _ _ _ c.self.invariant _ n x.0 x.2 _ (outcome_seen g.J.Job.spec c.cancel-outcome.result) _ x.1
+    (c.cancel-outcome.ensures.finished ∙ with_stage_at-there L n Ended x.0 x.2)
+    (outcomes-push g.J.Job.spec c.self.inside.finished.items _ c.cancel-outcome.result c.push_back_reserved.ensures.items) x.3
+    (ap (λ (o : CameOut). o.number) c.cancel-outcome.ensures.outcome)
+    (ap (λ (o : CameOut). o.unspent) c.cancel-outcome.ensures.outcome ∙ ap waiting_job (stage-of L n x.0 x.2) ∙ x.3) refl)
 
 pub returns : goal.returns
 returns g c =
-    let spec = g.J.Job.spec in
-    let x = read g (goal.at.returns g c).After-index_mut in
-    view-cancelled _ _ _ _ _ _ _ _ _ _ _ c.self.invariant _ c.args.number _ x.there _ (outcome_seen spec c.cancel-outcome.result) x.job
-    (line-set spec c.self.inside.line.items _ c.cancel-outcome.new.numbered c.index_mut.result.now Ended c.cancel-outcome.ensures.finished)
-    (outcomes-push spec c.self.inside.finished.items _ c.cancel-outcome.result c.push_back_reserved.ensures.items) x.waits_for
-    (c.cancel-outcome.ensures.outcome ∙ ap (λ o. unstarted_outcome c.args.number o) x.waits_for)
-    ∙ ap (cancelled_at (Some c.args.number)) c.self.view_is
+    let L = c.self.inside.line.works in
+    let n = c.args.number in
+    let x = waits-within L n (waits-of L _ n (ap (λ (p : WorkPool). p.queued) c.self.view_is) c.requires) in
+    view-cancelled _ _ _ _ _ _ _ _ _ _ _ c.self.invariant _ n x.0 x.2 _ (outcome_seen g.J.Job.spec c.cancel-outcome.result) x.1
+    (c.cancel-outcome.ensures.finished ∙ with_stage_at-there L n Ended x.0 x.2)
+    (outcomes-push g.J.Job.spec c.self.inside.finished.items _ c.cancel-outcome.result c.push_back_reserved.ensures.items) x.3
+    (c.cancel-outcome.ensures.outcome ∙ ap (λ o. unstarted_outcome n o) (ap waiting_job (stage-of L n x.0 x.2) ∙ x.3))
+    ∙ ap (cancelled_at (Some n)) c.self.view_is

@@ -4,7 +4,6 @@ use Rattle.napi_types.specs.declared.status.Status.TheVariants as status
 use Rattle.napi_types.specs.plain.Lists.{unless}
 use Rattle.napi_types.specs.parts.Pool.{work_at, work_state, without_work}
 use Rattle.napi_types.specs.parts.Works.{is_deletable}
-use Rattle.async_work.specs.Line.{line_seen}
 use Rattle.async_work.specs.WorkPlaces.{Placed, places_seen, place_at}
 use Rattle.async_work.specs.WorkStates.{state_seen, place_state}
 use Rattle.async_work.proofs.Ids.{places-rise, held-there, seen-freed}
@@ -19,7 +18,7 @@ known g c = ap (option_map state_seen) (sym c.in_ok-state.ensures.ok_part) ∙ c
 
 -- where the work stands
 place : (g : _) (c : In_ok-state g) → (p : Placed) × (place_at (places_seen g.J.Job.spec c.self.inside.places) c.args.id.0 ≡ Some p) × (place_state
-    (line_seen g.J.Job.spec c.self.inside.line.items) p ≡ state_seen c.in_ok-state.state)
+    c.self.inside.line.works p ≡ state_seen c.in_ok-state.state)
 place g c = state-place _ _ c.args.id.0 _ (known g c ∙ states-of _ _ _ _ _ _ _ _ _ _ _ c.self.invariant _ c.self.view_is c.args.id.0)
 
 pub returns-then-not-is_deletable-clause-refusal : goal.returns-then-not-is_deletable-clause-refusal
@@ -28,7 +27,7 @@ returns-then-not-is_deletable-clause-refusal g c =
     ∙ refusal-of c.args.self.now is_deletable c.args.id.0 _ (known g (goal.at.returns-then-not-is_deletable-clause-refusal g c).In_ok-state)
 
 -- it is counted where it was not queued
-counted : (g : _) (c : After-unqueued g) (p : Placed) → place_state (line_seen g.J.Job.spec c.self.inside.line.items) p ≡ state_seen c.in_ok-state.state
+counted : (g : _) (c : After-unqueued g) (p : Placed) → place_state c.self.inside.line.works p ≡ state_seen c.in_ok-state.state
     → c.unqueued.result ≡ cond (is_none p.number) 1 0
 counted g c p is = c.unqueued.ensures ∙ ap (λ b. cond b 1 0) (sym (unqueued-created _ p _ is))
 
