@@ -1,37 +1,22 @@
 -- What is held, and what was issued, once a slot has changed.
-use Rattle.std.proofs.Common.{◌≡◌, ◌≢◌, ◌∙◌, ℕ, zero, suc, ◌+◌, ◌-◌, ◌*◌, ◌<◌, ◌≤◌, ◌/◌, ◌%◌, ◌==◌, ◌||◌, Bool, true, false, not, nat_lt, cond, List, ◌∷◌, length, set, Option, Some, None, IsSome, is_some, option_map, slice_index_or, refl, ap, sym, subst, arith}
-use Rattle.std.specs.List.{All}
+use Rattle.std.proofs.Common.{◌≡◌, ◌≢◌, ◌∙◌, ℕ, zero, suc, ◌+◌, ◌-◌, ◌*◌, ◌<◌, ◌≤◌, ◌/◌, ◌%◌, ◌==◌, ◌||◌, Bool, true, false, not, nat_lt, nat_eq, cond, List, ◌∷◌, length, map, set, Option, Some, None, IsSome, is_some, option_map, slice_index_or, refl, ap, sym, subst, arith}
+use Rattle.std.specs.List.{IsDistinct}
 use Rattle.std.proofs.lemmas.Bool.Decides.{nat_tests}
 use Rattle.std.proofs.lemmas.List.{length-set, get_or-set_same, get_or-set_other, get_or_default}
-use Rattle.std.proofs.lemmas.List.Elements.{All-set, All-get_or}
-use Rattle.slab.specs.Slab.{Slab, get, Updates}
 use Rattle.napi_types.specs.plain.Lists.{has_number, with_number}
 use Rattle.napi_types.proofs.plain.Found.{found-same, found-with_record, found-filter, found-changed, rising-as_map, rising-with_record, rising-filter, rising-changed, same-tells, turned}
-use Rattle.generation_slab.specs.declared.slots.Slot.{Slot}
-use Rattle.generation_slab.specs.declared.slots.Slot.TheVariants as slot
-use Rattle.generation_slab.specs.HeldPlaces.{Held, HeldPlaces, standing, held, value_of, with_held, without_held, with_value, with_held_value}
-use Rattle.generation_slab.specs.SlotNumbers.{number_of_slot, generation_in, places_from, issued_from, places_of, value_in, given_in, value_at, is_issued, HasGenerations}
+use Rattle.generation_slab.specs.HeldPlaces.{Held, HeldPlaces, standing, held, value_of, with_held, without_held, with_value, with_held_value, EachStandsOnce}
+use Rattle.generation_slab.specs.SlotNumbers.{number_of_slot, generation_in, places_from, issued_from, places_of, value_in, given_in, value_at, is_issued, HaveGenerations}
 use Rattle.generation_slab.proofs.SlotNumbers.{tests-apart, parted, slot-below, slot-of, generation-of, value-changed, issued-more, issued-same, put-value, taken-value, other-generation, given-taken, given-back}
-use Rattle.generation_slab.proofs.HeldPlaces.{held-at, value-held}
+use Rattle.generation_slab.proofs.HeldPlaces.{held-at, value-held, numbers-once}
 use Rattle.generation_slab.proofs.Issuing.{issued-at, numbers-more, numbers-kept}
 
 -- each slot up to this one has a generation, which is 0 where it had none
-pub record Widened (olds news : List ℕ) (last k : ℕ) : Type 0 where
+pub record Widened (olds news : List ℕ) (k : ℕ) : Type 0 where
   pub kept : (j : ℕ) → slice_index_or news j 0 ≡ slice_index_or olds j 0
   pub there : k < length news
   pub longer : length olds ≤ length news
   pub few : length news < 281474976710656
-  pub within : All (λ g. g ≤ last) news
-
--- a generation that is not the last has a next one
-pub below-last : (gs : List ℕ) (last k g : ℕ) → All (λ h. h ≤ last) gs → k < length gs → g ≡ slice_index_or gs k g → (g ≡ last → ⊥) → generation_in gs k + 1 ≤ last
-below-last gs last k g all within is other =
-    let small : slice_index_or gs k g ≤ last = All-get_or (λ h. h ≤ last) gs k g within all in
-    let same : g ≡ slice_index_or gs k 0 = is ∙ get_or_default gs k g 0 within in
-    above g last (generation_in gs k) (omega (arith, small, is)) other same
-  where
-    above : (g m h : ℕ) → g ≤ m → (g ≡ m → ⊥) → g ≡ h → h + 1 ≤ m
-    above g m h le apart same = grind arith
 
 module _ {T : Type 0} where
   abbrev number : Held T → ℕ
@@ -44,38 +29,38 @@ module _ {T : Type 0} where
   changing n v h = cond (h.number == n) (with_value v h) h
 
   -- BY NUMBERS
-  module _ (old new : Slab (Slot T)) (olds news : List ℕ) (last : ℕ) (before : HasGenerations old olds last) (after : HasGenerations new news last) (id : ℕ) where
+  module _ (old new : ℕ → Option T) (olds news : List ℕ) (r q : ℕ) (before : HaveGenerations old olds) (after : HaveGenerations new news) (id : ℕ) where
     pub held-more : (v : T) → ((n : ℕ) → value_at new news n ≡ cond (id == n) (Some v) (value_at old olds n))
-        → held (places_of new news) ≡ with_held id v (held (places_of old olds))
+        → held (places_of new news q) ≡ with_held id v (held (places_of old olds r))
     held-more v changed =
-        found-same number (held (places_of new news)) (with_held id v (held (places_of old olds)))
-        (rising-as_map number (standing (places_from new 0 news))) (rising-with_record number (at_number id v) (held (places_of old olds)) (rising-as_map number (standing (places_from old 0 olds))))
-        (λ n. held-at new news last after n ∙ ap (option_map (at_number n)) (changed n) ∙ by n (id == n) refl (value_at old olds n)
-        ∙ ap (λ o. cond (id == n) (Some (at_number id v)) o) (sym (held-at old olds last before n)) ∙ sym (found-with_record number n (at_number id v) (held (places_of old olds))))
+        found-same number (held (places_of new news q)) (with_held id v (held (places_of old olds r)))
+        (rising-as_map number (standing (places_from new 0 news))) (rising-with_record number (at_number id v) (held (places_of old olds r)) (rising-as_map number (standing (places_from old 0 olds))))
+        (λ n. held-at new news q after n ∙ ap (option_map (at_number n)) (changed n) ∙ by n (id == n) refl (value_at old olds n)
+        ∙ ap (λ o. cond (id == n) (Some (at_number id v)) o) (sym (held-at old olds r before n)) ∙ sym (found-with_record number n (at_number id v) (held (places_of old olds r))))
       where
         by : (n : ℕ) (b : Bool) → (id == n) ≡ b → (o : Option T) → option_map (at_number n) (cond b (Some v) o) ≡ cond b (Some (at_number id v)) (option_map (at_number n) o)
         by n true is o = ap (λ m. Some (at_number m v)) (sym (same-tells id n is))
         by n false is o = refl
 
-    pub held-less : ((n : ℕ) → value_at new news n ≡ cond (id == n) None (value_at old olds n)) → held (places_of new news) ≡ without_held id (held (places_of old olds))
+    pub held-less : ((n : ℕ) → value_at new news n ≡ cond (id == n) None (value_at old olds n)) → held (places_of new news q) ≡ without_held id (held (places_of old olds r))
     held-less changed =
-        found-same number (held (places_of new news)) (without_held id (held (places_of old olds)))
-        (rising-as_map number (standing (places_from new 0 news))) (rising-filter number (λ h. not (h.number == id)) (held (places_of old olds)) (rising-as_map number (standing (places_from old 0 olds))))
-        (λ n. held-at new news last after n ∙ ap (option_map (at_number n)) (changed n) ∙ by n (id == n) (value_at old olds n)
+        found-same number (held (places_of new news q)) (without_held id (held (places_of old olds r)))
+        (rising-as_map number (standing (places_from new 0 news))) (rising-filter number (λ h. not (h.number == id)) (held (places_of old olds r)) (rising-as_map number (standing (places_from old 0 olds))))
+        (λ n. held-at new news q after n ∙ ap (option_map (at_number n)) (changed n) ∙ by n (id == n) (value_at old olds n)
         ∙ ap (λ b. cond (not b) (option_map (at_number n) (value_at old olds n)) None) (turned id n)
-        ∙ ap (λ o. cond (not (n == id)) o None) (sym (held-at old olds last before n)) ∙ sym (found-filter number (λ m. not (m == id)) n (held (places_of old olds))))
+        ∙ ap (λ o. cond (not (n == id)) o None) (sym (held-at old olds r before n)) ∙ sym (found-filter number (λ m. not (m == id)) n (held (places_of old olds r))))
       where
         by : (n : ℕ) (b : Bool) (o : Option T) → option_map (at_number n) (cond b None o) ≡ cond (not b) (option_map (at_number n) o) None
         by n true o = refl
         by n false o = refl
 
     pub held-other : (v : T) → IsSome (value_at old olds id) → ((n : ℕ) → value_at new news n ≡ cond (id == n) (Some v) (value_at old olds n))
-        → held (places_of new news) ≡ with_held_value id v (held (places_of old olds))
+        → held (places_of new news q) ≡ with_held_value id v (held (places_of old olds r))
     held-other v there changed =
-        found-same number (held (places_of new news)) (with_held_value id v (held (places_of old olds)))
-        (rising-as_map number (standing (places_from new 0 news))) (rising-changed number (changing id v) keeps (held (places_of old olds)) (rising-as_map number (standing (places_from old 0 olds))))
-        (λ n. held-at new news last after n ∙ ap (option_map (at_number n)) (changed n) ∙ by n (id == n) refl (value_at old olds n) refl
-        ∙ ap (option_map (changing id v)) (sym (held-at old olds last before n)) ∙ sym (found-changed number (changing id v) keeps n (held (places_of old olds))))
+        found-same number (held (places_of new news q)) (with_held_value id v (held (places_of old olds r)))
+        (rising-as_map number (standing (places_from new 0 news))) (rising-changed number (changing id v) keeps (held (places_of old olds r)) (rising-as_map number (standing (places_from old 0 olds))))
+        (λ n. held-at new news q after n ∙ ap (option_map (at_number n)) (changed n) ∙ by n (id == n) refl (value_at old olds n) refl
+        ∙ ap (option_map (changing id v)) (sym (held-at old olds r before n)) ∙ sym (found-changed number (changing id v) keeps n (held (places_of old olds r))))
       where
         keeps : (h : Held T) → let q : Held T = changing id v h in q.number ≡ h.number
         keeps h = each (h.number == id)
@@ -93,150 +78,121 @@ module _ {T : Type 0} where
         by n false is None at = refl
         by n false is (Some w) at = ap (λ b. Some (cond b (at_number n v) (at_number n w))) (sym (turned n id ∙ is))
 
-    pub issued-one : ((n : ℕ) → is_issued new news n ≡ ((id == n) || is_issued old olds n)) → (places_of new news).issued ≡ with_number id (places_of old olds).issued
+    pub issued-one : ((n : ℕ) → is_issued new news n ≡ ((id == n) || is_issued old olds n)) → (places_of new news q).issued ≡ with_number id (places_of old olds r).issued
     issued-one more =
         numbers-more id (issued_from new 0 news) (issued_from old 0 olds)
-        (λ n. issued-at new news last after n ∙ more n ∙ ap (λ b. (id == n) || b) (sym (issued-at old olds last before n)))
+        (λ n. issued-at new news q after n ∙ more n ∙ ap (λ b. (id == n) || b) (sym (issued-at old olds r before n)))
 
-    pub issued-none : ((n : ℕ) → is_issued new news n ≡ is_issued old olds n) → (places_of new news).issued ≡ (places_of old olds).issued
+    pub issued-none : ((n : ℕ) → is_issued new news n ≡ is_issued old olds n) → (places_of new news q).issued ≡ (places_of old olds r).issued
     issued-none same =
-        numbers-kept (issued_from new 0 news) (issued_from old 0 olds) (λ n. issued-at new news last after n ∙ same n ∙ sym (issued-at old olds last before n))
+        numbers-kept (issued_from new 0 news) (issued_from old 0 olds) (λ n. issued-at new news q after n ∙ same n ∙ sym (issued-at old olds r before n))
 
   -- WHERE A NUMBER STANDS
-  pub record Stands (slots : Slab (Slot T)) (gs : List ℕ) (n k : ℕ) : Type 0 where
+  pub record Stands (live : ℕ → Option T) (gs : List ℕ) (n k : ℕ) : Type 0 where
     pub value : T
     pub positive : 1 ≤ n
-    pub there : get slots k ≡ Some (slot.Live value)
+    pub there : live k ≡ Some value
     pub is : number_of_slot (generation_in gs k) k ≡ n
     pub within : k < length gs
     pub small : k < 281474976710656
-    pub told : value_at slots gs n ≡ Some value
+    pub told : value_at live gs n ≡ Some value
 
-  pub stands : (slots : Slab (Slot T)) (gs : List ℕ) (last : ℕ) → HasGenerations slots gs last → (s : HeldPlaces T) → places_of slots gs ≡ s → (n k : ℕ)
-      → k ≡ (n - 1) % 281474976710656 → IsSome (value_of s n) → Stands slots gs n k
-  stands slots gs last sound s view n k is_slot some = subst (Stands slots gs n) (sym is_slot) (by n refl (subst (λ (o : Option T). IsSome o) (ap (λ t. value_of t n) (sym view) ∙ value-held slots gs last sound n) some))
+  pub stands : (live : ℕ → Option T) (gs : List ℕ) (r : ℕ) → HaveGenerations live gs → (s : HeldPlaces T) → places_of live gs r ≡ s → (n k : ℕ)
+      → k ≡ (n - 1) % 281474976710656 → IsSome (value_of s n) → Stands live gs n k
+  stands live gs r sound s view n k is_slot some = subst (Stands live gs n) (sym is_slot) (by n refl (subst (λ (o : Option T). IsSome o) (ap (λ t. value_of t n) (sym view) ∙ value-held live gs r sound n) some))
     where
       minus : (at : ℕ) → suc at - 1 ≡ at
       minus at = omega arith
 
-      inside : (k : ℕ) (o : Slot T) → get slots k ≡ Some o → k < length gs
-      inside k o at = less (nat_lt k (length gs)) refl
+      inside : (k : ℕ) (v : T) → live k ≡ Some v → k < length gs
+      inside k v at = less (nat_lt k (length gs)) refl
         where
           past : (b : Bool) → nat_lt k (length gs) ≡ b → b ≡ false → length gs ≤ k
           past b is over = grind (arith, nat_tests)
 
           less : (b : Bool) → nat_lt k (length gs) ≡ b → k < length gs
           less true is = grind (arith, nat_tests)
-          less false is = let none : get slots k ≡ None = sound.empty k (past false is refl) in let no : ⊥ = cc in absurd no
+          less false is = let none : live k ≡ None = sound.empty k (past false is refl) in let no : ⊥ = cc in absurd no
 
-      by : (m : ℕ) → m ≡ n → IsSome (value_at slots gs m) → Stands slots gs m ((m - 1) % 281474976710656)
+      by : (m : ℕ) → m ≡ n → IsSome (value_at live gs m) → Stands live gs m ((m - 1) % 281474976710656)
       by zero is there = let no : ⊥ = cc in absurd no
-      by (suc at) is there = slotted (get slots (at % 281474976710656)) refl there
+      by (suc at) is there = slotted (live (at % 281474976710656)) refl there
         where
-          made : (v : T) → get slots (at % 281474976710656) ≡ Some (slot.Live v) → (generation_in gs (at % 281474976710656) == at / 281474976710656) ≡ true → Stands slots gs (suc at) ((suc at - 1) % 281474976710656)
+          made : (v : T) → live (at % 281474976710656) ≡ Some v → (generation_in gs (at % 281474976710656) == at / 281474976710656) ≡ true → Stands live gs (suc at) ((suc at - 1) % 281474976710656)
           made v at_slot same = record {
             value = v;
             positive = omega arith;
-            there = ap (λ m. get slots (m % 281474976710656)) (minus at) ∙ at_slot;
+            there = ap (λ m. live (m % 281474976710656)) (minus at) ∙ at_slot;
             is =
                 ap (λ m. number_of_slot (generation_in gs (m % 281474976710656)) (m % 281474976710656)) (minus at)
                 ∙ ap (λ g. number_of_slot g (at % 281474976710656)) (same-tells _ _ same) ∙ sym (parted at);
-            within = subst (λ m. m % 281474976710656 < length gs) (sym (minus at)) (inside (at % 281474976710656) (slot.Live v) at_slot);
+            within = subst (λ m. m % 281474976710656 < length gs) (sym (minus at)) (inside (at % 281474976710656) v at_slot);
             small = slot-below (suc at - 1);
             told = ap (λ o. value_in o (generation_in gs (at % 281474976710656)) (at / 281474976710656)) at_slot ∙ ap (λ b. cond b (Some v) None) same;
           }
 
-          generation : (v : T) (b : Bool) → get slots (at % 281474976710656) ≡ Some (slot.Live v) → (generation_in gs (at % 281474976710656) == at / 281474976710656) ≡ b
-              → IsSome (cond b (Some v) None) → Stands slots gs (suc at) ((suc at - 1) % 281474976710656)
+          generation : (v : T) (b : Bool) → live (at % 281474976710656) ≡ Some v → (generation_in gs (at % 281474976710656) == at / 281474976710656) ≡ b
+              → IsSome (cond b (Some v) None) → Stands live gs (suc at) ((suc at - 1) % 281474976710656)
           generation v true at_slot same there = made v at_slot same
           generation v false at_slot same there = let no : ⊥ = cc in absurd no
 
-          slotted : (o : Option (Slot T)) → get slots (at % 281474976710656) ≡ o
-              → IsSome (value_in o (generation_in gs (at % 281474976710656)) (at / 281474976710656)) → Stands slots gs (suc at) ((suc at - 1) % 281474976710656)
+          slotted : (o : Option T) → live (at % 281474976710656) ≡ o
+              → IsSome (value_in o (generation_in gs (at % 281474976710656)) (at / 281474976710656)) → Stands live gs (suc at) ((suc at - 1) % 281474976710656)
           slotted None at_slot there = let no : ⊥ = cc in absurd no
-          slotted (Some slot.Retired) at_slot there = let no : ⊥ = cc in absurd no
-          slotted (Some (slot.Live v)) at_slot there = generation v (generation_in gs (at % 281474976710656) == at / 281474976710656) at_slot refl there
+          slotted (Some v) at_slot there = generation v (generation_in gs (at % 281474976710656) == at / 281474976710656) at_slot refl there
 
-  pub read-generation : (slots : Slab (Slot T)) (gs : List ℕ) (n k g : ℕ) → Stands slots gs n k → g ≡ slice_index_or gs k g → g ≡ generation_in gs k
-  read-generation slots gs n k g at is = is ∙ get_or_default gs k g 0 at.within
-
-  -- A SLOT IS WRITTEN ANEW
-  pub twice : (old mid new : Slab (Slot T)) (k j : ℕ) (o p : Option (Slot T)) → Updates old mid k o → Updates mid new j p → j ≡ k → Updates old new k p
-  twice old mid new k j o p first second same = record {
-    changed = ap (get new) (sym same) ∙ second.changed;
-    others = λ m apart. second.others m (λ is. apart (is ∙ same)) ∙ first.others m apart;
-  }
-
-  pub taken-from : (old mid new : Slab (Slot T)) (k j : ℕ) (o : Option (Slot T)) → mid ≡ record old { capacity = mid.capacity } → Updates mid new j o → j ≡ k → Updates old new k o
-  taken-from old mid new k j o kept written same = record {
-    changed = ap (get new) (sym same) ∙ written.changed;
-    others = λ m apart. written.others m (λ is. apart (is ∙ same)) ∙ ap (λ s. get s m) kept;
-  }
+  -- A SLOT CHANGES
+  -- one slot holds this now, and the others hold what they held
+  pub record Changes (old new : ℕ → Option T) (k : ℕ) (o : Option T) : Type 0 where
+    pub changed : new k ≡ o
+    pub others : (j : ℕ) → j ≢ k → new j ≡ old j
 
   -- what has a generation goes on having one
-  pub sound-written : (old new : Slab (Slot T)) (gs : List ℕ) (last k : ℕ) (o : Option (Slot T)) → HasGenerations old gs last → k < length gs → Updates old new k o
-      → HasGenerations new gs last
-  sound-written old new gs last k o sound within updates = record {
-    few = sound.few;
-    within = sound.within;
-    empty = λ j past. updates.others j (λ same. omega (arith, same, past, within)) ∙ sound.empty j past;
+  pub sound-changed : (old new : ℕ → Option T) (gs news : List ℕ) (k : ℕ) (o : Option T) → HaveGenerations old gs → k < length news → length gs ≤ length news → length news < 281474976710656
+      → Changes old new k o → HaveGenerations new news
+  sound-changed old new gs news k o sound within longer few changes = record {
+    few = few;
+    empty = λ j past. changes.others j (λ same. omega (arith, same, past, within)) ∙ sound.empty j (omega (arith, past, longer));
   }
-
-  pub sound-next : (old new : Slab (Slot T)) (gs : List ℕ) (last k g : ℕ) (o : Option (Slot T)) → HasGenerations old gs last → k < length gs → Updates old new k o → g ≤ last
-      → HasGenerations new (set gs k g) last
-  sound-next old new gs last k g o sound within updates small =
-      let long = length-set gs k g in record {
-        few = omega (arith, long, sound.few);
-        within = All-set (λ h. h ≤ last) gs k g small sound.within;
-        empty = λ j past. updates.others j (λ same. omega (arith, same, past, within, long)) ∙ sound.empty j (omega (arith, past, long));
-      }
 
   -- WHAT A CALL MAKES OF IT
   pub record Results (s t : HeldPlaces T) (hs : List (Held T)) : Type 0 where
     pub holds : held t ≡ hs
     pub issued : t.issued ≡ s.issued
+    pub once : EachStandsOnce t
 
-  module _ (old new : Slab (Slot T)) (gs : List ℕ) (last : ℕ) (sound : HasGenerations old gs last) (s : HeldPlaces T) (view : places_of old gs ≡ s) (n k : ℕ) (at : Stands old gs n k) where
+  module _ (old new : ℕ → Option T) (gs : List ℕ) (r q : ℕ) (sound : HaveGenerations old gs) (s : HeldPlaces T) (view : places_of old gs r ≡ s) (n k : ℕ) (at : Stands old gs n k) where
     abbrev g : ℕ
     g = generation_in gs k
 
     -- another value is put there
-    pub replaces : (v : T) → Updates old new k (Some (slot.Live v)) → Results s (places_of new gs) (with_held_value n v (held s))
-    replaces v updates =
-        let after = sound-written old new gs last k (Some (slot.Live v)) sound at.within updates in
-        let change = value-changed old new gs gs k g at.small updates.others (λ j apart. refl) refl (Some v)
-        (λ a. ap (λ o. value_in o g a) updates.changed ∙ put-value (get old k) v (other-generation (get old k)) g a) in
-        let given = issued-same old new gs gs k g at.small updates.others (λ j apart. refl) refl (λ a. ap (λ o. given_in o g a) updates.changed ∙ sym (ap (λ o. given_in o g a) at.there)) in
-        subst (λ (t : HeldPlaces T). Results t (places_of new gs) (with_held_value n v (held t))) view (record {
-          holds = held-other old new gs gs last sound after n v (ap is_some at.told) (λ m. change m ∙ ap (λ j. cond (j == m) (Some v) (value_at old gs m)) at.is);
-          issued = issued-none old new gs gs last sound after n given;
+    pub replaces : (v : T) → Changes old new k (Some v) → Results s (places_of new gs q) (with_held_value n v (held s))
+    replaces v changes =
+        let after = sound-changed old new gs gs k (Some v) sound at.within (omega arith) sound.few changes in
+        let change = value-changed old new gs gs k g at.small changes.others (λ j apart. refl) refl (Some v)
+        (λ a. ap (λ o. value_in o g a) changes.changed ∙ put-value (old k) v (other-generation (old k)) g a) in
+        let given = issued-same old new gs gs k g at.small changes.others (λ j apart. refl) refl (λ a. ap (λ o. given_in o g a) changes.changed ∙ sym (ap (λ o. given_in o g a) at.there)) in
+        subst (λ (t : HeldPlaces T). Results t (places_of new gs q) (with_held_value n v (held t))) view (record {
+          holds = held-other old new gs gs r q sound after n v (ap is_some at.told) (λ m. change m ∙ ap (λ j. cond (j == m) (Some v) (value_at old gs m)) at.is);
+          issued = issued-none old new gs gs r q sound after n given;
+          once = numbers-once new 0 gs (omega (arith, sound.few));
         })
 
-    -- it is never used again
-    pub retires : Updates old new k (Some slot.Retired) → Results s (places_of new gs) (without_held n (held s))
-    retires updates =
-        let after = sound-written old new gs last k (Some slot.Retired) sound at.within updates in
-        let change = value-changed old new gs gs k g at.small updates.others (λ j apart. refl) refl None
-        (λ a. ap (λ o. value_in o g a) updates.changed ∙ taken-value (get old k) (other-generation (get old k)) g a) in
-        let given = issued-same old new gs gs k g at.small updates.others (λ j apart. refl) refl (λ a. ap (λ o. given_in o g a) updates.changed ∙ sym (ap (λ o. given_in o g a) at.there)) in
-        subst (λ (t : HeldPlaces T). Results t (places_of new gs) (without_held n (held t))) view (record {
-          holds = held-less old new gs gs last sound after n (λ m. change m ∙ ap (λ j. cond (j == m) None (value_at old gs m)) at.is);
-          issued = issued-none old new gs gs last sound after n given;
-        })
-
-    -- it is used again in the next generation
-    pub gives-back : (h : ℕ) → h ≡ g → g + 1 ≤ last → Updates old new k None → Results s (places_of new (set gs k (h + 1))) (without_held n (held s))
-    gives-back h same more updates =
-        let after = sound-next old new gs last k (h + 1) None sound at.within updates (omega (arith, same, more)) in
+    -- the slot holds nothing, and has the next generation
+    pub frees : (h : ℕ) → h ≡ g → Changes old new k None → Results s (places_of new (set gs k (h + 1)) q) (without_held n (held s))
+    frees h same changes =
+        let long : length (set gs k (h + 1)) ≡ length gs = length-set gs k (h + 1) in
+        let after = sound-changed old new gs (set gs k (h + 1)) k None sound (omega (arith, at.within, long)) (omega (arith, long)) (omega (arith, long, sound.few)) changes in
         let next : generation_in (set gs k (h + 1)) k ≡ g + 1 = get_or-set_same gs k (h + 1) 0 at.within ∙ ap (λ m. m + 1) same in
         let others : (j : ℕ) → j ≢ k → generation_in (set gs k (h + 1)) j ≡ generation_in gs j = λ j apart. get_or-set_other gs k j (h + 1) 0 apart in
-        let change = value-changed old new gs (set gs k (h + 1)) k g at.small updates.others others refl None
-        (λ a. ap (λ o. value_in o (generation_in (set gs k (h + 1)) k) a) updates.changed ∙ taken-value (get old k) (other-generation (get old k)) g a) in
-        let given = issued-same old new gs (set gs k (h + 1)) k g at.small updates.others others refl
-        (λ a. ap (λ o. given_in o (generation_in (set gs k (h + 1)) k) a) updates.changed ∙ ap (λ m. nat_lt a m) next ∙ given-back g a ∙ sym (ap (λ o. given_in o g a) at.there)) in
-        subst (λ (t : HeldPlaces T). Results t (places_of new (set gs k (h + 1))) (without_held n (held t))) view (record {
-          holds = held-less old new gs (set gs k (h + 1)) last sound after n (λ m. change m ∙ ap (λ j. cond (j == m) None (value_at old gs m)) at.is);
-          issued = issued-none old new gs (set gs k (h + 1)) last sound after n given;
+        let change = value-changed old new gs (set gs k (h + 1)) k g at.small changes.others others refl None
+        (λ a. ap (λ o. value_in o (generation_in (set gs k (h + 1)) k) a) changes.changed ∙ taken-value (old k) (other-generation (old k)) g a) in
+        let given = issued-same old new gs (set gs k (h + 1)) k g at.small changes.others others refl
+        (λ a. ap (λ o. given_in o (generation_in (set gs k (h + 1)) k) a) changes.changed ∙ ap (λ m. nat_lt a m) next ∙ given-back g a ∙ sym (ap (λ o. given_in o g a) at.there)) in
+        subst (λ (t : HeldPlaces T). Results t (places_of new (set gs k (h + 1)) q) (without_held n (held t))) view (record {
+          holds = held-less old new gs (set gs k (h + 1)) r q sound after n (λ m. change m ∙ ap (λ j. cond (j == m) None (value_at old gs m)) at.is);
+          issued = issued-none old new gs (set gs k (h + 1)) r q sound after n given;
+          once = numbers-once new 0 (set gs k (h + 1)) (omega (arith, after.few));
         })
 
   -- A SLOT IS TAKEN
@@ -244,38 +200,32 @@ module _ {T : Type 0} where
     pub fresh : has_number id (0 ∷ s.issued) ≡ false
     pub holds : held t ≡ with_held id v (held s)
     pub issued : t.issued ≡ with_number id s.issued
+    pub once : EachStandsOnce t
 
-  pub sound-taken : (old new : Slab (Slot T)) (olds news : List ℕ) (last k : ℕ) (o : Option (Slot T)) → HasGenerations old olds last → Widened olds news last k → Updates old new k o
-      → HasGenerations new news last
-  sound-taken old new olds news last k o sound wide updates = record {
-    few = wide.few;
-    within = wide.within;
-    empty = λ j past. updates.others j (λ same. omega (arith, same, past, wide.there)) ∙ sound.empty j (omega (arith, past, wide.longer));
-  }
-
-  pub makes : (old new : Slab (Slot T)) (olds news : List ℕ) (last k g : ℕ) (v : T) → HasGenerations old olds last → Widened olds news last k → get old k ≡ None
-      → Updates old new k (Some (slot.Live v)) → g ≡ generation_in news k → (s : HeldPlaces T) → places_of old olds ≡ s
-      → Makes s (places_of new news) (number_of_slot g k) v
-  makes old new olds news last k g v sound wide vacant updates is s view =
+  pub makes : (old new : ℕ → Option T) (olds news : List ℕ) (r q k g : ℕ) (v : T) → HaveGenerations old olds → Widened olds news k → old k ≡ None
+      → Changes old new k (Some v) → g ≡ generation_in news k → (s : HeldPlaces T) → places_of old olds r ≡ s
+      → Makes s (places_of new news q) (number_of_slot g k) v
+  makes old new olds news r q k g v sound wide vacant changes is s view =
       let small : k < 281474976710656 = omega (arith, wide.there, wide.few) in
-      let after = sound-taken old new olds news last k (Some (slot.Live v)) sound wide updates in
+      let after = sound-changed old new olds news k (Some v) sound wide.there wide.longer wide.few changes in
       let here : generation_in olds k ≡ g = sym (wide.kept k) ∙ sym is in
-      let change = value-changed old new olds news k g small updates.others (λ j apart. wide.kept j) here (Some v)
-      (λ a. ap (λ o. value_in o (generation_in news k) a) updates.changed ∙ ap (λ m. value_in (Some (slot.Live v)) m a) (sym is)
-      ∙ put-value (get old k) v (other-generation (get old k)) g a) in
-      let given = issued-more old new olds news k g small updates.others (λ j apart. wide.kept j) here
-      (λ a. ap (λ o. given_in o (generation_in news k) a) updates.changed ∙ ap (λ m. not (nat_lt m a)) (sym is) ∙ given-taken g a
+      let change = value-changed old new olds news k g small changes.others (λ j apart. wide.kept j) here (Some v)
+      (λ a. ap (λ o. value_in o (generation_in news k) a) changes.changed ∙ ap (λ m. value_in (Some v) m a) (sym is)
+      ∙ put-value (old k) v (other-generation (old k)) g a) in
+      let given = issued-more old new olds news k g small changes.others (λ j apart. wide.kept j) here
+      (λ a. ap (λ o. given_in o (generation_in news k) a) changes.changed ∙ ap (λ m. not (nat_lt m a)) (sym is) ∙ given-taken g a
       ∙ ap (λ o. (g == a) || given_in o g a) (sym vacant)) in
       let unissued : is_issued old olds (number_of_slot g k) ≡ false =
       ap (is_issued old olds) (next (g * 281474976710656 + k))
-      ∙ ap (λ j. given_in (get old j) (generation_in olds j) ((g * 281474976710656 + k) / 281474976710656)) (slot-of g k small)
+      ∙ ap (λ j. given_in (old j) (generation_in olds j) ((g * 281474976710656 + k) / 281474976710656)) (slot-of g k small)
       ∙ ap (λ o. given_in o (generation_in olds k) ((g * 281474976710656 + k) / 281474976710656)) vacant
       ∙ ap (λ m. nat_lt ((g * 281474976710656 + k) / 281474976710656) m) here
       ∙ ap (λ m. nat_lt m g) (generation-of g k small) ∙ itself g in
-      subst (λ (t : HeldPlaces T). Makes t (places_of new news) (number_of_slot g k) v) view (record {
-        fresh = ap (λ b. b || has_number (number_of_slot g k) (places_of old olds).issued) (none g k) ∙ issued-at old olds last sound (number_of_slot g k) ∙ unissued;
-        holds = held-more old new olds news last sound after (number_of_slot g k) v change;
-        issued = issued-one old new olds news last sound after (number_of_slot g k) given;
+      subst (λ (t : HeldPlaces T). Makes t (places_of new news q) (number_of_slot g k) v) view (record {
+        fresh = ap (λ b. b || has_number (number_of_slot g k) (places_of old olds r).issued) (none g k) ∙ issued-at old olds r sound (number_of_slot g k) ∙ unissued;
+        holds = held-more old new olds news r q sound after (number_of_slot g k) v change;
+        issued = issued-one old new olds news r q sound after (number_of_slot g k) given;
+        once = numbers-once new 0 news (omega (arith, wide.few));
       })
     where
       next : (n : ℕ) → n + 1 ≡ suc n

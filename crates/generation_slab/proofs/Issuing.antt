@@ -2,11 +2,9 @@
 use Rattle.std.proofs.Common.{◌≡◌, ◌≢◌, ◌∙◌, ℕ, zero, suc, ◌+◌, ◌<◌, ◌≤◌, ◌/◌, ◌%◌, ◌==◌, ◌||◌, nat_lt, Bool, true, false, cond, List, [], ◌∷◌, ◌++◌, length, Option, Some, None, refl, ap, sym, arith}
 use Rattle.std.proofs.lemmas.Bool.Decides.{nat_tests}
 use Rattle.std.proofs.lemmas.List.Folds.{list_any-append}
-use Rattle.slab.specs.Slab.{Slab, get}
 use Rattle.napi_types.specs.plain.Lists.{found, has_number, as_map, with_number}
 use Rattle.napi_types.proofs.plain.Found.{found-as_map, has-found, found-same, rising-as_map, rising-with_record, has-with_number, same-tells}
-use Rattle.generation_slab.specs.declared.slots.Slot.{Slot}
-use Rattle.generation_slab.specs.SlotNumbers.{number_of_slot, generation_in, numbers_before, issued_in, issued_from, places_of, given_in, is_issued, HasGenerations}
+use Rattle.generation_slab.specs.SlotNumbers.{number_of_slot, generation_in, numbers_before, issued_in, issued_from, places_of, given_in, is_issued, HaveGenerations}
 use Rattle.generation_slab.proofs.SlotNumbers.{apart-slots, one-slot, no-number, parted, slot-below, given-next}
 
 -- A SLOT'S NUMBERS
@@ -41,47 +39,47 @@ has-map n ns = has-found (λ m. m) n (as_map (λ m. m) ns) ∙ ap is_there (foun
     is_there (Some m) = true
 
 module _ {T : Type 0} where
-  in-slot : (a g k : ℕ) (o : Option (Slot T)) → has_number (number_of_slot a k) (issued_in g k o) ≡ given_in o g a
+  in-slot : (a g k : ℕ) (o : Option T) → has_number (number_of_slot a k) (issued_in g k o) ≡ given_in o g a
   in-slot a g k None = before-slot a g k
   in-slot a g k (Some s) = before-slot a (suc g) k ∙ given-next g a
 
-  in-other : (a g k key : ℕ) (o : Option (Slot T)) → k < 281474976710656 → key < 281474976710656 → k ≢ key → has_number (number_of_slot a key) (issued_in g k o) ≡ false
+  in-other : (a g k key : ℕ) (o : Option T) → k < 281474976710656 → key < 281474976710656 → k ≢ key → has_number (number_of_slot a key) (issued_in g k o) ≡ false
   in-other a g k key None small below apart = before-other a g k key small below apart
   in-other a g k key (Some s) small below apart = before-other a (suc g) k key small below apart
 
-  in-zero : (g k : ℕ) (o : Option (Slot T)) → has_number 0 (issued_in g k o) ≡ false
+  in-zero : (g k : ℕ) (o : Option T) → has_number 0 (issued_in g k o) ≡ false
   in-zero g k None = before-zero g k
   in-zero g k (Some s) = before-zero (suc g) k
 
   -- OF ALL SLOTS
-  none-of-zero : (slots : Slab (Slot T)) (k : ℕ) (gs : List ℕ) → has_number 0 (issued_from slots k gs) ≡ false
-  none-of-zero slots k [] = refl
-  none-of-zero slots k (g ∷ gs) =
-      parts 0 (issued_in g k (get slots k)) (issued_from slots (suc k) gs) ∙ ap (λ b. b || has_number 0 (issued_from slots (suc k) gs)) (in-zero g k (get slots k))
-      ∙ none-of-zero slots (suc k) gs
+  none-of-zero : (live : ℕ → Option T) (k : ℕ) (gs : List ℕ) → has_number 0 (issued_from live k gs) ≡ false
+  none-of-zero live k [] = refl
+  none-of-zero live k (g ∷ gs) =
+      parts 0 (issued_in g k (live k)) (issued_from live (suc k) gs) ∙ ap (λ b. b || has_number 0 (issued_from live (suc k) gs)) (in-zero g k (live k))
+      ∙ none-of-zero live (suc k) gs
 
-  none-later : (slots : Slab (Slot T)) (a key k : ℕ) (gs : List ℕ) → key < k → k + length gs ≤ 281474976710656
-      → has_number (number_of_slot a key) (issued_from slots k gs) ≡ false
-  none-later slots a key k [] later fits = refl
-  none-later slots a key k (g ∷ gs) later fits =
-      parts (number_of_slot a key) (issued_in g k (get slots k)) (issued_from slots (suc k) gs)
-      ∙ ap (λ b. b || has_number (number_of_slot a key) (issued_from slots (suc k) gs))
-      (in-other a g k key (get slots k) (omega (arith, fits)) (omega (arith, later, fits)) (λ same. omega (arith, same, later)))
-      ∙ none-later slots a key (suc k) gs (omega (arith, later)) (omega (arith, fits))
+  none-later : (live : ℕ → Option T) (a key k : ℕ) (gs : List ℕ) → key < k → k + length gs ≤ 281474976710656
+      → has_number (number_of_slot a key) (issued_from live k gs) ≡ false
+  none-later live a key k [] later fits = refl
+  none-later live a key k (g ∷ gs) later fits =
+      parts (number_of_slot a key) (issued_in g k (live k)) (issued_from live (suc k) gs)
+      ∙ ap (λ b. b || has_number (number_of_slot a key) (issued_from live (suc k) gs))
+      (in-other a g k key (live k) (omega (arith, fits)) (omega (arith, later, fits)) (λ same. omega (arith, same, later)))
+      ∙ none-later live a key (suc k) gs (omega (arith, later)) (omega (arith, fits))
 
-  abbrev given_from : List ℕ → ℕ → Option (Slot T) → ℕ → Bool
+  abbrev given_from : List ℕ → ℕ → Option T → ℕ → Bool
   given_from [] i o a = false
   given_from (g ∷ gs) zero o a = given_in o g a
   given_from (g ∷ gs) (suc i) o a = given_from gs i o a
 
-  has-from : (slots : Slab (Slot T)) (a key k i : ℕ) (gs : List ℕ) → key ≡ k + i → key < 281474976710656 → k + length gs ≤ 281474976710656
-      → has_number (number_of_slot a key) (issued_from slots k gs) ≡ given_from gs i (get slots key) a
-  has-from slots a key k i [] is below fits = refl
-  has-from slots a key k zero (g ∷ gs) is below fits =
+  has-from : (live : ℕ → Option T) (a key k i : ℕ) (gs : List ℕ) → key ≡ k + i → key < 281474976710656 → k + length gs ≤ 281474976710656
+      → has_number (number_of_slot a key) (issued_from live k gs) ≡ given_from gs i (live key) a
+  has-from live a key k i [] is below fits = refl
+  has-from live a key k zero (g ∷ gs) is below fits =
       rw at_k
-      (parts (number_of_slot a k) (issued_in g k (get slots k)) (issued_from slots (suc k) gs)
-      ∙ ap (λ b. has_number (number_of_slot a k) (issued_in g k (get slots k)) || b) (none-later slots a k (suc k) gs (omega arith) (omega (arith, fits)))
-      ∙ ap (λ b. b || false) (in-slot a g k (get slots k)) ∙ plain (given_in (get slots k) g a))
+      (parts (number_of_slot a k) (issued_in g k (live k)) (issued_from live (suc k) gs)
+      ∙ ap (λ b. has_number (number_of_slot a k) (issued_in g k (live k)) || b) (none-later live a k (suc k) gs (omega arith) (omega (arith, fits)))
+      ∙ ap (λ b. b || false) (in-slot a g k (live k)) ∙ plain (given_in (live k) g a))
     where
       at_k : key ≡ k
       at_k = omega (arith, is)
@@ -89,13 +87,13 @@ module _ {T : Type 0} where
       plain : (b : Bool) → (b || false) ≡ b
       plain true = refl
       plain false = refl
-  has-from slots a key k (suc i) (g ∷ gs) is below fits =
-      parts (number_of_slot a key) (issued_in g k (get slots k)) (issued_from slots (suc k) gs)
-      ∙ ap (λ b. b || has_number (number_of_slot a key) (issued_from slots (suc k) gs))
-      (in-other a g k key (get slots k) (omega (arith, is, below)) below (λ same. omega (arith, same, is)))
-      ∙ has-from slots a key (suc k) i gs (omega (arith, is)) below (omega (arith, fits))
+  has-from live a key k (suc i) (g ∷ gs) is below fits =
+      parts (number_of_slot a key) (issued_in g k (live k)) (issued_from live (suc k) gs)
+      ∙ ap (λ b. b || has_number (number_of_slot a key) (issued_from live (suc k) gs))
+      (in-other a g k key (live k) (omega (arith, is, below)) below (λ same. omega (arith, same, is)))
+      ∙ has-from live a key (suc k) i gs (omega (arith, is)) below (omega (arith, fits))
 
-  given-read : (gs : List ℕ) (i : ℕ) (o : Option (Slot T)) (a : ℕ) → (length gs ≤ i → o ≡ None) → given_from gs i o a ≡ given_in o (generation_in gs i) a
+  given-read : (gs : List ℕ) (i : ℕ) (o : Option T) (a : ℕ) → (length gs ≤ i → o ≡ None) → given_from gs i o a ≡ given_in o (generation_in gs i) a
   given-read [] i o a empty = sym (ap (λ p. given_in p 0 a) (empty (omega arith)) ∙ none a)
     where
       none : (n : ℕ) → nat_lt n 0 ≡ false
@@ -103,18 +101,18 @@ module _ {T : Type 0} where
   given-read (g ∷ gs) zero o a empty = refl
   given-read (g ∷ gs) (suc i) o a empty = given-read gs i o a (λ past. empty (omega (arith, past)))
 
-  has-issued : (slots : Slab (Slot T)) (gs : List ℕ) (last : ℕ) → HasGenerations slots gs last → (n : ℕ) → has_number n (issued_from slots 0 gs) ≡ is_issued slots gs n
-  has-issued slots gs last sound zero = none-of-zero slots 0 gs
-  has-issued slots gs last sound (suc at) =
-      ap (λ m. has_number m (issued_from slots 0 gs)) (parted at)
-      ∙ has-from slots (at / 281474976710656) (at % 281474976710656) 0 (at % 281474976710656) gs (start (at % 281474976710656)) (slot-below at) (omega (arith, sound.few))
-      ∙ given-read gs (at % 281474976710656) (get slots (at % 281474976710656)) (at / 281474976710656) (sound.empty (at % 281474976710656))
+  has-issued : (live : ℕ → Option T) (gs : List ℕ) (r : ℕ) → HaveGenerations live gs → (n : ℕ) → has_number n (issued_from live 0 gs) ≡ is_issued live gs n
+  has-issued live gs r sound zero = none-of-zero live 0 gs
+  has-issued live gs r sound (suc at) =
+      ap (λ m. has_number m (issued_from live 0 gs)) (parted at)
+      ∙ has-from live (at / 281474976710656) (at % 281474976710656) 0 (at % 281474976710656) gs (start (at % 281474976710656)) (slot-below at) (omega (arith, sound.few))
+      ∙ given-read gs (at % 281474976710656) (live (at % 281474976710656)) (at / 281474976710656) (sound.empty (at % 281474976710656))
     where
       start : (m : ℕ) → m ≡ 0 + m
       start m = omega arith
 
-  pub issued-at : (slots : Slab (Slot T)) (gs : List ℕ) (last : ℕ) → HasGenerations slots gs last → (n : ℕ) → has_number n (places_of slots gs).issued ≡ is_issued slots gs n
-  issued-at slots gs last sound n = has-map n (issued_from slots 0 gs) ∙ has-issued slots gs last sound n
+  pub issued-at : (live : ℕ → Option T) (gs : List ℕ) (r : ℕ) → HaveGenerations live gs → (n : ℕ) → has_number n (places_of live gs r).issued ≡ is_issued live gs n
+  issued-at live gs r sound n = has-map n (issued_from live 0 gs) ∙ has-issued live gs r sound n
 
 -- TWO SETS WITH THE SAME NUMBERS ARE EQUAL
 found-has : (n : ℕ) (ns : List ℕ) → found (λ m. m) n ns ≡ cond (has_number n ns) (Some n) None

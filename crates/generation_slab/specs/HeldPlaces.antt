@@ -1,5 +1,6 @@
 -- What a slab with generations holds, as its callers see it.
-use Rattle.std.specs.Prelude.{ℕ, ◌==◌, not, cond, List, [], map, filter, filter_map, Option, option_map}
+use Rattle.std.specs.Prelude.{ℕ, ◌==◌, nat_eq, not, cond, List, [], map, filter, filter_map, Option, option_map}
+use Rattle.std.specs.List.{IsDistinct}
 use Rattle.napi_types.specs.plain.Lists.{found, as_map, with_record}
 
 -- a value, and the number under which it is held
@@ -7,15 +8,20 @@ pub record Held (T : Type 0) : Type 0 where
   pub number : ℕ
   pub value : T
 
--- each place, with what stands there, if something does, and all numbers that were ever issued, as a finite map
+-- each place, with what stands there, if something does; all numbers that were ever issued, as a finite map; and for how many values more the memory is reserved
 pub record HeldPlaces (T : Type 0) : Type 0 where
   pub places : List (Option (Held T))
   pub issued : List ℕ
+  pub room : ℕ
 
 module _ {T : Type 0} where
   -- what stands at places
   abbrev pub standing : List (Option (Held T)) → List (Held T)
   standing places = filter_map (λ place. place) places
+
+  -- under no number do two values stand
+  abbrev pub EachStandsOnce : HeldPlaces T → Type 0
+  EachStandsOnce s = IsDistinct nat_eq (map (λ h. h.number) (standing s.places))
 
   -- all that is held, as a finite map by its number
   abbrev pub held : HeldPlaces T → List (Held T)
@@ -38,6 +44,10 @@ module _ {T : Type 0} where
   abbrev pub with_held_value : ℕ → T → List (Held T) → List (Held T)
   with_held_value n value hs = map (λ h. cond (h.number == n) (with_value value h) h) hs
 
-  -- nothing is held, and no number was issued
+  -- the places, with another value where one stands under this number
+  abbrev pub with_value_at : ℕ → HeldPlaces T → T → HeldPlaces T
+  with_value_at n s value = record s { places = map (option_map (λ h. cond (h.number == n) (with_value value h) h)) s.places }
+
+  -- nothing is held, no number was issued, and no memory is reserved
   abbrev pub nothing_held : HeldPlaces T
-  nothing_held = record { places = []; issued = [] }
+  nothing_held = record { places = []; issued = []; room = 0 }

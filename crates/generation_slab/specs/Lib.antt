@@ -1,2 +1,3 @@
 pub mod HeldPlaces
+pub mod Lends
 pub mod SlotNumbers

@@ -1,61 +1,62 @@
 //! The slab with generations.
-ghost use Rattle.std.specs.Prelude.{◌≡◌, ℕ, ◌+◌, ◌-◌, ◌%◌, ◌<◌, ◌^◌, ◌≤◌, nat_eq, ◌∷◌, false, map, length, IsSome, Some, None, IfOk, OnOk, OnErr, option_map, option_copied, slice_index_or, slice_set};
-ghost use Rattle.std.specs.List.{All, IsDistinct};
+ghost use Rattle.std.specs.Prelude.{◌≡◌, ℕ, ◌+◌, ◌-◌, ◌%◌, ◌<◌, ◌^◌, ◌≤◌, nat_eq, ◌∷◌, false, map, length, vec_capacity, IsSome, Some, None, IfOk, OnOk, OnErr, option_map, option_copied, slice_index_or, slice_set};
+ghost use Rattle.std.specs.List.{IsDistinct};
+ghost use Rattle.slab.specs.Slab.{get};
 ghost use Rattle.napi_types.specs.plain.Lists.{has_number, with_number};
-ghost use Rattle.generation_slab.specs.HeldPlaces.{standing, held, value_of, with_held, without_held, with_held_value, with_value, nothing_held};
-ghost use Rattle.generation_slab.specs.SlotNumbers.{live_in};
+ghost use Rattle.generation_slab.specs.HeldPlaces.{standing, held, value_of, with_held, without_held, with_held_value, with_value, nothing_held, EachStandsOnce};
+ghost use Rattle.generation_slab.specs.SlotNumbers.{live_in, number_of_slot};
 
 use napi_types::NoMemory;
 use slab::Slab;
 use std::alloc::Global;
 use std::marker::Model;
+use std::mem;
 
 /// How many slots a generation has.
 const SLOTS: u64 = 0x1_0000_0000_0000;
 
-/// What a slot holds: a value, or the mark that it is never used again.
-#[derive(Drop)]
-pub(crate) enum Slot<T> {
-    Live(T),
-    Retired,
-}
-
 /// Values, each held under a number. A number is never given twice.
+///
+/// What is freed under a number of the greatest generation is let go with the slab.
 #[derive(Drop)]
 pub struct GenerationSlab<T> {
-    slots: Slab<Slot<T>>,
-    // The generation of each slot: that of the value which is there, or else of the next one.
-    generations: Vec<u16>,
+    slots: Slab<T>,
+    // The generation of each slot: that of the value which is there, or else of the next one. Above the greatest the slot is
+    // retired: the value that was there last stays, so that the slot is not used again, and no number finds it.
+    generations: Vec<u32>,
     // The greatest generation.
     last: u16,
+    // How many values are held.
+    count: usize,
+    // For how many values more the memory is taken.
+    room: usize,
 }
 
 impl<T> Model for GenerationSlab<T> {
+    ghost use Rattle.std.specs.Prelude.{vec_capacity};
     ghost use Rattle.generation_slab.specs.HeldPlaces.{HeldPlaces};
 
     ghost Value = { HeldPlaces T };
 
-    ghost use Rattle.generation_slab.specs.SlotNumbers.{places_of, HasGenerations};
+    ghost use Rattle.generation_slab.specs.SlotNumbers.{live_at, places_of, IsInOrder};
 
-    ghost view = { λ s. places_of s.slots s.generations.items };
+    ghost view = { λ s. places_of (live_at s.slots s.generations.items s.last) s.generations.items s.room };
 
-    ghost invariant = { λ s. HasGenerations s.slots s.generations.items s.last };
+    ghost invariant = { λ s. IsInOrder s.slots s.generations.items s.last s.count (vec_capacity s.generations) s.room };
 }
 
-/// A generation for the slot, where it has none.
-fn widen(generations: &mut Vec<u16>, slot: usize) -> Result<(), NoMemory>
-    requires { slot + 1 < 2 ^ 48 }
+/// A generation for the slot, where it has none. Its memory is taken.
+fn widen(generations: &mut Vec<u32>, slot: usize)
+    requires { slot < vec_capacity generations.old }
     ensures kept { (k : ℕ) → slice_index_or generations.new.items k 0 ≡ slice_index_or generations.old.items k 0 }
-    ensures there { OnOk result (slot < length generations.new.items) }
-    ensures few { length generations.old.items < 2 ^ 48 → length generations.new.items < 2 ^ 48 }
+    ensures there { slot < length generations.new.items }
+    ensures short { length generations.old.items < 2 ^ 48 → slot < 2 ^ 48 - 1 → length generations.new.items < 2 ^ 48 }
     ensures longer { length generations.old.items ≤ length generations.new.items }
-    ensures within { (last : ℕ) → All (λ g. g ≤ last) generations.old.items → All (λ g. g ≤ last) generations.new.items }
-    ensures err { OnErr result (generations.new.items ≡ generations.old.items) }
+    ensures capacity { vec_capacity generations.new ≡ vec_capacity generations.old }
 {
-    if slot >= generations.len() {
-        generations.resize(slot + 1, 0)?;
+    for _ in generations.len()..slot + 1 {
+        generations.push_reserved(0);
     }
-    Ok(())
 }
 
 /// The slot of a number.
@@ -65,17 +66,29 @@ fn slot_of(number: u64) -> usize
     (number.saturating_sub(1) % SLOTS) as usize
 }
 
-/// The value in a slot that is taken.
-fn live<T>(taken: &Slot<T>) -> Option<&T>
-    ensures { option_copied result ≡ live_in (Some taken.now) }
+/// The number of a slot in a generation.
+fn number_of(generation: u32, slot: usize) -> u64
+    requires generation { generation < 2 ^ 16 }
+    requires slot { slot < 2 ^ 48 - 1 }
+    ensures { result ≡ number_of_slot generation slot }
 {
-    match taken {
-        Slot::Live(value) => Some(value),
-        Slot::Retired => None,
+    u64::from(generation) * SLOTS + slot as u64 + 1
+}
+
+/// The value in a slot of a generation, none where that is above the greatest.
+fn live<T>(slots: &Slab<T>, slot: usize, generation: u32, last: u16) -> Option<&T>
+    ensures { option_copied result ≡ live_in last generation (get slots.now slot) }
+{
+    if generation > u32::from(last) {
+        return None;
     }
+    slots.get(slot)
 }
 
 impl<T: Drop> GenerationSlab<T> {
+    ghost use Rattle.std.specs.Borrow.{sem};
+    ghost use Rattle.generation_slab.specs.Lends.{lends_value};
+
     /// Nothing is held. It takes no memory.
     pub fn new(alloc: Global) -> GenerationSlab<T>
         ensures { result ≡ nothing_held }
@@ -91,6 +104,8 @@ impl<T: Drop> GenerationSlab<T> {
             slots: Slab::new(alloc),
             generations: Vec::new(alloc),
             last,
+            count: 0,
+            room: 0,
         }
     }
 
@@ -105,7 +120,7 @@ impl<T: Drop> GenerationSlab<T> {
         if u64::from(generation) != at / SLOTS {
             return None;
         }
-        live(slots.get(slot)?)
+        live(slots, slot, generation, self.last)
     }
 
     /// Holds a value. Its number was never issued before, and is not 0.
@@ -115,17 +130,54 @@ impl<T: Drop> GenerationSlab<T> {
         ensures fresh { IfOk result (λ number. has_number number (0 ∷ self.old.issued) ≡ false) }
         ensures held { IfOk result (λ number. held self.new ≡ with_held number value (held self.old)) }
         ensures issued { IfOk result (λ number. self.new.issued ≡ with_number number self.old.issued) }
+        ensures once { OnOk result (EachStandsOnce self.new) }
         ensures err { OnErr result (self.new ≡ self.old) }
     {
-        self.slots.reserve(1)?;
-        let slot = self.slots.vacant_key();
-        if slot as u64 >= SLOTS - 1 {
+        if self.room == 0 {
+            self.reserve(1)?;
+        }
+        Ok(self.make_reserved(value))
+    }
+
+    /// Takes the memory for so many values more, all of it or none.
+    ///
+    /// Constant time, where the memory is taken already; else linear in how many slots there are, at the most.
+    pub fn reserve(&mut self, count: usize) -> Result<(), NoMemory>
+        ensures kept { self.new ≡ record self.old { room = self.new.room } }
+        ensures reserved { OnOk result (count ≤ self.new.room) }
+        ensures err { OnErr result (self.new.room ≡ 0) }
+    {
+        if self.room >= count {
+            return Ok(());
+        }
+        self.room = 0;
+        self.slots.reserve(count)?;
+        let capacity = self.slots.capacity();
+        if capacity as u64 >= SLOTS {
             return Err(NoMemory);
         }
-        widen(&mut self.generations, slot)?;
-        let generation = self.generations[slot];
-        self.slots.insert_reserved(Slot::Live(value));
-        Ok(u64::from(generation) * SLOTS + slot as u64 + 1)
+        let more = capacity.saturating_sub(self.generations.len());
+        self.generations.reserve(more)?;
+        self.room = count;
+        Ok(())
+    }
+
+    /// `make`, where the memory for a value is taken: it takes none.
+    ///
+    /// Constant time.
+    pub fn make_reserved(&mut self, value: T) -> u64
+        requires { 0 < self.old.room }
+        ensures fresh { has_number result (0 ∷ self.old.issued) ≡ false }
+        ensures held { held self.new ≡ with_held result value (held self.old) }
+        ensures issued { self.new.issued ≡ with_number result self.old.issued }
+        ensures once { EachStandsOnce self.new }
+        ensures room { self.new.room + 1 ≡ self.old.room }
+    {
+        let slot = self.slots.insert_reserved(value);
+        widen(&mut self.generations, slot);
+        self.count += 1;
+        self.room -= 1;
+        number_of(self.generations[slot], slot)
     }
 
     /// Frees a number: nothing is held under it any more, and it is never given again.
@@ -135,15 +187,27 @@ impl<T: Drop> GenerationSlab<T> {
         requires { IsSome (value_of self.old number) }
         ensures freed { held self.new ≡ without_held number (held self.old) }
         ensures issued { self.new.issued ≡ self.old.issued }
+        ensures once { EachStandsOnce self.new }
     {
         let slot = slot_of(number);
         let generation = self.generations[slot];
-        self.slots.remove(slot);
-        if generation == self.last {
-            self.slots.insert_reserved(Slot::Retired);
-        } else {
-            self.generations[slot] = generation + 1;
+        self.generations[slot] = generation + 1;
+        self.count -= 1;
+        if generation < u32::from(self.last) {
+            self.slots.remove(slot);
         }
+    }
+
+    /// The value of a number, to be changed where it stands.
+    ///
+    /// Constant time. It takes no memory.
+    pub fn value_mut(&mut self, number: u64) -> &mut T
+        requires { IsSome (value_of self.old number) }
+        ensures* writes_back { sem 𝓛 (lends_value T.row self.entry number result) }
+        ensures value { value_of self.old number ≡ Some result.now }
+    {
+        let slot = slot_of(number);
+        &mut self.slots[slot]
     }
 
     /// Holds another value under a number, and gives back the one that was held.
@@ -156,13 +220,14 @@ impl<T: Drop> GenerationSlab<T> {
         ensures issued { self.new.issued ≡ self.old.issued }
     {
         let slot = slot_of(number);
-        match self.slots.remove(slot) {
-            Slot::Live(old) => {
-                self.slots.insert_reserved(Slot::Live(value));
-                old
-            }
-            Slot::Retired => unreachable!(),
-        }
+        mem::replace(&mut self.slots[slot], value)
+    }
+
+    /// How many values are held. Constant time.
+    pub fn count(&self) -> usize
+        ensures { result ≡ length (standing self.now.places) }
+    {
+        self.count
     }
 
     /// How many places there are. What is held stands at exactly one, whichever that is. Constant time.
@@ -178,7 +243,7 @@ impl<T: Drop> GenerationSlab<T> {
         requires { at < length self.now.places }
         ensures { option_copied result ≡ option_map (λ h. h.value) (slice_index_or self.now.places at None) }
     {
-        live(self.slots.get(at)?)
+        live(&self.slots, at, self.generations[at], self.last)
     }
 
     /// Holds another value where one stands at a place. Constant time. It takes no memory.
@@ -186,8 +251,8 @@ impl<T: Drop> GenerationSlab<T> {
         requires { IsSome (slice_index_or self.old.places at None) }
         ensures put { self.new.places ≡ slice_set self.old.places at (option_map (with_value value) (slice_index_or self.old.places at None)) }
         ensures issued { self.new.issued ≡ self.old.issued }
+        ensures room { self.new.room ≡ self.old.room }
     {
-        self.slots.remove(at);
-        self.slots.insert_reserved(Slot::Live(value));
+        self.slots[at] = value;
     }
 }

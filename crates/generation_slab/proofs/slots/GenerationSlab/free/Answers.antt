@@ -1,40 +1,64 @@
-use Rattle.std.proofs.Common.{◌≡◌, ◌∙◌, ap, arith, is_some, rules, length}
+use Rattle.std.proofs.Common.{◌≡◌, ap, arith, is_some, rules, length}
 use Rattle.std.specs.Prelude.{vec_len}
-use Rattle.generation_slab.proofs.Changing.{stands, read-generation, below-last, twice, retires, gives-back}
+use Rattle.generation_slab.proofs.InOrder.{found-in, read-in, given-order, given-results, retired-order, retired-results}
 use Rattle.generation_slab.proofs.slots.GenerationSlab.free.Goals as goal
 
 pub index-generation-requires : goal.index-generation-requires
 index-generation-requires g c =
-    let it = (stands c.self.inside.slots c.self.inside.generations.items c.self.inside.last c.self.invariant c.args.self.now c.self.view_is c.args.number c.slot_of-slot.result c.slot_of-slot.ensures c.requires) in
+    let found = (found-in c.self.inside.slots c.self.inside.generations.items c.self.inside.last c.self.inside.count _ c.self.inside.room c.self.invariant c.args.self.now c.self.view_is c.args.number c.slot_of-slot.result c.slot_of-slot.ensures c.requires) in
     let long : vec_len c.self.inside.generations ≡ length c.self.inside.generations.items = search rules in
-    omega (arith, it.within, long)
+    omega (arith, found.at.within, long)
+
+pub index_mut-requires : goal.index_mut-requires
+index_mut-requires g c =
+    let found = (found-in c.self.inside.slots c.self.inside.generations.items c.self.inside.last c.self.inside.count _ c.self.inside.room c.self.invariant c.args.self.now c.self.view_is c.args.number c.slot_of-slot.result c.slot_of-slot.ensures c.requires) in
+    let long : vec_len c.self.inside.generations ≡ length c.self.inside.generations.items = search rules in
+    omega (arith, found.at.within, long)
+
+pub overflow_add-generation : goal.overflow_add-generation
+overflow_add-generation g c =
+    let found = (found-in c.self.inside.slots c.self.inside.generations.items c.self.inside.last c.self.inside.count _ c.self.inside.room c.self.invariant c.args.self.now c.self.view_is c.args.number c.slot_of-slot.result c.slot_of-slot.ensures c.requires) in
+    omega (arith, (read-in c.self.inside.slots c.self.inside.generations.items c.self.inside.last c.self.inside.count _ c.self.inside.room c.self.invariant c.args.self.now c.self.view_is c.args.number c.slot_of-slot.result c.index-generation.result.now found c.index-generation.ensures), found.short, c.self.invariant.low)
 
 pub remove-requires : goal.remove-requires
-remove-requires g c = let it = (stands c.self.inside.slots c.self.inside.generations.items c.self.inside.last c.self.invariant c.args.self.now c.self.view_is c.args.number c.slot_of-slot.result c.slot_of-slot.ensures c.requires) in ap is_some it.there
+remove-requires g c = let found = (found-in c.self.inside.slots c.self.inside.generations.items c.self.inside.last c.self.inside.count _ c.self.inside.room c.self.invariant c.args.self.now c.self.view_is c.args.number c.slot_of-slot.result c.slot_of-slot.ensures c.requires) in ap is_some found.there
 
-pub returns-then-generation-self-clause-freed : goal.returns-then-generation-self-clause-freed
-returns-then-generation-self-clause-freed g c =
-    let it = retires c.self.inside.slots c.insert_reserved.new.self c.self.inside.generations.items c.self.inside.last c.self.invariant c.args.self.now c.self.view_is c.args.number
-    c.slot_of-slot.result (stands c.self.inside.slots c.self.inside.generations.items c.self.inside.last c.self.invariant c.args.self.now c.self.view_is c.args.number c.slot_of-slot.result c.slot_of-slot.ensures c.requires)
-    (twice c.self.inside.slots c.remove.new.self c.insert_reserved.new.self c.slot_of-slot.result c.insert_reserved.result _ _ c.remove.ensures.updates c.insert_reserved.ensures.updates
-    (c.insert_reserved.ensures.key ∙ c.remove.ensures.key_is_next)) in it.holds
+pub invariant_of-self : goal.invariant_of-self
+invariant_of-self g c =
+    let found = (found-in c.self.inside.slots c.self.inside.generations.items c.self.inside.last c.self.inside.count _ c.self.inside.room c.self.invariant c.args.self.now c.self.view_is c.args.number c.slot_of-slot.result c.slot_of-slot.ensures c.requires) in
+    given-order c.self.inside.slots c.self.inside.generations.items c.self.inside.last c.self.inside.count _ c.self.inside.room c.self.invariant c.args.self.now c.self.view_is c.args.number c.slot_of-slot.result c.index-generation.result.now found (read-in c.self.inside.slots c.self.inside.generations.items c.self.inside.last c.self.inside.count _ c.self.inside.room c.self.invariant c.args.self.now c.self.view_is c.args.number c.slot_of-slot.result c.index-generation.result.now found c.index-generation.ensures) c.remove.new.self c.remove.ensures.updates c.remove.ensures.len c.remove.ensures.capacity (omega (arith, c.from.ensures, c.if-generation-from.true))
 
-pub returns-else-generation-self-clause-freed : goal.returns-else-generation-self-clause-freed
-returns-else-generation-self-clause-freed g c =
-    let at = (stands c.self.inside.slots c.self.inside.generations.items c.self.inside.last c.self.invariant c.args.self.now c.self.view_is c.args.number c.slot_of-slot.result c.slot_of-slot.ensures c.requires) in
-    let it = gives-back c.self.inside.slots c.remove.new.self c.self.inside.generations.items c.self.inside.last c.self.invariant c.args.self.now c.self.view_is c.args.number
-    c.slot_of-slot.result at c.index-generation.result.now
-    (read-generation c.self.inside.slots c.self.inside.generations.items c.args.number c.slot_of-slot.result c.index-generation.result.now at c.index-generation.ensures)
-    (below-last c.self.inside.generations.items c.self.inside.last c.slot_of-slot.result c.index-generation.result.now c.self.invariant.within at.within c.index-generation.ensures
-    (λ same. grind (arith, same, c.if-generation-self.false)))
-    c.remove.ensures.updates in it.holds
+pub invariant_of-self-else-generation-from : goal.invariant_of-self-else-generation-from
+invariant_of-self-else-generation-from g c =
+    let found = (found-in c.self.inside.slots c.self.inside.generations.items c.self.inside.last c.self.inside.count _ c.self.inside.room c.self.invariant c.args.self.now c.self.view_is c.args.number c.slot_of-slot.result c.slot_of-slot.ensures c.requires) in
+    retired-order c.self.inside.slots c.self.inside.generations.items c.self.inside.last c.self.inside.count _ c.self.inside.room c.self.invariant c.args.self.now c.self.view_is c.args.number c.slot_of-slot.result c.index-generation.result.now found (read-in c.self.inside.slots c.self.inside.generations.items c.self.inside.last c.self.inside.count _ c.self.inside.room c.self.invariant c.args.self.now c.self.view_is c.args.number c.slot_of-slot.result c.index-generation.result.now found c.index-generation.ensures) (omega (arith, c.from.ensures, c.if-generation-from.false))
 
-pub returns-else-generation-self-clause-issued : goal.returns-else-generation-self-clause-issued
-returns-else-generation-self-clause-issued g c =
-    let at = (stands c.self.inside.slots c.self.inside.generations.items c.self.inside.last c.self.invariant c.args.self.now c.self.view_is c.args.number c.slot_of-slot.result c.slot_of-slot.ensures c.requires) in
-    let it = gives-back c.self.inside.slots c.remove.new.self c.self.inside.generations.items c.self.inside.last c.self.invariant c.args.self.now c.self.view_is c.args.number
-    c.slot_of-slot.result at c.index-generation.result.now
-    (read-generation c.self.inside.slots c.self.inside.generations.items c.args.number c.slot_of-slot.result c.index-generation.result.now at c.index-generation.ensures)
-    (below-last c.self.inside.generations.items c.self.inside.last c.slot_of-slot.result c.index-generation.result.now c.self.invariant.within at.within c.index-generation.ensures
-    (λ same. grind (arith, same, c.if-generation-self.false)))
-    c.remove.ensures.updates in it.issued
+pub returns-then-generation-from-clause-freed : goal.returns-then-generation-from-clause-freed
+returns-then-generation-from-clause-freed g c =
+    let found = (found-in c.self.inside.slots c.self.inside.generations.items c.self.inside.last c.self.inside.count _ c.self.inside.room c.self.invariant c.args.self.now c.self.view_is c.args.number c.slot_of-slot.result c.slot_of-slot.ensures c.requires) in
+    let it = given-results c.self.inside.slots c.self.inside.generations.items c.self.inside.last c.self.inside.count _ c.self.inside.room c.self.invariant c.args.self.now c.self.view_is c.args.number c.slot_of-slot.result c.index-generation.result.now found (read-in c.self.inside.slots c.self.inside.generations.items c.self.inside.last c.self.inside.count _ c.self.inside.room c.self.invariant c.args.self.now c.self.view_is c.args.number c.slot_of-slot.result c.index-generation.result.now found c.index-generation.ensures) c.remove.new.self c.remove.ensures.updates c.remove.ensures.len c.remove.ensures.capacity (omega (arith, c.from.ensures, c.if-generation-from.true)) in it.holds
+
+pub returns-then-generation-from-clause-issued : goal.returns-then-generation-from-clause-issued
+returns-then-generation-from-clause-issued g c =
+    let found = (found-in c.self.inside.slots c.self.inside.generations.items c.self.inside.last c.self.inside.count _ c.self.inside.room c.self.invariant c.args.self.now c.self.view_is c.args.number c.slot_of-slot.result c.slot_of-slot.ensures c.requires) in
+    let it = given-results c.self.inside.slots c.self.inside.generations.items c.self.inside.last c.self.inside.count _ c.self.inside.room c.self.invariant c.args.self.now c.self.view_is c.args.number c.slot_of-slot.result c.index-generation.result.now found (read-in c.self.inside.slots c.self.inside.generations.items c.self.inside.last c.self.inside.count _ c.self.inside.room c.self.invariant c.args.self.now c.self.view_is c.args.number c.slot_of-slot.result c.index-generation.result.now found c.index-generation.ensures) c.remove.new.self c.remove.ensures.updates c.remove.ensures.len c.remove.ensures.capacity (omega (arith, c.from.ensures, c.if-generation-from.true)) in it.issued
+
+pub returns-then-generation-from-clause-once : goal.returns-then-generation-from-clause-once
+returns-then-generation-from-clause-once g c =
+    let found = (found-in c.self.inside.slots c.self.inside.generations.items c.self.inside.last c.self.inside.count _ c.self.inside.room c.self.invariant c.args.self.now c.self.view_is c.args.number c.slot_of-slot.result c.slot_of-slot.ensures c.requires) in
+    let it = given-results c.self.inside.slots c.self.inside.generations.items c.self.inside.last c.self.inside.count _ c.self.inside.room c.self.invariant c.args.self.now c.self.view_is c.args.number c.slot_of-slot.result c.index-generation.result.now found (read-in c.self.inside.slots c.self.inside.generations.items c.self.inside.last c.self.inside.count _ c.self.inside.room c.self.invariant c.args.self.now c.self.view_is c.args.number c.slot_of-slot.result c.index-generation.result.now found c.index-generation.ensures) c.remove.new.self c.remove.ensures.updates c.remove.ensures.len c.remove.ensures.capacity (omega (arith, c.from.ensures, c.if-generation-from.true)) in it.once
+
+pub returns-else-generation-from-clause-freed : goal.returns-else-generation-from-clause-freed
+returns-else-generation-from-clause-freed g c =
+    let found = (found-in c.self.inside.slots c.self.inside.generations.items c.self.inside.last c.self.inside.count _ c.self.inside.room c.self.invariant c.args.self.now c.self.view_is c.args.number c.slot_of-slot.result c.slot_of-slot.ensures c.requires) in
+    let it = retired-results c.self.inside.slots c.self.inside.generations.items c.self.inside.last c.self.inside.count _ c.self.inside.room c.self.invariant c.args.self.now c.self.view_is c.args.number c.slot_of-slot.result c.index-generation.result.now found (read-in c.self.inside.slots c.self.inside.generations.items c.self.inside.last c.self.inside.count _ c.self.inside.room c.self.invariant c.args.self.now c.self.view_is c.args.number c.slot_of-slot.result c.index-generation.result.now found c.index-generation.ensures) (omega (arith, c.from.ensures, c.if-generation-from.false)) in it.holds
+
+pub returns-else-generation-from-clause-issued : goal.returns-else-generation-from-clause-issued
+returns-else-generation-from-clause-issued g c =
+    let found = (found-in c.self.inside.slots c.self.inside.generations.items c.self.inside.last c.self.inside.count _ c.self.inside.room c.self.invariant c.args.self.now c.self.view_is c.args.number c.slot_of-slot.result c.slot_of-slot.ensures c.requires) in
+    let it = retired-results c.self.inside.slots c.self.inside.generations.items c.self.inside.last c.self.inside.count _ c.self.inside.room c.self.invariant c.args.self.now c.self.view_is c.args.number c.slot_of-slot.result c.index-generation.result.now found (read-in c.self.inside.slots c.self.inside.generations.items c.self.inside.last c.self.inside.count _ c.self.inside.room c.self.invariant c.args.self.now c.self.view_is c.args.number c.slot_of-slot.result c.index-generation.result.now found c.index-generation.ensures) (omega (arith, c.from.ensures, c.if-generation-from.false)) in it.issued
+
+pub returns-else-generation-from-clause-once : goal.returns-else-generation-from-clause-once
+returns-else-generation-from-clause-once g c =
+    let found = (found-in c.self.inside.slots c.self.inside.generations.items c.self.inside.last c.self.inside.count _ c.self.inside.room c.self.invariant c.args.self.now c.self.view_is c.args.number c.slot_of-slot.result c.slot_of-slot.ensures c.requires) in
+    let it = retired-results c.self.inside.slots c.self.inside.generations.items c.self.inside.last c.self.inside.count _ c.self.inside.room c.self.invariant c.args.self.now c.self.view_is c.args.number c.slot_of-slot.result c.index-generation.result.now found (read-in c.self.inside.slots c.self.inside.generations.items c.self.inside.last c.self.inside.count _ c.self.inside.room c.self.invariant c.args.self.now c.self.view_is c.args.number c.slot_of-slot.result c.index-generation.result.now found c.index-generation.ensures) (omega (arith, c.from.ensures, c.if-generation-from.false)) in it.once

@@ -1,14 +1,15 @@
-use Rattle.std.proofs.Common.{◌∙◌}
-use Rattle.generation_slab.proofs.Changing.{twice}
-use Rattle.generation_slab.proofs.SlotReading.{place-taken, place-put}
+use Rattle.std.proofs.Common.{ap, is_some}
+use Rattle.generation_slab.proofs.InOrder.{found-at, put-order, put-places, put-issued}
 use Rattle.generation_slab.proofs.slots.GenerationSlab.put_in.Goals as goal
 
-pub remove-requires : goal.remove-requires
-remove-requires g c =
-    place-taken c.self.inside.slots c.self.inside.generations.items c.self.inside.last c.self.invariant c.args.self.now c.self.view_is c.args.at c.requires
+pub index_mut-requires : goal.index_mut-requires
+index_mut-requires g c = let found = found-at c.self.inside.slots c.self.inside.generations.items c.self.inside.last c.self.inside.count _ c.self.inside.room c.self.invariant c.args.self.now c.self.view_is c.args.at c.requires in ap is_some found.there
+
+pub invariant_of-self : goal.invariant_of-self
+invariant_of-self g c = put-order c.self.inside.slots c.self.inside.generations.items c.self.inside.last c.self.inside.count _ c.self.inside.room c.self.invariant c.args.self.now c.self.view_is c.args.at c.requires c.args.value
 
 pub returns-clause-put : goal.returns-clause-put
-returns-clause-put g c =
-    place-put c.self.inside.slots c.self.inside.generations.items c.self.inside.last c.self.invariant c.args.self.now c.self.view_is c.insert_reserved.new.self c.args.at c.args.value c.requires
-    (twice c.self.inside.slots c.remove.new.self c.insert_reserved.new.self c.args.at c.insert_reserved.result _ _ c.remove.ensures.updates c.insert_reserved.ensures.updates
-    (c.insert_reserved.ensures.key ∙ c.remove.ensures.key_is_next))
+returns-clause-put g c = put-places c.self.inside.slots c.self.inside.generations.items c.self.inside.last c.self.inside.count _ c.self.inside.room c.self.invariant c.args.self.now c.self.view_is c.args.at c.requires c.args.value
+
+pub returns-clause-issued : goal.returns-clause-issued
+returns-clause-issued g c = put-issued c.self.inside.slots c.self.inside.generations.items c.self.inside.last c.self.inside.count _ c.self.inside.room c.self.invariant c.args.self.now c.self.view_is c.args.at c.requires c.args.value

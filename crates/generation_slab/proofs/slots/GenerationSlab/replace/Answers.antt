@@ -1,22 +1,23 @@
-use Rattle.std.proofs.Common.{◌∙◌, ap, is_some}
-use Rattle.generation_slab.proofs.Changing.{stands, twice, replaces}
+use Rattle.std.proofs.Common.{◌∙◌, ap, sym, is_some, Some}
+use Rattle.generation_slab.specs.SlotNumbers.{live_at}
+use Rattle.generation_slab.proofs.InOrder.{found-in, write-order, write-results}
+use Rattle.generation_slab.proofs.LiveSlots.{have-generations}
 use Rattle.generation_slab.proofs.SlotReading.{value-seen}
 use Rattle.generation_slab.proofs.slots.GenerationSlab.replace.Goals as goal
 
-pub remove-requires : goal.remove-requires
-remove-requires g c = let it = (stands c.self.inside.slots c.self.inside.generations.items c.self.inside.last c.self.invariant c.args.self.now c.self.view_is c.args.number c.slot_of-slot.result c.slot_of-slot.ensures c.requires) in ap is_some it.there
+pub index_mut-requires : goal.index_mut-requires
+index_mut-requires g c = let found = (found-in c.self.inside.slots c.self.inside.generations.items c.self.inside.last c.self.inside.count _ c.self.inside.room c.self.invariant c.args.self.now c.self.view_is c.args.number c.slot_of-slot.result c.slot_of-slot.ensures c.requires) in ap is_some found.there
 
-pub unreachable-requires : goal.unreachable-requires
-unreachable-requires g c = let it = (stands c.self.inside.slots c.self.inside.generations.items c.self.inside.last c.self.invariant c.args.self.now c.self.view_is c.args.number c.slot_of-slot.result c.slot_of-slot.ensures c.requires) in let there = it.there in let read = c.in-Retired.ensures.value in cc
+pub invariant_of-self : goal.invariant_of-self
+invariant_of-self g c = rw c.replace.ensures.after (write-order c.self.inside.slots c.self.inside.generations.items c.self.inside.last c.self.inside.count _ c.self.inside.room c.self.invariant c.args.self.now c.self.view_is c.args.number c.slot_of-slot.result (found-in c.self.inside.slots c.self.inside.generations.items c.self.inside.last c.self.inside.count _ c.self.inside.room c.self.invariant c.args.self.now c.self.view_is c.args.number c.slot_of-slot.result c.slot_of-slot.ensures c.requires) c.args.value)
 
 pub returns-clause-given : goal.returns-clause-given
 returns-clause-given g c =
-    let it = (stands c.self.inside.slots c.self.inside.generations.items c.self.inside.last c.self.invariant c.args.self.now c.self.view_is c.args.number c.slot_of-slot.result c.slot_of-slot.ensures c.requires) in let there = it.there in let read = c.in-Live.ensures.value in
-    value-seen c.self.inside.slots c.self.inside.generations.items c.self.inside.last c.self.invariant c.args.self.now c.self.view_is c.args.number ∙ it.told ∙ cc
+    let found = (found-in c.self.inside.slots c.self.inside.generations.items c.self.inside.last c.self.inside.count _ c.self.inside.room c.self.invariant c.args.self.now c.self.view_is c.args.number c.slot_of-slot.result c.slot_of-slot.ensures c.requires) in
+    value-seen (live_at c.self.inside.slots c.self.inside.generations.items c.self.inside.last) c.self.inside.generations.items c.self.inside.room (have-generations c.self.inside.slots c.self.inside.generations.items c.self.inside.last c.self.inside.count _ c.self.inside.room c.self.invariant) c.args.self.now c.self.view_is c.args.number ∙ found.at.told ∙ sym found.there ∙ c.index_mut.ensures.value ∙ ap Some (sym c.replace.ensures.value)
 
 pub returns-clause-replaced : goal.returns-clause-replaced
-returns-clause-replaced g c =
-    let it = replaces c.self.inside.slots c.insert_reserved.new.self c.self.inside.generations.items c.self.inside.last c.self.invariant c.args.self.now c.self.view_is c.args.number
-    c.slot_of-slot.result (stands c.self.inside.slots c.self.inside.generations.items c.self.inside.last c.self.invariant c.args.self.now c.self.view_is c.args.number c.slot_of-slot.result c.slot_of-slot.ensures c.requires) c.args.value
-    (twice c.self.inside.slots c.remove.new.self c.insert_reserved.new.self c.slot_of-slot.result c.insert_reserved.result _ _ c.remove.ensures.updates c.insert_reserved.ensures.updates
-    (c.insert_reserved.ensures.key ∙ c.remove.ensures.key_is_next)) in it.holds
+returns-clause-replaced g c = rw c.replace.ensures.after (let it = write-results c.self.inside.slots c.self.inside.generations.items c.self.inside.last c.self.inside.count _ c.self.inside.room c.self.invariant c.args.self.now c.self.view_is c.args.number c.slot_of-slot.result (found-in c.self.inside.slots c.self.inside.generations.items c.self.inside.last c.self.inside.count _ c.self.inside.room c.self.invariant c.args.self.now c.self.view_is c.args.number c.slot_of-slot.result c.slot_of-slot.ensures c.requires) c.args.value in it.holds)
+
+pub returns-clause-issued : goal.returns-clause-issued
+returns-clause-issued g c = rw c.replace.ensures.after (let it = write-results c.self.inside.slots c.self.inside.generations.items c.self.inside.last c.self.inside.count _ c.self.inside.room c.self.invariant c.args.self.now c.self.view_is c.args.number c.slot_of-slot.result (found-in c.self.inside.slots c.self.inside.generations.items c.self.inside.last c.self.inside.count _ c.self.inside.room c.self.invariant c.args.self.now c.self.view_is c.args.number c.slot_of-slot.result c.slot_of-slot.ensures c.requires) c.args.value in it.issued)
