@@ -246,6 +246,26 @@ impl<T: Drop> GenerationSlab<T> {
         live(&self.slots, at, self.generations[at], self.last)
     }
 
+    /// The number of what stands at a place, `None` exactly where nothing stands there. `at` is below `places`. Constant time.
+    pub fn number_in(&self, at: usize) -> Option<u64>
+        requires { at < length self.now.places }
+        ensures { result ≡ option_map (λ h. h.number) (slice_index_or self.now.places at None) }
+    {
+        let generation = self.generations[at];
+        live(&self.slots, at, generation, self.last)?;
+        Some(number_of(generation, at))
+    }
+
+    /// The place where the value of a number stands. Constant time.
+    pub fn place_of(&self, number: u64) -> usize
+        requires { IsSome (value_of self.now number) }
+        ensures { option_map (λ h. h.number) (slice_index_or self.now.places result None) ≡ Some number }
+    {
+        // What is held has a slot, as the slab's invariant says.
+        let _ = &self.slots;
+        slot_of(number)
+    }
+
     /// Holds another value where one stands at a place. Constant time. It takes no memory.
     pub fn put_in(&mut self, at: usize, value: T)
         requires { IsSome (slice_index_or self.old.places at None) }

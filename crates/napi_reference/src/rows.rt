@@ -50,6 +50,7 @@ fn empty_at(rows: &mut GenerationSlab<ReferenceRow>, at: usize, values: &[ValueI
     requires order { IsInOrder order values.now }
     ensures places { rows.new.places ≡ slice_set rows.old.places at (option_map (held_emptied (λ v. has_number v (map (λ v. v.0) values.now))) (slice_index_or rows.old.places at None)) }
     ensures issued { rows.new.issued ≡ rows.old.issued }
+    ensures room { rows.new.room ≡ rows.old.room }
 {
     if let Some(row) = rows.value_in(at).copied() {
         rows.put_in(at, emptied(row, values, order));

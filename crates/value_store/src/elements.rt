@@ -1,5 +1,5 @@
 //! The elements of one value.
-ghost use Rattle.std.specs.Prelude.{◌≡◌, ◌^◌, ◌<◌, ◌≤◌, [], length, filter_map, OnOk, OnErr, option_map};
+ghost use Rattle.std.specs.Prelude.{◌≡◌, ◌^◌, ◌<◌, ◌≤◌, [], length, filter_map, None, OnOk, OnErr, option_map};
 ghost use Rattle.napi_types.specs.plain.Lists.{HaveSameNumbers};
 ghost use Rattle.napi_types.specs.parts.Properties.{most_index, element_at, element_set};
 ghost use Rattle.value_store.specs.PropertyMaps.{numbers_in};
@@ -45,6 +45,7 @@ impl Elements {
         requires { at ≤ most_index }
         ensures set { OnOk result (self.new ≡ element_set at to.0 self.old) }
         ensures err { OnErr result (self.new ≡ self.old) }
+        ensures absent { OnErr result (element_at at self.old ≡ None) }
     {
         self.values.insert(at, to)?;
         self.count = self.count.max(at + 1);

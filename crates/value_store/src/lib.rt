@@ -9,6 +9,7 @@ mod info;
 mod parts;
 mod place;
 mod places;
+mod record;
 mod store;
 
 pub use info::ValueInfo;

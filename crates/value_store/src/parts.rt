@@ -1,5 +1,5 @@
 //! The parts of one value: its properties and its elements; and its children, which these name.
-ghost use Rattle.std.specs.Prelude.{◌≡◌, ◌+◌, ◌^◌, ◌<◌, ◌≤◌, ◌++◌, [], length, map, filter_map, OnOk, OnErr, option_map, slice_get, slice_index, is_some, Some};
+ghost use Rattle.std.specs.Prelude.{◌≡◌, ◌+◌, ◌^◌, ◌<◌, ◌≤◌, ◌++◌, [], length, map, filter_map, OnOk, OnErr, option_map, slice_get, slice_index, is_some, Some, None};
 ghost use Rattle.napi_types.specs.plain.Lists.{HaveSameNumbers};
 ghost use Rattle.napi_types.specs.parts.Properties.{most_index, property_at, property_set, property_removed, element_at, element_set};
 ghost use Rattle.value_store.specs.PropertyMaps.{numbers_in};
@@ -52,6 +52,7 @@ impl Parts {
     pub(crate) fn set_prop(&mut self, name: TextNo, to: ValueId) -> Result<(), NoMemory>
         ensures set { OnOk result (self.new ≡ record self.old { properties = property_set name.0 to.0 self.old.properties }) }
         ensures err { OnErr result (self.new ≡ self.old) }
+        ensures absent { OnErr result (property_at name.0 self.old.properties ≡ None) }
     {
         self.properties.insert(name.0, to)?;
         Ok(())
@@ -95,6 +96,7 @@ impl Parts {
         requires { at ≤ most_index }
         ensures set { OnOk result (self.new ≡ record self.old { elements = element_set at to.0 self.old.elements }) }
         ensures err { OnErr result (self.new ≡ self.old) }
+        ensures absent { OnErr result (element_at at self.old.elements ≡ None) }
     {
         match &mut self.elements {
             Some(elements) => elements.set(at, to),

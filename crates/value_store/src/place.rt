@@ -1,10 +1,10 @@
-//! One place of a store, and the value that stands there.
-ghost use Rattle.std.specs.Prelude.{◌≡◌, ◌+◌, ◌^◌, ◌<◌, ◌≤◌, IfOk, OnOk, OnErr, option_map, is_some};
+//! What a value is and has, its creation number aside.
+ghost use Rattle.std.specs.Prelude.{◌≡◌, ◌+◌, ◌^◌, ◌<◌, ◌≤◌, IfOk, OnOk, OnErr, None, option_map, is_some};
 ghost use Rattle.std.specs.List.{range_with_len};
 ghost use Rattle.napi_types.specs.parts.NewValues.{array_of, error_of};
-ghost use Rattle.napi_types.specs.parts.Properties.{most_index, property_at};
+ghost use Rattle.napi_types.specs.parts.Properties.{most_index, property_at, element_at};
 ghost use Rattle.napi_types.specs.parts.Values.{with_property, without_property, with_element};
-ghost use Rattle.value_store.specs.ValuePlaces.{value_here, properties_here, HasValue, ChangesPlace};
+ghost use Rattle.value_store.specs.ValuePlaces.{value_here, properties_here, elements_here, HasValue, ChangesPlace};
 
 use crate::ValueInfo;
 use crate::parts::Parts;
@@ -30,18 +30,15 @@ const MESSAGE: TextNo = TextNo(0);
 /// The name of an error's code.
 const CODE: TextNo = TextNo(1);
 
-/// A place of a store. The number of a value is told by its place, and not kept in it.
+/// What a value is, and what it has by names and by indices. Its creation number is kept beside it.
 #[derive(Drop)]
 pub(crate) enum ValuePlace {
-    /// No value: the one that stood here was freed.
-    Free,
     /// A value that never had a property or an element.
     Plain(Body),
     /// A value, and its properties and elements. These are made at the first.
     Full(Body, Box<Parts>),
 }
 
-// Freed places stay, so a run pays this for each value that it ever made (docs/COST.md).
 const _: () = prove!(size_of::<ValuePlace>() == 40);
 
 impl ValuePlace {
@@ -74,18 +71,17 @@ impl ValuePlace {
         Ok(place)
     }
 
-    /// The value, with the number that the place tells.
-    pub(crate) fn value(&self, number: u64) -> Option<ValueInfo<'_>>
+    /// The value, with its creation number.
+    pub(crate) fn value(&self, number: u64) -> ValueInfo<'_>
         ensures { result ≡ value_here number self.now }
     {
         match self {
-            ValuePlace::Free => None,
-            ValuePlace::Plain(body) => Some(ValueInfo::plain(number, *body)),
-            ValuePlace::Full(body, parts) => Some(ValueInfo::full(number, *body, parts)),
+            ValuePlace::Plain(body) => ValueInfo::plain(number, *body),
+            ValuePlace::Full(body, parts) => ValueInfo::full(number, *body, parts),
         }
     }
 
-    /// Sets a property of the value, where there is one. A name that is there keeps its place, and a new one goes last.
+    /// Sets a property. A name that is there keeps its place, and a new one goes last.
     pub(crate) fn set_prop(
         &mut self,
         alloc: Global,
@@ -94,9 +90,9 @@ impl ValuePlace {
     ) -> Result<(), NoMemory>
         ensures set { OnOk result (ChangesPlace self.old self.new (with_property name.0 to.0)) }
         ensures err { OnErr result (self.new ≡ self.old) }
+        ensures absent { OnErr result (property_at name.0 (properties_here self.old) ≡ None) }
     {
         match self {
-            ValuePlace::Free => Ok(()),
             ValuePlace::Plain(body) => {
                 let mut parts = Parts::new(alloc);
                 parts.set_prop(name, to)?;
@@ -107,18 +103,18 @@ impl ValuePlace {
         }
     }
 
-    /// Removes a property of the value, and tells whether the name was there. The others keep their order.
+    /// Removes a property, and tells whether the name was there. The others keep their order.
     pub(crate) fn remove_prop(&mut self, name: TextNo) -> bool
         ensures removed { ChangesPlace self.old self.new (without_property name.0) }
         ensures was { result ≡ is_some (property_at name.0 (properties_here self.old)) }
     {
         match self {
-            ValuePlace::Free | ValuePlace::Plain(_) => false,
+            ValuePlace::Plain(_) => false,
             ValuePlace::Full(_, parts) => parts.remove_prop(name),
         }
     }
 
-    /// Sets an element of the value, where there is one. What lies between the end and a later index is holes, which take no memory.
+    /// Sets an element. What lies between the end and a later index is holes, which take no memory.
     pub(crate) fn set_element(
         &mut self,
         alloc: Global,
@@ -128,9 +124,9 @@ impl ValuePlace {
         requires { at ≤ most_index }
         ensures set { OnOk result (ChangesPlace self.old self.new (with_element at to.0)) }
         ensures err { OnErr result (self.new ≡ self.old) }
+        ensures absent { OnErr result (element_at at (elements_here self.old) ≡ None) }
     {
         match self {
-            ValuePlace::Free => Ok(()),
             ValuePlace::Plain(body) => {
                 let mut parts = Parts::new(alloc);
                 parts.set_element(alloc, at, to)?;

@@ -7,3 +7,4 @@ abbrev pub invariant-loop-at : goal.invariant-loop-at
 invariant-loop-at l =
     (l.rows.places ≡ map (option_map (held_emptied (λ v. has_number v (map (λ v. v.0) l.values)))) (take l.at l.initial.rows.places) ++ drop l.at l.initial.rows.places)
     × (l.rows.issued ≡ l.initial.rows.issued)
+    × (l.rows.room ≡ l.initial.rows.room)

@@ -1,0 +1,26 @@
+//! A value as the store keeps it.
+ghost use Rattle.std.specs.Prelude.{◌≡◌};
+ghost use Rattle.value_store.specs.ValuePlaces.{value_of_record};
+
+use crate::ValueInfo;
+use crate::place::ValuePlace;
+use std::mem::size_of;
+
+/// A value, and its creation number.
+#[derive(Drop)]
+pub(crate) struct Record {
+    pub(crate) number: u64,
+    pub(crate) value: ValuePlace,
+}
+
+// Beside it a live value takes the 8 bytes of its slot and the 4 of its generation (docs/COST.md).
+const _: () = prove!(size_of::<Record>() == 48);
+
+impl Record {
+    /// The value, as it is lent.
+    pub(crate) fn info(&self) -> ValueInfo<'_>
+        ensures { result ≡ value_of_record self.now }
+    {
+        self.value.value(self.number)
+    }
+}
