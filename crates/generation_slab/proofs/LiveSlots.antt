@@ -28,6 +28,13 @@ module _ {T : Type 0} where
       by true over here = let no : ⊥ = cc in absurd no
       by false over here = (here, short-of last (generation_in gs k) over)
 
+  pub held-short : (last g : ℕ) (o : Option T) (v : T) → Some v ≡ live_in last g o → g ≤ last
+  held-short last g o v is = by (nat_lt last g) refl is
+    where
+      by : (b : Bool) → nat_lt last g ≡ b → Some v ≡ cond b None o → g ≤ last
+      by true over here = let no : ⊥ = cc in absurd no
+      by false over here = short-of last g over
+
   pub live-vacant : (slots : Slab T) (gs : List ℕ) (last k : ℕ) → get slots k ≡ None → live_at slots gs last k ≡ None
   live-vacant slots gs last k is = nothing (nat_lt last (generation_in gs k)) (get slots k) is
 

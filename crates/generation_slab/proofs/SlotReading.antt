@@ -83,6 +83,14 @@ module _ {T : Type 0} (live : ℕ → Option T) (gs : List ℕ) (r : ℕ) (sound
       by None = refl
       by (Some v) = refl
 
+  -- the number that stands there
+  pub place-number : (at : ℕ) → at < length s.places → (o : Option T) → live at ≡ o → option_map (λ h. h.number) (slice_index_or s.places at None) ≡ option_map (λ v. number_of_slot (generation_in gs at) at) o
+  place-number at within o is = ap (option_map (λ (h : Held T). h.number)) (place-seen at within ∙ ap (standing_in (generation_in gs at) at) is) ∙ by o
+    where
+      by : (o : Option T) → option_map (λ (h : Held T). h.number) (standing_in (generation_in gs at) at o) ≡ option_map (λ v. number_of_slot (generation_in gs at) at) o
+      by None = refl
+      by (Some v) = refl
+
   -- something stands at a place
   pub within-places : (at : ℕ) → IsSome (slice_index_or s.places at None) → at < length s.places
   within-places at there = less (nat_lt at (length s.places)) refl

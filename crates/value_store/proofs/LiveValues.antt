@@ -54,11 +54,11 @@ found-place (Some y ∷ ps) id x is = by (found-place ps id x) (y.id == id) refl
     by rest true e is = let same : y ≡ x = cc in (zero, is, sym (ap (λ (z : Stored). z.id) same) ∙ eqb-true y.id id e)
     by rest false e is = let r = rest is in (suc r.0, r.1, r.2)
 
-abbrev values : List (Option Stored) → List Value
+abbrev pub values : List (Option Stored) → List Value
 values ps = map (λ x. x.value) (standing_stored ps)
 
 -- the same by a creation number
-numbered-place : (ps : List (Option Stored)) (n : ℕ) (v : Value) → value_at (values ps) n ≡ Some v → (place : ℕ) × (x : Stored) × (slice_index_or ps place None ≡ Some x) × (x.value ≡ v) × (v.number ≡ n)
+pub numbered-place : (ps : List (Option Stored)) (n : ℕ) (v : Value) → value_at (values ps) n ≡ Some v → (place : ℕ) × (x : Stored) × (slice_index_or ps place None ≡ Some x) × (x.value ≡ v) × (v.number ≡ n)
 numbered-place [] n v is = let no : ⊥ = cc in absurd no
 numbered-place (None ∷ ps) n v is = let r = numbered-place ps n v is in (suc r.0, r.1, r.2, r.3, r.4)
 numbered-place (Some y ∷ ps) n v is = by (numbered-place ps n v) (y.value.number == n) refl is
@@ -91,7 +91,7 @@ has-numbers (v ∷ vs) n = by (has-numbers vs n) (v.number == n)
     by rest true = refl
     by rest false = rest
 
-value_at-numbered : (f : ℕ → Option Value) → ((n : ℕ) (v : Value) → f n ≡ Some v → v.number ≡ n) → (ns : List ℕ) (n : ℕ) → value_at (filter_map f ns) n ≡ cond (has_number n ns) (f n) None
+pub value_at-numbered : (f : ℕ → Option Value) → ((n : ℕ) (v : Value) → f n ≡ Some v → v.number ≡ n) → (ns : List ℕ) (n : ℕ) → value_at (filter_map f ns) n ≡ cond (has_number n ns) (f n) None
 value_at-numbered f numbered [] n = refl
 value_at-numbered f numbered (m ∷ ns) n = by (value_at-numbered f numbered ns n) (f m) refl (m == n) refl
   where
@@ -158,10 +158,10 @@ children-renamed s v =
 pub number-value : (s : StoreState) (id : ℕ) (v : Value) → value_of s id ≡ Some v → number_in s id ≡ v.number
 number-value s id v is = ap (λ (o : Option Value). unwrap_or (option_map (λ w. w.number) o) 0) is
 
-abbrev graph_value : StoreState → ℕ → Option Value
+abbrev pub graph_value : StoreState → ℕ → Option Value
 graph_value s n = option_map (renamed s) (value_at (map (λ x. x.value) (live s)) n)
 
-graph_value-numbered : (s : StoreState) (n : ℕ) (w : Value) → graph_value s n ≡ Some w → w.number ≡ n
+pub graph_value-numbered : (s : StoreState) (n : ℕ) (w : Value) → graph_value s n ≡ Some w → w.number ≡ n
 graph_value-numbered s n w is = by (value_at (values s.places) n) refl is
   where
     by : (o : Option Value) → value_at (values s.places) n ≡ o → option_map (renamed s) o ≡ Some w → w.number ≡ n
@@ -199,7 +199,7 @@ module _ (s : StoreState) (once : EachStandsOnce s) where
       (r.0, ap (option_map (λ (x : Stored). x.id)) r.2 ∙ ap Some r.4)
 
   module _ (sound : IsSoundStore s) where
-    value-listed : (id : ℕ) (v : Value) → value_of s id ≡ Some v → value_at (values s.places) v.number ≡ Some v
+    pub value-listed : (id : ℕ) (v : Value) → value_of s id ≡ Some v → value_at (values s.places) v.number ≡ Some v
     value-listed id v is =
         let r = value-place id v is in
         let there : IsSome (value_at (values s.places) v.number) = subst (λ (w : Value). IsSome (value_at (values s.places) w.number)) r.3 (numbered-at s.places r.0 r.1 r.2) in

@@ -1,126 +1,227 @@
--- The list of a store's values, and the state that it stands for.
-use Rattle.std.proofs.Common.{◌≡◌, ◌≢◌, ℕ, zero, suc, ◌+◌, ◌-◌, ◌<◌, ◌≤◌, ◌==◌, ◌||◌, Bool, true, false, cond, List, length, Option, Some, IsSome, option_map, refl, ap, sym, subst, ◌∙◌, arith}
+-- What the calls of a store leave of its map from numbers to values.
+use Rattle.std.proofs.Common.{◌≡◌, ◌≢◌, ◌⊎◌, inl, inr, ◌∙◌, ℕ, ◌+◌, ◌<◌, ◌≤◌, ◌==◌, ◌||◌, Bool, true, false, cond, Option, Some, None, IsSome, IfSome, option_map, slice_index_or, List, refl, ap, sym, subst, arith}
 use Rattle.std.specs.List.{All}
-use Rattle.std.proofs.lemmas.List.{length-set}
+use Rattle.std.specs.Option.{unwrap_or}
+use Rattle.std.proofs.lemmas.Bool.{eqb-true, eq-eqb, or_parts}
 use Rattle.std.proofs.lemmas.List.Elements.{All-weaker}
-use Rattle.std.proofs.lemmas.Bool.{eq-eqb}
-use borrow.Author.Tests.{eqb-true}
-use Rattle.napi_types.specs.plain.Lists.{has_number, up_to}
-use Rattle.napi_types.specs.parts.Graph.{IsSoundStore, IsSoundMap, value_of}
+use Rattle.napi_types.specs.declared.ids.ValueId.{ValueId}
+use Rattle.napi_types.specs.plain.Lists.{has_number}
+use Rattle.napi_types.specs.parts.Graph.{StoreState, IsLive, value_of, creation_number, number_in}
 use Rattle.napi_types.specs.parts.Properties.{HasDistinctNames}
 use Rattle.napi_types.specs.parts.Values.{Value, children, value_at, starting_values}
-use Rattle.napi_types.proofs.plain.Issued.{has-up_to}
-use Rattle.napi_types.proofs.plain.Found.{apart-above}
-use Rattle.value_store.specs.ValuePlaces.{state_of, at_number, changed_at, IsNumbered}
-use Rattle.value_store.specs.StoreChanges.{ChangesOnly}
-use Rattle.value_store.proofs.Lookup.{value_of-state_of, number-within, at_number-set, other-number, apart-number}
+use Rattle.napi_types.proofs.plain.Maps.{among-holds}
+use Rattle.value_store.specs.StoreChanges.{EachStandsOnce, MakesValue, ChangesOnly, Frees, CanFree, IsStarting}
+use Rattle.value_store.specs.ValuePlaces.{IsGood, AreStarting}
+use Rattle.value_store.proofs.Callers.{makes-live, changes-live}
+use Rattle.value_store.proofs.Lookup.{apart-number, other-number}
+use Rattle.value_store.proofs.ReadingPlaces.{some-is}
 
-abbrev pub updated : (ℕ → Option Value) → ℕ → Value → ℕ → Option Value
-updated values k w n = cond (n == k) (Some w) (values n)
+one-option : {A : Type 0} (v w : A) → Some v ≡ Some w → v ≡ w
+one-option v w is = cc
 
-pub updated-live : (values : ℕ → Option Value) (k : ℕ) (w : Value) (m : ℕ) → IsSome (values m) → IsSome (updated values k w m)
-updated-live values k w m h = by (m == k)
-  where
-    by : (b : Bool) → IsSome (cond b (Some w) (values m))
-    by true = refl
-    by false = h
+-- A VALUE IS MADE
+module _ (s t : StoreState) (id : ℕ) (v : Value) (good : IsGood s) (step : MakesValue s t id v) where
+  -- a new number names nothing that was there
+  pub fresh-apart : (n : ℕ) → has_number n s.issued ≡ true → n ≢ id
+  fresh-apart n given same =
+      let fresh : has_number id s.issued ≡ false = (or_parts (0 == id) (has_number id s.issued) step.fresh).1 in
+      let no : true ≡ false = sym given ∙ ap (λ m. has_number m s.issued) same ∙ fresh in cc
 
--- a value is given to a number
-pub updated-numbered : (values : ℕ → Option Value) (k : ℕ) (w : Value) → IsNumbered values → w.number ≡ k → HasDistinctNames w.properties → All (λ m. IsSome (updated values k w m)) (children w)
-    → ((which : ℕ) → which < 5 → which + 1 ≡ k → Some w.body ≡ option_map (λ v. v.body) (value_at starting_values (which + 1))) → IsNumbered (updated values k w)
-updated-numbered values k w all number names closed starting = record {
-  numbered = λ n v. by-number n v (n == k) refl;
-  names = λ n v. by-names n v (n == k);
-  closed = λ n v. by-closed n v (n == k);
-  starting = λ which less. by-starting which less (which + 1 == k) refl;
+  pub live-apart : (n : ℕ) → IsLive s n → n ≢ id
+  live-apart n live = fresh-apart n (good.sound.given n live)
+
+  pub live-kept : (n : ℕ) → IsLive s n → value_of t n ≡ value_of s n
+  live-kept n live = step.others n (live-apart n live)
+
+  -- what is there is the new value, or was there
+  pub made-or : (n : ℕ) (w : Value) → value_of t n ≡ Some w → ((n ≡ id) × (w ≡ v)) ⊎ (value_of s n ≡ Some w)
+  made-or n w is = by (n == id) refl
+    where
+      by : (b : Bool) → (n == id) ≡ b → ((n ≡ id) × (w ≡ v)) ⊎ (value_of s n ≡ Some w)
+      by true e = let same : n ≡ id = eqb-true n id e in inl (same, one-option w v (sym is ∙ ap (value_of t) same ∙ step.named))
+      by false e = inr (sym (step.others n (other-number n id e)) ∙ is)
+
+  pub made-good : EachStandsOnce t → v.number ≡ s.made + 1 → HasDistinctNames v.properties → All (IsLive s) (children v) → IsGood t
+  made-good once number names closed = record {
+    once = once;
+    sound = record {
+      given = λ n some. let w = some-is (value_of t n) some in elim (made-or n w.0 w.1) [
+        | inl here ↦ step.issued n ∙ ap (λ b. b || has_number n s.issued) (eq-eqb n id here.0)
+        | inr there ↦ step.issued n ∙ ap (λ b. (n == id) || b) (good.sound.given n (subst (λ (o : Option Value). IsSome o) (sym there) refl)) ∙ or-true (n == id)
+      ];
+      positive = step.issued 0 ∙ ap (λ b. b || has_number 0 s.issued) ((or_parts (0 == id) (has_number id s.issued) step.fresh).0) ∙ good.sound.positive;
+      counted = λ n w is. elim (made-or n w is) [
+        | inl here ↦ counted-new w here.1
+        | inr there ↦ let was = good.sound.counted n w there in (was.0, omega (arith, was.1, step.made))
+      ];
+      apart = λ m n w u first second same. elim (made-or m w first) [
+        | inl here ↦ elim (made-or n u second) [
+          | inl here2 ↦ here.0 ∙ sym here2.0
+          | inr there2 ↦ absurd (above w u here.1 n there2 same)
+        ]
+        | inr there ↦ elim (made-or n u second) [
+          | inl here2 ↦ absurd (above u w here2.1 m there (sym same))
+          | inr there2 ↦ good.sound.apart m n w u there there2 same
+        ]
+      ];
+      names = λ n w is. elim (made-or n w is) [
+        | inl here ↦ subst (λ (u : Value). HasDistinctNames u.properties) (sym here.1) names
+        | inr there ↦ good.sound.names n w there
+      ];
+      closed = λ n w is. elim (made-or n w is) [
+        | inl here ↦ subst (λ (u : Value). All (IsLive t) (children u)) (sym here.1) (All-weaker (IsLive s) (IsLive t) (makes-live s t id v step) (children v) closed)
+        | inr there ↦ All-weaker (IsLive s) (IsLive t) (makes-live s t id v step) (children w) (good.sound.closed n w there)
+      ];
+    };
+  }
+    where
+      or-true : (b : Bool) → (b || true) ≡ true
+      or-true true = refl
+      or-true false = refl
+
+      counted-new : (w : Value) → w ≡ v → (0 < w.number) × (w.number ≤ t.made)
+      counted-new w same = let is : w.number ≡ s.made + 1 = ap (λ (u : Value). u.number) same ∙ number in (omega (arith, is), omega (arith, is, step.made))
+
+      above : (w u : Value) → w ≡ v → (n : ℕ) → value_of s n ≡ Some u → w.number ≡ u.number → ⊥
+      above w u same n there equal =
+          let is : w.number ≡ s.made + 1 = ap (λ (x : Value). x.number) same ∙ number in
+          let was : (0 < u.number) × (u.number ≤ s.made) = good.sound.counted n u there in
+          omega (arith, is, was.1, equal)
+
+-- A VALUE IS CHANGED
+module _ (s t : StoreState) (id : ℕ) (change : Value → Value) (good : IsGood s) (step : ChangesOnly s t id change) (keeps : (v : Value) → let w : Value = change v in w.number ≡ v.number) where
+  -- what is there is the changed value, or was there
+  pub changed-or : (n : ℕ) (w : Value) → value_of t n ≡ Some w → (v : Value) × (value_of s n ≡ Some v) × (w.number ≡ v.number) × (((n ≡ id) × (w ≡ change v)) ⊎ (w ≡ v))
+  changed-or n w is = by (n == id) refl
+    where
+      mapped : (o : Option Value) → option_map change o ≡ Some w → value_of s id ≡ o → (v : Value) × (value_of s id ≡ Some v) × (w ≡ change v)
+      mapped None here at = let no : ⊥ = cc in absurd no
+      mapped (Some v) here at = (v, at, one-option w (change v) (sym here))
+
+      by : (b : Bool) → (n == id) ≡ b → (v : Value) × (value_of s n ≡ Some v) × (w.number ≡ v.number) × (((n ≡ id) × (w ≡ change v)) ⊎ (w ≡ v))
+      by true e =
+          let same : n ≡ id = eqb-true n id e in
+          let r = mapped (value_of s id) (sym step.named ∙ ap (value_of t) (sym same) ∙ is) refl in
+          (r.0, ap (value_of s) same ∙ r.1, ap (λ (u : Value). u.number) r.2 ∙ keeps r.0, inl (same, r.2))
+      by false e = (w, sym (step.others n (other-number n id e)) ∙ is, refl, inr refl)
+
+  pub changed-good : EachStandsOnce t → ((v : Value) → value_of s id ≡ Some v → let w : Value = change v in HasDistinctNames w.properties × All (IsLive s) (children w)) → IsGood t
+  changed-good once fits = record {
+    once = once;
+    sound = record {
+      given = λ n some.
+          let w = some-is (value_of t n) some in
+          let r = changed-or n w.0 w.1 in
+          ap (has_number n) step.nothing_issued.issued ∙ good.sound.given n (subst (λ (o : Option Value). IsSome o) (sym r.1) refl);
+      positive = ap (has_number 0) step.nothing_issued.issued ∙ good.sound.positive;
+      counted = λ n w is.
+          let r = changed-or n w is in
+          let was = good.sound.counted n r.0 r.1 in (omega (arith, was.0, r.2), omega (arith, was.1, r.2, step.nothing_issued.made));
+      apart = λ m n w u first second same.
+          let p = changed-or m w first in
+          let q = changed-or n u second in
+          good.sound.apart m n p.0 q.0 p.1 q.1 (sym p.2 ∙ same ∙ q.2);
+      names = λ n w is.
+          let r = changed-or n w is in
+          elim r.3 [
+            | inl here ↦ subst (λ (u : Value). HasDistinctNames u.properties) (sym here.1) (fits r.0 (ap (value_of s) (sym here.0) ∙ r.1)).0
+            | inr there ↦ subst (λ (u : Value). HasDistinctNames u.properties) (sym there) (good.sound.names n r.0 r.1)
+          ];
+      closed = λ n w is.
+          let r = changed-or n w is in
+          All-weaker (IsLive s) (IsLive t) (changes-live s t id change step) (children w)
+          (elim r.3 [
+            | inl here ↦ subst (λ (u : Value). All (IsLive s) (children u)) (sym here.1) (fits r.0 (ap (value_of s) (sym here.0) ∙ r.1)).1
+            | inr there ↦ subst (λ (u : Value). All (IsLive s) (children u)) (sym there) (good.sound.closed n r.0 r.1)
+          ]);
+    };
+  }
+
+-- VALUES ARE FREED
+module _ (s t : StoreState) (ids : List ℕ) (good : IsGood s) (step : Frees s t ids) (can : CanFree s ids) where
+  -- what is there was there, and is none of those that were freed
+  pub freed-was : (n : ℕ) (w : Value) → value_of t n ≡ Some w → (value_of s n ≡ Some w) × (has_number n ids ≡ false)
+  freed-was n w is = by (has_number n ids) refl
+    where
+      by : (b : Bool) → has_number n ids ≡ b → (value_of s n ≡ Some w) × (has_number n ids ≡ false)
+      by true e = let gone : value_of t n ≡ None = step.gone n e in let no : ⊥ = cc in absurd no
+      by false e = (sym (step.others n e) ∙ is, e)
+
+  freed-live : (n : ℕ) → IsLive s n → has_number n ids ≡ false → IsLive t n
+  freed-live n live apart = subst (λ (o : Option Value). IsSome o) (sym (step.others n apart)) live
+
+  pub freed-good : EachStandsOnce t → IsGood t
+  freed-good once = record {
+    once = once;
+    sound = record {
+      given = λ n some.
+          let w = some-is (value_of t n) some in
+          ap (has_number n) step.nothing_issued.issued ∙ good.sound.given n (subst (λ (o : Option Value). IsSome o) (sym (freed-was n w.0 w.1).0) refl);
+      positive = ap (has_number 0) step.nothing_issued.issued ∙ good.sound.positive;
+      counted = λ n w is. let was = good.sound.counted n w (freed-was n w is).0 in (was.0, omega (arith, was.1, step.nothing_issued.made));
+      apart = λ m n w u first second same. good.sound.apart m n w u (freed-was m w first).0 (freed-was n u second).0 same;
+      names = λ n w is. good.sound.names n w (freed-was n w is).0;
+      closed = λ n w is.
+          let was = freed-was n w is in
+          λ k d less. freed-live _ (good.sound.closed n w was.0 k d less) (can.unnamed n w was.0 was.1 k d less);
+    };
+  }
+
+-- THE STARTING VALUES
+-- a starting value is where its number names the same value
+pub starting-same : (s t : StoreState) (which id : ℕ) → value_of t id ≡ value_of s id → IsStarting s which id → IsStarting t which id
+starting-same s t which id same is = record {
+  number = ap (option_map (λ (v : Value). v.number)) same ∙ is.number;
+  body = ap (option_map (λ (v : Value). v.body)) same ∙ is.body;
 }
+
+pub starting-live : (s : StoreState) (which id : ℕ) → IsStarting s which id → IsLive s id
+starting-live s which id is = by (value_of s id) refl
   where
-    by-number : (n : ℕ) (v : Value) (b : Bool) → (n == k) ≡ b → cond b (Some w) (values n) ≡ Some v → v.number ≡ n
-    by-number n v true e is = let same : n ≡ k = eqb-true n k e in let v-is : w ≡ v = cc in cc
-    by-number n v false e is = all.numbered n v is
+    by : (o : Option Value) → value_of s id ≡ o → IsLive s id
+    by None at = let none : Some (which + 1) ≡ None = sym is.number ∙ ap (option_map (λ (v : Value). v.number)) at in let no : ⊥ = cc in absurd no
+    by (Some v) at = subst (λ (o : Option Value). IsSome o) (sym at) refl
 
-    by-names : (n : ℕ) (v : Value) (b : Bool) → cond b (Some w) (values n) ≡ Some v → HasDistinctNames v.properties
-    by-names n v true is = let v-is : w ≡ v = cc in subst (λ (u : Value). HasDistinctNames u.properties) v-is names
-    by-names n v false is = all.names n v is
+-- what was issued names the same value
+pub starting-kept : (s t : StoreState) (ids : List ValueId) → IsGood s → ((n : ℕ) → has_number n s.issued ≡ true → value_of t n ≡ value_of s n) → AreStarting s ids → AreStarting t ids
+starting-kept s t ids good kept are = λ which d less.
+    let is = are which d less in
+    starting-same s t which (slice_index_or ids which d).0 (kept (slice_index_or ids which d).0 (good.sound.given (slice_index_or ids which d).0 (starting-live s which (slice_index_or ids which d).0 is))) is
 
-    by-closed : (n : ℕ) (v : Value) (b : Bool) → cond b (Some w) (values n) ≡ Some v → All (λ m. IsSome (updated values k w m)) (children v)
-    by-closed n v true is = let v-is : w ≡ v = cc in subst (λ (u : Value). All (λ m. IsSome (updated values k w m)) (children u)) v-is closed
-    by-closed n v false is = All-weaker (λ m. IsSome (values m)) (λ m. IsSome (updated values k w m)) (updated-live values k w) (children v) (all.closed n v is)
-
-    by-starting : (which : ℕ) → which < 5 → (b : Bool) → (which + 1 == k) ≡ b → option_map (λ (v : Value). v.body) (cond b (Some w) (values (which + 1))) ≡ option_map (λ v. v.body) (value_at starting_values (which + 1))
-    by-starting which less true e = starting which less (eqb-true (which + 1) k e)
-    by-starting which less false e = all.starting which less
-
--- what holds of a map holds of one that is the same at each number
-pub same-map : (f g : ℕ → Option Value) → ((n : ℕ) → f n ≡ g n) → IsNumbered g → IsNumbered f
-same-map f g each h = let e : g ≡ f = λ i n. sym (each n) i in subst IsNumbered e h
-
--- the numbers from 1 on are those that were issued
-pub given : (n k : ℕ) → 0 < k → k ≤ n → has_number k (up_to n) ≡ true
-given zero k some less = absurd (omega arith)
-given (suc n) k some less = has-up_to k n ∙ by (given n k some) (suc n == k) refl
+pub starting-changed : (s t : StoreState) (id : ℕ) (change : Value → Value) (ids : List ValueId) → ChangesOnly s t id change → ((v : Value) → let w : Value = change v in (w.number ≡ v.number) × (w.body ≡ v.body))
+    → AreStarting s ids → AreStarting t ids
+starting-changed s t id change ids step keeps are = λ which d less. one which (slice_index_or ids which d).0 (are which d less)
   where
-    by : (k ≤ n → has_number k (up_to n) ≡ true) → (b : Bool) → (suc n == k) ≡ b → (b || has_number k (up_to n)) ≡ true
-    by rest true e = refl
-    by rest false e = let apart : suc n ≢ k = other-number (suc n) k e in rest (omega arith)
+    numbers : (o : Option Value) → option_map (λ (v : Value). v.number) (option_map change o) ≡ option_map (λ v. v.number) o
+    numbers None = refl
+    numbers (Some v) = ap Some (keeps v).0
 
-zero-not-given : (n : ℕ) → has_number 0 (up_to n) ≡ false
-zero-not-given zero = refl
-zero-not-given (suc n) = has-up_to 0 n ∙ rw (apart-above 0 (suc n) (omega arith)) (zero-not-given n)
+    bodies : (o : Option Value) → option_map (λ (v : Value). v.body) (option_map change o) ≡ option_map (λ v. v.body) o
+    bodies None = refl
+    bodies (Some v) = ap Some (keeps v).1
 
--- what holds of every state of a store
-pub sound : (ps : List (Option Value)) → IsNumbered (at_number ps) → IsSoundStore (state_of ps)
-sound ps all =
-    let same : value_of (state_of ps) ≡ at_number ps = λ i n. value_of-state_of ps all.numbered n i in
-    let map_is : IsSoundMap (at_number ps) (up_to (length ps)) (length ps) = record {
-      given = λ id some. let in_list : (0 < id) × (id ≤ length ps) = number-within ps id some in given (length ps) id in_list.0 in_list.1;
-      positive = zero-not-given (length ps);
-      counted = λ id v is. let in_list : (0 < id) × (id ≤ length ps) = number-within ps id (rw is refl) in let number : v.number ≡ id = all.numbered id v is in (omega arith, omega arith);
-      apart = λ m n v w is at equal. let one : v.number ≡ m = all.numbered m v is in let two : w.number ≡ n = all.numbered n w at in cc;
-      names = all.names;
-      closed = all.closed;
-    } in
-    let P : (ℕ → Option Value) → Type 0 = λ f. IsSoundMap f (up_to (length ps)) (length ps) in
-    subst P (sym same) map_is
+    one : (which n : ℕ) → IsStarting s which n → IsStarting t which n
+    one which n is = by (n == id) refl
+      where
+        by : (b : Bool) → (n == id) ≡ b → IsStarting t which n
+        by true e =
+            let same : n ≡ id = eqb-true n id e in
+            let at : value_of t n ≡ option_map change (value_of s n) = ap (value_of t) same ∙ step.named ∙ ap (λ m. option_map change (value_of s m)) (sym same) in
+            record {
+              number = ap (option_map (λ (v : Value). v.number)) at ∙ numbers (value_of s n) ∙ is.number;
+              body = ap (option_map (λ (v : Value). v.body)) at ∙ bodies (value_of s n) ∙ is.body;
+            }
+        by false e = starting-same s t which n (step.others n (other-number n id e)) is
 
--- the change of one value, where it keeps the number and what the value is, no name stands twice in it, and it names what is there
-pub record IsGoodChange (ps : List (Option Value)) (k : ℕ) (change : Value → Value) : Type 0 where
-  pub from : Value
-  pub is : at_number ps k ≡ Some from
-  pub number : (change from).number ≡ from.number
-  pub body : (change from).body ≡ from.body
-  pub names : HasDistinctNames (change from).properties
-  pub closed : All (λ m. IsSome (at_number ps m)) (children (change from))
-
-changed-map : (ps : List (Option Value)) (k : ℕ) (change : Value → Value) (good : IsGoodChange ps k change) (n : ℕ) → at_number (changed_at k change ps) n ≡ updated (at_number ps) k (change good.from) n
-changed-map ps k change good n =
-    let some : IsSome (at_number ps k) = rw good.is refl in
-    let in_list : (0 < k) × (k ≤ length ps) = number-within ps k some in
-    rw good.is (at_number-set ps k (Some (change good.from)) in_list.0 in_list.1 n)
-
-pub changed-numbered : (ps : List (Option Value)) (k : ℕ) (change : Value → Value) → IsNumbered (at_number ps) → IsGoodChange ps k change → IsNumbered (at_number (changed_at k change ps))
-changed-numbered ps k change all good =
-    same-map (at_number (changed_at k change ps)) (updated (at_number ps) k (change good.from)) (changed-map ps k change good)
-    (updated-numbered (at_number ps) k (change good.from) all (good.number ∙ all.numbered k good.from good.is) good.names
-    (All-weaker (λ m. IsSome (at_number ps m)) (λ m. IsSome (updated (at_number ps) k (change good.from) m)) (updated-live (at_number ps) k (change good.from)) (children (change good.from)) good.closed)
-    (λ which less same. ap Some good.body ∙ sym (ap (option_map (λ (v : Value). v.body)) (ap (at_number ps) same ∙ good.is)) ∙ all.starting which less))
-
--- and it changes nothing else
-pub changed-only : (ps : List (Option Value)) (k : ℕ) (change : Value → Value) → IsNumbered (at_number ps) → IsGoodChange ps k change → ChangesOnly (state_of ps) (state_of (changed_at k change ps)) k change
-changed-only ps k change all good =
-    let after : IsNumbered (at_number (changed_at k change ps)) = changed-numbered ps k change all good in
-    let new : (n : ℕ) → value_of (state_of (changed_at k change ps)) n ≡ updated (at_number ps) k (change good.from) n =
-    λ n. value_of-state_of (changed_at k change ps) after.numbered n ∙ changed-map ps k change good n in
-    let old : (n : ℕ) → value_of (state_of ps) n ≡ at_number ps n = value_of-state_of ps all.numbered in
-    let many : length (changed_at k change ps) ≡ length ps = length-set ps (k - 1) (option_map change (at_number ps k)) in
-    record {
-      named = new k ∙ updated-same (at_number ps) k (change good.from) ∙ sym (ap (option_map change) (old k ∙ good.is));
-      others = λ n other. new n ∙ updated-other (at_number ps) k (change good.from) n other ∙ sym (old n);
-      nothing_issued = record { issued = ap up_to many; made = many };
-    }
+pub starting-freed : (s t : StoreState) (gone : List ℕ) (ids : List ValueId) → Frees s t gone → CanFree s gone → AreStarting s ids → AreStarting t ids
+starting-freed s t gone ids step can are = λ which d less. one which (slice_index_or ids which d).0 less (are which d less)
   where
-    updated-same : (f : ℕ → Option Value) (k : ℕ) (w : Value) → updated f k w k ≡ Some w
-    updated-same f k w = rw (eq-eqb k k refl) refl
-
-    updated-other : (f : ℕ → Option Value) (k : ℕ) (w : Value) (n : ℕ) → n ≢ k → updated f k w n ≡ f n
-    updated-other f k w n other = rw (apart-number n k other) refl
+    one : (which n : ℕ) → which < 5 → IsStarting s which n → IsStarting t which n
+    one which n less is = by (has_number n gone) refl
+      where
+        by : (b : Bool) → has_number n gone ≡ b → IsStarting t which n
+        by true e =
+            let high : IfSome (creation_number s n) (λ number. 5 < number) = among-holds (λ id. IfSome (creation_number s id) (λ number. 5 < number)) gone n can.not_starting e in
+            let over : 5 < which + 1 = subst (λ (o : Option ℕ). IfSome o (λ number. 5 < number)) is.number high in
+            absurd (omega (arith, over, less))
+        by false e = starting-same s t which n (step.others n e) is

@@ -1,71 +1,91 @@
--- How the list of a store's values stands for the store's state.
-use Rattle.std.specs.Prelude.{◌≡◌, ℕ, zero, suc, ◌+◌, ◌-◌, ◌<◌, cond, List, [], ◌∷◌, length, map, Option, Some, None, option_map, IsSome, slice_index_or, slice_set}
-use Rattle.std.specs.List.{All}
-use Rattle.napi_types.specs.plain.Lists.{has_number, up_to}
-use Rattle.napi_types.specs.parts.Graph.{Stored, StoreState}
-use Rattle.napi_types.specs.parts.Properties.{Property, HasDistinctNames}
-use Rattle.napi_types.specs.parts.Values.{Value, fresh_value, children, value_at, starting_values}
+-- How the records of a store stand for the store's state.
+use Rattle.std.specs.Prelude.{◌≡◌, ℕ, ◌+◌, ◌<◌, false, true, List, [], ◌∷◌, ◌++◌, length, map, Option, option_map, slice_index_or}
+use Rattle.generation_slab.specs.HeldPlaces.{Held, HeldPlaces, held, with_held}
+use Rattle.generation_slab.specs.HeldPlaces as slab
+use Rattle.napi_types.specs.declared.ids.ValueId.{ValueId}
+use Rattle.napi_types.specs.plain.Lists.{has_number, with_number}
+use Rattle.napi_types.specs.parts.Graph.{Stored, StoreState, IsSoundStore, IsLive, value_of, number_in, graph_of}
+use Rattle.napi_types.specs.parts.Properties.{Property}
+use Rattle.napi_types.specs.parts.Values.{Value, fresh_value}
+use Rattle.std.specs.List.{All, range_with_len}
 use Rattle.value_store.specs.declared.place.ValuePlace.{ValuePlace}
-use Rattle.value_store.specs.declared.place.ValuePlace.TheVariants.{Free, Plain, Full}
+use Rattle.value_store.specs.declared.place.ValuePlace.TheVariants.{Plain, Full}
+use Rattle.value_store.specs.declared.record.Record.{Record}
+use Rattle.value_store.specs.StoreChanges.{EachStandsOnce, IsStarting, IsFresh}
 
--- the value that stands at a place with this number, none where it is free
-abbrev pub value_here : ℕ → ValuePlace → Option Value
-value_here n Free = None
-value_here n (Plain b) = Some (fresh_value n b)
-value_here n (Full b parts) = Some (record { number = n; body = b; properties = parts.value.properties; elements = parts.value.elements })
+-- the value with this creation number that is and has this
+abbrev pub value_here : ℕ → ValuePlace → Value
+value_here n (Plain b) = fresh_value n b
+value_here n (Full b parts) = record { number = n; body = b; properties = parts.value.properties; elements = parts.value.elements }
 
--- the properties of the value at a place, none where it is free
+-- its properties and its elements
 abbrev pub properties_here : ValuePlace → List Property
-properties_here Free = []
 properties_here (Plain b) = []
 properties_here (Full b parts) = parts.value.properties
 
--- the values of places, of which the first has the number after this one
-abbrev pub values_from : ℕ → List ValuePlace → List (Option Value)
-values_from n [] = []
-values_from n (p ∷ ps) = value_here (n + 1) p ∷ values_from (n + 1) ps
+abbrev pub elements_here : ValuePlace → List (Option ℕ)
+elements_here (Plain b) = []
+elements_here (Full b parts) = parts.value.elements
 
--- the values of a store's places, numbered from 1 on
-abbrev pub values_of : List ValuePlace → List (Option Value)
-values_of ps = values_from 0 ps
-
--- a place has this value, whatever number the place tells
+-- it is and has what this value does, whatever its creation number
 abbrev pub HasValue : ValuePlace → (ℕ → Value) → Type 0
-HasValue p value = (n : ℕ) → value_here n p ≡ Some (value n)
+HasValue p value = (n : ℕ) → value_here n p ≡ value n
 
--- the value of a place is changed so, where there is one
+-- it is changed so
 abbrev pub ChangesPlace : ValuePlace → ValuePlace → (Value → Value) → Type 0
-ChangesPlace old new change = (n : ℕ) → value_here n new ≡ option_map change (value_here n old)
+ChangesPlace old new change = (n : ℕ) → value_here n new ≡ change (value_here n old)
 
--- a value is named by its creation number
-abbrev pub stored_as : Value → Stored
-stored_as v = record { id = v.number; value = v }
+-- the value of a record
+abbrev pub value_of_record : Record → Value
+value_of_record r = value_here r.number r.value
 
--- each place has the value that was made there, until it is freed
-abbrev pub state_of : List (Option Value) → StoreState
-state_of ps = record { places = map (option_map stored_as) ps; issued = up_to (length ps); made = length ps }
+-- a value is named by the number under which its record is held
+abbrev pub stored_as : Held Record → Stored
+stored_as h = record { id = h.number; value = value_of_record h.value }
 
--- the value of a number: number n stands at place n - 1
-abbrev pub at_number : List (Option Value) → ℕ → Option Value
-at_number ps zero = None
-at_number ps (suc place) = slice_index_or ps place None
+-- each place has the value whose record stands there, and so many values were made
+abbrev pub state_of : HeldPlaces Record → ℕ → StoreState
+state_of s made = record { places = map (option_map stored_as) s.places; issued = s.issued; made = made }
 
--- each value has its number as creation number, no name stands twice in it, what it names is there, and the starting values are there
-pub record IsNumbered (values : ℕ → Option Value) : Type 0 where
-  pub numbered : (n : ℕ) (v : Value) → values n ≡ Some v → v.number ≡ n
-  pub names : (n : ℕ) (v : Value) → values n ≡ Some v → HasDistinctNames v.properties
-  pub closed : (n : ℕ) (v : Value) → values n ≡ Some v → All (λ m. IsSome (values m)) (children v)
-  pub starting : (which : ℕ) → which < 5 → option_map (λ v. v.body) (values (which + 1)) ≡ option_map (λ v. v.body) (value_at starting_values (which + 1))
+-- one record more is held, under a number that is new
+pub record AddsRecord (old new : HeldPlaces Record) (id : ℕ) (r : Record) : Type 0 where
+  pub fresh : has_number id (0 ∷ old.issued) ≡ false
+  pub holds : held new ≡ with_held id r (held old)
+  pub issued : new.issued ≡ with_number id old.issued
+  pub once : slab.EachStandsOnce new
 
--- the list with the value of a number changed so
-abbrev pub changed_at : ℕ → (Value → Value) → List (Option Value) → List (Option Value)
-changed_at n change ps = slice_set ps (n - 1) (option_map change (at_number ps n))
+-- what holds of each state: no number stands at two places, and the map from numbers to values is sound
+pub record IsGood (s : StoreState) : Type 0 where
+  pub once : EachStandsOnce s
+  pub sound : IsSoundStore s
 
--- the list of a new store: the starting values, in their order
-abbrev pub starting_list : List (Option Value)
-starting_list = map Some starting_values
+-- values were made, under these numbers, and go last in the graph in their order; what was there stays
+pub record Grows (s t : StoreState) (vs : List Value) (ids : List ℕ) : Type 0 where
+  pub good : IsGood t
+  pub made : t.made ≡ s.made + length vs
+  pub graph : graph_of t ≡ graph_of s ++ vs
+  pub kept : (n : ℕ) → has_number n s.issued ≡ true → value_of t n ≡ value_of s n
+  pub issued : (n : ℕ) → has_number n s.issued ≡ true → has_number n t.issued ≡ true
+  pub live : All (IsLive t) ids
+  pub numbers : map (number_in t) ids ≡ range_with_len (s.made + 1) (length ids)
 
--- the values of these numbers are gone, and the others stand where they stood
-pub record IsCleared (old new : List (Option Value)) (ids : List ℕ) : Type 0 where
-  pub values : (n : ℕ) → at_number new n ≡ cond (has_number n ids) None (at_number old n)
-  pub many : length new ≡ length old
+-- values were made, the last of them under this number
+pub record GrowsTo (s t : StoreState) (vs : List Value) (id : ℕ) : Type 0 where
+  pub good : IsGood t
+  pub made : t.made ≡ s.made + length vs
+  pub graph : graph_of t ≡ graph_of s ++ vs
+  pub kept : (n : ℕ) → has_number n s.issued ≡ true → value_of t n ≡ value_of s n
+  pub issued : (n : ℕ) → has_number n s.issued ≡ true → has_number n t.issued ≡ true
+  pub fresh : IsFresh id s
+  pub live : IsLive t id
+  pub number : number_in t id ≡ t.made
+
+-- these numbers name the starting values, in their order
+abbrev pub AreStarting : StoreState → List ValueId → Type 0
+AreStarting s ids = (which : ℕ) (d : ValueId) → which < 5 → IsStarting s which (slice_index_or ids which d).0
+
+-- what holds of the records of a store, of how many values were made, and of the numbers of the starting values
+pub record IsKept (s : HeldPlaces Record) (made : ℕ) (starting : List ValueId) : Type 0 where
+  pub once : slab.EachStandsOnce s
+  pub good : IsGood (state_of s made)
+  pub starting : AreStarting (state_of s made) starting

@@ -25,10 +25,10 @@ const ERROR: Body = Body::Object {
 };
 
 /// The name of an error's message.
-const MESSAGE: TextNo = TextNo(0);
+pub(crate) const MESSAGE: TextNo = TextNo(0);
 
 /// The name of an error's code.
-const CODE: TextNo = TextNo(1);
+pub(crate) const CODE: TextNo = TextNo(1);
 
 /// What a value is, and what it has by names and by indices. Its creation number is kept beside it.
 #[derive(Drop)]

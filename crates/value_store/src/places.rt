@@ -1,197 +1,144 @@
-//! The list of a store's values: what is made goes last, what is freed leaves its place empty, and each is read by its number.
-ghost use Rattle.std.specs.Prelude.{◌≡◌, ◌+◌, ◌-◌, ◌<◌, ◌≤◌, ◌^◌, ◌++◌, [], ◌∷◌, true, length, map, vec_capacity, slice_index_or, slice_set, option_map, IsSome, OnOk, OnErr, IfOk, Some, None};
-ghost use Rattle.std.specs.List.{All};
-ghost use Rattle.napi_types.specs.parts.NewValues.{made_after, list_of, error_of, thrown_of};
-ghost use Rattle.napi_types.specs.parts.Properties.{most_index};
+//! The records of a store: what is made is held under a new number, and what is freed is let go.
+ghost use Rattle.std.specs.Prelude.{◌≡◌, ℕ, ◌+◌, ◌<◌, ◌≤◌, ◌^◌, ◌++◌, ◌∷◌, [], true, nat_eq, length, map, cond, option_map, slice_index_or, IsSome, OnErr, IfOk, Some, None};
+ghost use Rattle.std.specs.List.{All, IsDistinct};
+ghost use Rattle.generation_slab.specs.HeldPlaces.{value_of, EachStandsOnce};
+ghost use Rattle.napi_types.specs.plain.Lists.{has_number};
+ghost use Rattle.napi_types.specs.parts.NewValues.{list_of, thrown_of};
+ghost use Rattle.napi_types.specs.parts.Properties.{most_index, element_at, property_at};
+ghost use Rattle.napi_types.specs.parts.Values.{with_element, with_property};
 ghost use Rattle.value_store.specs.StoreChanges.{numbers_of};
-ghost use Rattle.value_store.specs.ValuePlaces.{value_here, values_of, at_number, starting_list, IsCleared};
+ghost use Rattle.value_store.specs.ValuePlaces.{state_of, properties_here, elements_here, ChangesPlace, AddsRecord, IsGood, GrowsTo, IsKept};
 
-use crate::ValueInfo;
-use crate::place::ValuePlace;
+use crate::place::{CODE, MESSAGE, ValuePlace};
+use crate::record::Record;
+use generation_slab::GenerationSlab;
 use napi_types::{Body, NoMemory, TextNo, ValueId};
 use std::alloc::Global;
 
-/// The starting values.
-pub(crate) fn starting(alloc: Global) -> Result<Vec<ValuePlace>, NoMemory>
-    ensures { IfOk result (λ values. values_of values.items ≡ starting_list) }
+/// Holds a value with this creation number. The memory for it is taken.
+fn put(values: &mut GenerationSlab<Record>, number: u64, value: ValuePlace) -> ValueId
+    requires { 0 < values.old.room }
+    ensures added { AddsRecord values.old values.new result.0 (record { number = number; value = value }) }
+    ensures room { values.new.room + 1 ≡ values.old.room }
 {
-    let values = [
-        ValuePlace::Plain(Body::Undefined),
-        ValuePlace::Plain(Body::Null),
-        ValuePlace::Plain(Body::Boolean(true)),
-        ValuePlace::Plain(Body::Boolean(false)),
-        ValuePlace::Plain(Body::Object {
-            array: false,
-            error: false,
-        }),
-    ];
-    Ok(Vec::from_array(alloc, values)?)
+    ValueId(values.make_reserved(Record { number, value }))
 }
 
-/// How many places there are.
-pub(crate) fn count(values: &[ValuePlace]) -> usize
-    ensures { result ≡ length (values_of values.now) }
+/// The starting values, in slots that hold nothing.
+pub(crate) fn starting(values: &mut GenerationSlab<Record>) -> Result<[ValueId; 5], NoMemory>
+    requires empty { values.old.places ≡ [] }
+    requires none { values.old.issued ≡ [] }
+    ensures { IfOk result (λ ids. IsKept values.new 5 ids) }
 {
-    values.len()
+    values.reserve(5)?;
+    Ok([
+        put(values, 1, ValuePlace::Plain(Body::Undefined)),
+        put(values, 2, ValuePlace::Plain(Body::Null)),
+        put(values, 3, ValuePlace::Plain(Body::Boolean(true))),
+        put(values, 4, ValuePlace::Plain(Body::Boolean(false))),
+        put(values, 5, ValuePlace::Plain(GLOBAL)),
+    ])
 }
 
-/// Adds a value at a new place.
-pub(crate) fn push(values: &mut Vec<ValuePlace>, value: ValuePlace) -> Result<(), NoMemory>
-    ensures pushed { let number = length (values_of values.old.items) + 1 in
-        OnOk result (values_of values.new.items ≡ values_of values.old.items ++ value_here number value ∷ []) }
-    ensures err { OnErr result (values.new.items ≡ values.old.items) }
-{
-    values.push(value)?;
-    Ok(())
-}
+/// The global object as it is created.
+const GLOBAL: Body = Body::Object {
+    array: false,
+    error: false,
+};
 
-/// Adds a value at a new place that is reserved.
-fn push_reserved(values: &mut Vec<ValuePlace>, value: ValuePlace)
-    requires { length (values_of values.old.items) < vec_capacity values.old }
-    ensures pushed { let number = length (values_of values.old.items) + 1 in
-        values_of values.new.items ≡ values_of values.old.items ++ value_here number value ∷ [] }
-    ensures capacity { vec_capacity values.new ≡ vec_capacity values.old }
-{
-    values.push_reserved(value);
-}
-
-/// Adds a value of each of these bodies, in their order, and then an array of them. All memory is taken before the first.
-pub(crate) fn push_list(
+/// Makes a value of each of these bodies, in their order, and then an array of them. All memory is taken before the first.
+pub(crate) fn make_list(
     alloc: Global,
-    values: &mut Vec<ValuePlace>,
+    values: &mut GenerationSlab<Record>,
+    made: u64,
     bodies: &[Body],
-) -> Result<(), NoMemory>
+) -> Result<ValueId, NoMemory>
     requires count { length bodies.now ≤ most_index + 1 }
-    requires room { length (values_of values.old.items) + length bodies.now + 2 < 2 ^ 48 }
-    ensures listed { OnOk result (values_of values.new.items ≡ values_of values.old.items ++ map Some (list_of (length (values_of values.old.items)) bodies.now)) }
-    ensures err { OnErr result (values.new.items ≡ values.old.items) }
+    requires room { made + length bodies.now + 2 < 2 ^ 48 }
+    requires once { EachStandsOnce values.old }
+    requires good { IsGood (state_of values.old made) }
+    ensures listed { IfOk result (λ id. GrowsTo (state_of values.old made) (state_of values.new (made + length bodies.now + 1)) (list_of made bodies.now) id.0) }
+    ensures once { EachStandsOnce values.new }
+    ensures err { OnErr result (state_of values.new made ≡ state_of values.old made) }
 {
-    let first = count(values) as u64 + 1;
-    let array = ValuePlace::array(alloc, first, bodies.len() as u32)?;
-    reserve(values, bodies.len() + 1)?;
-    push_each(values, bodies);
-    push_reserved(values, array);
-    Ok(())
+    // Its elements are set as the values are made: until then they are no numbers.
+    let mut array = ValuePlace::array(alloc, 0, bodies.len() as u32)?;
+    values.reserve(bodies.len() + 1)?;
+    for at in 0..bodies.len() {
+        let id = put(values, made + at as u64 + 1, ValuePlace::Plain(bodies[at]));
+        set_again(alloc, &mut array, at as u32, id);
+    }
+    Ok(put(values, made + bodies.len() as u64 + 1, array))
 }
 
-/// Adds a string of each of an error's texts, the message first, and then the error of them. All memory is taken before the first.
-pub(crate) fn push_thrown(
+/// Sets an element that is there. It takes no memory.
+fn set_again(alloc: Global, array: &mut ValuePlace, at: u32, to: ValueId)
+    requires index { at ≤ most_index }
+    requires there { IsSome (element_at at (elements_here array.old)) }
+    ensures { ChangesPlace array.old array.new (with_element at to.0) }
+{
+    if array.set_element(alloc, at, to).is_err() {
+        unreachable!();
+    }
+}
+
+/// Sets a property that is there. It takes no memory.
+fn name_again(alloc: Global, error: &mut ValuePlace, name: TextNo, to: ValueId)
+    requires { IsSome (property_at name.0 (properties_here error.old)) }
+    ensures { ChangesPlace error.old error.new (with_property name.0 to.0) }
+{
+    if error.set_prop(alloc, name, to).is_err() {
+        unreachable!();
+    }
+}
+
+/// Makes a string of each of an error's texts, the message first, and then the error of them. All memory is taken before the first.
+pub(crate) fn make_thrown(
     alloc: Global,
-    values: &mut Vec<ValuePlace>,
+    values: &mut GenerationSlab<Record>,
+    made: u64,
     code: Option<TextNo>,
     message: TextNo,
-) -> Result<(), NoMemory>
-    requires { length (values_of values.old.items) + 4 < 2 ^ 48 }
-    ensures thrown { OnOk result (values_of values.new.items ≡ values_of values.old.items ++ map Some (thrown_of (length (values_of values.old.items)) code message)) }
-    ensures err { OnErr result (values.new.items ≡ values.old.items) }
+) -> Result<ValueId, NoMemory>
+    requires room { made + 4 < 2 ^ 48 }
+    requires once { EachStandsOnce values.old }
+    requires good { IsGood (state_of values.old made) }
+    ensures thrown { IfOk result (λ id. GrowsTo (state_of values.old made) (state_of values.new (made + length (thrown_of made code message))) (thrown_of made code message) id.0) }
+    ensures once { EachStandsOnce values.new }
+    ensures err { OnErr result (state_of values.new made ≡ state_of values.old made) }
 {
-    let before = count(values) as u64;
+    // Its properties are set as the strings are made: until then they are no numbers.
+    let none = ValueId(0);
     match code {
-        None => push_error(
-            alloc,
-            values,
-            &[Body::Str(message)],
-            None,
-            ValueId(before + 1),
-        ),
+        None => {
+            let mut error = ValuePlace::error(alloc, None, none)?;
+            values.reserve(2)?;
+            let said = put(values, made + 1, ValuePlace::Plain(Body::Str(message)));
+            name_again(alloc, &mut error, MESSAGE, said);
+            Ok(put(values, made + 2, error))
+        }
         Some(code) => {
-            let strings = [Body::Str(message), Body::Str(code)];
-            push_error(
-                alloc,
-                values,
-                &strings,
-                Some(ValueId(before + 2)),
-                ValueId(before + 1),
-            )
+            let mut error = ValuePlace::error(alloc, Some(none), none)?;
+            values.reserve(3)?;
+            let said = put(values, made + 1, ValuePlace::Plain(Body::Str(message)));
+            name_again(alloc, &mut error, MESSAGE, said);
+            let coded = put(values, made + 2, ValuePlace::Plain(Body::Str(code)));
+            name_again(alloc, &mut error, CODE, coded);
+            Ok(put(values, made + 3, error))
         }
     }
 }
 
-/// Adds a value of each of these bodies, in their order, and then an error of the values of these numbers.
-fn push_error(
-    alloc: Global,
-    values: &mut Vec<ValuePlace>,
-    strings: &[Body],
-    code: Option<ValueId>,
-    message: ValueId,
-) -> Result<(), NoMemory>
-    requires { length (values_of values.old.items) + length strings.now + 2 < 2 ^ 48 }
-    ensures added { let before = length (values_of values.old.items) in
-        let error = error_of (before + length strings.now + 1) (option_map (λ c. c.0) code) message.0 in
-        OnOk result (values_of values.new.items ≡ values_of values.old.items ++ map Some (made_after before strings.now ++ error ∷ [])) }
-    ensures err { OnErr result (values.new.items ≡ values.old.items) }
-{
-    let error = ValuePlace::error(alloc, code, message)?;
-    reserve(values, strings.len() + 1)?;
-    push_each(values, strings);
-    push_reserved(values, error);
-    Ok(())
-}
-
-/// Takes the memory for so many values more.
-fn reserve(values: &mut Vec<ValuePlace>, count: usize) -> Result<(), NoMemory>
-    ensures items { values.new.items ≡ values.old.items }
-    ensures reserved { OnOk result (length (values_of values.old.items) + count ≤ vec_capacity values.new) }
-{
-    values.reserve(count)?;
-    Ok(())
-}
-
-/// Adds a value of each of these bodies, in their order, at places that are reserved.
-fn push_each(values: &mut Vec<ValuePlace>, bodies: &[Body])
-    requires room { length (values_of values.old.items) + length bodies.now < 2 ^ 48 }
-    requires reserved { length (values_of values.old.items) + length bodies.now ≤ vec_capacity values.old }
-    ensures made { values_of values.new.items ≡ values_of values.old.items ++ map Some (made_after (length (values_of values.old.items)) bodies.now) }
-    ensures capacity { vec_capacity values.new ≡ vec_capacity values.old }
-{
-    for body in bodies {
-        push_reserved(values, ValuePlace::Plain(*body));
-    }
-}
-
-/// The value of a number.
-pub(crate) fn value_at(values: &[ValuePlace], number: u64) -> Option<ValueInfo<'_>>
-    ensures { result ≡ at_number (values_of values.now) number }
-{
-    match number.checked_sub(1) {
-        Some(place) => value_in(values, place as usize),
-        None => None,
-    }
-}
-
-/// The value at a place.
-pub(crate) fn value_in(values: &[ValuePlace], place: usize) -> Option<ValueInfo<'_>>
-    ensures { result ≡ slice_index_or (values_of values.now) place None }
-{
-    match values.get(place) {
-        Some(value) => value.value(place as u64 + 1),
-        None => None,
-    }
-}
-
-/// The place of a number.
-pub(crate) fn place_at(number: u64) -> usize
-    requires { 0 < number }
-    ensures { result ≡ number - 1 }
-{
-    (number - 1) as usize
-}
-
-/// Empties the places of these numbers.
-pub(crate) fn clear(values: &mut Vec<ValuePlace>, list: &[ValueId])
-    requires { All (λ n. IsSome (at_number (values_of values.old.items) n)) (numbers_of list.now) }
-    ensures { IsCleared (values_of values.old.items) (values_of values.new.items) (numbers_of list.now) }
+/// Frees these numbers.
+pub(crate) fn clear(values: &mut GenerationSlab<Record>, list: &[ValueId])
+    requires held { All (λ n. IsSome (value_of values.old n)) (numbers_of list.now) }
+    requires distinct { IsDistinct nat_eq (numbers_of list.now) }
+    requires once { EachStandsOnce values.old }
+    ensures values { (n : ℕ) → value_of values.new n ≡ cond (has_number n (numbers_of list.now)) None (value_of values.old n) }
+    ensures issued { values.new.issued ≡ values.old.issued }
+    ensures once { EachStandsOnce values.new }
 {
     for id in list {
-        empty(values, id.0);
+        values.free(id.0);
     }
-}
-
-/// Empties the place of a number.
-fn empty(values: &mut Vec<ValuePlace>, number: u64)
-    requires some { 0 < number }
-    requires within { number ≤ length (values_of values.old.items) }
-    ensures { values_of values.new.items ≡ slice_set (values_of values.old.items) (number - 1) None }
-{
-    values[place_at(number)] = ValuePlace::Free;
 }

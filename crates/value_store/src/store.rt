@@ -2,24 +2,31 @@
 ghost use Rattle.std.specs.Prelude.{◌≡◌, ◌+◌, ◌-◌, ◌<◌, ◌≤◌, ◌^◌, ◌++◌, [], ◌∷◌, not, filter, map, length, slice_get, is_some, option_map, IfSome, IfOk, OnOk, OnErr, Some, None};
 ghost use Rattle.std.specs.List.{All};
 ghost use Rattle.napi_types.specs.plain.Lists.{has_number, HaveSameNumbers};
-ghost use Rattle.napi_types.specs.parts.Graph.{value_of, number_in, renamed, graph_of, IsLive, IsSoundStore};
+ghost use Rattle.napi_types.specs.parts.Graph.{live, value_of, number_in, renamed, graph_of, IsLive, IsSoundStore};
 ghost use Rattle.napi_types.specs.parts.NewValues.{error_of, list_of, thrown_strings, thrown_of};
 ghost use Rattle.napi_types.specs.parts.Properties.{most_index, property_at, element_at};
 ghost use Rattle.napi_types.specs.parts.Values.{value_at, value_changed, fresh_value, with_property, without_property, with_element};
 ghost use Rattle.value_store.specs.StoreChanges.{properties_in, elements_in, children_in, id_at, EachStandsOnce, numbers_of, IsNew, IsStarting, IsObject, StandsAt, ChangesOnly, MakesFresh, MakesValue, MakesList, Frees, CanFree};
 
 use crate::place::ValuePlace;
+use crate::record::Record;
 use crate::{Children, ValueInfo, places};
+use generation_slab::GenerationSlab;
 use napi_types::{Body, NoMemory, TextNo, ValueId};
 use std::alloc::Global;
 use std::marker::Model;
 
 /// A store of values: a map from numbers to values. A value stays until it is freed, and its number is never issued again.
+///
+/// It takes memory for as many values as live at once: where one was freed, another is made.
 #[derive(Drop)]
 pub struct Store {
     alloc: Global,
-    // The value with the number n stands at n - 1. A place whose value was freed stays empty.
-    values: Vec<ValuePlace>,
+    values: GenerationSlab<Record>,
+    // How many values were made: the creation number of the last of them.
+    made: u64,
+    // The numbers of the starting values, in their order.
+    starting: [ValueId; 5],
 }
 
 impl Model for Store {
@@ -27,11 +34,11 @@ impl Model for Store {
 
     ghost Value = { StoreState };
 
-    ghost use Rattle.value_store.specs.ValuePlaces.{state_of, values_of, at_number, IsNumbered};
+    ghost use Rattle.value_store.specs.ValuePlaces.{state_of, IsKept};
 
-    ghost view = { λ store. state_of (values_of store.values.items) };
+    ghost view = { λ store. state_of store.values store.made };
 
-    ghost invariant = { λ store. IsNumbered (at_number (values_of store.values.items)) };
+    ghost invariant = { λ store. IsKept store.values store.made store.starting };
 }
 
 impl Store {
@@ -39,8 +46,21 @@ impl Store {
     pub fn new(alloc: Global) -> Result<Store, NoMemory>
         ensures { IfOk result IsNew }
     {
-        let values = places::starting(alloc)?;
-        Ok(Store { alloc, values })
+        Store::with_generations(alloc, u16::MAX)
+    }
+
+    /// The same, where a place is used `last + 1` times: no number has a generation after `last`.
+    pub fn with_generations(alloc: Global, last: u16) -> Result<Store, NoMemory>
+        ensures { IfOk result IsNew }
+    {
+        let mut values = GenerationSlab::with_generations(alloc, last);
+        let starting = places::starting(&mut values)?;
+        Ok(Store {
+            alloc,
+            values,
+            made: 5,
+            starting,
+        })
     }
 
     /// The number of a starting value, in their order from 0: undefined, null, true, false, the global object. Constant time.
@@ -48,9 +68,7 @@ impl Store {
         requires { which < 5 }
         ensures { IsStarting self.now which result.0 }
     {
-        // The starting values are never freed, as the store's invariant says.
-        let _ = &self.values;
-        ValueId(u64::from(which) + 1)
+        self.starting[which as usize]
     }
 
     /// Makes a value with no properties and no elements. Its number was never issued before, and is not 0.
@@ -63,9 +81,11 @@ impl Store {
         ensures err { OnErr result (self.new ≡ self.old) }
         ensures sound { IsSoundStore self.old }
     {
-        let number = places::count(&self.values) as u64 + 1;
-        places::push(&mut self.values, ValuePlace::Plain(body))?;
-        Ok(ValueId(number))
+        let number = self.made + 1;
+        let value = ValuePlace::Plain(body);
+        let id = self.values.make(Record { number, value })?;
+        self.made = number;
+        Ok(ValueId(id))
     }
 
     /// Makes an error: an object with the properties `message` and, where a code is given, `code`, in this order. Its number was
@@ -87,10 +107,11 @@ impl Store {
         ensures err { OnErr result (self.new ≡ self.old) }
         ensures sound { IsSoundStore self.old }
     {
-        let number = places::count(&self.values) as u64 + 1;
+        let number = self.made + 1;
         let value = ValuePlace::error(self.alloc, code, message)?;
-        places::push(&mut self.values, value)?;
-        Ok(ValueId(number))
+        let id = self.values.make(Record { number, value })?;
+        self.made = number;
+        Ok(ValueId(id))
     }
 
     /// Makes a value of each of these bodies, in their order, and then an array that has them as its elements: all of them or
@@ -105,8 +126,9 @@ impl Store {
         ensures err { OnErr result (self.new ≡ self.old) }
         ensures sound { IsSoundStore self.old }
     {
-        places::push_list(self.alloc, &mut self.values, bodies)?;
-        Ok(ValueId(places::count(&self.values) as u64))
+        let id = places::make_list(self.alloc, &mut self.values, self.made, bodies)?;
+        self.made += bodies.len() as u64 + 1;
+        Ok(id)
     }
 
     /// Makes a string of each of these texts, the message first, and then an error of them: all of them or none. It answers with the
@@ -124,9 +146,9 @@ impl Store {
         ensures err { OnErr result (self.new ≡ self.old) }
         ensures sound { IsSoundStore self.old }
     {
-        places::push_thrown(self.alloc, &mut self.values, code, message)?;
-        let error = places::count(&self.values) as u64;
-        Ok(ValueId(error))
+        let id = places::make_thrown(self.alloc, &mut self.values, self.made, code, message)?;
+        self.made += if code.is_some() { 3 } else { 2 };
+        Ok(id)
     }
 
     /// The value of a number, `None` exactly where no live value has it. Constant time.
@@ -135,7 +157,7 @@ impl Store {
         ensures graph { value_at (graph_of self.now) (number_in self.now id.0) ≡ option_map (renamed self.now) (value_of self.now id.0) }
         ensures sound { IsSoundStore self.now }
     {
-        places::value_at(&self.values, id.0)
+        Some(self.values.get(id.0)?.info())
     }
 
     /// Sets a property: a name that is there keeps its place, and a new one goes last.
@@ -148,7 +170,8 @@ impl Store {
         ensures graph { OnOk result (graph_of self.new ≡ value_changed (number_in self.old id.0) (with_property name.0 (number_in self.old to.0)) (graph_of self.old)) }
         ensures err { OnErr result (self.new ≡ self.old) }
     {
-        self.values[places::place_at(id.0)].set_prop(self.alloc, name, to)
+        let record = self.values.value_mut(id.0);
+        record.value.set_prop(self.alloc, name, to)
     }
 
     /// The value of a property, `None` exactly where the name is absent. Near constant time.
@@ -170,7 +193,8 @@ impl Store {
         if self.get(id).is_none() {
             return false;
         }
-        self.values[places::place_at(id.0)].remove_prop(name)
+        let record = self.values.value_mut(id.0);
+        record.value.remove_prop(name)
     }
 
     /// How many properties a value has. Constant time.
@@ -206,7 +230,8 @@ impl Store {
         ensures graph { OnOk result (graph_of self.new ≡ value_changed (number_in self.old id.0) (with_element at (number_in self.old to.0)) (graph_of self.old)) }
         ensures err { OnErr result (self.new ≡ self.old) }
     {
-        self.values[places::place_at(id.0)].set_element(self.alloc, at, to)
+        let record = self.values.value_mut(id.0);
+        record.value.set_element(self.alloc, at, to)
     }
 
     /// The element of an index, `None` exactly at a hole or past the end. Near constant time.
@@ -257,7 +282,14 @@ impl Store {
         ensures once { EachStandsOnce self.now }
         ensures sound { IsSoundStore self.now }
     {
-        places::count(&self.values)
+        self.values.places()
+    }
+
+    /// How many live values there are. Constant time.
+    pub fn live_count(&self) -> usize
+        ensures { result ≡ length (live self.now) }
+    {
+        self.values.count()
     }
 
     /// The value at a place, `None` exactly where no live value stands there. Constant time.
@@ -266,8 +298,7 @@ impl Store {
         ensures value { option_map (λ v. v.0) result ≡ id_at self.now place }
         ensures live { IfSome result (λ v. IsLive self.now v.0) }
     {
-        let value = places::value_in(&self.values, place)?;
-        Some(ValueId(value.number()))
+        Some(ValueId(self.values.number_in(place)?))
     }
 
     /// The place where a value stands. Constant time.
@@ -275,8 +306,6 @@ impl Store {
         requires { IsLive self.now id.0 }
         ensures { StandsAt self.now id.0 result }
     {
-        // A live value has a place, as the store's invariant says.
-        let _ = &self.values;
-        places::place_at(id.0)
+        self.values.place_of(id.0)
     }
 }
