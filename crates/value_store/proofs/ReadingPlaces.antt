@@ -1,5 +1,5 @@
 -- What a state says of its values.
-use Rattle.std.proofs.Common.{◌≡◌, ℕ, Option, Some, None, IsSome, IfSome, IsSomeAnd, IsTrue, is_some, false, option_map, refl, sym, subst, List}
+use Rattle.std.proofs.Common.{◌≡◌, ◌∙◌, ℕ, Option, Some, None, IsSome, IfSome, IsSomeAnd, IsTrue, is_some, false, option_map, refl, sym, subst, List}
 use Rattle.std.specs.List.{All}
 use Rattle.napi_types.specs.declared.ids.ValueId.{ValueId}
 use Rattle.napi_types.specs.plain.Lists.{HaveSameNumbers}

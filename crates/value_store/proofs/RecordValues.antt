@@ -8,9 +8,11 @@ use Rattle.napi_types.specs.plain.Lists.{found, has_number, with_number}
 use Rattle.napi_types.specs.parts.Graph.{Stored, StoreState, live, value_of}
 use Rattle.napi_types.specs.parts.Values.{Value}
 use Rattle.napi_types.proofs.plain.Found.{found-as_map, found-with_record, found-filter, found-number, has-with_number, turned, same-tells}
+use Rattle.value_store.specs.declared.place.ValuePlace.{ValuePlace}
+use Rattle.value_store.specs.declared.place.ValuePlace.TheVariants.{Plain, Full}
 use Rattle.value_store.specs.declared.record.Record.{Record}
 use Rattle.value_store.specs.StoreChanges.{id_at, EachStandsOnce, MakesValue}
-use Rattle.value_store.specs.ValuePlaces.{value_of_record, stored_as, state_of, AddsRecord}
+use Rattle.value_store.specs.ValuePlaces.{value_here, properties_here, elements_here, value_of_record, stored_as, state_of, AddsRecord}
 use Rattle.value_store.proofs.Lookup.{apart-number, other-number}
 
 abbrev number : Held Record → ℕ
@@ -87,7 +89,7 @@ record-freed old new id holds n =
 
 -- ONE RECORD CHANGED
 module _ (n : ℕ) (r : Record) where
-  change : Held Record → Held Record
+  abbrev change : Held Record → Held Record
   change h = cond (h.number == n) (with_value r h) h
 
   change-number : (h : Held Record) → let q : Held Record = change h in q.number ≡ h.number
@@ -204,3 +206,17 @@ many-live s made = many s.places
     many [] = refl
     many (None ∷ ps) = many ps
     many (Some h ∷ ps) = ap suc (many ps)
+
+-- WHAT A RECORD'S VALUE HAS
+-- a value has the creation number that it is made with
+pub number-here : (n : ℕ) (p : ValuePlace) → let v : Value = value_here n p in v.number ≡ n
+number-here n (Plain b) = refl
+number-here n (Full b parts) = refl
+
+pub properties-here : (n : ℕ) (p : ValuePlace) → let v : Value = value_here n p in v.properties ≡ properties_here p
+properties-here n (Plain b) = refl
+properties-here n (Full b parts) = refl
+
+pub elements-here : (n : ℕ) (p : ValuePlace) → let v : Value = value_here n p in v.elements ≡ elements_here p
+elements-here n (Plain b) = refl
+elements-here n (Full b parts) = refl

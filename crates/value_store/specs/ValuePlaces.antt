@@ -1,10 +1,12 @@
 -- How the records of a store stand for the store's state.
-use Rattle.std.specs.Prelude.{◌≡◌, ℕ, ◌+◌, ◌<◌, false, true, List, [], ◌∷◌, ◌++◌, length, map, Option, option_map, slice_index_or}
+use Rattle.std.specs.Prelude.{◌≡◌, ℕ, ◌+◌, ◌-◌, ◌<◌, ◌≤◌, false, true, take, List, [], ◌∷◌, ◌++◌, length, map, Option, option_map, slice_index_or}
 use Rattle.generation_slab.specs.HeldPlaces.{Held, HeldPlaces, held, with_held}
 use Rattle.generation_slab.specs.HeldPlaces as slab
+use Rattle.napi_types.specs.declared.body.Body.{Body}
 use Rattle.napi_types.specs.declared.ids.ValueId.{ValueId}
 use Rattle.napi_types.specs.plain.Lists.{has_number, with_number}
 use Rattle.napi_types.specs.parts.Graph.{Stored, StoreState, IsSoundStore, IsLive, value_of, number_in, graph_of}
+use Rattle.napi_types.specs.parts.NewValues.{made_after, array_of}
 use Rattle.napi_types.specs.parts.Properties.{Property}
 use Rattle.napi_types.specs.parts.Values.{Value, fresh_value}
 use Rattle.std.specs.List.{All, range_with_len}
@@ -66,6 +68,7 @@ pub record Grows (s t : StoreState) (vs : List Value) (ids : List ℕ) : Type 0 
   pub graph : graph_of t ≡ graph_of s ++ vs
   pub kept : (n : ℕ) → has_number n s.issued ≡ true → value_of t n ≡ value_of s n
   pub issued : (n : ℕ) → has_number n s.issued ≡ true → has_number n t.issued ≡ true
+  pub many : length ids ≡ length vs
   pub live : All (IsLive t) ids
   pub numbers : map (number_in t) ids ≡ range_with_len (s.made + 1) (length ids)
 
@@ -80,6 +83,14 @@ pub record GrowsTo (s t : StoreState) (vs : List Value) (id : ℕ) : Type 0 wher
   pub live : IsLive t id
   pub number : number_in t id ≡ t.made
 
+-- of an array of these bodies so many values are made, and are its elements; the other elements are still to be set
+pub record ListsSoFar (old new : HeldPlaces Record) (made : ℕ) (bodies : List Body) (array : ValuePlace) (at : ℕ) : Type 0 where
+  pub ids : List ℕ
+  pub grows : Grows (state_of old made) (state_of new (made + at)) (made_after made (take at bodies)) ids
+  pub once : slab.EachStandsOnce new
+  pub elements : HasValue array (λ n. array_of n (ids ++ range_with_len at (length bodies - at)))
+  pub room : length bodies + 1 ≤ new.room + at
+
 -- these numbers name the starting values, in their order
 abbrev pub AreStarting : StoreState → List ValueId → Type 0
 AreStarting s ids = (which : ℕ) (d : ValueId) → which < 5 → IsStarting s which (slice_index_or ids which d).0
@@ -88,4 +99,4 @@ AreStarting s ids = (which : ℕ) (d : ValueId) → which < 5 → IsStarting s w
 pub record IsKept (s : HeldPlaces Record) (made : ℕ) (starting : List ValueId) : Type 0 where
   pub once : slab.EachStandsOnce s
   pub good : IsGood (state_of s made)
-  pub starting : AreStarting (state_of s made) starting
+  pub starts : AreStarting (state_of s made) starting

@@ -1,11 +1,12 @@
 //! The records of a store: what is made is held under a new number, and what is freed is let go.
-ghost use Rattle.std.specs.Prelude.{◌≡◌, ℕ, ◌+◌, ◌<◌, ◌≤◌, ◌^◌, ◌++◌, ◌∷◌, [], true, nat_eq, length, map, cond, option_map, slice_index_or, IsSome, OnErr, IfOk, Some, None};
+ghost use Rattle.std.specs.Prelude.{◌≡◌, ℕ, ◌+◌, ◌<◌, ◌≤◌, ◌^◌, ◌++◌, ◌∷◌, [], true, nat_eq, length, map, cond, option_map, slice_index_or, IsSome, OnOk, OnErr, IfOk, Some, None};
 ghost use Rattle.std.specs.List.{All, IsDistinct};
 ghost use Rattle.generation_slab.specs.HeldPlaces.{value_of, EachStandsOnce};
 ghost use Rattle.napi_types.specs.plain.Lists.{has_number};
+ghost use Rattle.napi_types.specs.parts.Graph.{graph_of};
 ghost use Rattle.napi_types.specs.parts.NewValues.{list_of, thrown_of};
 ghost use Rattle.napi_types.specs.parts.Properties.{most_index, element_at, property_at};
-ghost use Rattle.napi_types.specs.parts.Values.{with_element, with_property};
+ghost use Rattle.napi_types.specs.parts.Values.{starting_values, with_element, with_property};
 ghost use Rattle.value_store.specs.StoreChanges.{numbers_of};
 ghost use Rattle.value_store.specs.ValuePlaces.{state_of, properties_here, elements_here, ChangesPlace, AddsRecord, IsGood, GrowsTo, IsKept};
 
@@ -28,7 +29,8 @@ fn put(values: &mut GenerationSlab<Record>, number: u64, value: ValuePlace) -> V
 pub(crate) fn starting(values: &mut GenerationSlab<Record>) -> Result<[ValueId; 5], NoMemory>
     requires empty { values.old.places ≡ [] }
     requires none { values.old.issued ≡ [] }
-    ensures { IfOk result (λ ids. IsKept values.new 5 ids) }
+    ensures kept { IfOk result (λ ids. IsKept values.new 5 ids) }
+    ensures graph { OnOk result (graph_of (state_of values.new 5) ≡ starting_values) }
 {
     values.reserve(5)?;
     Ok([
@@ -57,7 +59,7 @@ pub(crate) fn make_list(
     requires room { made + length bodies.now + 2 < 2 ^ 48 }
     requires once { EachStandsOnce values.old }
     requires good { IsGood (state_of values.old made) }
-    ensures listed { IfOk result (λ id. GrowsTo (state_of values.old made) (state_of values.new (made + length bodies.now + 1)) (list_of made bodies.now) id.0) }
+    ensures listed { IfOk result (λ id. GrowsTo (state_of values.old made) (state_of values.new (made + (length bodies.now + 1))) (list_of made bodies.now) id.0) }
     ensures once { EachStandsOnce values.new }
     ensures err { OnErr result (state_of values.new made ≡ state_of values.old made) }
 {

@@ -1,7 +1,7 @@
 use Rattle.std.proofs.Common.{◌∙◌, ap, sym}
 use Rattle.std.specs.Box.{with_value}
 use Rattle.value_store.specs.declared.place.ValuePlace.TheVariants.{Full}
-use Rattle.value_store.proofs.StoreCalls.{err-then}
+use Rattle.value_store.proofs.Outcomes.{err-then}
 use Rattle.value_store.proofs.place.ValuePlace.set_prop.Goals as goal
 
 pub returns-in-Full-clause-err : goal.returns-in-Full-clause-err
