@@ -3,7 +3,7 @@ use Rattle.std.proofs.Common.{◌≡◌, ◌≢◌, ℕ, zero, suc, ◌+◌, ◌
 use Rattle.std.specs.List.{IsDistinct, AllByRecursion, range_with_len, filter_map}
 use Rattle.std.specs.Map.{keys_of, lookup}
 use Rattle.std.proofs.lemmas.Bool.{cases_lt, eq-eqb}
-use Rattle.std.proofs.lemmas.List.{get_or_past, get_or-append_right, length-map, length-replicate, set-append_right}
+use Rattle.std.proofs.lemmas.List.{get_or_past, get_or-append_right, length-replicate, set-append_right}
 use Rattle.std.proofs.lemmas.List.Folds.{list_any-append}
 use Rattle.std.proofs.lemmas.List.FromFn.{get_or-map-range_with_len, length-map-range_with_len, map-range_with_len_more}
 use Rattle.std.proofs.lemmas.Map.Keys.{IsDistinct-head, IsDistinct-tail}
@@ -11,10 +11,10 @@ use borrow.Author.Tests.{eqb-true}
 use Rattle.napi_types.specs.declared.ids.ValueId.{ValueId}
 use Rattle.napi_types.specs.plain.Lists.{has_number, HaveSameNumbers}
 use Rattle.napi_types.specs.parts.NewValues.{array_of}
-use Rattle.napi_types.specs.parts.Properties.{Property, element_at, element_set}
+use Rattle.napi_types.specs.parts.Properties.{element_at, element_set}
 use Rattle.napi_types.specs.parts.Values.{with_element}
 use Rattle.napi_types.proofs.plain.Found.{turned}
-use Rattle.value_store.specs.PropertyMaps.{property_of, listed_properties, listed_elements, element_of, numbers_in}
+use Rattle.value_store.specs.PropertyMaps.{listed_elements, element_of, numbers_in}
 use Rattle.value_store.proofs.Lookup.{other-number}
 
 -- each index is below the count
@@ -117,13 +117,20 @@ number-at [] at e is = let no : ⊥ = cc in absurd no
 number-at (x ∷ es) zero e is = let same : e ≡ x = cc in ap (λ (y : ℕ × ValueId). y.1.0) same
 number-at (x ∷ es) (suc at) e is = number-at es at e is
 
-pub number-front : (es fs : List (ℕ × ValueId)) (at : ℕ) (e : ℕ × ValueId) → Some e ≡ slice_get es at → e.1.0 ≡ slice_index (numbers_in es ++ numbers_in fs) at
-number-front [] fs at e is = let no : ⊥ = cc in absurd no
-number-front (x ∷ es) fs zero e is = let same : e ≡ x = cc in ap (λ (y : ℕ × ValueId). y.1.0) same
-number-front (x ∷ es) fs (suc at) e is = number-front es fs at e is
+-- a number of the first of two lists, and one of the second
+pub number-front : (ms ns : List ℕ) (at n : ℕ) → Some n ≡ slice_get ms at → n ≡ slice_index (ms ++ ns) at
+number-front [] ns at n is = let no : ⊥ = cc in absurd no
+number-front (m ∷ ms) ns zero n is = cc
+number-front (m ∷ ms) ns (suc at) n is = number-front ms ns at n is
 
-pub number-behind : (es fs : List (ℕ × ValueId)) (at : ℕ) → length es ≤ at → slice_index (numbers_in fs) (at - length es) ≡ slice_index (numbers_in es ++ numbers_in fs) at
-number-behind es fs at above = sym (get_or-append_right (numbers_in es) (numbers_in fs) (length es) at 0 (length-map es (λ (e : ℕ × ValueId). e.1.0)) above)
+pub number-behind : (ms ns : List ℕ) (at : ℕ) → length ms ≤ at → slice_index ns (at - length ms) ≡ slice_index (ms ++ ns) at
+number-behind ms ns at above = sym (get_or-append_right ms ns (length ms) at 0 refl above)
+
+-- a place that has no number is past the list
+pub past-numbers : (ms : List ℕ) (at : ℕ) → None ≡ slice_get ms at → length ms ≤ at
+past-numbers [] at is = omega arith
+past-numbers (m ∷ ms) zero is = let no : ⊥ = cc in absurd no
+past-numbers (m ∷ ms) (suc at) is = let rest : length ms ≤ at = past-numbers ms at is in omega (arith, rest)
 
 -- a hole that is set names one number more
 has-set : (l : List (Option ℕ)) (i v n : ℕ) → i < length l → get_or l i None ≡ None → has_number n (filter_map (λ e. e) (set l i (Some v))) ≡ ((v == n) || has_number n (filter_map (λ e. e) l))
@@ -202,22 +209,9 @@ many-listed (e ∷ es) count distinct within =
     set-many (listed_elements es count) e.0 e.1.0 more.less more.hole in
     omega (arith, rest, one) ∙ sym (ap (λ l. length (filter_map (λ (o : Option ℕ). o) l)) more.now)
 
--- and so beside the properties
-pub children-parts : (ps fs : List (ℕ × ValueId)) (es : List (Option ℕ)) → HaveSameNumbers (numbers_in fs) (filter_map (λ e. e) es) → HaveSameNumbers (numbers_in ps ++ numbers_in fs) (map (λ p. p.value) (listed_properties ps) ++ filter_map (λ e. e) es)
-children-parts ps fs es same n =
-    list_any-append (λ m. m == n) (numbers_in ps) (numbers_in fs)
-    ∙ ap (λ b. has_number n (numbers_in ps) || b) (same n)
-    ∙ ap (λ l. has_number n l || has_number n (filter_map (λ (e : Option ℕ). e) es)) (values ps)
-    ∙ sym (list_any-append (λ m. m == n) (map (λ (p : Property). p.value) (listed_properties ps)) (filter_map (λ (e : Option ℕ). e) es))
-  where
-    values : (ps : List (ℕ × ValueId)) → numbers_in ps ≡ map (λ (p : Property). p.value) (listed_properties ps)
-    values [] = refl
-    values (p ∷ ps) = ap (λ l. p.1.0 ∷ l) (values ps)
-
-pub many-parts : (ps fs : List (ℕ × ValueId)) (es : List (Option ℕ)) → length fs ≡ length (filter_map (λ (e : Option ℕ). e) es)
-    → length (numbers_in ps ++ numbers_in fs) ≡ length (map (λ (p : Property). p.value) (listed_properties ps) ++ filter_map (λ (e : Option ℕ). e) es)
-many-parts ps fs es many =
-    length-append (numbers_in ps) (numbers_in fs)
-    ∙ ap (λ n. n + length (numbers_in fs)) (length-map ps (λ (e : ℕ × ValueId). e.1.0) ∙ sym (length-map ps property_of) ∙ sym (length-map (listed_properties ps) (λ (p : Property). p.value)))
-    ∙ ap (λ n. length (map (λ (p : Property). p.value) (listed_properties ps)) + n) (length-map fs (λ (e : ℕ × ValueId). e.1.0) ∙ many)
-    ∙ sym (length-append (map (λ (p : Property). p.value) (listed_properties ps)) (filter_map (λ (e : Option ℕ). e) es))
+-- and so beside the values of the properties
+pub children-parts : (vs : List ℕ) (fs : List (ℕ × ValueId)) (es : List (Option ℕ)) → HaveSameNumbers (numbers_in fs) (filter_map (λ e. e) es) → HaveSameNumbers (vs ++ numbers_in fs) (vs ++ filter_map (λ e. e) es)
+children-parts vs fs es same n =
+    list_any-append (λ m. m == n) vs (numbers_in fs)
+    ∙ ap (λ b. has_number n vs || b) (same n)
+    ∙ sym (list_any-append (λ m. m == n) vs (filter_map (λ (e : Option ℕ). e) es))

@@ -2,6 +2,7 @@ pub mod Callers
 pub mod Clearing
 pub mod ElementMaps
 pub mod Errors
+pub mod FewProperties
 pub mod Graphs
 pub mod Growing
 pub mod Listing

@@ -43,13 +43,14 @@ listed_properties-remove_entry name (e ∷ es) h = rw (turned e.0 name) (by (lis
     by rest true same = let is : name ≡ e.0 = eqb-true name e.0 same in sym (rw is (property_removed-absent e.0 es (IsDistinct-head nat_eq e.0 (keys_of es) h)))
     by rest false same = ap (λ l. property_of e ∷ l) rest
 
+-- the names of the properties are the keys of the map
+pub names-listed : (es : List (ℕ × ValueId)) → map (λ (p : Property). p.name) (listed_properties es) ≡ keys_of es
+names-listed [] = refl
+names-listed (e ∷ es) = ap (λ l. e.0 ∷ l) (names-listed es)
+
 -- no property's name stands twice, as no key of the map does
 pub distinct_names : (es : List (ℕ × ValueId)) → IsDistinct nat_eq (keys_of es) → HasDistinctNames (listed_properties es)
-distinct_names es h = rw (names es) h
-  where
-    names : (es : List (ℕ × ValueId)) → map (λ (p : Property). p.name) (listed_properties es) ≡ keys_of es
-    names [] = refl
-    names (e ∷ es) = ap (λ l. e.0 ∷ l) (names es)
+distinct_names es h = rw (names-listed es) h
 
 pub is_some-option_map : {A B : Type 0} (f : A → B) (o : Option A) → is_some (option_map f o) ≡ is_some o
 is_some-option_map f None = refl

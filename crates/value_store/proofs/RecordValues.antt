@@ -9,7 +9,7 @@ use Rattle.napi_types.specs.parts.Graph.{Stored, StoreState, live, value_of}
 use Rattle.napi_types.specs.parts.Values.{Value}
 use Rattle.napi_types.proofs.plain.Found.{found-as_map, found-with_record, found-filter, found-number, has-with_number, turned, same-tells}
 use Rattle.value_store.specs.declared.place.ValuePlace.{ValuePlace}
-use Rattle.value_store.specs.declared.place.ValuePlace.TheVariants.{Plain, Full}
+use Rattle.value_store.specs.declared.place.ValuePlace.TheVariants.{Plain, One, Full}
 use Rattle.value_store.specs.declared.record.Record.{Record}
 use Rattle.value_store.specs.StoreChanges.{id_at, EachStandsOnce, MakesValue}
 use Rattle.value_store.specs.ValuePlaces.{value_here, properties_here, elements_here, value_of_record, stored_as, state_of, AddsRecord}
@@ -211,12 +211,15 @@ many-live s made = many s.places
 -- a value has the creation number that it is made with
 pub number-here : (n : ℕ) (p : ValuePlace) → let v : Value = value_here n p in v.number ≡ n
 number-here n (Plain b) = refl
+number-here n (One name to b) = refl
 number-here n (Full b parts) = refl
 
 pub properties-here : (n : ℕ) (p : ValuePlace) → let v : Value = value_here n p in v.properties ≡ properties_here p
 properties-here n (Plain b) = refl
+properties-here n (One name to b) = refl
 properties-here n (Full b parts) = refl
 
 pub elements-here : (n : ℕ) (p : ValuePlace) → let v : Value = value_here n p in v.elements ≡ elements_here p
 elements-here n (Plain b) = refl
+elements-here n (One name to b) = refl
 elements-here n (Full b parts) = refl

@@ -1,7 +1,8 @@
 -- How the maps of a value stand for its properties and elements.
-use Rattle.std.specs.Prelude.{ℕ, ◌+◌, ◌<◌, ◌≤◌, nat_eq, List, map, Option, option_map, IsSome}
+use Rattle.std.specs.Prelude.{ℕ, ◌+◌, ◌<◌, ◌≤◌, nat_eq, List, [], ◌∷◌, map, Option, option_map, IsSome}
 use Rattle.std.specs.List.{IsDistinct, range_with_len}
 use Rattle.std.specs.Map.{keys_of, lookup}
+use Rattle.napi_types.specs.declared.ids.TextNo.{TextNo}
 use Rattle.napi_types.specs.declared.ids.ValueId.{ValueId}
 use Rattle.napi_types.specs.parts.Properties.{Property, most_index}
 
@@ -17,6 +18,10 @@ property_of e = record { name = e.0; value = e.1.0 }
 -- the properties that the map's entries are, in their order
 abbrev pub listed_properties : List (ℕ × ValueId) → List Property
 listed_properties es = map property_of es
+
+-- the properties of a value that has one
+abbrev pub one_property : TextNo → ValueId → List Property
+one_property name to = record { name = name.0; value = to.0 } ∷ []
 
 -- what the map from indices to values has at an index, by the number of the value
 abbrev pub element_of : List (ℕ × ValueId) → ℕ → Option ℕ

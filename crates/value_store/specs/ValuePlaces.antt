@@ -11,22 +11,26 @@ use Rattle.napi_types.specs.parts.Properties.{Property}
 use Rattle.napi_types.specs.parts.Values.{Value, fresh_value}
 use Rattle.std.specs.List.{All, range_with_len}
 use Rattle.value_store.specs.declared.place.ValuePlace.{ValuePlace}
-use Rattle.value_store.specs.declared.place.ValuePlace.TheVariants.{Plain, Full}
+use Rattle.value_store.specs.declared.place.ValuePlace.TheVariants.{Plain, One, Full}
+use Rattle.value_store.specs.PropertyMaps.{one_property}
 use Rattle.value_store.specs.declared.record.Record.{Record}
 use Rattle.value_store.specs.StoreChanges.{EachStandsOnce, IsStarting, IsFresh}
 
 -- the value with this creation number that is and has this
 abbrev pub value_here : ℕ → ValuePlace → Value
 value_here n (Plain b) = fresh_value n b
+value_here n (One name to b) = record { number = n; body = b; properties = one_property name to; elements = [] }
 value_here n (Full b parts) = record { number = n; body = b; properties = parts.value.properties; elements = parts.value.elements }
 
 -- its properties and its elements
 abbrev pub properties_here : ValuePlace → List Property
 properties_here (Plain b) = []
+properties_here (One name to b) = one_property name to
 properties_here (Full b parts) = parts.value.properties
 
 abbrev pub elements_here : ValuePlace → List (Option ℕ)
 elements_here (Plain b) = []
+elements_here (One name to b) = []
 elements_here (Full b parts) = parts.value.elements
 
 -- it is and has what this value does, whatever its creation number

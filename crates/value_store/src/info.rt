@@ -1,13 +1,28 @@
 //! A value, as a store lends it.
-ghost use Rattle.std.specs.Prelude.{◌≡◌, ◌<◌, length, option_map, slice_get, Some};
+ghost use Rattle.std.specs.Prelude.{◌≡◌, ◌<◌, [], length, option_map, slice_get, Some};
 ghost use Rattle.napi_types.specs.plain.Lists.{HaveSameNumbers};
 ghost use Rattle.napi_types.specs.parts.Properties.{property_at, element_at};
 ghost use Rattle.napi_types.specs.parts.Values.{fresh_value, children};
+ghost use Rattle.value_store.specs.PropertyMaps.{one_property};
 
 use crate::Children;
 use crate::parts::Parts;
 use napi_types::{Body, TextNo, ValueId};
 use std::marker::Model;
+use std::mem::size_of;
+
+/// What a value has by names and by indices, as its place lends it.
+#[derive(Drop)]
+pub(crate) enum Named<'a> {
+    /// No property and no element.
+    Nothing,
+    /// One property, and no element.
+    One(TextNo, ValueId),
+    /// Properties and elements.
+    Parts(&'a Parts),
+}
+
+const _: () = prove!(size_of::<Named>() == 16);
 
 /// A value of the store: what it is, its properties in the order in which their names were first set, its elements, and its
 /// creation number.
@@ -15,21 +30,20 @@ use std::marker::Model;
 pub struct ValueInfo<'a> {
     number: u64,
     body: Body,
-    parts: Option<&'a Parts>,
+    named: Named<'a>,
 }
 
 impl<'a> Model for ValueInfo<'a> {
-    ghost use Rattle.std.specs.Prelude.{option_map, []};
-    ghost use Rattle.std.specs.Option.{unwrap_or};
     ghost use Rattle.napi_types.specs.parts.Values.{Value as GraphValue};
+    ghost use Rattle.value_store.specs.NamedParts.{properties_named, elements_named};
 
     ghost Value = { GraphValue };
 
     ghost view = { λ info. record {
       number = info.number;
       body = info.body;
-      properties = unwrap_or (option_map (λ parts. parts.now.properties) info.parts) [];
-      elements = unwrap_or (option_map (λ parts. parts.now.elements) info.parts) [];
+      properties = properties_named info.named;
+      elements = elements_named info.named;
     } };
 }
 
@@ -41,7 +55,18 @@ impl<'a> ValueInfo<'a> {
         ValueInfo {
             number,
             body,
-            parts: None,
+            named: Named::Nothing,
+        }
+    }
+
+    /// A value with one property, and no elements.
+    pub(crate) fn one(number: u64, body: Body, name: TextNo, to: ValueId) -> ValueInfo<'a>
+        ensures { result ≡ record { number = number; body = body; properties = one_property name to; elements = [] } }
+    {
+        ValueInfo {
+            number,
+            body,
+            named: Named::One(name, to),
         }
     }
 
@@ -52,7 +77,7 @@ impl<'a> ValueInfo<'a> {
         ValueInfo {
             number,
             body,
-            parts: Some(parts),
+            named: Named::Parts(parts),
         }
     }
 
@@ -74,9 +99,10 @@ impl<'a> ValueInfo<'a> {
     pub(crate) fn get_prop(&self, name: TextNo) -> Option<ValueId>
         ensures { option_map (λ v. v.0) result ≡ property_at name.0 self.now.properties }
     {
-        match self.parts {
-            Some(parts) => parts.get_prop(name),
-            None => None,
+        match &self.named {
+            Named::Nothing => None,
+            Named::One(own, to) => (own.0 == name.0).then_some(*to),
+            Named::Parts(parts) => parts.get_prop(name),
         }
     }
 
@@ -84,9 +110,10 @@ impl<'a> ValueInfo<'a> {
     pub(crate) fn name_count(&self) -> usize
         ensures { result ≡ length self.now.properties }
     {
-        match self.parts {
-            Some(parts) => parts.name_count(),
-            None => 0,
+        match &self.named {
+            Named::Nothing => 0,
+            Named::One(_, _) => 1,
+            Named::Parts(parts) => parts.name_count(),
         }
     }
 
@@ -95,9 +122,10 @@ impl<'a> ValueInfo<'a> {
         requires { at < length self.now.properties }
         ensures { option_map (λ p. p.name) (slice_get self.now.properties at) ≡ Some result.0 }
     {
-        match self.parts {
-            Some(parts) => parts.name_at(at),
-            None => unreachable!(),
+        match &self.named {
+            Named::Nothing => unreachable!(),
+            Named::One(name, _) => *name,
+            Named::Parts(parts) => parts.name_at(at),
         }
     }
 
@@ -105,9 +133,9 @@ impl<'a> ValueInfo<'a> {
     pub(crate) fn get_element(&self, at: u32) -> Option<ValueId>
         ensures { option_map (λ v. v.0) result ≡ element_at at self.now.elements }
     {
-        match self.parts {
-            Some(parts) => parts.get_element(at),
-            None => None,
+        match &self.named {
+            Named::Nothing | Named::One(_, _) => None,
+            Named::Parts(parts) => parts.get_element(at),
         }
     }
 
@@ -115,9 +143,9 @@ impl<'a> ValueInfo<'a> {
     pub(crate) fn element_count(&self) -> u32
         ensures { result ≡ length self.now.elements }
     {
-        match self.parts {
-            Some(parts) => parts.element_count(),
-            None => 0,
+        match &self.named {
+            Named::Nothing | Named::One(_, _) => 0,
+            Named::Parts(parts) => parts.element_count(),
         }
     }
 
@@ -126,9 +154,10 @@ impl<'a> ValueInfo<'a> {
         ensures same { HaveSameNumbers result (children self.now) }
         ensures many { length result ≡ length (children self.now) }
     {
-        match self.parts {
-            Some(parts) => parts.children(),
-            None => Children::none(),
+        match &self.named {
+            Named::Nothing => Children::none(),
+            Named::One(_, to) => Children::one(*to),
+            Named::Parts(parts) => parts.children(),
         }
     }
 }

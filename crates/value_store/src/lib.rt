@@ -4,15 +4,17 @@
 //! value graph. The crates of values, of collection and of the environment stand above it.
 #![tactic(auto)]
 
+mod children;
 mod elements;
 mod info;
 mod parts;
 mod place;
 mod places;
+mod properties;
 mod record;
 mod store;
 
+pub use children::Children;
 pub use info::ValueInfo;
 pub use napi_types::Body;
-pub use parts::Children;
 pub use store::Store;

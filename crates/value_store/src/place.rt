@@ -33,9 +33,12 @@ pub(crate) const CODE: TextNo = TextNo(1);
 /// What a value is, and what it has by names and by indices. Its creation number is kept beside it.
 #[derive(Drop)]
 pub(crate) enum ValuePlace {
-    /// A value that never had a property or an element.
+    /// A value with no property and no element.
     Plain(Body),
-    /// A value, and its properties and elements. These are made at the first.
+    /// A value with one property, by its name and its value, and no element.
+    // (The body goes last, so that the name lies beside the variant's tag.)
+    One(TextNo, ValueId, Body),
+    /// A value, and its properties and elements. These are made at the second property or at the first element.
     Full(Body, Box<Parts>),
 }
 
@@ -77,11 +80,12 @@ impl ValuePlace {
     {
         match self {
             ValuePlace::Plain(body) => ValueInfo::plain(number, *body),
+            ValuePlace::One(name, to, body) => ValueInfo::one(number, *body, *name, *to),
             ValuePlace::Full(body, parts) => ValueInfo::full(number, *body, parts),
         }
     }
 
-    /// Sets a property. A name that is there keeps its place, and a new one goes last.
+    /// Sets a property. A name that is there keeps its place, and a new one goes last. The first takes no memory.
     pub(crate) fn set_prop(
         &mut self,
         alloc: Global,
@@ -94,12 +98,20 @@ impl ValuePlace {
     {
         match self {
             ValuePlace::Plain(body) => {
-                let mut parts = Parts::new(alloc);
-                parts.set_prop(name, to)?;
+                *self = ValuePlace::One(name, to, *body);
+                Ok(())
+            }
+            ValuePlace::One(first, value, body) => {
+                if first.0 == name.0 {
+                    *value = to;
+                    return Ok(());
+                }
+                let mut parts = Parts::with_one(alloc, *first, *value)?;
+                parts.set_prop(alloc, name, to)?;
                 *self = ValuePlace::Full(*body, Box::new(alloc, parts)?);
                 Ok(())
             }
-            ValuePlace::Full(_, parts) => parts.set_prop(name, to),
+            ValuePlace::Full(_, parts) => parts.set_prop(alloc, name, to),
         }
     }
 
@@ -110,6 +122,13 @@ impl ValuePlace {
     {
         match self {
             ValuePlace::Plain(_) => false,
+            ValuePlace::One(first, _, body) => {
+                if first.0 != name.0 {
+                    return false;
+                }
+                *self = ValuePlace::Plain(*body);
+                true
+            }
             ValuePlace::Full(_, parts) => parts.remove_prop(name),
         }
     }
@@ -129,6 +148,12 @@ impl ValuePlace {
         match self {
             ValuePlace::Plain(body) => {
                 let mut parts = Parts::new(alloc);
+                parts.set_element(alloc, at, to)?;
+                *self = ValuePlace::Full(*body, Box::new(alloc, parts)?);
+                Ok(())
+            }
+            ValuePlace::One(name, value, body) => {
+                let mut parts = Parts::with_one(alloc, *name, *value)?;
                 parts.set_element(alloc, at, to)?;
                 *self = ValuePlace::Full(*body, Box::new(alloc, parts)?);
                 Ok(())
