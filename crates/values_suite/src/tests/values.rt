@@ -1,5 +1,5 @@
 //! In which order a store has its values, and the children of one. No clause tells it.
-ghost use Rattle.std.specs.Prelude.{◌≡◌, ◌≤◌};
+ghost use Rattle.std.specs.Prelude.{◌≡◌, ◌+◌, ◌<◌, ◌≤◌, ◌^◌};
 ghost use Rattle.napi_types.specs.parts.Bodies.{is_object_like as has_properties};
 ghost use Rattle.napi_types.specs.parts.Properties.{most_index};
 ghost use Rattle.value_store.specs.StoreChanges.{IsNew};
@@ -59,25 +59,60 @@ const ERROR: Body = Body::Object {
     error: true,
 };
 
-/// No place is used again, and strings stand before the list or the error that has them.
+/// The place that was freed is used again, under a number of its next generation. Strings stand before the list or the error that
+/// has them.
 const STANDING: [Standing; 10] = [
     Some((ValueId(5), PLAIN)),
+    Some((ValueId(0x1_0000_0000_0006), Body::Str(TextNo(9)))),
+    Some((ValueId(7), Body::Str(TextNo(2)))),
+    Some((ValueId(8), ARRAY)),
+    Some((ValueId(9), Body::Str(TextNo(9)))),
+    Some((ValueId(10), Body::Str(TextNo(7)))),
+    Some((ValueId(11), ERROR)),
+    Some((ValueId(12), Body::Str(TextNo(2)))),
+    Some((ValueId(13), ERROR)),
     None,
-    Some((ValueId(7), Body::Str(TextNo(9)))),
-    Some((ValueId(8), Body::Str(TextNo(2)))),
-    Some((ValueId(9), ARRAY)),
-    Some((ValueId(10), Body::Str(TextNo(9)))),
-    Some((ValueId(11), Body::Str(TextNo(7)))),
-    Some((ValueId(12), ERROR)),
-    Some((ValueId(13), Body::Str(TextNo(2)))),
-    Some((ValueId(14), ERROR)),
 ];
 
 #[test]
 fn values_stand_in_the_order_of_making(rt: HostRuntime) {
     let mut store = ample(&rt, Store::new(rt.alloc()));
     fill(&rt, &mut store);
-    assert_eq!(rt; (store.places(), ten_standing(&store)), (14, STANDING));
+    assert_eq!(rt; (store.places(), ten_standing(&store)), (13, STANDING));
+}
+
+/// Makes a value and frees it, and answers with the number that it had.
+fn make_and_free(rt: &impl Abort, store: &mut Store, body: Body) -> ValueId
+    requires started { 5 ≤ store.old.made }
+    requires room { store.old.made + 2 < 2 ^ 48 }
+    ensures { store.new.made ≡ store.old.made + 1 }
+{
+    let id = ample(rt, store.make(body));
+    store.free(&[id]);
+    id
+}
+
+/// What these numbers name, if anything.
+fn three_named(store: &Store, ids: [ValueId; 3]) -> [Option<Body>; 3] {
+    let mut found = [None; 3];
+    for at in 0..3 {
+        if let Some(value) = store.get(ids[at]) {
+            found[at] = Some(value.body());
+        }
+    }
+    found
+}
+
+#[test]
+fn a_place_has_two_generations_and_no_third(rt: HostRuntime) {
+    let mut store = ample(&rt, Store::with_generations(rt.alloc(), 1));
+    let first = make_and_free(&rt, &mut store, Body::Number(1));
+    let second = make_and_free(&rt, &mut store, Body::Number(2));
+    let third = ample(&rt, store.make(Body::Number(3)));
+    let distinct = first != second && second != third && third != first;
+    let named = three_named(&store, [first, second, third]);
+    assert_eq!(rt; (distinct, named), (true, [None, None, Some(Body::Number(3))]));
+    assert_eq!(rt; (store.places(), store.live_count()), (7, 6));
 }
 
 fn is_object_like(body: Body) -> bool
