@@ -10,7 +10,7 @@ use Rattle.generation_slab.specs.HeldPlaces.{Held, HeldPlaces, held, value_of, w
 use Rattle.generation_slab.specs.SlotNumbers.{number_of_slot, generation_in, live_at, given_in, places_from, issued_from, places_of, HaveGenerations, HasRoom, IsInOrder}
 use Rattle.generation_slab.proofs.SlotNumbers.{tests-apart, issued-same}
 use Rattle.generation_slab.proofs.Changing.{Changes, Stands, Results, Makes, Widened, stands, replaces, frees, makes, issued-none}
-use Rattle.generation_slab.proofs.Counting.{counted-more, counted-less, counted-same}
+use Rattle.generation_slab.proofs.HeldCounts.{counted-more, counted-less, counted-same}
 use Rattle.generation_slab.proofs.LiveSlots.{live-there, live-vacant, have-generations, written, taken, given-free, retired-slot, vacant-other}
 use Rattle.generation_slab.proofs.SlotReading.{places-changed, place-taken, place-put, within-places, long}
 

@@ -1,5 +1,5 @@
 pub mod Changing
-pub mod Counting
+pub mod HeldCounts
 pub mod HeldPlaces
 pub mod InOrder
 pub mod Issuing

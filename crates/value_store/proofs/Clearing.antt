@@ -6,7 +6,7 @@ use Rattle.std.proofs.lemmas.Map.Keys.{IsDistinct-head, IsDistinct-tail}
 use Rattle.napi_types.specs.declared.ids.ValueId.{ValueId}
 use Rattle.napi_types.specs.plain.Lists.{has_number}
 use Rattle.napi_types.proofs.plain.Found.{turned}
-use Rattle.value_store.specs.declared.record.Record.{Record}
+use Rattle.value_store.specs.declared.record.ValueRecord.{ValueRecord}
 use Rattle.value_store.specs.StoreChanges.{numbers_of}
 
 has-more : (n k : ℕ) (ids : List ℕ) → has_number n (ids ++ k ∷ []) ≡ ((n == k) || has_number n ids)
@@ -36,7 +36,7 @@ not-before (n ∷ ns) (suc i) d less distinct =
     ∙ not-before ns i d (omega (arith, less)) (IsDistinct-tail nat_eq n ns distinct)
 
 -- the next number of the list is still held
-pub next-held : (old now : ℕ → Option Record) (list : List ValueId) (i : ℕ) (d : ValueId) → i < length list → All (λ n. IsSome (old n)) (numbers_of list) → IsDistinct nat_eq (numbers_of list)
+pub next-held : (old now : ℕ → Option ValueRecord) (list : List ValueId) (i : ℕ) (d : ValueId) → i < length list → All (λ n. IsSome (old n)) (numbers_of list) → IsDistinct nat_eq (numbers_of list)
     → ((n : ℕ) → now n ≡ cond (has_number n (numbers_of (take i list))) None (old n)) → IsSome (now (get_or list i d).0)
 next-held old now list i d less held distinct so_far =
     let many : length (numbers_of list) ≡ length list = length-map list (λ (v : ValueId). v.0) in
@@ -45,10 +45,10 @@ next-held old now list i d less held distinct so_far =
     let apart : has_number (get_or list i d).0 (numbers_of (take i list)) ≡ false =
     ap (has_number (get_or list i d).0) (sym (take-map (λ (v : ValueId). v.0) i list)) ∙ ap (λ n. has_number n (take i (numbers_of list))) (sym same)
     ∙ not-before (numbers_of list) i d.0 (omega (arith, less, many)) distinct in
-    subst (λ (o : Option Record). IsSome o) (sym (so_far (get_or list i d).0 ∙ ap (λ b. cond b None (old (get_or list i d).0)) apart)) there
+    subst (λ (o : Option ValueRecord). IsSome o) (sym (so_far (get_or list i d).0 ∙ ap (λ b. cond b None (old (get_or list i d).0)) apart)) there
 
 -- one number more is freed
-pub freed-more : (old now next : ℕ → Option Record) (list : List ValueId) (i : ℕ) (d : ValueId) → i < length list
+pub freed-more : (old now next : ℕ → Option ValueRecord) (list : List ValueId) (i : ℕ) (d : ValueId) → i < length list
     → ((n : ℕ) → now n ≡ cond (has_number n (numbers_of (take i list))) None (old n)) → ((n : ℕ) → next n ≡ cond (n == (get_or list i d).0) None (now n))
     → (n : ℕ) → next n ≡ cond (has_number n (numbers_of (take (i + 1) list))) None (old n)
 freed-more old now next list i d less so_far freed n =
@@ -56,6 +56,6 @@ freed-more old now next list i d less so_far freed n =
     ∙ joined (n == (get_or list i d).0) (has_number n (numbers_of (take i list))) (old n)
     ∙ sym (ap (λ b. cond b None (old n)) (ap (has_number n) (numbers_of-more list i d less) ∙ has-more n (get_or list i d).0 (numbers_of (take i list))))
   where
-    joined : (a b : Bool) (o : Option Record) → cond a None (cond b None o) ≡ cond (a || b) None o
+    joined : (a b : Bool) (o : Option ValueRecord) → cond a None (cond b None o) ≡ cond (a || b) None o
     joined true b o = refl
     joined false b o = refl

@@ -22,9 +22,6 @@ option-same None None there back = refl
 option-same None (Some w) there back = back w refl
 option-same (Some v) p there back = sym (there v refl)
 
-one-option : {A : Type 0} (v w : A) → Some v ≡ Some w → v ≡ w
-one-option v w is = cc
-
 mapped-same : (f g : ℕ → Option Value) (ns : List ℕ) → ((n : ℕ) → has_number n ns ≡ true → f n ≡ g n) → filter_map f ns ≡ filter_map g ns
 mapped-same f g [] same = refl
 mapped-same f g (n ∷ ns) same =

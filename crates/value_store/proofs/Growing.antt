@@ -11,7 +11,7 @@ use Rattle.napi_types.specs.parts.Values.{Value, children}
 use Rattle.generation_slab.specs.HeldPlaces.{HeldPlaces}
 use Rattle.napi_types.specs.parts.Properties.{HasDistinctNames}
 use Rattle.value_store.specs.declared.place.ValuePlace.{ValuePlace}
-use Rattle.value_store.specs.declared.record.Record.{Record}
+use Rattle.value_store.specs.declared.record.ValueRecord.{ValueRecord}
 use Rattle.value_store.specs.StoreChanges.{MakesValue, IsFresh}
 use Rattle.value_store.specs.ValuePlaces.{value_here, state_of, AddsRecord, IsGood, Grows, GrowsTo}
 use Rattle.value_store.proofs.Callers.{makes-live}
@@ -103,7 +103,7 @@ module _ (s t u : StoreState) (vs : List Value) (ids : List ℕ) (id : ℕ) (v :
       fresh false apart = ap (λ b. b || has_number id s.issued) (or_parts (0 == id) (has_number id t.issued) step.fresh).0 ∙ apart
 
 -- A RECORD IS HELD, AND SO A VALUE MADE
-module _ (now next : HeldPlaces Record) (m n id : ℕ) (p : ValuePlace) (v : Value) (has : value_here n p ≡ v) (adds : AddsRecord now next id (record { number = n; value = p })) (is : n ≡ m + 1)
+module _ (now next : HeldPlaces ValueRecord) (m n id : ℕ) (p : ValuePlace) (v : Value) (has : value_here n p ≡ v) (adds : AddsRecord now next id (record { number = n; value = p })) (is : n ≡ m + 1)
     (s : StoreState) (vs : List Value) (ids : List ℕ) (grows : Grows s (state_of now m) vs ids) (names : HasDistinctNames v.properties) (closed : All (IsLive (state_of now m)) (children v)) where
   put-step : MakesValue (state_of now m) (state_of next n) id v
   put-step = subst (λ k. MakesValue (state_of now m) (state_of next k) id v) (sym is) (subst (λ w. MakesValue (state_of now m) (state_of next (m + 1)) id w) has (adds-makes now next m id (record { number = n; value = p }) adds))

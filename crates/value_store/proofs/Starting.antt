@@ -11,19 +11,19 @@ use Rattle.napi_types.specs.plain.Lists.{has_number, tail}
 use Rattle.napi_types.specs.parts.Graph.{StoreState, IsLive, value_of, number_in, renamed, graph_of}
 use Rattle.napi_types.specs.parts.Values.{Value, fresh_value, value_at, starting_values}
 use Rattle.value_store.specs.declared.place.ValuePlace.TheVariants.{Plain}
-use Rattle.value_store.specs.declared.record.Record.{Record}
+use Rattle.value_store.specs.declared.record.ValueRecord.{ValueRecord}
 use Rattle.value_store.specs.StoreChanges.{id_at, IsStarting}
-use Rattle.value_store.specs.ValuePlaces.{state_of, AddsRecord, IsGood, Grows, IsKept}
+use Rattle.value_store.specs.ValuePlaces.{state_of, AddsRecord, IsGood, Grows, IsKeptStore}
 use Rattle.value_store.proofs.Graphs.{graph-read}
 use Rattle.value_store.proofs.Growing.{grows-none, put-one}
 use Rattle.value_store.proofs.PropertyNames.{distinct-none}
 use Rattle.value_store.proofs.RecordValues.{once-held}
 
 -- nothing is there
-none-there : (s : HeldPlaces Record) → s.places ≡ [] → (n : ℕ) → value_of (state_of s 0) n ≡ None
+none-there : (s : HeldPlaces ValueRecord) → s.places ≡ [] → (n : ℕ) → value_of (state_of s 0) n ≡ None
 none-there s empty n = ap (λ ps. value_of (state_of (record s { places = ps }) 0) n) empty
 
-none-good : (s : HeldPlaces Record) → s.places ≡ [] → s.issued ≡ [] → IsGood (state_of s 0)
+none-good : (s : HeldPlaces ValueRecord) → s.places ≡ [] → s.issued ≡ [] → IsGood (state_of s 0)
 none-good s empty none = record {
   once = λ id first second here there. let no : ⊥ = absurd (nothing id first here) in absurd no;
   sound = record {
@@ -61,14 +61,14 @@ starts t good graph which id live number = record {
 next-of : (n m : ℕ) (ns ms : List ℕ) → n ∷ ns ≡ m ∷ ms → (n ≡ m) × (ns ≡ ms)
 next-of n m ns ms is = (ap (λ l. slice_index_or l 0 0) is, ap tail is)
 
-module _ (old s0 s1 s2 s3 s4 s5 : HeldPlaces Record) (i1 i2 i3 i4 i5 : ValueId) (empty : old.places ≡ []) (none : old.issued ≡ []) (kept : s0 ≡ record old { room = s0.room })
+module _ (old s0 s1 s2 s3 s4 s5 : HeldPlaces ValueRecord) (i1 i2 i3 i4 i5 : ValueId) (empty : old.places ≡ []) (none : old.issued ≡ []) (kept : s0 ≡ record old { room = s0.room })
     (a1 : AddsRecord s0 s1 i1.0 (record { number = 1; value = Plain body.Undefined })) (a2 : AddsRecord s1 s2 i2.0 (record { number = 2; value = Plain body.Null }))
     (a3 : AddsRecord s2 s3 i3.0 (record { number = 3; value = Plain (body.Boolean true) })) (a4 : AddsRecord s3 s4 i4.0 (record { number = 4; value = Plain (body.Boolean false) }))
     (a5 : AddsRecord s4 s5 i5.0 (record { number = 5; value = Plain (body.Object false false) })) where
   first : IsGood (state_of old 0)
   first = none-good old empty none
 
-  put : (s t : HeldPlaces Record) (m n id : ℕ) (b : Body) (vs : List Value) (ids : List ℕ) → AddsRecord s t id (record { number = n; value = Plain b }) → n ≡ m + 1 → Grows (state_of old 0) (state_of s m) vs ids
+  put : (s t : HeldPlaces ValueRecord) (m n id : ℕ) (b : Body) (vs : List Value) (ids : List ℕ) → AddsRecord s t id (record { number = n; value = Plain b }) → n ≡ m + 1 → Grows (state_of old 0) (state_of s m) vs ids
       → Grows (state_of old 0) (state_of t n) (vs ++ fresh_value n b ∷ []) (ids ++ id ∷ [])
   put s t m n id b vs ids adds is grows =
       put-one s t m n id (Plain b) (fresh_value n b) refl adds is (state_of old 0) vs ids grows distinct-none (All-nil (IsLive (state_of s m))) (fresh_value n b) refl
@@ -85,7 +85,7 @@ module _ (old s0 s1 s2 s3 s4 s5 : HeldPlaces Record) (i1 i2 i3 i4 i5 : ValueId) 
   pub all-graph : graph_of (state_of s5 5) ≡ starting_values
   all-graph = all.graph
 
-  pub all-kept : IsKept s5 5 (i1 ∷ i2 ∷ i3 ∷ i4 ∷ i5 ∷ [])
+  pub all-kept : IsKeptStore s5 5 (i1 ∷ i2 ∷ i3 ∷ i4 ∷ i5 ∷ [])
   all-kept = record { once = a5.once; good = all.good; starts = each }
     where
       graph : graph_of (state_of s5 5) ≡ starting_values

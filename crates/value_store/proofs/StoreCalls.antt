@@ -13,9 +13,9 @@ use Rattle.napi_types.specs.parts.Graph.{Stored, StoreState, IsLive, value_of, n
 use Rattle.napi_types.specs.parts.Properties.{HasDistinctNames}
 use Rattle.napi_types.specs.parts.Values.{Value, children, value_changed, with_property, without_property, with_element}
 use Rattle.value_store.specs.declared.place.ValuePlace.{ValuePlace}
-use Rattle.value_store.specs.declared.record.Record.{Record}
+use Rattle.value_store.specs.declared.record.ValueRecord.{ValueRecord}
 use Rattle.value_store.specs.StoreChanges.{MakesValue, MakesList, ChangesOnly, Frees, CanFree, StandsAt, id_at, properties_in}
-use Rattle.value_store.specs.ValuePlaces.{value_of_record, properties_here, state_of, HasValue, ChangesPlace, AddsRecord, IsGood, GrowsTo, AreStarting, IsKept}
+use Rattle.value_store.specs.ValuePlaces.{value_of_record, properties_here, state_of, HasValue, ChangesPlace, AddsRecord, IsGood, GrowsTo, NameStarting, IsKeptStore}
 use Rattle.value_store.proofs.Graphs.{made-graph, changed-graph, freed-graph}
 use Rattle.value_store.proofs.Lookup.{apart-number}
 use Rattle.value_store.proofs.NamedPlaces.{children-with_property, children-without_property, children-with_element}
@@ -25,12 +25,12 @@ use Rattle.value_store.proofs.RecordValues.{value-held, held-value, adds-makes, 
 use Rattle.value_store.proofs.RenamedParts.{property-named-so, removal-named-so, element-named-so}
 use Rattle.value_store.proofs.StoreStates.{made-good, changed-good, freed-good, starting-kept, starting-changed, starting-freed, fresh-apart}
 
-module _ (s : HeldPlaces Record) (made : ℕ) (starting : List ValueId) (kept : IsKept s made starting) (t : StoreState) (view : state_of s made ≡ t) where
+module _ (s : HeldPlaces ValueRecord) (made : ℕ) (starting : List ValueId) (kept : IsKeptStore s made starting) (t : StoreState) (view : state_of s made ≡ t) where
   pub good-view : IsGood t
   good-view = subst IsGood view kept.good
 
   -- A VALUE IS MADE
-  module _ (new : HeldPlaces Record) (id : ℕ) (p : ValuePlace) (value : ℕ → Value) (has : HasValue p value) (adds : AddsRecord s new id (record { number = made + 1; value = p }))
+  module _ (new : HeldPlaces ValueRecord) (id : ℕ) (p : ValuePlace) (value : ℕ → Value) (has : HasValue p value) (adds : AddsRecord s new id (record { number = made + 1; value = p }))
       (names : (n : ℕ) → let v : Value = value n in HasDistinctNames v.properties) (closed : (n : ℕ) → All (IsLive t) (children (value n))) where
     step : MakesValue (state_of s made) (state_of new (made + 1)) id (value (made + 1))
     step = subst (λ v. MakesValue (state_of s made) (state_of new (made + 1)) id v) (has (made + 1)) (adds-makes s new made id (record { number = made + 1; value = p }) adds)
@@ -44,7 +44,7 @@ module _ (s : HeldPlaces Record) (made : ℕ) (starting : List ValueId) (kept : 
     after : IsGood (state_of new (made + 1))
     after = made-good (state_of s made) (state_of new (made + 1)) id (value (made + 1)) kept.good step (once-held new (made + 1) adds.once) number-is (names (made + 1)) closed-here
 
-    pub make-kept : IsKept new (made + 1) starting
+    pub make-kept : IsKeptStore new (made + 1) starting
     make-kept = record {
       once = adds.once;
       good = after;
@@ -62,8 +62,8 @@ module _ (s : HeldPlaces Record) (made : ℕ) (starting : List ValueId) (kept : 
         (made-graph (state_of s made) (state_of new (made + 1)) id (value (made + 1)) kept.good after step number-is closed-here)
 
   -- SEVERAL ARE MADE
-  module _ (new : HeldPlaces Record) (more : ℕ) (vs : List Value) (id : ℕ) (once : EachHeldOnce new) (grows : GrowsTo (state_of s made) (state_of new (made + more)) vs id) where
-    pub list-kept : IsKept new (made + more) starting
+  module _ (new : HeldPlaces ValueRecord) (more : ℕ) (vs : List Value) (id : ℕ) (once : EachHeldOnce new) (grows : GrowsTo (state_of s made) (state_of new (made + more)) vs id) where
+    pub list-kept : IsKeptStore new (made + more) starting
     list-kept = record { once = once; good = grows.good; starts = starting-kept (state_of s made) (state_of new (made + more)) starting kept.good grows.kept kept.starts }
 
     pub list-makes : (count : ℕ) → more ≡ count + 1 → MakesList t (state_of new (made + more)) id count
@@ -84,11 +84,11 @@ module _ (s : HeldPlaces Record) (made : ℕ) (starting : List ValueId) (kept : 
     list-graph = grows.graph ∙ ap (λ u. graph_of u ++ vs) view
 
   -- A VALUE IS CHANGED
-  module _ (k : ℕ) (r : Record) (held : record_at s k ≡ Some r) (p : ValuePlace) where
-    abbrev next : Record
+  module _ (k : ℕ) (r : ValueRecord) (held : record_at s k ≡ Some r) (p : ValuePlace) where
+    abbrev next : ValueRecord
     next = record r { value = p }
 
-    abbrev after-change : HeldPlaces Record
+    abbrev after-change : HeldPlaces ValueRecord
     after-change = with_value_at k s next
 
     pub value-there : value_of t k ≡ Some (value_of_record r)
@@ -109,7 +109,7 @@ module _ (s : HeldPlaces Record) (made : ℕ) (starting : List ValueId) (kept : 
         nothing_issued = record { issued = refl; made = refl };
       }
         where
-          same : {b : Bool} (o : Option Record) → b ≡ false → option_map (λ old. cond b next old) o ≡ o
+          same : {b : Bool} (o : Option ValueRecord) → b ≡ false → option_map (λ old. cond b next old) o ≡ o
           same None apart = refl
           same (Some q) apart = ap (λ b. Some (cond b next q)) apart
 
@@ -122,7 +122,7 @@ module _ (s : HeldPlaces Record) (made : ℕ) (starting : List ValueId) (kept : 
             let fit = fits v (ap (λ u. value_of u k) (sym view) ∙ there) in
             (fit.0, subst (λ u. All (IsLive u) (children (change v))) (sym view) fit.1))
 
-        pub change-kept : IsKept after-change made starting
+        pub change-kept : IsKeptStore after-change made starting
         change-kept = record {
           once = once-changed k next s kept.once;
           good = good-change;
@@ -137,8 +137,8 @@ module _ (s : HeldPlaces Record) (made : ℕ) (starting : List ValueId) (kept : 
             changed-graph t (state_of after-change made) k change other good-view good-change change-only (λ v. (keeps v).0) (λ v there. match v)
 
     -- nothing is, where the value is as it was
-    pub same-kept : p ≡ r.value → IsKept after-change made starting
-    same-kept same = subst (λ u. IsKept u made starting) (sym (same-slab same)) kept
+    pub same-kept : p ≡ r.value → IsKeptStore after-change made starting
+    same-kept same = subst (λ u. IsKeptStore u made starting) (sym (same-slab same)) kept
       where
         same-slab : p ≡ r.value → after-change ≡ s
         same-slab same = ap (λ q. with_value_at k s (record r { value = q })) same ∙ same-record k r s kept.once held
@@ -157,7 +157,7 @@ module _ (s : HeldPlaces Record) (made : ℕ) (starting : List ValueId) (kept : 
       element-fits : (at : ℕ) (v : Value) → value_of t k ≡ Some v → let w : Value = with_element at to v in HasDistinctNames w.properties × All (IsLive t) (children w)
       element-fits at v there = (good-view.sound.names k v there, children-with_element (IsLive t) at to v live (good-view.sound.closed k v there))
 
-      pub property-kept : {A E : Type 0} (q : Result A E) → OnOk q (ChangesPlace r.value p (with_property name to)) → OnErr q (p ≡ r.value) → IsKept after-change made starting
+      pub property-kept : {A E : Type 0} (q : Result A E) → OnOk q (ChangesPlace r.value p (with_property name to)) → OnErr q (p ≡ r.value) → IsKeptStore after-change made starting
       property-kept (Ok a) ok err = change-kept (with_property name to) ok (λ v. (refl, refl)) property-fits
       property-kept (Err e) ok err = same-kept err
 
@@ -168,7 +168,7 @@ module _ (s : HeldPlaces Record) (made : ℕ) (starting : List ValueId) (kept : 
           → OnOk q (graph_of (state_of after-change made) ≡ value_changed (number_in t k) (with_property name (number_in t to)) (graph_of t))
       property-graph q = ok-then q (λ is. change-graph (with_property name to) is (λ v. (refl, refl)) property-fits (with_property name (number_in t to)) (property-named-so t name to))
 
-      pub element-kept : {A E : Type 0} (q : Result A E) (at : ℕ) → OnOk q (ChangesPlace r.value p (with_element at to)) → OnErr q (p ≡ r.value) → IsKept after-change made starting
+      pub element-kept : {A E : Type 0} (q : Result A E) (at : ℕ) → OnOk q (ChangesPlace r.value p (with_element at to)) → OnErr q (p ≡ r.value) → IsKeptStore after-change made starting
       element-kept (Ok a) at ok err = change-kept (with_element at to) ok (λ v. (refl, refl)) (element-fits at)
       element-kept (Err e) at ok err = same-kept err
 
@@ -186,7 +186,7 @@ module _ (s : HeldPlaces Record) (made : ℕ) (starting : List ValueId) (kept : 
         children-without_property (IsLive t) name v (good-view.sound.closed k v there),
       )
 
-      pub removal-kept : IsKept after-change made starting
+      pub removal-kept : IsKeptStore after-change made starting
       removal-kept = change-kept (without_property name) is (λ v. (refl, refl)) removal-fits
 
       pub removal-only : ChangesOnly t (state_of after-change made) k (without_property name)
@@ -196,7 +196,7 @@ module _ (s : HeldPlaces Record) (made : ℕ) (starting : List ValueId) (kept : 
       removal-graph = change-graph (without_property name) is (λ v. (refl, refl)) removal-fits (without_property name) (removal-named-so t name)
 
   -- VALUES ARE FREED
-  module _ (new : HeldPlaces Record) (ids : List ℕ) (can : CanFree t ids) (values : (n : ℕ) → record_at new n ≡ cond (has_number n ids) None (record_at s n)) (issued : new.issued ≡ s.issued) (once : EachHeldOnce new) where
+  module _ (new : HeldPlaces ValueRecord) (ids : List ℕ) (can : CanFree t ids) (values : (n : ℕ) → record_at new n ≡ cond (has_number n ids) None (record_at s n)) (issued : new.issued ≡ s.issued) (once : EachHeldOnce new) where
     free-step : Frees t (state_of new made) ids
     free-step =
         let at : (n : ℕ) → value_of (state_of new made) n ≡ cond (has_number n ids) None (value_of t n) =
@@ -207,15 +207,15 @@ module _ (s : HeldPlaces Record) (made : ℕ) (starting : List ValueId) (kept : 
           nothing_issued = record { issued = issued ∙ ap (λ (u : StoreState). u.issued) view; made = ap (λ (u : StoreState). u.made) view };
         }
       where
-        moved : (b : Bool) (o : Option Record) → option_map value_of_record (cond b None o) ≡ cond b None (option_map value_of_record o)
+        moved : (b : Bool) (o : Option ValueRecord) → option_map value_of_record (cond b None o) ≡ cond b None (option_map value_of_record o)
         moved true o = refl
         moved false o = refl
 
     free-good : IsGood (state_of new made)
     free-good = freed-good t (state_of new made) ids good-view free-step can (once-held new made once)
 
-    pub free-kept : IsKept new made starting
-    free-kept = record { once = once; good = free-good; starts = starting-freed t (state_of new made) ids starting free-step can (subst (λ u. AreStarting u starting) view kept.starts) }
+    pub free-kept : IsKeptStore new made starting
+    free-kept = record { once = once; good = free-good; starts = starting-freed t (state_of new made) ids starting free-step can (subst (λ u. NameStarting u starting) view kept.starts) }
 
     pub free-frees : Frees t (state_of new made) ids
     free-frees = free-step

@@ -11,7 +11,7 @@ use Rattle.napi_types.specs.parts.Properties.{HasDistinctNames}
 use Rattle.napi_types.specs.parts.Values.{Value, children, value_at, starting_values}
 use Rattle.napi_types.proofs.plain.Maps.{among-holds}
 use Rattle.value_store.specs.StoreChanges.{EachStandsOnce, MakesValue, ChangesOnly, Frees, CanFree, IsStarting}
-use Rattle.value_store.specs.ValuePlaces.{IsGood, AreStarting}
+use Rattle.value_store.specs.ValuePlaces.{IsGood, NameStarting}
 use Rattle.value_store.proofs.Callers.{makes-live, changes-live}
 use Rattle.value_store.proofs.Lookup.{apart-number, other-number}
 use Rattle.value_store.proofs.ReadingPlaces.{some-is}
@@ -183,13 +183,13 @@ starting-live s which id is = by (value_of s id) refl
     by (Some v) at = subst (λ (o : Option Value). IsSome o) (sym at) refl
 
 -- what was issued names the same value
-pub starting-kept : (s t : StoreState) (ids : List ValueId) → IsGood s → ((n : ℕ) → has_number n s.issued ≡ true → value_of t n ≡ value_of s n) → AreStarting s ids → AreStarting t ids
+pub starting-kept : (s t : StoreState) (ids : List ValueId) → IsGood s → ((n : ℕ) → has_number n s.issued ≡ true → value_of t n ≡ value_of s n) → NameStarting s ids → NameStarting t ids
 starting-kept s t ids good kept are = λ which d less.
     let is = are which d less in
     starting-same s t which (slice_index_or ids which d).0 (kept (slice_index_or ids which d).0 (good.sound.given (slice_index_or ids which d).0 (starting-live s which (slice_index_or ids which d).0 is))) is
 
 pub starting-changed : (s t : StoreState) (id : ℕ) (change : Value → Value) (ids : List ValueId) → ChangesOnly s t id change → ((v : Value) → let w : Value = change v in (w.number ≡ v.number) × (w.body ≡ v.body))
-    → AreStarting s ids → AreStarting t ids
+    → NameStarting s ids → NameStarting t ids
 starting-changed s t id change ids step keeps are = λ which d less. one which (slice_index_or ids which d).0 (are which d less)
   where
     numbers : (o : Option Value) → option_map (λ (v : Value). v.number) (option_map change o) ≡ option_map (λ v. v.number) o
@@ -213,7 +213,7 @@ starting-changed s t id change ids step keeps are = λ which d less. one which (
             }
         by false e = starting-same s t which n (step.others n (other-number n id e)) is
 
-pub starting-freed : (s t : StoreState) (gone : List ℕ) (ids : List ValueId) → Frees s t gone → CanFree s gone → AreStarting s ids → AreStarting t ids
+pub starting-freed : (s t : StoreState) (gone : List ℕ) (ids : List ValueId) → Frees s t gone → CanFree s gone → NameStarting s ids → NameStarting t ids
 starting-freed s t gone ids step can are = λ which d less. one which (slice_index_or ids which d).0 less (are which d less)
   where
     one : (which n : ℕ) → which < 5 → IsStarting s which n → IsStarting t which n

@@ -11,7 +11,7 @@ use Rattle.napi_types.specs.parts.NewValues.{error_of, thrown_of}
 use Rattle.napi_types.specs.parts.Values.{fresh_value, with_property}
 use Rattle.value_store.specs.declared.place.ValuePlace.{ValuePlace}
 use Rattle.value_store.specs.declared.place.ValuePlace.TheVariants.{Plain}
-use Rattle.value_store.specs.declared.record.Record.{Record}
+use Rattle.value_store.specs.declared.record.ValueRecord.{ValueRecord}
 use Rattle.value_store.specs.ValuePlaces.{state_of, HasValue, ChangesPlace, AddsRecord, IsGood, Grows, GrowsTo}
 use Rattle.value_store.proofs.Errors.{error-names}
 use Rattle.value_store.proofs.Growing.{grows-none, put-one, put-last}
@@ -23,17 +23,17 @@ first-of n ns k ks is = cc
 second-of : (m n : ℕ) (j k : ℕ) → m ∷ n ∷ [] ≡ j ∷ k ∷ [] → n ≡ k
 second-of m n j k is = cc
 
-module _ (old start : HeldPlaces Record) (made : ℕ) (message : TextNo) (good : IsGood (state_of old made)) (kept : start ≡ record old { room = start.room }) where
+module _ (old start : HeldPlaces ValueRecord) (made : ℕ) (message : TextNo) (good : IsGood (state_of old made)) (kept : start ≡ record old { room = start.room }) where
   started : Grows (state_of old made) (state_of start made) [] []
   started = subst (λ s. Grows (state_of old made) (state_of s made) [] []) (sym kept) (grows-none (state_of old made) good)
 
-  said-first : (next : HeldPlaces Record) (said : ℕ) → AddsRecord start next said (record { number = made + 1; value = Plain (body.Str message) })
+  said-first : (next : HeldPlaces ValueRecord) (said : ℕ) → AddsRecord start next said (record { number = made + 1; value = Plain (body.Str message) })
       → Grows (state_of old made) (state_of next (made + 1)) (fresh_value (made + 1) (body.Str message) ∷ []) (said ∷ [])
   said-first next said adds =
       put-one start next made (made + 1) said (Plain (body.Str message)) (fresh_value (made + 1) (body.Str message)) refl adds refl (state_of old made) [] [] started distinct-none (All-nil (IsLive (state_of start made)))
       (fresh_value (made + 1) (body.Str message)) refl
 
-  pub thrown-plain : (mid new : HeldPlaces Record) (said id : ℕ) (none error : ValuePlace) → AddsRecord start mid said (record { number = made + 1; value = Plain (body.Str message) })
+  pub thrown-plain : (mid new : HeldPlaces ValueRecord) (said id : ℕ) (none error : ValuePlace) → AddsRecord start mid said (record { number = made + 1; value = Plain (body.Str message) })
       → HasValue none (λ n. error_of n None 0) → ChangesPlace none error (with_property message_text said) → AddsRecord mid new id (record { number = made + 2; value = error })
       → GrowsTo (state_of old made) (state_of new (made + 2)) (thrown_of made None message) id
   thrown-plain mid new said id none error first has changes last =
@@ -52,7 +52,7 @@ module _ (old start : HeldPlaces Record) (made : ℕ) (message : TextNo) (good :
           ap (λ k. error_of k None (number_in (state_of mid (made + 1)) said)) (next made) ∙ ap (error_of (made + 1 + 1) None) (first-of (number_in (state_of mid (made + 1)) said) [] (made + 1) [] grows.numbers)
 
   module _ (code : TextNo) where
-    coded-next : (mid next : HeldPlaces Record) (said coded : ℕ) → AddsRecord start mid said (record { number = made + 1; value = Plain (body.Str message) })
+    coded-next : (mid next : HeldPlaces ValueRecord) (said coded : ℕ) → AddsRecord start mid said (record { number = made + 1; value = Plain (body.Str message) })
         → AddsRecord mid next coded (record { number = made + 2; value = Plain (body.Str code) })
         → Grows (state_of old made) (state_of next (made + 2)) (fresh_value (made + 1) (body.Str message) ∷ fresh_value (made + 2) (body.Str code) ∷ []) (said ∷ coded ∷ [])
     coded-next mid next said coded first second =
@@ -62,7 +62,7 @@ module _ (old start : HeldPlaces Record) (made : ℕ) (message : TextNo) (good :
         one_more : (n : ℕ) → n + 2 ≡ n + 1 + 1
         one_more n = omega arith
 
-    pub thrown-coded : (mid next new : HeldPlaces Record) (said coded id : ℕ) (none half error : ValuePlace) → AddsRecord start mid said (record { number = made + 1; value = Plain (body.Str message) })
+    pub thrown-coded : (mid next new : HeldPlaces ValueRecord) (said coded id : ℕ) (none half error : ValuePlace) → AddsRecord start mid said (record { number = made + 1; value = Plain (body.Str message) })
         → HasValue none (λ n. error_of n (Some 0) 0) → ChangesPlace none half (with_property message_text said) → AddsRecord mid next coded (record { number = made + 2; value = Plain (body.Str code) })
         → ChangesPlace half error (with_property code_text coded) → AddsRecord next new id (record { number = made + 3; value = error })
         → GrowsTo (state_of old made) (state_of new (made + 3)) (thrown_of made (Some code) message) id

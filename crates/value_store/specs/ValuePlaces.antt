@@ -13,7 +13,7 @@ use Rattle.std.specs.List.{All, range_with_len}
 use Rattle.value_store.specs.declared.place.ValuePlace.{ValuePlace}
 use Rattle.value_store.specs.declared.place.ValuePlace.TheVariants.{Plain, One, Full}
 use Rattle.value_store.specs.PropertyMaps.{one_property}
-use Rattle.value_store.specs.declared.record.Record.{Record}
+use Rattle.value_store.specs.declared.record.ValueRecord.{ValueRecord}
 use Rattle.value_store.specs.StoreChanges.{EachStandsOnce, IsStarting, IsFresh}
 
 -- the value with this creation number that is and has this
@@ -42,19 +42,19 @@ abbrev pub ChangesPlace : ValuePlace → ValuePlace → (Value → Value) → Ty
 ChangesPlace old new change = (n : ℕ) → value_here n new ≡ change (value_here n old)
 
 -- the value of a record
-abbrev pub value_of_record : Record → Value
+abbrev pub value_of_record : ValueRecord → Value
 value_of_record r = value_here r.number r.value
 
 -- a value is named by the number under which its record is held
-abbrev pub stored_as : Held Record → Stored
+abbrev pub stored_as : Held ValueRecord → Stored
 stored_as h = record { id = h.number; value = value_of_record h.value }
 
 -- each place has the value whose record stands there, and so many values were made
-abbrev pub state_of : HeldPlaces Record → ℕ → StoreState
+abbrev pub state_of : HeldPlaces ValueRecord → ℕ → StoreState
 state_of s made = record { places = map (option_map stored_as) s.places; issued = s.issued; made = made }
 
 -- one record more is held, under a number that is new
-pub record AddsRecord (old new : HeldPlaces Record) (id : ℕ) (r : Record) : Type 0 where
+pub record AddsRecord (old new : HeldPlaces ValueRecord) (id : ℕ) (r : ValueRecord) : Type 0 where
   pub fresh : has_number id (0 ∷ old.issued) ≡ false
   pub holds : held new ≡ with_held id r (held old)
   pub issued : new.issued ≡ with_number id old.issued
@@ -88,7 +88,7 @@ pub record GrowsTo (s t : StoreState) (vs : List Value) (id : ℕ) : Type 0 wher
   pub number : number_in t id ≡ t.made
 
 -- of an array of these bodies so many values are made, and are its elements; the other elements are still to be set
-pub record ListsSoFar (old new : HeldPlaces Record) (made : ℕ) (bodies : List Body) (array : ValuePlace) (at : ℕ) : Type 0 where
+pub record ListsSoFar (old new : HeldPlaces ValueRecord) (made : ℕ) (bodies : List Body) (array : ValuePlace) (at : ℕ) : Type 0 where
   pub ids : List ℕ
   pub grows : Grows (state_of old made) (state_of new (made + at)) (made_after made (take at bodies)) ids
   pub once : slab.EachStandsOnce new
@@ -96,11 +96,11 @@ pub record ListsSoFar (old new : HeldPlaces Record) (made : ℕ) (bodies : List 
   pub room : length bodies + 1 ≤ new.room + at
 
 -- these numbers name the starting values, in their order
-abbrev pub AreStarting : StoreState → List ValueId → Type 0
-AreStarting s ids = (which : ℕ) (d : ValueId) → which < 5 → IsStarting s which (slice_index_or ids which d).0
+abbrev pub NameStarting : StoreState → List ValueId → Type 0
+NameStarting s ids = (which : ℕ) (d : ValueId) → which < 5 → IsStarting s which (slice_index_or ids which d).0
 
 -- what holds of the records of a store, of how many values were made, and of the numbers of the starting values
-pub record IsKept (s : HeldPlaces Record) (made : ℕ) (starting : List ValueId) : Type 0 where
+pub record IsKeptStore (s : HeldPlaces ValueRecord) (made : ℕ) (starting : List ValueId) : Type 0 where
   pub once : slab.EachStandsOnce s
   pub good : IsGood (state_of s made)
-  pub starts : AreStarting (state_of s made) starting
+  pub starts : NameStarting (state_of s made) starting

@@ -8,28 +8,28 @@ ghost use Rattle.napi_types.specs.parts.NewValues.{list_of, thrown_of};
 ghost use Rattle.napi_types.specs.parts.Properties.{most_index, element_at, property_at};
 ghost use Rattle.napi_types.specs.parts.Values.{starting_values, with_element, with_property};
 ghost use Rattle.value_store.specs.StoreChanges.{numbers_of};
-ghost use Rattle.value_store.specs.ValuePlaces.{state_of, properties_here, elements_here, ChangesPlace, AddsRecord, IsGood, GrowsTo, IsKept};
+ghost use Rattle.value_store.specs.ValuePlaces.{state_of, properties_here, elements_here, ChangesPlace, AddsRecord, IsGood, GrowsTo, IsKeptStore};
 
 use crate::place::{CODE, MESSAGE, ValuePlace};
-use crate::record::Record;
+use crate::record::ValueRecord;
 use generation_slab::GenerationSlab;
 use napi_types::{Body, NoMemory, TextNo, ValueId};
 use std::alloc::Global;
 
 /// Holds a value with this creation number. The memory for it is taken.
-fn put(values: &mut GenerationSlab<Record>, number: u64, value: ValuePlace) -> ValueId
+fn put(values: &mut GenerationSlab<ValueRecord>, number: u64, value: ValuePlace) -> ValueId
     requires { 0 < values.old.room }
     ensures added { AddsRecord values.old values.new result.0 (record { number = number; value = value }) }
     ensures room { values.new.room + 1 ≡ values.old.room }
 {
-    ValueId(values.make_reserved(Record { number, value }))
+    ValueId(values.make_reserved(ValueRecord { number, value }))
 }
 
 /// The starting values, in slots that hold nothing.
-pub(crate) fn starting(values: &mut GenerationSlab<Record>) -> Result<[ValueId; 5], NoMemory>
+pub(crate) fn starting(values: &mut GenerationSlab<ValueRecord>) -> Result<[ValueId; 5], NoMemory>
     requires empty { values.old.places ≡ [] }
     requires none { values.old.issued ≡ [] }
-    ensures kept { IfOk result (λ ids. IsKept values.new 5 ids) }
+    ensures kept { IfOk result (λ ids. IsKeptStore values.new 5 ids) }
     ensures graph { OnOk result (graph_of (state_of values.new 5) ≡ starting_values) }
 {
     values.reserve(5)?;
@@ -51,7 +51,7 @@ const GLOBAL: Body = Body::Object {
 /// Makes a value of each of these bodies, in their order, and then an array of them. All memory is taken before the first.
 pub(crate) fn make_list(
     alloc: Global,
-    values: &mut GenerationSlab<Record>,
+    values: &mut GenerationSlab<ValueRecord>,
     made: u64,
     bodies: &[Body],
 ) -> Result<ValueId, NoMemory>
@@ -97,7 +97,7 @@ fn name_again(alloc: Global, error: &mut ValuePlace, name: TextNo, to: ValueId)
 /// Makes a string of each of an error's texts, the message first, and then the error of them. All memory is taken before the first.
 pub(crate) fn make_thrown(
     alloc: Global,
-    values: &mut GenerationSlab<Record>,
+    values: &mut GenerationSlab<ValueRecord>,
     made: u64,
     code: Option<TextNo>,
     message: TextNo,
@@ -132,7 +132,7 @@ pub(crate) fn make_thrown(
 }
 
 /// Frees these numbers.
-pub(crate) fn clear(values: &mut GenerationSlab<Record>, list: &[ValueId])
+pub(crate) fn clear(values: &mut GenerationSlab<ValueRecord>, list: &[ValueId])
     requires held { All (λ n. IsSome (value_of values.old n)) (numbers_of list.now) }
     requires distinct { IsDistinct nat_eq (numbers_of list.now) }
     requires once { EachStandsOnce values.old }

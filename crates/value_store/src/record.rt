@@ -8,15 +8,15 @@ use std::mem::size_of;
 
 /// A value, and its creation number.
 #[derive(Drop)]
-pub(crate) struct Record {
+pub(crate) struct ValueRecord {
     pub(crate) number: u64,
     pub(crate) value: ValuePlace,
 }
 
 // Beside it a live value takes the 8 bytes of its slot and the 4 of its generation (docs/COST.md).
-const _: () = prove!(size_of::<Record>() == 48);
+const _: () = prove!(size_of::<ValueRecord>() == 48);
 
-impl Record {
+impl ValueRecord {
     /// The value, as it is lent.
     pub(crate) fn info(&self) -> ValueInfo<'_>
         ensures { result ≡ value_of_record self.now }

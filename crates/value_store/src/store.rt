@@ -9,7 +9,7 @@ ghost use Rattle.napi_types.specs.parts.Values.{value_at, value_changed, fresh_v
 ghost use Rattle.value_store.specs.StoreChanges.{properties_in, elements_in, children_in, id_at, EachStandsOnce, numbers_of, IsNew, IsStarting, IsObject, StandsAt, ChangesOnly, MakesFresh, MakesValue, MakesList, Frees, CanFree};
 
 use crate::place::ValuePlace;
-use crate::record::Record;
+use crate::record::ValueRecord;
 use crate::{Children, ValueInfo, places};
 use generation_slab::GenerationSlab;
 use napi_types::{Body, NoMemory, TextNo, ValueId};
@@ -22,7 +22,7 @@ use std::marker::Model;
 #[derive(Drop)]
 pub struct Store {
     alloc: Global,
-    values: GenerationSlab<Record>,
+    values: GenerationSlab<ValueRecord>,
     // How many values were made: the creation number of the last of them.
     made: u64,
     // The numbers of the starting values, in their order.
@@ -34,11 +34,11 @@ impl Model for Store {
 
     ghost Value = { StoreState };
 
-    ghost use Rattle.value_store.specs.ValuePlaces.{state_of, IsKept};
+    ghost use Rattle.value_store.specs.ValuePlaces.{state_of, IsKeptStore};
 
     ghost view = { λ store. state_of store.values store.made };
 
-    ghost invariant = { λ store. IsKept store.values store.made store.starting };
+    ghost invariant = { λ store. IsKeptStore store.values store.made store.starting };
 }
 
 impl Store {
@@ -83,7 +83,7 @@ impl Store {
     {
         let number = self.made + 1;
         let value = ValuePlace::Plain(body);
-        let id = self.values.make(Record { number, value })?;
+        let id = self.values.make(ValueRecord { number, value })?;
         self.made = number;
         Ok(ValueId(id))
     }
@@ -109,7 +109,7 @@ impl Store {
     {
         let number = self.made + 1;
         let value = ValuePlace::error(self.alloc, code, message)?;
-        let id = self.values.make(Record { number, value })?;
+        let id = self.values.make(ValueRecord { number, value })?;
         self.made = number;
         Ok(ValueId(id))
     }

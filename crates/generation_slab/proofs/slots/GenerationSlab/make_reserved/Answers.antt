@@ -1,7 +1,7 @@
 use Rattle.std.proofs.Common.{◌≡◌, ◌-◌, ◌<◌, ◌∙◌, ◌∷◌, ap, arith}
 use Rattle.std.proofs.lemmas.List.{get_or_default}
 use Rattle.napi_types.specs.plain.Lists.{has_number}
-use Rattle.generation_slab.proofs.Counting.{count-fits}
+use Rattle.generation_slab.proofs.HeldCounts.{count-fits}
 use Rattle.generation_slab.proofs.InOrder.{taken-order, taken-makes}
 use Rattle.generation_slab.specs.SlotNumbers.{live_at}
 use Rattle.generation_slab.proofs.slots.GenerationSlab.make_reserved.Goals as goal
