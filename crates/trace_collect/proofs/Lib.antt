@@ -1,3 +1,4 @@
+pub mod BitMarks
 pub mod CollectCallers
 pub mod Distinct
 pub mod MarkMembers

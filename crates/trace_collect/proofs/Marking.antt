@@ -1,17 +1,19 @@
 -- Marks that are set one after another.
-use Rattle.std.proofs.Common.{◌≡◌, ℕ, ◌+◌, ◌*◌, ◌<◌, ◌⊎◌, inl, inr, Bool, true, false, cond, not, List, [], ◌∷◌, ◌++◌, length, take, get_or, count_by, replicate, Some, slice_index, refl, ap, sym, subst, ◌∙◌, arith}
+use Rattle.std.proofs.Common.{◌≡◌, ℕ, ◌+◌, ◌<◌, ◌==◌, ◌⊎◌, inl, inr, Bool, true, false, List, [], ◌∷◌, ◌++◌, length, take, get_or, set, Some, slice_index, refl, ap, sym, subst, ◌∙◌, arith}
 use Rattle.std.specs.List.{All}
-use Rattle.std.proofs.lemmas.List.{get_or-map, length-map, take_more}
-use Rattle.std.proofs.lemmas.List.Elements.{All-nil, All-append, All-weaker}
-use Rattle.std.proofs.lemmas.List.Folds.{sum_by-replicate}
+use Rattle.std.proofs.lemmas.Bool.{cases_eq, or_left, eq-eqb}
+use Rattle.std.proofs.lemmas.List.{get_or-map, get_or-set_same, get_or-set_other, length-append, length-map, length-set, take_more}
+use Rattle.std.proofs.lemmas.List.Elements.{All-cons, All-nil, All-append, All-weaker}
 use Rattle.napi_types.specs.declared.ids.ValueId.{ValueId}
 use Rattle.napi_types.specs.plain.Lists.{has_number, HaveSameNumbers}
 use Rattle.napi_types.specs.parts.Graph.{StoreState}
 use Rattle.napi_types.proofs.plain.Maps.{has-left, has-right}
-use Rattle.value_store.specs.StoreChanges.{id_at, numbers_of}
+use Rattle.value_store.specs.StoreChanges.{id_at, numbers_of, StandsAt}
 use Rattle.value_store.proofs.Clearing.{numbers_of-more}
 use Rattle.value_store.proofs.NamedPlaces.{All-has, All-from_has}
-use Rattle.trace_collect.specs.MarkedValues.{is_marked, IsMarked, Marks}
+use Rattle.trace_collect.specs.MarkedValues.{is_marked, unmarked_count, IsMarked, Marks}
+use Rattle.trace_collect.proofs.MarkMembers.{has-cases}
+use Rattle.trace_collect.proofs.Unmarked.{unmarked-set}
 
 -- more marks keep what is marked
 pub marked-kept : (s : StoreState) (old new : List Bool) → ((place : ℕ) → is_marked old place ≡ true → is_marked new place ≡ true) → (id : ℕ) → IsMarked s old id → IsMarked s new id
@@ -25,7 +27,38 @@ marks-none s marks left = record {
   waits = λ id h. h;
   left = λ id h. inl h;
   room = refl;
+  size = refl;
 }
+
+-- a value that is marked, and added to those that are left
+pub marks-set : (s : StoreState) (marks : List Bool) (left : List ℕ) (id place : ℕ) → StandsAt s id place → place < length marks → is_marked marks place ≡ false → Marks s (id ∷ []) marks left (set marks place true) (left ++ id ∷ [])
+marks-set s marks left id place stands less free = record {
+  marked = All-cons (IsMarked s (set marks place true)) id [] (λ other at. ap (is_marked (set marks place true)) (stands.only other at) ∙ here) (All-nil (IsMarked s (set marks place true)));
+  kept = λ q h. by-kept q h (cases_eq q place);
+  added = λ q n at h. by-added q n at h (cases_eq q place);
+  waits = λ n h. has-left n left (id ∷ []) h;
+  left = λ n h. has-cases n left (id ∷ []) h;
+  room = counted (length (left ++ id ∷ [])) (length left) _ _ (length-append left (id ∷ [])) (unmarked-set s marks place id less free stands.there);
+  size = length-set marks place true;
+}
+  where
+    here : is_marked (set marks place true) place ≡ true
+    here = get_or-set_same marks place true false less
+
+    by-kept : (q : ℕ) → is_marked marks q ≡ true → (q ≡ place) ⊎ (q ≡ place → ⊥) → is_marked (set marks place true) q ≡ true
+    by-kept q h (inl same) = ap (is_marked (set marks place true)) same ∙ here
+    by-kept q h (inr apart) = get_or-set_other marks place q true false apart ∙ h
+
+    by-added : (q n : ℕ) → id_at s q ≡ Some n → is_marked (set marks place true) q ≡ true → (q ≡ place) ⊎ (q ≡ place → ⊥) → (is_marked marks q ≡ true) ⊎ ((has_number n (id ∷ []) ≡ true) × (has_number n (left ++ id ∷ []) ≡ true))
+    by-added q n at h (inl same) =
+        let one : Some n ≡ Some id = sym at ∙ ap (id_at s) same ∙ stands.there in
+        let number : id ≡ n = cc in
+        let among : has_number n (id ∷ []) ≡ true = or_left (id == n) false (eq-eqb id n number) in
+        inr (among, has-right n left (id ∷ []) among)
+    by-added q n at h (inr apart) = inl (sym (get_or-set_other marks place q true false apart) ∙ h)
+
+    counted : (new old after before : ℕ) → new ≡ old + 1 → after + 1 ≡ before → new + after ≡ old + before
+    counted new old after before one two = omega arith
 
 pub marks-then : (s : StoreState) (xs ys : List ℕ) (a b c : List Bool) (k l m : List ℕ) → Marks s xs a k b l → Marks s ys b l c m → Marks s (xs ++ ys) a k c m
 marks-then s xs ys a b c k l m one two = record {
@@ -35,6 +68,7 @@ marks-then s xs ys a b c k l m one two = record {
   waits = λ id h. two.waits id (one.waits id h);
   left = λ id h. from id (two.left id h);
   room = two.room ∙ one.room;
+  size = two.size ∙ one.size;
 }
   where
     first : (place id : ℕ) → (is_marked a place ≡ true) ⊎ ((has_number id xs ≡ true) × (has_number id l ≡ true)) → (is_marked a place ≡ true) ⊎ ((has_number id (xs ++ ys) ≡ true) × (has_number id m ≡ true))
@@ -82,6 +116,7 @@ marks-same s ms ns a b k l same marks = record {
   waits = marks.waits;
   left = λ id h. by-left id (marks.left id h);
   room = marks.room;
+  size = marks.size;
 }
   where
     by-added : (place id : ℕ) → (is_marked a place ≡ true) ⊎ ((has_number id ms ≡ true) × (has_number id l ≡ true)) → (is_marked a place ≡ true) ⊎ ((has_number id ns ≡ true) × (has_number id l ≡ true))
@@ -92,15 +127,8 @@ marks-same s ms ns a b k l same marks = record {
     by-left id (inl h) = inl h
     by-left id (inr h) = inr (sym (same id) ∙ h)
 
--- where nothing is marked, all places are unmarked
-pub count-none : (many : ℕ) → count_by not (replicate many false) ≡ many
-count-none many = sum_by-replicate (λ b. cond (not b) 1 0) many false ∙ times-one many
-  where
-    times-one : (many : ℕ) → many * 1 ≡ many
-    times-one many = omega arith
-
--- each mark takes one place of those that are not marked, and leaves one value to follow
-pub room-kept : (s : StoreState) (ids : List ℕ) (old new : List Bool) (left next : List ValueId) → Marks s ids old (numbers_of left) new (numbers_of next) → length next + count_by not new ≡ length left + count_by not old
+-- each mark takes one value of those that are not marked, and leaves one to follow
+pub room-kept : (s : StoreState) (ids : List ℕ) (old new : List Bool) (left next : List ValueId) → Marks s ids old (numbers_of left) new (numbers_of next) → length next + unmarked_count s new ≡ length left + unmarked_count s old
 room-kept s ids old new left next more =
     let one : length (numbers_of left) ≡ length left = length-map left (λ (v : ValueId). v.0) in
     let two : length (numbers_of next) ≡ length next = length-map next (λ (v : ValueId). v.0) in

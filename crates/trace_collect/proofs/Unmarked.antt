@@ -1,13 +1,14 @@
--- The values at places that are not marked.
-use Rattle.std.proofs.Common.{◌≡◌, ℕ, zero, suc, ◌+◌, Bool, true, false, List, [], ◌∷◌, ◌++◌, Option, Some, None, option_map, if◌then◌else◌, refl, ap, sym, ◌∙◌, arith}
+-- The values at places that are not marked, and how many they are.
+use Rattle.std.proofs.Common.{◌≡◌, ◌≢◌, ℕ, zero, suc, ◌+◌, ◌-◌, ◌<◌, ◌≤◌, ◌⊎◌, inl, inr, Bool, true, false, List, [], ◌∷◌, ◌++◌, length, set, replicate, Option, Some, None, option_map, slice_index_or, if◌then◌else◌, refl, ap, sym, subst, ◌∙◌, arith, add-one}
 use Rattle.std.specs.List.{filter_map, range_with_len, cons_option}
 use Rattle.std.specs.Option.{option_to_list}
-use Rattle.std.proofs.lemmas.List.{map-append}
+use Rattle.std.proofs.lemmas.Bool.{cases_eq}
+use Rattle.std.proofs.lemmas.List.{map-append, length-set, length-replicate, get_or-set_same, get_or-set_other}
 use Rattle.std.proofs.lemmas.List.Elements.{filter_map-append}
 use Rattle.napi_types.specs.declared.ids.ValueId.{ValueId}
-use Rattle.napi_types.specs.parts.Graph.{StoreState}
+use Rattle.napi_types.specs.parts.Graph.{Stored, StoreState, live}
 use Rattle.value_store.specs.StoreChanges.{id_at, numbers_of}
-use Rattle.trace_collect.specs.MarkedValues.{is_marked, unmarked_ids}
+use Rattle.trace_collect.specs.MarkedValues.{is_marked, unmarked_ids, unmarked_count}
 
 range-more : (from many : ℕ) → range_with_len from (many + 1) ≡ range_with_len from many ++ (from + many) ∷ []
 range-more from zero = by from
@@ -59,3 +60,102 @@ unmarked-same s marks place marked =
     nothing : (l : List ℕ) → l ++ [] ≡ l
     nothing [] = refl
     nothing (n ∷ l) = ap (λ m. n ∷ m) (nothing l)
+
+-- places that are marked add nothing
+pub unmarked-over : (s : StoreState) (marks : List Bool) (from to : ℕ) → from ≤ to → ((place : ℕ) → from ≤ place → place < to → is_marked marks place ≡ true) → unmarked_ids s marks to ≡ unmarked_ids s marks from
+unmarked-over s marks from to low all =
+    let end : from + (to - from) ≡ to = omega arith in
+    subst (λ n. unmarked_ids s marks n ≡ unmarked_ids s marks from) end (by (to - from) (λ place above below. all place above (omega arith)))
+  where
+    by : (many : ℕ) → ((place : ℕ) → from ≤ place → place < from + many → is_marked marks place ≡ true) → unmarked_ids s marks (from + many) ≡ unmarked_ids s marks from
+    by zero all = let e : from + 0 ≡ from = omega arith in ap (unmarked_ids s marks) e
+    by (suc many) all =
+        let e : from + suc many ≡ from + many + 1 = omega arith in
+        ap (unmarked_ids s marks) e ∙ unmarked-same s marks (from + many) (all (from + many) (omega arith) (omega arith)) ∙ by many (λ place above below. all place above (omega arith))
+
+-- COUNTED
+-- from a number on two functions agree
+agree-range : (f g : ℕ → Option ℕ) (from many : ℕ) → ((q : ℕ) → from ≤ q → f q ≡ g q) → filter_map f (range_with_len from many) ≡ filter_map g (range_with_len from many)
+agree-range f g from zero same = refl
+agree-range f g from (suc many) same =
+    ap (λ o. cons_option o (filter_map f (range_with_len (from + 1) many))) (same from (omega arith))
+    ∙ ap (cons_option (g from)) (agree-range f g (from + 1) many (λ q low. same q (omega arith)))
+
+-- they agree but at one place, where only the first gives a number
+one-fewer : (f g : ℕ → Option ℕ) (place id : ℕ) → f place ≡ Some id → g place ≡ None → ((q : ℕ) → q ≢ place → f q ≡ g q) → (from many : ℕ) → from ≤ place → place < from + many
+    → length (filter_map g (range_with_len from many)) + 1 ≡ length (filter_map f (range_with_len from many))
+one-fewer f g place id is none same from zero low high = absurd (omega arith)
+one-fewer f g place id is none same from (suc many) low high = by (λ above. one-fewer f g place id is none same (from + 1) many above (omega arith)) (cases_eq from place)
+  where
+    rest-f : List ℕ
+    rest-f = filter_map f (range_with_len (from + 1) many)
+
+    rest-g : List ℕ
+    rest-g = filter_map g (range_with_len (from + 1) many)
+
+    other : (o : Option ℕ) → length rest-g + 1 ≡ length rest-f → length (cons_option o rest-g) + 1 ≡ length (cons_option o rest-f)
+    other None h = h
+    other (Some n) h = omega (arith, h)
+
+    by : (from + 1 ≤ place → length rest-g + 1 ≡ length rest-f) → (from ≡ place) ⊎ (from ≡ place → ⊥) → length (cons_option (g from) rest-g) + 1 ≡ length (cons_option (f from) rest-f)
+    by later (inl here) =
+        let rest : rest-f ≡ rest-g = agree-range f g (from + 1) many (λ q low. same q (λ e. absurd (omega arith))) in
+        let first : length (cons_option (f from) rest-f) ≡ suc (length rest-f) = ap (λ o. length (cons_option o rest-f)) (ap f here ∙ is) in
+        let last : length rest-f + 1 ≡ suc (length rest-f) = omega arith in
+        ap (λ o. length (cons_option o rest-g) + 1) (ap g here ∙ none) ∙ ap (λ l. length l + 1) (sym rest) ∙ last ∙ sym first
+    by later (inr apart) = ap (λ o. length (cons_option o rest-g) + 1) (sym (same from apart)) ∙ other (f from) (later (omega arith))
+
+-- a mark at the place of a value takes it away
+pub unmarked-set : (s : StoreState) (marks : List Bool) (place id : ℕ) → place < length marks → is_marked marks place ≡ false → id_at s place ≡ Some id → unmarked_count s (set marks place true) + 1 ≡ unmarked_count s marks
+unmarked-set s marks place id less free at =
+    ap (λ many. length (unmarked_ids s (set marks place true) many) + 1) (length-set marks place true)
+    ∙ one-fewer (unmarked_at s marks) (unmarked_at s (set marks place true)) place id
+    (ap (λ b. if b then None else id_at s place) free ∙ at) (ap (λ b. if b then None else id_at s place) (get_or-set_same marks place true false less))
+    (λ q apart. ap (λ b. if b then None else id_at s q) (sym (get_or-set_other marks place q true false apart))) 0 (length marks) (omega arith) (omega arith)
+
+-- LIVE
+-- the number of the value at one of these places
+abbrev id_among : List (Option Stored) → ℕ → Option ℕ
+id_among ps place = option_map (λ x. x.id) (slice_index_or ps place None)
+
+-- the same numbers, one place later
+shifted : (f g : ℕ → Option ℕ) → ((q : ℕ) → f (q + 1) ≡ g q) → (from next many : ℕ) → from + 1 ≡ next → filter_map f (range_with_len next many) ≡ filter_map g (range_with_len from many)
+shifted f g same from next zero e = refl
+shifted f g same from next (suc many) e =
+    ap (λ o. cons_option o (filter_map f (range_with_len (next + 1) many))) (ap f (sym e) ∙ same from)
+    ∙ ap (cons_option (g from)) (shifted f g same (from + 1) (next + 1) many (omega arith))
+
+-- each value that stands at a place is found there
+all-standing : (ps : List (Option Stored)) → length (filter_map (id_among ps) (range_with_len 0 (length ps))) ≡ length (filter_map (λ place. place) ps)
+all-standing [] = refl
+all-standing (x ∷ ps) =
+    ap (λ l. length (cons_option (option_map (λ (s : Stored). s.id) x) l)) (shifted (id_among (x ∷ ps)) (id_among ps) later 0 1 (length ps) refl) ∙ by x (all-standing ps)
+  where
+    later : (q : ℕ) → id_among (x ∷ ps) (q + 1) ≡ id_among ps q
+    later q = rw add-one refl
+
+    by : (o : Option Stored) → length (filter_map (id_among ps) (range_with_len 0 (length ps))) ≡ length (filter_map (λ place. place) ps)
+        → length (cons_option (option_map (λ (s : Stored). s.id) o) (filter_map (id_among ps) (range_with_len 0 (length ps)))) ≡ length (cons_option o (filter_map (λ place. place) ps))
+    by None h = h
+    by (Some y) h = omega (arith, h)
+
+-- where nothing is marked, all live values are counted
+pub unmarked-none : (s : StoreState) → unmarked_count s (replicate (length s.places) false) ≡ length (live s)
+unmarked-none s =
+    ap (λ many. length (unmarked_ids s (replicate (length s.places) false) many)) (length-replicate (length s.places) false)
+    ∙ ap length (agree-range (unmarked_at s (replicate (length s.places) false)) (id_at s) 0 (length s.places) (λ q low. ap (λ b. if b then None else id_at s q) (none (length s.places) q)))
+    ∙ all-standing s.places
+  where
+    none : (many q : ℕ) → is_marked (replicate many false) q ≡ false
+    none zero q = refl
+    none (suc many) zero = refl
+    none (suc many) (suc q) = none many q
+
+-- and they are no more than the places
+pub live-within : (s : StoreState) → length (live s) ≤ length s.places
+live-within s = by s.places
+  where
+    by : (ps : List (Option Stored)) → length (filter_map (λ place. place) ps) ≤ length ps
+    by [] = omega arith
+    by (None ∷ ps) = let rest : length (filter_map (λ place. place) ps) ≤ length ps = by ps in omega arith
+    by (Some x ∷ ps) = let rest : length (filter_map (λ place. place) ps) ≤ length ps = by ps in omega arith

@@ -1,5 +1,5 @@
 -- Which places of a store are marked, and which values are left to follow.
-use Rattle.std.specs.Prelude.{◌≡◌, ◌⊎◌, ℕ, ◌+◌, Bool, true, false, not, if◌then◌else◌, List, [], length, count_by, filter_map, Some, None, slice_index_or}
+use Rattle.std.specs.Prelude.{◌≡◌, ◌⊎◌, ℕ, ◌+◌, Bool, true, false, if◌then◌else◌, List, [], length, filter_map, Some, None, slice_index_or}
 use Rattle.std.specs.List.{All, range_with_len}
 use Rattle.napi_types.specs.plain.Lists.{has_number}
 use Rattle.napi_types.specs.parts.Graph.{StoreState, IsLive, number_in}
@@ -22,6 +22,10 @@ AreMarked s roots marks = (place id : ℕ) → id_at s place ≡ Some id → is_
 abbrev pub unmarked_ids : StoreState → List Bool → ℕ → List ℕ
 unmarked_ids s marks many = filter_map (λ place. if is_marked marks place then None else id_at s place) (range_with_len 0 many)
 
+-- how many values stand at places that are not marked
+abbrev pub unmarked_count : StoreState → List Bool → ℕ
+unmarked_count s marks = length (unmarked_ids s marks (length marks))
+
 -- the values of these numbers are marked, and beside them only what was; each that was not is added to those that are left to follow
 pub record Marks (s : StoreState) (ids : List ℕ) (old : List Bool) (old_left : List ℕ) (new : List Bool) (new_left : List ℕ) : Type 0 where
   pub marked : All (IsMarked s new) ids
@@ -29,7 +33,8 @@ pub record Marks (s : StoreState) (ids : List ℕ) (old : List Bool) (old_left :
   pub added : (place id : ℕ) → id_at s place ≡ Some id → is_marked new place ≡ true → (is_marked old place ≡ true) ⊎ ((has_number id ids ≡ true) × (has_number id new_left ≡ true))
   pub waits : (id : ℕ) → has_number id old_left ≡ true → has_number id new_left ≡ true
   pub left : (id : ℕ) → has_number id new_left ≡ true → (has_number id old_left ≡ true) ⊎ (has_number id ids ≡ true)
-  pub room : length new_left + count_by not new ≡ length old_left + count_by not old
+  pub room : length new_left + unmarked_count s new ≡ length old_left + unmarked_count s old
+  pub size : length new ≡ length old
 
 -- the roots are marked, what is marked is reached, what is marked and not left to follow has its children marked, and what is left is live and marked
 pub record IsMarking (s : StoreState) (roots : List ℕ) (marks : List Bool) (left : List ℕ) : Type 0 where

@@ -1,10 +1,24 @@
-use Rattle.std.proofs.Common.{◌∙◌, sym}
-use Rattle.trace_collect.proofs.Unmarked.{unmarked-next, unmarked-same}
+use Rattle.std.proofs.Common.{◌≡◌, ◌∙◌, ◌+◌, false, ap, sym, arith}
+use Rattle.value_store.specs.StoreChanges.{numbers_of}
+use Rattle.trace_collect.specs.MarkedValues.{is_marked, unmarked_ids}
+use Rattle.trace_collect.proofs.Unmarked.{unmarked-next, unmarked-over}
 use Rattle.trace_collect.proofs.marks.unmarked.Goals as goal
-use Rattle.trace_collect.proofs.marks.unmarked.Goals.{then-not-is_marked+in_ok-add, else-not-is_marked}
+
+pub loop-place-init : goal.loop-place-init
+loop-place-init c = record {
+  listed = ap numbers_of c.new-list.ensures.items ∙ sym (unmarked-over c.args.store.now c.args.marks.now 0 c.next_unset-place.result c.next_unset-place.ensures.within.0 c.next_unset-place.ensures.passed);
+  within = c.next_unset-place.ensures.within.1;
+  unset = c.next_unset-place.ensures.unset;
+}
 
 pub loop-place-preserved : goal.loop-place-preserved
-loop-place-preserved c = elim c.if-not-is_marked.branch [
-  | then-not-is_marked+in_ok-add w ↦ rw w.list-is (unmarked-next c.args.store.now c.args.marks.now c.loop-place.place c.loop-place.list.items _ w.at_place.result w.if-not-is_marked.true w.at_place.ensures.value w.in_ok-add.ensures c.loop-place.invariant)
-  | else-not-is_marked w ↦ rw w.list-is (c.loop-place.invariant ∙ sym (unmarked-same c.args.store.now c.args.marks.now c.loop-place.place w.if-not-is_marked.false))
-]
+loop-place-preserved c =
+    let free : is_marked c.args.marks.now c.loop-place.place ≡ false = c.loop-place.invariant.unset (omega (arith, c.loop-place-test.true, c.len.ensures)) in
+    let one : numbers_of c.add.new.list.items ≡ unmarked_ids c.args.store.now c.args.marks.now (c.loop-place.place + 1) =
+    unmarked-next c.args.store.now c.args.marks.now c.loop-place.place c.loop-place.list.items c.add.new.list.items c.at_place.result free c.at_place.ensures.value c.in_ok-add.ensures c.loop-place.invariant.listed in
+    let step = c.next_unset-place-in-loop-place in
+    record {
+      listed = one ∙ sym (unmarked-over c.args.store.now c.args.marks.now (c.loop-place.place + 1) step.result step.ensures.within.0 step.ensures.passed);
+      within = step.ensures.within.1;
+      unset = step.ensures.unset;
+    }

@@ -1,0 +1,13 @@
+use Rattle.std.proofs.Common.{◌≡◌, ℕ, ◌-◌, ◌<◌, ◌≤◌, true, length}
+use Rattle.trace_collect.specs.MarkedValues.{is_marked}
+use Rattle.trace_collect.proofs.bits.Bits.next_unset.Given as goal
+
+abbrev pub invariant-loop-place : goal.invariant-loop-place
+invariant-loop-place l = record {
+  low : l.from ≤ l.place;
+  within : l.place ≤ length l.self;
+  passed : (place : ℕ) → l.from ≤ place → place < l.place → is_marked l.self place ≡ true;
+}
+
+abbrev pub decreases-loop-place : goal.decreases-loop-place
+decreases-loop-place l = length l.self - l.place
