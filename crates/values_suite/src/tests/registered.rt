@@ -1,17 +1,22 @@
 //! Many tickets, hooks, references and wraps, and many finalizers of one value: that each is accepted where there is memory, also after
-//! 65,535 others, and that a long chain of tickets, or of lines that were seen, is let go and falls due within the stack. No clause says so.
-//! Three references whose place is used again are tried too.
+//! 65,535 others, and that a long chain of tickets, or of lines that were seen, is let go and falls due within the stack. So is a long chain
+//! of objects kept and freed. No clause says so. Three references whose place is used again are tried too.
 ghost use Rattle.std.specs.Prelude.{◌≡◌, ◌+◌, ◌<◌, ◌≤◌, ◌^◌, [], length};
 ghost use Rattle.std.specs.List.{All};
 ghost use Rattle.napi_types.specs.parts.Attachments.{no_attachments};
+ghost use Rattle.napi_types.specs.parts.Graph.{IsLive};
+ghost use Rattle.trace_collect.specs.Collects.{HoldsStarting};
+ghost use Rattle.value_store.specs.StoreChanges.{numbers_of, IsNew};
 
 use super::ample;
+use super::values::{PLAIN, set};
 use cleanup_hooks::Hooks;
 use finalizer_queue::{Book, NewDuty};
 use napi_reference::Refs;
 use napi_types::{Cause, RefId, SeenList, Status, Ticket, ValueId};
 use std::alloc::Global;
 use std::process::Abort;
+use value_store::Store;
 use wrap_tag::Wraps;
 
 /// How many there are of each.
@@ -19,6 +24,9 @@ const MANY: u64 = 70_000;
 
 /// How many finalizers one value has.
 const FINALIZERS: u64 = 200_000;
+
+/// How many objects a chain has.
+const OBJECTS: usize = 200_000;
 
 const VALUE: ValueId = ValueId(9);
 
@@ -220,4 +228,58 @@ fn freed(rt: &impl Abort, alloc: Global) -> u64 {
 fn long_chains_take_no_stack(rt: HostRuntime) {
     let found = (let_go(&rt, rt.alloc()), freed(&rt, rt.alloc()));
     assert_eq!(rt; found, (Ticket(FINALIZERS + 1), FINALIZERS));
+}
+
+/// An object is made that names a value.
+fn link(rt: &impl Abort, store: &mut Store, to: ValueId) -> ValueId
+    requires { store.old.made < 2 ^ 20 }
+    ensures { store.new.made ≡ store.old.made + 1 }
+{
+    let object = ample(rt, store.make(PLAIN));
+    set(rt, store, object, 9, to);
+    object
+}
+
+/// Objects are made, of which each names the one made just before it. The last of them.
+fn chain(rt: &impl Abort, store: &mut Store) -> ValueId
+    requires { IsNew store.old }
+{
+    let mut last = store.starting(0);
+    for _number in 0..OBJECTS {
+        last = link(rt, store, last);
+    }
+    last
+}
+
+/// The starting values.
+fn starting(rt: &impl Abort, alloc: Global, store: &Store) -> Vec<ValueId>
+    ensures live { All (IsLive store.now) (numbers_of result.items) }
+    ensures starting { HoldsStarting store.now (numbers_of result.items) }
+{
+    let mut roots = Vec::new(alloc);
+    for which in 0..5 {
+        roots.push(store.starting(which)).expect(rt, "a place");
+    }
+    roots
+}
+
+/// How many values a collection frees, where the starting values and these others are its roots.
+fn collected(rt: &impl Abort, alloc: Global, store: &mut Store, others: &[ValueId]) -> usize {
+    let mut roots = starting(rt, alloc, store);
+    for id in others {
+        assert!(rt; store.get(*id).is_some());
+        roots.push(*id).expect(rt, "a place");
+    }
+    ample(rt, trace_collect::collect(alloc, store, &roots)).len()
+}
+
+#[test]
+fn a_chain_is_kept_by_its_last_object(rt: HostRuntime) {
+    let mut store = ample(&rt, Store::new(rt.alloc()));
+    let last = chain(&rt, &mut store);
+    let found = (
+        collected(&rt, rt.alloc(), &mut store, &[last]),
+        collected(&rt, rt.alloc(), &mut store, &[]),
+    );
+    assert_eq!(rt; found, (0, OBJECTS));
 }

@@ -44,7 +44,7 @@ fn fill(rt: &impl Abort, store: &mut Store)
     ample(rt, store.make_thrown(None, TextNo(2)));
 }
 
-const PLAIN: Body = Body::Object {
+pub(super) const PLAIN: Body = Body::Object {
     array: false,
     error: false,
 };
@@ -125,7 +125,9 @@ fn is_object_like(body: Body) -> bool
 }
 
 /// Sets a property, where the store allows it.
-fn set(rt: &impl Abort, store: &mut Store, object: ValueId, name: u32, to: ValueId) {
+pub(super) fn set(rt: &impl Abort, store: &mut Store, object: ValueId, name: u32, to: ValueId)
+    ensures { store.new.made ≡ store.old.made }
+{
     let settable = match store.get(object) {
         Some(value) => is_object_like(value.body()),
         None => false,
