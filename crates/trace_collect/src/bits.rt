@@ -9,6 +9,9 @@ use std::marker::Model;
 /// How many marks a word has.
 const WORD: usize = 64;
 
+/// A word of which each mark is set.
+const FULL: u64 = u64::MAX;
+
 /// Marks, each set or not, at places that count from 0.
 #[derive(Drop)]
 pub(crate) struct Bits {
@@ -63,7 +66,7 @@ impl Bits {
 
     /// The first place from this one on whose mark is not set; where each is set, the number of marks.
     ///
-    /// A word of which each mark is set takes one step.
+    /// A word of which each mark is set takes one compare.
     pub(crate) fn next_unset(&self, from: usize) -> usize
         requires { from ≤ length self.now }
         ensures within { (from ≤ result) × (result ≤ length self.now) }
@@ -88,7 +91,7 @@ impl Bits {
         ensures passed { (at : ℕ) → place ≤ at → at < place + result → is_marked self.now at ≡ true }
         ensures unset { result ≡ 0 → is_marked self.now place ≡ false }
     {
-        if self.words[place / WORD] == u64::MAX {
+        if self.words[place / WORD] == FULL {
             (WORD - place % WORD).min(self.len() - place)
         } else if self.is_set(place) {
             1
