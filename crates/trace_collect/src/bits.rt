@@ -15,7 +15,7 @@ const FULL: u64 = u64::MAX;
 /// Marks, each set or not, at places that count from 0.
 #[derive(Drop)]
 pub(crate) struct Bits {
-    // The mark at a place is a bit of the word at a 64th of the place. Bits behind the last mark are never read.
+    // The mark at a place is a bit of the word at a 64th of the place. The bits behind the last mark are 0.
     words: Vec<u64>,
     many: usize,
 }
