@@ -150,12 +150,3 @@ unmarked-none s =
     none zero q = refl
     none (suc many) zero = refl
     none (suc many) (suc q) = none many q
-
--- and they are no more than the places
-pub live-within : (s : StoreState) → length (live s) ≤ length s.places
-live-within s = by s.places
-  where
-    by : (ps : List (Option Stored)) → length (filter_map (λ place. place) ps) ≤ length ps
-    by [] = omega arith
-    by (None ∷ ps) = let rest : length (filter_map (λ place. place) ps) ≤ length ps = by ps in omega arith
-    by (Some x ∷ ps) = let rest : length (filter_map (λ place. place) ps) ≤ length ps = by ps in omega arith

@@ -20,7 +20,7 @@ pub(crate) fn reached(alloc: Global, store: &Store, roots: &[ValueId]) -> Result
 {
     let places = store.places();
     let mut marks = Bits::new(alloc, places)?;
-    let mut left = Vec::with_capacity(alloc, places)?;
+    let mut left = Vec::with_capacity(alloc, store.live_count())?;
     mark_reached(store, roots, &mut marks, &mut left);
     Ok(marks)
 }
