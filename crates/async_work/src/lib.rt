@@ -7,6 +7,7 @@ mod job;
 mod line;
 mod place;
 mod pool;
+mod room;
 
 pub use job::{Job, Ran, Running};
 pub use pool::{Finished, Picked, Pool};

@@ -8,6 +8,7 @@ ghost use Rattle.async_work.specs.Line.{line_seen, stage_seen, line_stage_at, li
 ghost use Rattle.async_work.specs.Line.{outcome_seen, ran_outcome, unstarted_outcome};
 
 use crate::Job;
+use crate::room::reserve_amply;
 use napi_types::{NoMemory, Slip, Status};
 use std::alloc::Global;
 use std::collections::VecDeque;
@@ -90,8 +91,7 @@ impl<J: Job> WorkLine<J> {
         ensures room { OnOk result (more ≤ self.new.room) }
         ensures kept { self.old.room ≤ self.new.room }
     {
-        self.works.reserve(more)?;
-        Ok(())
+        reserve_amply(&mut self.works, more)
     }
 
     /// How many works were queued.

@@ -13,6 +13,7 @@ ghost use Rattle.async_work.specs.WorkStates.{state_seen, state_number};
 
 use crate::line::{EndedWork, Ending, WorkLine, WorkStage};
 use crate::place::{self, Standing, WorkPlace};
+use crate::room::reserve_amply;
 use crate::{Job, Ran, Running};
 use generation_slab::GenerationSlab;
 use napi_types::{Cause, Due, DueInfo, Duty, JobSpec, NoMemory, Slip, Status, WorkId};
@@ -184,8 +185,10 @@ impl<J: Job> Pool<J> {
     {
         let created = self.created + 1;
         self.line.reserve(created as usize)?;
-        self.finished
-            .reserve((created + self.queued + self.running) as usize)?;
+        reserve_amply(
+            &mut self.finished,
+            (created + self.queued + self.running) as usize,
+        )?;
         let slip = Slip::new(self.alloc)?;
         let id = self.places.make(WorkPlace {
             spec,

@@ -12,8 +12,8 @@ use Rattle.async_work.proofs.pool.Pool.create.Goals.{In_ok-id}
 
 pub invariant_of-self-in_err-id : goal.invariant_of-self-in_err-id
 invariant_of-self-in_err-id g c =
-    rw (c.reserve.ensures.works, c.reserve-2.ensures.items, c.in_err-id.ensures.err)
-    (kept-more _ _ _ _ _ _ _ _ _ _ _ c.self.invariant _ _ c.reserve.ensures.kept c.reserve-2.ensures.capacity)
+    rw (c.reserve.ensures.works, c.reserve_amply.ensures.items, c.in_err-id.ensures.err)
+    (kept-more _ _ _ _ _ _ _ _ _ _ _ c.self.invariant _ _ c.reserve.ensures.kept c.reserve_amply.ensures.capacity)
 
 -- one work more
 more : (g : _) (c : In_ok-id g) → places_seen g.J.Job.spec c.make.new.self ≡ with_held c.in_ok-id.id
@@ -33,15 +33,15 @@ few g c = subst (λ (p : WorkPool). length p.issued + 2 < 2 ^ 48) (sym c.self.vi
 pub invariant_of-self-2 : goal.invariant_of-self-2
 invariant_of-self-2 g c =
     let out_long = length-map c.self.inside.finished.items (outcome_seen g.J.Job.spec) in
-    rw (c.reserve.ensures.works, c.reserve-2.ensures.items, c.in_ok-id.ensures.issued)
+    rw (c.reserve.ensures.works, c.reserve_amply.ensures.items, c.in_ok-id.ensures.issued)
     (kept-created _ _ _ _ _ _ _ _ _ _ _ c.self.invariant _ c.in_ok-id.id _ _ _ _ (places-rise g.J.Job.spec c.self.inside.places) (few g (goal.at.invariant_of-self-2 g c).In_ok-id)
     c.in_ok-id.ensures.fresh
     (more g (goal.at.invariant_of-self-2 g c).In_ok-id) refl (ap (λ s. Some s) c.of.ensures) refl
     c.in_ok-reserve.ensures.room
-    (omega (arith, out_long, c.self.inside.finished.ok.0, c.in_ok-reserve-2.ensures.ok, c.reserve-2.ensures.len)))
+    (omega (arith, out_long, c.self.inside.finished.ok.0, c.in_ok-reserve_amply.ensures.ok, c.reserve_amply.ensures.len)))
 
 pub returns-clause-made : goal.returns-clause-made
 returns-clause-made g c =
-    rw (c.reserve.ensures.works, c.reserve-2.ensures.items)
+    rw (c.reserve.ensures.works, c.reserve_amply.ensures.items)
     (view-created _ _ _ _ _ _ _ c.in_ok-id.id _ (more g (goal.at.returns-clause-made g c).In_ok-id) c.in_ok-id.ensures.issued refl)
     ∙ ap (with_work c.in_ok-id.id c.args.spec c.args.addon c.args.entry c.args.payload) c.self.view_is
