@@ -111,7 +111,10 @@ fn a_place_has_two_generations_and_no_third(rt: HostRuntime) {
     let third = ample(&rt, store.make(Body::Number(3)));
     let distinct = first != second && second != third && third != first;
     let named = three_named(&store, [first, second, third]);
-    assert_eq!(rt; (distinct, named), (true, [None, None, Some(Body::Number(3))]));
+    assert_eq!(rt;
+        (distinct, named),
+        (true, [None, None, Some(Body::Number(3))])
+    );
     assert_eq!(rt; (store.places(), store.live_count()), (7, 6));
 }
 
