@@ -173,7 +173,7 @@ fn remove_few(entries: &mut Vec<(u32, ValueId)>, name: u32) -> bool
     }
 }
 
-/// A map of these entries, in which a property is set.
+/// A map of these entries, in which a property is set. It has room for more.
 fn set_many(
     alloc: Global,
     entries: &[(u32, ValueId)],
@@ -184,7 +184,7 @@ fn set_many(
     ensures set { IfOk result (λ map. map.entries ≡ insert_entry nat_eq entries.now name to) }
     ensures unique { IfOk result (λ map. IsDistinct nat_eq (keys_of map.entries)) }
 {
-    let mut map = IndexMap::with_capacity(alloc, entries.len() + 1)?;
+    let mut map = IndexMap::with_capacity(alloc, 2 * FEW)?;
     for (own, value) in entries {
         map.insert(*own, *value)?;
     }
