@@ -1,8 +1,7 @@
 -- What is held, and what was issued, once a slot has changed.
-use Rattle.std.proofs.Common.{◌≡◌, ◌≢◌, ◌∙◌, ℕ, zero, suc, ◌+◌, ◌-◌, ◌*◌, ◌<◌, ◌≤◌, ◌/◌, ◌%◌, ◌==◌, ◌||◌, Bool, true, false, not, nat_lt, nat_eq, cond, List, ◌∷◌, length, map, set, Option, Some, None, IsSome, is_some, option_map, slice_index_or, refl, ap, sym, subst, arith}
-use Rattle.std.specs.List.{IsDistinct}
+use Rattle.std.proofs.Common.{◌≡◌, ◌≢◌, ◌∙◌, ℕ, zero, suc, ◌+◌, ◌-◌, ◌*◌, ◌<◌, ◌≤◌, ◌/◌, ◌%◌, ◌==◌, ◌||◌, Bool, true, false, not, nat_lt, cond, List, ◌∷◌, length, set, Option, Some, None, IsSome, is_some, option_map, slice_index_or, refl, ap, sym, subst, arith}
 use Rattle.std.proofs.lemmas.Bool.Decides.{nat_tests}
-use Rattle.std.proofs.lemmas.List.{length-set, get_or-set_same, get_or-set_other, get_or_default}
+use Rattle.std.proofs.lemmas.List.{length-set, get_or-set_same, get_or-set_other}
 use Rattle.napi_types.specs.plain.Lists.{has_number, with_number}
 use Rattle.napi_types.proofs.plain.Found.{found-same, found-with_record, found-filter, found-changed, rising-as_map, rising-with_record, rising-filter, rising-changed, same-tells, turned}
 use Rattle.generation_slab.specs.HeldPlaces.{Held, HeldPlaces, standing, held, value_of, with_held, without_held, with_value, with_held_value, EachStandsOnce}

@@ -1,13 +1,12 @@
 -- What the calls of a slab with generations leave of it.
-use Rattle.std.proofs.Common.{◌≡◌, ◌≢◌, ◌∙◌, ℕ, suc, ◌+◌, ◌-◌, ◌<◌, ◌≤◌, ◌%◌, ◌==◌, Bool, true, false, cond, List, length, map, set, Option, Some, None, IsSome, is_some, option_map, slice_index_or, refl, ap, sym, subst, arith}
-use Rattle.std.specs.List.{IsDistinct}
+use Rattle.std.proofs.Common.{◌≡◌, ◌≢◌, ◌∙◌, ℕ, ◌+◌, ◌-◌, ◌<◌, ◌≤◌, ◌%◌, ◌==◌, Bool, true, false, cond, List, length, map, set, Option, Some, None, IsSome, is_some, option_map, slice_index_or, refl, ap, sym, arith}
 use Rattle.std.proofs.lemmas.List.{length-set, get_or-set_same, get_or-set_other, get_or_default}
 use Rattle.std.proofs.lemmas.List.Sums.{sum_by-set}
 use Rattle.slab.specs.Slab.{Slab, get, slab_len, Updates, with_value as with_slot}
 use Rattle.slab.proofs.SlabLemmas.{Updates-with_value, ContainsKey-within}
 use Rattle.napi_types.proofs.plain.Found.{same-tells}
-use Rattle.generation_slab.specs.HeldPlaces.{Held, HeldPlaces, held, value_of, with_held, without_held, with_held_value, with_value, with_value_at, EachStandsOnce}
-use Rattle.generation_slab.specs.SlotNumbers.{number_of_slot, generation_in, live_at, given_in, places_from, issued_from, places_of, HaveGenerations, HasRoom, IsInOrder}
+use Rattle.generation_slab.specs.HeldPlaces.{HeldPlaces, held, value_of, without_held, with_held_value, with_value, with_value_at}
+use Rattle.generation_slab.specs.SlotNumbers.{number_of_slot, generation_in, live_at, given_in, places_from, places_of, HaveGenerations, IsInOrder}
 use Rattle.generation_slab.proofs.SlotNumbers.{tests-apart, issued-same}
 use Rattle.generation_slab.proofs.Changing.{Changes, Stands, Results, Makes, Widened, stands, replaces, frees, makes, issued-none}
 use Rattle.generation_slab.proofs.HeldCounts.{counted-more, counted-less, counted-same}
@@ -48,7 +47,7 @@ module _ {T : Type 0} where
 
     -- A VALUE IS WRITTEN
     module _ (n k : ℕ) (found : Found slots gs last n k) (v : T) where
-      writes : Changes (live_at slots gs last) (live_at (written_in slots k v) gs last) k (Some v)
+      pub writes : Changes (live_at slots gs last) (live_at (written_in slots k v) gs last) k (Some v)
       writes = written slots (written_in slots k v) gs last k v found.short (Updates-with_value slots k v (ap is_some found.there))
 
       pub write-order : IsInOrder (written_in slots k v) gs last c w r
@@ -80,7 +79,7 @@ module _ {T : Type 0} where
     -- the slot is given back, in the next generation
     module _ (n k h : ℕ) (found : Found slots gs last n k) (is : h ≡ generation_in gs k) (new : Slab T) (updates : Updates slots new k None) (len : slab_len new + 1 ≡ slab_len slots)
         (capacity : new.capacity ≡ slots.capacity) (more : h + 1 ≤ last) where
-      gives : Changes (live_at slots gs last) (live_at new (set gs k (h + 1)) last) k None
+      pub gives : Changes (live_at slots gs last) (live_at new (set gs k (h + 1)) last) k None
       gives = given-free slots new gs last k (h + 1) updates
 
       pub given-count : 1 ≤ c
@@ -114,7 +113,7 @@ module _ {T : Type 0} where
 
     -- the slot is never used again
     module _ (n k h : ℕ) (found : Found slots gs last n k) (is : h ≡ generation_in gs k) (over : last ≤ h) where
-      retires : Changes (live_at slots gs last) (live_at slots (set gs k (h + 1)) last) k None
+      pub retires : Changes (live_at slots gs last) (live_at slots (set gs k (h + 1)) last) k None
       retires = retired-slot slots gs last k (h + 1) found.at.within (omega (arith, over))
 
       pub retired-order : IsInOrder slots (set gs k (h + 1)) last (c - 1) w r
@@ -146,7 +145,7 @@ module _ {T : Type 0} where
       pub vacant-short : generation_in news k ≤ last
       vacant-short = omega (arith, wide.kept k, order.retired k vacant)
 
-      takes : Changes (live_at slots gs last) (live_at new news last) k (Some v)
+      pub takes : Changes (live_at slots gs last) (live_at new news last) k (Some v)
       takes = taken slots new gs news last k v wide.kept (order.retired k vacant) updates
 
       pub taken-order : IsInOrder new news last (c + 1) w (r - 1)
@@ -190,7 +189,7 @@ module _ {T : Type 0} where
         }
 
     module _ (at : ℕ) (some : IsSome (slice_index_or s.places at None)) (v : T) where
-      puts : Changes (live_at slots gs last) (live_at (written_in slots at v) gs last) at (Some v)
+      pub puts : Changes (live_at slots gs last) (live_at (written_in slots at v) gs last) at (Some v)
       puts = let found = found-at at some in written slots (written_in slots at v) gs last at v found.short (Updates-with_value slots at v (ap is_some found.there))
 
       pub put-order : IsInOrder (written_in slots at v) gs last c w r

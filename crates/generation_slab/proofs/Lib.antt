@@ -3,6 +3,7 @@ pub mod HeldCounts
 pub mod HeldPlaces
 pub mod InOrder
 pub mod Issuing
+pub mod Kept
 pub mod LiveSlots
 pub mod SlotNumbers
 pub mod SlotReading

@@ -1,9 +1,9 @@
 -- What the slots hold as they and their generations change.
-use Rattle.std.proofs.Common.{◌≡◌, ◌≢◌, ◌∙◌, ℕ, suc, ◌+◌, ◌<◌, ◌≤◌, Bool, true, false, nat_lt, cond, List, length, set, Option, Some, None, IsSome, is_some, slice_index_or, refl, ap, sym, arith}
+use Rattle.std.proofs.Common.{◌≡◌, ◌∙◌, ℕ, ◌<◌, ◌≤◌, Bool, true, false, nat_lt, cond, List, length, set, Option, Some, None, slice_index_or, refl, ap, sym, arith}
 use Rattle.std.proofs.lemmas.Bool.Decides.{nat_tests}
-use Rattle.std.proofs.lemmas.List.{length-set, get_or-set_same, get_or-set_other}
+use Rattle.std.proofs.lemmas.List.{get_or-set_same, get_or-set_other}
 use Rattle.slab.specs.Slab.{Slab, get, Updates}
-use Rattle.generation_slab.specs.SlotNumbers.{generation_in, live_in, live_at, HaveGenerations, HasRoom, IsInOrder}
+use Rattle.generation_slab.specs.SlotNumbers.{generation_in, live_in, live_at, HaveGenerations, IsInOrder}
 use Rattle.generation_slab.proofs.Changing.{Changes}
 
 above-last : (last g : ℕ) → last < g → nat_lt last g ≡ true

@@ -1,5 +1,5 @@
 -- How slots and their generations stand for what is held: a number is a generation and a slot. No public clause cites this module.
-use Rattle.std.specs.Prelude.{◌≡◌, ℕ, zero, suc, ◌+◌, ◌*◌, ◌<◌, ◌≤◌, ◌/◌, ◌%◌, ◌==◌, nat_lt, Bool, false, not, cond, List, [], ◌∷◌, ◌++◌, length, Option, Some, None, slice_index_or}
+use Rattle.std.specs.Prelude.{◌≡◌, ℕ, zero, suc, ◌+◌, ◌*◌, ◌<◌, ◌≤◌, ◌/◌, ◌%◌, ◌==◌, nat_lt, Bool, true, false, not, is_some, cond, List, [], ◌∷◌, ◌++◌, length, Option, Some, None, slice_index_or}
 use Rattle.slab.specs.Slab.{Slab, get, slab_len}
 use Rattle.napi_types.specs.plain.Lists.{as_map}
 use Rattle.generation_slab.specs.HeldPlaces.{Held, HeldPlaces, standing}
@@ -70,6 +70,19 @@ module _ {T : Type 0} where
     pub retired : (k : ℕ) → get slots k ≡ None → generation_in generations k ≤ last
     pub counted : count ≡ length (standing (places_from (live_at slots generations last) 0 generations))
     pub reserved : HasRoom slots width room
+
+  -- the mark of each slot is set exactly where nothing is held; one that has no mark counts as set
+  abbrev pub MarksVacant : (ℕ → Option T) → List Bool → Type 0
+  MarksVacant live marks = (k : ℕ) → slice_index_or marks k true ≡ not (is_some (live k))
+
+  -- the slots and their generations are in order; each slot that has a generation has a mark, and so has each that there may be where memory is reserved;
+  -- marks come 64 at a time
+  pub record IsKept (slots : Slab T) (generations : List ℕ) (last count width room : ℕ) (marks : List Bool) : Type 0 where
+    pub order : IsInOrder slots generations last count width room
+    pub vacant : MarksVacant (live_at slots generations last) marks
+    pub long : length generations ≤ length marks
+    pub marked : 0 < room → slots.capacity ≤ length marks
+    pub whole : length marks % 64 ≡ 0
 
   -- what a slot of this generation holds, at a number of that one, and whether that number was issued
   abbrev pub value_in : Option T → ℕ → ℕ → Option T

@@ -1,11 +1,12 @@
 //! The slab with generations.
-ghost use Rattle.std.specs.Prelude.{◌≡◌, ℕ, ◌+◌, ◌-◌, ◌%◌, ◌<◌, ◌^◌, ◌≤◌, nat_eq, ◌∷◌, false, map, length, vec_capacity, IsSome, Some, None, IfOk, OnOk, OnErr, option_map, option_copied, slice_index_or, slice_set};
+ghost use Rattle.std.specs.Prelude.{◌≡◌, ℕ, ◌+◌, ◌-◌, ◌%◌, ◌<◌, ◌^◌, ◌≤◌, nat_eq, ◌∷◌, false, not, max, map, length, vec_capacity, is_some, IsSome, Some, None, IfOk, OnOk, OnErr, option_map, option_copied, slice_index_or, slice_set};
 ghost use Rattle.std.specs.List.{IsDistinct};
 ghost use Rattle.slab.specs.Slab.{get};
 ghost use Rattle.napi_types.specs.plain.Lists.{has_number, with_number};
 ghost use Rattle.generation_slab.specs.HeldPlaces.{standing, held, value_of, with_held, without_held, with_held_value, with_value, nothing_held, EachStandsOnce};
 ghost use Rattle.generation_slab.specs.SlotNumbers.{live_in, number_of_slot};
 
+use mark_bits::Bits;
 use napi_types::NoMemory;
 use slab::Slab;
 use std::alloc::Global;
@@ -26,6 +27,8 @@ pub struct GenerationSlab<T> {
     generations: Vec<u32>,
     // The greatest generation.
     last: u16,
+    // A mark for each slot, set exactly where nothing is held. Slots that are still to come may have theirs too.
+    vacant: Bits,
     // How many values are held.
     count: usize,
     // For how many values more the memory is taken.
@@ -38,20 +41,18 @@ impl<T> Model for GenerationSlab<T> {
 
     ghost Value = { HeldPlaces T };
 
-    ghost use Rattle.generation_slab.specs.SlotNumbers.{live_at, places_of, IsInOrder};
+    ghost use Rattle.generation_slab.specs.SlotNumbers.{live_at, places_of, IsKept};
 
     ghost view = { λ s. places_of (live_at s.slots s.generations.items s.last) s.generations.items s.room };
 
-    ghost invariant = { λ s. IsInOrder s.slots s.generations.items s.last s.count (vec_capacity s.generations) s.room };
+    ghost invariant = { λ s. IsKept s.slots s.generations.items s.last s.count (vec_capacity s.generations) s.room s.vacant };
 }
 
 /// A generation for the slot, where it has none. Its memory is taken.
 fn widen(generations: &mut Vec<u32>, slot: usize)
     requires { slot < vec_capacity generations.old }
     ensures kept { (k : ℕ) → slice_index_or generations.new.items k 0 ≡ slice_index_or generations.old.items k 0 }
-    ensures there { slot < length generations.new.items }
-    ensures short { length generations.old.items < 2 ^ 48 → slot < 2 ^ 48 - 1 → length generations.new.items < 2 ^ 48 }
-    ensures longer { length generations.old.items ≤ length generations.new.items }
+    ensures size { length generations.new.items ≡ max (length generations.old.items) (slot + 1) }
     ensures capacity { vec_capacity generations.new ≡ vec_capacity generations.old }
 {
     for _ in generations.len()..slot + 1 {
@@ -96,7 +97,8 @@ impl<T: Drop> GenerationSlab<T> {
         GenerationSlab::with_generations(alloc, u16::MAX)
     }
 
-    /// The same, where a slot has no generation after `last`: it is used `last + 1` times. It takes no memory.
+    /// The same, where a slot has no generation after `last`: it is used `last + 1` times. It takes no memory. Contracts see no
+    /// generations, so no clause tells `last`.
     pub fn with_generations(alloc: Global, last: u16) -> GenerationSlab<T>
         ensures { result ≡ nothing_held }
     {
@@ -104,6 +106,7 @@ impl<T: Drop> GenerationSlab<T> {
             slots: Slab::new(alloc),
             generations: Vec::new(alloc),
             last,
+            vacant: Bits::new(alloc),
             count: 0,
             room: 0,
         }
@@ -158,6 +161,7 @@ impl<T: Drop> GenerationSlab<T> {
         }
         let more = capacity.saturating_sub(self.generations.len());
         self.generations.reserve(more)?;
+        self.vacant.fill_up(capacity)?;
         self.room = count;
         Ok(())
     }
@@ -175,6 +179,7 @@ impl<T: Drop> GenerationSlab<T> {
     {
         let slot = self.slots.insert_reserved(value);
         widen(&mut self.generations, slot);
+        self.vacant.unset(slot);
         self.count += 1;
         self.room -= 1;
         number_of(self.generations[slot], slot)
@@ -188,10 +193,12 @@ impl<T: Drop> GenerationSlab<T> {
         ensures freed { held self.new ≡ without_held number (held self.old) }
         ensures issued { self.new.issued ≡ self.old.issued }
         ensures once { EachStandsOnce self.new }
+        ensures room { self.new.room ≡ self.old.room }
     {
         let slot = slot_of(number);
         let generation = self.generations[slot];
         self.generations[slot] = generation + 1;
+        self.vacant.set(slot);
         self.count -= 1;
         if generation < u32::from(self.last) {
             self.slots.remove(slot);
@@ -218,6 +225,7 @@ impl<T: Drop> GenerationSlab<T> {
         ensures given { value_of self.old number ≡ Some result }
         ensures replaced { held self.new ≡ with_held_value number value (held self.old) }
         ensures issued { self.new.issued ≡ self.old.issued }
+        ensures room { self.new.room ≡ self.old.room }
     {
         let slot = slot_of(number);
         mem::replace(&mut self.slots[slot], value)
@@ -236,6 +244,13 @@ impl<T: Drop> GenerationSlab<T> {
         ensures once { IsDistinct nat_eq (map (λ h. h.number) (standing self.now.places)) }
     {
         self.generations.len()
+    }
+
+    /// A mark for each place, set exactly where nothing stands. It takes time and memory in a 64th of the places.
+    pub fn vacant_places(&self, alloc: Global) -> Result<Bits, NoMemory>
+        ensures { IfOk result (λ marks. marks ≡ map (λ place. not (is_some place)) self.now.places) }
+    {
+        self.vacant.first(alloc, self.generations.len())
     }
 
     /// The value at a place, `None` exactly where nothing stands there. `at` is below `places`. Constant time.

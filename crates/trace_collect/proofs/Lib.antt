@@ -1,4 +1,3 @@
-pub mod BitMarks
 pub mod CollectCallers
 pub mod Distinct
 pub mod MarkMembers

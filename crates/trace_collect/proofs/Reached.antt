@@ -1,5 +1,5 @@
 -- What is marked is what the roots reach.
-use Rattle.std.proofs.Common.{◌≡◌, ℕ, zero, suc, ◌⊎◌, inl, inr, Bool, true, false, List, [], ◌∷◌, ◌++◌, map, replicate, Option, Some, None, is_some, option_map, refl, ap, sym, subst, ◌∙◌, arith}
+use Rattle.std.proofs.Common.{◌≡◌, ℕ, ◌⊎◌, inl, inr, Bool, true, false, List, [], ◌∷◌, ◌++◌, map, Option, Some, None, is_some, option_map, refl, ap, sym, subst, ◌∙◌, arith}
 use Rattle.std.specs.List.{All}
 use Rattle.std.specs.Option.{unwrap_or}
 use Rattle.std.proofs.lemmas.List.Elements.{All-weaker}
@@ -14,19 +14,14 @@ use Rattle.value_store.proofs.LiveValues.{has-numbers, place-live, live-place, g
 use Rattle.value_store.proofs.ReadingPlaces.{some-is}
 use Rattle.value_store.proofs.NamedPlaces.{All-has}
 use Rattle.trace_collect.specs.Collects.{reached}
-use Rattle.trace_collect.specs.MarkedValues.{is_marked, IsMarked, AreMarked, Marks, IsMarking}
+use Rattle.mark_bits.specs.Marks.{is_marked}
+use Rattle.trace_collect.specs.MarkedValues.{IsMarked, NoneIsMarked, AreMarked, Marks, IsMarking}
 use Rattle.trace_collect.proofs.MarkMembers.{has-cases, has-one, has-map, from-map}
 use Rattle.trace_collect.proofs.Marking.{marked-kept}
 
 -- the children of a live value
 children-in : (s : StoreState) (id : ℕ) (v : Value) → value_of s id ≡ Some v → children_in s id ≡ children v
 children-in s id v is = ap (λ (o : Option Value). unwrap_or (option_map children o) []) is
-
--- where nothing is marked, no place is
-none-marked : (many place : ℕ) → is_marked (replicate many false) place ≡ true → ⊥
-none-marked zero place h = cc
-none-marked (suc many) zero h = cc
-none-marked (suc many) (suc place) h = none-marked many place h
 
 module _ (s : StoreState) (once : EachStandsOnce s) (sound : IsSoundStore s) (roots : List ℕ) where
   -- a value is followed when its children are marked
@@ -78,21 +73,24 @@ module _ (s : StoreState) (once : EachStandsOnce s) (sound : IsSoundStore s) (ro
 
   module _ (live : All (IsLive s) roots) where
     -- where only the roots are marked, they are left to follow
-    pub marking-start : (many : ℕ) (marks : List Bool) (left : List ℕ) → Marks s roots (replicate many false) [] marks left → IsMarking s roots marks left
-    marking-start many marks left first = record {
+    pub marking-start : (old marks : List Bool) (left : List ℕ) → NoneIsMarked s old → Marks s roots old [] marks left → IsMarking s roots marks left
+    marking-start old marks left unmarked first = record {
       rooted = first.marked;
       sound = λ place id at h. by-sound place id at (first.added place id at h);
-      followed = λ place id at h. by-left place id (first.added place id at h);
+      followed = λ place id at h. by-left place id at (first.added place id at h);
       waiting = λ id h. by-waiting id (first.left id h);
     }
       where
-        by-sound : (place id : ℕ) → id_at s place ≡ Some id → (is_marked (replicate many false) place ≡ true) ⊎ ((has_number id roots ≡ true) × (has_number id left ≡ true)) → has_number (number_in s id) (reached s roots) ≡ true
-        by-sound place id at (inl h) = absurd (none-marked many place h)
+        no-value : (place id : ℕ) → id_at s place ≡ Some id → is_marked old place ≡ true → ⊥
+        no-value place id at h = let none : Some id ≡ None = sym at ∙ unmarked place h in cc
+
+        by-sound : (place id : ℕ) → id_at s place ≡ Some id → (is_marked old place ≡ true) ⊎ ((has_number id roots ≡ true) × (has_number id left ≡ true)) → has_number (number_in s id) (reached s roots) ≡ true
+        by-sound place id at (inl h) = absurd (no-value place id at h)
         by-sound place id at (inr h) = reach-roots (graph_of s) (map (number_in s) roots) (number_in s id) (live-graph s once sound id (place-live s once place id at)) (has-map (number_in s) roots id h.0)
 
-        by-left : (place id : ℕ) → (is_marked (replicate many false) place ≡ true) ⊎ ((has_number id roots ≡ true) × (has_number id left ≡ true)) → (has_number id left ≡ true) ⊎ All (IsMarked s marks) (children_in s id)
-        by-left place id (inl h) = absurd (none-marked many place h)
-        by-left place id (inr h) = inl h.1
+        by-left : (place id : ℕ) → id_at s place ≡ Some id → (is_marked old place ≡ true) ⊎ ((has_number id roots ≡ true) × (has_number id left ≡ true)) → (has_number id left ≡ true) ⊎ All (IsMarked s marks) (children_in s id)
+        by-left place id at (inl h) = absurd (no-value place id at h)
+        by-left place id at (inr h) = inl h.1
 
         by-waiting : (id : ℕ) → (has_number id [] ≡ true) ⊎ (has_number id roots ≡ true) → IsLive s id × IsMarked s marks id
         by-waiting id (inl h) = let no : ⊥ = cc in absurd no

@@ -1,14 +1,15 @@
 -- The values at places that are not marked, and how many they are.
-use Rattle.std.proofs.Common.{◌≡◌, ◌≢◌, ℕ, zero, suc, ◌+◌, ◌-◌, ◌<◌, ◌≤◌, ◌⊎◌, inl, inr, Bool, true, false, List, [], ◌∷◌, ◌++◌, length, set, replicate, Option, Some, None, option_map, slice_index_or, if◌then◌else◌, refl, ap, sym, subst, ◌∙◌, arith, add-one}
+use Rattle.std.proofs.Common.{◌≡◌, ◌≢◌, ℕ, zero, suc, ◌+◌, ◌-◌, ◌<◌, ◌≤◌, ◌⊎◌, inl, inr, Bool, true, false, List, [], ◌∷◌, ◌++◌, length, map, not, is_some, set, Option, Some, None, option_map, slice_index_or, if◌then◌else◌, refl, ap, sym, subst, ◌∙◌, arith, add-one}
 use Rattle.std.specs.List.{filter_map, range_with_len, cons_option}
 use Rattle.std.specs.Option.{option_to_list}
-use Rattle.std.proofs.lemmas.Bool.{cases_eq}
-use Rattle.std.proofs.lemmas.List.{map-append, length-set, length-replicate, get_or-set_same, get_or-set_other}
+use Rattle.std.proofs.lemmas.Bool.{cases_eq, cases_lt}
+use Rattle.std.proofs.lemmas.List.{map-append, length-set, get_or-map, get_or_past, get_or-set_same, get_or-set_other}
 use Rattle.std.proofs.lemmas.List.Elements.{filter_map-append}
 use Rattle.napi_types.specs.declared.ids.ValueId.{ValueId}
 use Rattle.napi_types.specs.parts.Graph.{Stored, StoreState, live}
 use Rattle.value_store.specs.StoreChanges.{id_at, numbers_of}
-use Rattle.trace_collect.specs.MarkedValues.{is_marked, unmarked_ids, unmarked_count}
+use Rattle.mark_bits.specs.Marks.{is_marked}
+use Rattle.trace_collect.specs.MarkedValues.{unmarked_ids, unmarked_count, NoneIsMarked}
 
 range-more : (from many : ℕ) → range_with_len from (many + 1) ≡ range_with_len from many ++ (from + many) ∷ []
 range-more from zero = by from
@@ -139,14 +140,27 @@ all-standing (x ∷ ps) =
     by None h = h
     by (Some y) h = omega (arith, h)
 
--- where nothing is marked, all live values are counted
-pub unmarked-none : (s : StoreState) → unmarked_count s (replicate (length s.places) false) ≡ length (live s)
-unmarked-none s =
-    ap (λ many. length (unmarked_ids s (replicate (length s.places) false) many)) (length-replicate (length s.places) false)
-    ∙ ap length (agree-range (unmarked_at s (replicate (length s.places) false)) (id_at s) 0 (length s.places) (λ q low. ap (λ b. if b then None else id_at s q) (none (length s.places) q)))
+-- where no value is marked, all live values are counted
+pub unmarked-none : (s : StoreState) (marks : List Bool) → length marks ≡ length s.places → NoneIsMarked s marks → unmarked_count s marks ≡ length (live s)
+unmarked-none s marks size none =
+    ap (λ many. length (unmarked_ids s marks many)) size
+    ∙ ap length (agree-range (unmarked_at s marks) (id_at s) 0 (length s.places) (λ q low. by q (is_marked marks q) refl))
     ∙ all-standing s.places
   where
-    none : (many q : ℕ) → is_marked (replicate many false) q ≡ false
-    none zero q = refl
-    none (suc many) zero = refl
-    none (suc many) (suc q) = none many q
+    by : (q : ℕ) (b : Bool) → is_marked marks q ≡ b → (if b then None else id_at s q) ≡ id_at s q
+    by q true marked = sym (none q marked)
+    by q false free = refl
+
+-- of the marks that are set where no value stands, none is a value's
+pub vacant-unmarked : (s : StoreState) (marks : List Bool) → marks ≡ map (λ place. not (is_some place)) s.places → NoneIsMarked s marks
+vacant-unmarked s marks is = λ place marked. by place (cases_lt place (length s.places)) marked
+  where
+    none : (o : Option Stored) → not (is_some o) ≡ true → option_map (λ (x : Stored). x.id) o ≡ None
+    none None h = refl
+    none (Some x) h = cc
+
+    by : (place : ℕ) → (place < length s.places) ⊎ (length s.places ≤ place) → is_marked marks place ≡ true → id_at s place ≡ None
+    by place (inl within) marked =
+        none (slice_index_or s.places place None)
+        (sym (ap (λ l. is_marked l place) is ∙ get_or-map (λ place. not (is_some place)) s.places place None false within) ∙ marked)
+    by place (inr past) marked = ap (option_map (λ (x : Stored). x.id)) (get_or_past s.places place None past)

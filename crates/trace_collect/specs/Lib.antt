@@ -1,3 +1,2 @@
 pub mod Collects
 pub mod MarkedValues
-pub mod WordBits

@@ -1,18 +1,19 @@
 -- Which places of a store are marked, and which values are left to follow.
-use Rattle.std.specs.Prelude.{◌≡◌, ◌⊎◌, ℕ, ◌+◌, Bool, true, false, if◌then◌else◌, List, [], length, filter_map, Some, None, slice_index_or}
+use Rattle.std.specs.Prelude.{◌≡◌, ◌⊎◌, ℕ, ◌+◌, Bool, true, if◌then◌else◌, List, [], length, filter_map, Some, None}
 use Rattle.std.specs.List.{All, range_with_len}
 use Rattle.napi_types.specs.plain.Lists.{has_number}
 use Rattle.napi_types.specs.parts.Graph.{StoreState, IsLive, number_in}
 use Rattle.value_store.specs.StoreChanges.{id_at, children_in}
+use Rattle.mark_bits.specs.Marks.{is_marked}
 use Rattle.trace_collect.specs.Collects.{reached}
-
--- the place is marked
-abbrev pub is_marked : List Bool → ℕ → Bool
-is_marked marks place = slice_index_or marks place false
 
 -- the place of the value of this number is marked
 abbrev pub IsMarked : StoreState → List Bool → ℕ → Type 0
 IsMarked s marks id = (place : ℕ) → id_at s place ≡ Some id → is_marked marks place ≡ true
+
+-- no value is marked: a mark stands only where no value does
+abbrev pub NoneIsMarked : StoreState → List Bool → Type 0
+NoneIsMarked s marks = (place : ℕ) → is_marked marks place ≡ true → id_at s place ≡ None
 
 -- the values that the roots reach are marked, and no others
 abbrev pub AreMarked : StoreState → List ℕ → List Bool → Type 0

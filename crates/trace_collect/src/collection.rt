@@ -17,9 +17,8 @@ use value_store::Store;
 /// starting values are among them.
 ///
 /// All memory is taken before the first value is freed: a bit for each place of the store, a place to follow each live value,
-/// and the list. The time is linear in a 64th of the places, the places where no value stands, the roots, the live values, and
-/// what they name. Where the list does not rise as it is found, its sort comes beside. A chain of values may be of any length:
-/// nothing recurs.
+/// and the list. The time is linear in a 64th of the places, the roots, the live values, and what they name. Where the list does
+/// not rise as it is found, its sort comes beside. A chain of values may be of any length: nothing recurs.
 pub fn collect(
     alloc: Global,
     store: &mut Store,

@@ -3,7 +3,6 @@
 //! store's state stands for (`specs/Collects.antt`). The environment, which knows the roots, stands above.
 #![tactic(auto)]
 
-mod bits;
 mod collection;
 mod marks;
 

@@ -1,16 +1,16 @@
 //! The places of a store, marked where the roots reach the value that stands there.
-ghost use Rattle.std.specs.Prelude.{◌≡◌, ◌+◌, ◌≤◌, ◌++◌, [], ◌∷◌, length, replicate, false, vec_capacity, IfOk, OnOk, option_to_list};
+ghost use Rattle.std.specs.Prelude.{◌≡◌, ◌+◌, ◌≤◌, ◌++◌, [], ◌∷◌, length, vec_capacity, IfOk, OnOk, option_to_list};
 ghost use Rattle.std.specs.List.{All};
 ghost use Rattle.napi_types.specs.parts.Graph.{live, IsLive, IsSoundStore};
 ghost use Rattle.value_store.specs.StoreChanges.{children_in, numbers_of, EachStandsOnce};
-ghost use Rattle.trace_collect.specs.MarkedValues.{unmarked_ids, unmarked_count, AreMarked, Marks, Follows};
+ghost use Rattle.trace_collect.specs.MarkedValues.{unmarked_ids, unmarked_count, NoneIsMarked, AreMarked, Marks, Follows};
 
-use crate::bits::Bits;
+use mark_bits::Bits;
 use napi_types::{NoMemory, ValueId};
 use std::alloc::Global;
 use value_store::Store;
 
-/// A mark for each place of the store: whether the roots reach the value there.
+/// A mark for each place of the store, set where no value stands: whether the roots reach the value there.
 pub(crate) fn reached(alloc: Global, store: &Store, roots: &[ValueId]) -> Result<Bits, NoMemory>
     requires { All (IsLive store.now) (numbers_of roots.now) }
     ensures size { IfOk result (λ marks. length marks ≡ length store.now.places) }
@@ -18,19 +18,19 @@ pub(crate) fn reached(alloc: Global, store: &Store, roots: &[ValueId]) -> Result
     ensures once { OnOk result (EachStandsOnce store.now) }
     ensures sound { OnOk result (IsSoundStore store.now) }
 {
-    let places = store.places();
-    let mut marks = Bits::new(alloc, places)?;
+    let mut marks = store.vacant_places(alloc)?;
     let mut left = Vec::with_capacity(alloc, store.live_count())?;
     mark_reached(store, roots, &mut marks, &mut left);
     Ok(marks)
 }
 
-/// Marks what the roots reach, where nothing is marked and no value is left to follow.
+/// Marks what the roots reach, where no value is marked and none is left to follow.
 fn mark_reached(store: &Store, roots: &[ValueId], marks: &mut Bits, left: &mut Vec<ValueId>)
     requires once { EachStandsOnce store.now }
     requires sound { IsSoundStore store.now }
     requires live { All (IsLive store.now) (numbers_of roots.now) }
-    requires unmarked { marks.old ≡ replicate (length store.now.places) false }
+    requires size { length marks.old ≡ length store.now.places }
+    requires unmarked { NoneIsMarked store.now marks.old }
     requires empty { left.old.items ≡ [] }
     requires room { length (live store.now) ≤ vec_capacity left.old }
     ensures size { length marks.new ≡ length store.now.places }

@@ -1,5 +1,5 @@
 -- What an error has and names.
-use Rattle.std.proofs.Common.{◌≡◌, ◌∙◌, ℕ, ◌+◌, nat_eq, [], ◌∷◌, ◌++◌, Option, Some, None, IfSome, option_map, refl}
+use Rattle.std.proofs.Common.{◌≡◌, ℕ, ◌+◌, nat_eq, [], ◌∷◌, ◌++◌, Option, Some, None, IfSome, option_map, refl}
 use Rattle.std.specs.List.{All}
 use Rattle.std.proofs.lemmas.List.Elements.{All-nil, All-cons}
 use Rattle.std.proofs.lemmas.Map.Keys.{IsDistinct-cons}

@@ -1,20 +1,20 @@
 -- The value graph of a state, number by number.
-use Rattle.std.proofs.Common.{◌≡◌, ◌≢◌, ◌⊎◌, inl, inr, ◌∙◌, ℕ, zero, suc, ◌+◌, ◌<◌, ◌≤◌, ◌==◌, ◌||◌, Bool, true, false, not, cond, List, [], ◌∷◌, ◌++◌, map, filter, length, Option, Some, None, IsSome, IfSome, option_map, refl, ap, sym, subst, arith}
+use Rattle.std.proofs.Common.{◌≡◌, ◌≢◌, ◌⊎◌, inl, inr, ◌∙◌, ℕ, zero, suc, ◌+◌, ◌<◌, ◌≤◌, ◌==◌, ◌||◌, Bool, true, false, not, cond, List, [], ◌∷◌, ◌++◌, map, filter, Option, Some, None, IsSome, IfSome, option_map, refl, ap, sym, subst, arith}
 use Rattle.std.specs.List.{All, filter_map, range_with_len, cons_option}
 use Rattle.std.specs.Option.{unwrap_or}
 use Rattle.std.proofs.lemmas.Bool.{eqb-true, eq-eqb}
 use Rattle.std.proofs.lemmas.List.Elements.{All-head, All-tail, filter_map-append}
 use Rattle.napi_types.specs.plain.Lists.{has_number}
-use Rattle.napi_types.specs.parts.Graph.{Stored, StoreState, live, IsLive, value_of, number_in, renamed, graph_of}
+use Rattle.napi_types.specs.parts.Graph.{StoreState, live, IsLive, value_of, number_in, renamed, graph_of}
 use Rattle.napi_types.specs.parts.Properties.{Property}
 use Rattle.napi_types.specs.parts.Values.{Value, children, value_at, value_changed}
 use Rattle.value_store.specs.StoreChanges.{MakesValue, ChangesOnly, Frees, CanFree}
 use Rattle.value_store.specs.ValuePlaces.{IsGood}
 use Rattle.value_store.proofs.LiveValues.{values, value_at-numbered, numbered-place, place-value, value-listed, graph_value, graph_value-numbered, number-value, graph-value}
 use Rattle.value_store.proofs.Lookup.{apart-number, other-number}
-use Rattle.value_store.proofs.NamedPlaces.{left, right, to_options, All-has}
+use Rattle.value_store.proofs.NamedPlaces.{left, right, to_options}
 use Rattle.value_store.proofs.ReadingPlaces.{some-is}
-use Rattle.value_store.proofs.StoreStates.{made-or, live-kept, fresh-apart, changed-or, freed-was}
+use Rattle.value_store.proofs.StoreStates.{made-or, live-kept, changed-or, freed-was}
 
 -- LISTS OF OPTIONS
 option-same : {A : Type 0} (o p : Option A) → ((v : A) → o ≡ Some v → p ≡ Some v) → ((v : A) → p ≡ Some v → o ≡ Some v) → o ≡ p

@@ -5,9 +5,9 @@ use Rattle.std.proofs.lemmas.List.{length-take-le, take_more, take_all}
 use Rattle.std.proofs.lemmas.List.Elements.{All-nil}
 use Rattle.generation_slab.specs.HeldPlaces.{HeldPlaces, EachStandsOnce as EachHeldOnce}
 use Rattle.napi_types.specs.declared.body.Body.{Body}
-use Rattle.napi_types.specs.parts.Graph.{IsLive, number_in, renamed}
+use Rattle.napi_types.specs.parts.Graph.{IsLive, number_in}
 use Rattle.napi_types.specs.parts.NewValues.{made_after, array_of, list_of}
-use Rattle.napi_types.specs.parts.Values.{Value, fresh_value, children, with_element}
+use Rattle.napi_types.specs.parts.Values.{fresh_value, with_element}
 use Rattle.value_store.specs.declared.place.ValuePlace.{ValuePlace}
 use Rattle.value_store.specs.declared.place.ValuePlace.TheVariants.{Plain}
 use Rattle.value_store.specs.declared.record.ValueRecord.{ValueRecord}

@@ -1,11 +1,11 @@
 -- What the records that are held say of the values of the state.
-use Rattle.std.proofs.Common.{◌≡◌, ◌≢◌, ◌∙◌, ℕ, zero, suc, ◌+◌, ◌==◌, ◌||◌, nat_eq, Bool, true, false, not, cond, List, [], ◌∷◌, length, map, Option, Some, None, IsSome, option_map, slice_index_or, refl, ap, sym, subst, arith}
+use Rattle.std.proofs.Common.{◌≡◌, ◌∙◌, ℕ, zero, suc, ◌+◌, ◌==◌, ◌||◌, nat_eq, Bool, true, false, not, is_some, cond, List, [], ◌∷◌, length, map, Option, Some, None, IsSome, option_map, slice_index_or, refl, ap, sym, subst}
 use Rattle.std.specs.List.{filter_map, IsDistinct, AllByRecursion}
 use Rattle.std.proofs.lemmas.Map.Keys.{IsDistinct-head, IsDistinct-tail}
-use Rattle.std.proofs.lemmas.Bool.{eqb-true, eq-eqb}
+use Rattle.std.proofs.lemmas.Bool.{eq-eqb}
 use Rattle.generation_slab.specs.HeldPlaces.{Held, HeldPlaces, standing, held, with_held, without_held, with_value, with_value_at, EachStandsOnce as EachHeldOnce, value_of as record_at}
-use Rattle.napi_types.specs.plain.Lists.{found, has_number, with_number}
-use Rattle.napi_types.specs.parts.Graph.{Stored, StoreState, live, value_of}
+use Rattle.napi_types.specs.plain.Lists.{found, has_number}
+use Rattle.napi_types.specs.parts.Graph.{Stored, live, value_of}
 use Rattle.napi_types.specs.parts.Values.{Value}
 use Rattle.napi_types.proofs.plain.Found.{found-as_map, found-with_record, found-filter, found-number, has-with_number, turned, same-tells}
 use Rattle.value_store.specs.declared.place.ValuePlace.{ValuePlace}
@@ -13,7 +13,7 @@ use Rattle.value_store.specs.declared.place.ValuePlace.TheVariants.{Plain, One, 
 use Rattle.value_store.specs.declared.record.ValueRecord.{ValueRecord}
 use Rattle.value_store.specs.StoreChanges.{id_at, EachStandsOnce, MakesValue}
 use Rattle.value_store.specs.ValuePlaces.{value_here, properties_here, elements_here, value_of_record, stored_as, state_of, AddsRecord}
-use Rattle.value_store.proofs.Lookup.{apart-number, other-number}
+use Rattle.value_store.proofs.Lookup.{apart-number}
 
 abbrev number_held : Held ValueRecord → ℕ
 number_held h = h.number
@@ -223,3 +223,15 @@ pub elements-here : (n : ℕ) (p : ValuePlace) → let v : Value = value_here n 
 elements-here n (Plain b) = refl
 elements-here n (One name to b) = refl
 elements-here n (Full b parts) = refl
+
+-- a place is vacant where no record stands
+pub vacant-held : (s : HeldPlaces ValueRecord) (made : ℕ) → map (λ place. not (is_some place)) (state_of s made).places ≡ map (λ place. not (is_some place)) s.places
+vacant-held s made = each s.places
+  where
+    one : (o : Option (Held ValueRecord)) → not (is_some (option_map stored_as o)) ≡ not (is_some o)
+    one None = refl
+    one (Some h) = refl
+
+    each : (ps : List (Option (Held ValueRecord))) → map (λ place. not (is_some place)) (map (option_map stored_as) ps) ≡ map (λ place. not (is_some place)) ps
+    each [] = refl
+    each (o ∷ ps) = ap (λ b. b ∷ map (λ place. not (is_some place)) (map (option_map stored_as) ps)) (one o) ∙ ap (λ bs. not (is_some o) ∷ bs) (each ps)

@@ -1,5 +1,5 @@
 -- A change of a value, and the same change of it as it is named by creation numbers.
-use Rattle.std.proofs.Common.{◌≡◌, ◌∙◌, ℕ, zero, suc, ◌+◌, ◌-◌, ◌<◌, ◌==◌, Bool, true, false, not, cond, List, [], ◌∷◌, ◌++◌, map, filter, length, set, replicate, Option, Some, None, IsSome, option_map, slice_index_or, refl, ap, sym, subst, arith, append-nil}
+use Rattle.std.proofs.Common.{◌≡◌, ◌∙◌, ℕ, zero, suc, ◌+◌, ◌-◌, ◌<◌, ◌==◌, Bool, true, false, not, cond, List, [], ◌∷◌, ◌++◌, map, length, set, replicate, Option, Some, None, IsSome, option_map, slice_index_or, refl, ap, sym, subst, arith, append-nil}
 use Rattle.std.specs.List.{range_with_len}
 use Rattle.std.proofs.lemmas.List.{map-append, map-set, length-map}
 use Rattle.napi_types.specs.parts.Graph.{StoreState, number_in, renamed}

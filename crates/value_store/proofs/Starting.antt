@@ -17,7 +17,6 @@ use Rattle.value_store.specs.ValuePlaces.{state_of, AddsRecord, IsGood, Grows, I
 use Rattle.value_store.proofs.Graphs.{graph-read}
 use Rattle.value_store.proofs.Growing.{grows-none, put-one}
 use Rattle.value_store.proofs.PropertyNames.{distinct-none}
-use Rattle.value_store.proofs.RecordValues.{once-held}
 
 -- nothing is there
 none-there : (s : HeldPlaces ValueRecord) → s.places ≡ [] → (n : ℕ) → value_of (state_of s 0) n ≡ None

@@ -1,19 +1,18 @@
 -- What the calls of a store leave of its map from numbers to values.
-use Rattle.std.proofs.Common.{◌≡◌, ◌≢◌, ◌⊎◌, inl, inr, ◌∙◌, ℕ, ◌+◌, ◌<◌, ◌≤◌, ◌==◌, ◌||◌, Bool, true, false, cond, Option, Some, None, IsSome, IfSome, option_map, slice_index_or, List, refl, ap, sym, subst, arith}
+use Rattle.std.proofs.Common.{◌≡◌, ◌≢◌, ◌⊎◌, inl, inr, ◌∙◌, ℕ, ◌+◌, ◌<◌, ◌≤◌, ◌==◌, ◌||◌, Bool, true, false, Option, Some, None, IsSome, IfSome, option_map, slice_index_or, List, refl, ap, sym, subst, arith}
 use Rattle.std.specs.List.{All}
-use Rattle.std.specs.Option.{unwrap_or}
 use Rattle.std.proofs.lemmas.Bool.{eqb-true, eq-eqb, or_parts}
 use Rattle.std.proofs.lemmas.List.Elements.{All-weaker}
 use Rattle.napi_types.specs.declared.ids.ValueId.{ValueId}
 use Rattle.napi_types.specs.plain.Lists.{has_number}
-use Rattle.napi_types.specs.parts.Graph.{StoreState, IsLive, value_of, creation_number, number_in}
+use Rattle.napi_types.specs.parts.Graph.{StoreState, IsLive, value_of, creation_number}
 use Rattle.napi_types.specs.parts.Properties.{HasDistinctNames}
-use Rattle.napi_types.specs.parts.Values.{Value, children, value_at, starting_values}
+use Rattle.napi_types.specs.parts.Values.{Value, children}
 use Rattle.napi_types.proofs.plain.Maps.{among-holds}
 use Rattle.value_store.specs.StoreChanges.{EachStandsOnce, MakesValue, ChangesOnly, Frees, CanFree, IsStarting}
 use Rattle.value_store.specs.ValuePlaces.{IsGood, NameStarting}
 use Rattle.value_store.proofs.Callers.{makes-live, changes-live}
-use Rattle.value_store.proofs.Lookup.{apart-number, other-number}
+use Rattle.value_store.proofs.Lookup.{other-number}
 use Rattle.value_store.proofs.ReadingPlaces.{some-is}
 
 one-option : {A : Type 0} (v w : A) → Some v ≡ Some w → v ≡ w

@@ -12,6 +12,7 @@ use crate::place::ValuePlace;
 use crate::record::ValueRecord;
 use crate::{Children, ValueInfo, places};
 use generation_slab::GenerationSlab;
+use mark_bits::Bits;
 use napi_types::{Body, NoMemory, TextNo, ValueId};
 use std::alloc::Global;
 use std::marker::Model;
@@ -49,7 +50,8 @@ impl Store {
         Store::with_generations(alloc, u16::MAX)
     }
 
-    /// The same, where a place is used `last + 1` times: no number has a generation after `last`.
+    /// The same, where a place is used `last + 1` times: no number has a generation after `last`. Contracts see no generations, so
+    /// no clause tells `last`.
     pub fn with_generations(alloc: Global, last: u16) -> Result<Store, NoMemory>
         ensures { IfOk result IsNew }
     {
@@ -283,6 +285,15 @@ impl Store {
         ensures sound { IsSoundStore self.now }
     {
         self.values.places()
+    }
+
+    /// A mark for each place, set exactly where no live value stands. It takes time and memory in a 64th of the places.
+    pub fn vacant_places(&self, alloc: Global) -> Result<Bits, NoMemory>
+        ensures vacant { IfOk result (λ marks. marks ≡ map (λ place. not (is_some place)) self.now.places) }
+        ensures once { EachStandsOnce self.now }
+        ensures sound { IsSoundStore self.now }
+    {
+        self.values.vacant_places(alloc)
     }
 
     /// How many live values there are. Constant time.

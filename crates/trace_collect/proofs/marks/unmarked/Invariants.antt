@@ -1,6 +1,7 @@
 use Rattle.std.proofs.Common.{◌≡◌, ◌-◌, ◌<◌, ◌≤◌, false, length}
 use Rattle.value_store.specs.StoreChanges.{numbers_of}
-use Rattle.trace_collect.specs.MarkedValues.{is_marked, unmarked_ids}
+use Rattle.mark_bits.specs.Marks.{is_marked}
+use Rattle.trace_collect.specs.MarkedValues.{unmarked_ids}
 use Rattle.trace_collect.proofs.marks.unmarked.Given as goal
 
 abbrev pub invariant-loop-place : goal.invariant-loop-place

@@ -1,6 +1,6 @@
-use Rattle.std.proofs.Common.{◌≡◌, ◌+◌, ◌∙◌, ap, sym, subst, IsSome, Some, None, refl, length}
+use Rattle.std.proofs.Common.{◌+◌, ◌∙◌, ap, sym, subst, IsSome, refl, length}
 use Rattle.napi_types.specs.plain.Texts.{message_text, code_text}
-use Rattle.napi_types.specs.parts.NewValues.{error_of, thrown_of}
+use Rattle.napi_types.specs.parts.NewValues.{thrown_of}
 use Rattle.napi_types.specs.parts.Properties.{property_at}
 use Rattle.napi_types.specs.parts.Values.{with_property}
 use Rattle.value_store.specs.ValuePlaces.{state_of, GrowsTo}

@@ -1,4 +1,3 @@
-use Rattle.std.proofs.Common.{refl}
 use Rattle.value_store.proofs.Starting.{all-kept, all-graph}
 use Rattle.value_store.proofs.places.starting.Goals as goal
 

@@ -1,6 +1,4 @@
-use Rattle.std.proofs.Common.{refl}
 use Rattle.value_store.proofs.Outcomes.{err-then}
-use Rattle.value_store.proofs.ReadingPlaces.{object-live}
 use Rattle.value_store.proofs.StoreCalls.{live-held, element-kept, element-only, element-graph, same-state}
 use Rattle.value_store.proofs.store.Store.set_element.Goals as goal
 

@@ -1,4 +1,3 @@
-use Rattle.std.proofs.Common.{refl}
 use Rattle.value_store.proofs.Outcomes.{err-then}
 use Rattle.value_store.proofs.ReadingPlaces.{object-live}
 use Rattle.value_store.proofs.StoreCalls.{live-held, property-kept, property-only, property-graph, same-state}

@@ -1,6 +1,6 @@
 use Rattle.std.proofs.Common.{◌≡◌, ℕ, ◌-◌, ◌<◌, ◌≤◌, true, length}
-use Rattle.trace_collect.specs.MarkedValues.{is_marked}
-use Rattle.trace_collect.proofs.bits.Bits.next_unset.Given as goal
+use Rattle.mark_bits.specs.Marks.{is_marked}
+use Rattle.mark_bits.proofs.bits.Bits.next_unset.Given as goal
 
 abbrev pub invariant-loop-place : goal.invariant-loop-place
 invariant-loop-place l = record {

@@ -1,6 +1,6 @@
 use Rattle.std.proofs.Common.{◌≡◌, ◌/◌, ◌<◌, length, arith}
-use Rattle.trace_collect.proofs.BitMarks.{size-of, bit-written}
-use Rattle.trace_collect.proofs.bits.Bits.set.Goals as goal
+use Rattle.mark_bits.proofs.BitMarks.{size-of, bit-written}
+use Rattle.mark_bits.proofs.bits.Bits.set.Goals as goal
 
 pub index_mut-requires : goal.index_mut-requires
 index_mut-requires c = let size : length c.args.self.now ≡ c.self.inside.many = size-of c.self.inside.words.items c.self.inside.many c.args.self.now c.self.view_is in omega arith

@@ -1,6 +1,6 @@
 use Rattle.std.proofs.Common.{◌≡◌, ◌/◌, ◌<◌, length, arith}
-use Rattle.trace_collect.proofs.BitMarks.{size-of, word-marked}
-use Rattle.trace_collect.proofs.bits.Bits.set_from.Goals as goal
+use Rattle.mark_bits.proofs.BitMarks.{size-of, word-marked}
+use Rattle.mark_bits.proofs.bits.Bits.set_from.Goals as goal
 
 pub index-requires : goal.index-requires
 index-requires c = let size : length c.args.self.now ≡ c.self.inside.many = size-of c.self.inside.words.items c.self.inside.many c.args.self.now c.self.view_is in omega arith
