@@ -1,3 +1,4 @@
+pub mod Lengths
 pub mod ReadLists
 pub mod Reads
 pub mod Table

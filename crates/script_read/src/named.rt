@@ -1,114 +1,317 @@
-//! Operations by their names.
-ghost use Rattle.std.specs.Prelude.{◌≡◌, bytes_eq};
-ghost use Rattle.napi_types.specs.scripts.ScriptOperations.{named, operation_name, operations};
+//! Operations by their names: those with names of one length together.
+#![tactic(auto, unfolding(napi_types::specs::scripts::ScriptOperations::named))]
+
+ghost use Rattle.std.specs.Prelude.{◌≡◌, Some, None, bytes_eq, cond};
+ghost use Rattle.napi_types.specs.scripts.ScriptOperations.{named, operations};
+ghost use Rattle.script_read.specs.Lengths.{of_length, last_letter};
 
 use napi_types::{JobSpec, Mode, Op, Regs, Release, TextNo};
 
-/// Whether this is the operation's name.
-fn is_named(operation: &Op, name: &str) -> bool
-    ensures { result ≡ bytes_eq (operation_name operation.now) name.now }
+/// The last letter of a name.
+fn last_letter(name: &str) -> u8
+    ensures { result ≡ last_letter name.now }
 {
-    operation.name() == name
+    match name.as_bytes() {
+        [.., last] => *last,
+        [] => 0,
+    }
 }
 
-/// The operation of a name among some.
-#[tactic(auto, unfolding(napi_types::specs::scripts::ScriptOperations::named))]
-pub(crate) fn named(name: &str, operations: &[Op]) -> Option<Op>
-    ensures { result ≡ named name.now operations.now }
+/// Whether a name is a known one. Names of one length that differ mostly differ in their last letters.
+#[tactic(auto, using(crate::proofs::ByLength::other_last_letter))]
+fn is(name: &str, known: &str) -> bool
+    ensures { result ≡ bytes_eq known.now name.now }
 {
-    operations
-        .iter()
-        .copied()
-        .find(|operation| is_named(operation, name))
+    last_letter(name) == last_letter(known) && name == known
+}
+
+/// An operation where the name is the known one.
+pub(crate) fn if_named(name: &str, known: &str, operation: Op) -> Option<Op>
+    ensures { result ≡ cond (bytes_eq known.now name.now) (Some operation) None }
+{
+    if is(name, known) {
+        Some(operation)
+    } else {
+        None
+    }
+}
+
+/// The kind of a name of four letters.
+fn of_four(name: &str) -> Option<Op>
+    ensures { result ≡ named name.now (of_length 4) }
+{
+    match name {
+        _ if is(name, "exit") => Some(Op::Exit),
+        _ if is(name, "wrap") => Some(Op::Wrap(0, 0, None, 0, None)),
+        _ => None,
+    }
+}
+
+/// The kind of a name of six letters.
+fn of_six(name: &str) -> Option<Op>
+    ensures { result ≡ named name.now (of_length 6) }
+{
+    match name {
+        _ if is(name, "return") => Some(Op::Return(None)),
+        _ if is(name, "typeof") => Some(Op::Typeof(0, 0)),
+        _ if is(name, "unwrap") => Some(Op::Unwrap(0, 0)),
+        _ => None,
+    }
+}
+
+/// The kind of a name of eight letters.
+fn of_eight(name: &str) -> Option<Op>
+    ensures { result ≡ named name.now (of_length 8) }
+{
+    match name {
+        _ if is(name, "get_null") => Some(Op::GetNull(0)),
+        _ if is(name, "is_array") => Some(Op::IsArray(0, 0)),
+        _ if is(name, "is_error") => Some(Op::IsError(0, 0)),
+        _ => None,
+    }
+}
+
+/// The kind of a name of eleven letters.
+fn of_eleven(name: &str) -> Option<Op>
+    ensures { result ≡ named name.now (of_length 11) }
+{
+    match name {
+        _ if is(name, "get_version") => Some(Op::GetVersion(0)),
+        _ if is(name, "remove_wrap") => Some(Op::RemoveWrap(0, 0)),
+        _ if is(name, "get_boolean") => Some(Op::GetBoolean(false, 0)),
+        _ if is(name, "set_element") => Some(Op::SetElement(0, 0, 0)),
+        _ if is(name, "get_element") => Some(Op::GetElement(0, 0, 0)),
+        _ if is(name, "has_element") => Some(Op::HasElement(0, 0, 0)),
+        _ if is(name, "throw_error") => Some(Op::ThrowError(None, TextNo(0))),
+        _ => None,
+    }
+}
+
+/// The kind of a name of twelve letters.
+fn of_twelve(name: &str) -> Option<Op>
+    ensures { result ≡ named name.now (of_length 12) }
+{
+    match name {
+        _ if is(name, "create_array") => Some(Op::CreateArray(0)),
+        _ if is(name, "create_int64") => Some(Op::CreateInt64(0, 0)),
+        _ if is(name, "create_error") => Some(Op::CreateError(None, 0, 0)),
+        _ => None,
+    }
+}
+
+/// The kind of a name of thirteen letters.
+fn of_thirteen(name: &str) -> Option<Op>
+    ensures { result ≡ named name.now (of_length 13) }
+{
+    match name {
+        _ if is(name, "get_undefined") => Some(Op::GetUndefined(0)),
+        _ if is(name, "create_object") => Some(Op::CreateObject(0)),
+        _ if is(name, "reference_ref") => Some(Op::ReferenceRef(0, 0)),
+        _ if is(name, "create_symbol") => Some(Op::CreateSymbol(None, 0)),
+        _ if is(name, "strict_equals") => Some(Op::StrictEquals(0, 0, 0)),
+        _ if is(name, "escape_handle") => Some(Op::EscapeHandle(0, 0, 0)),
+        _ if is(name, "call_function") => Some(Op::CallFunction(
+            None,
+            0,
+            Regs {
+                count: 0,
+                regs: [0; 4],
+            },
+            0,
+        )),
+        _ if is(name, "add_finalizer") => Some(Op::AddFinalizer(0, 0, 0, 0, None)),
+        _ => None,
+    }
+}
+
+/// The kind of a name of fifteen letters.
+fn of_fifteen(name: &str) -> Option<Op>
+    ensures { result ≡ named name.now (of_length 15) }
+{
+    match name {
+        _ if is(name, "get_value_int64") => Some(Op::GetValueInt64(0, 0)),
+        _ if is(name, "reference_unref") => Some(Op::ReferenceUnref(0, 0)),
+        _ if is(name, "create_function") => Some(Op::CreateFunction(0, 0, 0)),
+        _ if is(name, "type_tag_object") => Some(Op::TypeTagObject(0, 0, 0)),
+        _ if is(name, "create_external") => Some(Op::CreateExternal(0, None, 0, 0)),
+        _ if is(name, "delete_property") => Some(Op::DeleteProperty(0, TextNo(0), 0)),
+        _ => None,
+    }
+}
+
+/// The kind of a name of sixteen letters.
+fn of_sixteen(name: &str) -> Option<Op>
+    ensures { result ≡ named name.now (of_length 16) }
+{
+    match name {
+        _ if is(name, "delete_reference") => Some(Op::DeleteReference(0)),
+        _ if is(name, "queue_async_work") => Some(Op::QueueAsyncWork(0)),
+        _ if is(name, "get_array_length") => Some(Op::GetArrayLength(0, 0)),
+        _ if is(name, "create_reference") => Some(Op::CreateReference(0, 0, 0)),
+        _ => None,
+    }
+}
+
+/// The kind of a name of seventeen letters.
+fn of_seventeen(name: &str) -> Option<Op>
+    ensures { result ≡ named name.now (of_length 17) }
+{
+    match name {
+        _ if is(name, "open_handle_scope") => Some(Op::OpenHandleScope(0)),
+        _ if is(name, "get_instance_data") => Some(Op::GetInstanceData(0)),
+        _ if is(name, "delete_async_work") => Some(Op::DeleteAsyncWork(0)),
+        _ if is(name, "cancel_async_work") => Some(Op::CancelAsyncWork(0)),
+        _ if is(name, "set_instance_data") => Some(Op::SetInstanceData(0, None, 0)),
+        _ if is(name, "create_async_work") => Some(Op::CreateAsyncWork(JobSpec::Sum(0), 0, 0, 0)),
+        _ => None,
+    }
+}
+
+/// The kind of a name of eighteen letters.
+fn of_eighteen(name: &str) -> Option<Op>
+    ensures { result ≡ named name.now (of_length 18) }
+{
+    match name {
+        _ if is(name, "close_handle_scope") => Some(Op::CloseHandleScope(0)),
+        _ if is(name, "get_value_external") => Some(Op::GetValueExternal(0, 0)),
+        _ if is(name, "get_property_names") => Some(Op::GetPropertyNames(0, 0)),
+        _ if is(name, "create_string_utf8") => Some(Op::CreateStringUtf8(TextNo(0), 0)),
+        _ if is(name, "set_named_property") => Some(Op::SetNamedProperty(0, TextNo(0), 0)),
+        _ if is(name, "get_named_property") => Some(Op::GetNamedProperty(0, TextNo(0), 0)),
+        _ if is(name, "has_named_property") => Some(Op::HasNamedProperty(0, TextNo(0), 0)),
+        _ => None,
+    }
+}
+
+/// The kind of a name of nineteen letters.
+fn of_nineteen(name: &str) -> Option<Op>
+    ensures { result ≡ named name.now (of_length 19) }
+{
+    match name {
+        _ if is(name, "get_last_error_info") => Some(Op::GetLastErrorInfo(0)),
+        _ if is(name, "get_reference_value") => Some(Op::GetReferenceValue(0, 0)),
+        _ if is(name, "create_bigint_int64") => Some(Op::CreateBigintInt64(0, 0)),
+        _ => None,
+    }
+}
+
+/// The kind of a name of twenty letters.
+fn of_twenty(name: &str) -> Option<Op>
+    ensures { result ≡ named name.now (of_length 20) }
+{
+    match name {
+        _ if is(name, "is_exception_pending") => Some(Op::IsExceptionPending(0)),
+        _ if is(name, "add_env_cleanup_hook") => Some(Op::AddEnvCleanupHook(0, 0)),
+        _ => None,
+    }
+}
+
+/// The kind of a name of twenty-one letters.
+fn of_twenty_one(name: &str) -> Option<Op>
+    ensures { result ≡ named name.now (of_length 21) }
+{
+    match name {
+        _ if is(name, "get_value_string_utf8") => Some(Op::GetValueStringUtf8(0, 0)),
+        _ if is(name, "check_object_type_tag") => Some(Op::CheckObjectTypeTag(0, 0, 0, 0)),
+        _ => None,
+    }
+}
+
+/// The kind of a name of twenty-three letters.
+fn of_twenty_three(name: &str) -> Option<Op>
+    ensures { result ≡ named name.now (of_length 23) }
+{
+    match name {
+        _ if is(name, "ref_threadsafe_function") => Some(Op::RefThreadsafeFunction(0)),
+        _ if is(name, "remove_env_cleanup_hook") => Some(Op::RemoveEnvCleanupHook(0, 0)),
+        _ => None,
+    }
+}
+
+/// The kind of a name of twenty-seven letters.
+fn of_twenty_seven(name: &str) -> Option<Op>
+    ensures { result ≡ named name.now (of_length 27) }
+{
+    match name {
+        _ if is(name, "open_escapable_handle_scope") => Some(Op::OpenEscapableHandleScope(0)),
+        _ if is(name, "acquire_threadsafe_function") => Some(Op::AcquireThreadsafeFunction(0)),
+        _ if is(name, "release_threadsafe_function") => Some(Op::ReleaseThreadsafeFunction(
+            0,
+            Release::Release,
+        )),
+        _ => None,
+    }
+}
+
+/// The kind of a name of twenty-eight letters.
+fn of_twenty_eight(name: &str) -> Option<Op>
+    ensures { result ≡ named name.now (of_length 28) }
+{
+    match name {
+        _ if is(name, "get_and_clear_last_exception") => Some(Op::GetAndClearLastException(0)),
+        _ if is(name, "close_escapable_handle_scope") => Some(Op::CloseEscapableHandleScope(0)),
+        _ => None,
+    }
+}
+
+/// The kind that has a name of this length.
+fn of_length(name: &str, length: usize) -> Option<Op>
+    ensures { result ≡ named name.now (of_length length) }
+{
+    match length {
+        4 => of_four(name),
+        5 => if_named(name, "throw", Op::Throw(0)),
+        6 => of_six(name),
+        7 => if_named(name, "collect", Op::Collect(0)),
+        8 => of_eight(name),
+        10 => if_named(name, "get_global", Op::GetGlobal(0)),
+        11 => of_eleven(name),
+        12 => of_twelve(name),
+        13 => of_thirteen(name),
+        14 => if_named(name, "get_value_bool", Op::GetValueBool(0, 0)),
+        15 => of_fifteen(name),
+        16 => of_sixteen(name),
+        17 => of_seventeen(name),
+        18 => of_eighteen(name),
+        19 => of_nineteen(name),
+        20 => of_twenty(name),
+        21 => of_twenty_one(name),
+        22 => if_named(
+            name,
+            "get_value_bigint_int64",
+            Op::GetValueBigintInt64(0, 0),
+        ),
+        23 => of_twenty_three(name),
+        24 => if_named(
+            name,
+            "call_threadsafe_function",
+            Op::CallThreadsafeFunction(0, 0, Mode::Nonblocking),
+        ),
+        25 => if_named(
+            name,
+            "unref_threadsafe_function",
+            Op::UnrefThreadsafeFunction(0),
+        ),
+        26 => if_named(
+            name,
+            "create_threadsafe_function",
+            Op::CreateThreadsafeFunction(None, None, 0, 0, None, 0, 0),
+        ),
+        27 => of_twenty_seven(name),
+        28 => of_twenty_eight(name),
+        31 => if_named(
+            name,
+            "get_threadsafe_function_context",
+            Op::GetThreadsafeFunctionContext(0, 0),
+        ),
+        _ => None,
+    }
 }
 
 /// The kind of operation that has a name, as an operation of that kind with any arguments.
+#[tactic(auto, using(crate::proofs::ByLength::by_length))]
 pub(crate) fn kind_named(name: &str) -> Option<Op>
     ensures { result ≡ named name.now operations }
 {
-    named(
-        name,
-        &[
-            Op::Exit,
-            Op::GetUndefined(0),
-            Op::GetNull(0),
-            Op::GetGlobal(0),
-            Op::CreateObject(0),
-            Op::CreateArray(0),
-            Op::OpenHandleScope(0),
-            Op::OpenEscapableHandleScope(0),
-            Op::IsExceptionPending(0),
-            Op::GetAndClearLastException(0),
-            Op::GetLastErrorInfo(0),
-            Op::GetInstanceData(0),
-            Op::GetVersion(0),
-            Op::Collect(0),
-            Op::CloseHandleScope(0),
-            Op::CloseEscapableHandleScope(0),
-            Op::DeleteReference(0),
-            Op::Throw(0),
-            Op::DeleteAsyncWork(0),
-            Op::CancelAsyncWork(0),
-            Op::QueueAsyncWork(0),
-            Op::AcquireThreadsafeFunction(0),
-            Op::RefThreadsafeFunction(0),
-            Op::UnrefThreadsafeFunction(0),
-            Op::Return(None),
-            Op::Typeof(0, 0),
-            Op::IsArray(0, 0),
-            Op::IsError(0, 0),
-            Op::GetValueInt64(0, 0),
-            Op::GetValueBigintInt64(0, 0),
-            Op::GetValueBool(0, 0),
-            Op::GetValueStringUtf8(0, 0),
-            Op::GetValueExternal(0, 0),
-            Op::GetArrayLength(0, 0),
-            Op::GetPropertyNames(0, 0),
-            Op::ReferenceRef(0, 0),
-            Op::ReferenceUnref(0, 0),
-            Op::GetReferenceValue(0, 0),
-            Op::Unwrap(0, 0),
-            Op::RemoveWrap(0, 0),
-            Op::GetThreadsafeFunctionContext(0, 0),
-            Op::GetBoolean(false, 0),
-            Op::CreateInt64(0, 0),
-            Op::CreateBigintInt64(0, 0),
-            Op::CreateSymbol(None, 0),
-            Op::AddEnvCleanupHook(0, 0),
-            Op::RemoveEnvCleanupHook(0, 0),
-            Op::ReleaseThreadsafeFunction(0, Release::Release),
-            Op::StrictEquals(0, 0, 0),
-            Op::EscapeHandle(0, 0, 0),
-            Op::CreateFunction(0, 0, 0),
-            Op::CreateError(None, 0, 0),
-            Op::SetElement(0, 0, 0),
-            Op::GetElement(0, 0, 0),
-            Op::HasElement(0, 0, 0),
-            Op::CreateReference(0, 0, 0),
-            Op::TypeTagObject(0, 0, 0),
-            Op::SetInstanceData(0, None, 0),
-            Op::CallThreadsafeFunction(0, 0, Mode::Nonblocking),
-            Op::CreateExternal(0, None, 0, 0),
-            Op::CheckObjectTypeTag(0, 0, 0, 0),
-            Op::CallFunction(
-                None,
-                0,
-                Regs {
-                    count: 0,
-                    regs: [0; 4],
-                },
-                0,
-            ),
-            Op::CreateAsyncWork(JobSpec::Sum(0), 0, 0, 0),
-            Op::Wrap(0, 0, None, 0, None),
-            Op::AddFinalizer(0, 0, 0, 0, None),
-            Op::CreateThreadsafeFunction(None, None, 0, 0, None, 0, 0),
-            Op::CreateStringUtf8(TextNo(0), 0),
-            Op::SetNamedProperty(0, TextNo(0), 0),
-            Op::GetNamedProperty(0, TextNo(0), 0),
-            Op::HasNamedProperty(0, TextNo(0), 0),
-            Op::DeleteProperty(0, TextNo(0), 0),
-            Op::ThrowError(None, TextNo(0)),
-        ],
-    )
+    of_length(name, name.len())
 }

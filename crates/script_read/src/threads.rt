@@ -8,7 +8,7 @@ ghost use Rattle.script_read.specs.Reads.{Reads};
 
 use crate::arguments::{mode, release, whole};
 use crate::json::{ReadingStop, list_at};
-use crate::named::named;
+use crate::named::if_named;
 use napi_types::{LimitName, Listed, Op, OpList, OpLists, Place, Wrong};
 use serde_json::Value;
 use std::alloc::Global;
@@ -17,33 +17,33 @@ use std::alloc::Global;
 const MOST_OPERATIONS: usize = 16_384;
 
 /// A thread's acquiring of a function, by the function's own number.
-#[tactic(auto, unfolding(napi_types::specs::scripts::ScriptOperations::thread_acquire))]
+#[tactic(auto, unfolding(napi_types::specs::scripts::ScriptOperations::thread_acquire, napi_types::specs::scripts::ScriptOperations::named))]
 fn thread_acquire(name: &str, a: &Value) -> Option<Op>
     ensures { result ≡ thread_acquire name.now (view a.now) }
 {
     let x = whole(a)?;
-    named(name, &[Op::ThreadAcquire(x)])
+    if_named(name, "acquire_threadsafe_function", Op::ThreadAcquire(x))
 }
 
 /// A thread's release of a function.
-#[tactic(auto, unfolding(napi_types::specs::scripts::ScriptOperations::thread_release))]
+#[tactic(auto, unfolding(napi_types::specs::scripts::ScriptOperations::thread_release, napi_types::specs::scripts::ScriptOperations::named))]
 fn thread_release(name: &str, a: &Value, b: &Value) -> Option<Op>
     ensures { result ≡ thread_release name.now (view a.now) (view b.now) }
 {
     let x = whole(a)?;
     let y = release(b)?;
-    named(name, &[Op::ThreadRelease(x, y)])
+    if_named(name, "release_threadsafe_function", Op::ThreadRelease(x, y))
 }
 
 /// A thread's call of a function.
-#[tactic(auto, unfolding(napi_types::specs::scripts::ScriptOperations::thread_call))]
+#[tactic(auto, unfolding(napi_types::specs::scripts::ScriptOperations::thread_call, napi_types::specs::scripts::ScriptOperations::named))]
 fn thread_call(name: &str, a: &Value, b: &Value, c: &Value) -> Option<Op>
     ensures { result ≡ thread_call name.now (view a.now) (view b.now) (view c.now) }
 {
     let x = whole(a)?;
     let y = whole(b)?;
     let z = mode(c)?;
-    named(name, &[Op::ThreadCall(x, y, z)])
+    if_named(name, "call_threadsafe_function", Op::ThreadCall(x, y, z))
 }
 
 /// The operation of a thread of this name with these arguments.
