@@ -56,6 +56,12 @@ pub trait Gate: Sync {
     /// Called by the actor with this pass number. Point 1 is between a worker's start of a job and its execution,
     /// point 2 before each operation of a script's thread.
     fn at<R: Wait>(&self, rt: &R, actor: u32, point: u32);
+
+    /// Whether it holds nobody at point 2. Then no thread need come there, and a thread may make several operations while it holds the turn of
+    /// the hub's lock.
+    fn is_open(&self) -> bool {
+        false
+    }
 }
 
 /// A gate that holds nobody.
@@ -64,6 +70,10 @@ pub struct OpenGate;
 
 impl Gate for OpenGate {
     fn at<R: Wait>(&self, _rt: &R, _actor: u32, _point: u32) {}
+
+    fn is_open(&self) -> bool {
+        true
+    }
 }
 
 /// Which calls are to fail, how many were made, and how many failed. Both counts stop at their greatest number.

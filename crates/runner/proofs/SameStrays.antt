@@ -5,9 +5,6 @@ use Rattle.std.proofs.lemmas.List.Elements.{All-head, All-tail, All-weaker}
 use Rattle.turn_lock.specs.Passes.{PassState, TurnState}
 use Rattle.shared_hub.specs.declared.naming.Numbers.{Numbers}
 use Rattle.hub_lock.specs.SeenTurns.{SamePass}
-use Rattle.env_loop.specs.ActorTurns.{IsSameActor}
-use Rattle.env_loop.specs.declared.actor.ActorRun.{ActorRun}
-use Rattle.env_loop.specs.declared.actor.ActorRun.TheVariants as run
 use Rattle.env_loop.proofs.SameActors.{same-actor-none, same-actor-then}
 use Rattle.runner.specs.declared.strays.Stray.{Stray}
 use Rattle.runner.specs.ActorsAtTheLock.{IsStray, IsFreshStray, IsSameStray, HasEndedStray}

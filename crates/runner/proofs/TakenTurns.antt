@@ -1,5 +1,5 @@
 -- What stands beside a pass as turns of the lock are taken and given back.
-use Rattle.std.proofs.Common.{◌≡◌, ◌∙◌, ℕ, inl, inr, true, List, [], ◌∷◌, ◌++◌, refl, ap, sym, subst, append_assoc}
+use Rattle.std.proofs.Common.{◌≡◌, ◌∙◌, ℕ, true, List, [], ◌∷◌, ◌++◌, refl, ap, sym, subst, append_assoc}
 use Rattle.std.specs.List.{All}
 use Rattle.std.proofs.lemmas.List.{append-nil}
 use Rattle.std.proofs.lemmas.List.Elements.{All-nil, All-cons, All-head, All-tail}
@@ -17,7 +17,7 @@ use Rattle.shared_hub.specs.HubStates.{HubSeen, hub_seen}
 use Rattle.shared_hub.specs.KeptHubs.{IsLedHub}
 use Rattle.shared_hub.proofs.RowsOfHistories.{rows-go-on, histories-go-on}
 use Rattle.hub_lock.specs.SeenTurns.{SamePass}
-use Rattle.hub_lock.proofs.LookingTurns.{back, shown, goes-on-none, goes-on-one}
+use Rattle.hub_lock.proofs.LookingTurns.{back, shown}
 use Rattle.env_loop.specs.ActorTurns.{IsActorOf}
 use Rattle.env_loop.specs.RecordedRuns.{Run, FitsHub}
 use Rattle.env_loop.specs.Recording.{AddonStates}
@@ -27,7 +27,7 @@ use Rattle.env_loop.proofs.FreshAndEnded.{fresh-actors-stand}
 use Rattle.env_loop.proofs.RunsOverRows.{actor-runs-stand-over, runs-followed-over, fitting-runs-stand-over}
 use Rattle.runner.specs.AtPasses.{StandsBeside, IsAtPass, IsFreshAtPass}
 use Rattle.runner.specs.Environments.{HasGoneOn}
-use Rattle.runner.specs.ActorsAtTheLock.{GrewBy, GrewByEntries}
+use Rattle.runner.specs.ActorsAtTheLock.{GrewByEntries}
 
 prefix-twice : {A : Type 0} (xs ys zs : List A) → IsPrefix xs ys → IsPrefix ys zs → IsPrefix xs zs
 prefix-twice xs ys zs p q = (p.0 ++ q.0, sym (append_assoc xs p.0 q.0) ∙ (ap (λ l. l ++ q.0) p.1 ∙ q.1))
@@ -70,12 +70,7 @@ module _ (n : Numbers) (p : PassState) (history : List Entry) (before : IsPrefix
       }
 
 -- GIVING IT BACK
--- what was added under the turn is the actor's
-pub grew-goes-on : (number threads : ℕ) (who : Actor) (s0 s1 : HubSeen) → pass_of threads who ≡ number → GrewBy who s0 s1 → GoesOn number (rows_of threads s0.history) (rows_of threads s1.history)
-grew-goes-on number threads who s0 s1 is (inl a) = goes-on-one number threads s0 s1 a.entry (ap (pass_of threads) a.by ∙ is) a.adds.history
-grew-goes-on number threads who s0 s1 is (inr same) = goes-on-none number threads s0 s1 same
-
--- so are all entries of a burst
+-- the entries of a burst are the actor's
 entry-rows : (number threads : ℕ) (who : Actor) → pass_of threads who ≡ number → (xs : List Entry) → All (λ (x : Entry). x.actor ≡ who) xs
     → All (λ (r : Row). r.pass ≡ number) (rows_of threads xs)
 entry-rows number threads who is [] own = All-nil (λ (r : Row). r.pass ≡ number)

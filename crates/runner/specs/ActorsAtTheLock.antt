@@ -1,11 +1,12 @@
 -- What one turn of an actor comes to under the lock.
-use Rattle.std.specs.Prelude.{◌≡◌, ◌⊎◌, ℕ, true, false}
+use Rattle.std.specs.Prelude.{◌≡◌, ℕ, true, false}
 use Rattle.napi_types.specs.declared.entry.Actor.{Actor}
 use Rattle.shared_hub.specs.declared.naming.Numbers.{Numbers}
 use Rattle.shared_hub.specs.HubStates.{HubSeen}
+use Rattle.shared_hub.specs.KeptHubs.{IsLedHub}
 use Rattle.env_loop.specs.ActorRuns.{AddsEntryOf}
 use Rattle.env_loop.specs.Bursts.{AddsEntriesOf}
-use Rattle.env_loop.specs.ActorTurns.{actor_of, is_over, IsSameActor, IsBlocked}
+use Rattle.env_loop.specs.ActorTurns.{actor_of, is_over, IsActorOf, IsSameActor, IsBlocked, HoldsNoWork}
 use Rattle.env_loop.specs.declared.actor.ActorRun.{ActorRun}
 use Rattle.env_loop.specs.declared.actor.ActorTurn.{ActorTurn}
 use Rattle.env_loop.specs.declared.actor.ActorTurn.TheVariants as turn
@@ -13,10 +14,6 @@ use Rattle.runner.specs.declared.strays.Stray.{Stray}
 use Rattle.runner.specs.AtPasses.{IsAtPass, IsFreshAtPass}
 use Rattle.turn_lock.specs.Passes.{TurnState}
 use Rattle.hub_lock.specs.SeenTurns.{SamePass}
-
--- one entry came, which this actor made, or nothing changed
-abbrev pub GrewBy : Actor → HubSeen → HubSeen → Type 0
-GrewBy who old new = AddsEntryOf who old new ⊎ (new ≡ old)
 
 -- so many entries came, and this actor made them
 abbrev pub GrewByEntries : Actor → HubSeen → HubSeen → Type 0
@@ -28,6 +25,15 @@ module _ {J : Type 0} where
   AfterTurn old before turn.Made new after = AddsEntryOf (actor_of old) before after
   AfterTurn old before turn.Blocked new after = (after ≡ before) × (new ≡ old) × IsBlocked before.hub old
   AfterTurn old before turn.Ended new after = (after ≡ before) × (new ≡ old) × (is_over old ≡ true)
+
+  -- so many turns came one after another: the entries are this actor's, it stands as it did, and where it says that the actor has ended it has, and holds no work
+  pub record AfterBurst (n : Numbers) (old : ActorRun J) (before : HubSeen) (t : ActorTurn) (new : ActorRun J) (after : HubSeen) : Type 0 where
+    pub grew : GrewByEntries (actor_of old) before after
+    pub stands : IsActorOf n after new
+    pub same : IsSameActor old new
+    pub known : IsLedHub n after
+    pub over : t ≡ turn.Ended → is_over new ≡ true
+    pub idle : t ≡ turn.Ended → HoldsNoWork new
 
   -- an actor that has no thread of its own, beside its pass of this lock
   pub record IsStray (n : Numbers) (h : TurnState) (s : Stray J) : Type 0 where

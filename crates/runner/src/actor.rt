@@ -4,7 +4,7 @@ ghost use Rattle.shared_hub.specs.KeptHubs.{IsLedHub};
 ghost use Rattle.hub_lock.specs.SeenTurns.{SamePass};
 ghost use Rattle.env_loop.specs.ActorTurns.{is_over, IsActorOf, IsReady, HoldsNoWork, IsSameActor, with_work_executed};
 ghost use Rattle.runner.specs.AtPasses.{IsAtPass, IsFreshAtPass, HasEndedAt};
-ghost use Rattle.runner.specs.ActorsAtTheLock.{AfterTurn};
+ghost use Rattle.runner.specs.ActorsAtTheLock.{AfterTurn, AfterBurst};
 
 use async_work::Job;
 use env_loop::{ActorRun, ActorTurn, NextStep};
@@ -20,9 +20,13 @@ const BEFORE_A_JOB: u32 = 1;
 /// The point of a gate before each operation of a thread.
 const BEFORE_AN_OPERATION: u32 = 2;
 
+/// How many entries a thread makes at most while it holds the turn, where the gate is open.
+const MOST_ENTRIES: u32 = 64;
+
 /// Runs a thread of a script, or a worker, to its end. It sleeps where it waits, and executes its jobs while it does not hold the turn.
 ///
-/// It comes to the gate once before each operation of a thread, and between a worker's start of a job and its execution.
+/// It comes to the gate once before each operation of a thread, and between a worker's start of a job and its execution. Where the gate is open
+/// a thread makes up to 64 entries in one turn of the lock, until it waits, and comes to the gate once before them.
 pub fn run_actor<J: Job, N: Naming, R: Wait, G: Gate>(
     rt: &R,
     hub: &Hub<J, N>,
@@ -38,13 +42,14 @@ pub fn run_actor<J: Job, N: Naming, R: Wait, G: Gate>(
 {
     let mut actor = actor;
     let number = pass.number();
+    let most = if gate.is_open() { MOST_ENTRIES } else { 1 };
     let mut waited = false;
     for _ in rt.forever() {
         if !waited {
             come_to_the_gate(rt, &actor, number, gate);
         }
         actor.between();
-        match turn_at_the_lock(rt, hub, pass, &mut actor, Some(number)) {
+        match turn_at_the_lock(rt, hub, pass, &mut actor, Some(number), most) {
             ActorTurn::Made => waited = false,
             ActorTurn::Blocked => {
                 hub.sleep(rt, number);
@@ -65,13 +70,14 @@ fn come_to_the_gate<J: Job, R: Wait, G: Gate>(rt: &R, actor: &ActorRun<J>, numbe
     }
 }
 
-/// One turn of the lock. A sleeper notes, where it waits, that it will sleep.
+/// One turn of the lock, in which a thread makes so many entries at most. A sleeper notes, where it waits, that it will sleep.
 pub(crate) fn turn_at_the_lock<J: Job, N: Naming, R: Wait>(
     rt: &R,
     hub: &Hub<J, N>,
     pass: &mut Pass,
     actor: &mut ActorRun<J>,
     sleeper: Option<u32>,
+    most: u32,
 ) -> ActorTurn
     requires lock { pass.old.lock ≡ hub.now.lock }
     requires free { pass.old.holds ≡ false }
@@ -85,12 +91,43 @@ pub(crate) fn turn_at_the_lock<J: Job, N: Naming, R: Wait>(
 {
     let mut held = hub.take(rt, pass);
     held.value.knows();
-    let turn = turn_under_the_lock(&mut held.value, actor, sleeper);
+    let turn = burst_under_the_lock(&mut held.value, actor, sleeper, most);
     hub.give(pass, held);
     turn
 }
 
-/// What it does while it holds the turn.
+/// What it does while it holds the turn: a thread makes its next entries, so many at most, until it waits, and a worker makes one.
+fn burst_under_the_lock<J: Job, N: Naming>(
+    locked: &mut Locked<HubState<J, N>>,
+    actor: &mut ActorRun<J>,
+    sleeper: Option<u32>,
+    most: u32,
+) -> ActorTurn
+    requires stands { IsActorOf N.numbers locked.old.state.value actor.old }
+    requires ready { IsReady actor.old }
+    ensures { AfterBurst N.numbers actor.old locked.old.state.value result actor.new locked.new.state.value }
+{
+    let mut turn = turn_under_the_lock(locked, actor, sleeper);
+    for _ in 1..most {
+        if turn != ActorTurn::Made || !is_at_an_operation(actor) {
+            return turn;
+        }
+        turn = turn_under_the_lock(locked, actor, sleeper);
+    }
+    turn
+}
+
+/// Whether it is a thread that has not ended: its next entry is a call of its script, or its end.
+fn is_at_an_operation<J: Job>(actor: &ActorRun<J>) -> bool
+    ensures { result ≡ true → IsReady actor.now }
+{
+    matches!(
+        actor.next_step(),
+        NextStep::Calls(_) | NextStep::Operation | NextStep::Ends
+    )
+}
+
+/// One turn of it while it holds the turn.
 fn turn_under_the_lock<J: Job, N: Naming>(
     locked: &mut Locked<HubState<J, N>>,
     actor: &mut ActorRun<J>,

@@ -29,7 +29,7 @@ fn turn_stray<J: Job, N: Naming, R: Wait>(
     ensures ended { result ≡ ActorTurn.Ended → HasEndedStray N.numbers stray.old stray.new }
 {
     stray.actor.between();
-    turn_at_the_lock(rt, hub, &mut stray.pass, &mut stray.actor, None)
+    turn_at_the_lock(rt, hub, &mut stray.pass, &mut stray.actor, None, 1)
 }
 
 /// One turn of each, in order. It tells whether one of them made an entry.
