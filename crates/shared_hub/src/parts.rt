@@ -13,7 +13,6 @@ ghost use Rattle.shared_hub.specs.HubTries.{polled_move, IfBegun, unspent_job};
 mod functions;
 mod works;
 
-use crate::sleepers::is_mark;
 use crate::tries::Polled;
 use async_work::{Job, Picked, Pool, Ran};
 use napi_types::{Actor, Call, Given, NoMemory, Reply, TsfnId};
@@ -166,10 +165,10 @@ impl<J: Job> SharedParts<J> {
             && self.functions.are_done()
     }
 
-    /// Whether one that waits for room in the queue of a function is to be rung. Constant time.
-    pub(crate) fn is_at_mark(&self, id: TsfnId) -> bool {
+    /// Whether no item waits in the queue of a function. Constant time.
+    pub(crate) fn is_emptied(&self, id: TsfnId) -> bool {
         match self.functions.queue(id) {
-            Some((left, most)) => is_mark(left, most as usize),
+            Some((left, _)) => left == 0,
             None => false,
         }
     }

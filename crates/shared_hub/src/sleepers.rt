@@ -73,6 +73,8 @@ pub(crate) struct Sleepers {
     to_ring: u64,
     // How often one fell asleep.
     sleeps: u64,
+    // Whether one was rung for room, and no thread or worker has made an entry since.
+    rung_for_room: bool,
 }
 
 impl Sleepers {
@@ -83,6 +85,7 @@ impl Sleepers {
             asleep: 0,
             to_ring: 0,
             sleeps: 0,
+            rung_for_room: false,
         }
     }
 
@@ -126,15 +129,31 @@ impl Sleepers {
         }
     }
 
-    /// One is to be rung for each function for whose room one sleeps.
+    /// A thread or a worker makes an entry: the environment is to be rung.
+    pub(crate) fn note_entry(&mut self) {
+        self.rung_for_room = false;
+        self.ring_first(WaitsFor::Entry);
+    }
+
+    /// The queue of a function came to be empty: the first that fell asleep of those that wait for room there is to be rung.
+    pub(crate) fn ring_for_room(&mut self, id: TsfnId) {
+        if let Some(number) = self.first(WaitsFor::Room(id)) {
+            self.ring(number);
+            self.rung_for_room = true;
+        }
+    }
+
+    /// The environment has nothing to do: one is to be rung for each function for whose room one sleeps. Where one was rung that has still to come
+    /// nobody is: it makes an entry, and after that the environment looks again.
     pub(crate) fn ring_first_of_each(&mut self) {
-        if self.asleep == 0 {
+        if self.asleep == 0 || self.rung_for_room {
             return;
         }
         let before = *self;
         for number in 0..64 {
             if before.is_first_for_room(number) {
                 self.ring(number);
+                self.rung_for_room = true;
             }
         }
     }
@@ -202,12 +221,6 @@ impl Sleepers {
         self.asleep &= !bit(number);
         self.to_ring |= bit(number);
     }
-}
-
-/// Whether one that waits for room is to be rung once so many items are left of so many that may wait: where none is left, and at a half, a
-/// quarter and an eighth of eight or more.
-pub(crate) fn is_mark(left: usize, most: usize) -> bool {
-    left == 0 || most >= 8 && (left == most / 2 || left == most / 4 || left == most / 8)
 }
 
 /// The bit of a place.

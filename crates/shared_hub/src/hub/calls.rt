@@ -18,7 +18,6 @@ use super::HubState;
 use crate::naming::Naming;
 use crate::parts::SharedParts;
 use crate::room::{make_room, places_needed};
-use crate::sleepers::WaitsFor;
 use crate::tries::ThreadTried;
 use async_work::Job;
 use napi_types::{Actor, Call, Entry, Given, NoMemory, Out, Reply, SharedCall, Status, What};
@@ -100,7 +99,7 @@ impl<J: Job, N: Naming> HubState<J, N> {
             .answer(Actor::Thread(thread), &NOTHING_GIVEN, call)
         {
             Ok(Some(reply)) => {
-                self.sleepers.ring_first(WaitsFor::Entry);
+                self.sleepers.note_entry();
                 self.sleepers.after_call(call, reply.status);
                 self.entries
                     .push_reserved(thread_entry(thread, step, call, reply));

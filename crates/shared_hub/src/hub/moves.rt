@@ -74,11 +74,11 @@ impl<J: Job, N: Naming> HubState<J, N> {
     }
 }
 
-/// An item that was taken out leaves room, for which one may be rung.
+/// Where the item that was taken out was the last one in its queue, one that waits for room is rung.
 fn note_begin<J: Job>(sleepers: &mut Sleepers, parts: &SharedParts<J>, due: &Due) {
     if let Duty::Item(id, _) = due.info().duty {
-        if parts.is_at_mark(id) {
-            sleepers.ring_first(WaitsFor::Room(id));
+        if parts.is_emptied(id) {
+            sleepers.ring_for_room(id);
         }
     }
 }

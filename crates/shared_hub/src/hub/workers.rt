@@ -16,7 +16,6 @@ ghost use Rattle.shared_hub.specs.SharedTries.{MayEnd, actor_end_told as end_tol
 
 use super::HubState;
 use crate::naming::Naming;
-use crate::sleepers::WaitsFor;
 use async_work::{Job, Picked, Ran};
 use napi_types::{Actor, Duty, Entry, HostStep, Out, Reply, Status, What, Why};
 
@@ -36,7 +35,7 @@ impl<J: Job, N: Naming> HubState<J, N> {
     {
         match self.parts.start(worker) {
             Picked::Job(running) => {
-                self.sleepers.ring_first(WaitsFor::Entry);
+                self.sleepers.note_entry();
                 let started = Duty::Work(running.number());
                 self.entries.push_reserved(actor_entry(
                     Actor::Worker(worker),
@@ -59,7 +58,7 @@ impl<J: Job, N: Naming> HubState<J, N> {
         ensures next { AddsEntry self.old (entry_told (actor.Worker worker) host.Finish (out.Unsigned ran.value)) self.new }
         ensures keeps { KeepsStanding self.old.hub self.new.hub }
     {
-        self.sleepers.ring_first(WaitsFor::Entry);
+        self.sleepers.note_entry();
         let value = ran.value();
         self.parts.finish(worker, ran);
         self.entries.push_reserved(actor_entry(
@@ -77,7 +76,7 @@ impl<J: Job, N: Naming> HubState<J, N> {
         ensures next { AddsEntry self.old (entry_told actor host.ActorEnd (end_told_by cut)) self.new }
         ensures keeps { KeepsStanding self.old.hub self.new.hub }
     {
-        self.sleepers.ring_first(WaitsFor::Entry);
+        self.sleepers.note_entry();
         self.progress.end(actor);
         self.entries
             .push_reserved(actor_entry(actor, HostStep::ActorEnd, end_told(cut)));

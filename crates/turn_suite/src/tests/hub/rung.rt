@@ -71,7 +71,6 @@ fn who_sleeps_is_rung(rt: HostRuntime) {
     const OPEN: &[Does] = &[Does::Makes(0, 0)];
     const EIGHT: &[Does] = &[Does::Makes(8, 8), Does::Goes];
     const NOTED: &[Does] = &[Does::Makes(8, 8), Does::Goes, ONE, TWO];
-    const LOW: &[Does] = &[Does::Makes(8, 2), Does::Goes, ONE, TWO];
     const RELEASES: &[Does] = &[
         Does::Releases,
         Does::Releases,
@@ -82,9 +81,8 @@ fn who_sleeps_is_rung(rt: HostRuntime) {
     let scenes: &[Scene] = &[
         (OPEN, BEGINS, GO, [(1, 0), (1, 0)]),
         (FULL, CALLS, MOVES, [(1, 0), (2, 0)]),
-        (EIGHT, CALLS, &[Does::Moves; 5], [(4, 0), (5, 0)]),
-        (NOTED, LEAVES, &[Does::Moves; 6], [(4, 0), (6, 0)]),
-        (LOW, LEAVES, MOVES, [(1, 0), (2, 0)]),
+        (EIGHT, CALLS, &[Does::Moves; 9], [(8, 0), (9, 0)]),
+        (NOTED, LEAVES, &[Does::Moves; 9], [(8, 0), (9, 0)]),
         (FULL, CALLS, RELEASES, [(4, 1), (5, 1)]),
         (FULL, CALLS, &[Does::Aborts], [(1, 16), (1, 16)]),
         (GO, WORKS, &[Does::Works; 2], [(1, 0), (2, 0)]),
