@@ -16,7 +16,7 @@ use Rattle.napi_types.specs.declared.entry.SharedCall.{SharedCall}
 use Rattle.napi_types.specs.declared.entry.Why.{Why}
 use Rattle.napi_types.specs.declared.ids.HandleId.{HandleId}
 use Rattle.napi_types.specs.declared.status.Status.{Status}
-use Rattle.napi_types.specs.plain.CallKinds.{is_calling}
+use Rattle.napi_types.specs.plain.CallKinds.{is_calling, is_value_call}
 use Rattle.napi_types.specs.plain.Lists.{tail}
 use Rattle.napi_types.specs.plain.Phases.{next_phase}
 use Rattle.napi_types.specs.plain.Room.{one_if, need, is_full}
@@ -233,6 +233,19 @@ core-phase old new pages after p n c next stays is e =
     })
 
 -- WHAT A STEP TELLS
+-- a call on values needs the place of its entry alone
+pub value-need : (c : Call) → is_value_call c ≡ true → need c ≡ 1
+value-need (call.CreateExternal payload finalizer hint) h = cc
+value-need (call.Wrap object payload finalizer hint wanted) h = cc
+value-need (call.AddFinalizer object payload entry hint wanted) h = cc
+value-need (call.CallFunction receiver f args) h = cc
+value-need (call.SetInstanceData payload finalizer hint) h = cc
+value-need (call.AddEnvCleanupHook entry argument) h = cc
+value-need (call.QueueAsyncWork work) h = cc
+value-need (call.CreateThreadsafeFunction f entry most first finalizer context) h = cc
+value-need (call.CallThreadsafeFunction f payload mode) h = cc
+value-need _ h = refl
+
 pub other-at-once : (e : Environment) (c : Call) → is_calling c ≡ false → is_entering e c ≡ false
 other-at-once e c h = ap (λ b. b && is_none (refusal e c)) h
 

@@ -1,5 +1,5 @@
 -- A call on values, properties or elements gives no number of its own choice.
-use Rattle.std.proofs.Common.{◌≡◌, ℕ, true, List, [], ◌∷◌, length, map, refl, ap, sym, ◌∙◌, Option, Some, None, Result, Ok, Err, IfOk, OnOk, OnErr, IfSome}
+use Rattle.std.proofs.Common.{◌≡◌, ℕ, true, List, [], ◌∷◌, length, map, refl, ap, sym, subst, ◌∙◌, Option, Some, None, Result, Ok, Err, IfOk, OnOk, OnErr, IfSome}
 use Rattle.std.specs.List.{All}
 use Rattle.std.proofs.lemmas.List.{length-map}
 use Rattle.std.proofs.lemmas.List.Elements.{All-nil, All-cons, All-head, All-tail}
@@ -31,7 +31,7 @@ use Rattle.env_core.proofs.Attaching.{attachments-kept}
 use Rattle.env_core.specs.FunctionRooting.{function_roots_seen, RootsAreLive}
 use Rattle.env_core.proofs.FunctionRooting.{roots-kept}
 use Rattle.env_core.specs.Referring.{seen_reference, references_seen, RefersToLive}
-use Rattle.env_core.specs.State.{pending_seen, AnswersInTime}
+use Rattle.env_core.specs.State.{pending_seen, AnswersInTime, MakesNoDuty}
 
 accepted-any : (addon : ℕ) (heap : Heap) (c : Call) (n : ℕ) → is_value_call c ≡ true → addon_effect addon heap c 0 ≡ addon_effect addon heap c n
 accepted-any addon heap call.OpenHandleScope n h = cc
@@ -45,6 +45,20 @@ by-any addon heap c n (Some s) h = refl
 -- the number that a call may be given is not read
 pub answer-any : (texts addon : ℕ) (heap : Heap) (c : Call) (n : ℕ) → is_value_call c ≡ true → heap_answer texts addon heap c 0 ≡ heap_answer texts addon heap c n
 answer-any texts addon heap c n h = by-any addon heap c n (refusal_in texts heap c) h
+
+accepted-plain : (addon : ℕ) (heap : Heap) (c : Call) (n : ℕ) → MakesNoDuty (addon_effect addon heap c n).reply
+accepted-plain addon heap call.OpenHandleScope n = record { dropped = refl; made = refl }
+accepted-plain addon heap _ n = record { dropped = refl; made = refl }
+
+by-plain : (addon : ℕ) (heap : Heap) (c : Call) (n : ℕ) (s : Option Status) → MakesNoDuty (heap_answer_unless addon heap c n s).reply
+by-plain addon heap c n None = accepted-plain addon heap c n
+by-plain addon heap c n (Some s) = record { dropped = refl; made = refl }
+
+-- no duty is withdrawn or made
+pub answers-plain : {E : Type 0} (texts addon : ℕ) (heap : Heap) (c : Call) (n : ℕ) (r : Result Reply E) → IfOk r (λ reply. reply ≡ (heap_answer texts addon heap c n).reply)
+    → IfOk r MakesNoDuty
+answers-plain texts addon heap c n (Ok reply) e = subst MakesNoDuty (sym e) (by-plain addon heap c n (refusal_in texts heap c))
+answers-plain texts addon heap c n (Err x) e = tt
 
 accepted-fresh : (e : Environment) (addon : ℕ) (heap : Heap) (c : Call) (n : ℕ) → is_value_call c ≡ true → is_fresh_result e (addon_effect addon heap c n).reply.out ≡ true
 accepted-fresh e addon heap call.OpenHandleScope n h = cc

@@ -2,7 +2,7 @@
 ghost use Rattle.std.specs.Prelude.{◌≡◌, ◌≢◌, ℕ, ◌+◌, ◌-◌, ◌*◌, ◌<◌, ◌≤◌, [], length, option_map, Some, None, is_some, true, false, IfOk, IfSome, IsTrue, ◌↔◌};
 ghost use Rattle.napi_types.specs.declared.call.Call.TheVariants as call_of;
 ghost use Rattle.napi_types.specs.declared.entry.Cause.TheVariants as cause;
-ghost use Rattle.napi_types.specs.plain.CallKinds.{is_calling};
+ghost use Rattle.napi_types.specs.plain.CallKinds.{is_calling, is_value_call};
 ghost use Rattle.napi_types.specs.plain.Guards.{is_shared as is_shared_call};
 ghost use Rattle.napi_types.specs.plain.Lists.{head, tail};
 ghost use Rattle.napi_types.specs.plain.Numbers.{napi_version};
@@ -162,6 +162,59 @@ impl EnvCore {
         ensures full { IsTrue (is_full (room_in self.old) call.now) → result ≡ Stepped.Stop Status.TraceFull }
         ensures at_once { IsAtOnce result }
     {
+        if call.is_value_call() {
+            self.answer_on_values(step, call)
+        } else {
+            self.answer_other(step, call)
+        }
+    }
+
+    /// A call on values, properties or elements. It has a place for its entry.
+    fn answer_on_values(&mut self, step: u32, call: &Call) -> Stepped
+        requires standing { self.old.env.frames ≢ [] }
+        requires idle { self.old.awaited ≡ None }
+        requires local { is_shared_call call.now ≡ false }
+        requires at_once { is_calling call.now ≡ false }
+        requires value_call { is_value_call call.now ≡ true }
+        requires ask { step ≡ asks_made self.old.env.frames }
+        requires within { step < most_asks }
+        ensures reply { IfReply result (λ reply. Replies self.old call.now reply self.new) }
+        ensures stop { IfStop result (λ status. self.new ≡ self.old) }
+        ensures cause { IfStop result (λ status. StopsBy self.old.env (room_in self.old) call.now status) }
+        ensures full { IsTrue (is_full (room_in self.old) call.now) → result ≡ Stepped.Stop Status.TraceFull }
+        ensures at_once { IsAtOnce result }
+    {
+        if let Err(status) = self.journal.promise(1) {
+            return Stepped::Stop(status);
+        }
+        match self.state.call_on_values(step, call) {
+            Ok(entry) => {
+                self.journal.push(entry);
+                Stepped::Reply(entry.reply)
+            }
+            Err(NoMemory) => {
+                self.journal.give_back(1);
+                Stepped::Stop(Status::NoMemory)
+            }
+        }
+    }
+
+    /// A call that is neither on values nor of a function.
+    #[inline(never)]
+    fn answer_other(&mut self, step: u32, call: &Call) -> Stepped
+        requires standing { self.old.env.frames ≢ [] }
+        requires idle { self.old.awaited ≡ None }
+        requires local { is_shared_call call.now ≡ false }
+        requires at_once { is_calling call.now ≡ false }
+        requires other { is_value_call call.now ≡ false }
+        requires ask { step ≡ asks_made self.old.env.frames }
+        requires within { step < most_asks }
+        ensures reply { IfReply result (λ reply. Replies self.old call.now reply self.new) }
+        ensures stop { IfStop result (λ status. self.new ≡ self.old) }
+        ensures cause { IfStop result (λ status. StopsBy self.old.env (room_in self.old) call.now status) }
+        ensures full { IsTrue (is_full (room_in self.old) call.now) → result ≡ Stepped.Stop Status.TraceFull }
+        ensures at_once { IsAtOnce result }
+    {
         let places = places_of(call);
         if let Err(status) = self.journal.promise(places) {
             return Stepped::Stop(status);
@@ -183,6 +236,7 @@ impl EnvCore {
     }
 
     /// A call of a function. It has a place for its entry, or two for the begin and the end of its frame.
+    #[inline(never)]
     fn call_function(
         &mut self,
         step: u32,

@@ -18,7 +18,7 @@ ghost use Rattle.napi_types.specs.environment.Registering.{finalizer_if};
 ghost use Rattle.env_core.specs.Standing.{machine_frame};
 ghost use Rattle.finalizer_queue.specs.TicketRows.{registration_of};
 ghost use Rattle.env_core.specs.Core.{next_init};
-ghost use Rattle.env_core.specs.State.{HasNumbersFor, Calls, Answers, AnswersInTime, FindsNoMemory, opening_call, closing_call};
+ghost use Rattle.env_core.specs.State.{HasNumbersFor, Calls, Answers, AnswersInTime, FindsNoMemory, MakesNoDuty, never_grows, opening_call, closing_call};
 
 mod attachments;
 mod calling;
@@ -178,11 +178,12 @@ impl State {
         host_entry(HostStep::Begin, Out::Begin(Cause::Init, addon, 0, None))
     }
 
-    /// A call of the innermost frame, which is no call of a function.
+    /// A call of the innermost frame, which is neither on values nor of a function.
     pub fn call(&mut self, step: u32, call: &Call) -> Result<Entry, NoMemory>
         requires standing { self.old.frames ≢ [] }
         requires local { is_shared_call call.now ≡ false }
         requires at_once { is_calling call.now ≡ false }
+        requires other { is_value_call call.now ≡ false }
         requires ask { step ≡ asks_made self.old.frames }
         requires within { step < most_asks }
         requires numbers { HasNumbersFor self.old }
@@ -191,6 +192,23 @@ impl State {
         ensures stopped { OnErr result (FindsNoMemory self.old call.now (early_refusal self.old call.now) self.new) }
     {
         let reply = self.answer(call)?;
+        Ok(self.write_call(step, call, reply))
+    }
+
+    /// A call of the innermost frame on values, properties or elements.
+    pub fn call_on_values(&mut self, step: u32, call: &Call) -> Result<Entry, NoMemory>
+        requires standing { self.old.frames ≢ [] }
+        requires at_once { is_calling call.now ≡ false }
+        requires value_call { is_value_call call.now ≡ true }
+        requires ask { step ≡ asks_made self.old.frames }
+        requires within { step < most_asks }
+        requires numbers { HasNumbersFor self.old }
+        requires hooked { IsHooked self.old }
+        ensures ok { IfOk result (λ entry. Calls self.old call.now entry self.new) }
+        ensures stopped { OnErr result (FindsNoMemory self.old call.now (early_refusal self.old call.now) self.new) }
+        ensures plain { IfOk result (λ entry. MakesNoDuty entry.reply) }
+    {
+        let reply = self.answer_on_values(call)?;
         Ok(self.write_call(step, call, reply))
     }
 
@@ -243,6 +261,7 @@ impl State {
         requires standing { self.old.frames ≢ [] }
         requires local { is_shared_call call.now ≡ false }
         requires at_once { is_calling call.now ≡ false }
+        requires other { is_value_call call.now ≡ false }
         requires numbers { HasNumbersFor self.old }
         requires hooked { IsHooked self.old }
         ensures ok { IfOk result (λ reply. Answers self.old call.now reply self.new) }
@@ -254,16 +273,33 @@ impl State {
         }
     }
 
+    /// What a call on values, properties or elements answers, refused or accepted.
+    fn answer_on_values(&mut self, call: &Call) -> Result<Reply, NoMemory>
+        requires standing { self.old.frames ≢ [] }
+        requires at_once { is_calling call.now ≡ false }
+        requires value_call { is_value_call call.now ≡ true }
+        requires numbers { HasNumbersFor self.old }
+        ensures ok { IfOk result (λ reply. Answers self.old call.now reply self.new) }
+        ensures stopped { OnErr result (FindsNoMemory self.old call.now (early_refusal self.old call.now) self.new) }
+        ensures plain { IfOk result (λ reply. MakesNoDuty reply) }
+    {
+        match self.untimely(call) {
+            Some(status) => Ok(Reply::plain(status, Out::Nothing)),
+            None => self.value_call(call),
+        }
+    }
+
     /// Why the call comes at a wrong moment, if it does: it is guarded or registers, and an exception is pending or the teardown
     /// has started.
     fn untimely(&self, call: &Call) -> Option<Status>
         ensures { result ≡ moment_refusal self.now call.now }
     {
+        let pending = self.exceptions.pending().is_some();
         let tearing = self.is_tearing();
-        if call.is_guarded() && (self.exceptions.pending().is_some() || tearing) {
+        if (pending || tearing) && call.is_guarded() {
             return Some(Status::PendingException);
         }
-        if call.is_registering() && tearing {
+        if tearing && call.is_registering() {
             return Some(Status::GenericFailure);
         }
         None
@@ -282,26 +318,16 @@ impl State {
         requires standing { self.old.frames ≢ [] }
         requires local { is_shared_call call.now ≡ false }
         requires at_once { is_calling call.now ≡ false }
+        requires other { is_value_call call.now ≡ false }
         requires numbers { HasNumbersFor self.old }
         requires hooked { IsHooked self.old }
         ensures ok { IfOk result (λ reply. AnswersInTime self.old call.now reply self.new) }
         ensures stopped { OnErr result (FindsNoMemory self.old call.now (timely_refusal self.old call.now) self.new) }
     {
-        if call.is_value_call() {
-            return self.value_call(call);
-        }
         match call {
             Call::OpenHandleScope => self.open_scope(ScopeKind::Plain),
             Call::OpenEscapableHandleScope => self.open_scope(ScopeKind::Escapable),
-            Call::CloseHandleScope(scope) => Ok(self.close_scope(*scope, ScopeKind::Plain)),
-            Call::CloseEscapableHandleScope(scope) => {
-                Ok(self.close_scope(*scope, ScopeKind::Escapable))
-            }
-            Call::EscapeHandle(scope, handle) => Ok(self.escape(*scope, *handle)),
             Call::CreateReference(handle, count) => self.create_reference(*handle, *count),
-            Call::DeleteReference(reference) => Ok(self.delete_reference(*reference)),
-            Call::ReferenceRef(reference) => Ok(self.reference_ref(*reference)),
-            Call::ReferenceUnref(reference) => Ok(self.reference_unref(*reference)),
             Call::GetReferenceValue(reference) => self.get_reference_value(*reference),
             Call::Wrap(object, payload, finalizer, hint, wanted) => {
                 self.wrap(*object, *payload, *finalizer, *hint, *wanted)
@@ -309,13 +335,8 @@ impl State {
             Call::AddFinalizer(object, payload, entry, hint, wanted) => {
                 self.add_finalizer(*object, *payload, *entry, *hint, *wanted)
             }
-            Call::Unwrap(object) => Ok(self.unwrap(*object)),
-            Call::RemoveWrap(object) => Ok(self.remove_wrap(*object)),
             Call::TypeTagObject(object, lower, upper) => {
                 self.type_tag_object(*object, *lower, *upper)
-            }
-            Call::CheckObjectTypeTag(object, lower, upper) => {
-                Ok(self.check_object_type_tag(*object, *lower, *upper))
             }
             Call::CreateExternal(payload, finalizer, hint) => {
                 self.create_external(*payload, *finalizer, *hint)
@@ -323,24 +344,50 @@ impl State {
             Call::SetInstanceData(payload, finalizer, hint) => {
                 self.set_instance_data(*payload, *finalizer, *hint)
             }
-            Call::GetInstanceData => Ok(self.get_instance_data()),
             Call::AddEnvCleanupHook(entry, argument) => {
                 self.add_env_cleanup_hook(*entry, *argument)
             }
-            Call::RemoveEnvCleanupHook(entry, argument) => {
-                Ok(self.remove_env_cleanup_hook(*entry, *argument))
-            }
             Call::Collect => self.collect(),
-            Call::Exit => Ok(self.exit()),
-            Call::Throw(handle) => Ok(self.throw(*handle)),
             Call::ThrowError(code, message) => self.throw_error(*code, *message),
-            Call::IsExceptionPending => Ok(self.is_pending()),
             Call::GetAndClearLastException => self.take_pending(),
-            Call::GetLastErrorInfo => Ok(self.last()),
-            Call::GetVersion => Ok(Reply::plain(
-                Status::Ok,
-                Out::Unsigned(u64::from(NAPI_VERSION)),
-            )),
+            _ => Ok(self.answer_without_memory(call)),
+        }
+    }
+
+    /// What a call that comes at a right moment answers, where it takes no memory.
+    fn answer_without_memory(&mut self, call: &Call) -> Reply
+        requires standing { self.old.frames ≢ [] }
+        requires local { is_shared_call call.now ≡ false }
+        requires at_once { is_calling call.now ≡ false }
+        requires other { is_value_call call.now ≡ false }
+        requires plain { never_grows call.now ≡ true }
+        requires numbers { HasNumbersFor self.old }
+        requires hooked { IsHooked self.old }
+        ensures { AnswersInTime self.old call.now result self.new }
+    {
+        match call {
+            Call::CloseHandleScope(scope) => self.close_scope(*scope, ScopeKind::Plain),
+            Call::CloseEscapableHandleScope(scope) => {
+                self.close_scope(*scope, ScopeKind::Escapable)
+            }
+            Call::EscapeHandle(scope, handle) => self.escape(*scope, *handle),
+            Call::DeleteReference(reference) => self.delete_reference(*reference),
+            Call::ReferenceRef(reference) => self.reference_ref(*reference),
+            Call::ReferenceUnref(reference) => self.reference_unref(*reference),
+            Call::Unwrap(object) => self.unwrap(*object),
+            Call::RemoveWrap(object) => self.remove_wrap(*object),
+            Call::CheckObjectTypeTag(object, lower, upper) => {
+                self.check_object_type_tag(*object, *lower, *upper)
+            }
+            Call::GetInstanceData => self.get_instance_data(),
+            Call::RemoveEnvCleanupHook(entry, argument) => {
+                self.remove_env_cleanup_hook(*entry, *argument)
+            }
+            Call::Exit => self.exit(),
+            Call::Throw(handle) => self.throw(*handle),
+            Call::IsExceptionPending => self.is_pending(),
+            Call::GetLastErrorInfo => self.last(),
+            Call::GetVersion => { Reply::plain(Status::Ok, Out::Unsigned(u64::from(NAPI_VERSION))) }
             _ => unreachable!(),
         }
     }
@@ -354,6 +401,7 @@ impl State {
         requires handles { self.old.heap.handles < 2 ^ 62 }
         ensures ok { IfOk result (λ reply. AnswersInTime self.old call.now reply self.new) }
         ensures stopped { OnErr result (FindsNoMemory self.old call.now (timely_refusal self.old call.now) self.new) }
+        ensures plain { IfOk result (λ reply. MakesNoDuty reply) }
     {
         let addon = self.caller();
         value_step(

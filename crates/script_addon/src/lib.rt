@@ -5,7 +5,7 @@
 
 mod job;
 
-ghost use Rattle.std.specs.Prelude.{◌≡◌, [], Some, set};
+ghost use Rattle.std.specs.Prelude.{◌≡◌, [], Some, option_map, set};
 ghost use Rattle.napi_types.specs.scripts.Registers.{operation, blank_registers};
 
 use addon_trait::Addon;
@@ -38,11 +38,11 @@ impl ScriptAddon {
     }
 
     /// The plan's operation of an entry at a step, `None` exactly where the plan has no such entry or step.
-    fn operation(&self, entry: u32, step: u32) -> Option<Op>
-        ensures { result ≡ operation self.now.plan.entries entry step }
+    fn operation(&self, entry: u32, step: u32) -> Option<&Op>
+        ensures { option_map (λ found. found.now) result ≡ operation self.now.plan.entries entry step }
     {
         let operations = self.plan.entries.items().get(entry as usize)?;
-        operations.items().get(step as usize).copied()
+        operations.items().get(step as usize)
     }
 }
 

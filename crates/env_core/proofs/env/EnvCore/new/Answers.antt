@@ -1,8 +1,7 @@
 use Rattle.std.proofs.Common.{ℕ, ◌+◌, ◌-◌, ◌*◌, ◌≤◌, true, [], ◌∷◌, ◌++◌, arith}
 use Rattle.napi_types.specs.declared.entry.Entry.{Entry}
 use Rattle.napi_types.specs.plain.Room.{most_entries}
-use Rattle.napi_types.specs.environment.Environment.{Environment, new_environment}
-use Rattle.napi_types.specs.environment.Hooked.{IsHooked}
+use Rattle.napi_types.specs.environment.Environment.{new_environment}
 use Rattle.napi_types.proofs.environment.HookedSteps.{hooked-opening}
 use Rattle.env_core.specs.Core.{IsCore}
 use Rattle.env_core.proofs.env.EnvCore.new.Goals as goal

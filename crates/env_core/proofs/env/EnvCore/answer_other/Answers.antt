@@ -2,8 +2,8 @@ use Rattle.std.proofs.Common.{◌∙◌, ◌+◌, ◌-◌, ℕ, ap, arith, sym}
 use Rattle.env_core.specs.Journal.{Pages}
 use Rattle.env_core.proofs.Cores.{KeepsPlaces, written, calls-keep, calls-hooked, places-kept, core-call_change, replied, other-at-once, fits-in, never-full}
 use Rattle.env_core.proofs.Sharing.{idle-may}
-use Rattle.env_core.proofs.env.EnvCore.answer.Goals as goal
-use Rattle.env_core.proofs.env.EnvCore.answer.Goals.{After-give_back-arg-1}
+use Rattle.env_core.proofs.env.EnvCore.answer_other.Goals as goal
+use Rattle.env_core.proofs.env.EnvCore.answer_other.Goals.{After-give_back-arg-1}
 
 -- what the reply keeps of the places
 kept : (c : After-give_back-arg-1) → KeepsPlaces c.self.inside.journal.promised c.args.call.now c.in-Ok.entry.reply
