@@ -75,6 +75,8 @@ pub(crate) struct Sleepers {
     sleeps: u64,
     // Whether one was rung for room, and no thread or worker has made an entry since.
     rung_for_room: bool,
+    // Whether one fell asleep for an entry, and no look since has found that none does. So that who makes an entry need not look.
+    awaits_entry: bool,
 }
 
 impl Sleepers {
@@ -86,6 +88,7 @@ impl Sleepers {
             to_ring: 0,
             sleeps: 0,
             rung_for_room: false,
+            awaits_entry: false,
         }
     }
 
@@ -96,6 +99,9 @@ impl Sleepers {
         self.places[number] = before.with(why, self.sleeps);
         self.asleep |= bit(number);
         self.sleeps = self.sleeps.wrapping_add(1);
+        if why == WaitsFor::Entry {
+            self.awaits_entry = true;
+        }
     }
 
     /// How often one fell asleep.
@@ -132,7 +138,13 @@ impl Sleepers {
     /// A thread or a worker makes an entry: the environment is to be rung.
     pub(crate) fn note_entry(&mut self) {
         self.rung_for_room = false;
-        self.ring_first(WaitsFor::Entry);
+        if !self.awaits_entry {
+            return;
+        }
+        match self.first(WaitsFor::Entry) {
+            Some(number) => self.ring(number),
+            None => self.awaits_entry = false,
+        }
     }
 
     /// The queue of a function came to be empty: the first that fell asleep of those that wait for room there is to be rung.
