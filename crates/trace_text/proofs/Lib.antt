@@ -1,4 +1,5 @@
 pub mod Adding
 pub mod SummaryCounts
-pub mod Merging
+pub mod LineEnds
+mod Merging
 pub mod Weaving

@@ -1,15 +1,16 @@
 //! The line of an entry, piece by piece.
-ghost use Rattle.std.specs.Prelude.{◌≡◌, ◌<◌, ◌++◌, codes, decimal};
+ghost use Rattle.std.specs.Prelude.{◌≡◌, ◌<◌, ℕ, List, ◌++◌, ◌||◌, codes, decimal, is_some, IfSome};
 ghost use Rattle.std.specs.Char.{digit_char};
 ghost use Rattle.std.specs.List.{flat_map};
 ghost use Rattle.napi_types.specs.plain.Numbers.{status_number};
-ghost use Rattle.napi_types.specs.scripts.Names.{cause_name};
+ghost use Rattle.napi_types.specs.scripts.Names.{cause_name, kind_name};
 ghost use Rattle.napi_types.specs.scripts.Text.{actor_text, duty_text, marked, flag_text, escaped, quoted, text_at, out_text, line};
+ghost use Rattle.trace_text.specs.LineEnds.{line_end};
 ghost use Rattle.trace_text.specs.Writing.{Adds, stand};
 
 use crate::pending::{Pending, add};
 use itoa::{Buffer, Integer};
-use napi_types::{Actor, Cause, Duty, Entry, Out, Sink, Status, TextNo, Texts};
+use napi_types::{Actor, Cause, Duty, Entry, Kind, Out, Reply, Sink, Status, TextNo, Texts};
 
 /// Adds a number in decimal.
 pub fn add_number<K: Sink, I: Integer>(sink: &mut K, pending: &mut Pending, n: I)
@@ -200,6 +201,78 @@ fn add_status<K: Sink>(sink: &mut K, pending: &mut Pending, status: Status)
     add(sink, pending, b" ");
 }
 
+/// The end of a line from behind its name on, of what was accepted and tells a kind.
+fn end_of_kind(kind: Kind) -> &'static str
+    ensures { result.now ≡ codes " 0 " ++ kind_name kind ++ codes "\n" }
+{
+    match kind {
+        Kind::Undefined => " 0 undefined\n",
+        Kind::Null => " 0 null\n",
+        Kind::Boolean => " 0 boolean\n",
+        Kind::Number => " 0 number\n",
+        Kind::String => " 0 string\n",
+        Kind::Symbol => " 0 symbol\n",
+        Kind::Object => " 0 object\n",
+        Kind::Function => " 0 function\n",
+        Kind::External => " 0 external\n",
+        Kind::Bigint => " 0 bigint\n",
+    }
+}
+
+/// The end of a line from behind its name on, of what was accepted and neither withdraws nor makes a duty, where its result has one of a few texts.
+fn end_of_out(out: Out) -> Option<&'static str>
+    ensures { (texts : List (List ℕ)) → IfSome result (λ end. end.now ≡ codes " 0 " ++ out_text texts out ++ codes "\n") }
+{
+    match out {
+        Out::Nothing => Some(" 0 -\n"),
+        Out::Handle(_) => Some(" 0 handle\n"),
+        Out::NoHandle => Some(" 0 none\n"),
+        Out::Scope(_) => Some(" 0 scope\n"),
+        Out::Ref(_) => Some(" 0 ref\n"),
+        Out::Work(_) => Some(" 0 work\n"),
+        Out::Flag(true) => Some(" 0 true\n"),
+        Out::Flag(false) => Some(" 0 false\n"),
+        Out::Kind(kind) => Some(end_of_kind(kind)),
+        _ => None,
+    }
+}
+
+/// Whether a duty was withdrawn or made.
+fn tells_duty(reply: &Reply) -> bool
+    ensures { result ≡ (is_some reply.now.dropped || is_some reply.now.made) }
+{
+    reply.dropped.is_some() || reply.made.is_some()
+}
+
+/// The end of a line from behind its name on, where it is one of a few. Most lines end so.
+fn fixed_end(reply: &Reply) -> Option<&'static str>
+    ensures { (texts : List (List ℕ)) → IfSome result (λ end. end.now ≡ line_end texts reply.now) }
+{
+    if tells_duty(reply) {
+        return None;
+    }
+    match reply.status {
+        Status::Ok => end_of_out(reply.out),
+        _ => None,
+    }
+}
+
+/// Adds the end of a line from behind its name on.
+fn add_end<K: Sink>(sink: &mut K, pending: &mut Pending, texts: &Texts, reply: &Reply)
+    ensures { Adds (stand (K.taken sink.old) (K.faults sink.old) pending.old) (line_end texts.now reply.now)
+        (stand (K.taken sink.new) (K.faults sink.new) pending.new) }
+{
+    if let Some(end) = fixed_end(reply) {
+        add(sink, pending, end.as_bytes());
+        return;
+    }
+    add_status(sink, pending, reply.status);
+    add_out(sink, pending, texts, reply.out);
+    add_marked(sink, pending, b" -", reply.dropped);
+    add_marked(sink, pending, b" +", reply.made);
+    add(sink, pending, b"\n");
+}
+
 /// Adds the line of an entry.
 pub fn add_line<K: Sink>(
     sink: &mut K,
@@ -211,13 +284,8 @@ pub fn add_line<K: Sink>(
     ensures { Adds (stand (K.taken sink.old) (K.faults sink.old) pending.old) (line texts.now number entry.now)
         (stand (K.taken sink.new) (K.faults sink.new) pending.new) }
 {
-    let reply = &entry.reply;
     add_number(sink, pending, number);
     add_actor(sink, pending, entry.actor);
     add(sink, pending, entry.what.name().as_bytes());
-    add_status(sink, pending, reply.status);
-    add_out(sink, pending, texts, reply.out);
-    add_marked(sink, pending, b" -", reply.dropped);
-    add_marked(sink, pending, b" +", reply.made);
-    add(sink, pending, b"\n");
+    add_end(sink, pending, texts, &entry.reply);
 }

@@ -1,0 +1,48 @@
+-- The end of a line that tells no duty.
+use Rattle.std.proofs.Common.{◌≡◌, ℕ, false, ◌||◌, List, ◌++◌, is_some, Some, None, IfSome, refl, codes, decimal, sym, ap, ◌∙◌, append_assoc}
+use Rattle.std.proofs.lemmas.List.{append-nil}
+use Rattle.std.specs.declared.option.Option.{Option}
+use Rattle.std.specs.Fmt.{digits}
+use Rattle.napi_types.specs.declared.entry.Duty.{Duty}
+use Rattle.napi_types.specs.declared.entry.Reply.{Reply}
+use Rattle.napi_types.specs.declared.status.Status.TheVariants as status_of
+use Rattle.napi_types.specs.plain.Numbers.{status_number}
+use Rattle.napi_types.specs.scripts.Text.{out_text, marked}
+use Rattle.trace_text.specs.LineEnds.{line_end}
+
+-- no duty is told
+untold : (text : List ℕ) (dropped made : Option Duty) → (is_some dropped || is_some made) ≡ false →
+    text ++ codes "\n" ≡ text ++ marked (codes " -") dropped ++ marked (codes " +") made ++ codes "\n"
+untold text None None none = rw (append-nil text, append-nil text) refl
+untold text None (Some m) none = let no : ⊥ = cc in absurd no
+untold text (Some d) made none = let no : ⊥ = cc in absurd no
+
+-- what was accepted and tells no duty ends so
+pub accepted_end : (texts : List (List ℕ)) (reply : Reply) → reply.status ≡ status_of.Ok → (is_some reply.dropped || is_some reply.made) ≡ false →
+    codes " 0 " ++ out_text texts reply.out ++ codes "\n" ≡ line_end texts reply
+unfolding digits
+accepted_end texts reply ok none = rw ok (untold (codes " 0 " ++ out_text texts reply.out) reply.dropped reply.made none)
+
+-- where there is an end, it is such a one
+pub where_there_is : {A : Type 0} {P Q : A → Type 0} (end : Option A) → ((x : A) → P x → Q x) → IfSome end P → IfSome end Q
+where_there_is None more p = p
+where_there_is (Some x) more p = more x p
+
+-- a piece behind others, which stand behind a front
+behind : (p x y q : List ℕ) → p ++ x ≡ q → p ++ (x ++ y) ≡ q ++ y
+behind p x y q is = sym (append_assoc p x y) ∙ ap (λ front. front ++ y) is
+
+-- seven pieces behind a front
+seven_behind : (p a b c d e f g : List ℕ) → p ++ (a ++ b ++ c ++ d ++ e ++ f ++ g) ≡ p ++ a ++ b ++ c ++ d ++ e ++ f ++ g
+seven_behind p a b c d e f g =
+    behind p (a ++ b ++ c ++ d ++ e ++ f) g _ (behind p (a ++ b ++ c ++ d ++ e) f _ (behind p (a ++ b ++ c ++ d) e _
+    (behind p (a ++ b ++ c) d _ (behind p (a ++ b) c _ (behind p a b _ refl)))))
+
+-- the end of a line behind its front
+pub line_of_end : (front : List ℕ) (texts : List (List ℕ)) (reply : Reply) →
+    front ++ line_end texts reply ≡
+    front ++ codes " " ++ decimal (status_number reply.status) ++ codes " " ++ out_text texts reply.out ++
+    marked (codes " -") reply.dropped ++ marked (codes " +") reply.made ++ codes "\n"
+line_of_end front texts reply =
+    seven_behind front (codes " ") (decimal (status_number reply.status)) (codes " ") (out_text texts reply.out)
+    (marked (codes " -") reply.dropped) (marked (codes " +") reply.made) (codes "\n")
