@@ -3,6 +3,9 @@
 //! Who will sleep notes it under its turn. Who gives a reason to wake up notes under its own turn whom to ring. No contract sees the notes.
 use napi_types::{Call, Release, Status, TsfnId};
 
+/// How often in a row the one that fell asleep last is rung for room.
+const MOST_IN_A_ROW: u32 = 16;
+
 /// For what a thread, a worker or the environment sleeps.
 #[derive(Clone, Copy, Debug, PartialEq, Eq)]
 pub enum WaitsFor {
@@ -75,6 +78,8 @@ pub(crate) struct Sleepers {
     sleeps: u64,
     // Whether one was rung for room, and no thread or worker has made an entry since.
     rung_for_room: bool,
+    // How often in a row the one that fell asleep last was rung for room.
+    in_a_row: u32,
     // Whether one fell asleep for an entry, and no look since has found that none does. So that who makes an entry need not look.
     awaits_entry: bool,
 }
@@ -88,6 +93,7 @@ impl Sleepers {
             to_ring: 0,
             sleeps: 0,
             rung_for_room: false,
+            in_a_row: 0,
             awaits_entry: false,
         }
     }
@@ -147,9 +153,18 @@ impl Sleepers {
         }
     }
 
-    /// The queue of a function came to be empty: the first that fell asleep of those that wait for room there is to be rung.
+    /// The queue of a function came to be empty: one of those that wait for room there is to be rung. It is the one that fell asleep last, since its
+    /// processor has still at hand what it wants, but after so many in a row the one that fell asleep first. So each one comes to its turn.
     pub(crate) fn ring_for_room(&mut self, id: TsfnId) {
-        if let Some(number) = self.first(WaitsFor::Room(id)) {
+        let why = WaitsFor::Room(id);
+        let found = if self.in_a_row < MOST_IN_A_ROW {
+            self.in_a_row += 1;
+            self.last(why)
+        } else {
+            self.in_a_row = 0;
+            self.first(why)
+        };
+        if let Some(number) = found {
             self.ring(number);
             self.rung_for_room = true;
         }
@@ -219,6 +234,21 @@ impl Sleepers {
             }
         }
         first
+    }
+
+    /// The place in which one fell asleep last, of those that sleep for this.
+    fn last(&self, why: WaitsFor) -> Option<usize> {
+        let mut last = None;
+        let mut latest = 0;
+        for number in 0..64 {
+            if let Some(since) = self.since(number, why) {
+                if since >= latest {
+                    last = Some(number);
+                    latest = since;
+                }
+            }
+        }
+        last
     }
 
     /// Since when one sleeps for this in a place, where one does. Where several sleep, one may.
