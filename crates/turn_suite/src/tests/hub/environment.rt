@@ -27,6 +27,8 @@ pub(super) enum Does {
     /// It makes a function that three threads hold, with a queue of so many places, and fills so many of them.
     Makes(u32, u32),
     Goes,
+    /// It puts one more item in the queue of the function, where there is room.
+    Fills,
     /// The hub's next move.
     Moves,
     /// One thread less holds the function.
@@ -66,7 +68,7 @@ pub(super) fn turn<N: Naming, R: Wait>(
 }
 
 /// What the environment does under its turn.
-fn act<N: Naming>(state: &mut HubState<ScriptJob, N>, threads: u32, does: Does) -> Seen
+pub(super) fn act<N: Naming>(state: &mut HubState<ScriptJob, N>, threads: u32, does: Does) -> Seen
     ensures { IsByEnvironment N.numbers.threads state.old state.new }
 {
     match does {
@@ -75,6 +77,7 @@ fn act<N: Naming>(state: &mut HubState<ScriptJob, N>, threads: u32, does: Does) 
         Does::Notes(number, id) => state.note_sleep(number, WaitsFor::Room(id)),
         Does::Makes(maximum, items) => make(state, maximum, items),
         Does::Goes => go(state),
+        Does::Fills => fill(state, 1),
         Does::Moves => make_move(state),
         Does::Releases => call(
             state,
@@ -146,6 +149,13 @@ fn make<N: Naming>(state: &mut HubState<ScriptJob, N>, maximum: u32, items: u32)
         Call::CreateThreadsafeFunction(None, None, maximum, 3, None, 80),
         Some(TARGET),
     );
+    fill(state, items);
+}
+
+#[tactic(auto, using(crate::proofs::EnvironmentTurns::goes_further))]
+fn fill<N: Naming>(state: &mut HubState<ScriptJob, N>, items: u32)
+    ensures { IsByEnvironment N.numbers.threads state.old state.new }
+{
     for _done in 0..items {
         call(
             state,

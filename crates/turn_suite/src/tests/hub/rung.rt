@@ -6,7 +6,7 @@ ghost use Rattle.turn_suite.specs.EnvironmentTurns.{IsFirstPass, MayEnter};
 
 use super::actors::{Acts, act};
 use super::environment::{Does, Seen, turn};
-use super::{FUNCTION, LONG, OTHER, WHILE};
+use super::{FUNCTION, LONG, OTHER, WHILE, environment};
 use crate::tests::ample;
 use hub_lock::Hub;
 use napi_types::Limits;
@@ -59,6 +59,11 @@ const CALLS: [Acts; 2] = [Acts::Calls, Acts::Calls];
 
 const LEAVES: [Acts; 2] = [Acts::Leaves, Acts::Leaves];
 
+const LIMITS: Limits = Limits {
+    journal: 0,
+    history: 999,
+};
+
 const MOVE: &[Does] = &[Does::Moves];
 
 const MOVES: &[Does] = &[Does::Moves; 2];
@@ -80,10 +85,10 @@ fn who_sleeps_is_rung(rt: HostRuntime) {
     ];
     let scenes: &[Scene] = &[
         (OPEN, BEGINS, GO, [(1, 0), (1, 0)]),
-        (FULL, CALLS, MOVES, [(1, 0), (2, 0)]),
-        (EIGHT, CALLS, &[Does::Moves; 9], [(8, 0), (9, 0)]),
-        (NOTED, LEAVES, &[Does::Moves; 9], [(8, 0), (9, 0)]),
-        (FULL, CALLS, RELEASES, [(4, 1), (5, 1)]),
+        (FULL, CALLS, MOVES, [(2, 0), (1, 0)]),
+        (EIGHT, CALLS, &[Does::Moves; 9], [(9, 0), (8, 0)]),
+        (NOTED, LEAVES, &[Does::Moves; 9], [(9, 0), (8, 0)]),
+        (FULL, CALLS, RELEASES, [(5, 1), (4, 1)]),
         (FULL, CALLS, &[Does::Aborts], [(1, 16), (1, 16)]),
         (GO, WORKS, &[Does::Works; 2], [(1, 0), (2, 0)]),
         (FULL, MIXED, DRAIN, [(2, 16), (2, 0)]),
@@ -96,18 +101,43 @@ fn who_sleeps_is_rung(rt: HostRuntime) {
 /// One more is rung for each function, whenever the environment finds nothing to do.
 #[test]
 fn who_ends_once_rung_leaves_nobody_asleep(rt: HostRuntime) {
-    const NOTED: &[Does] = &[Does::Makes(1, 1), Does::Goes, ONE];
-    const LEFT: [Acts; 2] = [Acts::Leaves, Acts::Calls];
+    const NOTED: &[Does] = &[Does::Makes(1, 1), Does::Goes, ONE, TWO];
     const BOTH: &[Does] = &[Does::Goes, ONE, TWO];
     const EACH: &[Does] = &[Does::Goes, ONE, Does::Notes(2, OTHER)];
     let scenes: &[Scene] = &[
-        (NOTED, LEFT, MOVES, [(1, 0), (2, 0)]),
+        (NOTED, LEAVES, MOVES, [(2, 0), (1, 0)]),
         (BOTH, LEAVES, MOVES, [(1, 0), (2, 0)]),
         (EACH, LEAVES, MOVE, [(1, 0), (1, 0)]),
     ];
     for scene in scenes {
         assert_eq!(&rt; play(&rt, rt.alloc(), *scene), (2, scene.3));
     }
+}
+
+/// For room the one that fell asleep last is rung, sixteen times in a row, and then the one that fell asleep first.
+#[test]
+fn each_one_comes_to_its_turn(rt: HostRuntime) {
+    let mut expected = [4; 18];
+    expected[16] = 2;
+    assert_eq!(&rt; rings_in_turn::<Brand, _>(&rt, rt.alloc()), expected);
+}
+
+/// The pass 1 sleeps, and time and again the pass 2 does while the queue is full. Who is rung each time the queue is empty, a bit for each.
+fn rings_in_turn<N: Naming, R: Abort>(rt: &R, alloc: Global) -> [u64; 18]
+    requires named { N.numbers ≡ record { threads = 2; workers = 0; limits = record { journal = 0; history = 999 } } }
+{
+    let mut state = ample(rt, HubState::<ScriptJob, N>::new(alloc, 2, 0, LIMITS));
+    for does in [Does::Makes(1, 1), Does::Goes, ONE] {
+        environment::act(&mut state, 2, does);
+    }
+    let mut rings = [0; 18];
+    for place in &mut rings {
+        environment::act(&mut state, 2, TWO);
+        environment::act(&mut state, 2, Does::Moves);
+        *place = state.take_rings();
+        environment::act(&mut state, 2, Does::Fills);
+    }
+    rings
 }
 
 /// Any entry of a thread or a worker rings the environment.
@@ -145,13 +175,9 @@ fn play_with<N: Naming + Send, R: Threads + Wait + Clock + Abort + Sync>(
     requires named { N.numbers ≡ record { threads = threads; workers = workers; limits = record { journal = 0; history = 999 } } }
     requires two { threads + workers ≡ 2 }
 {
-    let limits = Limits {
-        journal: 0,
-        history: 999,
-    };
     let state = ample(
         rt,
-        HubState::<ScriptJob, N>::new(alloc, threads, workers, limits),
+        HubState::<ScriptJob, N>::new(alloc, threads, workers, LIMITS),
     );
     let (hub, passes) = ample(rt, Hub::new(alloc, state, 3));
     let plan = Plan {
