@@ -8,6 +8,7 @@ use crate::{Cause, Duty, NoMemory, Status};
 use std::alloc::Global;
 use std::marker::Model;
 use std::mem;
+use std::snapshot::Snapshot;
 
 /// What a duty tells the addon whose frame it begins.
 #[derive(Clone, Copy)]
@@ -26,10 +27,10 @@ pub struct DueInfo {
     pub runs: bool,
 }
 
-/// The lines of a list, the last one first. Each has the box of its own slip.
+/// The lines of a list, the last one first. Each has the box of its own slip. What a line tells only clauses read, so it takes no bytes.
 enum Lines {
     Empty,
-    Line(DueInfo, Box<Lines>),
+    Line(Snapshot<DueInfo>, Box<Lines>),
 }
 
 // A loop, so that many lines do not run out of stack.
@@ -100,7 +101,7 @@ impl Due {
     {
         let Due { mut place, info } = self;
         *place = mem::replace(&mut seen.lines, Lines::Empty);
-        seen.lines = Lines::Line(info, place);
+        seen.lines = Lines::Line(Snapshot::of(&info), place);
         seen.count = seen.count.saturating_add(1);
         Begun { info }
     }
@@ -136,7 +137,8 @@ impl Begun {
     }
 }
 
-/// The duties that an addon has seen begin, in their order. The memory of its lines is that of their slips, so it takes none.
+/// The duties that an addon has seen begin, in their order. The memory of its lines is that of their slips, so it takes none. What the lines tell is for
+/// clauses alone: code reads how many there are.
 #[derive(Drop)]
 pub struct SeenList {
     lines: Lines,

@@ -7,4 +7,4 @@ use Rattle.napi_types.specs.declared.duties.Lines.TheVariants.{Empty, Line'}
 -- what they tell, in the order in which it was seen
 abbrev pub infos : Lines → List DueInfo
 infos Empty = []
-infos (Line' info p before) = infos before ++ info ∷ []
+infos (Line' told p before) = infos before ++ told.value ∷ []
