@@ -119,7 +119,12 @@ fn who_ends_once_rung_leaves_nobody_asleep(rt: HostRuntime) {
 fn each_one_comes_to_its_turn(rt: HostRuntime) {
     let mut expected = [4; 18];
     expected[16] = 2;
-    assert_eq!(&rt; rings_in_turn::<Brand, _>(&rt, rt.alloc()), expected);
+    assert_eq!(&rt; rings(&rt, rt.alloc()), expected);
+}
+
+/// Who is rung, at a hub of its own.
+fn rings<R: Abort>(rt: &R, alloc: Global) -> [u64; 18] {
+    rings_in_turn::<Brand, _>(rt, alloc)
 }
 
 /// The pass 1 sleeps, and time and again the pass 2 does while the queue is full. Who is rung each time the queue is empty, a bit for each.
