@@ -162,7 +162,8 @@ impl<T: Drop> GenerationSlab<T> {
         let more = capacity.saturating_sub(self.generations.len());
         self.generations.reserve(more)?;
         self.vacant.fill_up(capacity)?;
-        self.room = count;
+        // All the room that there is, so that what comes next asks for none.
+        self.room = capacity - self.slots.len();
         Ok(())
     }
 
