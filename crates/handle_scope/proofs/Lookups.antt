@@ -28,6 +28,13 @@ value_in-found (x ∷ xs) h (suc at) d r i =
     value_in-found xs h at d (Rises-tail (λ x. x.handle) x xs r) (HasAt-tail (λ x. x.handle) x xs h at i)
     ∙ sym (value_in-first (held_of x) (map held_of xs) h false (grind (arith, nat_tests)))
 
+-- the same, where the one at a place has the number
+pub value_in-there : (xs : List HeldHandle) (h at : ℕ) (x : HeldHandle) → Rises (λ y. y.handle) xs → at < length xs → ((d : HeldHandle) → x ≡ get_or xs at d) → x.handle ≡ h
+    → value_in (map held_of xs) h ≡ Some x.value.0
+value_in-there xs h at x r inside there same =
+    sym (value_in-found xs h at x r (record { inside = inside; same = λ d. sym (ap (λ (y : HeldHandle). y.handle) (there d)) ∙ same }))
+    ∙ sym (ap (λ (y : HeldHandle). Some y.value.0) (there x))
+
 pub value_in-lacks : (hs : List OpenHandle) (h : ℕ) → Lacks (λ p. p.handle) hs h → value_in hs h ≡ None
 value_in-lacks [] h l = refl
 value_in-lacks (p ∷ hs) h l =

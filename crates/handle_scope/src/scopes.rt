@@ -1,5 +1,5 @@
 //! The scopes of all frames, as one stack of handles with marks where each scope and each frame begins.
-ghost use Rattle.std.specs.Prelude.{ℕ, ◌≡◌, ◌≢◌, ◌+◌, ◌*◌, ◌<◌, ◌≤◌, ◌==◌, ◌&&◌, ◌^◌, [], ◌++◌, length, map, reverse, take, true, None, Some, IsTrue, IsOk, IfOk, OnOk, OnErr, option_map, slice_index_or, vec_capacity};
+ghost use Rattle.std.specs.Prelude.{ℕ, ◌≡◌, ◌≢◌, ◌+◌, ◌*◌, ◌<◌, ◌≤◌, ◌==◌, ◌&&◌, ◌^◌, [], ◌++◌, length, map, reverse, take, true, None, Some, IsTrue, IsOk, IfOk, IfSome, OnOk, OnErr, option_map, slice_index_or, vec_capacity};
 ghost use Rattle.std.specs.Option.{is_some, option_to_list};
 ghost use Rattle.std.specs.Result.{result_err};
 ghost use Rattle.std.specs.List.{list_any};
@@ -288,8 +288,8 @@ impl Scopes {
         HandleId(handle)
     }
 
-    /// The value of a handle, `None` exactly where no open scope of any frame holds it. It takes time logarithmic in
-    /// the handles that open scopes hold, and in the open scopes.
+    /// The value of a handle, `None` exactly where no open scope of any frame holds it. It takes constant time where each later
+    /// handle is still held, else time logarithmic in the handles that open scopes hold, and in the open scopes.
     pub fn look(&self, handle: HandleId) -> Option<ValueId>
         ensures { option_map (λ value. value.0) result ≡ gives self.now.frames handle.0 }
     {
@@ -431,6 +431,33 @@ fn escapable_among(opened: &[ScopeMark], number: u64) -> Result<usize, Status>
 
 /// The value of a handle in a stack, `None` exactly where the handle is not in it.
 fn value_among(held: &[HeldHandle], handle: u64) -> Option<ValueId>
+    requires { Rises (λ held. held.handle) held.now }
+    ensures { option_map (λ value. value.0) result ≡ value_in (map held_of held.now) handle }
+{
+    if let Some(value) = value_counted(held, handle) {
+        return Some(value);
+    }
+    value_searched(held, handle)
+}
+
+/// The value of a handle that stands as many places before the last one as its number is less: the place of each handle since which
+/// none is gone. `None` where another one stands there, and where there is no such place.
+fn value_counted(held: &[HeldHandle], handle: u64) -> Option<ValueId>
+    requires { Rises (λ held. held.handle) held.now }
+    ensures { IfSome result (λ value. value_in (map held_of held.now) handle ≡ Some value.0) }
+{
+    let (last, before) = held.split_last()?;
+    let less = last.handle.wrapping_sub(handle) as usize;
+    let there = held.get(before.len().wrapping_sub(less))?;
+    if there.handle == handle {
+        Some(there.value)
+    } else {
+        None
+    }
+}
+
+/// The value of a handle in a stack, found by halves, `None` exactly where the handle is not in it.
+fn value_searched(held: &[HeldHandle], handle: u64) -> Option<ValueId>
     requires { Rises (λ held. held.handle) held.now }
     ensures { option_map (λ value. value.0) result ≡ value_in (map held_of held.now) handle }
 {

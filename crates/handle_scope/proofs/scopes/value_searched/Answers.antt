@@ -3,7 +3,7 @@ use Rattle.std.proofs.lemmas.List.Sorted.{answers_always}
 use Rattle.handle_scope.specs.declared.scopes.HeldHandle.{HeldHandle}
 use Rattle.handle_scope.proofs.HandleNumbers.{search-found, search-lacks}
 use Rattle.handle_scope.proofs.Lookups.{value_in-found, value_in-lacks, Lacks-held}
-use Rattle.handle_scope.proofs.scopes.value_among.Goals as goal
+use Rattle.handle_scope.proofs.scopes.value_searched.Goals as goal
 
 pub returns-in-Ok : goal.returns-in-Ok
 returns-in-Ok c =
