@@ -11,8 +11,7 @@ use Rattle.napi_types.proofs.plain.Found.{has-found, same-tells}
 use Rattle.wrap_tag.specs.declared.row.ValueRow.{ValueRow}
 use Rattle.wrap_tag.specs.declared.row.Wrap.{Wrap}
 use Rattle.wrap_tag.specs.declared.row.Tag.{Tag}
-use Rattle.wrap_tag.specs.declared.row.Chain.{Chain}
-use Rattle.wrap_tag.specs.ValueRows.{tickets_of_chain, tickets_beside, blank_row, unwrapped_row, wrapped_as, tagged_as, wrap_in, tag_in, value_row, is_attached, attachments_of, AreRows, PutsRow}
+use Rattle.wrap_tag.specs.ValueRows.{tickets_of_chain, tickets_beside, blank_row, unwrapped_row, wrapped_as, tagged_as, wrap_in, tag_in, value_row, is_attached, attachments_of, AreRows, PutsRow, PutsTicket}
 use Rattle.wrap_tag.specs.Wraps.{WrapState}
 use Rattle.wrap_tag.proofs.ByValue.{IsByValue, same-from, equal-tests, found-mapped, mapped-with, mapped-same, mapped-without}
 use Rattle.wrap_tag.proofs.ByTicket.{attached_ticket, absent-attached, attached-same, attached-with, attached-without}
@@ -48,17 +47,6 @@ wrap_of-rows v rows are = found-mapped (λ w. w.value) wrap_in by_wrap v rows ar
 pub tag_of-rows : (v : ℕ) (rows : List (ℕ × ValueRow)) → AreRows rows → tag_of (attachments_of rows) v ≡ option_and_then (tag_in v) (value_row v rows)
 unfolding attachments_of
 tag_of-rows v rows are = found-mapped (λ t. t.value) tag_in by_tag v rows are.values
-
--- a value is taken out, and then put again
-pub puts-twice : (v : ℕ) (row : Option ValueRow) (old between new : List (ℕ × ValueRow)) → PutsRow v None old between → PutsRow v row between new → PutsRow v row old new
-puts-twice v row old between new takes puts = record {
-  rows = λ w. puts.rows w ∙ ap (λ o. cond (nat_eq v w) row o) (takes.rows w) ∙ once (nat_eq v w) (value_row w old);
-  values = puts.values;
-}
-  where
-    once : (b : Bool) (o : Option ValueRow) → cond b row (cond b None o) ≡ cond b row o
-    once true o = refl
-    once false o = refl
 
 -- A VALUE GETS ANOTHER ROW
 module _ (v : ℕ) (row : Option ValueRow) (old new : List (ℕ × ValueRow)) (are : AreRows old) (puts : PutsRow v row old new) where
@@ -222,51 +210,50 @@ tag_of-part v rows a are view o is = ap (λ b. tag_of b v) (sym view) ∙ tag_of
     by None = refl
     by (Some row) = refl
 
--- A ROW IS TAKEN OUT, CHANGED AND PUT
-module _ (v : ℕ) (old between new : List (ℕ × ValueRow)) (are : AreRows old) (taken : ValueRow) (was : taken ≡ unwrap_or (value_row v old) blank_row) (takes : PutsRow v None old between) where
-  kept-wrap : wrap_in v taken ≡ option_and_then (wrap_in v) (value_row v old)
-  kept-wrap = ap (wrap_in v) was ∙ by (value_row v old)
+-- A ROW IS CHANGED WHERE IT STANDS, OR ELSE A FIRST ONE IS PUT
+module _ (v : ℕ) (old new : List (ℕ × ValueRow)) (are : AreRows old) where
+  abbrev stood : ValueRow
+  stood = unwrap_or (value_row v old) blank_row
+
+  kept-wrap : wrap_in v stood ≡ option_and_then (wrap_in v) (value_row v old)
+  kept-wrap = by (value_row v old)
     where
       by : (o : Option ValueRow) → wrap_in v (unwrap_or o blank_row) ≡ option_and_then (wrap_in v) o
       by None = refl
       by (Some row) = refl
 
-  kept-tag : tag_in v taken ≡ option_and_then (tag_in v) (value_row v old)
-  kept-tag = ap (tag_in v) was ∙ by (value_row v old)
+  kept-tag : tag_in v stood ≡ option_and_then (tag_in v) (value_row v old)
+  kept-tag = by (value_row v old)
     where
       by : (o : Option ValueRow) → tag_in v (unwrap_or o blank_row) ≡ option_and_then (tag_in v) o
       by None = refl
       by (Some row) = refl
 
-  kept-tickets : tickets_of_chain taken.tickets ≡ tickets_beside (value_row v old)
-  kept-tickets = ap (λ row. tickets_of_chain row.tickets) was ∙ by (value_row v old)
+  kept-tickets : tickets_of_chain stood.tickets ≡ tickets_beside (value_row v old)
+  kept-tickets = by (value_row v old)
     where
       by : (o : Option ValueRow) → tickets_of_chain (unwrap_or o blank_row).tickets ≡ tickets_beside o
       by None = refl
       by (Some row) = refl
 
-  pub wrapped-rows : (payload : ℕ) (t : Option Ticket) → PutsRow v (Some (record taken { wrap = Some (record { payload = payload; ticket = t }) })) between new
+  pub wrapped-rows : (payload : ℕ) (t : Option Ticket) → PutsRow v (Some (record stood { wrap = Some (record { payload = payload; ticket = t }) })) old new
       → (attachments_of new ≡ with_wrap v payload (option_map (λ k. k.0) t) (attachments_of old)) × AreRows new
   wrapped-rows payload t puts =
-      let row : Option ValueRow = Some (record taken { wrap = Some (record { payload = payload; ticket = t }) }) in
-      let both = puts-twice v row old between new takes puts in
-      (maps-wrapped v row old new are both payload (option_map (λ k. k.0) t) refl kept-tag kept-tickets, are-same v row old new are both kept-tickets)
+      let row : Option ValueRow = Some (record stood { wrap = Some (record { payload = payload; ticket = t }) }) in
+      (maps-wrapped v row old new are puts payload (option_map (λ k. k.0) t) refl kept-tag kept-tickets, are-same v row old new are puts kept-tickets)
 
-  pub tagged-rows : (lower upper : ℕ) → PutsRow v (Some (record taken { tag = Some (record { lower = lower; upper = upper }) })) between new
+  pub tagged-rows : (lower upper : ℕ) → PutsRow v (Some (record stood { tag = Some (record { lower = lower; upper = upper }) })) old new
       → (attachments_of new ≡ with_tag v lower upper (attachments_of old)) × AreRows new
   tagged-rows lower upper puts =
-      let row : Option ValueRow = Some (record taken { tag = Some (record { lower = lower; upper = upper }) }) in
-      let both = puts-twice v row old between new takes puts in
-      (maps-tagged v row old new are both lower upper kept-wrap refl kept-tickets, are-same v row old new are both kept-tickets)
+      let row : Option ValueRow = Some (record stood { tag = Some (record { lower = lower; upper = upper }) }) in
+      (maps-tagged v row old new are puts lower upper kept-wrap refl kept-tickets, are-same v row old new are puts kept-tickets)
 
-  pub attached-rows : (t : ℕ) (chain : Chain) → tickets_of_chain chain ≡ t ∷ tickets_of_chain taken.tickets → has (λ k. k.ticket) t (attachments_of old).tickets ≡ false
-      → PutsRow v (Some (record taken { tickets = chain })) between new → (attachments_of new ≡ with_attached v t (attachments_of old)) × AreRows new
-  attached-rows t chain more absent puts =
-      let row : Option ValueRow = Some (record taken { tickets = chain }) in
-      let both = puts-twice v row old between new takes puts in
+  pub attached-rows : (t : ℕ) → PutsTicket v t old new → has (λ k. k.ticket) t (attachments_of old).tickets ≡ false
+      → (attachments_of new ≡ with_attached v t (attachments_of old)) × AreRows new
+  attached-rows t puts absent =
+      let row : Option ValueRow = Some (record stood { tickets = puts.chain }) in
       let fresh = fresh-attached t old are absent in
-      let tickets : tickets_beside row ≡ t ∷ tickets_beside (value_row v old) = more ∙ ap (λ ts. t ∷ ts) kept-tickets in
-      (maps-attached v row old new are both t kept-wrap kept-tag tickets fresh, are-with v row old new are both t tickets fresh)
+      (maps-attached v row old new are puts.row t kept-wrap kept-tag puts.pushed fresh, are-with v row old new are puts.row t puts.pushed fresh)
 
 -- A WRAP IS TAKEN OUT
 module _ (v : ℕ) (old new : List (ℕ × ValueRow)) (are : AreRows old) (puts : PutsRow v (option_map unwrapped_row (value_row v old)) old new) where

@@ -1,5 +1,5 @@
 -- How the rows of values stand for what is attached to them.
-use Rattle.std.specs.Prelude.{◌≡◌, ℕ, nat_eq, Bool, true, cond, List, [], ◌∷◌, ◌++◌, map, filter_map, Option, None, option_map}
+use Rattle.std.specs.Prelude.{◌≡◌, ℕ, nat_eq, Bool, true, cond, List, [], ◌∷◌, ◌++◌, map, filter_map, Option, Some, None, option_map}
 use Rattle.std.specs.Option.{unwrap_or, option_and_then, option_to_list}
 use Rattle.std.specs.List.{IsDistinct, flat_map}
 use Rattle.std.specs.Map.{keys_of, lookup}
@@ -82,3 +82,9 @@ pub record AreRows (rows : List (ℕ × ValueRow)) : Type 0 where
 pub record PutsRow (v : ℕ) (row : Option ValueRow) (old new : List (ℕ × ValueRow)) : Type 0 where
   pub rows : (w : ℕ) → value_row w new ≡ cond (nat_eq v w) row (value_row w old)
   pub values : IsDistinct nat_eq (keys_of new)
+
+-- a value has this ticket now before the others beside its wrap, and what it had else; each other value has the row that it had
+pub record PutsTicket (v ticket : ℕ) (old new : List (ℕ × ValueRow)) : Type 0 where
+  pub chain : Chain
+  pub pushed : tickets_of_chain chain ≡ ticket ∷ tickets_beside (value_row v old)
+  pub row : PutsRow v (Some (record (unwrap_or (value_row v old) blank_row) { tickets = chain })) old new

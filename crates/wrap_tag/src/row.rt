@@ -1,5 +1,5 @@
 //! What is attached to one value.
-ghost use Rattle.std.specs.Prelude.{◌≡◌, ◌≤◌, ◌∷◌, None, length};
+ghost use Rattle.std.specs.Prelude.{◌≡◌, ◌≤◌, ◌∷◌, None, Some, length};
 ghost use Rattle.napi_types.specs.plain.Lists.{has_number};
 ghost use Rattle.napi_types.specs.parts.Book.{due_where};
 ghost use Rattle.wrap_tag.specs.ValueRows.{tickets_of_chain, ticket_of_wrap, tickets_of_row, blank_row};
@@ -84,6 +84,28 @@ impl ValueRow {
         ValueRow {
             wrap: None,
             tag: None,
+            tickets: Chain::End,
+        }
+    }
+
+    /// A wrap alone is attached.
+    pub(crate) fn of_wrap(wrap: Wrap) -> ValueRow
+        ensures { result ≡ record blank_row { wrap = Some wrap } }
+    {
+        ValueRow {
+            wrap: Some(wrap),
+            tag: None,
+            tickets: Chain::End,
+        }
+    }
+
+    /// A tag alone is attached.
+    pub(crate) fn of_tag(tag: Tag) -> ValueRow
+        ensures { result ≡ record blank_row { tag = Some tag } }
+    {
+        ValueRow {
+            wrap: None,
+            tag: Some(tag),
             tickets: Chain::End,
         }
     }

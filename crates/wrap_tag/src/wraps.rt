@@ -77,9 +77,7 @@ impl Wraps {
         ensures wrapped { self.new.attachments ≡ with_wrap value.0 payload (option_map (λ t. t.0) ticket) self.old.attachments }
         ensures spare { self.old.spare ≤ self.new.spare + 1 }
     {
-        let mut row = rows::take(&mut self.rows, value);
-        row.wrap = Some(Wrap { payload, ticket });
-        rows::put(&mut self.rows, value, row);
+        rows::put_wrap(&mut self.rows, value, Wrap { payload, ticket });
     }
 
     /// Tags a value that has no tag: the manual's `napi_type_tag_object`. The tag has 128 bits, in two halves.
@@ -91,9 +89,7 @@ impl Wraps {
         ensures tagged { self.new.attachments ≡ with_tag value.0 lower upper self.old.attachments }
         ensures spare { self.old.spare ≤ self.new.spare + 1 }
     {
-        let mut row = rows::take(&mut self.rows, value);
-        row.tag = Some(Tag { lower, upper });
-        rows::put(&mut self.rows, value, row);
+        rows::put_tag(&mut self.rows, value, Tag { lower, upper });
     }
 
     /// Attaches a finalizer to a value by its ticket, which is attached to no value yet: the manual's `napi_add_finalizer`, and
@@ -109,9 +105,7 @@ impl Wraps {
         let Some(link) = self.link.take() else {
             unreachable!()
         };
-        let mut row = rows::take(&mut self.rows, value);
-        row.tickets.push(link, ticket);
-        rows::put(&mut self.rows, value, row);
+        rows::put_ticket(&mut self.rows, value, link, ticket);
     }
 
     /// The native data of a value's wrap: the manual's `napi_unwrap`. `None` exactly where it is not wrapped.

@@ -4,10 +4,9 @@ use Rattle.wrap_tag.proofs.AttachingRows.{wrapped-rows}
 use Rattle.wrap_tag.proofs.wraps.Wraps.wrap.Goals as goal
 
 pub invariant_of-self : goal.invariant_of-self
-invariant_of-self c =
-    (wrapped-rows c.args.value.0 c.self.inside.rows.entries c.take-row.new.rows.entries c.put.new.rows.entries c.self.invariant c.take-row.result c.take-row.ensures.row c.take-row.ensures.taken c.args.payload c.args.ticket c.put.ensures.put).1
+invariant_of-self c = (wrapped-rows c.args.value.0 c.self.inside.rows.entries c.put_wrap.new.rows.entries c.self.invariant c.args.payload c.args.ticket c.put_wrap.ensures.put).1
 
 pub returns-clause-wrapped : goal.returns-clause-wrapped
 returns-clause-wrapped c =
-    (wrapped-rows c.args.value.0 c.self.inside.rows.entries c.take-row.new.rows.entries c.put.new.rows.entries c.self.invariant c.take-row.result c.take-row.ensures.row c.take-row.ensures.taken c.args.payload c.args.ticket c.put.ensures.put).0
+    (wrapped-rows c.args.value.0 c.self.inside.rows.entries c.put_wrap.new.rows.entries c.self.invariant c.args.payload c.args.ticket c.put_wrap.ensures.put).0
     ∙ ap (λ s. with_wrap c.args.value.0 c.args.payload (option_map (λ t. t.0) c.args.ticket) s.attachments) c.self.view_is
