@@ -9,7 +9,7 @@ ghost use Rattle.env_values.specs.ValueSteps.{GivesHandle};
 
 use crate::known::recall;
 use handle_scope::Scopes;
-use napi_types::{Body, NoMemory, Out, ValueId};
+use napi_types::{Body, HandleId, NoMemory, Out, ValueId};
 use value_store::Store;
 
 /// A new handle of a value.
@@ -31,8 +31,8 @@ pub(crate) fn give_new(store: &mut Store, scopes: &mut Scopes, body: Body) -> Re
         GivesHandle (new_value body before) before result (heap_of store.new scopes.new) }
     ensures keeps { KeepsHeap store.old scopes.old store.new scopes.new }
 {
-    let (_, out) = make_held(store, scopes, body)?;
-    Ok(out)
+    let (_, handle) = make_handle(store, scopes, body)?;
+    Ok(Out::Handle(handle))
 }
 
 /// The same, with the number under which the store has the value. The place of the handle is taken first, so that a value is made
@@ -50,11 +50,29 @@ pub fn make_held(
     ensures err { OnErr result (heap_of store.new scopes.new ≡ heap_of store.old scopes.old) }
     ensures keeps { KeepsHeap store.old scopes.old store.new scopes.new }
 {
+    let (value, handle) = make_handle(store, scopes, body)?;
+    Ok((value, Out::Handle(handle)))
+}
+
+/// Makes a value, and its handle.
+fn make_handle(
+    store: &mut Store,
+    scopes: &mut Scopes,
+    body: Body,
+) -> Result<(ValueId, HandleId), NoMemory>
+    requires able { CanMake 1 store.old scopes.old }
+    ensures live { IfOk result (λ made. IsLive store.new made.0.0) }
+    ensures number { IfOk result (λ made. number_in store.new made.0.0 ≡ store.old.made + 1) }
+    ensures gives { let before = heap_of store.old scopes.old in
+        IfOk result (λ made. new_value body before ≡ accepts (Out.Handle made.1) (heap_of store.new scopes.new)) }
+    ensures err { OnErr result (heap_of store.new scopes.new ≡ heap_of store.old scopes.old) }
+    ensures keeps { KeepsHeap store.old scopes.old store.new scopes.new }
+{
     scopes.reserve()?;
     // A value that a scope holds has another number than a new one.
     recall(store);
     let value = store.make(body)?;
-    Ok((value, Out::Handle(scopes.issue_reserved(value))))
+    Ok((value, scopes.issue_reserved(value)))
 }
 
 /// A new handle of a starting value, by its place in their order: undefined, null, true, false, the global object.

@@ -2,7 +2,7 @@
 ghost use Rattle.std.specs.Prelude.{◌≡◌, ℕ, true};
 ghost use Rattle.napi_types.specs.plain.CallKinds.{is_telling};
 ghost use Rattle.env_values.specs.SeenValues.{heap_of, HoldsLive};
-ghost use Rattle.env_values.specs.ValueSteps.{Comes, ComesOf};
+ghost use Rattle.env_values.specs.ValueSteps.{Comes, ComesOf, told_handle};
 
 use crate::known::{
     array, bigint, boolean, element, equals_strictly, external, is_array_value, is_error_value,
@@ -13,45 +13,40 @@ use handle_scope::Scopes;
 use napi_types::{Call, HandleId, Out, TextNo};
 use value_store::Store;
 
+/// The handle of the value of which a call tells.
+fn told(call: &Call) -> HandleId
+    requires { is_telling call.now ≡ true }
+    ensures { result.0 ≡ told_handle call.now }
+{
+    match *call {
+        Call::Typeof(value)
+        | Call::IsArray(value)
+        | Call::IsError(value)
+        | Call::GetValueInt64(value)
+        | Call::GetValueBigintInt64(value)
+        | Call::GetValueBool(value)
+        | Call::GetValueStringUtf8(value)
+        | Call::GetValueExternal(value) => value,
+        _ => unreachable!(),
+    }
+}
+
 /// The calls that tell what one value is: `typeof`, `is_array`, `is_error` and `get_value_*`.
 pub(crate) fn tell(store: &Store, scopes: &Scopes, call: &Call) -> Result<Out, Stop>
     requires telling { is_telling call.now ≡ true }
     requires live { HoldsLive store.now scopes.now }
     ensures comes { let heap = heap_of store.now scopes.now in (texts addon : ℕ) → ComesOf texts addon heap call.now result heap }
 {
+    let value = value_of_handle(store, scopes, told(call))?;
     match *call {
-        Call::Typeof(value) => {
-            let value = value_of_handle(store, scopes, value)?;
-            Ok(Out::Kind(value.body.kind()))
-        }
-        Call::IsArray(value) => {
-            let value = value_of_handle(store, scopes, value)?;
-            Ok(Out::Flag(is_array_value(value.body)))
-        }
-        Call::IsError(value) => {
-            let value = value_of_handle(store, scopes, value)?;
-            Ok(Out::Flag(is_error_value(value.body)))
-        }
-        Call::GetValueInt64(value) => {
-            let value = value_of_handle(store, scopes, value)?;
-            Ok(Out::Signed(number(value.body)?))
-        }
-        Call::GetValueBigintInt64(value) => {
-            let value = value_of_handle(store, scopes, value)?;
-            Ok(Out::Signed(bigint(value.body)?))
-        }
-        Call::GetValueBool(value) => {
-            let value = value_of_handle(store, scopes, value)?;
-            Ok(Out::Flag(boolean(value.body)?))
-        }
-        Call::GetValueStringUtf8(value) => {
-            let value = value_of_handle(store, scopes, value)?;
-            Ok(Out::Text(text(value.body)?))
-        }
-        Call::GetValueExternal(value) => {
-            let value = value_of_handle(store, scopes, value)?;
-            Ok(Out::Unsigned(external(value.body)?))
-        }
+        Call::Typeof(_) => Ok(Out::Kind(value.body.kind())),
+        Call::IsArray(_) => Ok(Out::Flag(is_array_value(value.body))),
+        Call::IsError(_) => Ok(Out::Flag(is_error_value(value.body))),
+        Call::GetValueInt64(_) => Ok(Out::Signed(number(value.body)?)),
+        Call::GetValueBigintInt64(_) => Ok(Out::Signed(bigint(value.body)?)),
+        Call::GetValueBool(_) => Ok(Out::Flag(boolean(value.body)?)),
+        Call::GetValueStringUtf8(_) => Ok(Out::Text(text(value.body)?)),
+        Call::GetValueExternal(_) => Ok(Out::Unsigned(external(value.body)?)),
         _ => unreachable!(),
     }
 }

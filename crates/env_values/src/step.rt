@@ -161,9 +161,10 @@ pub fn value_step(
     ensures growing { OnErr result (IsTrue (is_growing call.now)) }
     ensures unrefused { OnErr result (refusal_in texts (heap_of store.old scopes.old) call.now ≡ None) }
 {
-    match outcome(alloc, store, scopes, texts, addon, call) {
-        Ok(out) => Ok(Reply::plain(Status::Ok, out)),
-        Err(Stop::Refused(status)) => Ok(Reply::plain(status, Out::Nothing)),
-        Err(Stop::NoMemory) => Err(NoMemory),
-    }
+    let (status, out) = match outcome(alloc, store, scopes, texts, addon, call) {
+        Ok(out) => (Status::Ok, out),
+        Err(Stop::Refused(status)) => (status, Out::Nothing),
+        Err(Stop::NoMemory) => return Err(NoMemory),
+    };
+    Ok(Reply::plain(status, out))
 }

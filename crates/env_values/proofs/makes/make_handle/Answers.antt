@@ -6,7 +6,7 @@ use Rattle.handle_scope.specs.HandleScopes.{HandleScopes, with_issued_handle, wi
 use Rattle.env_values.specs.SeenValues.{heap_of}
 use Rattle.env_values.proofs.Giving.{given-answer, made-heap, made-live}
 use Rattle.env_values.proofs.KeepingHeaps.{keeps_made}
-use Rattle.env_values.proofs.makes.make_held.Goals as goal
+use Rattle.env_values.proofs.makes.make_handle.Goals as goal
 
 pub returns-clause-gives : goal.returns-clause-gives
 returns-clause-gives c =
