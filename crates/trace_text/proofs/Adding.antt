@@ -130,12 +130,48 @@ pub took_front : (had : Option (List ℕ)) (bytes : List ℕ) (now : Stand) → 
 took_front had bytes now failed front = record { front = front; waiting = λ fine. cc }
 
 -- bytes that are held behind the others
-pub adds_held : (taken : Option (List ℕ)) (faults : ℕ) (old new : Waiting) (bytes : List ℕ) → old.failed ≡ false →
+pub adds_held : (taken : Option (List ℕ)) (faults : ℕ) (old new : Waiting) (bytes : List ℕ) →
     new ≡ record old { bytes = old.bytes ++ bytes } → Adds (stand taken faults old) bytes (stand taken faults new)
-adds_held taken faults old new bytes fine same =
+adds_held taken faults old new bytes same =
     let P : Waiting → Type 0 = λ held. Adds (stand taken faults old) bytes (stand taken faults held) in
-    let b = stand taken faults (record old { bytes = old.bytes ++ bytes }) in
-    subst P (sym same) (adds_by (stand taken faults old) b bytes fine (omega arith) (λ failed. cc) (λ _. refl) (took_none b))
+    subst P (sym same) (record {
+      goes_on = λ had before h.
+          let first = h.front in
+          record {
+            front = record {
+              front = first.front;
+              rest = first.rest ++ bytes;
+              whole_is = sym (append_assoc first.front first.rest bytes) ∙ ap (λ xs. xs ++ bytes) first.whole_is;
+              took = first.took;
+            };
+            waiting = λ fine. ap (λ xs. xs ++ bytes) (h.waiting fine);
+          };
+      later = omega arith;
+      marked = λ failed fine. cc;
+      fine = λ now. now;
+      counted = λ _. refl;
+    })
+
+-- bytes that are lost, since the writing failed before
+pub adds_lost : (taken : Option (List ℕ)) (faults : ℕ) (old new : Waiting) (bytes : List ℕ) → old.failed ≡ true → new.failed ≡ true →
+    Adds (stand taken faults old) bytes (stand taken faults new)
+adds_lost taken faults old new bytes before now = record {
+  goes_on = λ had whole h.
+      let first = h.front in
+      record {
+        front = record {
+          front = first.front;
+          rest = first.rest ++ bytes;
+          whole_is = sym (append_assoc first.front first.rest bytes) ∙ ap (λ xs. xs ++ bytes) first.whole_is;
+          took = first.took;
+        };
+        waiting = λ fine. cc;
+      };
+  later = omega arith;
+  marked = λ failed fine. cc;
+  fine = λ fine. cc;
+  counted = λ _. refl;
+}
 
 -- bytes that were written after the others
 pub adds_written : (t u : Option (List ℕ)) (f g : ℕ) (old new : Waiting) (bytes whole : List ℕ) → old.failed ≡ false →

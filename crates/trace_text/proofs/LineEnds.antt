@@ -1,5 +1,5 @@
 -- The end of a line that tells no duty.
-use Rattle.std.proofs.Common.{◌≡◌, ℕ, false, ◌||◌, List, ◌++◌, is_some, Some, None, IfSome, refl, codes, decimal, sym, ap, ◌∙◌, append_assoc}
+use Rattle.std.proofs.Common.{◌≡◌, ℕ, false, ◌||◌, List, ◌++◌, is_some, Some, None, refl, codes, decimal, sym, ap, ◌∙◌, append_assoc}
 use Rattle.std.proofs.lemmas.List.{append-nil}
 use Rattle.std.specs.declared.option.Option.{Option}
 use Rattle.std.specs.Fmt.{digits}
@@ -22,11 +22,6 @@ pub accepted_end : (texts : List (List ℕ)) (reply : Reply) → reply.status �
     codes " 0 " ++ out_text texts reply.out ++ codes "\n" ≡ line_end texts reply
 unfolding digits
 accepted_end texts reply ok none = rw ok (untold (codes " 0 " ++ out_text texts reply.out) reply.dropped reply.made none)
-
--- where there is an end, it is such a one
-pub where_there_is : {A : Type 0} {P Q : A → Type 0} (end : Option A) → ((x : A) → P x → Q x) → IfSome end P → IfSome end Q
-where_there_is None more p = p
-where_there_is (Some x) more p = more x p
 
 -- a piece behind others, which stand behind a front
 behind : (p x y q : List ℕ) → p ++ x ≡ q → p ++ (x ++ y) ≡ q ++ y

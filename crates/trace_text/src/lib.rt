@@ -6,6 +6,7 @@ mod counts;
 mod laws;
 mod line;
 mod merge;
+mod number;
 mod pending;
 mod put;
 mod scan;

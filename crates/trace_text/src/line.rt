@@ -1,6 +1,7 @@
 //! The line of an entry, piece by piece.
 ghost use Rattle.std.specs.Prelude.{◌≡◌, ◌<◌, ℕ, List, ◌++◌, ◌||◌, codes, decimal, is_some, IfSome};
 ghost use Rattle.std.specs.Char.{digit_char};
+ghost use Rattle.std.specs.Fmt.{signed_decimal};
 ghost use Rattle.std.specs.List.{flat_map};
 ghost use Rattle.napi_types.specs.plain.Numbers.{status_number};
 ghost use Rattle.napi_types.specs.scripts.Names.{cause_name, kind_name};
@@ -8,11 +9,13 @@ ghost use Rattle.napi_types.specs.scripts.Text.{actor_text, duty_text, marked, f
 ghost use Rattle.trace_text.specs.LineEnds.{line_end};
 ghost use Rattle.trace_text.specs.Writing.{Adds, stand};
 
-use crate::pending::{Pending, add};
+use crate::number::LineNumber;
+use crate::pending::{Pending, add, add_line_number, add_word};
 use itoa::{Buffer, Integer};
 use napi_types::{Actor, Cause, Duty, Entry, Kind, Out, Reply, Sink, Status, TextNo, Texts};
 
 /// Adds a number in decimal.
+#[inline(never)]
 pub fn add_number<K: Sink, I: Integer>(sink: &mut K, pending: &mut Pending, n: I)
     ensures { Adds (stand (K.taken sink.old) (K.faults sink.old) pending.old) (I.text n)
         (stand (K.taken sink.new) (K.faults sink.new) pending.new) }
@@ -21,22 +24,48 @@ pub fn add_number<K: Sink, I: Integer>(sink: &mut K, pending: &mut Pending, n: I
     add(sink, pending, buffer.format(n).as_bytes());
 }
 
+/// Adds a count in decimal. One digit is a word.
+#[inline(always)]
+fn add_count<K: Sink>(sink: &mut K, pending: &mut Pending, n: u64)
+    ensures { Adds (stand (K.taken sink.old) (K.faults sink.old) pending.old) (decimal n)
+        (stand (K.taken sink.new) (K.faults sink.new) pending.new) }
+{
+    if n < 10 {
+        add_word(sink, pending, &[b'0' + n as u8]);
+        return;
+    }
+    add_number(sink, pending, n);
+}
+
+/// Adds a signed number in decimal.
+#[inline(always)]
+fn add_signed<K: Sink>(sink: &mut K, pending: &mut Pending, n: i64)
+    ensures { Adds (stand (K.taken sink.old) (K.faults sink.old) pending.old) (signed_decimal n)
+        (stand (K.taken sink.new) (K.faults sink.new) pending.new) }
+{
+    if n >= 0 {
+        add_count(sink, pending, n as u64);
+        return;
+    }
+    add_number(sink, pending, n);
+}
+
 /// Adds an actor between two spaces.
 fn add_actor<K: Sink>(sink: &mut K, pending: &mut Pending, actor: Actor)
     ensures { Adds (stand (K.taken sink.old) (K.faults sink.old) pending.old) (codes " " ++ actor_text actor ++ codes " ")
         (stand (K.taken sink.new) (K.faults sink.new) pending.new) }
 {
     match actor {
-        Actor::Env => add(sink, pending, b" env "),
+        Actor::Env => add_word(sink, pending, b" env "),
         Actor::Thread(n) => {
-            add(sink, pending, b" t");
+            add_word(sink, pending, b" t");
             add_number(sink, pending, n);
-            add(sink, pending, b" ");
+            add_word(sink, pending, b" ");
         }
         Actor::Worker(n) => {
-            add(sink, pending, b" w");
+            add_word(sink, pending, b" w");
             add_number(sink, pending, n);
-            add(sink, pending, b" ");
+            add_word(sink, pending, b" ");
         }
     }
 }
@@ -47,21 +76,21 @@ fn add_duty<K: Sink>(sink: &mut K, pending: &mut Pending, duty: Duty)
 {
     match duty {
         Duty::Ticket(ticket) => {
-            add(sink, pending, b"#");
-            add_number(sink, pending, ticket.0);
+            add_word(sink, pending, b"#");
+            add_count(sink, pending, ticket.0);
         }
         Duty::Work(n) => {
-            add(sink, pending, b"j");
+            add_word(sink, pending, b"j");
             add_number(sink, pending, n);
         }
         Duty::Item(function, n) => {
-            add(sink, pending, b"f");
+            add_word(sink, pending, b"f");
             add_number(sink, pending, function.0);
-            add(sink, pending, b".");
+            add_word(sink, pending, b".");
             add_number(sink, pending, n);
         }
         Duty::Function(function) => {
-            add(sink, pending, b"f");
+            add_word(sink, pending, b"f");
             add_number(sink, pending, function.0);
         }
     }
@@ -121,9 +150,9 @@ fn add_quoted<K: Sink>(sink: &mut K, pending: &mut Pending, text: &[u8])
     ensures { Adds (stand (K.taken sink.old) (K.faults sink.old) pending.old) (quoted text.now)
         (stand (K.taken sink.new) (K.faults sink.new) pending.new) }
 {
-    add(sink, pending, b"\"");
+    add_word(sink, pending, b"\"");
     add_all_escaped(sink, pending, text);
-    add(sink, pending, b"\"");
+    add_word(sink, pending, b"\"");
 }
 
 /// Adds the text of a number in quotation marks: the empty text where the number is past the end of the table.
@@ -137,6 +166,24 @@ fn add_text<K: Sink>(sink: &mut K, pending: &mut Pending, texts: &Texts, no: Tex
     }
 }
 
+/// Adds a cause and a colon.
+#[inline(always)]
+fn add_cause<K: Sink>(sink: &mut K, pending: &mut Pending, cause: Cause)
+    ensures { Adds (stand (K.taken sink.old) (K.faults sink.old) pending.old) (cause_name cause ++ codes ":")
+        (stand (K.taken sink.new) (K.faults sink.new) pending.new) }
+{
+    match cause {
+        Cause::Init => add_word(sink, pending, b"init:"),
+        Cause::Call => add_word(sink, pending, b"call:"),
+        Cause::Finalize => add_word(sink, pending, b"finalize:"),
+        Cause::Complete => add_word(sink, pending, b"complete:"),
+        Cause::Item => add_word(sink, pending, b"item:"),
+        Cause::Torn => add_word(sink, pending, b"torn:"),
+        Cause::Hook => add_word(sink, pending, b"hook:"),
+    }
+}
+
+#[inline(always)]
 fn add_begin<K: Sink>(
     sink: &mut K,
     pending: &mut Pending,
@@ -148,11 +195,10 @@ fn add_begin<K: Sink>(
     ensures { Adds (stand (K.taken sink.old) (K.faults sink.old) pending.old) (cause_name cause ++ codes ":" ++ decimal addon ++ codes "." ++ decimal entry ++ marked (codes ":") duty)
         (stand (K.taken sink.new) (K.faults sink.new) pending.new) }
 {
-    add(sink, pending, cause.name().as_bytes());
-    add(sink, pending, b":");
-    add_number(sink, pending, addon);
-    add(sink, pending, b".");
-    add_number(sink, pending, entry);
+    add_cause(sink, pending, cause);
+    add_count(sink, pending, addon as u64);
+    add_word(sink, pending, b".");
+    add_count(sink, pending, entry as u64);
     add_marked(sink, pending, b":", duty);
 }
 
@@ -161,17 +207,17 @@ fn add_out<K: Sink>(sink: &mut K, pending: &mut Pending, texts: &Texts, out: Out
         (stand (K.taken sink.new) (K.faults sink.new) pending.new) }
 {
     match out {
-        Out::Nothing => add(sink, pending, b"-"),
-        Out::Handle(_) => add(sink, pending, b"handle"),
-        Out::NoHandle => add(sink, pending, b"none"),
-        Out::Scope(_) => add(sink, pending, b"scope"),
-        Out::Ref(_) => add(sink, pending, b"ref"),
-        Out::Work(_) => add(sink, pending, b"work"),
+        Out::Nothing => add_word(sink, pending, b"-"),
+        Out::Handle(_) => add_word(sink, pending, b"handle"),
+        Out::NoHandle => add_word(sink, pending, b"none"),
+        Out::Scope(_) => add_word(sink, pending, b"scope"),
+        Out::Ref(_) => add_word(sink, pending, b"ref"),
+        Out::Work(_) => add_word(sink, pending, b"work"),
         Out::Function(function) => add_duty(sink, pending, Duty::Function(function)),
-        Out::Signed(n) => add_number(sink, pending, n),
-        Out::Unsigned(n) => add_number(sink, pending, n),
-        Out::Flag(true) => add(sink, pending, b"true"),
-        Out::Flag(false) => add(sink, pending, b"false"),
+        Out::Signed(n) => add_signed(sink, pending, n),
+        Out::Unsigned(n) => add_count(sink, pending, n),
+        Out::Flag(true) => add_word(sink, pending, b"true"),
+        Out::Flag(false) => add_word(sink, pending, b"false"),
         Out::Text(no) => add_text(sink, pending, texts, no),
         Out::Kind(kind) => add(sink, pending, kind.name().as_bytes()),
         Out::Duty(duty) => add_duty(sink, pending, duty),
@@ -179,9 +225,9 @@ fn add_out<K: Sink>(sink: &mut K, pending: &mut Pending, texts: &Texts, out: Out
             add_begin(sink, pending, cause, addon, entry, duty);
         }
         Out::Ended(end) => add(sink, pending, end.name().as_bytes()),
-        Out::Uncaught => add(sink, pending, b"uncaught"),
+        Out::Uncaught => add_word(sink, pending, b"uncaught"),
         Out::Cut(why) => {
-            add(sink, pending, b"cut:");
+            add_word(sink, pending, b"cut:");
             add(sink, pending, why.name().as_bytes());
         }
     }
@@ -193,47 +239,67 @@ fn add_status<K: Sink>(sink: &mut K, pending: &mut Pending, status: Status)
         (stand (K.taken sink.new) (K.faults sink.new) pending.new) }
 {
     if let Status::Ok = status {
-        add(sink, pending, b" 0 ");
+        add_word(sink, pending, b" 0 ");
         return;
     }
-    add(sink, pending, b" ");
+    add_word(sink, pending, b" ");
     add_number(sink, pending, status.number());
-    add(sink, pending, b" ");
+    add_word(sink, pending, b" ");
 }
 
-/// The end of a line from behind its name on, of what was accepted and tells a kind.
-fn end_of_kind(kind: Kind) -> &'static str
-    ensures { result.now ≡ codes " 0 " ++ kind_name kind ++ codes "\n" }
+/// Adds the end of a line from behind its name on, of what was accepted and tells a kind.
+#[inline(always)]
+fn add_end_of_kind<K: Sink>(sink: &mut K, pending: &mut Pending, kind: Kind)
+    ensures { Adds (stand (K.taken sink.old) (K.faults sink.old) pending.old) (codes " 0 " ++ kind_name kind ++ codes "\n")
+        (stand (K.taken sink.new) (K.faults sink.new) pending.new) }
 {
     match kind {
-        Kind::Undefined => " 0 undefined\n",
-        Kind::Null => " 0 null\n",
-        Kind::Boolean => " 0 boolean\n",
-        Kind::Number => " 0 number\n",
-        Kind::String => " 0 string\n",
-        Kind::Symbol => " 0 symbol\n",
-        Kind::Object => " 0 object\n",
-        Kind::Function => " 0 function\n",
-        Kind::External => " 0 external\n",
-        Kind::Bigint => " 0 bigint\n",
+        Kind::Undefined => add_word(sink, pending, b" 0 undefined\n"),
+        Kind::Null => add_word(sink, pending, b" 0 null\n"),
+        Kind::Boolean => add_word(sink, pending, b" 0 boolean\n"),
+        Kind::Number => add_word(sink, pending, b" 0 number\n"),
+        Kind::String => add_word(sink, pending, b" 0 string\n"),
+        Kind::Symbol => add_word(sink, pending, b" 0 symbol\n"),
+        Kind::Object => add_word(sink, pending, b" 0 object\n"),
+        Kind::Function => add_word(sink, pending, b" 0 function\n"),
+        Kind::External => add_word(sink, pending, b" 0 external\n"),
+        Kind::Bigint => add_word(sink, pending, b" 0 bigint\n"),
     }
 }
 
-/// The end of a line from behind its name on, of what was accepted and neither withdraws nor makes a duty, where its result has one of a few texts.
-fn end_of_out(out: Out) -> Option<&'static str>
-    ensures { (texts : List (List ℕ)) → IfSome result (λ end. end.now ≡ codes " 0 " ++ out_text texts out ++ codes "\n") }
+/// Adds the end of a line from behind its name on, of what was accepted and neither withdraws nor makes a duty, piece by piece.
+#[inline(never)]
+fn add_end_by_pieces<K: Sink>(sink: &mut K, pending: &mut Pending, texts: &Texts, out: &Out)
+    ensures { Adds (stand (K.taken sink.old) (K.faults sink.old) pending.old) (codes " 0 " ++ out_text texts.now out.now ++ codes "\n")
+        (stand (K.taken sink.new) (K.faults sink.new) pending.new) }
 {
-    match out {
-        Out::Nothing => Some(" 0 -\n"),
-        Out::Handle(_) => Some(" 0 handle\n"),
-        Out::NoHandle => Some(" 0 none\n"),
-        Out::Scope(_) => Some(" 0 scope\n"),
-        Out::Ref(_) => Some(" 0 ref\n"),
-        Out::Work(_) => Some(" 0 work\n"),
-        Out::Flag(true) => Some(" 0 true\n"),
-        Out::Flag(false) => Some(" 0 false\n"),
-        Out::Kind(kind) => Some(end_of_kind(kind)),
-        _ => None,
+    add_word(sink, pending, b" 0 ");
+    add_out(sink, pending, texts, *out);
+    add_word(sink, pending, b"\n");
+}
+
+/// Adds the end of a line from behind its name on, of what was accepted and neither withdraws nor makes a duty. Where there are few texts each is one word.
+#[inline(always)]
+fn add_end_of_out<K: Sink>(sink: &mut K, pending: &mut Pending, texts: &Texts, out: &Out)
+    ensures { Adds (stand (K.taken sink.old) (K.faults sink.old) pending.old) (codes " 0 " ++ out_text texts.now out.now ++ codes "\n")
+        (stand (K.taken sink.new) (K.faults sink.new) pending.new) }
+{
+    match *out {
+        Out::Nothing => add_word(sink, pending, b" 0 -\n"),
+        Out::Handle(_) => add_word(sink, pending, b" 0 handle\n"),
+        Out::NoHandle => add_word(sink, pending, b" 0 none\n"),
+        Out::Scope(_) => add_word(sink, pending, b" 0 scope\n"),
+        Out::Ref(_) => add_word(sink, pending, b" 0 ref\n"),
+        Out::Work(_) => add_word(sink, pending, b" 0 work\n"),
+        Out::Flag(true) => add_word(sink, pending, b" 0 true\n"),
+        Out::Flag(false) => add_word(sink, pending, b" 0 false\n"),
+        Out::Kind(kind) => add_end_of_kind(sink, pending, kind),
+        Out::Begin(cause, addon, entry, duty) => {
+            add_word(sink, pending, b" 0 ");
+            add_begin(sink, pending, cause, addon, entry, duty);
+            add_word(sink, pending, b"\n");
+        }
+        _ => add_end_by_pieces(sink, pending, texts, out),
     }
 }
 
@@ -244,33 +310,33 @@ fn tells_duty(reply: &Reply) -> bool
     reply.dropped.is_some() || reply.made.is_some()
 }
 
-/// The end of a line from behind its name on, where it is one of a few. Most lines end so.
-fn fixed_end(reply: &Reply) -> Option<&'static str>
-    ensures { (texts : List (List ℕ)) → IfSome result (λ end. end.now ≡ line_end texts reply.now) }
-{
-    if tells_duty(reply) {
-        return None;
-    }
-    match reply.status {
-        Status::Ok => end_of_out(reply.out),
-        _ => None,
-    }
-}
-
-/// Adds the end of a line from behind its name on.
-fn add_end<K: Sink>(sink: &mut K, pending: &mut Pending, texts: &Texts, reply: &Reply)
+/// Adds the end of a line from behind its name on, piece by piece.
+#[inline(never)]
+fn add_long_end<K: Sink>(sink: &mut K, pending: &mut Pending, texts: &Texts, reply: &Reply)
     ensures { Adds (stand (K.taken sink.old) (K.faults sink.old) pending.old) (line_end texts.now reply.now)
         (stand (K.taken sink.new) (K.faults sink.new) pending.new) }
 {
-    if let Some(end) = fixed_end(reply) {
-        add(sink, pending, end.as_bytes());
-        return;
-    }
     add_status(sink, pending, reply.status);
     add_out(sink, pending, texts, reply.out);
     add_marked(sink, pending, b" -", reply.dropped);
     add_marked(sink, pending, b" +", reply.made);
-    add(sink, pending, b"\n");
+    add_word(sink, pending, b"\n");
+}
+
+/// Adds the end of a line from behind its name on.
+#[inline(always)]
+fn add_end<K: Sink>(sink: &mut K, pending: &mut Pending, texts: &Texts, reply: &Reply)
+    ensures { Adds (stand (K.taken sink.old) (K.faults sink.old) pending.old) (line_end texts.now reply.now)
+        (stand (K.taken sink.new) (K.faults sink.new) pending.new) }
+{
+    if tells_duty(reply) {
+        add_long_end(sink, pending, texts, reply);
+        return;
+    }
+    match reply.status {
+        Status::Ok => add_end_of_out(sink, pending, texts, &reply.out),
+        _ => add_long_end(sink, pending, texts, reply),
+    }
 }
 
 /// Adds the line of an entry.
@@ -278,13 +344,13 @@ pub fn add_line<K: Sink>(
     sink: &mut K,
     pending: &mut Pending,
     texts: &Texts,
-    number: u64,
+    number: &LineNumber,
     entry: &Entry,
 )
-    ensures { Adds (stand (K.taken sink.old) (K.faults sink.old) pending.old) (line texts.now number entry.now)
+    ensures { Adds (stand (K.taken sink.old) (K.faults sink.old) pending.old) (line texts.now number.now entry.now)
         (stand (K.taken sink.new) (K.faults sink.new) pending.new) }
 {
-    add_number(sink, pending, number);
+    add_line_number(sink, pending, number);
     add_actor(sink, pending, entry.actor);
     add(sink, pending, entry.what.name().as_bytes());
     add_end(sink, pending, texts, &entry.reply);

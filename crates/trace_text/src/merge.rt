@@ -7,6 +7,7 @@ ghost use Rattle.trace_text.specs.Merging.{BeginsAt, unwoven};
 ghost use Rattle.trace_text.specs.Writing.{Adds, stand};
 
 use crate::line::add_line;
+use crate::number::LineNumber;
 use crate::pending::Pending;
 use napi_types::{Entry, Local, Sink, Texts};
 
@@ -80,9 +81,11 @@ pub fn add_merged<K: Sink>(
         locals: 0,
         shared: 0,
     };
-    for line in 0..journal.len() + history.len() {
+    let mut number = LineNumber::of(1);
+    for _ in 0..journal.len() + history.len() {
         let (entry, next) = next_of(journal, history, passed);
-        add_line(sink, pending, texts, line as u64 + 1, entry);
+        add_line(sink, pending, texts, &number, entry);
+        number.advance();
         passed = next;
     }
 }

@@ -1,7 +1,8 @@
 //! Pieces of a text on their way to a sink, held until there are enough of them for a write.
-ghost use Rattle.std.specs.Prelude.{◌≡◌, ◌+◌, ◌≤◌, ◌↔◌, IsTrue, true, false, [], ◌++◌, length};
+ghost use Rattle.std.specs.Prelude.{◌≡◌, ◌+◌, ◌≤◌, ◌↔◌, IsTrue, true, false, [], ◌++◌, length, take, decimal};
 ghost use Rattle.trace_text.specs.Writing.{Adds, stand};
 
+use crate::number::{DIGITS, LineNumber};
 use crate::put::put_all;
 use napi_types::{Failed, Sink};
 use std::marker::Model;
@@ -9,7 +10,7 @@ use std::marker::Model;
 /// How many bytes may wait.
 const ROOM: usize = 8192;
 
-/// The bytes that wait to be written, and the mark that the writing failed. After a fault no bytes wait.
+/// The bytes that wait to be written, and the mark that the writing failed. Those that wait after a fault are never written.
 #[derive(Drop)]
 pub struct Pending {
     bytes: [u8; ROOM],
@@ -18,14 +19,14 @@ pub struct Pending {
 }
 
 impl Model for Pending {
-    ghost use Rattle.std.specs.Prelude.{◌≡◌, ◌≤◌, true, take};
+    ghost use Rattle.std.specs.Prelude.{◌≤◌, take};
     ghost use Rattle.trace_text.specs.Writing.{Waiting};
 
     ghost Value = { Waiting };
 
     ghost view = { λ pending. record { bytes = take pending.filled pending.bytes; failed = pending.failed } };
 
-    ghost invariant = { λ pending. (pending.filled ≤ 8192) × (pending.failed ≡ true → pending.filled ≡ 0) };
+    ghost invariant = { λ pending. pending.filled ≤ 8192 };
 }
 
 impl Pending {
@@ -42,8 +43,7 @@ impl Pending {
 
     /// Whether the writing failed.
     pub fn has_failed(&self) -> bool
-        ensures failed { result ≡ self.now.failed }
-        ensures none { IsTrue result → self.now.bytes ≡ [] }
+        ensures { result ≡ self.now.failed }
     {
         self.failed
     }
@@ -52,7 +52,7 @@ impl Pending {
     fn has_room(&self, count: usize) -> bool
         ensures { IsTrue result ↔ (length self.now.bytes + count ≤ 8192) }
     {
-        count <= ROOM - self.filled
+        count <= ROOM && self.filled <= ROOM - count
     }
 
     /// The bytes that wait.
@@ -64,13 +64,42 @@ impl Pending {
 
     /// Lets bytes wait behind those that wait.
     fn hold(&mut self, bytes: &[u8])
-        requires room { length self.old.bytes + length bytes.now ≤ 8192 }
-        requires fine { self.old.failed ≡ false }
+        requires { length self.old.bytes + length bytes.now ≤ 8192 }
         ensures { self.new ≡ record self.old { bytes = self.old.bytes ++ bytes.now } }
     {
         let end = self.filled + bytes.len();
         self.bytes[self.filled..end].copy_from_slice(bytes);
         self.filled = end;
+    }
+
+    /// Lets a word wait behind those that wait. The copy of its own cannot overlap them, which spares a test of that.
+    #[inline(always)]
+    fn hold_word<const N: usize>(&mut self, word: &[u8; N])
+        requires { length self.old.bytes + N ≤ 8192 }
+        ensures { self.new ≡ record self.old { bytes = self.old.bytes ++ word.now } }
+    {
+        let word = *word;
+        self.bytes[self.filled..self.filled + N].copy_from_slice(&word);
+        self.filled += N;
+    }
+
+    /// Lets the digits of a number wait behind those that wait.
+    #[inline(always)]
+    fn hold_digits(&mut self, number: &LineNumber)
+        requires { length self.old.bytes + 20 ≤ 8192 }
+        ensures { self.new ≡ record self.old { bytes = self.old.bytes ++ decimal number.now } }
+    {
+        let end = self.waiting().len() + number.count();
+        self.hold_word(number.digits());
+        self.keep(end);
+    }
+
+    /// Lets only the first of the bytes that wait wait on.
+    fn keep(&mut self, count: usize)
+        requires { count ≤ length self.old.bytes }
+        ensures { self.new ≡ record self.old { bytes = take count self.old.bytes } }
+    {
+        self.filled = count;
     }
 
     /// Lets no bytes wait any more, and notes whether the writing failed.
@@ -89,6 +118,7 @@ pub fn write_out<K: Sink>(sink: &mut K, pending: &mut Pending)
     ensures none { pending.new.bytes ≡ [] }
 {
     if pending.has_failed() {
+        pending.clear(true);
         return;
     }
     match put_all(sink, pending.waiting()) {
@@ -103,11 +133,37 @@ pub fn add<K: Sink>(sink: &mut K, pending: &mut Pending, bytes: &[u8])
     ensures { Adds (stand (K.taken sink.old) (K.faults sink.old) pending.old) bytes.now
         (stand (K.taken sink.new) (K.faults sink.new) pending.new) }
 {
-    if !pending.has_failed() && pending.has_room(bytes.len()) {
+    if pending.has_room(bytes.len()) {
         pending.hold(bytes);
         return;
     }
     add_behind_a_write(sink, pending, bytes);
+}
+
+/// Adds a word: a piece whose length is known beforehand.
+#[inline(always)]
+pub fn add_word<K: Sink, const N: usize>(sink: &mut K, pending: &mut Pending, word: &[u8; N])
+    ensures { Adds (stand (K.taken sink.old) (K.faults sink.old) pending.old) word.now
+        (stand (K.taken sink.new) (K.faults sink.new) pending.new) }
+{
+    if pending.has_room(N) {
+        pending.hold_word(word);
+        return;
+    }
+    add_behind_a_write(sink, pending, word);
+}
+
+/// Adds the number of a line.
+#[inline(always)]
+pub fn add_line_number<K: Sink>(sink: &mut K, pending: &mut Pending, number: &LineNumber)
+    ensures { Adds (stand (K.taken sink.old) (K.faults sink.old) pending.old) (decimal number.now)
+        (stand (K.taken sink.new) (K.faults sink.new) pending.new) }
+{
+    if pending.has_room(DIGITS) {
+        pending.hold_digits(number);
+        return;
+    }
+    add_behind_a_write(sink, pending, number.text());
 }
 
 /// Adds a piece once those that wait are written.
@@ -127,11 +183,11 @@ fn add_first<K: Sink>(sink: &mut K, pending: &mut Pending, bytes: &[u8])
     ensures { Adds (stand (K.taken sink.old) (K.faults sink.old) pending.old) bytes.now
         (stand (K.taken sink.new) (K.faults sink.new) pending.new) }
 {
-    if pending.has_failed() {
-        return;
-    }
     if pending.has_room(bytes.len()) {
         pending.hold(bytes);
+        return;
+    }
+    if pending.has_failed() {
         return;
     }
     match put_all(sink, bytes) {

@@ -6,6 +6,7 @@ ghost use Rattle.napi_types.specs.scripts.Text.{lines_from, text};
 ghost use Rattle.trace_text.specs.Writing.{Adds, stand};
 
 use crate::line::add_line;
+use crate::number::LineNumber;
 use crate::pending::Pending;
 use napi_types::{Entry, Local, Sink, Texts};
 
@@ -48,7 +49,7 @@ fn add_place<K: Sink>(
         (stand (K.taken sink.new) (K.faults sink.new) pending.new) }
 {
     let number = add_locals(sink, pending, texts, first, journal, at);
-    add_line(sink, pending, texts, number, shared);
+    add_line(sink, pending, texts, &LineNumber::of(number), shared);
     number + 1
 }
 
@@ -94,6 +95,6 @@ fn add_local<K: Sink>(
     if local.at != at {
         return number;
     }
-    add_line(sink, pending, texts, number, &local.entry);
+    add_line(sink, pending, texts, &LineNumber::of(number), &local.entry);
     number + 1
 }

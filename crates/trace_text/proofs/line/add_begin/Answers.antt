@@ -3,6 +3,5 @@ use Rattle.trace_text.proofs.line.add_begin.Goals as goal
 
 pub returns : goal.returns
 returns g c =
-    let cause = rw (c.as_bytes.ensures.value, c.name.ensures) at c.add.ensures in
-    adds_then (adds_then (adds_then (adds_then (adds_then
-    cause c.add-2.ensures) c.add_number.ensures) c.add-3.ensures) c.add_number-2.ensures) c.add_marked.ensures
+    adds_then (adds_then (adds_then (adds_then
+    c.add_cause.ensures c.add_count.ensures) c.add_word.ensures) c.add_count-2.ensures) c.add_marked.ensures

@@ -1,7 +1,7 @@
-use Rattle.trace_text.proofs.Adding.{adds_then}
+use Rattle.std.proofs.Common.{◌∙◌, sym}
+use Rattle.trace_text.proofs.LineEnds.{accepted_end}
 use Rattle.trace_text.proofs.line.add_end.Goals as goal
 
-pub returns : goal.returns
-returns g c =
-    adds_then (adds_then (adds_then (adds_then c.add_status.ensures
-    c.add_out.ensures) c.add_marked.ensures) c.add_marked-2.ensures) c.add-2.ensures
+pub returns-in-Ok : goal.returns-in-Ok
+returns-in-Ok g c =
+    rw (sym (accepted_end c.args.texts.now c.args.reply.now c.in-Ok.is (sym c.tells_duty.ensures ∙ c.if-tells_duty.false))) c.add_end_of_out.ensures

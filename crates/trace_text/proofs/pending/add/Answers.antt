@@ -1,6 +1,5 @@
-use Rattle.std.proofs.Common.{sym}
 use Rattle.trace_text.proofs.Adding.{adds_held}
 use Rattle.trace_text.proofs.pending.add.Goals as goal
 
 pub returns-then-has_room : goal.returns-then-has_room
-returns-then-has_room g c = adds_held _ _ _ _ _ (sym c.if-not-has_failed.ensures.failed) c.hold.ensures
+returns-then-has_room g c = adds_held _ _ _ _ _ c.hold.ensures

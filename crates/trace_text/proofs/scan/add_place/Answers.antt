@@ -3,4 +3,4 @@ use Rattle.trace_text.proofs.scan.add_place.Goals as goal
 
 pub returns-clause-added : goal.returns-clause-added
 returns-clause-added g c =
-    line_then _ _ _ _ _ c.add_locals-number.ensures.next c.add_locals-number.ensures.added c.add_line.ensures
+    line_then _ _ _ _ _ c.add_locals-number.ensures.next c.add_locals-number.ensures.added (rw c.of.ensures at c.add_line.ensures)

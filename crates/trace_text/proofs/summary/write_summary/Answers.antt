@@ -9,9 +9,9 @@ returns-then-has_failed-clause-err g c =
 pub returns-else-has_failed-clause-ok : goal.returns-else-has_failed-clause-ok
 returns-else-has_failed-clause-ok g c =
     adds_whole _ _ _ _ _ _ c.new-pending.ensures (rw c.counts_of_run-counts.ensures at c.add_counts.ensures) c.write_out.ensures.added c.write_out.ensures.none
-    (sym c.has_failed.ensures.failed ∙ c.if-has_failed.false)
+    (sym c.has_failed.ensures ∙ c.if-has_failed.false)
 
 pub returns-else-has_failed-clause-counted : goal.returns-else-has_failed-clause-counted
 returns-else-has_failed-clause-counted g c =
     adds_counted _ _ _ _ _ _ (rw c.counts_of_run-counts.ensures at c.add_counts.ensures) c.write_out.ensures.added
-    (sym c.has_failed.ensures.failed ∙ c.if-has_failed.false)
+    (sym c.has_failed.ensures ∙ c.if-has_failed.false)
