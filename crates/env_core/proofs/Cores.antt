@@ -1,6 +1,8 @@
 -- A core stays one where an entry is written.
-use Rattle.std.proofs.Common.{◌≡◌, ◌≤◌, ◌≢◌, ℕ, ◌+◌, ◌-◌, ◌*◌, ◌==◌, Bool, true, false, not, cond, ◌&&◌, IsTrue, List, [], ◌∷◌, ◌++◌, length, Option, Some, None, is_none, is_some, option_map, subst, sym, ap, ◌∙◌, arith, length-append, refl}
+use Rattle.std.proofs.Common.{◌≡◌, ◌≤◌, ◌≢◌, ℕ, ◌+◌, ◌-◌, ◌*◌, ◌==◌, Bool, true, false, not, cond, ◌&&◌, IsTrue, List, [], ◌∷◌, ◌++◌, length, Option, Some, None, is_none, is_some, option_map, slice_get, subst, sym, ap, ◌∙◌, arith, length-append, refl}
+use Rattle.std.proofs.Math.Seq.{get_or-append_seam}
 use Rattle.std.proofs.lemmas.Bool.{le-ltb}
+use Rattle.std.proofs.lemmas.Option.{slice_get_read}
 use Rattle.napi_types.specs.declared.call.Args.{Args}
 use Rattle.napi_types.specs.declared.call.Call.{Call}
 use Rattle.napi_types.specs.declared.call.Call.TheVariants as call
@@ -21,10 +23,10 @@ use Rattle.napi_types.specs.plain.Lists.{tail}
 use Rattle.napi_types.specs.plain.Phases.{next_phase}
 use Rattle.napi_types.specs.plain.Room.{one_if, need, is_full}
 use Rattle.napi_types.specs.parts.Book.{Book, Registration, is_registered, is_due, registration_at, lowest_due, owed_tickets, made_due, moved_at, begun_in, may_begin_in}
-use Rattle.napi_types.specs.parts.Frames.{Frame, caller_of, cause_of, duty_of, is_hub_duty, local_frames}
+use Rattle.napi_types.specs.parts.Frames.{Frame, asks_made, caller_of, cause_of, duty_of, is_hub_duty, local_frames}
 use Rattle.napi_types.specs.parts.Hooks.{last_hook}
 use Rattle.napi_types.specs.environment.Calls.{answer_unless_deep}
-use Rattle.napi_types.specs.environment.Changes.{call_change, number_of, book_in, in_phase}
+use Rattle.napi_types.specs.environment.Changes.{call_change, call_entry, number_of, book_in, in_phase}
 use Rattle.napi_types.specs.environment.Ends.{end_change_by, outermost_end_change, end_change}
 use Rattle.napi_types.specs.environment.Entering.{is_entering}
 use Rattle.napi_types.specs.environment.Environment.{Environment}
@@ -39,10 +41,10 @@ use Rattle.napi_types.proofs.environment.Answers.{course-parts, KeepsButAsk, cal
 use Rattle.napi_types.proofs.environment.FrameChanges.{book_left, owed-left, KeepsButFrame, ended-keeps}
 use Rattle.napi_types.proofs.environment.HookedSteps.{hooked-called, hooked-ended, hooked-begun, hooked-phase}
 use Rattle.napi_types.proofs.environment.Registrations.{owed-in}
-use Rattle.env_core.specs.Journal.{Pages}
+use Rattle.env_core.specs.Journal.{Pages, told_entry, last_reply}
 use Rattle.env_core.specs.Core.{Core, IsCore, after_change, room_in}
 use Rattle.env_core.specs.State.{Calls}
-use Rattle.env_core.specs.CoreSteps.{Replies}
+use Rattle.env_core.specs.CoreSteps.{Replies, OnLastReply}
 use Rattle.env_core.proofs.Beginning.{last-registered, length-duty}
 
 -- the core of an environment and a journal, and of what is awaited
@@ -276,3 +278,25 @@ replied env new pages after a c x k e once fits calls = record {
       ∙ ap (λ y. after_change (record { entry = y; after = new }) (core_of env pages a)) calls.entry
       ∙ ap (λ s. after_change (record { entry = (call_change env c (number_of x.reply.out)).entry; after = s }) (core_of env pages a)) calls.after;
 }
+
+-- the entry of a call, where it tells how many frames stand and the number of the ask
+pub written-call : (e : Environment) (depth step : ℕ) (c : Call) (r : Reply) (k : ℕ) (pages : Pages) → depth ≡ length e.frames → step ≡ asks_made e.frames
+    → written (told_entry depth step c r) k pages ≡ written (call_entry e c r) k pages
+written-call e depth step c r k pages d s = rw (d, s) refl
+
+-- the reply of the entry that was written last
+last-one : (xs : List Local) (x : Local) → slice_get (xs ++ x ∷ []) (length (xs ++ x ∷ []) - 1) ≡ Some x
+last-one xs x =
+    let long : length (xs ++ x ∷ []) ≡ length xs + 1 = length-append xs (x ∷ []) in
+    ap (slice_get (xs ++ x ∷ [])) (omega (arith, long))
+    ∙ slice_get_read (xs ++ x ∷ []) (length (xs ++ x ∷ [])) (length xs) x refl (omega (arith, long)) (sym (get_or-append_seam xs x [] x))
+
+pub last-written : (pages after : Pages) (x : Entry) (k : ℕ) → after ≡ written x k pages → last_reply after.entries ≡ Some x.reply
+last-written pages after x k e =
+    ap (λ (p : Pages). last_reply p.entries) e ∙ ap (λ (o : Option Local). option_map (λ l. l.entry.reply) o) (last-one pages.entries (record { at = pages.position; entry = x }))
+
+-- the reply of the journal's last entry is the machine's answer
+pub replied-last : (env new : Environment) (pages after : Pages) (a : Option SharedCall) (c : Call) (x : Entry) (k : ℕ) → after ≡ written x k pages → is_entering env c ≡ false
+    → is_full (room_in (core_of env pages a)) c ≡ false → Calls env c x new → OnLastReply after.entries (λ r. Replies (core_of env pages a) c r (core_of new after a))
+replied-last env new pages after a c x k e once fits calls =
+    rw (last-written pages after x k e) (replied env new pages after a c x k e once fits calls)

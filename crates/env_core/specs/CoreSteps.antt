@@ -1,9 +1,10 @@
 -- What a step of a frame comes to.
-use Rattle.std.specs.Prelude.{◌≡◌, ℕ, ◌+◌, ◌<◌, ◌⊎◌, true, false, IsTrue, List, min, Option, Some, None}
+use Rattle.std.specs.Prelude.{◌≡◌, ℕ, ◌+◌, ◌<◌, ◌⊎◌, true, false, IsTrue, List, min, Option, Some, None, MatchOption}
 use Rattle.napi_types.specs.declared.call.Args.{Args}
 use Rattle.napi_types.specs.declared.call.Call.{Call}
 use Rattle.napi_types.specs.declared.call.Call.TheVariants as call
 use Rattle.napi_types.specs.declared.duties.DueInfo.{DueInfo}
+use Rattle.napi_types.specs.declared.entry.Local.{Local}
 use Rattle.napi_types.specs.declared.entry.Out.TheVariants as out
 use Rattle.napi_types.specs.declared.entry.Reply.{Reply}
 use Rattle.napi_types.specs.declared.entry.Target.{Target}
@@ -23,6 +24,7 @@ use Rattle.napi_types.specs.environment.Tickets.{ticket_change, next_ticket}
 use Rattle.env_core.specs.declared.env.Stepped.{Stepped}
 use Rattle.env_core.specs.declared.env.Stepped.TheVariants as stepped
 use Rattle.env_core.specs.Core.{Core, after_change, room_in}
+use Rattle.env_core.specs.Journal.{last_reply}
 use Rattle.env_core.specs.Sharing.{awaiting, wants_root}
 use Rattle.env_core.specs.State.{IsAccepted}
 
@@ -30,6 +32,10 @@ use Rattle.env_core.specs.State.{IsAccepted}
 abbrev pub IfReply : Stepped → (Reply → Type 0) → Type 0
 IfReply (stepped.Reply r) P = P r
 IfReply _ P = Unit {0}
+
+-- a fact of the reply of the last of these entries; there has to be one
+abbrev pub OnLastReply : List Local → (Reply → Type 0) → Type 0
+OnLastReply xs P = MatchOption (last_reply xs) ⊥ P
 
 -- a fact of the status, where the step is a stop
 abbrev pub IfStop : Stepped → (Status → Type 0) → Type 0

@@ -10,9 +10,12 @@ use Rattle.napi_types.specs.declared.ids.HandleId.{HandleId}
 use Rattle.napi_types.specs.declared.entry.Cause.{Cause}
 use Rattle.napi_types.specs.declared.entry.Cause.TheVariants as cause
 use Rattle.napi_types.specs.declared.entry.Entry.{Entry}
+use Rattle.napi_types.specs.declared.entry.HostStep.TheVariants as host
+use Rattle.napi_types.specs.declared.entry.Out.TheVariants as out
 use Rattle.napi_types.specs.declared.entry.Reply.{Reply}
 use Rattle.napi_types.specs.declared.entry.Target.{Target}
 use Rattle.napi_types.specs.declared.status.Status.{Status}
+use Rattle.napi_types.specs.plain.Entries.{host_entry}
 use Rattle.napi_types.specs.plain.Guards.{is_growing}
 use Rattle.napi_types.specs.plain.Replies.{Answer}
 use Rattle.napi_types.specs.parts.Frames.{Frame}
@@ -22,7 +25,7 @@ use Rattle.napi_types.specs.parts.HeapChanges.{with_frame}
 use Rattle.napi_types.specs.parts.Properties.{most_names}
 use Rattle.napi_types.specs.parts.References.{ReferenceMap}
 use Rattle.napi_types.specs.environment.Calls.{answer_unless, answer}
-use Rattle.napi_types.specs.environment.Changes.{call_change, number_of, is_fresh_result}
+use Rattle.napi_types.specs.environment.Changes.{call_change, call_entry, number_of, is_fresh_result}
 use Rattle.napi_types.specs.environment.Entering.{is_entering, enter_change}
 use Rattle.napi_types.specs.environment.Environment.{Environment, FunctionRoot}
 use Rattle.napi_types.specs.environment.Refusals.{timely_refusal, refusal}
@@ -120,15 +123,20 @@ pub record IsAccepted (e : Environment) (receiver : Option HandleId) (f : Handle
   pub runs : target.torn_runs ≡ false
   pub gifts_are : gifts ≡ call_gifts e.heap receiver f args
 
+-- the begin of the frame that a call enters
+abbrev pub begin_entry : Target → Entry
+begin_entry target = host_entry host.Begin (out.Begin cause.Call target.addon target.entry None)
+
 -- one that is accepted enters the frame of the function
-pub record EntersCall (old : Environment) (receiver : Option HandleId) (f : HandleId) (args : Args) (x : Entry) (target : Target) (gifts : List ℕ) (new : Environment) : Type 0 where
+pub record EntersCall (old : Environment) (receiver : Option HandleId) (f : HandleId) (args : Args) (target : Target) (gifts : List ℕ) (new : Environment) : Type 0 where
   pub called : IsAccepted old receiver f args target gifts
-  pub begun : x ≡ (enter_change receiver f args old).entry
+  pub begun : begin_entry target ≡ (enter_change receiver f args old).entry
   pub after : new ≡ (enter_change receiver f args old).after
 
 abbrev pub CallsFunction : Environment → Option HandleId → HandleId → Args → Called → Environment → Type 0
-CallsFunction old receiver f args (called_of.Refused x) new = RefusesCall old (call.CallFunction receiver f args) x new
-CallsFunction old receiver f args (called_of.Entered x target gifts) new = EntersCall old receiver f args x target gifts new
+CallsFunction old receiver f args (called_of.Refused r) new =
+    RefusesCall old (call.CallFunction receiver f args) (call_entry old (call.CallFunction receiver f args) r) new
+CallsFunction old receiver f args (called_of.Entered target gifts) new = EntersCall old receiver f args target gifts new
 
 -- the scopes of the frame that a call begins: a handle of undefined lies in them where the call names no receiver, and this is the receiver's handle
 pub record BeginsScopes (store : StoreState) (old : HandleScopes) (receiver : Option HandleId) (h : HandleId) (new : HandleScopes) : Type 0 where

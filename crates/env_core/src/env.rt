@@ -1,5 +1,5 @@
 //! The environment with its journal.
-ghost use Rattle.std.specs.Prelude.{◌≡◌, ◌≢◌, ℕ, ◌+◌, ◌-◌, ◌*◌, ◌<◌, ◌≤◌, [], length, option_map, Some, None, is_some, true, false, IfOk, IfSome, IsTrue, ◌↔◌};
+ghost use Rattle.std.specs.Prelude.{◌≡◌, ◌≢◌, ℕ, ◌+◌, ◌-◌, ◌*◌, ◌<◌, ◌≤◌, [], length, option_map, Some, None, is_some, true, false, IfOk, OnOk, OnErr, IfErr, IfSome, IsTrue, ◌↔◌, option_copied};
 ghost use Rattle.napi_types.specs.declared.call.Call.TheVariants as call_of;
 ghost use Rattle.napi_types.specs.declared.entry.Cause.TheVariants as cause;
 ghost use Rattle.napi_types.specs.plain.CallKinds.{is_calling, is_value_call};
@@ -16,8 +16,9 @@ ghost use Rattle.napi_types.specs.environment.Refusals.{early_refusal, depth_ref
 ghost use Rattle.napi_types.specs.environment.Tickets.{next_ticket};
 ghost use Rattle.env_core.specs.Standing.{machine_frame};
 ghost use Rattle.env_core.specs.Core.{opened_core, after_change, after_phase, at_position, next_init, room_in};
-ghost use Rattle.env_core.specs.CoreSteps.{IfReply, IfEnter, IfStop, Replies, Enters, EntersBy, RefusedAs, StopsBy, IsAtOnce, IsLocal, IsHandedOver};
+ghost use Rattle.env_core.specs.CoreSteps.{IfReply, IfEnter, IfStop, OnLastReply, Replies, Enters, EntersBy, RefusedAs, StopsBy, IsAtOnce, IsLocal, IsHandedOver};
 ghost use Rattle.env_core.specs.CoreSteps.{BeginsTicket};
+ghost use Rattle.env_core.specs.Journal.{last_reply};
 ghost use Rattle.env_core.specs.Sharing.{after_finish};
 
 mod hub;
@@ -25,11 +26,11 @@ mod hub;
 use crate::frames::StandingFrame;
 use crate::function_roots::RootRoom;
 use crate::journal::Journal;
-use crate::state::{Called, State, is_shared};
+use crate::state::{Called, State, host_entry, is_shared};
 use addon_trait::Phased;
 use napi_types::{
-    Args, Begun, Call, Due, Duty, Entry, HandleId, Limits, Local, LocalList, NoMemory, Phase,
-    Reply, SharedCall, Status, Target, TsfnId, Why,
+    Args, Begun, Call, Cause, Due, Duty, HandleId, HostStep, Limits, Local, LocalList, NoMemory,
+    Out, Phase, Reply, SharedCall, Status, Target, TsfnId, Why,
 };
 use std::alloc::Global;
 use std::marker::Model;
@@ -108,6 +109,7 @@ impl EnvCore {
     /// An accepted call of a function enters the function's frame, whose `end` will have the call's reply. A shared call is handed to the
     /// hub: until [`EnvCore::settle`] or [`EnvCore::unsettle`] no other step is taken, and the only memory that it takes is that for the
     /// root of a new thread-safe function. Every other call answers at once.
+    #[inline(never)]
     pub fn step(&mut self, step: u32, call: &Call) -> Stepped
         requires standing { self.old.env.frames ≢ [] }
         requires idle { self.old.awaited ≡ None }
@@ -144,12 +146,12 @@ impl EnvCore {
             Call::CallFunction(receiver, function, args) => {
                 self.call_function(step, *receiver, *function, args)
             }
-            _ => self.answer(step, call),
+            _ => self.step_at_once(step, call),
         }
     }
 
-    /// A call that is no call of a function.
-    fn answer(&mut self, step: u32, call: &Call) -> Stepped
+    /// A call that is answered at once, with a copy of its reply.
+    fn step_at_once(&mut self, step: u32, call: &Call) -> Stepped
         requires standing { self.old.env.frames ≢ [] }
         requires idle { self.old.awaited ≡ None }
         requires local { is_shared_call call.now ≡ false }
@@ -161,6 +163,32 @@ impl EnvCore {
         ensures cause { IfStop result (λ status. StopsBy self.old.env (room_in self.old) call.now status) }
         ensures full { IsTrue (is_full (room_in self.old) call.now) → result ≡ Stepped.Stop Status.TraceFull }
         ensures at_once { IsAtOnce result }
+    {
+        match self.answer(step, call) {
+            Ok(()) => match self.last_reply() {
+                Some(reply) => Stepped::Reply(*reply),
+                None => unreachable!(),
+            },
+            Err(status) => Stepped::Stop(status),
+        }
+    }
+
+    /// Makes a call of the innermost frame, which stands, that is answered at once: one that is neither shared nor of a function. It does what
+    /// [`EnvCore::step`] does for such a call, and hands out no copy of the reply: [`EnvCore::last_reply`] lends it. `step` is the number of the
+    /// ask in its frame, from 0 to 65,535.
+    ///
+    /// A call that stops, with `NoMemory` or `TraceFull`, left no entry and changed nothing.
+    pub fn answer(&mut self, step: u32, call: &Call) -> Result<(), Status>
+        requires standing { self.old.env.frames ≢ [] }
+        requires idle { self.old.awaited ≡ None }
+        requires local { is_shared_call call.now ≡ false }
+        requires at_once { is_calling call.now ≡ false }
+        requires ask { step ≡ asks_made self.old.env.frames }
+        requires within { step < most_asks }
+        ensures reply { OnOk result (OnLastReply self.new.journal (λ reply. Replies self.old call.now reply self.new)) }
+        ensures stop { OnErr result (self.new ≡ self.old) }
+        ensures cause { IfErr result (λ status. StopsBy self.old.env (room_in self.old) call.now status) }
+        ensures full { IsTrue (is_full (room_in self.old) call.now) → result ≡ Err Status.TraceFull }
     {
         if call.is_value_call() {
             self.answer_on_values(step, call)
@@ -169,8 +197,15 @@ impl EnvCore {
         }
     }
 
+    /// The reply of the journal's last entry, where there is one.
+    pub fn last_reply(&self) -> Option<&Reply>
+        ensures { option_copied result ≡ last_reply self.now.journal }
+    {
+        self.journal.last_reply()
+    }
+
     /// A call on values, properties or elements. It has a place for its entry.
-    fn answer_on_values(&mut self, step: u32, call: &Call) -> Stepped
+    fn answer_on_values(&mut self, step: u32, call: &Call) -> Result<(), Status>
         requires standing { self.old.env.frames ≢ [] }
         requires idle { self.old.awaited ≡ None }
         requires local { is_shared_call call.now ≡ false }
@@ -178,30 +213,30 @@ impl EnvCore {
         requires value_call { is_value_call call.now ≡ true }
         requires ask { step ≡ asks_made self.old.env.frames }
         requires within { step < most_asks }
-        ensures reply { IfReply result (λ reply. Replies self.old call.now reply self.new) }
-        ensures stop { IfStop result (λ status. self.new ≡ self.old) }
-        ensures cause { IfStop result (λ status. StopsBy self.old.env (room_in self.old) call.now status) }
-        ensures full { IsTrue (is_full (room_in self.old) call.now) → result ≡ Stepped.Stop Status.TraceFull }
-        ensures at_once { IsAtOnce result }
+        ensures reply { OnOk result (OnLastReply self.new.journal (λ reply. Replies self.old call.now reply self.new)) }
+        ensures stop { OnErr result (self.new ≡ self.old) }
+        ensures cause { IfErr result (λ status. StopsBy self.old.env (room_in self.old) call.now status) }
+        ensures full { IsTrue (is_full (room_in self.old) call.now) → result ≡ Err Status.TraceFull }
     {
         if let Err(status) = self.journal.promise(1) {
-            return Stepped::Stop(status);
+            return Err(status);
         }
-        match self.state.call_on_values(step, call) {
-            Ok(entry) => {
-                self.journal.push(entry);
-                Stepped::Reply(entry.reply)
+        let depth = self.state.depth();
+        match &self.state.call_on_values(call) {
+            Ok(reply) => {
+                self.journal.push_call(depth, step, call, reply);
+                Ok(())
             }
             Err(NoMemory) => {
                 self.journal.give_back(1);
-                Stepped::Stop(Status::NoMemory)
+                Err(Status::NoMemory)
             }
         }
     }
 
     /// A call that is neither on values nor of a function.
     #[inline(never)]
-    fn answer_other(&mut self, step: u32, call: &Call) -> Stepped
+    fn answer_other(&mut self, step: u32, call: &Call) -> Result<(), Status>
         requires standing { self.old.env.frames ≢ [] }
         requires idle { self.old.awaited ≡ None }
         requires local { is_shared_call call.now ≡ false }
@@ -209,34 +244,33 @@ impl EnvCore {
         requires other { is_value_call call.now ≡ false }
         requires ask { step ≡ asks_made self.old.env.frames }
         requires within { step < most_asks }
-        ensures reply { IfReply result (λ reply. Replies self.old call.now reply self.new) }
-        ensures stop { IfStop result (λ status. self.new ≡ self.old) }
-        ensures cause { IfStop result (λ status. StopsBy self.old.env (room_in self.old) call.now status) }
-        ensures full { IsTrue (is_full (room_in self.old) call.now) → result ≡ Stepped.Stop Status.TraceFull }
-        ensures at_once { IsAtOnce result }
+        ensures reply { OnOk result (OnLastReply self.new.journal (λ reply. Replies self.old call.now reply self.new)) }
+        ensures stop { OnErr result (self.new ≡ self.old) }
+        ensures cause { IfErr result (λ status. StopsBy self.old.env (room_in self.old) call.now status) }
+        ensures full { IsTrue (is_full (room_in self.old) call.now) → result ≡ Err Status.TraceFull }
     {
         let places = places_of(call);
         if let Err(status) = self.journal.promise(places) {
-            return Stepped::Stop(status);
+            return Err(status);
         }
-        match self.state.call(step, call) {
-            Ok(entry) => {
-                self.journal.push(entry);
+        let depth = self.state.depth();
+        match &self.state.call(call) {
+            Ok(reply) => {
+                self.journal.push_call(depth, step, call, reply);
                 // A duty that was made keeps the places of its frame, and one that was withdrawn gives them back.
-                let kept = frame_places(entry.reply.made);
-                let freed = frame_places(entry.reply.dropped);
+                let kept = frame_places(reply.made);
+                let freed = frame_places(reply.dropped);
                 self.journal.give_back(places - 1 - kept + freed);
-                Stepped::Reply(entry.reply)
+                Ok(())
             }
             Err(NoMemory) => {
                 self.journal.give_back(places);
-                Stepped::Stop(Status::NoMemory)
+                Err(Status::NoMemory)
             }
         }
     }
 
     /// A call of a function. It has a place for its entry, or two for the begin and the end of its frame.
-    #[inline(never)]
     fn call_function(
         &mut self,
         step: u32,
@@ -259,14 +293,19 @@ impl EnvCore {
         if let Err(status) = self.journal.promise(2) {
             return Stepped::Stop(status);
         }
-        match self.state.call_function(step, receiver, function, args) {
-            Ok(Called::Refused(entry)) => {
-                self.journal.push(entry);
+        let depth = self.state.depth();
+        match self.state.call_function(receiver, function, args) {
+            Ok(Called::Refused(reply)) => {
+                let call = Call::CallFunction(receiver, function, *args);
+                self.journal.push_call(depth, step, &call, &reply);
                 self.journal.give_back(1);
-                Stepped::Reply(entry.reply)
+                Stepped::Reply(reply)
             }
-            Ok(Called::Entered(begin, target, gifts)) => {
-                self.journal.push(begin);
+            Ok(Called::Entered(target, gifts)) => {
+                self.journal.push(host_entry(
+                    HostStep::Begin,
+                    Out::Begin(Cause::Call, target.addon, target.entry, None),
+                ));
                 Stepped::Enter(target, gifts)
             }
             Err(NoMemory) => {

@@ -68,11 +68,9 @@ impl Frames {
         requires { asks_made self.old < most_asks }
         ensures { self.new ≡ ask_counted self.old }
     {
-        if let Some(frame) = self.frames.pop() {
-            self.frames.push_reserved(StandingFrame {
-                asks: frame.asks + 1,
-                ..frame
-            });
+        if let Some(mut frame) = self.frames.pop() {
+            frame.asks += 1;
+            self.frames.push_reserved(frame);
         }
     }
 

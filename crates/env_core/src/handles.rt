@@ -1,9 +1,10 @@
 //! The values of handles.
-ghost use Rattle.std.specs.Prelude.{◌≡◌, IfOk, OnOk};
+ghost use Rattle.std.specs.Prelude.{◌≡◌, is_some, IfOk, OnOk};
 ghost use Rattle.std.specs.Result.{result_err};
 ghost use Rattle.napi_types.specs.parts.FunctionCalls.{left_value};
 ghost use Rattle.napi_types.specs.parts.Graph.{IsLive, IsSoundStore, number_in};
 ghost use Rattle.napi_types.specs.parts.Heap.{handle_value, handle_body};
+ghost use Rattle.napi_types.specs.parts.Scopes.{gives};
 ghost use Rattle.env_core.specs.Attaching.{is_accepted, target_refusal};
 ghost use Rattle.env_values.specs.SeenValues.{heap_of, HoldsLive};
 
@@ -30,6 +31,21 @@ pub fn body_of(store: &Store, scopes: &Scopes, handle: HandleId) -> Body
 {
     match store.get(value_of(store, scopes, handle)) {
         Some(value) => value.body(),
+        None => unreachable!(),
+    }
+}
+
+/// Whether an open scope holds the handle, and what its value is, by one look. It is undefined where none holds it.
+#[tactic(auto, using(crate::proofs::Looking::looked_body))]
+pub fn look_up(store: &Store, scopes: &Scopes, handle: HandleId) -> (bool, Body)
+    requires { HoldsLive store.now scopes.now }
+    ensures held { result.0 ≡ is_some (gives (heap_of store.now scopes.now).scopes handle.0) }
+    ensures body { result.1 ≡ handle_body (heap_of store.now scopes.now) handle.0 }
+{
+    let found = scopes.look(handle);
+    let held = found.is_some();
+    match store.get(or_undefined(store, found)) {
+        Some(value) => (held, value.body()),
         None => unreachable!(),
     }
 }

@@ -1,9 +1,9 @@
 //! The journal: the entries of the environment's local events, and the places that are promised to further ones.
-ghost use Rattle.std.specs.Prelude.{◌≡◌, ℕ, ◌+◌, ◌-◌, ◌<◌, ◌≤◌, [], ◌∷◌, ◌++◌, length, min, IfOk, OnOk, OnErr, IfErr, ◌↔◌, ◌⊎◌};
+ghost use Rattle.std.specs.Prelude.{◌≡◌, ℕ, ◌+◌, ◌-◌, ◌<◌, ◌≤◌, [], ◌∷◌, ◌++◌, length, min, IfOk, OnOk, OnErr, IfErr, ◌↔◌, ◌⊎◌, option_copied};
 ghost use Rattle.napi_types.specs.plain.Room.{first_places, most_entries};
-ghost use Rattle.env_core.specs.Journal.{Exceeds};
+ghost use Rattle.env_core.specs.Journal.{Exceeds, told_entry, last_reply};
 
-use napi_types::{Entry, Listed, Local, LocalList, NoMemory, Status};
+use napi_types::{Actor, Call, Entry, Listed, Local, LocalList, NoMemory, Reply, Status, What};
 use std::alloc::Global;
 use std::marker::Model;
 
@@ -98,6 +98,41 @@ impl Journal {
             entry,
         });
         self.promised -= 1;
+    }
+
+    /// Fills a promised place with the entry of a call of the environment: how many frames stand, the number of the ask in its frame, the call and its
+    /// reply. It stands at the position noted last.
+    // Not put into its callers: they have the reply as a whole then, and not in pieces.
+    #[inline(never)]
+    pub fn push_call(&mut self, depth: u32, step: u32, call: &Call, reply: &Reply)
+        requires { 0 < self.old.promised }
+        ensures { self.new ≡ record self.old {
+          entries = self.old.entries ++ record { at = self.old.position; entry = told_entry depth step call.now reply.now } ∷ [];
+          promised = self.old.promised - 1;
+        } }
+    {
+        self.entries.push_reserved(Local {
+            at: self.position,
+            entry: Entry {
+                actor: Actor::Env,
+                depth,
+                step,
+                what: What::Call(*call),
+                reply: *reply,
+                given: None,
+            },
+        });
+        self.promised -= 1;
+    }
+
+    /// The reply of the last entry, where there is one.
+    pub fn last_reply(&self) -> Option<&Reply>
+        ensures { option_copied result ≡ last_reply self.now.entries }
+    {
+        match self.entries.last() {
+            Some(local) => Some(&local.entry.reply),
+            None => None,
+        }
     }
 
     /// Notes the length of the history.

@@ -16,3 +16,4 @@ mod state;
 
 pub use env::{EnvCore, Stepped};
 pub use frames::StandingFrame;
+pub use state::is_shared;

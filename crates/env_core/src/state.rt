@@ -178,57 +178,38 @@ impl State {
         host_entry(HostStep::Begin, Out::Begin(Cause::Init, addon, 0, None))
     }
 
-    /// A call of the innermost frame, which is neither on values nor of a function.
-    pub fn call(&mut self, step: u32, call: &Call) -> Result<Entry, NoMemory>
+    /// A call of the innermost frame, which is neither on values nor of a function: what it replies. Its status is noted and its ask is counted.
+    pub fn call(&mut self, call: &Call) -> Result<Reply, NoMemory>
         requires standing { self.old.frames ≢ [] }
         requires local { is_shared_call call.now ≡ false }
         requires at_once { is_calling call.now ≡ false }
         requires other { is_value_call call.now ≡ false }
-        requires ask { step ≡ asks_made self.old.frames }
-        requires within { step < most_asks }
+        requires within { asks_made self.old.frames < most_asks }
         requires numbers { HasNumbersFor self.old }
         requires hooked { IsHooked self.old }
-        ensures ok { IfOk result (λ entry. Calls self.old call.now entry self.new) }
+        ensures ok { IfOk result (λ reply. Calls self.old call.now (call_entry self.old call.now reply) self.new) }
         ensures stopped { OnErr result (FindsNoMemory self.old call.now (early_refusal self.old call.now) self.new) }
     {
         let reply = self.answer(call)?;
-        Ok(self.write_call(step, call, reply))
+        self.note(call, reply.status);
+        Ok(reply)
     }
 
-    /// A call of the innermost frame on values, properties or elements.
-    pub fn call_on_values(&mut self, step: u32, call: &Call) -> Result<Entry, NoMemory>
+    /// A call of the innermost frame on values, properties or elements: what it replies. Its status is noted and its ask is counted.
+    pub fn call_on_values(&mut self, call: &Call) -> Result<Reply, NoMemory>
         requires standing { self.old.frames ≢ [] }
         requires at_once { is_calling call.now ≡ false }
         requires value_call { is_value_call call.now ≡ true }
-        requires ask { step ≡ asks_made self.old.frames }
-        requires within { step < most_asks }
+        requires within { asks_made self.old.frames < most_asks }
         requires numbers { HasNumbersFor self.old }
         requires hooked { IsHooked self.old }
-        ensures ok { IfOk result (λ entry. Calls self.old call.now entry self.new) }
+        ensures ok { IfOk result (λ reply. Calls self.old call.now (call_entry self.old call.now reply) self.new) }
         ensures stopped { OnErr result (FindsNoMemory self.old call.now (early_refusal self.old call.now) self.new) }
-        ensures plain { IfOk result (λ entry. MakesNoDuty entry.reply) }
+        ensures plain { IfOk result (λ reply. MakesNoDuty reply) }
     {
         let reply = self.answer_on_values(call)?;
-        Ok(self.write_call(step, call, reply))
-    }
-
-    /// Writes the entry of a call that was answered, notes its status and counts its ask.
-    fn write_call(&mut self, step: u32, call: &Call, reply: Reply) -> Entry
-        requires ask { step ≡ asks_made self.old.frames }
-        requires within { step < most_asks }
-        ensures entry { result ≡ call_entry self.old call.now reply }
-        ensures after { self.new ≡ with_noted_status call.now reply.status self.old }
-    {
-        let depth = self.frames.depth();
         self.note(call, reply.status);
-        Entry {
-            actor: Actor::Env,
-            depth,
-            step,
-            what: What::Call(*call),
-            reply,
-            given: None,
-        }
+        Ok(reply)
     }
 
     /// The addon whose init frame is next.
@@ -439,6 +420,7 @@ impl State {
 
     /// A scope of this kind and a fresh number opens inside the innermost one.
     #[tactic(auto, using(crate::proofs::Unrefused::opening_unrefused))]
+    #[inline(never)]
     fn open_scope(&mut self, kind: ScopeKind) -> Result<Reply, NoMemory>
         requires standing { self.old.frames ≢ [] }
         requires scopes { length self.old.heap.scope_numbers < 2 ^ 62 }
@@ -451,6 +433,7 @@ impl State {
     }
 
     /// The innermost scope closes, if it is the one that the call names, and of the kind that the call closes.
+    #[inline(never)]
     fn close_scope(&mut self, scope: ScopeId, kind: ScopeKind) -> Reply
         ensures { AnswersInTime self.old (closing_call kind scope) result self.new }
     {
@@ -461,6 +444,7 @@ impl State {
     }
 
     /// The value of a handle escapes from the scope that the call names, into the one that encloses it.
+    #[inline(never)]
     fn escape(&mut self, scope: ScopeId, handle: HandleId) -> Reply
         requires { self.old.heap.handles < 2 ^ 62 }
         ensures { AnswersInTime self.old (call_of.EscapeHandle scope handle) result self.new }
@@ -486,6 +470,7 @@ impl State {
     }
 
     /// Asks that the loop ends, and changes nothing else.
+    #[inline(never)]
     fn exit(&mut self) -> Reply
         ensures { AnswersInTime self.old call_of.Exit result self.new }
     {
@@ -529,7 +514,7 @@ impl State {
 }
 
 /// The entry of an event that is no call, with status 0.
-fn host_entry(event: HostStep, out: Out) -> Entry
+pub fn host_entry(event: HostStep, out: Out) -> Entry
     ensures { result ≡ entry_of event out }
 {
     host_told(event, Status::Ok, out)

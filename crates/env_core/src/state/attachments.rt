@@ -14,6 +14,7 @@ use napi_types::{HandleId, NoMemory, Out, Reply, Status};
 impl State {
     /// Ties a payload to an object, where none is tied, and registers a finalizer where the call names an entry. Only then a weak
     /// reference may be wanted: else it is refused, and the hint is kept for nobody.
+    #[inline(never)]
     pub(super) fn wrap(
         &mut self,
         object: HandleId,
@@ -54,6 +55,7 @@ impl State {
 
     /// Registers a finalizer of an object, beside that of its wrap and any that were added before. Where a weak reference is
     /// wanted it gives one.
+    #[inline(never)]
     pub(super) fn add_finalizer(
         &mut self,
         object: HandleId,
@@ -86,6 +88,7 @@ impl State {
     }
 
     /// The payload that is tied to an object.
+    #[inline(never)]
     pub(super) fn unwrap(&self, object: HandleId) -> Reply
         ensures { AnswersInTime self.now (call_of.Unwrap object) result self.now }
     {
@@ -101,6 +104,7 @@ impl State {
 
     /// Takes the wrap off an object, and tells its payload. Its finalizer is withdrawn where it is still registered: one that is
     /// due begins.
+    #[inline(never)]
     pub(super) fn remove_wrap(&mut self, object: HandleId) -> Reply
         ensures { AnswersInTime self.old (call_of.RemoveWrap object) result self.new }
     {
@@ -120,6 +124,7 @@ impl State {
     }
 
     /// Tags an object or an external that has no tag.
+    #[inline(never)]
     pub(super) fn type_tag_object(
         &mut self,
         object: HandleId,
@@ -148,6 +153,7 @@ impl State {
     }
 
     /// Whether an object or an external has this tag.
+    #[inline(never)]
     pub(super) fn check_object_type_tag(&self, object: HandleId, lower: u64, upper: u64) -> Reply
         ensures { AnswersInTime self.now (call_of.CheckObjectTypeTag object lower upper) result self.now }
     {

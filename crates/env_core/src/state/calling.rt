@@ -5,7 +5,7 @@ ghost use Rattle.napi_types.specs.declared.call.Call.TheVariants as call_of;
 ghost use Rattle.napi_types.specs.plain.Arguments.{argument_handles};
 ghost use Rattle.napi_types.specs.plain.CallFacts.{handle_if};
 ghost use Rattle.napi_types.specs.plain.Replies.{plain as plain_reply};
-ghost use Rattle.napi_types.specs.parts.Bodies.{is_function as is_function_body};
+ghost use Rattle.napi_types.specs.parts.Bodies.{is_function as is_function_of};
 ghost use Rattle.napi_types.specs.parts.Frames.{most_frames, asks_made, most_asks};
 ghost use Rattle.napi_types.specs.parts.Heap.{handle_body};
 ghost use Rattle.napi_types.specs.parts.NamedNumbers.{is_known};
@@ -16,14 +16,13 @@ ghost use Rattle.napi_types.specs.environment.Refusals.{early_refusal};
 ghost use Rattle.env_values.specs.SeenValues.{HoldsLive};
 ghost use Rattle.env_core.specs.State.{CallsFunction, EntersCall, BeginsScopes, SameScopes};
 
-use super::{State, host_entry};
+use super::State;
 use crate::frames::StandingFrame;
-use crate::handles::body_of;
+use crate::handles::{body_of, look_up};
 use env_values::thrown_value;
 use handle_scope::Scopes;
 use napi_types::{
-    Args, Body, Call, Cause, Entry, HandleId, HostStep, MOST_FRAMES, NoMemory, Out, Reply, Status,
-    Target, TextNo,
+    Args, Body, Call, Cause, HandleId, MOST_FRAMES, NoMemory, Out, Reply, Status, Target, TextNo,
 };
 use value_store::Store;
 
@@ -32,67 +31,78 @@ const DEPTH_TEXT: TextNo = TextNo(2);
 
 /// What a call of a function comes to.
 pub enum Called {
-    /// It is refused: its entry.
-    Refused(Entry),
-    /// It is accepted: the entry of its frame's begin, what the frame runs, and its gifts.
-    Entered(Entry, Target, [u64; 8]),
+    /// It is refused: its reply.
+    Refused(Reply),
+    /// It is accepted: what its frame runs, and the frame's gifts.
+    Entered(Target, [u64; 8]),
 }
 
 impl State {
     /// A call of a function by the innermost frame. It finds no memory only where nothing refuses it, the depth limit left aside.
     pub fn call_function(
         &mut self,
-        step: u32,
         receiver: Option<HandleId>,
         function: HandleId,
         args: &Args,
     ) -> Result<Called, NoMemory>
         requires standing { self.old.frames ≢ [] }
-        requires ask { step ≡ asks_made self.old.frames }
-        requires within { step < most_asks }
+        requires within { asks_made self.old.frames < most_asks }
         requires values { self.old.heap.made + most_names + 8 < 2 ^ 48 }
         requires handles { self.old.heap.handles < 2 ^ 62 }
         ensures ok { IfOk result (λ called. CallsFunction self.old receiver function args.now called self.new) }
         ensures err { OnErr result (self.new ≡ self.old) }
         ensures unrefused { OnErr result (early_refusal self.old (call_of.CallFunction receiver function args.now) ≡ None) }
     {
-        let reply = match self.why_not_calling(receiver, function, args) {
+        let (held, body) = look_up(&self.store, &self.scopes, function);
+        let reply = match self.why_not_calling(receiver, function, args, held, body) {
             Some(status) => Reply::plain(status, Out::Nothing),
             None if self.frames.depth() < MOST_FRAMES => {
-                return self.enter_function(receiver, function, args);
+                return self.enter_function(receiver, function, args, body);
             }
             None => self.exceed_depth()?,
         };
         let call = Call::CallFunction(receiver, function, *args);
-        Ok(Called::Refused(self.write_call(step, &call, reply)))
+        self.note(&call, reply.status);
+        Ok(Called::Refused(reply))
     }
 
-    /// Why the call is refused, if it is, the depth limit left aside.
+    /// Why the call is refused, if it is, the depth limit left aside: by whether an open scope holds the function's handle, and what its value is.
     fn why_not_calling(
         &self,
         receiver: Option<HandleId>,
         function: HandleId,
         args: &Args,
+        held: bool,
+        body: Body,
     ) -> Option<Status>
+        requires held { held ≡ is_some (gives self.now.heap.scopes function.0) }
+        requires body { body ≡ handle_body self.now.heap function.0 }
         ensures { result ≡ early_refusal self.now (call_of.CallFunction receiver function args.now) }
     {
         let call = Call::CallFunction(receiver, function, *args);
         if let Some(status) = self.untimely(&call) {
             return Some(status);
         }
-        if self.knows_all(receiver, function, args) && self.is_function(function) {
+        if self.knows_all(receiver, function, args, held) && is_function_body(body) {
             return None;
         }
         Some(Status::InvalidArg)
     }
 
-    /// Whether open scopes hold all the handles that the call names.
-    fn knows_all(&self, receiver: Option<HandleId>, function: HandleId, args: &Args) -> bool
+    /// Whether open scopes hold all the handles that the call names, where this tells it of the function's.
+    fn knows_all(
+        &self,
+        receiver: Option<HandleId>,
+        function: HandleId,
+        args: &Args,
+        called: bool,
+    ) -> bool
+        requires { called ≡ is_some (gives self.now.heap.scopes function.0) }
         ensures { result ≡ is_known self.now.texts self.now.heap (call_of.CallFunction receiver function args.now) }
     {
         let count = args.count.min(4) as usize;
         let received = self.holds_if(receiver);
-        let called = self.holds(function);
+        let _ = function;
         let given = self.holds_each(&args.handles[..count]);
         received && called && given
     }
@@ -123,7 +133,7 @@ impl State {
 
     /// Whether the value of a handle is a function.
     pub(super) fn is_function(&self, handle: HandleId) -> bool
-        ensures { result ≡ is_function_body (handle_body self.now.heap handle.0) }
+        ensures { result ≡ is_function_of (handle_body self.now.heap handle.0) }
     {
         matches!(
             body_of(&self.store, &self.scopes, handle),
@@ -149,8 +159,10 @@ impl State {
         receiver: Option<HandleId>,
         function: HandleId,
         args: &Args,
+        body: Body,
     ) -> Result<Called, NoMemory>
         requires standing { self.old.frames ≢ [] }
+        requires body { body ≡ handle_body self.old.heap function.0 }
         requires accepted { early_refusal self.old (call_of.CallFunction receiver function args.now) ≡ None }
         requires room { length self.old.frames < most_frames }
         requires within { asks_made self.old.frames < most_asks }
@@ -158,7 +170,8 @@ impl State {
         ensures ok { IfOk result (λ called. CallsFunction self.old receiver function args.now called self.new) }
         ensures err { OnErr result (self.new ≡ self.old) }
     {
-        match body_of(&self.store, &self.scopes, function) {
+        let _ = function;
+        match body {
             Body::Function {
                 addon,
                 entry,
@@ -175,20 +188,23 @@ impl State {
                     makes_asks: true,
                     asks: 0,
                 });
-                let begin = host_entry(
-                    HostStep::Begin,
-                    Out::Begin(Cause::Call, addon, entry, None),
-                );
                 let target = Target {
                     addon,
                     entry,
                     torn_runs: false,
                 };
-                Ok(Called::Entered(begin, target, gifts_of(args, handle, payload)))
+                Ok(Called::Entered(target, gifts_of(args, handle, payload)))
             }
             _ => unreachable!(),
         }
     }
+}
+
+/// Whether a value is a function.
+fn is_function_body(body: Body) -> bool
+    ensures { result ≡ is_function_of body }
+{
+    matches!(body, Body::Function { .. })
 }
 
 /// The scopes of the frame that a call begins, with a handle of undefined in them where the call names no receiver. Answers

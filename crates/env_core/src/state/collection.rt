@@ -12,6 +12,7 @@ use napi_types::{NoMemory, Out, Reply, Status};
 impl State {
     /// Frees the values that the roots do not reach, and tells how many there were: the references to them are emptied, what is
     /// attached to them goes, and the tickets of their finalizers fall due. All memory is taken before the first change.
+    #[inline(never)]
     pub(super) fn collect(&mut self) -> Result<Reply, NoMemory>
         ensures ok { IfOk result (λ reply. AnswersInTime self.old call_of.Collect reply self.new) }
         ensures err { OnErr result (self.new ≡ self.old) }

@@ -12,6 +12,7 @@ use napi_types::{HandleId, NoMemory, Out, Reply, Status, TextNo};
 
 impl State {
     /// The value of a handle is the pending exception from now on.
+    #[inline(never)]
     pub(super) fn throw(&mut self, handle: HandleId) -> Reply
         ensures { AnswersInTime self.old (call_of.Throw handle) result self.new }
     {
@@ -23,6 +24,7 @@ impl State {
     }
 
     /// A new error of new strings of these texts is the pending exception from now on.
+    #[inline(never)]
     pub(super) fn throw_error(
         &mut self,
         code: Option<TextNo>,
@@ -52,6 +54,7 @@ impl State {
     }
 
     /// Whether an exception is pending.
+    #[inline(never)]
     pub(super) fn is_pending(&self) -> Reply
         ensures { AnswersInTime self.now call_of.IsExceptionPending result self.now }
     {
@@ -60,6 +63,7 @@ impl State {
     }
 
     /// A new handle of the pending exception, or of undefined where none is pending; none is pending from now on.
+    #[inline(never)]
     pub(super) fn take_pending(&mut self) -> Result<Reply, NoMemory>
         requires standing { self.old.frames ≢ [] }
         requires handles { self.old.heap.handles < 2 ^ 62 }
@@ -74,6 +78,7 @@ impl State {
     }
 
     /// The number of the last status.
+    #[inline(never)]
     pub(super) fn last(&self) -> Reply
         ensures { AnswersInTime self.now call_of.GetLastErrorInfo result self.now }
     {

@@ -13,6 +13,7 @@ use napi_types::{Body, NoMemory, Reply, Status};
 impl State {
     /// A new external, which holds this payload, and its handle. Where the call names an entry a finalizer is registered, else the
     /// hint is kept for nobody.
+    #[inline(never)]
     pub(super) fn create_external(
         &mut self,
         payload: u64,

@@ -13,6 +13,7 @@ use napi_types::{Cause, Duty, NoMemory, Out, Reply, Status};
 impl State {
     /// Adds a hook of the addon that calls, and registers it. It is refused where the addon has added it, and it has neither begun
     /// nor been removed since.
+    #[inline(never)]
     pub(super) fn add_env_cleanup_hook(
         &mut self,
         entry: u32,
@@ -47,6 +48,7 @@ impl State {
 
     /// Takes a hook of the addon that calls off the list, and withdraws its ticket, where it is still registered. It is refused
     /// where the addon has not added it, and where it has begun or was removed since.
+    #[inline(never)]
     pub(super) fn remove_env_cleanup_hook(&mut self, entry: u32, argument: u64) -> Reply
         ensures { AnswersInTime self.old (call_of.RemoveEnvCleanupHook entry argument) result self.new }
     {

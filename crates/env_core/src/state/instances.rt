@@ -11,6 +11,7 @@ use napi_types::{NoMemory, Out, Reply, Status};
 impl State {
     /// Gives the addon that calls other instance data. The finalizer of what was set before is withdrawn, where it is still
     /// registered, and one is registered where the call names an entry; else the hint is kept for nobody, and no memory is taken.
+    #[inline(never)]
     pub(super) fn set_instance_data(
         &mut self,
         payload: u64,
@@ -39,6 +40,7 @@ impl State {
     }
 
     /// The instance data of the addon that calls, 0 where none was set.
+    #[inline(never)]
     pub(super) fn get_instance_data(&self) -> Reply
         ensures { AnswersInTime self.now call_of.GetInstanceData result self.now }
     {

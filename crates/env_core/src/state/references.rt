@@ -15,6 +15,7 @@ use napi_types::{Body, HandleId, NoMemory, Out, RefId, Reply, Status};
 
 impl State {
     /// A new reference to the value of a handle.
+    #[inline(never)]
     pub(super) fn create_reference(
         &mut self,
         handle: HandleId,
@@ -51,6 +52,7 @@ impl State {
     }
 
     /// A reference ends.
+    #[inline(never)]
     pub(super) fn delete_reference(&mut self, reference: RefId) -> Reply
         ensures { AnswersInTime self.old (call_of.DeleteReference reference) result self.new }
     {
@@ -61,6 +63,7 @@ impl State {
     }
 
     /// A reference is counted up.
+    #[inline(never)]
     pub(super) fn reference_ref(&mut self, reference: RefId) -> Reply
         ensures { AnswersInTime self.old (call_of.ReferenceRef reference) result self.new }
     {
@@ -68,6 +71,7 @@ impl State {
     }
 
     /// A reference is counted down.
+    #[inline(never)]
     pub(super) fn reference_unref(&mut self, reference: RefId) -> Reply
         ensures { AnswersInTime self.old (call_of.ReferenceUnref reference) result self.new }
     {
@@ -75,6 +79,7 @@ impl State {
     }
 
     /// A new handle of the value of a reference, none where it was collected.
+    #[inline(never)]
     pub(super) fn get_reference_value(&mut self, reference: RefId) -> Result<Reply, NoMemory>
         requires standing { self.old.frames ≢ [] }
         requires handles { self.old.heap.handles < 2 ^ 62 }

@@ -1,22 +1,27 @@
 use Rattle.std.proofs.Common.{◌∙◌, ◌+◌, ◌-◌, ℕ, ap, arith, sym}
+use Rattle.napi_types.specs.declared.entry.Entry.{Entry}
+use Rattle.napi_types.specs.environment.Changes.{call_entry}
 use Rattle.env_core.specs.Journal.{Pages}
-use Rattle.env_core.proofs.Cores.{KeepsPlaces, written, calls-keep, calls-hooked, places-kept, core-call_change, replied, other-at-once, fits-in, never-full}
+use Rattle.env_core.specs.State.{Calls}
+use Rattle.env_core.proofs.Cores.{KeepsPlaces, written, written-call, calls-keep, calls-hooked, places-kept, core-call_change, replied-last, other-at-once, fits-in}
 use Rattle.env_core.proofs.Sharing.{idle-may}
 use Rattle.env_core.proofs.env.EnvCore.answer_other.Goals as goal
 use Rattle.env_core.proofs.env.EnvCore.answer_other.Goals.{After-give_back-arg-1}
 
 -- what the reply keeps of the places
-kept : (c : After-give_back-arg-1) → KeepsPlaces c.self.inside.journal.promised c.args.call.now c.in-Ok.entry.reply
+kept : (c : After-give_back-arg-1) → KeepsPlaces c.self.inside.journal.promised c.args.call.now c.in-Ok.reply
 kept c =
     let s = c.self.inside in
-    places-kept s.state c.call.new.self s.journal c.args.call.now c.in-Ok.entry.reply c.self.invariant.0 (calls-keep s.state c.call.new.self c.args.call.now c.in-Ok.entry c.in-Ok.ensures.ok)
+    let calls : Calls s.state c.args.call.now (call_entry s.state c.args.call.now c.in-Ok.reply) c.call.new.self = rw c.in-Ok.is at c.call.ensures.ok in
+    places-kept s.state c.call.new.self s.journal c.args.call.now c.in-Ok.reply c.self.invariant.0 (calls-keep s.state c.call.new.self c.args.call.now (call_entry s.state c.args.call.now c.in-Ok.reply) calls)
 
 -- a call has a place for its entry
-pub push-requires : goal.push-requires
-push-requires c =
+pub push_call-requires : goal.push_call-requires
+push_call-requires c =
     let s = c.self.inside in
-    let x = c.in-Ok.entry in
-    let k : KeepsPlaces s.journal.promised c.args.call.now x.reply = places-kept s.state c.call.new.self s.journal c.args.call.now x.reply c.self.invariant.0 (calls-keep s.state c.call.new.self c.args.call.now x c.in-Ok.ensures.ok) in
+    let x : Entry = call_entry s.state c.args.call.now c.in-Ok.reply in
+    let calls : Calls s.state c.args.call.now x c.call.new.self = rw c.in-Ok.is at c.call.ensures.ok in
+    let k : KeepsPlaces s.journal.promised c.args.call.now x.reply = places-kept s.state c.call.new.self s.journal c.args.call.now x.reply c.self.invariant.0 (calls-keep s.state c.call.new.self c.args.call.now x calls) in
     omega (arith, k.made, c.places_of-places.ensures, ap (λ (p : Pages). p.promised) c.in_default.ensures.ok)
 
 pub overflow_sub-places : goal.overflow_sub-places
@@ -35,38 +40,38 @@ give_back-requires c =
       c.frame_places-freed.ensures,
       k.made,
       k.dropped,
-      ap (λ (p : Pages). p.promised) c.push.ensures,
+      ap (λ (p : Pages). p.promised) c.push_call.ensures,
       ap (λ (p : Pages). p.promised) c.in_default.ensures.ok,
     )
 
 pub invariant_of-self-in-Ok : goal.invariant_of-self-in-Ok
 invariant_of-self-in-Ok c =
     let s = c.self.inside in
-    let x = c.in-Ok.entry in
+    let x : Entry = call_entry s.state c.args.call.now c.in-Ok.reply in
+    let calls : Calls s.state c.args.call.now x c.call.new.self = rw c.in-Ok.is at c.call.ensures.ok in
     let left : ℕ = c.places_of-places.result - 1 - c.frame_places-kept.result + c.frame_places-freed.result in
-    let k : KeepsPlaces s.journal.promised c.args.call.now x.reply = places-kept s.state c.call.new.self s.journal c.args.call.now x.reply c.self.invariant.0 (calls-keep s.state c.call.new.self c.args.call.now x c.in-Ok.ensures.ok) in (
+    let k : KeepsPlaces s.journal.promised c.args.call.now x.reply = places-kept s.state c.call.new.self s.journal c.args.call.now x.reply c.self.invariant.0 (calls-keep s.state c.call.new.self c.args.call.now x calls) in (
       core-call_change s.state c.call.new.self s.journal c.give_back.new.self c.args.call.now x (s.journal.promised + c.places_of-places.result - 1 - left) c.self.invariant.0
-          (calls-keep s.state c.call.new.self c.args.call.now x c.in-Ok.ensures.ok) (calls-hooked s.state c.call.new.self c.args.call.now x c.in-Ok.ensures.ok c.self.invariant.0.hooked)
+          (calls-keep s.state c.call.new.self c.args.call.now x calls) (calls-hooked s.state c.call.new.self c.args.call.now x calls c.self.invariant.0.hooked)
           (omega (arith, c.places_of-places.ensures, c.in_default.ensures.room))
           (omega (arith, c.places_of-places.ensures, c.frame_places-kept.ensures, c.frame_places-freed.ensures, k.made, k.dropped))
-          (c.give_back.ensures ∙ ap (λ (p : Pages). record p { promised = p.promised - left }) c.push.ensures ∙ ap (λ (p : Pages). written x (p.promised - 1 - left) p) c.in_default.ensures.ok),
+          (c.give_back.ensures ∙ ap (λ (p : Pages). record p { promised = p.promised - left }) c.push_call.ensures
+          ∙ written-call s.state c.depth-depth.result c.args.step c.args.call.now c.in-Ok.reply (c.promise.new.self.promised - 1 - left) c.promise.new.self c.depth-depth.ensures (rw (← c.self.view_is) at c.requires.ask)
+          ∙ ap (λ (p : Pages). written x (p.promised - 1 - left) p) c.in_default.ensures.ok),
       idle-may c.call.new.self s.root_room s.awaited (rw (← c.self.view_is) at c.requires.idle),
     )
 
 pub returns-in-Ok-clause-reply : goal.returns-in-Ok-clause-reply
 returns-in-Ok-clause-reply c =
     let s = c.self.inside in
-    let x = c.in-Ok.entry in
+    let x : Entry = call_entry s.state c.args.call.now c.in-Ok.reply in
+    let calls : Calls s.state c.args.call.now x c.call.new.self = rw c.in-Ok.is at c.call.ensures.ok in
     let left : ℕ = c.places_of-places.result - 1 - c.frame_places-kept.result + c.frame_places-freed.result in
     rw (← c.self.view_is)
-    (replied s.state c.call.new.self s.journal c.give_back.new.self s.awaited c.args.call.now x (s.journal.promised + c.places_of-places.result - 1 - left)
-    (c.give_back.ensures ∙ ap (λ (p : Pages). record p { promised = p.promised - left }) c.push.ensures ∙ ap (λ (p : Pages). written x (p.promised - 1 - left) p) c.in_default.ensures.ok)
+    (replied-last s.state c.call.new.self s.journal c.give_back.new.self s.awaited c.args.call.now x (s.journal.promised + c.places_of-places.result - 1 - left)
+    (c.give_back.ensures ∙ ap (λ (p : Pages). record p { promised = p.promised - left }) c.push_call.ensures
+    ∙ written-call s.state c.depth-depth.result c.args.step c.args.call.now c.in-Ok.reply (c.promise.new.self.promised - 1 - left) c.promise.new.self c.depth-depth.ensures (rw (← c.self.view_is) at c.requires.ask)
+    ∙ ap (λ (p : Pages). written x (p.promised - 1 - left) p) c.in_default.ensures.ok)
     (other-at-once s.state c.args.call.now c.requires.at_once)
     (fits-in s.state s.journal s.awaited c.args.call.now c.places_of-places.result c.self.invariant.0 (sym c.places_of-places.ensures) c.in_default.ensures.room)
-    c.in-Ok.ensures.ok)
-
-pub returns-in-Ok-clause-full : goal.returns-in-Ok-clause-full
-returns-in-Ok-clause-full c =
-    let s = c.self.inside in
-    rw (← c.self.view_is)
-    (never-full _ (fits-in s.state s.journal s.awaited c.args.call.now c.places_of-places.result c.self.invariant.0 (sym c.places_of-places.ensures) c.in_default.ensures.room))
+    calls)
