@@ -1,5 +1,5 @@
 -- A turn in which a call of the innermost frame is replied to, enters a frame, or is handed to the hub.
-use Rattle.std.proofs.Common.{◌≡◌, ◌<◌, ◌≤◌, ℕ, Bool, true, false, List, length, drop, refl, ap, subst, sym, ◌∙◌, arith, Option, None, IfSome}
+use Rattle.std.proofs.Common.{◌≡◌, ◌<◌, ◌≤◌, ℕ, Bool, true, false, List, length, drop, refl, ap, subst, sym, ◌∙◌, arith, Option, Some, None, IfSome, MatchOption}
 use Rattle.std.specs.Option.{option_to_list}
 use Rattle.napi_types.specs.declared.call.Args.{Args}
 use Rattle.napi_types.specs.declared.call.Ask.{Ask}
@@ -34,7 +34,8 @@ use Rattle.napi_types.proofs.environment.Owners.{callee-owned}
 use Rattle.napi_types.proofs.environment.StandingFrames.{duties-asked}
 use Rattle.addon_trait.specs.Addons.{OthersStay}
 use Rattle.env_core.specs.Core.{Core, after_change}
-use Rattle.env_core.specs.CoreSteps.{Replies, EntersBy, Enters}
+use Rattle.env_core.specs.CoreSteps.{Replies, EntersBy, Enters, OnLastReply}
+use Rattle.env_core.specs.Journal.{last_reply}
 use Rattle.env_core.specs.Sharing.{awaiting}
 use Rattle.env_loop.specs.declared.run.FrameEnd.{FrameEnd}
 use Rattle.env_loop.specs.FollowedRuns.{Asks}
@@ -50,6 +51,10 @@ use Rattle.env_loop.proofs.RegisterTurns.{others-given, given-others, given-kept
 use Rattle.env_loop.proofs.SeenLists.{begins-none, seen-same}
 
 -- A REPLY
+-- the reply of the journal's last entry is the answer
+pub on-last : (old new : Core) (c : Call) (r : Reply) → Some r ≡ last_reply new.journal → OnLastReply new.journal (λ q. Replies old c q new) → Replies old c r new
+on-last old new c r e p = let Q : Option Reply → Type 0 = λ q. MatchOption q ⊥ (λ s. Replies old c s new) in subst Q (sym e) p
+
 call_change-goes : {ps : List Plan} {core : Core} {all : AddonStates} {f : Frame} {a : Ask} → InFrame ps core.env all.registers f a
     → (c : Call) (r : Reply) (new : Core) (now : AddonStates) → f.asks < most_asks
     → ask.Do c ≡ a → is_shared c ≡ false → Replies core c r new → IsTold ps all.registers core.env.frames r now.registers → now.seen ≡ all.seen

@@ -85,6 +85,9 @@ pub record HasStopped (core : Core) (c : Call) (t : Status) (new : Core) : Type 
   pub local : is_shared c ≡ false → StopsBy core.env (room_in core) c t
   pub shared : is_shared c ≡ true → IsHandedOver core c (stepped.Stop t) new
 
+pub stopped-local-so : (core : Core) (c : Call) (t : Status) (new : Core) → is_shared c ≡ false → StopsBy core.env (room_in core) c t → HasStopped core c t new
+stopped-local-so core c t new local stops = record { local = λ _. stops; shared = λ shared. let no : true ≡ false = sym shared ∙ local in cc }
+
 stopped-may : (s : Setting) (core new : Core) (hub : Hub) (history : List Entry) (c : Call) (t : Status) → core.limit ≡ s.limits.journal
     → may_call core.env ≡ true
     → HasStopped core c t new → may_cut (machine_of s.limits core hub history) (ask.Do c) (why_stopped t) ≡ true
