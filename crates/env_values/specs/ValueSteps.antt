@@ -3,7 +3,6 @@ use Rattle.std.specs.Prelude.{◌≡◌, ℕ, Some, None, is_some, true, option_
 use Rattle.std.specs.declared.result.Result.{Result}
 use Rattle.std.specs.declared.result.Result.TheVariants.{Ok, Err}
 use Rattle.napi_types.specs.declared.call.Call.{Call}
-use Rattle.napi_types.specs.declared.call.Call.TheVariants as call
 use Rattle.napi_types.specs.declared.entry.NoMemory.{NoMemory}
 use Rattle.napi_types.specs.declared.entry.Out.{Out}
 use Rattle.napi_types.specs.plain.Guards.{is_growing}
@@ -19,18 +18,6 @@ use Rattle.env_values.specs.declared.known.HandleValue.{HandleValue}
 use Rattle.env_values.specs.declared.stop.Stop.{Stop}
 use Rattle.env_values.specs.declared.stop.Stop.TheVariants as stop
 use Rattle.env_values.specs.SeenValues.{heap_of}
-
--- the handle of the value of which a call tells that tells what one value is
-abbrev pub told_handle : Call → ℕ
-told_handle (call.Typeof h) = h.0
-told_handle (call.IsArray h) = h.0
-told_handle (call.IsError h) = h.0
-told_handle (call.GetValueInt64 h) = h.0
-told_handle (call.GetValueBigintInt64 h) = h.0
-told_handle (call.GetValueBool h) = h.0
-told_handle (call.GetValueStringUtf8 h) = h.0
-told_handle (call.GetValueExternal h) = h.0
-told_handle _ = 0
 
 -- the value is live, and is this
 abbrev pub IsStored : StoreState → HandleValue → Type 0

@@ -1,8 +1,9 @@
 //! The calls that tell what a value is.
-ghost use Rattle.std.specs.Prelude.{◌≡◌, ℕ, true};
+ghost use Rattle.std.specs.Prelude.{◌≡◌, ℕ, [], ◌∷◌, true};
 ghost use Rattle.napi_types.specs.plain.CallKinds.{is_telling};
+ghost use Rattle.napi_types.specs.parts.NamedNumbers.{handles_of};
 ghost use Rattle.env_values.specs.SeenValues.{heap_of, HoldsLive};
-ghost use Rattle.env_values.specs.ValueSteps.{Comes, ComesOf, told_handle};
+ghost use Rattle.env_values.specs.ValueSteps.{Comes, ComesOf};
 
 use crate::known::{
     array, bigint, boolean, element, equals_strictly, external, is_array_value, is_error_value,
@@ -13,10 +14,10 @@ use handle_scope::Scopes;
 use napi_types::{Call, HandleId, Out, TextNo};
 use value_store::Store;
 
-/// The handle of the value of which a call tells.
+/// The handle of the value of which a call tells: the one handle that it names.
 fn told(call: &Call) -> HandleId
     requires { is_telling call.now ≡ true }
-    ensures { result.0 ≡ told_handle call.now }
+    ensures { handles_of call.now ≡ result.0 ∷ [] }
 {
     match *call {
         Call::Typeof(value)
