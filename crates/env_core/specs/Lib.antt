@@ -5,6 +5,7 @@ pub mod CoreSteps
 pub mod FunctionRooting
 pub mod Instancing
 pub mod Journal
+pub mod Looking
 pub mod Referring
 pub mod RegisteringWants
 pub mod Rooting

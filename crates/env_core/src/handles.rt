@@ -1,11 +1,11 @@
 //! The values of handles.
-ghost use Rattle.std.specs.Prelude.{◌≡◌, is_some, IfOk, OnOk};
+ghost use Rattle.std.specs.Prelude.{◌≡◌, IfOk, OnOk};
 ghost use Rattle.std.specs.Result.{result_err};
 ghost use Rattle.napi_types.specs.parts.FunctionCalls.{left_value};
 ghost use Rattle.napi_types.specs.parts.Graph.{IsLive, IsSoundStore, number_in};
 ghost use Rattle.napi_types.specs.parts.Heap.{handle_value, handle_body};
-ghost use Rattle.napi_types.specs.parts.Scopes.{gives};
 ghost use Rattle.env_core.specs.Attaching.{is_accepted, target_refusal};
+ghost use Rattle.env_core.specs.Looking.{IsLookedUp};
 ghost use Rattle.env_values.specs.SeenValues.{heap_of, HoldsLive};
 
 use env_values::{or_undefined, value_of_handle};
@@ -35,17 +35,31 @@ pub fn body_of(store: &Store, scopes: &Scopes, handle: HandleId) -> Body
     }
 }
 
-/// Whether an open scope holds the handle, and what its value is, by one look. It is undefined where none holds it.
+/// A handle, and what one look tells of it.
+#[derive(Clone, Copy)]
+pub struct LookedUp {
+    pub handle: HandleId,
+    /// Whether an open scope holds it.
+    pub held: bool,
+    /// What its value is: undefined where no open scope holds it.
+    pub body: Body,
+}
+
+/// Looks a handle up once.
 #[tactic(auto, using(crate::proofs::Looking::looked_body))]
-pub fn look_up(store: &Store, scopes: &Scopes, handle: HandleId) -> (bool, Body)
+pub fn look_up(store: &Store, scopes: &Scopes, handle: HandleId) -> LookedUp
     requires { HoldsLive store.now scopes.now }
-    ensures held { result.0 ≡ is_some (gives (heap_of store.now scopes.now).scopes handle.0) }
-    ensures body { result.1 ≡ handle_body (heap_of store.now scopes.now) handle.0 }
+    ensures handle { result.handle ≡ handle }
+    ensures seen { IsLookedUp (heap_of store.now scopes.now) result }
 {
     let found = scopes.look(handle);
     let held = found.is_some();
     match store.get(or_undefined(store, found)) {
-        Some(value) => (held, value.body()),
+        Some(value) => LookedUp {
+            handle,
+            held,
+            body: value.body(),
+        },
         None => unreachable!(),
     }
 }

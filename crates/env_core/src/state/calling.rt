@@ -14,11 +14,12 @@ ghost use Rattle.napi_types.specs.parts.Scopes.{gives};
 ghost use Rattle.napi_types.specs.environment.Calls.{with_depth_error};
 ghost use Rattle.napi_types.specs.environment.Refusals.{early_refusal};
 ghost use Rattle.env_values.specs.SeenValues.{HoldsLive};
+ghost use Rattle.env_core.specs.Looking.{IsLookedUp};
 ghost use Rattle.env_core.specs.State.{CallsFunction, EntersCall, BeginsScopes, SameScopes};
 
 use super::State;
 use crate::frames::StandingFrame;
-use crate::handles::{body_of, look_up};
+use crate::handles::{LookedUp, body_of, look_up};
 use env_values::thrown_value;
 use handle_scope::Scopes;
 use napi_types::{
@@ -53,11 +54,11 @@ impl State {
         ensures err { OnErr result (self.new ≡ self.old) }
         ensures unrefused { OnErr result (early_refusal self.old (call_of.CallFunction receiver function args.now) ≡ None) }
     {
-        let (held, body) = look_up(&self.store, &self.scopes, function);
-        let reply = match self.why_not_calling(receiver, function, args, held, body) {
+        let callee = look_up(&self.store, &self.scopes, function);
+        let reply = match self.why_not_calling(receiver, &callee, args) {
             Some(status) => Reply::plain(status, Out::Nothing),
             None if self.frames.depth() < MOST_FRAMES => {
-                return self.enter_function(receiver, function, args, body);
+                return self.enter_function(receiver, &callee, args);
             }
             None => self.exceed_depth()?,
         };
@@ -66,43 +67,34 @@ impl State {
         Ok(Called::Refused(reply))
     }
 
-    /// Why the call is refused, if it is, the depth limit left aside: by whether an open scope holds the function's handle, and what its value is.
+    /// Why the call of what was looked up is refused, if it is, the depth limit left aside.
     fn why_not_calling(
         &self,
         receiver: Option<HandleId>,
-        function: HandleId,
+        callee: &LookedUp,
         args: &Args,
-        held: bool,
-        body: Body,
     ) -> Option<Status>
-        requires held { held ≡ is_some (gives self.now.heap.scopes function.0) }
-        requires body { body ≡ handle_body self.now.heap function.0 }
-        ensures { result ≡ early_refusal self.now (call_of.CallFunction receiver function args.now) }
+        requires { IsLookedUp self.now.heap callee.now }
+        ensures { result ≡ early_refusal self.now (call_of.CallFunction receiver callee.now.handle args.now) }
     {
-        let call = Call::CallFunction(receiver, function, *args);
+        let call = Call::CallFunction(receiver, callee.handle, *args);
         if let Some(status) = self.untimely(&call) {
             return Some(status);
         }
-        if self.knows_all(receiver, function, args, held) && is_function_body(body) {
+        if self.knows_all(receiver, callee, args) && is_function_body(callee.body) {
             return None;
         }
         Some(Status::InvalidArg)
     }
 
-    /// Whether open scopes hold all the handles that the call names, where this tells it of the function's.
-    fn knows_all(
-        &self,
-        receiver: Option<HandleId>,
-        function: HandleId,
-        args: &Args,
-        called: bool,
-    ) -> bool
-        requires { called ≡ is_some (gives self.now.heap.scopes function.0) }
-        ensures { result ≡ is_known self.now.texts self.now.heap (call_of.CallFunction receiver function args.now) }
+    /// Whether open scopes hold all the handles that the call of what was looked up names.
+    fn knows_all(&self, receiver: Option<HandleId>, callee: &LookedUp, args: &Args) -> bool
+        requires { IsLookedUp self.now.heap callee.now }
+        ensures { result ≡ is_known self.now.texts self.now.heap (call_of.CallFunction receiver callee.now.handle args.now) }
     {
         let count = args.count.min(4) as usize;
         let received = self.holds_if(receiver);
-        let _ = function;
+        let called = callee.held;
         let given = self.holds_each(&args.handles[..count]);
         received && called && given
     }
@@ -135,10 +127,7 @@ impl State {
     pub(super) fn is_function(&self, handle: HandleId) -> bool
         ensures { result ≡ is_function_of (handle_body self.now.heap handle.0) }
     {
-        matches!(
-            body_of(&self.store, &self.scopes, handle),
-            Body::Function { .. }
-        )
+        is_function_body(body_of(&self.store, &self.scopes, handle))
     }
 
     /// No frame may begin inside the innermost one: an error that says so is pending from now on.
@@ -153,25 +142,23 @@ impl State {
         Ok(Reply::plain(Status::PendingException, Out::Nothing))
     }
 
-    /// The frame of a function begins inside the innermost one, whose ask is counted.
+    /// The frame of a function that was looked up begins inside the innermost one, whose ask is counted.
     fn enter_function(
         &mut self,
         receiver: Option<HandleId>,
-        function: HandleId,
+        callee: &LookedUp,
         args: &Args,
-        body: Body,
     ) -> Result<Called, NoMemory>
         requires standing { self.old.frames ≢ [] }
-        requires body { body ≡ handle_body self.old.heap function.0 }
-        requires accepted { early_refusal self.old (call_of.CallFunction receiver function args.now) ≡ None }
+        requires seen { IsLookedUp self.old.heap callee.now }
+        requires accepted { early_refusal self.old (call_of.CallFunction receiver callee.now.handle args.now) ≡ None }
         requires room { length self.old.frames < most_frames }
         requires within { asks_made self.old.frames < most_asks }
         requires handles { self.old.heap.handles < 2 ^ 62 }
-        ensures ok { IfOk result (λ called. CallsFunction self.old receiver function args.now called self.new) }
+        ensures ok { IfOk result (λ called. CallsFunction self.old receiver callee.now.handle args.now called self.new) }
         ensures err { OnErr result (self.new ≡ self.old) }
     {
-        let _ = function;
-        match body {
+        match callee.body {
             Body::Function {
                 addon,
                 entry,

@@ -12,5 +12,5 @@ returns-then-called c =
     let told : c.holds_each-given.result ≡ held c.min-count.result = c.holds_each-given.ensures in
     told
     ∙ ap held c.min-count.ensures
-    ∙ all-told _ _ _ _ _ c.holds_if-received.ensures c.requires c.if-called.true
-    ∙ known-call s.texts s.heap c.args.receiver c.args.function c.args.args.now
+    ∙ all-told _ _ _ _ _ c.holds_if-received.ensures c.requires.held c.if-called.true
+    ∙ known-call s.texts s.heap c.args.receiver c.args.callee.now.handle c.args.args.now
