@@ -9,8 +9,8 @@ abbrev pub with_length : ℕ → List Op → List Op
 with_length n ops = filter (λ o. nat_eq (length (operation_name o)) n) ops
 
 -- the kinds of operations of an addon of which the name has a length
-abbrev pub of_length : ℕ → List Op
-of_length n = with_length n operations
+abbrev pub operations_of_length : ℕ → List Op
+operations_of_length n = with_length n operations
 
 -- the last letter of a name
 abbrev pub last_letter : List ℕ → ℕ

@@ -3,7 +3,7 @@
 
 ghost use Rattle.std.specs.Prelude.{◌≡◌, Some, None, bytes_eq, cond};
 ghost use Rattle.napi_types.specs.scripts.ScriptOperations.{named, operations};
-ghost use Rattle.script_read.specs.Lengths.{of_length, last_letter};
+ghost use Rattle.script_read.specs.Lengths.{operations_of_length, last_letter};
 
 use napi_types::{JobSpec, Mode, Op, Regs, Release, TextNo};
 
@@ -38,7 +38,7 @@ pub(crate) fn if_named(name: &str, known: &str, operation: Op) -> Option<Op>
 
 /// The kind of a name of four letters.
 fn of_four(name: &str) -> Option<Op>
-    ensures { result ≡ named name.now (of_length 4) }
+    ensures { result ≡ named name.now (operations_of_length 4) }
 {
     match name {
         _ if is(name, "exit") => Some(Op::Exit),
@@ -49,7 +49,7 @@ fn of_four(name: &str) -> Option<Op>
 
 /// The kind of a name of six letters.
 fn of_six(name: &str) -> Option<Op>
-    ensures { result ≡ named name.now (of_length 6) }
+    ensures { result ≡ named name.now (operations_of_length 6) }
 {
     match name {
         _ if is(name, "return") => Some(Op::Return(None)),
@@ -61,7 +61,7 @@ fn of_six(name: &str) -> Option<Op>
 
 /// The kind of a name of eight letters.
 fn of_eight(name: &str) -> Option<Op>
-    ensures { result ≡ named name.now (of_length 8) }
+    ensures { result ≡ named name.now (operations_of_length 8) }
 {
     match name {
         _ if is(name, "get_null") => Some(Op::GetNull(0)),
@@ -73,7 +73,7 @@ fn of_eight(name: &str) -> Option<Op>
 
 /// The kind of a name of eleven letters.
 fn of_eleven(name: &str) -> Option<Op>
-    ensures { result ≡ named name.now (of_length 11) }
+    ensures { result ≡ named name.now (operations_of_length 11) }
 {
     match name {
         _ if is(name, "get_version") => Some(Op::GetVersion(0)),
@@ -89,7 +89,7 @@ fn of_eleven(name: &str) -> Option<Op>
 
 /// The kind of a name of twelve letters.
 fn of_twelve(name: &str) -> Option<Op>
-    ensures { result ≡ named name.now (of_length 12) }
+    ensures { result ≡ named name.now (operations_of_length 12) }
 {
     match name {
         _ if is(name, "create_array") => Some(Op::CreateArray(0)),
@@ -101,7 +101,7 @@ fn of_twelve(name: &str) -> Option<Op>
 
 /// The kind of a name of thirteen letters.
 fn of_thirteen(name: &str) -> Option<Op>
-    ensures { result ≡ named name.now (of_length 13) }
+    ensures { result ≡ named name.now (operations_of_length 13) }
 {
     match name {
         _ if is(name, "get_undefined") => Some(Op::GetUndefined(0)),
@@ -126,7 +126,7 @@ fn of_thirteen(name: &str) -> Option<Op>
 
 /// The kind of a name of fifteen letters.
 fn of_fifteen(name: &str) -> Option<Op>
-    ensures { result ≡ named name.now (of_length 15) }
+    ensures { result ≡ named name.now (operations_of_length 15) }
 {
     match name {
         _ if is(name, "get_value_int64") => Some(Op::GetValueInt64(0, 0)),
@@ -141,7 +141,7 @@ fn of_fifteen(name: &str) -> Option<Op>
 
 /// The kind of a name of sixteen letters.
 fn of_sixteen(name: &str) -> Option<Op>
-    ensures { result ≡ named name.now (of_length 16) }
+    ensures { result ≡ named name.now (operations_of_length 16) }
 {
     match name {
         _ if is(name, "delete_reference") => Some(Op::DeleteReference(0)),
@@ -154,7 +154,7 @@ fn of_sixteen(name: &str) -> Option<Op>
 
 /// The kind of a name of seventeen letters.
 fn of_seventeen(name: &str) -> Option<Op>
-    ensures { result ≡ named name.now (of_length 17) }
+    ensures { result ≡ named name.now (operations_of_length 17) }
 {
     match name {
         _ if is(name, "open_handle_scope") => Some(Op::OpenHandleScope(0)),
@@ -169,7 +169,7 @@ fn of_seventeen(name: &str) -> Option<Op>
 
 /// The kind of a name of eighteen letters.
 fn of_eighteen(name: &str) -> Option<Op>
-    ensures { result ≡ named name.now (of_length 18) }
+    ensures { result ≡ named name.now (operations_of_length 18) }
 {
     match name {
         _ if is(name, "close_handle_scope") => Some(Op::CloseHandleScope(0)),
@@ -185,7 +185,7 @@ fn of_eighteen(name: &str) -> Option<Op>
 
 /// The kind of a name of nineteen letters.
 fn of_nineteen(name: &str) -> Option<Op>
-    ensures { result ≡ named name.now (of_length 19) }
+    ensures { result ≡ named name.now (operations_of_length 19) }
 {
     match name {
         _ if is(name, "get_last_error_info") => Some(Op::GetLastErrorInfo(0)),
@@ -197,7 +197,7 @@ fn of_nineteen(name: &str) -> Option<Op>
 
 /// The kind of a name of twenty letters.
 fn of_twenty(name: &str) -> Option<Op>
-    ensures { result ≡ named name.now (of_length 20) }
+    ensures { result ≡ named name.now (operations_of_length 20) }
 {
     match name {
         _ if is(name, "is_exception_pending") => Some(Op::IsExceptionPending(0)),
@@ -208,7 +208,7 @@ fn of_twenty(name: &str) -> Option<Op>
 
 /// The kind of a name of twenty-one letters.
 fn of_twenty_one(name: &str) -> Option<Op>
-    ensures { result ≡ named name.now (of_length 21) }
+    ensures { result ≡ named name.now (operations_of_length 21) }
 {
     match name {
         _ if is(name, "get_value_string_utf8") => Some(Op::GetValueStringUtf8(0, 0)),
@@ -219,7 +219,7 @@ fn of_twenty_one(name: &str) -> Option<Op>
 
 /// The kind of a name of twenty-three letters.
 fn of_twenty_three(name: &str) -> Option<Op>
-    ensures { result ≡ named name.now (of_length 23) }
+    ensures { result ≡ named name.now (operations_of_length 23) }
 {
     match name {
         _ if is(name, "ref_threadsafe_function") => Some(Op::RefThreadsafeFunction(0)),
@@ -230,7 +230,7 @@ fn of_twenty_three(name: &str) -> Option<Op>
 
 /// The kind of a name of twenty-seven letters.
 fn of_twenty_seven(name: &str) -> Option<Op>
-    ensures { result ≡ named name.now (of_length 27) }
+    ensures { result ≡ named name.now (operations_of_length 27) }
 {
     match name {
         _ if is(name, "open_escapable_handle_scope") => Some(Op::OpenEscapableHandleScope(0)),
@@ -245,7 +245,7 @@ fn of_twenty_seven(name: &str) -> Option<Op>
 
 /// The kind of a name of twenty-eight letters.
 fn of_twenty_eight(name: &str) -> Option<Op>
-    ensures { result ≡ named name.now (of_length 28) }
+    ensures { result ≡ named name.now (operations_of_length 28) }
 {
     match name {
         _ if is(name, "get_and_clear_last_exception") => Some(Op::GetAndClearLastException(0)),
@@ -256,7 +256,7 @@ fn of_twenty_eight(name: &str) -> Option<Op>
 
 /// The kind that has a name of this length.
 fn of_length(name: &str, length: usize) -> Option<Op>
-    ensures { result ≡ named name.now (of_length length) }
+    ensures { result ≡ named name.now (operations_of_length length) }
 {
     match length {
         4 => of_four(name),
