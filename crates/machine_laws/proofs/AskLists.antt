@@ -16,7 +16,7 @@ use Rattle.napi_types.specs.runs.Run.{after, IsRunBy}
 use Rattle.napi_types.specs.runs.Setting.{Setting, opening_of}
 use Rattle.napi_types.proofs.plain.Conditions.{and-left, and-right}
 use Rattle.napi_types.proofs.runs.Runs.{along-entries}
-use Rattle.machine_laws.specs.Computing.{steps, entries_of}
+use Rattle.machine_laws.specs.Computing.{steps, entries_of_steps}
 use Rattle.machine_laws.specs.LegalRuns.{told_asks_along, IsRun, all_told, told_asks}
 use Rattle.machine_laws.proofs.Computing.{entries-of}
 
@@ -50,8 +50,8 @@ asks-unique ps rss m bs xs h r =
     subst P here (ap (λ l. b ∷ l) (rest (registers_after ps rss m b x) (ap tail e)))) m bs xs r rss
 
 -- a run of a script whose plans are all told has the entries that its told asks compute
-pub told-run : (s : Setting) (xs : List Entry) → IsTrue (all_told s) → IsRun s xs → xs ≡ entries_of (steps (opening_of s) (told_asks s xs) xs)
+pub told-run : (s : Setting) (xs : List Entry) → IsTrue (all_told s) → IsRun s xs → xs ≡ entries_of_steps (steps (opening_of s) (told_asks s xs) xs)
 told-run s xs h r =
     let same : r.0 ≡ told_asks s xs = asks-unique s.plans (loaded_registers s.plans) (opening_of s) r.0 xs h r.1.steps r.1.asked in
-    let P : List Ask → Type 0 = λ bs. xs ≡ entries_of (steps (opening_of s) bs xs) in
+    let P : List Ask → Type 0 = λ bs. xs ≡ entries_of_steps (steps (opening_of s) bs xs) in
     subst P same (entries-of (opening_of s) r.0 xs r.1.steps)

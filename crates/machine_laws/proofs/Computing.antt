@@ -9,7 +9,7 @@ use Rattle.napi_types.specs.runs.Run.{after, IsRunBy}
 use Rattle.napi_types.specs.runs.Step.{Step, step}
 use Rattle.napi_types.proofs.plain.Conditions.{and-left, and-right, and-both}
 use Rattle.napi_types.proofs.runs.Runs.{along-entries}
-use Rattle.machine_laws.specs.Computing.{ComputesBy, steps, all_may, entries_of, is_paired}
+use Rattle.machine_laws.specs.Computing.{ComputesBy, steps, all_may, entries_of_steps, is_paired}
 
 -- two facts on whole lists make a run
 pub run-of : (m : Machine) (bs : List Ask) (xs : List Entry) → ComputesBy m bs xs → IsRunBy m bs xs
@@ -28,9 +28,9 @@ run-of m [] (x ∷ xs) c = cc
 run-of m (a ∷ bs) [] c = cc
 
 -- the entries of a run are those that its asks compute
-pub entries-of : (m : Machine) (bs : List Ask) (xs : List Entry) → IsRunBy m bs xs → xs ≡ entries_of (steps m bs xs)
-entries-of = along-entries (λ m bs xs. xs ≡ entries_of (steps m bs xs)) (λ m. refl) (λ m a bs x xs next rest.
-    let P : Entry → Type 0 = λ y. x ∷ xs ≡ y ∷ entries_of (steps (after m a x) bs xs) in
+pub entries-of : (m : Machine) (bs : List Ask) (xs : List Entry) → IsRunBy m bs xs → xs ≡ entries_of_steps (steps m bs xs)
+entries-of = along-entries (λ m bs xs. xs ≡ entries_of_steps (steps m bs xs)) (λ m. refl) (λ m a bs x xs next rest.
+    let P : Entry → Type 0 = λ y. x ∷ xs ≡ y ∷ entries_of_steps (steps (after m a x) bs xs) in
     subst P next.0 (ap (λ l. x ∷ l) rest))
 
 -- a run is what computes to be one

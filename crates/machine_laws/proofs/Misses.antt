@@ -33,7 +33,7 @@ use Rattle.napi_types.specs.runs.Setting.{Setting, opening_of}
 use Rattle.napi_types.specs.runs.Step.{step_of, has_room}
 use Rattle.napi_types.proofs.plain.Conditions.{and-left, and-right}
 use Rattle.napi_types.proofs.hub.HubKeeps.{answered-may}
-use Rattle.machine_laws.specs.Computing.{ComputesBy, steps, entries_of, all_may, is_paired}
+use Rattle.machine_laws.specs.Computing.{ComputesBy, steps, entries_of_steps, all_may, is_paired}
 use Rattle.machine_laws.specs.LegalRuns.{IsRun, all_told, told_asks}
 use Rattle.machine_laws.proofs.AskLists.{asks-unique, told-run}
 use Rattle.machine_laws.proofs.Computing.{computes-of}
@@ -140,7 +140,7 @@ told-steps s xs h r =
 
 -- each of its entries is the one that its step gives, ..
 pub told-entry : (s : Setting) (xs : List Entry) (n : ℕ) → IsTrue (all_told s) → IsRun s xs
-    → entry_in_place n xs ≡ entry_in_place n (entries_of (steps (opening_of s) (told_asks s xs) xs))
+    → entry_in_place n xs ≡ entry_in_place n (entries_of_steps (steps (opening_of s) (told_asks s xs) xs))
 told-entry s xs n h r = ap (entry_in_place n) (told-run s xs h r)
 
 -- .. and may stand

@@ -17,9 +17,9 @@ all_may [] = true
 all_may (s ∷ ss) = s.may && all_may ss
 
 -- the entries that must stand there
-abbrev pub entries_of : List Step → List Entry
-entries_of [] = []
-entries_of (s ∷ ss) = s.entry ∷ entries_of ss
+abbrev pub entries_of_steps : List Step → List Entry
+entries_of_steps [] = []
+entries_of_steps (s ∷ ss) = s.entry ∷ entries_of_steps ss
 
 -- as many asks as entries
 abbrev pub is_paired : List Ask → List Entry → Bool
@@ -29,4 +29,4 @@ is_paired _ _ = false
 
 -- the entries are those that the steps give, each at an ask of its own, and each may stand
 abbrev pub ComputesBy : Machine → List Ask → List Entry → Type 0
-ComputesBy m bs xs = (xs ≡ entries_of (steps m bs xs)) × IsTrue (is_paired bs xs && all_may (steps m bs xs))
+ComputesBy m bs xs = (xs ≡ entries_of_steps (steps m bs xs)) × IsTrue (is_paired bs xs && all_may (steps m bs xs))
