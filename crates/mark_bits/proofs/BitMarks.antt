@@ -6,7 +6,7 @@ use Rattle.std.proofs.lemmas.Grind.{get_or_default_zero}
 use Rattle.std.proofs.lemmas.List.{same_lists, get_or-replicate, get_or-take, get_or_append_left, get_or-append_right, get_or-set_same, get_or-set_other, append-nil, length-append, length-replicate, length-set, length-take-le}
 use Rattle.std.proofs.lemmas.List.FromFn.{length-map-range_with_len, get_or-map-range_with_len}
 use Rattle.std.proofs.lemmas.Nat.Bits.{bit_at_ones, bit_at_set_same, bit_at_set_other, bit_at_clear_same, bit_at_clear_other, shr_and_one}
-use Rattle.mark_bits.specs.Marks.{is_marked}
+use Rattle.mark_bits.specs.PlaceMarks.{is_marked}
 use Rattle.mark_bits.specs.WordBits.{is_bit_set, marks_of}
 
 pub length-marks_of : (words : List ℕ) (many : ℕ) → length (marks_of words many) ≡ many

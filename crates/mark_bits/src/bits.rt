@@ -1,6 +1,6 @@
 //! Marks in the bits of words.
 ghost use Rattle.std.specs.Prelude.{◌≡◌, ℕ, ◌+◌, ◌-◌, ◌*◌, ◌/◌, ◌%◌, ◌^◌, ◌<◌, ◌≤◌, ◌++◌, [], true, false, length, replicate, take, slice_set, IfOk, OnOk, OnErr};
-ghost use Rattle.mark_bits.specs.Marks.{is_marked};
+ghost use Rattle.mark_bits.specs.PlaceMarks.{is_marked};
 
 use napi_types::NoMemory;
 use std::alloc::Global;

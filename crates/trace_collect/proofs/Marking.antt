@@ -11,7 +11,7 @@ use Rattle.napi_types.proofs.plain.Maps.{has-left, has-right}
 use Rattle.value_store.specs.StoreChanges.{id_at, numbers_of, StandsAt}
 use Rattle.value_store.proofs.Clearing.{numbers_of-more}
 use Rattle.value_store.proofs.NamedPlaces.{All-has, All-from_has}
-use Rattle.mark_bits.specs.Marks.{is_marked}
+use Rattle.mark_bits.specs.PlaceMarks.{is_marked}
 use Rattle.trace_collect.specs.MarkedValues.{unmarked_count, IsMarked, Marks}
 use Rattle.trace_collect.proofs.MarkMembers.{has-cases}
 use Rattle.trace_collect.proofs.Unmarked.{unmarked-set}

@@ -14,7 +14,7 @@ use Rattle.value_store.proofs.LiveValues.{has-numbers, place-live, live-place, g
 use Rattle.value_store.proofs.ReadingPlaces.{some-is}
 use Rattle.value_store.proofs.NamedPlaces.{All-has}
 use Rattle.trace_collect.specs.Collects.{reached}
-use Rattle.mark_bits.specs.Marks.{is_marked}
+use Rattle.mark_bits.specs.PlaceMarks.{is_marked}
 use Rattle.trace_collect.specs.MarkedValues.{IsMarked, NoneIsMarked, AreMarked, Marks, IsMarking}
 use Rattle.trace_collect.proofs.MarkMembers.{has-cases, has-one, has-map, from-map}
 use Rattle.trace_collect.proofs.Marking.{marked-kept}

@@ -8,7 +8,7 @@ use Rattle.std.proofs.lemmas.List.Elements.{filter_map-append}
 use Rattle.napi_types.specs.declared.ids.ValueId.{ValueId}
 use Rattle.napi_types.specs.parts.Graph.{Stored, StoreState, live}
 use Rattle.value_store.specs.StoreChanges.{id_at, numbers_of}
-use Rattle.mark_bits.specs.Marks.{is_marked}
+use Rattle.mark_bits.specs.PlaceMarks.{is_marked}
 use Rattle.trace_collect.specs.MarkedValues.{unmarked_ids, unmarked_count, NoneIsMarked}
 
 range-more : (from many : ℕ) → range_with_len from (many + 1) ≡ range_with_len from many ++ (from + many) ∷ []

@@ -19,7 +19,7 @@ use Rattle.value_store.proofs.LiveValues.{in-range, place-live, live-place, grap
 use Rattle.value_store.proofs.ReadingPlaces.{some-is}
 use Rattle.value_store.proofs.NamedPlaces.{All-from_has}
 use Rattle.trace_collect.specs.Collects.{reached, HoldsStarting, IsUnreached, AreUnreached}
-use Rattle.mark_bits.specs.Marks.{is_marked}
+use Rattle.mark_bits.specs.PlaceMarks.{is_marked}
 use Rattle.trace_collect.specs.MarkedValues.{unmarked_ids, AreMarked}
 use Rattle.trace_collect.proofs.Distinct.{same-length, distinct-filter, distinct-map, distinct-range}
 use Rattle.trace_collect.proofs.MarkMembers.{has-map, from-map, has-filter_map, from-filter_map}

@@ -4,7 +4,7 @@ use Rattle.std.specs.List.{All, range_with_len}
 use Rattle.napi_types.specs.plain.Lists.{has_number}
 use Rattle.napi_types.specs.parts.Graph.{StoreState, IsLive, number_in}
 use Rattle.value_store.specs.StoreChanges.{id_at, children_in}
-use Rattle.mark_bits.specs.Marks.{is_marked}
+use Rattle.mark_bits.specs.PlaceMarks.{is_marked}
 use Rattle.trace_collect.specs.Collects.{reached}
 
 -- the place of the value of this number is marked

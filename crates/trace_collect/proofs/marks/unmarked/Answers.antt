@@ -1,6 +1,6 @@
 use Rattle.std.proofs.Common.{◌≡◌, ◌∙◌, ◌+◌, false, ap, sym, arith}
 use Rattle.value_store.specs.StoreChanges.{numbers_of}
-use Rattle.mark_bits.specs.Marks.{is_marked}
+use Rattle.mark_bits.specs.PlaceMarks.{is_marked}
 use Rattle.trace_collect.specs.MarkedValues.{unmarked_ids}
 use Rattle.trace_collect.proofs.Unmarked.{unmarked-next, unmarked-over}
 use Rattle.trace_collect.proofs.marks.unmarked.Goals as goal
