@@ -1,7 +1,7 @@
 -- Where a work came out the first completion is there.
 use Rattle.std.proofs.Common.{◌≡◌, ◌∙◌, ◌==◌, true, ℕ, suc, length, Bool, List, [], ◌∷◌, map, refl, ap, sym, subst, Option, Some, None, is_some, option_map, not, false, arith}
 use Rattle.std.specs.Option.{option_and_then, option_map_or}
-use Rattle.generation_slab.specs.HeldPlaces.{Held}
+use Rattle.generation_slab.specs.HeldPlaces.{HeldValue}
 use Rattle.napi_types.specs.plain.Lists.{head}
 use Rattle.napi_types.specs.parts.Pool.{work_numbered, completion_info, first_completion}
 use Rattle.napi_types.specs.parts.Works.{Work, Outcome}
@@ -12,7 +12,7 @@ use Rattle.async_work.specs.WorkPlaces.{Placed}
 use Rattle.async_work.proofs.Linking.{ended-unfinished, first-ended, stage-of}
 use Rattle.async_work.proofs.StandingWorks.{numbered-at}
 
-module _ (places : List (Held Placed)) (issued : List ℕ) (line : List InLine) (finished : List CameOut) (first created queued running : ℕ) (closing : Bool)
+module _ (places : List (HeldValue Placed)) (issued : List ℕ) (line : List InLine) (finished : List CameOut) (first created queued running : ℕ) (closing : Bool)
     (spare finished_places : ℕ) (rises : IsRising (λ h. h.number) places)
     (kept : IsKeptPool places issued line finished first created queued running closing spare finished_places) where
   completion-of : (o : CameOut) → ended_at line o.number ≡ true → is_some (work_numbered (pool_of places issued line finished closing) o.number) ≡ true

@@ -2,7 +2,7 @@
 use Rattle.std.proofs.Common.{◌≡◌, ◌∙◌, ℕ, zero, suc, ◌+◌, ◌-◌, ◌^◌, ◌<◌, ◌≤◌, ◌==◌, Bool, true, false, not, cond, List, [], ◌∷◌, ◌++◌, length, filter, set, get_or, Option, Some, None, IfSome, is_some, option_map, ◌⊎◌, refl, ap, sym, subst, arith, length-append, inl, inr}
 use Rattle.std.specs.List.{count_by}
 use Rattle.std.specs.Option.{option_map_or, is_none}
-use Rattle.generation_slab.specs.HeldPlaces.{Held, with_held, without_held, with_value}
+use Rattle.generation_slab.specs.HeldPlaces.{HeldValue, with_held, without_held, with_value}
 use Rattle.std.proofs.lemmas.Bool.{cases_lt}
 use Rattle.std.proofs.lemmas.List.Elements.{All-nil}
 use Rattle.napi_types.specs.declared.call.JobSpec.{JobSpec}
@@ -72,13 +72,13 @@ runner-queued line e job waits_for m = stage-push runner line e m ∙ by (length
     by false same = refl
 
 -- ROOM
-module _ (places : List (Held Placed)) (issued : List ℕ) (line : List InLine) (finished : List CameOut) (first created queued running : ℕ) (closing : Bool)
+module _ (places : List (HeldValue Placed)) (issued : List ℕ) (line : List InLine) (finished : List CameOut) (first created queued running : ℕ) (closing : Bool)
     (spare finished_places : ℕ)
     (kept : IsKeptPool places issued line finished first created queued running closing spare finished_places) where
   -- a work that was not queued is counted
   pub counted-within : (id : ℕ) (p : Placed) → IsRising (λ h. h.number) places → place_at places id ≡ Some p → cond (is_none p.number) 1 0 ≤ created
   counted-within id p rises is =
-      let less = count-less (λ (h : Held Placed). h.number) is_unqueued id places (record { number = id; value = p }) rises (held-at places id p is) in
+      let less = count-less (λ (h : HeldValue Placed). h.number) is_unqueued id places (record { number = id; value = p }) rises (held-at places id p is) in
       omega (arith, less, kept.room.created_are)
 
   pub created-some : (id : ℕ) (p : Placed) → IsRising (λ h. h.number) places → place_at places id ≡ Some p → p.number ≡ None → 1 ≤ created
@@ -131,7 +131,7 @@ module _ (places : List (Held Placed)) (issued : List ℕ) (line : List InLine) 
   }
 
   -- A WORK IS CREATED
-  pub kept-created : (others : List (Held Placed)) (id : ℕ) (p : Placed) (more more_line more_finished : ℕ) → IsRising (λ h. h.number) places
+  pub kept-created : (others : List (HeldValue Placed)) (id : ℕ) (p : Placed) (more more_line more_finished : ℕ) → IsRising (λ h. h.number) places
       → length issued + 2 < 2 ^ 48 → has_number id (0 ∷ issued) ≡ false → others ≡ with_held id p places → p.number ≡ None → p.job ≡ Some p.spec → more ≡ created + 1
       → more ≤ more_line → length finished + more + queued + running ≤ more_finished
       → IsKeptPool others (with_number id issued) line finished first more queued running closing more_line more_finished
@@ -162,10 +162,10 @@ module _ (places : List (Held Placed)) (issued : List ℕ) (line : List InLine) 
       counts = ap (λ o. cond (is_none o) 1 0) none
 
       counted : count_by is_unqueued (with_held id p places) ≡ count_by is_unqueued places + cond (is_none p.number) 1 0
-      counted = count-more (λ (h : Held Placed). h.number) is_unqueued (record { number = id; value = p }) places rises (none-held places id absent)
+      counted = count-more (λ (h : HeldValue Placed). h.number) is_unqueued (record { number = id; value = p }) places rises (none-held places id absent)
 
   -- A WORK IS DELETED
-  pub kept-deleted : (others : List (Held Placed)) (id : ℕ) (p : Placed) (fewer : ℕ) → IsRising (λ h. h.number) places → others ≡ without_held id places
+  pub kept-deleted : (others : List (HeldValue Placed)) (id : ℕ) (p : Placed) (fewer : ℕ) → IsRising (λ h. h.number) places → others ≡ without_held id places
       → place_at places id ≡ Some p → ((n : ℕ) → p.number ≡ Some n → is_done_in_line (line_stage_at line n) ≡ true)
       → fewer + cond (is_none p.number) 1 0 ≡ created
       → IsKeptPool others issued line finished first fewer queued running closing spare finished_places
@@ -190,10 +190,10 @@ module _ (places : List (Held Placed)) (issued : List ℕ) (line : List InLine) 
       change = replaced-freed places id
 
       counted : count_by is_unqueued (without_held id places) + cond (is_none p.number) 1 0 ≡ count_by is_unqueued places
-      counted = count-less (λ (h : Held Placed). h.number) is_unqueued id places (record { number = id; value = p }) rises (held-at places id p is)
+      counted = count-less (λ (h : HeldValue Placed). h.number) is_unqueued id places (record { number = id; value = p }) rises (held-at places id p is)
 
   -- A WORK IS QUEUED
-  pub kept-queued : (others : List (Held Placed)) (lines : List InLine) (id n fewer more left : ℕ) (p : Placed) (e : InLine) → IsRising (λ h. h.number) places
+  pub kept-queued : (others : List (HeldValue Placed)) (lines : List InLine) (id n fewer more left : ℕ) (p : Placed) (e : InLine) → IsRising (λ h. h.number) places
       → others ≡ with_number_at id n places → lines ≡ line ++ e ∷ [] → closing ≡ false
       → n ≡ length line + 1 → place_at places id ≡ Some p → p.number ≡ None → e.id ≡ id → waiting_job e.stage ≡ Some p.spec → fewer ≡ created - 1 → more ≡ queued + 1 → left + 1 ≡ spare
       → IsKeptPool others issued lines finished first fewer more running closing left finished_places
@@ -240,7 +240,7 @@ module _ (places : List (Held Placed)) (issued : List ℕ) (line : List InLine) 
       counts = ap (λ o. cond (is_none o) 1 0) none
 
       counted : count_by is_unqueued (with_number_at id n places) + cond (is_none p.number) 1 0 ≡ count_by is_unqueued places + 0
-      counted = count-changed (λ (h : Held Placed). h.number) is_unqueued id (λ h. with_value (with_place_number n h.value) h) (λ h. refl)
+      counted = count-changed (λ (h : HeldValue Placed). h.number) is_unqueued id (λ h. with_value (with_place_number n h.value) h) (λ h. refl)
           (record { number = id; value = p }) places rises (held-at places id p is)
 
       same_runner : (m : ℕ) → runner_at (line ++ e ∷ []) m ≡ runner_at line m
@@ -449,7 +449,7 @@ module _ (places : List (Held Placed)) (issued : List ℕ) (line : List InLine) 
             ∙ length-finished line (set line (n - 1) (with_stage Ended e)) n w kept.in_line.apart runs_here (fewer-run Ended refl)
 
 -- its completion begins
-pub kept-completed : (places : List (Held Placed)) (issued : List ℕ) (line lines : List InLine) (finished outcomes : List CameOut) (o : CameOut) (first created queued running : ℕ)
+pub kept-completed : (places : List (HeldValue Placed)) (issued : List ℕ) (line lines : List InLine) (finished outcomes : List CameOut) (o : CameOut) (first created queued running : ℕ)
     (closing : Bool) (spare finished_places more : ℕ) (e : InLine)
     → IsKeptPool places issued line finished first created queued running closing spare finished_places → finished ≡ o ∷ outcomes → line_work_at line o.number ≡ Some e
     → lines ≡ set line (o.number - 1) (with_stage Done e)
@@ -491,7 +491,7 @@ kept-completed places issued line lines finished outcomes o first created queued
     waiting_same = waiting-still places issued line finished first created queued running closing spare finished_places kept lines o.number e there Done refl only.started
 
 -- where none waits, any work may start or none
-pub kept-closed : (places : List (Held Placed)) (issued : List ℕ) (line : List InLine) (finished : List CameOut) (first created queued running : ℕ) (closing now : Bool)
+pub kept-closed : (places : List (HeldValue Placed)) (issued : List ℕ) (line : List InLine) (finished : List CameOut) (first created queued running : ℕ) (closing now : Bool)
     (spare finished_places : ℕ)
     → IsKeptPool places issued line finished first created queued running closing spare finished_places → waiting_works line ≡ []
     → IsKeptPool places issued line finished first created queued running now spare finished_places
@@ -505,7 +505,7 @@ kept-closed places issued line finished first created queued running closing now
 }
 
 -- before the first work is created
-pub kept-new : (places : List (Held Placed)) (issued : List ℕ) (line : List InLine) (finished : List CameOut) (spare finished_places : ℕ) → places ≡ [] → issued ≡ [] → line ≡ []
+pub kept-new : (places : List (HeldValue Placed)) (issued : List ℕ) (line : List InLine) (finished : List CameOut) (spare finished_places : ℕ) → places ≡ [] → issued ≡ [] → line ≡ []
     → finished ≡ [] → IsKeptPool places issued line finished 0 0 0 0 false spare finished_places
 kept-new places issued line finished spare finished_places no_places no_issued no_line no_finished = rw (no_places, no_issued, no_line, no_finished) (record {
   known = λ id p is. absurd (nowhere id p is);

@@ -2,7 +2,7 @@
 use Rattle.std.proofs.Common.{◌≡◌, ◌∙◌, ℕ, ◌+◌, ◌<◌, ◌≤◌, ◌==◌, Bool, true, false, cond, List, [], ◌∷◌, ◌++◌, length, get_or, Option, Some, None, IfSome, option_map, refl, ap, sym, subst, arith, length-append}
 use Rattle.std.specs.List.{All, count_by}
 use Rattle.std.specs.Option.{option_map_or}
-use Rattle.generation_slab.specs.HeldPlaces.{Held}
+use Rattle.generation_slab.specs.HeldPlaces.{HeldValue}
 use Rattle.std.proofs.lemmas.List.Sums.{sum_by-cons, sum_by-append, get_or-le-sum_by}
 use Rattle.std.proofs.lemmas.List.Elements.{All-append, All-cons, All-nil, All-head, All-tail}
 use Rattle.napi_types.proofs.plain.Found.{same-self, same-tells, apart-above}
@@ -35,7 +35,7 @@ apart-of m n apart = by (m == n) refl
     by false is = refl
 
 -- a work that was there still is once another is created
-pub place_at-old : (places others : List (Held Placed)) (id : ℕ) (p : Placed) (m : ℕ) (q : Placed) → place_at places id ≡ None → Replaced places others id (Some p)
+pub place_at-old : (places others : List (HeldValue Placed)) (id : ℕ) (p : Placed) (m : ℕ) (q : Placed) → place_at places id ≡ None → Replaced places others id (Some p)
     → place_at places m ≡ Some q → place_at others m ≡ Some q
 place_at-old places others id p m q absent change is = change.at m ∙ ap (λ b. cond b (Some p) (place_at places m)) (apart-of id m other) ∙ is
   where
@@ -46,7 +46,7 @@ pub stage-of : (line : List InLine) (n : ℕ) (e : InLine) → line_work_at line
 stage-of line n e is = ap (λ o. option_map_or (λ (x : InLine). x.stage) o Done) is
 
 -- A WORK IS CREATED
-pub linked-created : (places others : List (Held Placed)) (line : List InLine) (id : ℕ) (p : Placed) → AreLinked places line → place_at places id ≡ None
+pub linked-created : (places others : List (HeldValue Placed)) (line : List InLine) (id : ℕ) (p : Placed) → AreLinked places line → place_at places id ≡ None
     → Replaced places others id (Some p) → p.number ≡ None → p.job ≡ Some p.spec → AreLinked others line
 linked-created places others line id p linked absent change none held = record {
   named = λ m q is. named m q (id == m) (sym (change.at m) ∙ is);
@@ -66,7 +66,7 @@ linked-created places others line id p linked absent change none held = record {
     stands n e old = record { place = old.place; there = place_at-old places others id p e.id old.place absent change old.there; numbered = old.numbered; job = old.job }
 
 -- A WORK IS DELETED
-pub linked-deleted : (places others : List (Held Placed)) (line : List InLine) (id : ℕ) (p : Placed) → AreLinked places line
+pub linked-deleted : (places others : List (HeldValue Placed)) (line : List InLine) (id : ℕ) (p : Placed) → AreLinked places line
     → place_at places id ≡ Some p → Replaced places others id None
     → ((n : ℕ) → p.number ≡ Some n → is_done_in_line (line_stage_at line n) ≡ true) → AreLinked others line
 linked-deleted places others line id p linked is change done = record {
@@ -95,7 +95,7 @@ linked-deleted places others line id p linked is change done = record {
             cc
 
 -- A WORK IS QUEUED
-pub linked-queued : (places others : List (Held Placed)) (line : List InLine) (id n : ℕ) (p : Placed) (e : InLine) → AreLinked places line
+pub linked-queued : (places others : List (HeldValue Placed)) (line : List InLine) (id n : ℕ) (p : Placed) (e : InLine) → AreLinked places line
     → n ≡ length line + 1 → place_at places id ≡ Some p → p.number ≡ None
     → Replaced places others id (Some (with_place_number n p)) → e.id ≡ id → waiting_job e.stage ≡ Some p.spec → AreLinked others (line ++ e ∷ [])
 linked-queued places others line id n p e linked new is none change its waits_for = record {
@@ -162,7 +162,7 @@ linked-queued places others line id n p e linked new is none change its waits_fo
         }
 
 -- A WORK COMES FURTHER
-pub linked-restaged : (places : List (Held Placed)) (line others : List InLine) (n : ℕ) (e : InLine) (s : LineStage) → AreLinked places line
+pub linked-restaged : (places : List (HeldValue Placed)) (line others : List InLine) (n : ℕ) (e : InLine) (s : LineStage) → AreLinked places line
     → Restaged line others n e s
     → waiting_job s ≡ None → (is_done_in_line s ≡ false → is_done_in_line e.stage ≡ false) → AreLinked places others
 linked-restaged places line others n e s linked change no_job before_open = record {
@@ -207,7 +207,7 @@ ended-unfinished Ended is = refl
 ended-unfinished Done is = let no : ⊥ = cc in absurd no
 
 -- what is in the list has ended
-among-ended : (places : List (Held Placed)) (line : List InLine) (finished : List CameOut) (k : ℕ) (d : CameOut) → CameOutOnce places line finished
+among-ended : (places : List (HeldValue Placed)) (line : List InLine) (finished : List CameOut) (k : ℕ) (d : CameOut) → CameOutOnce places line finished
     → k < length finished → ended_at line (get_or finished k d).number ≡ true
 among-ended places line finished k d out inside =
     let o : CameOut = get_or finished k d in
@@ -221,7 +221,7 @@ among-ended places line finished k d out inside =
     by false false same count least = let no : ⊥ = cc in absurd no
 
 -- a job that is kept stays so where each work that has its number was there before, and computed the same
-told-all : (places others : List (Held Placed)) (line : List InLine) (finished : List CameOut) → CameOutOnce places line finished
+told-all : (places others : List (HeldValue Placed)) (line : List InLine) (finished : List CameOut) → CameOutOnce places line finished
     → ((n : ℕ) → ended_at line n ≡ true → (id : ℕ) (q : Placed) → place_at others id ≡ Some q → q.number ≡ Some n
     → (r : Placed) × (place_at places id ≡ Some r) × (r.number ≡ Some n) × (r.spec ≡ q.spec))
     → All (KeepsJob others) finished
@@ -232,7 +232,7 @@ told-all places others line finished out before k d inside =
     (λ s told id q at number. let r = before o.number (among-ended places line finished k d out inside) id q at number in sym r.3 ∙ told id r.0 r.1 r.2)
     (out.told k d inside)
 
-pub out-created : (places others : List (Held Placed)) (line : List InLine) (finished : List CameOut) (id : ℕ) (p : Placed) → p.number ≡ None
+pub out-created : (places others : List (HeldValue Placed)) (line : List InLine) (finished : List CameOut) (id : ℕ) (p : Placed) → p.number ≡ None
     → Replaced places others id (Some p) → CameOutOnce places line finished → CameOutOnce others line finished
 out-created places others line finished id p none change out = record {
   once = out.once;
@@ -246,7 +246,7 @@ out-created places others line finished id p none change out = record {
         let no : ⊥ = cc in absurd no
     by n m q false told number = (q, told, number, refl)
 
-pub out-deleted : (places others : List (Held Placed)) (line : List InLine) (finished : List CameOut) (id : ℕ)
+pub out-deleted : (places others : List (HeldValue Placed)) (line : List InLine) (finished : List CameOut) (id : ℕ)
     → CameOutOnce places line finished → Replaced places others id None → CameOutOnce others line finished
 out-deleted places others line finished id out change = record {
   once = out.once;
@@ -258,7 +258,7 @@ out-deleted places others line finished id out change = record {
     by n m q true told number = let no : ⊥ = cc in absurd no
     by n m q false told number = (q, told, number, refl)
 
-pub out-queued : (places others : List (Held Placed)) (line : List InLine) (finished : List CameOut) (id n : ℕ) (p : Placed) (e : InLine)
+pub out-queued : (places others : List (HeldValue Placed)) (line : List InLine) (finished : List CameOut) (id n : ℕ) (p : Placed) (e : InLine)
     → CameOutOnce places line finished → n ≡ length line + 1
     → Replaced places others id (Some (with_place_number n p)) → has_ended e.stage ≡ false → CameOutOnce others (line ++ e ∷ []) finished
 out-queued places others line finished id n p e out new change waits_still = record {
@@ -282,7 +282,7 @@ out-queued places others line finished id n p e out new change waits_still = rec
         let no : ⊥ = cc in absurd no
     by k m q ended false told number = (q, told, number, refl)
 
-module _ (places : List (Held Placed)) (line others : List InLine) (finished : List CameOut) (n : ℕ) (e : InLine) (s : LineStage)
+module _ (places : List (HeldValue Placed)) (line others : List InLine) (finished : List CameOut) (n : ℕ) (e : InLine) (s : LineStage)
     (out : CameOutOnce places line finished) (change : Restaged line others n e s) where
   -- it starts
   pub out-started : has_ended s ≡ false → has_ended e.stage ≡ false → CameOutOnce places others finished
@@ -328,7 +328,7 @@ module _ (places : List (Held Placed)) (line others : List InLine) (finished : L
           plain k = omega arith
 
 -- its completion begins
-pub out-completed : (places : List (Held Placed)) (line others : List InLine) (o : CameOut) (finished : List CameOut) (e : InLine) (s : LineStage)
+pub out-completed : (places : List (HeldValue Placed)) (line others : List InLine) (o : CameOut) (finished : List CameOut) (e : InLine) (s : LineStage)
     → CameOutOnce places line (o ∷ finished)
     → Restaged line others o.number e s → has_ended s ≡ false → CameOutOnce places others finished
 out-completed places line others o finished e s out change after = record {
@@ -356,17 +356,17 @@ out-completed places line others o finished e s out change after = record {
         plain k = omega arith
 
 -- the first of them has the job that it should have
-pub first-told : (places : List (Held Placed)) (line : List InLine) (o : CameOut) (finished : List CameOut) (e : InLine) (stands : StandsInLine places o.number e)
+pub first-told : (places : List (HeldValue Placed)) (line : List InLine) (o : CameOut) (finished : List CameOut) (e : InLine) (stands : StandsInLine places o.number e)
     → CameOutOnce places line (o ∷ finished) → IfSome o.unspent (λ s. stands.place.spec ≡ s)
 first-told places line o finished e stands out =
     if-more (λ s. (id : ℕ) (p : Placed) → place_at places id ≡ Some p → p.number ≡ Some o.number → p.spec ≡ s) (λ s. stands.place.spec ≡ s) o.unspent
     (λ s told. told e.id stands.place stands.there stands.numbered) (All-head (KeepsJob places) o finished out.told)
 
-pub keeps-none : (places : List (Held Placed)) (o : CameOut) → o.unspent ≡ None → KeepsJob places o
+pub keeps-none : (places : List (HeldValue Placed)) (o : CameOut) → o.unspent ≡ None → KeepsJob places o
 keeps-none places o is = if-none (λ s. (id : ℕ) (p : Placed) → place_at places id ≡ Some p → p.number ≡ Some o.number → p.spec ≡ s) o.unspent is
 
 -- the job of a work that stands in line is the one that it should be
-pub keeps-job : (places : List (Held Placed)) (line : List InLine) (n : ℕ) (e : InLine) → AreLinked places line → line_work_at line n ≡ Some e
+pub keeps-job : (places : List (HeldValue Placed)) (line : List InLine) (n : ℕ) (e : InLine) → AreLinked places line → line_work_at line n ≡ Some e
     → is_done_in_line e.stage ≡ false → (stands : StandsInLine places n e) (o : CameOut) → o.number ≡ n → o.unspent ≡ waiting_job e.stage → KeepsJob places o
 keeps-job places line n e linked at unfinished stands o number is =
     subst (λ u. IfSome u (λ s. (id : ℕ) (p : Placed) → place_at places id ≡ Some p → p.number ≡ Some o.number → p.spec ≡ s)) (sym is)
@@ -381,6 +381,6 @@ keeps-job places line n e linked at unfinished stands o number is =
         same-some p stands.place (sym there ∙ ap (place_at places) one ∙ stands.there)
 
 -- what has come out has ended
-pub first-ended : (places : List (Held Placed)) (line : List InLine) (o : CameOut) (finished : List CameOut) → CameOutOnce places line (o ∷ finished)
+pub first-ended : (places : List (HeldValue Placed)) (line : List InLine) (o : CameOut) (finished : List CameOut) → CameOutOnce places line (o ∷ finished)
     → ended_at line o.number ≡ true
 first-ended places line o finished out = among-ended places line (o ∷ finished) 0 o out (omega arith)

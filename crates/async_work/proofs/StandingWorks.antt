@@ -5,7 +5,7 @@ use Rattle.std.specs.Option.{option_and_then, option_map_or, is_none}
 use Rattle.napi_types.specs.declared.call.JobSpec.{JobSpec}
 use Rattle.napi_types.specs.declared.status.Status.{Status}
 use Rattle.napi_types.specs.declared.status.Status.TheVariants as status
-use Rattle.generation_slab.specs.HeldPlaces.{Held}
+use Rattle.generation_slab.specs.HeldPlaces.{HeldValue}
 use Rattle.napi_types.specs.plain.Lists.{has, unless}
 use Rattle.napi_types.specs.parts.Pool.{WorkPool, work_at, work_numbered, number_of_work, standing_at, work_state, state_refusal, work_refusal}
 use Rattle.napi_types.specs.parts.Works.{Work, WorkState, Created, Queued, Running, Finished, Completed, Outcome, is_created, is_deletable}
@@ -40,7 +40,7 @@ has-outcome : (finished : List CameOut) (n : ℕ) → has (λ (o : Outcome). o.w
 has-outcome [] n = refl
 has-outcome (o ∷ os) n = ap (λ b. (o.number == n) || b) (has-outcome os n)
 
-module _ (places : List (Held Placed)) (issued : List ℕ) (line : List InLine) (finished : List CameOut) (first created queued running : ℕ) (closing : Bool)
+module _ (places : List (HeldValue Placed)) (issued : List ℕ) (line : List InLine) (finished : List CameOut) (first created queued running : ℕ) (closing : Bool)
     (spare finished_places : ℕ)
     (kept : IsKeptPool places issued line finished first created queued running closing spare finished_places) where
   abbrev pool : WorkPool
@@ -99,7 +99,7 @@ module _ (places : List (Held Placed)) (issued : List ℕ) (line : List InLine) 
           same-some m e.id (sym named ∙ ap (option_map (λ (x : InLine). x.id)) at)
 
 -- by the state that is told of the place of an id
-module _ (places : List (Held Placed)) (line : List InLine) (id : ℕ) (s : WorkState) (is : Some s ≡ option_map (place_state line) (place_at places id)) where
+module _ (places : List (HeldValue Placed)) (line : List InLine) (id : ℕ) (s : WorkState) (is : Some s ≡ option_map (place_state line) (place_at places id)) where
   pub state-place : (p : Placed) × (place_at places id ≡ Some p) × (place_state line p ≡ s)
   state-place = by (place_at places id) refl is
     where

@@ -2,7 +2,7 @@
 use Rattle.std.proofs.Common.{◌≡◌, ◌∙◌, ℕ, ◌+◌, ◌-◌, ◌==◌, Bool, not, cond, List, [], ◌∷◌, ◌++◌, length, map, filter, set, Some, None, refl, ap, sym, length-append}
 use Rattle.std.proofs.lemmas.List.{length-set, map-append}
 use Rattle.napi_types.specs.declared.call.JobSpec.{JobSpec}
-use Rattle.generation_slab.specs.HeldPlaces.{Held, with_held, without_held}
+use Rattle.generation_slab.specs.HeldPlaces.{HeldValue, with_held, without_held}
 use Rattle.napi_types.specs.plain.Lists.{one, with_record, with_number}
 use Rattle.napi_types.specs.parts.Pool.{WorkPool, executed_by, value_of_work, with_work, without_work, with_queued, cancelled_at, started_from, with_started, finished_at, with_finished, with_completed}
 use Rattle.napi_types.specs.parts.Works.{Work, Execution, Outcome}
@@ -22,7 +22,7 @@ same-pool ws vs is js n m qs rs xs ys os us c d a b e f g h i = cc
 outcomes-more : (finished : List CameOut) (o : CameOut) → map outcome_of (finished ++ o ∷ []) ≡ map outcome_of finished ++ one (outcome_of o)
 outcomes-more finished o = map-append outcome_of finished (o ∷ [])
 
-pub view-created : (places others : List (Held Placed)) (issued news : List ℕ) (line : List InLine) (finished : List CameOut) (closing : Bool) (id : ℕ) (p : Placed)
+pub view-created : (places others : List (HeldValue Placed)) (issued news : List ℕ) (line : List InLine) (finished : List CameOut) (closing : Bool) (id : ℕ) (p : Placed)
     → others ≡ with_held id p places → news ≡ with_number id issued → p.number ≡ None
     → pool_of others news line finished closing ≡ with_work id p.spec p.addon p.entry p.payload (pool_of places issued line finished closing)
 view-created places others issued news line finished closing id p is issued_is none =
@@ -30,13 +30,13 @@ view-created places others issued news line finished closing id p is issued_is n
     (record { id = id; spec = p.spec; addon = p.addon; entry = p.entry; payload = p.payload; number = o }) (works_of places)) none)
     issued_is refl refl refl refl refl)
 
-pub view-deleted : (places others : List (Held Placed)) (issued news : List ℕ) (line : List InLine) (finished : List CameOut) (closing : Bool) (id : ℕ)
+pub view-deleted : (places others : List (HeldValue Placed)) (issued news : List ℕ) (line : List InLine) (finished : List CameOut) (closing : Bool) (id : ℕ)
     → others ≡ without_held id places → news ≡ issued
     → pool_of others news line finished closing ≡ without_work id (pool_of places issued line finished closing)
 view-deleted places others issued news line finished closing id is issued_is =
     rw is (same-pool _ _ _ _ _ _ _ _ _ _ _ _ _ _ (works-deleted places id) issued_is refl refl refl refl refl)
 
-pub view-queued : (places others : List (Held Placed)) (issued news : List ℕ) (line lines : List InLine) (finished : List CameOut) (closing : Bool) (id n : ℕ)
+pub view-queued : (places others : List (HeldValue Placed)) (issued news : List ℕ) (line lines : List InLine) (finished : List CameOut) (closing : Bool) (id n : ℕ)
     (spec : JobSpec) (e : InLine) → others ≡ with_number_at id n places → news ≡ issued → lines ≡ line ++ e ∷ []
     → n ≡ length line + 1 → waiting_job e.stage ≡ Some spec
     → pool_of others news lines finished closing ≡ with_queued id (pool_of places issued line finished closing)
@@ -47,7 +47,7 @@ view-queued places others issued news line lines finished closing id n spec e pl
     issued_is (length-append line (e ∷ [])) (waiting-more line e spec waits_for)
     (executions-same line (line ++ e ∷ []) (runner-queued line e spec waits_for)) refl refl)
 
-module _ (places : List (Held Placed)) (issued : List ℕ) (line : List InLine) (finished : List CameOut) (first created queued running : ℕ) (closing : Bool)
+module _ (places : List (HeldValue Placed)) (issued : List ℕ) (line : List InLine) (finished : List CameOut) (first created queued running : ℕ) (closing : Bool)
     (spare finished_places : ℕ)
     (kept : IsKeptPool places issued line finished first created queued running closing spare finished_places) (lines : List InLine) (n : ℕ) (e : InLine)
     (there : line_work_at line n ≡ Some e) where

@@ -4,7 +4,7 @@ use Rattle.std.proofs.lemmas.Bool.Decides.{nat_tests}
 use Rattle.std.proofs.lemmas.List.{length-set, get_or-set_same, get_or-set_other}
 use Rattle.napi_types.specs.plain.Lists.{has_number, with_number}
 use Rattle.napi_types.proofs.plain.Found.{found-same, found-with_record, found-filter, found-changed, rising-as_map, rising-with_record, rising-filter, rising-changed, same-tells, turned}
-use Rattle.generation_slab.specs.HeldPlaces.{Held, HeldPlaces, standing, held, value_of, with_held, without_held, with_value, with_held_value, EachStandsOnce}
+use Rattle.generation_slab.specs.HeldPlaces.{HeldValue, HeldPlaces, standing, held, value_of, with_held, without_held, with_value, with_held_value, EachStandsOnce}
 use Rattle.generation_slab.specs.SlotNumbers.{number_of_slot, generation_in, places_from, issued_from, places_of, value_in, given_in, value_at, is_issued, HaveGenerations}
 use Rattle.generation_slab.proofs.SlotNumbers.{tests-apart, parted, slot-below, slot-of, generation-of, value-changed, issued-more, issued-same, put-value, taken-value, other-generation, given-taken, given-back}
 use Rattle.generation_slab.proofs.HeldPlaces.{held-at, value-held, numbers-once}
@@ -18,13 +18,13 @@ pub record Widened (olds news : List ℕ) (k : ℕ) : Type 0 where
   pub few : length news < 281474976710656
 
 module _ {T : Type 0} where
-  abbrev number : Held T → ℕ
+  abbrev number : HeldValue T → ℕ
   number h = h.number
 
-  abbrev at_number : ℕ → T → Held T
+  abbrev at_number : ℕ → T → HeldValue T
   at_number n v = record { number = n; value = v }
 
-  abbrev changing : ℕ → T → Held T → Held T
+  abbrev changing : ℕ → T → HeldValue T → HeldValue T
   changing n v h = cond (h.number == n) (with_value v h) h
 
   -- BY NUMBERS
@@ -61,10 +61,10 @@ module _ {T : Type 0} where
         (λ n. held-at new news q after n ∙ ap (option_map (at_number n)) (changed n) ∙ by n (id == n) refl (value_at old olds n) refl
         ∙ ap (option_map (changing id v)) (sym (held-at old olds r before n)) ∙ sym (found-changed number (changing id v) keeps n (held (places_of old olds r))))
       where
-        keeps : (h : Held T) → let q : Held T = changing id v h in q.number ≡ h.number
+        keeps : (h : HeldValue T) → let q : HeldValue T = changing id v h in q.number ≡ h.number
         keeps h = each (h.number == id)
           where
-            each : (b : Bool) → let q : Held T = cond b (with_value v h) h in q.number ≡ h.number
+            each : (b : Bool) → let q : HeldValue T = cond b (with_value v h) h in q.number ≡ h.number
             each true = refl
             each false = refl
 
@@ -155,7 +155,7 @@ module _ {T : Type 0} where
   }
 
   -- WHAT A CALL MAKES OF IT
-  pub record Results (s t : HeldPlaces T) (hs : List (Held T)) : Type 0 where
+  pub record Results (s t : HeldPlaces T) (hs : List (HeldValue T)) : Type 0 where
     pub holds : held t ≡ hs
     pub issued : t.issued ≡ s.issued
     pub once : EachStandsOnce t

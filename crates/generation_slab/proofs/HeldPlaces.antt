@@ -4,15 +4,15 @@ use Rattle.std.specs.List.{IsDistinct, AllByRecursion}
 use Rattle.std.proofs.lemmas.Map.Keys.{IsDistinct-cons}
 use Rattle.napi_types.specs.plain.Lists.{found}
 use Rattle.napi_types.proofs.plain.Found.{found-as_map, same-tells}
-use Rattle.generation_slab.specs.HeldPlaces.{Held, standing, held, value_of}
+use Rattle.generation_slab.specs.HeldPlaces.{HeldValue, standing, held, value_of}
 use Rattle.generation_slab.specs.SlotNumbers.{number_of_slot, generation_in, standing_in, places_from, places_of, value_in, value_at, HaveGenerations}
 use Rattle.generation_slab.proofs.SlotNumbers.{apart-slots, one-slot, no-number, parted, slot-below}
 
 module _ {T : Type 0} where
-  abbrev number : Held T → ℕ
+  abbrev number : HeldValue T → ℕ
   number h = h.number
 
-  abbrev at_number : ℕ → T → Held T
+  abbrev at_number : ℕ → T → HeldValue T
   at_number n v = record { number = n; value = v }
 
   -- A NUMBER IS FOUND AT ITS SLOT ALONE
@@ -102,7 +102,7 @@ module _ {T : Type 0} where
   pub value-held : (live : ℕ → Option T) (gs : List ℕ) (r : ℕ) → HaveGenerations live gs → (n : ℕ) → value_of (places_of live gs r) n ≡ value_at live gs n
   value-held live gs r sound n = ap (option_map (λ h. h.value)) (held-at live gs r sound n) ∙ by (value_at live gs n)
     where
-      by : (o : Option T) → option_map (λ (h : Held T). h.value) (option_map (at_number n) o) ≡ o
+      by : (o : Option T) → option_map (λ (h : HeldValue T). h.value) (option_map (at_number n) o) ≡ o
       by None = refl
       by (Some v) = refl
 

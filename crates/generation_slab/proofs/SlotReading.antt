@@ -3,7 +3,7 @@ use Rattle.napi_types.proofs.plain.Found.{same-tells}
 use Rattle.std.proofs.Common.{[], ◌∷◌, map, ◌≡◌, ◌≢◌, ◌∙◌, ℕ, zero, suc, ◌+◌, ◌-◌, ◌<◌, ◌≤◌, ◌/◌, ◌%◌, ◌==◌, nat_lt, Bool, true, false, cond, List, length, set, Option, Some, None, IsSome, is_some, option_map, slice_index_or, refl, ap, sym, arith}
 use Rattle.std.proofs.lemmas.Bool.Decides.{nat_tests}
 use Rattle.std.proofs.lemmas.List.{get_or_default, get_or_past}
-use Rattle.generation_slab.specs.HeldPlaces.{Held, HeldPlaces, value_of, with_value}
+use Rattle.generation_slab.specs.HeldPlaces.{HeldValue, HeldPlaces, value_of, with_value}
 use Rattle.generation_slab.specs.SlotNumbers.{number_of_slot, generation_in, standing_in, places_from, places_of, value_in, value_at, HaveGenerations}
 use Rattle.generation_slab.proofs.SlotNumbers.{tests-apart, test-same, other-generation, apart-slots}
 use Rattle.generation_slab.proofs.Changing.{Changes, Stands}
@@ -77,17 +77,17 @@ module _ {T : Type 0} (live : ℕ → Option T) (gs : List ℕ) (r : ℕ) (sound
       first m = omega arith
 
   pub place-value : (at : ℕ) → at < length s.places → live at ≡ option_map (λ h. h.value) (slice_index_or s.places at None)
-  place-value at within = sym (ap (option_map (λ (h : Held T). h.value)) (place-seen at within) ∙ by (live at))
+  place-value at within = sym (ap (option_map (λ (h : HeldValue T). h.value)) (place-seen at within) ∙ by (live at))
     where
-      by : (o : Option T) → option_map (λ (h : Held T). h.value) (standing_in (generation_in gs at) at o) ≡ o
+      by : (o : Option T) → option_map (λ (h : HeldValue T). h.value) (standing_in (generation_in gs at) at o) ≡ o
       by None = refl
       by (Some v) = refl
 
   -- the number that stands there
   pub place-number : (at : ℕ) → at < length s.places → (o : Option T) → live at ≡ o → option_map (λ h. h.number) (slice_index_or s.places at None) ≡ option_map (λ v. number_of_slot (generation_in gs at) at) o
-  place-number at within o is = ap (option_map (λ (h : Held T). h.number)) (place-seen at within ∙ ap (standing_in (generation_in gs at) at) is) ∙ by o
+  place-number at within o is = ap (option_map (λ (h : HeldValue T). h.number)) (place-seen at within ∙ ap (standing_in (generation_in gs at) at) is) ∙ by o
     where
-      by : (o : Option T) → option_map (λ (h : Held T). h.number) (standing_in (generation_in gs at) at o) ≡ option_map (λ v. number_of_slot (generation_in gs at) at) o
+      by : (o : Option T) → option_map (λ (h : HeldValue T). h.number) (standing_in (generation_in gs at) at o) ≡ option_map (λ v. number_of_slot (generation_in gs at) at) o
       by None = refl
       by (Some v) = refl
 
@@ -147,7 +147,7 @@ module _ {T : Type 0} (live : ℕ → Option T) (gs : List ℕ) (r : ℕ) (sound
       first : (m : ℕ) → 0 + m ≡ m
       first m = omega arith
 
-      change : Held T → Held T
+      change : HeldValue T → HeldValue T
       change h = cond (h.number == n) (with_value v h) h
 
       one : (g j : ℕ) → g ≡ generation_in gs j → j < 281474976710656 → standing_in g j (new j) ≡ option_map change (standing_in g j (live j))

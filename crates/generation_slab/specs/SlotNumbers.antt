@@ -2,7 +2,7 @@
 use Rattle.std.specs.Prelude.{◌≡◌, ℕ, zero, suc, ◌+◌, ◌*◌, ◌<◌, ◌≤◌, ◌/◌, ◌%◌, ◌==◌, nat_lt, Bool, true, false, not, is_some, cond, List, [], ◌∷◌, ◌++◌, length, Option, Some, None, slice_index_or}
 use Rattle.slab.specs.Slab.{Slab, get, slab_len}
 use Rattle.napi_types.specs.plain.Lists.{as_map}
-use Rattle.generation_slab.specs.HeldPlaces.{Held, HeldPlaces, standing}
+use Rattle.generation_slab.specs.HeldPlaces.{HeldValue, HeldPlaces, standing}
 
 -- how many slots a generation has
 abbrev pub slots_in_all : ℕ
@@ -30,7 +30,7 @@ module _ {T : Type 0} where
   live_at slots generations last k = live_in last (generation_in generations k) (get slots k)
 
   -- what stands in a slot of this generation that holds this
-  abbrev pub standing_in : ℕ → ℕ → Option T → Option (Held T)
+  abbrev pub standing_in : ℕ → ℕ → Option T → Option (HeldValue T)
   standing_in generation k (Some v) = Some (record { number = number_of_slot generation k; value = v })
   standing_in generation k None = None
 
@@ -40,7 +40,7 @@ module _ {T : Type 0} where
   issued_in generation k (Some v) = numbers_before (suc generation) k
 
   -- those of the slots from this one on, of which each holds what it holds
-  abbrev pub places_from : (ℕ → Option T) → ℕ → List ℕ → List (Option (Held T))
+  abbrev pub places_from : (ℕ → Option T) → ℕ → List ℕ → List (Option (HeldValue T))
   places_from live k [] = []
   places_from live k (g ∷ gs) = standing_in g k (live k) ∷ places_from live (suc k) gs
 

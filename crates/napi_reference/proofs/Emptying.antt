@@ -2,7 +2,7 @@
 use Rattle.std.proofs.Common.{◌≡◌, ◌∙◌, ℕ, zero, suc, ◌+◌, ◌<◌, ◌==◌, ◌∷◌, ◌++◌, Bool, true, false, cond, List, [], length, map, get_or, set, take, drop, Option, Some, None, IfSome, option_map, refl, ap, sym, subst, arith, add-one}
 use Rattle.std.specs.List.{All, filter_map, cons_option}
 use Rattle.std.proofs.lemmas.List.Elements.{All-head, All-tail}
-use Rattle.generation_slab.specs.HeldPlaces.{Held, HeldPlaces, held}
+use Rattle.generation_slab.specs.HeldPlaces.{HeldValue, HeldPlaces, held}
 use Rattle.generation_slab.specs.HeldPlaces as slab
 use Rattle.napi_types.specs.declared.ids.ValueId.{ValueId}
 use Rattle.napi_types.specs.plain.Lists.{as_map, with_record}
@@ -54,7 +54,7 @@ row-emptied : (collected : ℕ → Bool) (n : ℕ) (row : ReferenceRow) (weak : 
 row-emptied collected n row true kept = ap (λ v. record { number = n; value = v; count = row.count }) (value_left-id collected row.value)
 row-emptied collected n row false kept = ap (λ v. record { number = n; value = v; count = row.count }) (value_left-kept collected (option_map (λ v. v.0) row.value) kept)
 
-held-emptied : (collected : ℕ → Bool) (hs : List (Held ReferenceRow)) → All (λ v. collected v ≡ false) (filter_map strong_value (map reference_held hs))
+held-emptied : (collected : ℕ → Bool) (hs : List (HeldValue ReferenceRow)) → All (λ v. collected v ≡ false) (filter_map strong_value (map reference_held hs))
     → map (λ (r : Reference). record r { value = value_left collected r.value }) (map reference_held hs) ≡ map reference_held (map (held_emptied collected) hs)
 held-emptied collected [] kept = refl
 held-emptied collected (h ∷ hs) kept =
@@ -63,16 +63,16 @@ held-emptied collected (h ∷ hs) kept =
     ap (λ r. r ∷ map (λ (q : Reference). record q { value = value_left collected q.value }) (map reference_held hs)) (row-emptied collected h.number h.value (h.value.count == 0) first)
     ∙ ap (λ rs. reference_of h.number (weak_emptied collected h.value) ∷ rs) (held-emptied collected hs others)
 
-standing-emptied : (collected : ℕ → Bool) (ps : List (Option (Held ReferenceRow))) → slab.standing (map (option_map (held_emptied collected)) ps) ≡ map (held_emptied collected) (slab.standing ps)
+standing-emptied : (collected : ℕ → Bool) (ps : List (Option (HeldValue ReferenceRow))) → slab.standing (map (option_map (held_emptied collected)) ps) ≡ map (held_emptied collected) (slab.standing ps)
 standing-emptied collected [] = refl
 standing-emptied collected (None ∷ ps) = standing-emptied collected ps
 standing-emptied collected (Some h ∷ ps) = ap (λ hs. held_emptied collected h ∷ hs) (standing-emptied collected ps)
 
-mapped-emptied : (collected : ℕ → Bool) (hs : List (Held ReferenceRow)) → as_map (λ h. h.number) (map (held_emptied collected) hs) ≡ map (held_emptied collected) (as_map (λ h. h.number) hs)
+mapped-emptied : (collected : ℕ → Bool) (hs : List (HeldValue ReferenceRow)) → as_map (λ h. h.number) (map (held_emptied collected) hs) ≡ map (held_emptied collected) (as_map (λ h. h.number) hs)
 mapped-emptied collected [] = refl
 mapped-emptied collected (h ∷ hs) =
-    ap (with_record (λ (g : Held ReferenceRow). g.number) (held_emptied collected h)) (mapped-emptied collected hs)
-    ∙ sym (map-with_record (λ (g : Held ReferenceRow). g.number) (held_emptied collected) (λ g. refl) h (as_map (λ g. g.number) hs))
+    ap (with_record (λ (g : HeldValue ReferenceRow). g.number) (held_emptied collected h)) (mapped-emptied collected hs)
+    ∙ sym (map-with_record (λ (g : HeldValue ReferenceRow). g.number) (held_emptied collected) (λ g. refl) h (as_map (λ g. g.number) hs))
 
 pub rows-emptied : (collected : ℕ → Bool) (s : HeldPlaces ReferenceRow) (p : ReferencePlaces) → references_in s ≡ p → All (λ v. collected v ≡ false) (strong_values (map_of p))
     → map_of (references_in (rows_emptied collected s)) ≡ emptied collected (map_of p)
@@ -89,6 +89,6 @@ rows-emptied collected s p view kept =
     refl)
 
 -- a place whose row was emptied, or was none
-pub place-next : (collected : ℕ → Bool) (xs ys zs : List (Option (Held ReferenceRow))) (i : ℕ) → i < length xs → ys ≡ map (option_map (held_emptied collected)) (take i xs) ++ drop i xs
+pub place-next : (collected : ℕ → Bool) (xs ys zs : List (Option (HeldValue ReferenceRow))) (i : ℕ) → i < length xs → ys ≡ map (option_map (held_emptied collected)) (take i xs) ++ drop i xs
     → zs ≡ set ys i (option_map (held_emptied collected) (get_or ys i None)) → zs ≡ map (option_map (held_emptied collected)) (take (i + 1) xs) ++ drop (i + 1) xs
 place-next collected xs ys zs i less so_far is = is ∙ changed-next (option_map (held_emptied collected)) xs ys i None less so_far

@@ -1,7 +1,7 @@
 -- What the map comes to, once a row is held, freed or replaced.
 use Rattle.std.proofs.Common.{◌≡◌, ◌∙◌, ℕ, ◌<◌, ◌==◌, ◌∷◌, Bool, true, false, not, cond, List, [], map, filter, Option, Some, None, option_map, refl, ap, sym, subst}
 use Rattle.std.proofs.lemmas.List.Elements.{All-map}
-use Rattle.generation_slab.specs.HeldPlaces.{Held, HeldPlaces, value_of, held, standing, with_held, without_held, with_value, with_held_value}
+use Rattle.generation_slab.specs.HeldPlaces.{HeldValue, HeldPlaces, value_of, held, standing, with_held, without_held, with_value, with_held_value}
 use Rattle.napi_types.specs.declared.ids.ValueId.{ValueId}
 use Rattle.napi_types.specs.plain.Lists.{found, has_number, with_number}
 use Rattle.napi_types.specs.parts.References.{Reference, ReferenceMap, with_reference, without_reference, with_count}
@@ -40,7 +40,7 @@ deleted old new p view n holds issued =
     rw (← view)
     (same-map _ _ _ _
     (rows-held new ∙ ap (map reference_held) holds
-    ∙ map-filter reference_held (λ (h : Held ReferenceRow). not (h.number == n)) (λ (r : Reference). not (r.number == n)) (λ h. refl) (held old)
+    ∙ map-filter reference_held (λ (h : HeldValue ReferenceRow). not (h.number == n)) (λ (r : Reference). not (r.number == n)) (λ h. refl) (held old)
     ∙ ap (filter (λ r. not (r.number == n))) (sym (rows-held old)))
     issued)
 
@@ -58,13 +58,13 @@ counting-keeps n count r = by (r.number == n)
     by true = refl
     by false = refl
 
-abbrev replacing : ℕ → ReferenceRow → Held ReferenceRow → Held ReferenceRow
+abbrev replacing : ℕ → ReferenceRow → HeldValue ReferenceRow → HeldValue ReferenceRow
 replacing n row h = cond (h.number == n) (with_value row h) h
 
-replacing-keeps : (n : ℕ) (row : ReferenceRow) (h : Held ReferenceRow) → (replacing n row h).number ≡ h.number
+replacing-keeps : (n : ℕ) (row : ReferenceRow) (h : HeldValue ReferenceRow) → (replacing n row h).number ≡ h.number
 replacing-keeps n row h = by (h.number == n)
   where
-    by : (b : Bool) → let g : Held ReferenceRow = cond b (with_value row h) h in g.number ≡ h.number
+    by : (b : Bool) → let g : HeldValue ReferenceRow = cond b (with_value row h) h in g.number ≡ h.number
     by true = refl
     by false = refl
 
@@ -75,7 +75,7 @@ references-rise s = subst (IsRising number) (rows-held s) (rising-as_map number 
 held-rises : (s : HeldPlaces ReferenceRow) → IsRising (λ h. h.number) (held s)
 held-rises s = rising-as_map (λ h. h.number) (standing s.places)
 
-rows-rise : (hs : List (Held ReferenceRow)) → IsRising (λ h. h.number) hs → IsRising number (map reference_held hs)
+rows-rise : (hs : List (HeldValue ReferenceRow)) → IsRising (λ h. h.number) hs → IsRising number (map reference_held hs)
 rows-rise [] rises = tt
 rows-rise (h ∷ hs) rises = (All-map (λ r. h.number < r.number) reference_held hs rises.0, rows-rise hs rises.1)
 
@@ -91,7 +91,7 @@ rows-counted s n count row is =
     ∙ ap (option_map (counting n count)) (sym (found-references m (held s)))
     ∙ sym (found-changed number (counting n count) (counting-keeps n count) m (map reference_held (held s))))
   where
-    by : (m : ℕ) (o : Option (Held ReferenceRow)) → found (λ h. h.number) m (held s) ≡ o
+    by : (m : ℕ) (o : Option (HeldValue ReferenceRow)) → found (λ h. h.number) m (held s) ≡ o
         → option_map reference_held (option_map (replacing n (recounted count row)) o) ≡ option_map (counting n count) (option_map reference_held o)
     by m None at = refl
     by m (Some h) at = case (h.number == n) refl
@@ -100,8 +100,8 @@ rows-counted s n count row is =
             → Some (reference_held (cond b (with_value (recounted count row) h) h)) ≡ Some (cond b (record (reference_held h) { count = count }) (reference_held h))
         case false apart = refl
         case true same =
-            let one : m ≡ n = sym (found-number (λ (g : Held ReferenceRow). g.number) m (held s) h at) ∙ same-tells h.number n same in
-            let here : Some row ≡ Some h.value = is ∙ ap (λ k. option_map (λ (g : Held ReferenceRow). g.value) (found (λ (g : Held ReferenceRow). g.number) k (held s))) (sym one) ∙ ap (option_map (λ (g : Held ReferenceRow). g.value)) at in
+            let one : m ≡ n = sym (found-number (λ (g : HeldValue ReferenceRow). g.number) m (held s) h at) ∙ same-tells h.number n same in
+            let here : Some row ≡ Some h.value = is ∙ ap (λ k. option_map (λ (g : HeldValue ReferenceRow). g.value) (found (λ (g : HeldValue ReferenceRow). g.number) k (held s))) (sym one) ∙ ap (option_map (λ (g : HeldValue ReferenceRow). g.value)) at in
             let it : row ≡ h.value = cc in
             ap (λ (w : ReferenceRow). Some (reference_of h.number (recounted count w))) it
 

@@ -2,7 +2,7 @@
 use Rattle.std.proofs.Common.{◌≡◌, ◌∙◌, ℕ, ◌==◌, nat_lt, nat_eq, ◌∷◌, ◌++◌, Bool, true, false, cond, List, [], length, map, filter, Option, Some, None, IsSome, is_some, option_map, refl, ap, sym, subst}
 use Rattle.std.specs.List.{IsDistinct}
 use Rattle.std.proofs.lemmas.List.{length-map, map-append}
-use Rattle.generation_slab.specs.HeldPlaces.{Held, HeldPlaces, value_of, held}
+use Rattle.generation_slab.specs.HeldPlaces.{HeldValue, HeldPlaces, value_of, held}
 use Rattle.generation_slab.specs.HeldPlaces as slab
 use Rattle.napi_types.specs.declared.ids.ValueId.{ValueId}
 use Rattle.napi_types.specs.plain.Lists.{found, as_map, with_record}
@@ -16,20 +16,20 @@ use Rattle.napi_reference.specs.ReferenceRows.{reference_of, reference_held, ref
 abbrev pub number : Reference → ℕ
 number r = r.number
 
-standing-held : (ps : List (Option (Held ReferenceRow))) → standing (map (option_map reference_held) ps) ≡ map reference_held (slab.standing ps)
+standing-held : (ps : List (Option (HeldValue ReferenceRow))) → standing (map (option_map reference_held) ps) ≡ map reference_held (slab.standing ps)
 standing-held [] = refl
 standing-held (None ∷ ps) = standing-held ps
 standing-held (Some h ∷ ps) = ap (λ rs. reference_held h ∷ rs) (standing-held ps)
 
-pub references-more : (h : Held ReferenceRow) (hs : List (Held ReferenceRow)) → map reference_held (with_record (λ g. g.number) h hs) ≡ with_record number (reference_held h) (map reference_held hs)
+pub references-more : (h : HeldValue ReferenceRow) (hs : List (HeldValue ReferenceRow)) → map reference_held (with_record (λ g. g.number) h hs) ≡ with_record number (reference_held h) (map reference_held hs)
 references-more h hs =
     map-append reference_held (filter (λ g. nat_lt g.number h.number) hs) (h ∷ filter (λ g. nat_lt h.number g.number) hs)
     ∙ ap (λ rs. rs ++ reference_held h ∷ map reference_held (filter (λ g. nat_lt h.number g.number) hs))
-    (map-filter reference_held (λ (g : Held ReferenceRow). nat_lt g.number h.number) (λ (r : Reference). nat_lt r.number h.number) (λ g. refl) hs)
+    (map-filter reference_held (λ (g : HeldValue ReferenceRow). nat_lt g.number h.number) (λ (r : Reference). nat_lt r.number h.number) (λ g. refl) hs)
     ∙ ap (λ rs. filter (λ (r : Reference). nat_lt r.number h.number) (map reference_held hs) ++ reference_held h ∷ rs)
-    (map-filter reference_held (λ (g : Held ReferenceRow). nat_lt h.number g.number) (λ (r : Reference). nat_lt h.number r.number) (λ g. refl) hs)
+    (map-filter reference_held (λ (g : HeldValue ReferenceRow). nat_lt h.number g.number) (λ (r : Reference). nat_lt h.number r.number) (λ g. refl) hs)
 
-references-mapped : (hs : List (Held ReferenceRow)) → as_map number (map reference_held hs) ≡ map reference_held (as_map (λ g. g.number) hs)
+references-mapped : (hs : List (HeldValue ReferenceRow)) → as_map number (map reference_held hs) ≡ map reference_held (as_map (λ g. g.number) hs)
 references-mapped [] = refl
 references-mapped (h ∷ hs) = ap (with_record number (reference_held h)) (references-mapped hs) ∙ sym (references-more h (as_map (λ g. g.number) hs))
 
@@ -37,7 +37,7 @@ references-mapped (h ∷ hs) = ap (with_record number (reference_held h)) (refer
 pub rows-held : (s : HeldPlaces ReferenceRow) → as_map number (standing (map (option_map reference_held) s.places)) ≡ map reference_held (held s)
 rows-held s = ap (as_map number) (standing-held s.places) ∙ references-mapped (slab.standing s.places)
 
-numbers-held : (hs : List (Held ReferenceRow)) → map number (map reference_held hs) ≡ map (λ h. h.number) hs
+numbers-held : (hs : List (HeldValue ReferenceRow)) → map number (map reference_held hs) ≡ map (λ h. h.number) hs
 numbers-held [] = refl
 numbers-held (h ∷ hs) = ap (λ ns. h.number ∷ ns) (numbers-held hs)
 
@@ -53,7 +53,7 @@ stands-once s once = record {
 pub length-references : (s : HeldPlaces ReferenceRow) → length (map (option_map reference_held) s.places) ≡ length s.places
 length-references s = length-map s.places (option_map reference_held)
 
-pub found-references : (n : ℕ) (hs : List (Held ReferenceRow)) → found number n (map reference_held hs) ≡ option_map reference_held (found (λ h. h.number) n hs)
+pub found-references : (n : ℕ) (hs : List (HeldValue ReferenceRow)) → found number n (map reference_held hs) ≡ option_map reference_held (found (λ h. h.number) n hs)
 found-references n [] = refl
 found-references n (h ∷ hs) = by (h.number == n) (found-references n hs)
   where
@@ -66,9 +66,9 @@ found-references n (h ∷ hs) = by (h.number == n) (found-references n hs)
 pub reference-at : (s : HeldPlaces ReferenceRow) (n : ℕ) → reference_at (map_of (references_in s)) n ≡ option_map (reference_of n) (value_of s n)
 reference-at s n = ap (found number n) (rows-held s) ∙ found-references n (held s) ∙ by (found (λ h. h.number) n (held s)) refl
   where
-    by : (o : Option (Held ReferenceRow)) → found (λ h. h.number) n (held s) ≡ o → option_map reference_held o ≡ option_map (reference_of n) (option_map (λ h. h.value) o)
+    by : (o : Option (HeldValue ReferenceRow)) → found (λ h. h.number) n (held s) ≡ o → option_map reference_held o ≡ option_map (reference_of n) (option_map (λ h. h.value) o)
     by None is = refl
-    by (Some h) is = ap (λ m. Some (reference_of m h.value)) (found-number (λ (g : Held ReferenceRow). g.number) n (held s) h is)
+    by (Some h) is = ap (λ m. Some (reference_of m h.value)) (found-number (λ (g : HeldValue ReferenceRow). g.number) n (held s) h is)
 
 -- what is told of a reference by its row
 pub record IsReferenceRow (m : ReferenceMap) (n : ℕ) (row : ReferenceRow) : Type 0 where

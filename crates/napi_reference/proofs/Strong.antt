@@ -3,7 +3,7 @@ use Rattle.std.proofs.Common.{◌≡◌, ◌∙◌, ℕ, zero, suc, ◌==◌, �
 use Rattle.std.specs.List.{filter_map, cons_option, list_any}
 use Rattle.std.specs.Option.{option_to_list}
 use Rattle.std.proofs.lemmas.List.Folds.{list_any-append}
-use Rattle.generation_slab.specs.HeldPlaces.{Held, HeldPlaces}
+use Rattle.generation_slab.specs.HeldPlaces.{HeldValue, HeldPlaces}
 use Rattle.napi_types.specs.plain.Lists.{has_number, HaveSameNumbers, as_map}
 use Rattle.napi_types.specs.parts.References.{Reference, strong_value, strong_values}
 use Rattle.napi_types.proofs.plain.Maps.{list_any-as_map}
@@ -39,7 +39,7 @@ strong_values-places p once = λ n.
 pub reference-place : (s : HeldPlaces ReferenceRow) (at : ℕ) → slice_index_or (map (option_map reference_held) s.places) at None ≡ option_map reference_held (slice_index_or s.places at None)
 reference-place s at = each s.places at
   where
-    each : (ps : List (Option (Held ReferenceRow))) (at : ℕ) → slice_index_or (map (option_map reference_held) ps) at None ≡ option_map reference_held (slice_index_or ps at None)
+    each : (ps : List (Option (HeldValue ReferenceRow))) (at : ℕ) → slice_index_or (map (option_map reference_held) ps) at None ≡ option_map reference_held (slice_index_or ps at None)
     each [] at = refl
     each (p ∷ ps) zero = refl
     each (p ∷ ps) (suc at) = each ps at
@@ -50,6 +50,6 @@ pub strong-place : (s : HeldPlaces ReferenceRow) (p : ReferencePlaces) → refer
 strong-place s p view at row is v told =
     by (slice_index_or s.places at None) is ∙ ap strong_in (sym (reference-place s at)) ∙ ap (λ (q : ReferencePlaces). strong_in (slice_index_or q.places at None)) view
   where
-    by : (o : Option (Held ReferenceRow)) → row ≡ option_map (λ h. h.value) o → v ≡ strong_in (option_map reference_held o)
+    by : (o : Option (HeldValue ReferenceRow)) → row ≡ option_map (λ h. h.value) o → v ≡ strong_in (option_map reference_held o)
     by None same = told 0 ∙ ap (λ r. strong_in (option_map (reference_of 0) r)) same
     by (Some h) same = told h.number ∙ ap (λ r. strong_in (option_map (reference_of h.number) r)) same

@@ -1,6 +1,6 @@
 -- How the rows that are held stand for the places of the references.
 use Rattle.std.specs.Prelude.{ℕ, ◌==◌, Bool, cond, map, Option, Some, None, option_map}
-use Rattle.generation_slab.specs.HeldPlaces.{Held, HeldPlaces, with_value}
+use Rattle.generation_slab.specs.HeldPlaces.{HeldValue, HeldPlaces, with_value}
 use Rattle.napi_types.specs.declared.ids.ValueId.{ValueId}
 use Rattle.napi_types.specs.parts.References.{Reference}
 use Rattle.napi_reference.specs.declared.rows.ReferenceRow.{ReferenceRow}
@@ -10,7 +10,7 @@ use Rattle.napi_reference.specs.ReferencePlaces.{ReferencePlaces}
 abbrev pub reference_of : ℕ → ReferenceRow → Reference
 reference_of n row = record { number = n; value = option_map (λ v. v.0) row.value; count = row.count }
 
-abbrev pub reference_held : Held ReferenceRow → Reference
+abbrev pub reference_held : HeldValue ReferenceRow → Reference
 reference_held h = reference_of h.number h.value
 
 -- a reference stands where its row does
@@ -27,7 +27,7 @@ abbrev pub weak_emptied : (ℕ → Bool) → ReferenceRow → ReferenceRow
 weak_emptied collected row = cond (row.count == 0) (record row { value = id_left collected row.value }) row
 
 -- and so does each that stands at a place
-abbrev pub held_emptied : (ℕ → Bool) → Held ReferenceRow → Held ReferenceRow
+abbrev pub held_emptied : (ℕ → Bool) → HeldValue ReferenceRow → HeldValue ReferenceRow
 held_emptied collected h = with_value (weak_emptied collected h.value) h
 
 abbrev pub rows_emptied : (ℕ → Bool) → HeldPlaces ReferenceRow → HeldPlaces ReferenceRow

@@ -3,7 +3,7 @@ use Rattle.std.proofs.Common.{◌≡◌, ◌∙◌, ℕ, zero, suc, ◌+◌, ◌
 use Rattle.std.specs.List.{filter_map, IsDistinct, AllByRecursion}
 use Rattle.std.proofs.lemmas.Map.Keys.{IsDistinct-head, IsDistinct-tail}
 use Rattle.std.proofs.lemmas.Bool.{eq-eqb}
-use Rattle.generation_slab.specs.HeldPlaces.{Held, HeldPlaces, standing, held, with_held, without_held, with_value, with_value_at, EachStandsOnce as EachHeldOnce, value_of as record_at}
+use Rattle.generation_slab.specs.HeldPlaces.{HeldValue, HeldPlaces, standing, held, with_held, without_held, with_value, with_value_at, EachStandsOnce as EachHeldOnce, value_of as record_at}
 use Rattle.napi_types.specs.plain.Lists.{found, has_number}
 use Rattle.napi_types.specs.parts.Graph.{Stored, live, value_of}
 use Rattle.napi_types.specs.parts.Values.{Value}
@@ -15,11 +15,11 @@ use Rattle.value_store.specs.StoreChanges.{id_at, EachStandsOnce, MakesValue}
 use Rattle.value_store.specs.ValuePlaces.{value_here, properties_here, elements_here, value_of_record, stored_as, state_of, AddsRecord}
 use Rattle.value_store.proofs.Lookup.{apart-number}
 
-abbrev number_held : Held ValueRecord → ℕ
+abbrev number_held : HeldValue ValueRecord → ℕ
 number_held h = h.number
 
 -- WHAT A NUMBER NAMES
-found-stored : (n : ℕ) (ps : List (Option (Held ValueRecord))) → found (λ x. x.id) n (filter_map (λ place. place) (map (option_map stored_as) ps)) ≡ option_map stored_as (found number_held n (standing ps))
+found-stored : (n : ℕ) (ps : List (Option (HeldValue ValueRecord))) → found (λ x. x.id) n (filter_map (λ place. place) (map (option_map stored_as) ps)) ≡ option_map stored_as (found number_held n (standing ps))
 found-stored n [] = refl
 found-stored n (None ∷ ps) = found-stored n ps
 found-stored n (Some h ∷ ps) = by (h.number == n) (found-stored n ps)
@@ -36,7 +36,7 @@ pub value-held : (s : HeldPlaces ValueRecord) (made n : ℕ) → value_of (state
 value-held s made n =
     ap (option_map (λ (x : Stored). x.value)) (found-stored n s.places) ∙ twice (found number_held n (standing s.places)) ∙ sym (ap (option_map value_of_record) (record-found s n))
   where
-    twice : (o : Option (Held ValueRecord)) → option_map (λ (x : Stored). x.value) (option_map stored_as o) ≡ option_map value_of_record (option_map (λ h. h.value) o)
+    twice : (o : Option (HeldValue ValueRecord)) → option_map (λ (x : Stored). x.value) (option_map stored_as o) ≡ option_map value_of_record (option_map (λ h. h.value) o)
     twice None = refl
     twice (Some h) = refl
 
@@ -54,7 +54,7 @@ record-added old new id r holds n =
     ∙ ap (option_map (λ h. h.value)) (found-with_record number_held n (record { number = id; value = r }) (held old))
     ∙ by (id == n) (found number_held n (held old))
   where
-    by : (b : Bool) (o : Option (Held ValueRecord)) → option_map (λ (h : Held ValueRecord). h.value) (cond b (Some (record { number = id; value = r })) o) ≡ cond b (Some r) (option_map (λ h. h.value) o)
+    by : (b : Bool) (o : Option (HeldValue ValueRecord)) → option_map (λ (h : HeldValue ValueRecord). h.value) (cond b (Some (record { number = id; value = r })) o) ≡ cond b (Some r) (option_map (λ h. h.value) o)
     by true o = refl
     by false o = refl
 
@@ -83,23 +83,23 @@ record-freed old new id holds n =
     ∙ ap (option_map (λ h. h.value)) (found-filter number_held (λ m. not (m == id)) n (held old))
     ∙ by (n == id) (found number_held n (held old))
   where
-    by : (b : Bool) (o : Option (Held ValueRecord)) → option_map (λ (h : Held ValueRecord). h.value) (cond (not b) o None) ≡ cond b None (option_map (λ h. h.value) o)
+    by : (b : Bool) (o : Option (HeldValue ValueRecord)) → option_map (λ (h : HeldValue ValueRecord). h.value) (cond (not b) o None) ≡ cond b None (option_map (λ h. h.value) o)
     by true o = refl
     by false o = refl
 
 -- ONE RECORD CHANGED
 module _ (n : ℕ) (r : ValueRecord) where
-  abbrev change : Held ValueRecord → Held ValueRecord
+  abbrev change : HeldValue ValueRecord → HeldValue ValueRecord
   change h = cond (h.number == n) (with_value r h) h
 
-  change-number : (h : Held ValueRecord) → let q : Held ValueRecord = change h in q.number ≡ h.number
+  change-number : (h : HeldValue ValueRecord) → let q : HeldValue ValueRecord = change h in q.number ≡ h.number
   change-number h = by (h.number == n)
     where
-      by : (b : Bool) → let q : Held ValueRecord = cond b (with_value r h) h in q.number ≡ h.number
+      by : (b : Bool) → let q : HeldValue ValueRecord = cond b (with_value r h) h in q.number ≡ h.number
       by true = refl
       by false = refl
 
-  found-changed : (m : ℕ) (ps : List (Option (Held ValueRecord))) → found number_held m (standing (map (option_map change) ps)) ≡ option_map change (found number_held m (standing ps))
+  found-changed : (m : ℕ) (ps : List (Option (HeldValue ValueRecord))) → found number_held m (standing (map (option_map change) ps)) ≡ option_map change (found number_held m (standing ps))
   found-changed m [] = refl
   found-changed m (None ∷ ps) = found-changed m ps
   found-changed m (Some h ∷ ps) =
@@ -112,19 +112,19 @@ module _ (n : ℕ) (r : ValueRecord) where
 
   pub record-changed : (s : HeldPlaces ValueRecord) (m : ℕ) → record_at (with_value_at n s r) m ≡ option_map (λ old. cond (m == n) r old) (record_at s m)
   record-changed s m =
-      record-found (with_value_at n s r) m ∙ ap (option_map (λ (h : Held ValueRecord). h.value)) (found-changed m s.places)
+      record-found (with_value_at n s r) m ∙ ap (option_map (λ (h : HeldValue ValueRecord). h.value)) (found-changed m s.places)
       ∙ by (found number_held m (standing s.places)) refl ∙ sym (ap (option_map (λ old. cond (m == n) r old)) (record-found s m))
     where
-      each : (h : Held ValueRecord) (b : Bool) → let q : Held ValueRecord = cond b (with_value r h) h in q.value ≡ cond b r h.value
+      each : (h : HeldValue ValueRecord) (b : Bool) → let q : HeldValue ValueRecord = cond b (with_value r h) h in q.value ≡ cond b r h.value
       each h true = refl
       each h false = refl
 
-      by : (o : Option (Held ValueRecord)) → found number_held m (standing s.places) ≡ o
-          → option_map (λ (h : Held ValueRecord). h.value) (option_map change o) ≡ option_map (λ old. cond (m == n) r old) (option_map (λ h. h.value) o)
+      by : (o : Option (HeldValue ValueRecord)) → found number_held m (standing s.places) ≡ o
+          → option_map (λ (h : HeldValue ValueRecord). h.value) (option_map change o) ≡ option_map (λ old. cond (m == n) r old) (option_map (λ h. h.value) o)
       by None is = refl
       by (Some h) is = ap Some (each h (h.number == n) ∙ ap (λ k. cond (k == n) r h.value) (found-number number_held m (standing s.places) h is))
 
-  numbers-changed : (ps : List (Option (Held ValueRecord))) → map number_held (standing (map (option_map change) ps)) ≡ map number_held (standing ps)
+  numbers-changed : (ps : List (Option (HeldValue ValueRecord))) → map number_held (standing (map (option_map change) ps)) ≡ map number_held (standing ps)
   numbers-changed [] = refl
   numbers-changed (None ∷ ps) = numbers-changed ps
   numbers-changed (Some h ∷ ps) = ap (λ k. k ∷ map number_held (standing (map (option_map change) ps))) (change-number h) ∙ ap (λ ns. h.number ∷ ns) (numbers-changed ps)
@@ -133,20 +133,20 @@ module _ (n : ℕ) (r : ValueRecord) where
   once-changed s once = subst (IsDistinct nat_eq) (sym (numbers-changed s.places)) once
 
   -- a record that is put where it was changes nothing
-  kept-apart : (ps : List (Option (Held ValueRecord))) → AllByRecursion (λ m. nat_eq n m ≡ false) (map number_held (standing ps)) → map (option_map change) ps ≡ ps
+  kept-apart : (ps : List (Option (HeldValue ValueRecord))) → AllByRecursion (λ m. nat_eq n m ≡ false) (map number_held (standing ps)) → map (option_map change) ps ≡ ps
   kept-apart [] apart = refl
   kept-apart (None ∷ ps) apart = ap (λ qs. None ∷ qs) (kept-apart ps apart)
   kept-apart (Some h ∷ ps) apart =
       ap (λ b. Some (cond b (with_value r h) h) ∷ map (option_map change) ps) (turned h.number n ∙ apart.0) ∙ ap (λ qs. Some h ∷ qs) (kept-apart ps apart.1)
 
-  kept-same : (ps : List (Option (Held ValueRecord))) → IsDistinct nat_eq (map number_held (standing ps)) → option_map (λ h. h.value) (found number_held n (standing ps)) ≡ Some r → map (option_map change) ps ≡ ps
+  kept-same : (ps : List (Option (HeldValue ValueRecord))) → IsDistinct nat_eq (map number_held (standing ps)) → option_map (λ h. h.value) (found number_held n (standing ps)) ≡ Some r → map (option_map change) ps ≡ ps
   kept-same [] once is = refl
   kept-same (None ∷ ps) once is = ap (λ qs. None ∷ qs) (kept-same ps once is)
   kept-same (Some h ∷ ps) once is =
       by (h.number == n) refl is (kept-same ps (IsDistinct-tail nat_eq h.number (map number_held (standing ps)) once))
     where
-      by : (b : Bool) → (h.number == n) ≡ b → option_map (λ (g : Held ValueRecord). g.value) (cond b (Some h) (found number_held n (standing ps))) ≡ Some r
-          → (option_map (λ (g : Held ValueRecord). g.value) (found number_held n (standing ps)) ≡ Some r → map (option_map change) ps ≡ ps) → Some (change h) ∷ map (option_map change) ps ≡ Some h ∷ ps
+      by : (b : Bool) → (h.number == n) ≡ b → option_map (λ (g : HeldValue ValueRecord). g.value) (cond b (Some h) (found number_held n (standing ps))) ≡ Some r
+          → (option_map (λ (g : HeldValue ValueRecord). g.value) (found number_held n (standing ps)) ≡ Some r → map (option_map change) ps ≡ ps) → Some (change h) ∷ map (option_map change) ps ≡ Some h ∷ ps
       by true e here rest =
           let value : h.value ≡ r = cc in
           let same : h.number ≡ n = same-tells h.number n e in
@@ -159,7 +159,7 @@ module _ (n : ℕ) (r : ValueRecord) where
   same-record s once is = ap (λ ps. record s { places = ps }) (kept-same s.places once (sym (record-found s n) ∙ is))
 
 -- WHERE IT STANDS
-stored-at : (ps : List (Option (Held ValueRecord))) (place : ℕ) → slice_index_or (map (option_map stored_as) ps) place None ≡ option_map stored_as (slice_index_or ps place None)
+stored-at : (ps : List (Option (HeldValue ValueRecord))) (place : ℕ) → slice_index_or (map (option_map stored_as) ps) place None ≡ option_map stored_as (slice_index_or ps place None)
 stored-at [] place = refl
 stored-at (p ∷ ps) zero = refl
 stored-at (p ∷ ps) (suc place) = stored-at ps place
@@ -167,21 +167,21 @@ stored-at (p ∷ ps) (suc place) = stored-at ps place
 pub id-held : (s : HeldPlaces ValueRecord) (made place : ℕ) → id_at (state_of s made) place ≡ option_map (λ h. h.number) (slice_index_or s.places place None)
 id-held s made place = ap (option_map (λ (x : Stored). x.id)) (stored-at s.places place) ∙ twice (slice_index_or s.places place None)
   where
-    twice : (o : Option (Held ValueRecord)) → option_map (λ (x : Stored). x.id) (option_map stored_as o) ≡ option_map (λ h. h.number) o
+    twice : (o : Option (HeldValue ValueRecord)) → option_map (λ (x : Stored). x.id) (option_map stored_as o) ≡ option_map (λ h. h.number) o
     twice None = refl
     twice (Some h) = refl
 
-abbrev number_at : List (Option (Held ValueRecord)) → ℕ → Option ℕ
+abbrev number_at : List (Option (HeldValue ValueRecord)) → ℕ → Option ℕ
 number_at ps place = option_map number_held (slice_index_or ps place None)
 
-none-later : (n : ℕ) (ps : List (Option (Held ValueRecord))) (place : ℕ) → AllByRecursion (λ m. nat_eq n m ≡ false) (map number_held (standing ps)) → number_at ps place ≡ Some n → ⊥
+none-later : (n : ℕ) (ps : List (Option (HeldValue ValueRecord))) (place : ℕ) → AllByRecursion (λ m. nat_eq n m ≡ false) (map number_held (standing ps)) → number_at ps place ≡ Some n → ⊥
 none-later n [] place apart is = cc
 none-later n (None ∷ ps) zero apart is = cc
 none-later n (Some h ∷ ps) zero apart is = let same : h.number ≡ n = cc in let told : (n == h.number) ≡ true = eq-eqb n h.number (sym same) in let other = apart.0 in cc
 none-later n (None ∷ ps) (suc place) apart is = none-later n ps place apart is
 none-later n (Some h ∷ ps) (suc place) apart is = none-later n ps place apart.1 is
 
-stands-once : (ps : List (Option (Held ValueRecord))) → IsDistinct nat_eq (map number_held (standing ps)) → (n first second : ℕ) → number_at ps first ≡ Some n → number_at ps second ≡ Some n → first ≡ second
+stands-once : (ps : List (Option (HeldValue ValueRecord))) → IsDistinct nat_eq (map number_held (standing ps)) → (n first second : ℕ) → number_at ps first ≡ Some n → number_at ps second ≡ Some n → first ≡ second
 stands-once [] once n first second here there = let no : ⊥ = cc in absurd no
 stands-once (p ∷ ps) once n zero zero here there = refl
 stands-once (None ∷ ps) once n zero (suc second) here there = let no : ⊥ = cc in absurd no
@@ -202,7 +202,7 @@ once-held s made once id first second here there = stands-once s.places once id 
 pub many-live : (s : HeldPlaces ValueRecord) (made : ℕ) → length (live (state_of s made)) ≡ length (standing s.places)
 many-live s made = many s.places
   where
-    many : (ps : List (Option (Held ValueRecord))) → length (filter_map (λ place. place) (map (option_map stored_as) ps)) ≡ length (standing ps)
+    many : (ps : List (Option (HeldValue ValueRecord))) → length (filter_map (λ place. place) (map (option_map stored_as) ps)) ≡ length (standing ps)
     many [] = refl
     many (None ∷ ps) = many ps
     many (Some h ∷ ps) = ap suc (many ps)
@@ -228,10 +228,10 @@ elements-here n (Full b parts) = refl
 pub vacant-held : (s : HeldPlaces ValueRecord) (made : ℕ) → map (λ place. not (is_some place)) (state_of s made).places ≡ map (λ place. not (is_some place)) s.places
 vacant-held s made = each s.places
   where
-    one : (o : Option (Held ValueRecord)) → not (is_some (option_map stored_as o)) ≡ not (is_some o)
+    one : (o : Option (HeldValue ValueRecord)) → not (is_some (option_map stored_as o)) ≡ not (is_some o)
     one None = refl
     one (Some h) = refl
 
-    each : (ps : List (Option (Held ValueRecord))) → map (λ place. not (is_some place)) (map (option_map stored_as) ps) ≡ map (λ place. not (is_some place)) ps
+    each : (ps : List (Option (HeldValue ValueRecord))) → map (λ place. not (is_some place)) (map (option_map stored_as) ps) ≡ map (λ place. not (is_some place)) ps
     each [] = refl
     each (o ∷ ps) = ap (λ b. b ∷ map (λ place. not (is_some place)) (map (option_map stored_as) ps)) (one o) ∙ ap (λ bs. not (is_some o) ∷ bs) (each ps)

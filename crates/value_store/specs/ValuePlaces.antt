@@ -1,6 +1,6 @@
 -- How the records of a store stand for the store's state.
 use Rattle.std.specs.Prelude.{◌≡◌, ℕ, ◌+◌, ◌-◌, ◌<◌, ◌≤◌, false, true, take, List, [], ◌∷◌, ◌++◌, length, map, Option, option_map, slice_index_or}
-use Rattle.generation_slab.specs.HeldPlaces.{Held, HeldPlaces, held, with_held}
+use Rattle.generation_slab.specs.HeldPlaces.{HeldValue, HeldPlaces, held, with_held}
 use Rattle.generation_slab.specs.HeldPlaces as slab
 use Rattle.napi_types.specs.declared.body.Body.{Body}
 use Rattle.napi_types.specs.declared.ids.ValueId.{ValueId}
@@ -46,7 +46,7 @@ abbrev pub value_of_record : ValueRecord → Value
 value_of_record r = value_here r.number r.value
 
 -- a value is named by the number under which its record is held
-abbrev pub stored_as : Held ValueRecord → Stored
+abbrev pub stored_as : HeldValue ValueRecord → Stored
 stored_as h = record { id = h.number; value = value_of_record h.value }
 
 -- each place has the value whose record stands there, and so many values were made
