@@ -30,7 +30,7 @@ use Rattle.env_loop.specs.FollowedRuns.{RunGoesOn, GoesOnAt}
 use Rattle.env_loop.specs.Recording.{AddonStates}
 use Rattle.env_loop.specs.RecordedRuns.{Run, IsSoundEnvironment, IsRunning, owes_hub, FitsHub}
 use Rattle.env_loop.specs.Turns.{event_turn, turn_at, turn_of, needs_hub, hub_event, IfCut, Awaits, IsAskIn}
-use Rattle.env_loop.proofs.CutTurns.{spent-ends}
+use Rattle.env_loop.proofs.CutTurns.{both-first, spent-ends}
 use Rattle.env_loop.proofs.EndTurns.{MayEndInScripts, left-may, owed-end}
 use Rattle.env_loop.proofs.MadeTurns.{turn-owes}
 use Rattle.env_loop.proofs.FrameTurns.{InFrame, head-stands, head-within, stands-some}
@@ -162,10 +162,6 @@ comes-unowed run paid comes =
     ∙ ap (λ (o : Option FrameEnd). is_some o && is_hub_duty (duty_of run.core.env.frames)) paid.ended)) ∙ comes
 
 -- WHERE A FRAME MAKES NO ASK MORE
-both-first : (a b : Bool) → (a && b) ≡ true → a ≡ true
-both-first true b both = refl
-both-first false b both = cc
-
 both-last : (a b : Bool) → (a && b) ≡ true → b ≡ true
 both-last true b both = both
 both-last false b both = cc

@@ -64,9 +64,9 @@ rooting-grows : (c : Call) → names_function c ≡ true → is_growing c ≡ tr
 rooting-grows (call.CreateThreadsafeFunction (Some f) b d x y z) names = refl
 rooting-grows _ names = cc
 
-first-of : (a b : Bool) → (a && b) ≡ true → a ≡ true
-first-of true b both = refl
-first-of false b both = cc
+pub both-first : (a b : Bool) → (a && b) ≡ true → a ≡ true
+both-first true b both = refl
+both-first false b both = cc
 
 three-may : (a b c d e : Bool) → a ≡ true → b ≡ true → d ≡ true → (a && (b || c) && (d || e)) ≡ true
 three-may a b c d e p q r = rw (p, q, r) refl
@@ -78,7 +78,7 @@ stopped-shared m c t shared may stops =
     let r : Room = room_of m c in
     ap (λ x. may_cut m (ask.Do c) (why_stopped x)) stops.0
     ∙ three-may (may_call m.env) (is_growing c) (nat_lt (min first_places r.limit) (r.occupied + need c)) (is_shared c) (not (is_full r c)) may
-    (rooting-grows c (first-of (names_function c) _ stops.1)) shared
+    (rooting-grows c (both-first (names_function c) _ stops.1)) shared
 
 -- a call that stopped, as the step of the core tells it
 pub record HasStopped (core : Core) (c : Call) (t : Status) (new : Core) : Type 0 where
