@@ -8,7 +8,7 @@ use napi_types::{Failed, Sink};
 use std::marker::Model;
 
 /// How many bytes may wait.
-const ROOM: usize = 8192;
+const ROOM: usize = 32_768;
 
 /// The bytes that wait to be written, and the mark that the writing failed. Those that wait after a fault are never written.
 #[derive(Drop)]
@@ -26,7 +26,7 @@ impl Model for Pending {
 
     ghost view = { λ pending. record { bytes = take pending.filled pending.bytes; failed = pending.failed } };
 
-    ghost invariant = { λ pending. pending.filled ≤ 8192 };
+    ghost invariant = { λ pending. pending.filled ≤ 32768 };
 }
 
 impl Pending {
@@ -50,7 +50,7 @@ impl Pending {
 
     /// Whether so many bytes more may wait.
     fn has_room(&self, count: usize) -> bool
-        ensures { IsTrue result ↔ (length self.now.bytes + count ≤ 8192) }
+        ensures { IsTrue result ↔ (length self.now.bytes + count ≤ 32768) }
     {
         count <= ROOM && self.filled <= ROOM - count
     }
@@ -64,7 +64,7 @@ impl Pending {
 
     /// Lets bytes wait behind those that wait.
     fn hold(&mut self, bytes: &[u8])
-        requires { length self.old.bytes + length bytes.now ≤ 8192 }
+        requires { length self.old.bytes + length bytes.now ≤ 32768 }
         ensures { self.new ≡ record self.old { bytes = self.old.bytes ++ bytes.now } }
     {
         let end = self.filled + bytes.len();
@@ -75,7 +75,7 @@ impl Pending {
     /// Lets a word wait behind those that wait. The copy of its own cannot overlap them, which spares a test of that.
     #[inline(always)]
     fn hold_word<const N: usize>(&mut self, word: &[u8; N])
-        requires { length self.old.bytes + N ≤ 8192 }
+        requires { length self.old.bytes + N ≤ 32768 }
         ensures { self.new ≡ record self.old { bytes = self.old.bytes ++ word.now } }
     {
         let word = *word;
@@ -86,7 +86,7 @@ impl Pending {
     /// Lets the digits of a number wait behind those that wait.
     #[inline(always)]
     fn hold_digits(&mut self, number: &LineNumber)
-        requires { length self.old.bytes + 20 ≤ 8192 }
+        requires { length self.old.bytes + 20 ≤ 32768 }
         ensures { self.new ≡ record self.old { bytes = self.old.bytes ++ decimal number.now } }
     {
         let end = self.waiting().len() + number.count();

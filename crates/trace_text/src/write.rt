@@ -13,7 +13,7 @@ use crate::scan::add_scanned;
 use napi_types::{Entry, Failed, Local, Sink, Texts};
 
 /// Writes the text of a trace, a line for each entry of the weave of a journal and a history, each of at most
-/// 4,194,304 entries. It takes no memory, and holds up to 8,192 bytes back until it writes them.
+/// 4,194,304 entries. It takes no memory, and holds up to 32,768 bytes back until it writes them.
 ///
 /// Where the journal stands in the order of its places, as that of a run does, it takes time in the length of the text.
 /// A fault of the sink ends it, after a front of the text.

@@ -57,19 +57,19 @@ fn a_fault_at_the_second_call_leaves_a_front_of_the_trace(rt: HostRuntime) {
     assert_eq!(rt; found, Some(16));
 }
 
-// The trace of two thousand calls has 40,893 bytes, which take five calls.
+// The trace of four thousand calls has 82,893 bytes, which take three calls.
 #[test]
 fn a_fault_leaves_a_front_of_a_long_trace(rt: HostRuntime) {
-    let history = [collect(Out::Nothing); 2000];
+    let history = [collect(Out::Nothing); 4000];
     let mut whole = MemSink::new(rt.alloc(), 100_000, Vec::new(rt.alloc()));
     let is_written = write(&rt, rt.alloc(), &mut whole, &[], &history);
     let mut are_fronts = true;
-    for failing in 0..5 {
+    for failing in 0..3 {
         let found = front_length(&rt, rt.alloc(), 100_000, failing, &history, whole.bytes());
         are_fronts &= found.is_some();
     }
     let found = (is_written, whole.bytes().len(), are_fronts);
-    assert_eq!(rt; found, (true, 40_893, true));
+    assert_eq!(rt; found, (true, 82_893, true));
 }
 
 #[test]
