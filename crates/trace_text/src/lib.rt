@@ -16,4 +16,4 @@ mod write;
 pub use laws::{examples, summaries};
 pub use put::put_all;
 pub use summary::write_summary;
-pub use write::write_trace;
+pub use write::{write_rising_trace, write_trace};

@@ -1,6 +1,6 @@
 use Rattle.std.proofs.Common.{sym, ◌∙◌}
 use Rattle.trace_text.proofs.Adding.{adds_whole, adds_front, adds_counted}
-use Rattle.trace_text.proofs.write.write_trace.Goals as goal
+use Rattle.trace_text.proofs.write.write_woven.Goals as goal
 
 pub returns-then-has_failed-clause-err : goal.returns-then-has_failed-clause-err
 returns-then-has_failed-clause-err g c =
