@@ -3,6 +3,7 @@ ghost use Rattle.std.specs.Prelude.{◌≡◌, ◌≢◌, ◌≤◌, ◌<◌, �
 ghost use Rattle.std.specs.Io.KnownBytes.{append_known};
 ghost use Rattle.napi_types.specs.plain.Edge.{HasRisen, TookFront};
 ghost use Rattle.napi_types.specs.plain.Room.{most_entries};
+ghost use Rattle.napi_types.specs.plain.Weave.{RisesBetween};
 ghost use Rattle.script_host.specs.Host.{handed_in, HasRun, IsSmall, IsScriptOf, text_written, WroteText, is_met, IsStatus, IsRunStatus, Misses};
 ghost use Rattle.script_host.specs.Host.{GaveScript, GaveTooMuch, CameRefused, Causes, CausesOfReading, CausesOfLoad, WroteLine, IsAskedFor, IsTooLong, IsRefused, IsRunnable};
 ghost use Rattle.script_host.specs.Load.{load_script};
@@ -21,7 +22,7 @@ use std::alloc::Global;
 use std::marker::Brand;
 use std::sync::Wait;
 use std::thread::Threads;
-use trace_text::{write_summary, write_trace};
+use trace_text::{write_rising_trace, write_summary};
 
 /// How many texts can be counted in 32 bits.
 const MOST_TEXTS: usize = 4_294_967_295;
@@ -58,13 +59,14 @@ fn refuse<K: Sink>(sink: &mut K, line: Line) -> u8
     line.status()
 }
 
-/// Writes what a command writes of a run: its trace with these texts, or the summary of that.
+/// Writes what a command writes of a run, whose journal stands in the order of its places: its trace with these texts, or the summary of that.
 fn write_text<K: Sink>(
     command: Command,
     sink: &mut K,
     texts: &Texts,
     left: &Record,
 ) -> Result<(), Failed>
+    requires rises { RisesBetween 0 (length left.now.history) left.now.journal }
     requires journal { length left.now.journal ≤ most_entries }
     requires history { length left.now.history ≤ most_entries }
     ensures ok { OnOk result (K.taken sink.new ≡ append_known (K.taken sink.old) (text_written command texts.now left.now)) }
@@ -76,7 +78,7 @@ fn write_text<K: Sink>(
     let journal = left.journal.items();
     let history = left.history.items();
     match command {
-        Command::Run => write_trace(sink, texts, journal, history),
+        Command::Run => write_rising_trace(sink, texts, journal, history),
         Command::Summary => write_summary(sink, journal, history),
         Command::Load(_) => write_summary(sink, journal, history),
     }
@@ -84,6 +86,7 @@ fn write_text<K: Sink>(
 
 /// Does so, and answers the status.
 fn tell<K: Sink>(command: Command, sink: &mut K, texts: &Texts, left: &Record) -> u8
+    requires rises { RisesBetween 0 (length left.now.history) left.now.journal }
     requires journal { length left.now.journal ≤ most_entries }
     requires history { length left.now.history ≤ most_entries }
     ensures run { IsRunStatus result }

@@ -7,6 +7,9 @@ use Rattle.script_host.proofs.Hosts.{line-known, memory-cause, refused-of, fault
 use Rattle.script_host.proofs.Complete.{too-long-line, too-long-run, refused-line, refused-run, only-memory}
 use Rattle.script_host.proofs.top_call.host_scheduled.Goals as goal
 
+pub tell-requires-clause-rises : goal.tell-requires-clause-rises
+tell-requires-clause-rises g c = c.in-Ok-in_turns.ensures.ran.run.rises
+
 pub tell-requires-clause-journal : goal.tell-requires-clause-journal
 tell-requires-clause-journal g c = c.in-Ok-in_turns.ensures.within.0
 
