@@ -1,17 +1,21 @@
 //! A run of a script: its addons are given their plans, and the environment, the threads and the workers run to their end.
 ghost use Rattle.std.specs.Prelude.{◌≡◌, ℕ, ◌<◌, ◌≤◌, ◌++◌, length, map, drop, [], IfOk, OnOk, OnErr, unwrap_or};
+ghost use Rattle.std.specs.List.{All};
 ghost use Rattle.napi_types.specs.plain.Room.{most_entries};
 ghost use Rattle.napi_types.specs.scripts.Plans.{registers_of};
 ghost use Rattle.napi_types.specs.scripts.Registers.{blank_registers};
+ghost use Rattle.env_core.specs.Core.{opened_core};
+ghost use Rattle.shared_hub.specs.HubStates.{hub_seen};
 ghost use Rattle.script_host.specs.Host.{handed_in, HasRun, IsSmall};
 ghost use Rattle.script_host.specs.Loading.{told_plans, hub_numbers};
+ghost use Rattle.script_host.specs.ScriptActors.{IsThreadScript, thread_runs, worker_runs};
 
 use crate::actors::{actor_runs, retire_all};
 use addon_trait::{Addon, load_at};
 use env_core::EnvCore;
-use env_loop::EnvRun;
+use env_loop::{ActorRun, EnvRun};
 use napi_types::{
-    Actor, Actors, Gate, Limits, NAPI_VERSION, NoMemory, Plans, Record, Script, Texts,
+    Actor, Actors, Gate, Limits, NAPI_VERSION, NoMemory, OpLists, Plans, Record, Script, Texts,
 };
 use runner::Crew;
 use script_addon::ScriptJob;
@@ -54,6 +58,37 @@ fn words_of(schedule: &Option<Actors>) -> &[Actor]
     }
 }
 
+/// What a run begins with, over memory that is all taken: the environment, its hub, and the threads and workers before their first turns.
+struct Opening<N: Naming> {
+    core: EnvCore,
+    hub: HubState<ScriptJob, N>,
+    actors: Vec<ActorRun<ScriptJob>>,
+}
+
+/// Opens a run of so many addons and texts, with these threads and so many workers.
+fn open<N: Naming>(
+    alloc: Global,
+    addons: u32,
+    texts: u32,
+    threads: OpLists,
+    workers: u32,
+) -> Result<Opening<N>, NoMemory>
+    requires named { N.numbers ≡ hub_numbers (length threads) workers }
+    requires addons { addons ≤ 8 }
+    requires threads { length threads ≤ 16 }
+    requires scripts { All IsThreadScript threads }
+    requires workers { workers ≤ 8 }
+    ensures core { IfOk result (λ opening. opening.core ≡ opened_core addons texts most_entries) }
+    ensures hub { IfOk result (λ opening. opening.hub ≡ hub_seen N.numbers []) }
+    ensures actors { IfOk result (λ opening. opening.actors.items ≡ thread_runs 0 threads ++ worker_runs workers) }
+{
+    let count = threads.items().len() as u32;
+    let core = EnvCore::new(alloc, NAPI_VERSION, addons, texts, LIMITS)?;
+    let hub = HubState::<ScriptJob, N>::new(alloc, count, workers, LIMITS)?;
+    let actors = actor_runs(alloc, threads, workers)?;
+    Ok(Opening { core, hub, actors })
+}
+
 /// Runs a script on this thread, with the first of the addons that are handed in, from the opening to `gone`: first the turns of its schedule, where it has
 /// one, and then rounds. It leaves the two lists, and hands out the texts of the script.
 ///
@@ -85,10 +120,12 @@ pub(crate) fn in_turns<N: Naming>(
     } = script;
     let plans_len = plans.items().len() as u32;
     let texts_len = texts.items().len() as u32;
-    let threads_len = threads.items().len() as u32;
-    let core = EnvCore::new(alloc, NAPI_VERSION, plans_len, texts_len, LIMITS)?;
-    let mut hub = HubState::<ScriptJob, N>::new(alloc, threads_len, workers, LIMITS)?;
-    let mut actors = actor_runs(alloc, threads, workers)?;
+    let opening = open::<N>(alloc, plans_len, texts_len, threads, workers)?;
+    let Opening {
+        core,
+        mut hub,
+        mut actors,
+    } = opening;
     let mut env = EnvRun::new(core);
     load_all(addons, plans);
     step_all(&mut env, &mut hub, &mut actors, words_of(&schedule), addons);
@@ -132,10 +169,8 @@ pub(crate) fn on_threads<N: Naming + Send + Sync, R: Threads + Wait + Sync, G: G
     } = script;
     let plans_len = plans.items().len() as u32;
     let texts_len = texts.items().len() as u32;
-    let threads_len = threads.items().len() as u32;
-    let core = EnvCore::new(alloc, NAPI_VERSION, plans_len, texts_len, LIMITS)?;
-    let hub = HubState::<ScriptJob, N>::new(alloc, threads_len, workers, LIMITS)?;
-    let actors = actor_runs(alloc, threads, workers)?;
+    let opening = open::<N>(alloc, plans_len, texts_len, threads, workers)?;
+    let Opening { core, hub, actors } = opening;
     let crew = Crew::new(alloc, hub, actors)?;
     let env = EnvRun::new(core);
     load_all(addons, plans);

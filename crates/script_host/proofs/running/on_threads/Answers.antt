@@ -6,37 +6,37 @@ use Rattle.script_host.proofs.Loading.{others-stay, whole-ended}
 use Rattle.script_host.proofs.EndedActors.{in-order, all-fresh, threads-did, workers-did}
 use Rattle.script_host.proofs.running.on_threads.Goals as goal
 
-pub new-requires-3-clause-order : goal.new-requires-3-clause-order
-new-requires-3-clause-order g c κs within =
-    in-order _ c.args.script.threads c.args.script.workers c.in_ok-actors.actors.items c.in_ok-actors.ensures _ c.requires.named
+pub new-requires-clause-order : goal.new-requires-clause-order
+new-requires-clause-order g c κs within =
+    in-order _ c.args.script.threads c.args.script.workers c.in_ok-opening.opening.actors.items c.in_ok-opening.ensures.actors _ c.requires.named
 
-pub new-requires-3-clause-fresh : goal.new-requires-3-clause-fresh
-new-requires-3-clause-fresh g c κs within =
-    all-fresh _ c.args.script.threads c.args.script.workers c.in_ok-actors.actors.items c.in_ok-actors.ensures
+pub new-requires-clause-fresh : goal.new-requires-clause-fresh
+new-requires-clause-fresh g c κs within =
+    all-fresh _ c.args.script.threads c.args.script.workers c.in_ok-opening.opening.actors.items c.in_ok-opening.ensures.actors
 
 pub returns-clause-ran : goal.returns-clause-ran
 returns-clause-ran g c =
     let script = c.args.script in
     let last = c.run.ensures.actors in
     ran-of script _ _ _ c.run.result (ap length c.items-2.ensures) (rw (length-map c.args.addons.now.items _) c.requires.enough)
-    (whole-ended script.addons _ _ _ _ (length script.threads) script.workers _ c.in_ok-core.core c.new-env.result c.run.result
+    (whole-ended script.addons _ _ _ _ (length script.threads) script.workers _ c.in_ok-opening.opening.core c.new-env.result c.run.result
     c.run.result.journal c.run.result.history _ _ _ (rw (length-map c.args.addons.now.items _) c.requires.enough) (ap length c.items.ensures)
-    c.in_ok-core.ensures c.new-env.ensures c.requires.named c.load_all.ensures.plans c.load_all.ensures.blank c.load_all.ensures.seen
+    c.in_ok-opening.ensures.core c.new-env.ensures c.requires.named c.load_all.ensures.plans c.load_all.ensures.blank c.load_all.ensures.seen
     c.run.ensures.ended refl refl)
     (c.run.ensures.plans ∙ c.load_all.ensures.plans)
-    (others-stay _ _ _ _ c.in_ok-core.core c.new-env.result _ _ _ c.in_ok-core.ensures c.new-env.ensures (ap length c.items.ensures)
+    (others-stay _ _ _ _ c.in_ok-opening.opening.core c.new-env.result _ _ _ c.in_ok-opening.ensures.core c.new-env.ensures (ap length c.items.ensures)
     c.run.ensures.others c.load_all.ensures.others)
     (threads-did _ _ script.threads script.workers _ c.requires.named (hub_seen g.N.Naming.numbers c.run.result.history) c.in_ok-crew.crew last.0
-    (c.in_ok-crew.ensures ∙ c.in_ok-actors.ensures) last.1 last.2 last.3 c.run.result.history refl)
+    (c.in_ok-crew.ensures ∙ c.in_ok-opening.ensures.actors) last.1 last.2 last.3 c.run.result.history refl)
     (workers-did [] 0 script.threads script.workers _ c.requires.named (hub_seen g.N.Naming.numbers c.run.result.history) c.in_ok-crew.crew last.0
-    (c.in_ok-crew.ensures ∙ c.in_ok-actors.ensures) last.1 last.2 last.3 c.run.result.history refl)
+    (c.in_ok-crew.ensures ∙ c.in_ok-opening.ensures.actors) last.1 last.2 last.3 c.run.result.history refl)
 
 pub returns-clause-within : goal.returns-clause-within
 returns-clause-within g c =
     let script = c.args.script in
     let small = c.requires.small in
     lists-within _ _ _ _ _ _ _ _ _ small.few small.actors.threads_few small.actors.workers_few
-    (whole-ended script.addons _ _ _ _ (length script.threads) script.workers _ c.in_ok-core.core c.new-env.result c.run.result
+    (whole-ended script.addons _ _ _ _ (length script.threads) script.workers _ c.in_ok-opening.opening.core c.new-env.result c.run.result
     c.run.result.journal c.run.result.history _ _ _ (rw (length-map c.args.addons.now.items _) c.requires.enough) (ap length c.items.ensures)
-    c.in_ok-core.ensures c.new-env.ensures c.requires.named c.load_all.ensures.plans c.load_all.ensures.blank c.load_all.ensures.seen
+    c.in_ok-opening.ensures.core c.new-env.ensures c.requires.named c.load_all.ensures.plans c.load_all.ensures.blank c.load_all.ensures.seen
     c.run.ensures.ended refl refl)
