@@ -6,7 +6,7 @@ use Rattle.napi_types.specs.declared.entry.Entry.{Entry}
 use Rattle.napi_types.specs.declared.status.Status.TheVariants as status
 use Rattle.napi_types.specs.all_runs.Counts.{Once, TellsStarts}
 use Rattle.napi_types.specs.all_runs.ItemOrder.{CountItems}
-use Rattle.napi_types.specs.all_runs.OnceLaws.{IsCancelledOnce}
+use Rattle.napi_types.specs.all_runs.Cancels.{IsCancelledOnce}
 use Rattle.machine_laws.specs.Abort as abort
 use Rattle.machine_laws.specs.CancelAfterStart as cancel_after_start
 use Rattle.machine_laws.specs.CancelBeforeStart as cancel_before_start

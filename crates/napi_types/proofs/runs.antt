@@ -4,6 +4,7 @@ pub mod Chosen
 pub mod Forms
 pub mod HubEntries
 pub mod HubsOfRuns
+pub mod InPlace
 pub mod LoopEnds
 pub mod Nested
 pub mod Runs

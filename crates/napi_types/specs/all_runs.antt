@@ -1,5 +1,6 @@
 -- What holds of all runs.
 pub mod AcceptedCalls
+pub mod Cancels
 pub mod CollectionLaw
 pub mod Counts
 pub mod DutyPlaces
@@ -10,3 +11,4 @@ pub mod Joined
 pub mod Laws
 pub mod OnceLaws
 pub mod Order
+pub mod TurnsInOrder

@@ -2,6 +2,7 @@
 pub mod Begins
 pub mod CallRoom
 pub mod Choice
+pub mod InPlace
 pub mod Loop
 pub mod LoopEnds
 pub mod Machine

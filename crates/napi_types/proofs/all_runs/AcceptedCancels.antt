@@ -37,7 +37,8 @@ use Rattle.napi_types.specs.runs.Machine.{Machine}
 use Rattle.napi_types.specs.runs.Run.{IsNext, IsRunBy, after}
 use Rattle.napi_types.specs.runs.Setting.{EndsBy, opening_of, final_of}
 use Rattle.napi_types.specs.runs.Step.{Step, has_room, step}
-use Rattle.napi_types.specs.all_runs.OnceLaws.{AcceptedCancelsCancel, is_cancelled_in, IsCancelledOnce}
+use Rattle.napi_types.specs.all_runs.Cancels.{IsCancelledOnce}
+use Rattle.napi_types.specs.all_runs.OnceLaws.{AcceptedCancelsCancel, is_cancelled_in}
 use Rattle.napi_types.proofs.plain.Conditions.{and-right}
 use Rattle.napi_types.proofs.plain.Found.{same-self}
 use Rattle.napi_types.proofs.environment.Cases.{asked-by}

@@ -18,6 +18,7 @@ use Rattle.napi_types.specs.scripts.Plans.{Plan, Registers, loaded_registers}
 use Rattle.napi_types.specs.hub.HistoryRoom.{history_room}
 use Rattle.napi_types.specs.hub.HubSteps.{IsHubNext, hub_step, hub_along}
 use Rattle.napi_types.specs.runs.Begins.{begun_along, begun_info, told_at}
+use Rattle.napi_types.specs.runs.InPlace.{StandInPlace}
 use Rattle.napi_types.specs.runs.Machine.{Machine}
 use Rattle.napi_types.specs.runs.Parting.{IsParted, sides_along}
 use Rattle.napi_types.specs.runs.Plan.{after_entry, asked, registers_after}
@@ -29,6 +30,7 @@ use Rattle.napi_types.specs.all_runs.Joined.{OthersGoOn, AreJoined, with_others,
 use Rattle.napi_types.proofs.plain.Conditions.{and-both}
 use Rattle.napi_types.proofs.plain.Weaves.{rises-more, weave-shared, sides-shared}
 use Rattle.napi_types.proofs.hub.OthersTell.{tells_begin, other-out}
+use Rattle.napi_types.proofs.runs.InPlace.{shared-placed, placed-more}
 use Rattle.napi_types.proofs.runs.Runs.{run-more, final-more, asked-more, registers-more, sides-more, begun-more}
 
 -- WHAT OTHERS COME TO
@@ -121,6 +123,12 @@ begun-same s asks ys x run other next =
     ∙ ap (λ o. begun_along (opening_of s) asks ys ++ option_to_list o) (none-told (final_of s asks ys) x other next)
     ∙ append-nil (begun_along (opening_of s) asks ys)
 
+placed-next : (s : Setting) (asks : List Ask) (ys : List Entry) (x : Entry) → IsRunBy (opening_of s) asks ys → is_environment x.actor ≡ false
+    → StandInPlace (opening_of s) None asks ys → StandInPlace (opening_of s) None (asks ++ ask.Leave None ∷ []) (ys ++ x ∷ [])
+placed-next s asks ys x run other placed =
+    placed-more (opening_of s) None asks ys (ask.Leave None) x run placed
+    (shared-placed (step (final_of s asks ys) (ask.Leave None) x).side _ (ask.Leave None) x.reply.out (other-side (final_of s asks ys) (ask.Leave None) x other))
+
 -- one entry of others, and then the rest of them
 gone_on-none : (m : Machine) → m ≡ gone_on [] m
 gone_on-none m = ap (λ n. record m { history_length = n }) (zero-right m.history_length)
@@ -146,6 +154,8 @@ others-join s asks journal front [] j =
           ∙ gone_on-none (final_of s asks (weave journal front));
       begun = ap (λ bs. begun_along (opening_of s) bs (weave journal (front ++ []))) none ∙ ap (λ ks. begun_along (opening_of s) asks (weave journal ks)) same;
       registers = ap (λ bs. final_registers s bs (weave journal (front ++ []))) none ∙ ap (λ ks. final_registers s asks (weave journal ks)) same;
+      placed = λ placed. subst (λ bs. StandInPlace (opening_of s) None bs (weave journal (front ++ []))) (sym none)
+          (subst (λ ks. StandInPlace (opening_of s) None asks (weave journal ks)) (sym same) placed);
     }
 others-join s asks journal front (x ∷ rest) j =
     let more : GoesOnJoined s (asks ++ ask.Leave None ∷ []) journal (front ++ x ∷ []) rest =
@@ -171,4 +181,8 @@ others-join s asks journal front (x ∷ rest) j =
       registers = ap (λ bs. final_registers s bs (weave journal (front ++ x ∷ rest))) (sym asked)
           ∙ ap (λ ks. final_registers s (with_others (asks ++ ask.Leave None ∷ []) rest) (weave journal ks)) (sym lists)
           ∙ more.registers ∙ ap (λ ys. final_registers s (asks ++ ask.Leave None ∷ []) ys) longer ∙ registers-same s asks (weave journal front) x j.run.steps other;
+      placed = λ placed. subst (λ bs. StandInPlace (opening_of s) None bs (weave journal (front ++ x ∷ rest))) asked
+          (subst (λ ks. StandInPlace (opening_of s) None (with_others (asks ++ ask.Leave None ∷ []) rest) (weave journal ks)) lists
+          (more.placed (subst (λ ys. StandInPlace (opening_of s) None (asks ++ ask.Leave None ∷ []) ys) (sym longer)
+          (placed-next s asks (weave journal front) x j.run.steps other placed))));
     }

@@ -11,6 +11,7 @@ use Rattle.napi_types.specs.declared.entry.Out.{Out}
 use Rattle.napi_types.specs.declared.entry.What.{What}
 use Rattle.napi_types.specs.declared.entry.What.TheVariants as what
 use Rattle.napi_types.specs.declared.ids.WorkId.{WorkId}
+use Rattle.napi_types.specs.declared.status.Status.TheVariants as status
 use Rattle.napi_types.specs.plain.Lists.{found}
 use Rattle.napi_types.specs.plain.Room.{one_if}
 use Rattle.napi_types.specs.parts.Pool.{WorkPool, new_number, number_of_work, with_queued, cancelled_at, started_from, finished_at, executed_by}
@@ -22,8 +23,9 @@ use Rattle.napi_types.specs.runs.Machine.{Machine}
 use Rattle.napi_types.specs.runs.Run.{IsRunBy, after, final}
 use Rattle.napi_types.specs.runs.Setting.{Setting, EndsBy, opening_of, final_of}
 use Rattle.napi_types.specs.runs.Step.{step}
+use Rattle.napi_types.specs.all_runs.Cancels.{queued_now, queued_from, CancelsLastQueued}
 use Rattle.napi_types.specs.all_runs.Counts.{is_duty}
-use Rattle.napi_types.specs.all_runs.OnceLaws.{queued_now, queued_from, LeadsToCancelled, CancelsLastQueued, CancelsAreTold}
+use Rattle.napi_types.specs.all_runs.OnceLaws.{LeadsToCancelled, CancelsAreTold}
 use Rattle.napi_types.proofs.plain.Found.{found-filter, found-map, found-number, found-with_record, same-self, same-tells}
 use Rattle.napi_types.proofs.hub.HubCases.{HubCase, hub-case, creates_work, deletes_work, cancels_work, queues_work, drains, delivers, starts, finishes_work}
 use Rattle.napi_types.proofs.hub.HubKeeps.{hub_step-what}
@@ -215,8 +217,10 @@ parts-of m (b ∷ bs) (x ∷ xs) ys run =
     let k : InTwoParts (after m b x) bs xs ys = parts-of (after m b x) bs xs ys run.1 in
     record { front = b ∷ k.front; rest = k.rest; whole = ap (λ l. b ∷ l) k.whole; run = (run.0, k.run); later = k.later }
 
-pub cancels-told : CancelsAreTold
-cancels-told s bs xs ys x w whole is accepted = by k.rest k.whole k.later
+-- one cancel ..
+cancel-told : (s : Setting) (bs : List Ask) (xs ys : List Entry) (x : Entry) (w : WorkId) → EndsBy s bs (xs ++ x ∷ ys)
+    → x.what ≡ what.Call (call.CancelAsyncWork w) → x.reply.status ≡ status.Ok → CancelsLastQueued w xs (xs ++ x ∷ ys)
+cancel-told s bs xs ys x w whole is accepted = by k.rest k.whole k.later
   where
     k : InTwoParts (opening_of s) bs xs (x ∷ ys)
     k = parts-of (opening_of s) bs xs (x ∷ ys) whole.run.steps
@@ -228,3 +232,8 @@ cancels-told s bs xs ys x w whole is accepted = by k.rest k.whole k.later
         let c : LeadsToCancelled s k.front xs w (xs ++ x ∷ ys) =
         accepted-cancels s k.front cs a xs ys x w k.run (subst (λ l. EndsBy s l (xs ++ x ∷ ys)) (sym split) whole) is accepted in
         record { number = c.number; queued = run-told w.0 s k.front xs k.run c.number c.queued; once = c.once }
+
+-- .. and all of them
+pub cancels-told : CancelsAreTold
+cancels-told s bs whole ended before later x w parts is accepted =
+    subst (CancelsLastQueued w before) (sym parts) (cancel-told s bs before later x w (subst (EndsBy s bs) parts ended) is accepted)

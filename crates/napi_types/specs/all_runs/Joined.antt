@@ -10,6 +10,7 @@ use Rattle.napi_types.specs.plain.Weave.{weave, RisesBetween}
 use Rattle.napi_types.specs.hub.HubSteps.{hub_along}
 use Rattle.napi_types.specs.hub.Replays.{HubReplays}
 use Rattle.napi_types.specs.runs.Begins.{begun_along}
+use Rattle.napi_types.specs.runs.InPlace.{StandInPlace}
 use Rattle.napi_types.specs.runs.Machine.{Machine}
 use Rattle.napi_types.specs.runs.Parting.{IsParted}
 use Rattle.napi_types.specs.runs.Setting.{Setting, RunsBy, opening_of, final_of, final_registers}
@@ -34,7 +35,8 @@ with_others asks rest = asks ++ map (λ x. ask.Leave None) rest
 abbrev pub gone_on : List Entry → Machine → Machine
 gone_on rest m = record m { hub = hub_along m.hub rest; history_length = m.history_length + length rest }
 
--- so the journal and the whole history are a run. It comes to the machine as the others went on, no frame began in between, and the registers are as they were
+-- so the journal and the whole history are a run. It comes to the machine as the others went on, no frame began in between, the registers are as they were, and where
+-- each entry stood in its place each does
 pub record GoesOnJoined (s : Setting) (asks : List Ask) (journal : List Local) (front rest : List Entry) : Type 0 where
   pub run : RunsBy s (with_others asks rest) (weave journal (front ++ rest))
   pub rises : RisesBetween 0 (length (front ++ rest)) journal
@@ -42,3 +44,4 @@ pub record GoesOnJoined (s : Setting) (asks : List Ask) (journal : List Local) (
   pub machine : final_of s (with_others asks rest) (weave journal (front ++ rest)) ≡ gone_on rest (final_of s asks (weave journal front))
   pub begun : begun_along (opening_of s) (with_others asks rest) (weave journal (front ++ rest)) ≡ begun_along (opening_of s) asks (weave journal front)
   pub registers : final_registers s (with_others asks rest) (weave journal (front ++ rest)) ≡ final_registers s asks (weave journal front)
+  pub placed : StandInPlace (opening_of s) None asks (weave journal front) → StandInPlace (opening_of s) None (with_others asks rest) (weave journal (front ++ rest))

@@ -1,14 +1,12 @@
 -- Laws over all runs, whatever threads and workers do: each duty begins exactly once or is withdrawn, and what works, items and workers come to.
-use Rattle.std.specs.Prelude.{◌≡◌, ◌≢◌, ℕ, ◌<◌, ◌≤◌, ◌==◌, ◌&&◌, Bool, true, cond, List, [], ◌∷◌, ◌++◌, Option, Some, None}
+use Rattle.std.specs.Prelude.{◌≡◌, ◌≢◌, ℕ, ◌<◌, ◌≤◌, ◌==◌, ◌&&◌, Bool, true, List, ◌∷◌, ◌++◌, Some}
 use Rattle.std.specs.List.{list_any}
-use Rattle.std.specs.Option.{option_or}
 use Rattle.napi_types.specs.declared.call.Ask.{Ask}
 use Rattle.napi_types.specs.declared.call.Call.{Call}
 use Rattle.napi_types.specs.declared.call.Call.TheVariants as call
 use Rattle.napi_types.specs.declared.entry.Duty.{Duty}
 use Rattle.napi_types.specs.declared.entry.Duty.TheVariants as duty
 use Rattle.napi_types.specs.declared.entry.Entry.{Entry}
-use Rattle.napi_types.specs.declared.entry.What.{What}
 use Rattle.napi_types.specs.declared.entry.What.TheVariants as what
 use Rattle.napi_types.specs.declared.ids.WorkId.{WorkId}
 use Rattle.napi_types.specs.declared.status.Status.TheVariants as status
@@ -22,7 +20,8 @@ use Rattle.napi_types.specs.hub.Hub.{Hub}
 use Rattle.napi_types.specs.runs.Machine.{Machine}
 use Rattle.napi_types.specs.runs.Run.{IsRunBy}
 use Rattle.napi_types.specs.runs.Setting.{Setting, RunsBy, EndsBy, opening_of, final_of}
-use Rattle.napi_types.specs.all_runs.Counts.{started, begun_cancelled, IsOnce, TellsStarts}
+use Rattle.napi_types.specs.all_runs.Cancels.{IsCancelledOnce, CancelsHold}
+use Rattle.napi_types.specs.all_runs.Counts.{IsOnce, TellsStarts}
 use Rattle.napi_types.specs.all_runs.DutyPlaces.{places_in_pool, places_in_machine, HasOnePlace}
 use Rattle.napi_types.specs.all_runs.ItemOrder.{CountItems}
 
@@ -52,11 +51,6 @@ CompletionsTellStarts = (s : Setting) (bs : List Ask) (xs : List Entry) (n : ℕ
 abbrev pub is_cancelled_in : ℕ → Hub → Bool
 is_cancelled_in n h = list_any (λ o. (n == o.work) && is_cancelled o.status) h.pool.finished
 
--- the work never starts, and its completion begins as cancelled, once
-pub record IsCancelledOnce (n : ℕ) (xs : List Entry) : Type 0 where
-  pub never : started (duty.Work n) xs ≡ 0
-  pub cancelled : begun_cancelled (duty.Work n) xs ≡ 1
-
 -- a work that at any moment of a run to its end is finished as a cancelled one, by an accepted cancel or by the drain, is so
 abbrev pub CancelledWorksNeverStart : Type 0
 CancelledWorksNeverStart = (s : Setting) (bs cs : List Ask) (xs ys : List Entry) (n : ℕ) → IsRunBy (opening_of s) bs xs → EndsBy s (bs ++ cs) (xs ++ ys)
@@ -74,30 +68,9 @@ AcceptedCancelsCancel = (s : Setting) (bs cs : List Ask) (a : Ask) (xs ys : List
     → EndsBy s (bs ++ a ∷ cs) (xs ++ x ∷ ys) → x.what ≡ what.Call (call.CancelAsyncWork w) → x.reply.status ≡ status.Ok
     → LeadsToCancelled s bs xs w (xs ++ x ∷ ys)
 
--- the number under which this entry queues the work of an id, where it does
-abbrev pub queued_now : ℕ → What → Option Duty → Option ℕ
-queued_now w (what.Call (call.QueueAsyncWork v)) (Some (duty.Work n)) = cond (v.0 == w) (Some n) None
-queued_now w _ _ = None
-
--- the number under which the last accepted queueing among the entries queues it, or else the one before them
-abbrev pub queued_from : ℕ → Option ℕ → List Entry → Option ℕ
-queued_from w before [] = before
-queued_from w before (x ∷ xs) = queued_from w (option_or (queued_now w x.what x.reply.made) before) xs
-
-abbrev pub last_queued : ℕ → List Entry → Option ℕ
-last_queued w xs = queued_from w None xs
-
--- the last accepted queueing of the work of this id among these entries made a number. The work of that number never starts along the whole run, and its
--- completion begins as cancelled, once
-pub record CancelsLastQueued (w : WorkId) (before whole : List Entry) : Type 0 where
-  pub number : ℕ
-  pub queued : last_queued w.0 before ≡ Some number
-  pub once : IsCancelledOnce number whole
-
--- in the entries of every run to its end that is so of each accepted `cancel_async_work`, and of the entries before it
+-- in the entries of every run to its end each accepted `cancel_async_work` cancels the work that was last queued under its id
 abbrev pub CancelsAreTold : Type 0
-CancelsAreTold = (s : Setting) (bs : List Ask) (xs ys : List Entry) (x : Entry) (w : WorkId) → EndsBy s bs (xs ++ x ∷ ys)
-    → x.what ≡ what.Call (call.CancelAsyncWork w) → x.reply.status ≡ status.Ok → CancelsLastQueued w xs (xs ++ x ∷ ys)
+CancelsAreTold = (s : Setting) (bs : List Ask) (xs : List Entry) → EndsBy s bs xs → CancelsHold xs
 
 -- ITEMS
 -- in every run the items of each function count from 1 as they are accepted, and begin in that order

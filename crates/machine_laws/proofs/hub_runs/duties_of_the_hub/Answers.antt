@@ -2,7 +2,7 @@ use Rattle.std.proofs.Common.{◌≡◌, arith, ap, refl, slice_index_or}
 use Rattle.napi_types.specs.declared.entry.Duty.TheVariants as duty
 use Rattle.napi_types.specs.all_runs.Counts.{Once, TellsStarts}
 use Rattle.napi_types.specs.all_runs.ItemOrder.{CountItems}
-use Rattle.napi_types.specs.all_runs.OnceLaws.{IsCancelledOnce}
+use Rattle.napi_types.specs.all_runs.Cancels.{IsCancelledOnce}
 use Rattle.napi_types.proofs.all_runs.OncePlaces.{each-once}
 use Rattle.machine_laws.specs.Abort as abort
 use Rattle.machine_laws.specs.DutyMisses.{first_twice, second_first, unfinalized, started_and_cancelled, never_started_but_done, cancelled_but_done, cancelled_and_started}
