@@ -128,12 +128,13 @@ impl<T: Drop> GenerationSlab<T> {
 
     /// Holds a value. Its number was never issued before, and is not 0.
     ///
-    /// Near constant time: now and then the slots grow. All memory is taken before anything changes.
+    /// Near constant time: now and then the slots grow. All memory is taken before anything changes, and none where it is taken already.
     pub fn make(&mut self, value: T) -> Result<u64, NoMemory>
         ensures fresh { IfOk result (λ number. has_number number (0 ∷ self.old.issued) ≡ false) }
         ensures held { IfOk result (λ number. held self.new ≡ with_held number value (held self.old)) }
         ensures issued { IfOk result (λ number. self.new.issued ≡ with_number number self.old.issued) }
         ensures once { OnOk result (EachStandsOnce self.new) }
+        ensures memory { OnErr result (self.old.room ≡ 0) }
         ensures err { OnErr result (self.new ≡ self.old) }
     {
         if self.room == 0 {
@@ -142,12 +143,14 @@ impl<T: Drop> GenerationSlab<T> {
         Ok(self.make_reserved(value))
     }
 
-    /// Takes the memory for so many values more, all of it or none.
+    /// Takes the memory for so many values more, all of it or none. It wants none where it is taken already, and then nothing changes.
     ///
     /// Constant time, where the memory is taken already; else linear in how many slots there are, at the most.
     pub fn reserve(&mut self, count: usize) -> Result<(), NoMemory>
         ensures kept { self.new ≡ record self.old { room = self.new.room } }
         ensures reserved { OnOk result (count ≤ self.new.room) }
+        ensures memory { OnErr result (self.old.room < count) }
+        ensures enough { count ≤ self.old.room → self.new ≡ self.old }
         ensures err { OnErr result (self.new.room ≡ 0) }
     {
         if self.room >= count {

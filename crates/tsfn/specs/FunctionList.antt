@@ -1,5 +1,5 @@
 -- The thread-safe functions of a hub, each found by its number: what the call of one answers, and what calls and moves leave of them.
-use Rattle.std.specs.Prelude.{ℕ, ◌+◌, ◌==◌, cond, List, map, Option, Some, None, Result, Ok, Err}
+use Rattle.std.specs.Prelude.{ℕ, ◌+◌, ◌==◌, cond, List, length, map, Option, Some, None, Result, Ok, Err}
 use Rattle.napi_types.specs.declared.call.Mode.{Mode}
 use Rattle.napi_types.specs.declared.entry.Actor.{Actor}
 use Rattle.napi_types.specs.declared.entry.Duty.{Duty}
@@ -21,6 +21,10 @@ function_numbered n fs = found (λ (f : FunctionState). f.id) n fs
 -- the functions, with that of a number changed
 abbrev pub with_function_changed : ℕ → (FunctionState → FunctionState) → List FunctionState → List FunctionState
 with_function_changed n change fs = map (λ (f : FunctionState). cond (f.id == n) (change f) f) fs
+
+-- how many items of a function wait
+abbrev pub queued_items : FunctionState → ℕ
+queued_items f = length f.items
 
 -- CALLS
 -- what a call of the function that is there answers; where none is, it is refused with 1

@@ -114,11 +114,6 @@ impl Tsfn {
         })
     }
 
-    /// How many items wait, and how many may, 0 for any number. Constant time.
-    pub fn queue(&self) -> (usize, u32) {
-        (self.items.len(), self.about.max)
-    }
-
     /// Queues an item behind all others: the manual's `napi_call_threadsafe_function`. Fewer than 2^62 items were accepted before.
     ///
     /// `InvalidArg` where no thread holds it. `Closing` where it is not open, and then one thread less holds it. Where the queue is

@@ -7,7 +7,7 @@ ghost use Rattle.napi_types.specs.hub.HistoryRoom.{function_places};
 ghost use Rattle.napi_types.specs.hub.HubMoves.{first_move};
 ghost use Rattle.napi_types.specs.parts.Functions.{FunctionState, new_function, accepted_items, call_status, called, acquire_status, acquired, release_status, released, closed, with_referenced, is_done};
 ghost use Rattle.tsfn.specs.BusyPlaces.{is_busy_at, IsLowestBusy, NoneIsBusy};
-ghost use Rattle.tsfn.specs.FunctionList.{function_numbered, status_there, changed_there, tried_there, context_there, functions_after_move};
+ghost use Rattle.tsfn.specs.FunctionList.{function_numbered, queued_items, status_there, changed_there, tried_there, context_there, functions_after_move};
 ghost use Rattle.tsfn.specs.FunctionMoves.{is_busy, move_of};
 ghost use Rattle.tsfn.specs.KeptFunctions.{holds_loop, MayRecount, IsRecounted};
 
@@ -214,10 +214,12 @@ impl Functions {
         }
     }
 
-    /// How many items of a function wait, and how many may, 0 for any number. Constant time.
-    pub fn queue(&self, id: TsfnId) -> Option<(usize, u32)> {
+    /// How many items of a function wait. `None` exactly where no function has the number. Constant time.
+    pub fn queued(&self, id: TsfnId) -> Option<u64>
+        ensures { result ≡ option_map queued_items (function_numbered id.0 self.now) }
+    {
         match self.place_of(id) {
-            Some(place) => Some(self.list[place].queue()),
+            Some(place) => Some(self.list[place].queued()),
             None => None,
         }
     }
