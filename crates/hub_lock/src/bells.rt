@@ -1,23 +1,24 @@
 //! Bells: on each of them one actor sleeps until it is rung.
 
+use napi_types::NoMemory;
+use std::alloc::Global;
 use std::sync::Wait;
 use std::sync::atomic::{AtomicU64, Ordering};
-use std::thread::yield_now;
 
-/// How often a sleeper lets other threads run before it parks.
-const YIELDS: u32 = 0;
+/// So many bells, none of which rings.
+pub(crate) fn bells_for(alloc: Global, many: u32) -> Result<Vec<AtomicU64>, NoMemory> {
+    let mut bells = Vec::with_capacity(alloc, many as usize)?;
+    for _ in 0..many {
+        bells.push(AtomicU64::new(0))?;
+    }
+    Ok(bells)
+}
 
 /// Sleeps on the bell of this number until it rings, and takes the ring. A ring that came before is taken at once.
 pub(crate) fn sleep_on<R: Wait>(rt: &R, bells: &[AtomicU64], number: u32) {
     let Some(bell) = bells.get(number as usize) else {
         return;
     };
-    for _ in 0..YIELDS {
-        if bell.load(Ordering::SeqCst) > 0 {
-            break;
-        }
-        yield_now();
-    }
     for _ in rt.forever() {
         if bell.swap(0, Ordering::SeqCst) > 0 {
             return;
@@ -27,7 +28,7 @@ pub(crate) fn sleep_on<R: Wait>(rt: &R, bells: &[AtomicU64], number: u32) {
     unreachable!()
 }
 
-/// Rings the bells of these numbers, a bit for each remainder by 64.
+/// Rings the bells of these numbers, a bit for each. There are at most 64.
 pub(crate) fn ring(bells: &[AtomicU64], rings: u64) {
     if rings == 0 {
         return;

@@ -1,5 +1,5 @@
 //! The hub: its lock, and its bells.
-ghost use Rattle.std.specs.Prelude.{◌≡◌, ◌+◌, ◌<◌, ◌^◌, [], true, false, length, map, IfOk};
+ghost use Rattle.std.specs.Prelude.{◌≡◌, ◌+◌, ◌<◌, ◌≤◌, ◌^◌, [], true, false, length, map, IfOk};
 ghost use Rattle.std.specs.List.{All, range_with_len};
 ghost use mathlib.Core.List.{IsPrefix};
 ghost use Rattle.turn_lock.specs.Rows.{own_rows, GoesOn};
@@ -12,7 +12,7 @@ mod calls;
 mod ends;
 mod works;
 
-use crate::bells::{ring, sleep_on};
+use crate::bells::{bells_for, ring, sleep_on};
 use crate::locked::Locked;
 use async_work::Job;
 use napi_types::NoMemory;
@@ -45,7 +45,7 @@ impl<J: Job, N: Naming> Model for Hub<J, N> {
 }
 
 impl<J: Job, N: Naming> Hub<J, N> {
-    /// A hub that opens, and its passes: that of the environment, then those of the threads, and then those of the workers.
+    /// A hub that opens, and its passes: that of the environment, then those of the threads, and then those of the workers. They are at most 64.
     ///
     /// Where there is no memory it makes none, and the state is dropped.
     pub fn new(
@@ -54,14 +54,15 @@ impl<J: Job, N: Naming> Hub<J, N> {
         actors: u32,
     ) -> Result<(Hub<J, N>, Vec<Pass>), NoMemory>
         requires actors { actors ≡ 1 + N.numbers.threads + N.numbers.workers }
+        requires few { actors ≤ 64 }
         requires opens { state.history ≡ [] }
         ensures passes { IfOk result (λ made. made.0.passes ≡ actors) }
         ensures made { IfOk result (λ made. made.1.items ≡ map (new_pass made.0.lock) (range_with_len 0 actors)) }
     {
-        let mut bells = Vec::with_capacity(alloc, actors as usize)?;
-        for _ in 0..actors {
-            bells.push(AtomicU64::new(0))?;
-        }
+        let Ok(bells) = bells_for(alloc, actors) else {
+            let _history = state.into_history();
+            return Err(NoMemory);
+        };
         let threads = threads_of(&state, actors);
         let locked = Locked {
             state: Box::new(alloc, state)?,

@@ -140,14 +140,14 @@ impl<J: Job, N: Naming> HubState<J, N> {
         let _limit = self.limit;
     }
 
-    /// Notes that the pass of this number will sleep, until it is rung. It has no meaning, and takes no memory.
+    /// Notes that the pass of this number, from 0 to 63, will sleep, until it is rung. It has no meaning, and takes no memory.
     pub fn note_sleep(&mut self, number: u32, why: WaitsFor)
         ensures { self.new ≡ self.old }
     {
         self.sleepers.fall_asleep(number, why);
     }
 
-    /// The passes that are to be rung, a bit for each remainder of their numbers by 64. None is to be rung after that. It has no meaning.
+    /// The passes that are to be rung, a bit for each number. None is to be rung after that. It has no meaning.
     pub fn take_rings(&mut self) -> u64
         ensures { self.new ≡ self.old }
     {

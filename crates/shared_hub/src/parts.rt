@@ -1,5 +1,5 @@
 //! The works and the thread-safe functions of a hub: what they answer to each shared call, and what they do of their own.
-ghost use Rattle.std.specs.Prelude.{◌≡◌, ◌+◌, ◌≤◌, ◌<◌, ◌&&◌, [], true, false, not, length, sum_by, is_some, option_map, Some, None, IfOk, IfSome, OnErr, IsTrue};
+ghost use Rattle.std.specs.Prelude.{◌≡◌, ◌↔◌, ◌+◌, ◌≤◌, ◌<◌, ◌&&◌, [], true, false, not, length, sum_by, is_some, option_map, Some, None, IfOk, IfSome, OnErr, IsTrue};
 ghost use Rattle.napi_types.specs.parts.Pool.{new_pool, first_completion, executed_by, value_of_work, with_started, with_finished};
 ghost use Rattle.napi_types.specs.plain.Guards.{is_shared, is_growing};
 ghost use Rattle.napi_types.specs.plain.Lists.{is_empty};
@@ -7,6 +7,7 @@ ghost use Rattle.napi_types.specs.hub.Hub.{Hub};
 ghost use Rattle.napi_types.specs.hub.HubMoves.{Delivers, first_move, hub_move, is_idle};
 ghost use Rattle.napi_types.specs.plain.Room.{most_entries};
 ghost use Rattle.async_work.specs.Picking.{is_closing, is_nothing, picked_work, first_to_start};
+ghost use Rattle.tsfn.specs.FunctionList.{function_numbered, queued_items};
 ghost use Rattle.shared_hub.specs.HubParts.{hub_with, parts_places, ArePartsWithin, MayQueue, IsMakeable, AnswersOrWaits, WouldAccept, after_move, drained_parts};
 ghost use Rattle.shared_hub.specs.HubTries.{polled_move, IfBegun, unspent_job};
 
@@ -165,12 +166,11 @@ impl<J: Job> SharedParts<J> {
             && self.functions.are_done()
     }
 
-    /// Whether no item waits in the queue of a function. Constant time.
-    pub(crate) fn is_emptied(&self, id: TsfnId) -> bool {
-        match self.functions.queue(id) {
-            Some((left, _)) => left == 0,
-            None => false,
-        }
+    /// Whether a function has this number, and no item waits in its queue. Constant time.
+    pub(crate) fn is_emptied(&self, id: TsfnId) -> bool
+        ensures { (result ≡ true) ↔ (option_map queued_items (function_numbered id.0 self.now.functions) ≡ Some 0) }
+    {
+        self.functions.queued(id) == Some(0)
     }
 
     /// How many works wait for a worker. Constant time.

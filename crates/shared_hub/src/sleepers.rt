@@ -3,8 +3,8 @@
 //! Who will sleep notes it under its turn. Who gives a reason to wake up notes under its own turn whom to ring. No contract sees the notes.
 use napi_types::{Call, Release, Status, TsfnId};
 
-/// How often in a row the one that fell asleep last is rung for room.
-const MOST_IN_A_ROW: u32 = 16;
+/// Once anybody fell asleep so often since one did that sleeps for room, its own fall counted, the next ring for that room is its own.
+const MOST_FALLS: u64 = 512;
 
 /// For what a thread, a worker or the environment sleeps.
 #[derive(Clone, Copy, Debug, PartialEq, Eq)]
@@ -19,48 +19,38 @@ pub enum WaitsFor {
     Entry,
 }
 
-/// What is noted of the passes whose numbers have one remainder by 64. They are rung together.
+/// What is noted of the pass of a number.
 #[derive(Clone, Copy)]
 enum SleepingPlace {
     Awake,
     /// When it fell asleep, counted in sleeps, and for what it sleeps.
     Sleeps(u64, WaitsFor),
-    /// Several sleep, for this and that.
-    Several,
 }
 
 impl SleepingPlace {
-    /// One more falls asleep there.
+    /// It falls asleep now. Where it sleeps for this already it sleeps on.
     fn with(self, why: WaitsFor, now: u64) -> SleepingPlace {
-        match self {
-            SleepingPlace::Awake => SleepingPlace::Sleeps(now, why),
-            SleepingPlace::Sleeps(since, before) => {
-                if before == why {
-                    SleepingPlace::Sleeps(since, why)
-                } else {
-                    SleepingPlace::Several
-                }
-            }
-            SleepingPlace::Several => SleepingPlace::Several,
+        match self.since(why) {
+            Some(since) => SleepingPlace::Sleeps(since, why),
+            None => SleepingPlace::Sleeps(now, why),
         }
     }
 
-    /// For what one sleeps there, where it is known.
+    /// For what it sleeps, where it does.
     fn sleeps_for(self) -> Option<WaitsFor> {
         match self {
+            SleepingPlace::Awake => None,
             SleepingPlace::Sleeps(_, why) => Some(why),
-            _ => None,
         }
     }
 
-    /// Since when one sleeps there for this, where one does. Where several sleep, one may.
+    /// Since when it sleeps for this, where it does.
     fn since(self, why: WaitsFor) -> Option<u64> {
         match self {
             SleepingPlace::Awake => None,
             SleepingPlace::Sleeps(since, before) => {
                 if before == why { Some(since) } else { None }
             }
-            SleepingPlace::Several => Some(0),
         }
     }
 }
@@ -70,16 +60,14 @@ impl SleepingPlace {
 #[derive(Clone, Copy)]
 pub(crate) struct Sleepers {
     places: [SleepingPlace; 64],
-    // A bit for each place in which one sleeps.
+    // A bit for each number whose pass sleeps.
     asleep: u64,
-    // A bit for each place that is to be rung.
+    // A bit for each number whose pass is to be rung.
     to_ring: u64,
     // How often one fell asleep.
     sleeps: u64,
     // Whether one was rung for room, and no thread or worker has made an entry since.
     rung_for_room: bool,
-    // How often in a row the one that fell asleep last was rung for room.
-    in_a_row: u32,
     // Whether one fell asleep for an entry, and no look since has found that none does. So that who makes an entry need not look.
     awaits_entry: bool,
 }
@@ -93,12 +81,11 @@ impl Sleepers {
             to_ring: 0,
             sleeps: 0,
             rung_for_room: false,
-            in_a_row: 0,
             awaits_entry: false,
         }
     }
 
-    /// The pass of this number will sleep.
+    /// The pass of this number, from 0 to 63, will sleep.
     pub(crate) fn fall_asleep(&mut self, number: u32, why: WaitsFor) {
         let number = number as usize % 64;
         let before = self.places[number];
@@ -115,7 +102,7 @@ impl Sleepers {
         self.sleeps
     }
 
-    /// Which places are to be rung, a bit for each. None is after that.
+    /// Which passes are to be rung, a bit for each number. None is after that.
     pub(crate) fn take_rings(&mut self) -> u64 {
         let rings = self.to_ring;
         self.to_ring = 0;
@@ -141,7 +128,7 @@ impl Sleepers {
         }
     }
 
-    /// A thread or a worker makes an entry: the environment is to be rung.
+    /// A thread or a worker makes an entry, or a call of a thread stops: the environment is to be rung, and looks again for whom to ring.
     pub(crate) fn note_entry(&mut self) {
         self.rung_for_room = false;
         if !self.awaits_entry {
@@ -154,15 +141,13 @@ impl Sleepers {
     }
 
     /// The queue of a function came to be empty: one of those that wait for room there is to be rung. It is the one that fell asleep last, since its
-    /// processor has still at hand what it wants, but after so many in a row the one that fell asleep first. So each one comes to its turn.
+    /// processor has still at hand what it wants. But once anybody fell asleep so often since the first one did, it is that one. So each one comes to its
+    /// turn, whatever comes of other functions.
     pub(crate) fn ring_for_room(&mut self, id: TsfnId) {
         let why = WaitsFor::Room(id);
-        let found = if self.in_a_row < MOST_IN_A_ROW {
-            self.in_a_row += 1;
-            self.last(why)
-        } else {
-            self.in_a_row = 0;
-            self.first(why)
+        let found = match self.first(why) {
+            Some(first) if self.falls_since(first) >= MOST_FALLS => Some(first),
+            _ => self.last(why),
         };
         if let Some(number) = found {
             self.ring(number);
@@ -208,17 +193,24 @@ impl Sleepers {
         }
     }
 
-    /// Whether the place is the first that sleeps for room, of those that sleep for that function's. Where several sleep, one may be.
+    /// Whether the pass of this number is the first that sleeps for room, of those that sleep for that function's.
     fn is_first_for_room(&self, number: usize) -> bool {
         let place = self.places[number % 64];
         match place.sleeps_for() {
             Some(WaitsFor::Room(id)) => self.first(WaitsFor::Room(id)) == Some(number),
-            Some(_) => false,
-            None => self.asleep & bit(number) > 0,
+            _ => false,
         }
     }
 
-    /// The place in which one fell asleep first, of those that sleep for this.
+    /// How often anybody fell asleep since the pass of this number did, where it sleeps: its own fall is the first.
+    fn falls_since(&self, number: usize) -> u64 {
+        match self.places[number % 64] {
+            SleepingPlace::Awake => 0,
+            SleepingPlace::Sleeps(since, _) => self.sleeps.wrapping_sub(since),
+        }
+    }
+
+    /// The pass that fell asleep first, of those that sleep for this.
     fn first(&self, why: WaitsFor) -> Option<usize> {
         if self.asleep == 0 {
             return None;
@@ -236,8 +228,11 @@ impl Sleepers {
         first
     }
 
-    /// The place in which one fell asleep last, of those that sleep for this.
+    /// The pass that fell asleep last, of those that sleep for this.
     fn last(&self, why: WaitsFor) -> Option<usize> {
+        if self.asleep == 0 {
+            return None;
+        }
         let mut last = None;
         let mut latest = 0;
         for number in 0..64 {
@@ -251,13 +246,13 @@ impl Sleepers {
         last
     }
 
-    /// Since when one sleeps for this in a place, where one does. Where several sleep, one may.
+    /// Since when the pass of this number sleeps for this, where it does.
     fn since(&self, number: usize, why: WaitsFor) -> Option<u64> {
         let place = self.places[number % 64];
         place.since(why)
     }
 
-    /// A place is to be rung. Who sleeps there sleeps no more.
+    /// The pass of this number is to be rung, and sleeps no more.
     fn ring(&mut self, number: usize) {
         self.places[number % 64] = SleepingPlace::Awake;
         self.asleep &= !bit(number);
@@ -265,7 +260,7 @@ impl Sleepers {
     }
 }
 
-/// The bit of a place.
+/// The bit of a number.
 fn bit(number: usize) -> u64 {
     1 << (number % 64)
 }

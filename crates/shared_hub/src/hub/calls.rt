@@ -92,6 +92,7 @@ impl<J: Job, N: Naming> HubState<J, N> {
             reserved,
             places_needed(call),
         ) {
+            self.sleepers.note_entry();
             return ThreadTried::Stop(status);
         }
         match self
@@ -106,7 +107,10 @@ impl<J: Job, N: Naming> HubState<J, N> {
                 ThreadTried::Reply(reply)
             }
             Ok(None) => ThreadTried::Wait,
-            Err(NoMemory) => ThreadTried::Stop(Status::NoMemory),
+            Err(NoMemory) => {
+                self.sleepers.note_entry();
+                ThreadTried::Stop(Status::NoMemory)
+            }
         }
     }
 }

@@ -22,6 +22,8 @@ pub(super) enum Acts {
     Ends,
     /// A thread that was noted asleep ends once it is rung.
     Leaves,
+    /// A thread that was noted asleep calls the function once it is rung.
+    Retries,
     /// A worker executes one work, which takes long, or ends where works start no more.
     Works,
     /// It does nothing.
@@ -46,12 +48,12 @@ pub(super) fn act<N: Naming, R: Wait + Clock>(
         work(rt, hub, pass);
         return;
     }
-    if acts == Acts::Calls {
+    if acts == Acts::Leaves || acts == Acts::Retries {
+        hub.sleep(rt, number);
+    }
+    if acts == Acts::Calls || acts == Acts::Retries {
         let _reply = hub.call_tsfn(rt, &mut pass, 0, FUNCTION, 7, Mode::Blocking);
         return;
-    }
-    if acts == Acts::Leaves {
-        hub.sleep(rt, number);
     }
     hub.actor_ends(rt, &mut pass, None);
 }

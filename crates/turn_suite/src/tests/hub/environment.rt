@@ -22,13 +22,15 @@ pub(super) enum Does {
     Looks,
     /// It notes that it will sleep, where others made no more entries than so many.
     Sleeps(usize),
+    /// It notes that it will sleep. Where others act it sleeps once, then.
+    Rests,
     /// It notes that the pass of this number will sleep until the function has room.
     Notes(u32, TsfnId),
     /// It makes a function that three threads hold, with a queue of so many places, and fills so many of them.
     Makes(u32, u32),
     Goes,
-    /// It puts one more item in the queue of the function, where there is room.
-    Fills,
+    /// It calls this function so often, and each call puts an item in its queue, where there is room.
+    Fills(TsfnId, u32),
     /// The hub's next move.
     Moves,
     /// One thread less holds the function.
@@ -74,10 +76,11 @@ pub(super) fn act<N: Naming>(state: &mut HubState<ScriptJob, N>, threads: u32, d
     match does {
         Does::Looks => {}
         Does::Sleeps(known) => sleep_after(state, known),
+        Does::Rests => state.note_sleep(0, WaitsFor::Entry),
         Does::Notes(number, id) => state.note_sleep(number, WaitsFor::Room(id)),
         Does::Makes(maximum, items) => make(state, maximum, items),
         Does::Goes => go(state),
-        Does::Fills => fill(state, 1),
+        Does::Fills(id, items) => fill(state, id, items),
         Does::Moves => make_move(state),
         Does::Releases => call(
             state,
@@ -149,17 +152,17 @@ fn make<N: Naming>(state: &mut HubState<ScriptJob, N>, maximum: u32, items: u32)
         Call::CreateThreadsafeFunction(None, None, maximum, 3, None, 80),
         Some(TARGET),
     );
-    fill(state, items);
+    fill(state, FUNCTION, items);
 }
 
 #[tactic(auto, using(crate::proofs::EnvironmentTurns::goes_further))]
-fn fill<N: Naming>(state: &mut HubState<ScriptJob, N>, items: u32)
+fn fill<N: Naming>(state: &mut HubState<ScriptJob, N>, id: TsfnId, items: u32)
     ensures { IsByEnvironment N.numbers.threads state.old state.new }
 {
     for _done in 0..items {
         call(
             state,
-            Call::CallThreadsafeFunction(FUNCTION, 5, Mode::Nonblocking),
+            Call::CallThreadsafeFunction(id, 5, Mode::Nonblocking),
         );
     }
 }

@@ -1,5 +1,5 @@
 //! Who sleeps at the hub is rung by what gives a reason to.
-ghost use Rattle.std.specs.Prelude.{◌≡◌, ◌+◌, map};
+ghost use Rattle.std.specs.Prelude.{◌≡◌, ◌+◌, ◌<◌, map};
 ghost use Rattle.std.specs.List.{range_with_len};
 ghost use Rattle.turn_lock.specs.Passes.{new_pass};
 ghost use Rattle.turn_suite.specs.EnvironmentTurns.{IsFirstPass, MayEnter};
@@ -114,35 +114,83 @@ fn who_ends_once_rung_leaves_nobody_asleep(rt: HostRuntime) {
     }
 }
 
-/// For room the one that fell asleep last is rung, sixteen times in a row, and then the one that fell asleep first.
+/// Who is rung for room in a queue, and makes a call that stops, leaves nobody asleep: the environment is rung, and looks again for whom to ring. The call
+/// stops since the environment has filled the history. That it will sleep it notes before, so the ring is there however late it sleeps.
+#[test]
+fn who_stops_once_rung_leaves_nobody_asleep(rt: HostRuntime) {
+    const FILLED: &[Does] = &[
+        Does::Makes(1, 1),
+        Does::Goes,
+        ONE,
+        TWO,
+        Does::Fills(FUNCTION, 999),
+        Does::Moves,
+        Does::Moves,
+        Does::Rests,
+    ];
+    const STOPS: [Acts; 2] = [Acts::Leaves, Acts::Retries];
+    let scene: Scene = (FILLED, STOPS, &[Does::Rests, Does::Moves], [(2, 0), (0, 0)]);
+    assert_eq!(&rt; play(&rt, rt.alloc(), scene), (4, scene.3));
+}
+
+/// For room the one that fell asleep last is rung, until anybody fell asleep 512 times since the first one did: then it is that one. So it is where another
+/// function comes to be empty after each sixteen times.
 #[test]
 fn each_one_comes_to_its_turn(rt: HostRuntime) {
-    let mut expected = [4; 18];
-    expected[16] = 2;
-    assert_eq!(&rt; rings(&rt, rt.alloc()), expected);
+    assert_eq!(&rt; first_rings(&rt, rt.alloc()), (511, 542));
 }
 
-/// Who is rung, at a hub of its own.
-fn rings<R: Abort>(rt: &R, alloc: Global) -> [u64; 18] {
-    rings_in_turn::<Brand, _>(rt, alloc)
+/// In which round the first one is rung, at a hub of its own.
+fn first_rings<R: Abort>(rt: &R, alloc: Global) -> (u32, u32) {
+    first_rings_at::<Brand, _>(rt, alloc)
 }
 
-/// The pass 1 sleeps, and time and again the pass 2 does while the queue is full. Who is rung each time the queue is empty, a bit for each.
-fn rings_in_turn<N: Naming, R: Abort>(rt: &R, alloc: Global) -> [u64; 18]
-    requires named { N.numbers ≡ record { threads = 2; workers = 0; limits = record { journal = 0; history = 999 } } }
+/// The same where no other function comes to be empty, and where one does in each seventeenth round.
+fn first_rings_at<N: Naming, R: Abort>(rt: &R, alloc: Global) -> (u32, u32)
+    requires named { N.numbers ≡ record { threads = 2; workers = 0; limits = record { journal = 0; history = 9999 } } }
 {
+    const LIMITS: Limits = Limits {
+        journal: 0,
+        history: 9999,
+    };
     let mut state = ample(rt, HubState::<ScriptJob, N>::new(alloc, 2, 0, LIMITS));
-    for does in [Does::Makes(1, 1), Does::Goes, ONE] {
-        environment::act(&mut state, 2, does);
+    do_all(
+        &mut state,
+        &[Does::Makes(1, 0), Does::Makes(1, 0), Does::Goes],
+    );
+    let alone = rounds(&mut state, 1000);
+    let crowded = rounds(&mut state, 17);
+    let _history = state.into_history();
+    (alone, crowded)
+}
+
+/// The pass 1 sleeps for room in the queue of the function. In each round the pass 2 does so too, and the queue comes to be empty, but in each round of so
+/// many the queue of the other function comes to be empty. In which round the pass 1 is rung, 0 where it is in none.
+fn rounds<N: Naming>(state: &mut HubState<ScriptJob, N>, every: u32) -> u32
+    requires { 0 < every }
+{
+    do_all(state, &[Does::Fills(FUNCTION, 1), Does::Moves, ONE]);
+    let _rings = state.take_rings();
+    for round in 1..1000 {
+        let item = if round % every == 0 {
+            Does::Fills(OTHER, 1)
+        } else {
+            environment::act(state, 2, TWO);
+            Does::Fills(FUNCTION, 1)
+        };
+        do_all(state, &[item, Does::Moves]);
+        if state.take_rings() & 2 > 0 {
+            return round;
+        }
     }
-    let mut rings = [0; 18];
-    for place in &mut rings {
-        environment::act(&mut state, 2, TWO);
-        environment::act(&mut state, 2, Does::Moves);
-        *place = state.take_rings();
-        environment::act(&mut state, 2, Does::Fills);
+    0
+}
+
+/// The environment does all this.
+fn do_all<N: Naming>(state: &mut HubState<ScriptJob, N>, all: &[Does]) {
+    for does in all {
+        environment::act(state, 2, *does);
     }
-    rings
 }
 
 /// Any entry of a thread or a worker rings the environment.
@@ -325,13 +373,14 @@ fn lead<N: Naming, R: Wait + Clock>(
     for does in plan.scene.0 {
         turn(rt, hub, &mut pass, plan.threads, *does);
     }
-    if let Some(Does::Sleeps(_)) = plan.scene.2.first() {
-        plan.gate.store(LATE, Ordering::SeqCst);
-    } else {
-        plan.gate.store(1, Ordering::SeqCst);
-        await_that(rt, hub, &mut pass, plan, 1, 0);
-        plan.gate.store(2, Ordering::SeqCst);
-        await_that(rt, hub, &mut pass, plan, 2, 0);
+    match plan.scene.2.first() {
+        Some(Does::Sleeps(_)) | Some(Does::Rests) => plan.gate.store(LATE, Ordering::SeqCst),
+        _ => {
+            plan.gate.store(1, Ordering::SeqCst);
+            await_that(rt, hub, &mut pass, plan, 1, 0);
+            plan.gate.store(2, Ordering::SeqCst);
+            await_that(rt, hub, &mut pass, plan, 2, 0);
+        }
     }
     let mut found = (0, [(0, 0), (0, 0)]);
     let mut at: u32 = 0;
@@ -369,6 +418,10 @@ fn act_or_sleep<N: Naming, R: Wait>(
         let seen = turn(rt, hub, pass, plan.threads, does);
         match does {
             Does::Sleeps(known) if seen.others <= known => hub.sleep(rt, 0),
+            Does::Rests => {
+                hub.sleep(rt, 0);
+                return;
+            }
             _ => return,
         }
     }
